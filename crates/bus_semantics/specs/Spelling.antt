@@ -1,0 +1,153 @@
+-- The spelling of a session: a header, then one line for each item. The oldest item comes first, so each new line stands at the end.
+use Rattle.std.specs.Prelude.{◌≡◌, ℕ, ℤ, List, [], ◌∷◌, ◌++◌, codes, decimal, if◌then◌else◌, Option, Some, None}
+use Rattle.std.specs.Fmt.{signed_decimal}
+use Rattle.rte_value.specs.declared.kinds.ActKey.{ActKey}
+use Rattle.rte_value.specs.declared.kinds.Step.{Step}
+use Rattle.rte_value.specs.declared.kinds.Step.TheVariants as step
+use Rattle.rte_value.specs.declared.value.Value.{Value}
+use Rattle.rte_value.specs.Values.{words_of}
+use Rattle.bus_semantics.specs.declared.plan.ElemPlan.{ElemPlan}
+use Rattle.bus_semantics.specs.declared.plan.PointPlan.{PointPlan}
+use Rattle.bus_semantics.specs.declared.plan.AreaPlan.{AreaPlan}
+use Rattle.bus_semantics.specs.declared.plan.MachinePlan.{MachinePlan}
+use Rattle.bus_semantics.specs.declared.plan.ModePortPlan.{ModePortPlan}
+use Rattle.bus_semantics.specs.declared.plan.EventPlan.{EventPlan}
+use Rattle.bus_semantics.specs.declared.entries.Actor.{Actor}
+use Rattle.bus_semantics.specs.declared.entries.Actor.TheVariants.{Env, Machine, Act}
+use Rattle.bus_semantics.specs.declared.entries.Deed.{Deed}
+use Rattle.bus_semantics.specs.declared.entries.Deed.TheVariants as deed
+use Rattle.bus_semantics.specs.declared.entries.Entry.{Entry}
+use Rattle.bus_semantics.specs.Plan.{Plan, Runnable, look}
+use Rattle.bus_semantics.specs.Run.{Word, idle, unsettled, Item, made, run_begins, run_closes, Session}
+
+abbrev pub Letters : Type 0
+Letters = List ℕ
+
+-- a space, and then the text
+abbrev pub spaced : Letters → Letters
+spaced t = codes " " ++ t
+
+-- ---- values: words in decimal joined by commas, or a dash for none
+
+abbrev pub more_words : List ℤ → Letters
+more_words [] = []
+more_words (x ∷ xs) = codes "," ++ signed_decimal x ++ more_words xs
+
+abbrev pub words_text : List ℤ → Letters
+words_text [] = codes "-"
+words_text (x ∷ xs) = signed_decimal x ++ more_words xs
+
+abbrev pub value_text : Value → Letters
+value_text v = words_text (words_of v)
+
+-- ---- names
+
+abbrev pub instance_text : Plan → Option ℕ → Letters
+instance_text p None = codes "env"
+instance_text p (Some i) = look p.names i (λ (t : Letters). t) []
+
+abbrev pub runnable_text : Plan → ℕ → Letters
+runnable_text p r = look p.runnables r (λ (v : Runnable). instance_text p (Some v.instance) ++ codes ":" ++ v.name) []
+
+-- INSTANCE:RUNNABLE.PORT.OPERATION, and env.PORT.OPERATION
+abbrev pub caller_text : Plan → Option ℕ → Letters
+caller_text p None = codes "env"
+caller_text p (Some r) = runnable_text p r
+
+abbrev pub point_text : Plan → ℕ → Letters
+point_text p q = look p.points q (λ (t : PointPlan). caller_text p t.runnable ++ codes "." ++ t.name) []
+
+abbrev pub machine_text : Plan → ℕ → Letters
+machine_text p m = look p.machines m (λ (n : MachinePlan). instance_text p n.instance ++ codes "." ++ n.name) []
+
+abbrev pub key_text : Plan → ActKey → Letters
+key_text p k = runnable_text p k.runnable ++ at_point k.point
+  where
+    at_point : Option ℕ → Letters
+    at_point None = []
+    at_point (Some q) = codes "@" ++ point_text p q
+
+abbrev pub actor_text : Plan → Actor → Letters
+actor_text p Env = codes "env"
+actor_text p (Machine m) = machine_text p m
+actor_text p (Act k) = key_text p k
+
+-- the names that an instance itself uses
+abbrev pub elem_name : Plan → ℕ → Letters
+elem_name p x = look p.elements x (λ (e : ElemPlan). e.name) []
+
+abbrev pub point_name : Plan → ℕ → Letters
+point_name p q = look p.points q (λ (t : PointPlan). t.name) []
+
+abbrev pub area_name : Plan → ℕ → Letters
+area_name p x = look p.areas x (λ (a : AreaPlan). a.name) []
+
+abbrev pub machine_name : Plan → ℕ → Letters
+machine_name p m = look p.machines m (λ (n : MachinePlan). n.name) []
+
+abbrev pub mode_port_name : Plan → ℕ → Letters
+mode_port_name p port = look p.mode_ports port (λ (t : ModePortPlan). t.name) []
+
+abbrev pub event_name : Plan → ℕ → Letters
+event_name p e = look p.events e (λ (v : EventPlan). v.name) []
+
+-- ---- deeds, version 1. Version 2 differs in the header and in the three spellings of a mode: give `deed_text` the version there
+
+abbrev pub from_text : Plan → Option ℕ → Value → Letters
+from_text p None value = []
+from_text p (Some q) value = codes " from " ++ point_text p q ++ spaced (value_text value)
+
+abbrev pub phase_text : Step → Letters
+phase_text (step.Close mode) = codes "phase close " ++ decimal mode
+phase_text step.Exit = codes "phase exit"
+phase_text step.Transition = codes "phase transition"
+phase_text step.Entry = codes "phase entry"
+phase_text step.Stable = codes "phase stable"
+
+abbrev pub deed_text : Plan → Deed → Letters
+deed_text p deed.Tick = codes "tick"
+deed_text p (deed.Start event point value) = codes "start " ++ event_name p event ++ from_text p point value
+deed_text p (deed.Admit admitted) = if admitted then codes "admit yes" else codes "admit no"
+deed_text p (deed.Fetch x value) = codes "fetch " ++ elem_name p x ++ spaced (value_text value)
+deed_text p (deed.Write x value) = codes "write " ++ elem_name p x ++ spaced (value_text value) ++ codes " 0"
+deed_text p (deed.Read x code value) = codes "read " ++ elem_name p x ++ spaced (decimal code) ++ spaced (value_text value)
+deed_text p (deed.Invalidate x) = codes "invalidate " ++ elem_name p x ++ codes " 0"
+deed_text p (deed.IsUpdated x updated) = codes "isUpdated " ++ elem_name p x ++ (if updated then codes " 1" else codes " 0")
+deed_text p (deed.Send x value code) = codes "send " ++ elem_name p x ++ spaced (value_text value) ++ spaced (decimal code)
+deed_text p (deed.Receive x code value) = codes "receive " ++ elem_name p x ++ spaced (decimal code) ++ spaced (value_text value)
+deed_text p (deed.Ask q value code) = codes "ask " ++ point_name p q ++ spaced (value_text value) ++ spaced (decimal code)
+deed_text p (deed.Answer q code value) = codes "answer " ++ point_name p q ++ spaced (decimal code) ++ spaced (value_text value)
+deed_text p (deed.TakeResult q code value) = codes "result " ++ point_name p q ++ spaced (decimal code) ++ spaced (value_text value)
+deed_text p (deed.Return code value) = codes "return " ++ decimal code ++ spaced (value_text value)
+deed_text p (deed.Enter x) = codes "enter " ++ area_name p x
+deed_text p (deed.Leave x) = codes "exit " ++ area_name p x
+deed_text p (deed.Switch m mode code) = codes "switch " ++ machine_name p m ++ spaced (decimal mode) ++ spaced (decimal code)
+deed_text p (deed.Mode port mode) = codes "mode " ++ mode_port_name p port ++ spaced (decimal mode)
+deed_text p (deed.Phase s) = phase_text s
+deed_text p (deed.Publish x value) = codes "publish " ++ elem_name p x ++ spaced (value_text value)
+deed_text p deed.End = codes "end"
+
+-- ---- lines
+
+abbrev pub entry_text : Plan → Entry → Letters
+entry_text p e = actor_text p e.actor ++ spaced (deed_text p e.deed) ++ codes "\n"
+
+abbrev pub word_text : Word → Letters
+word_text idle = codes "idle\n"
+word_text unsettled = codes "unsettled\n"
+
+abbrev pub item_text : Plan → Item → Letters
+item_text p (made e) = entry_text p e
+item_text p run_begins = codes "run\n"
+item_text p (run_closes word) = word_text word
+
+abbrev pub header : Letters
+header = codes "rte-trace 1\n"
+
+abbrev pub spelling_of : Plan → Session → Letters
+spelling_of p [] = header
+spelling_of p (i ∷ s) = spelling_of p s ++ item_text p i
+
+-- the bytes are the header and one line for each item
+abbrev pub Spells : Plan → Letters → Session → Type 0
+Spells p bytes s = bytes ≡ spelling_of p s
