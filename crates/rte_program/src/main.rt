@@ -1,0 +1,4 @@
+//! The program: it reads a description and a script, runs them on the bus and prints the trace.
+#![tactic(auto)]
+
+fn main() {}
