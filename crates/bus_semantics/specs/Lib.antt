@@ -30,4 +30,4 @@ pub mod SoundPrograms
 pub mod SoundEvents
 pub mod Sound
 pub mod Values
-pub mod RowOne
+pub mod OneWriter
