@@ -1,0 +1,21 @@
+//! A value whose words are held within limits.
+
+ghost use Rattle.std.specs.Prelude.{◌≡◌, ◌≤ℤ◌, map};
+ghost use Rattle.std.specs.List.{All};
+ghost use Rattle.rte_value.specs.Arithmetic.{clamped, IsWithin};
+ghost use Rattle.rte_value.specs.Values.{words_of};
+
+use crate::{Limits, Value, clamp};
+
+/// The value whose words are these, each clamped to the limits.
+pub fn clamp_value(v: &Value, l: &Limits) -> Value
+    requires { l.now.low ≤ℤ l.now.high }
+    ensures words { words_of result ≡ map (clamped l.now) (words_of v.now) }
+    ensures within { All (IsWithin l.now) (words_of result) }
+{
+    let mut words = [0; 16];
+    for (i, word) in v.words().iter().enumerate() {
+        words[i] = clamp(*word, l);
+    }
+    Value { words, len: v.len }
+}
