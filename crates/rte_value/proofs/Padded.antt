@@ -16,7 +16,7 @@ append-drop_zeros ws = ap (λ zs. ws ++ zs) (drop-replicate (length ws) 16 (pos 
 set-zeros : (ws : List ℤ) (left : ℕ) (x : ℤ) → set (ws ++ replicate (suc left) (pos 0)) (length ws) x ≡ (ws ++ x ∷ []) ++ replicate left (pos 0)
 set-zeros ws left x =
     set-append_seam ws (pos 0) (replicate left (pos 0)) x
-      ∙ sym (append_assoc ws (x ∷ []) (replicate left (pos 0)))
+    ∙ sym (append_assoc ws (x ∷ []) (replicate left (pos 0)))
 
 -- a word written behind the last one
 pub set-padded : (ws : List ℤ) (n : ℕ) (x : ℤ) → n ≡ length ws → length ws < 16 → set (padded ws) n x ≡ padded (ws ++ x ∷ [])

@@ -20,17 +20,17 @@ use Rattle.rte_value.specs.Values.{words_of, same_words}
 le-length_padded : (ws : List ℤ) → 16 ≤ length (padded ws)
 le-length_padded ws =
     let counted : length (padded ws) ≡ max 16 (length ws) =
-          length-append ws (replicate (16 - length ws) (pos 0))
-            ∙ ap (λ n. length ws + n) (length-replicate (16 - length ws) (pos 0))
-            ∙ add_comm (length ws) (16 - length ws)
-            ∙ sub-add-eq-max 16 (length ws)
+    length-append ws (replicate (16 - length ws) (pos 0))
+    ∙ ap (λ n. length ws + n) (length-replicate (16 - length ws) (pos 0))
+    ∙ add_comm (length ws) (16 - length ws)
+    ∙ sub-add-eq-max 16 (length ws)
     in subst (λ n. 16 ≤ n) (sym counted) (le-max_left 16 (length ws))
 
 -- a value has as many words as its length says
 pub length-words_of : (v : Value) → length (words_of v) ≡ v.len
 length-words_of v =
     length-take-le v.len v.words
-      (le_trans v.short (subst (λ ws. 16 ≤ length ws) (sym v.padded) (le-length_padded (words_of v))))
+    (le_trans v.short (subst (λ ws. 16 ≤ length ws) (sym v.padded) (le-length_padded (words_of v))))
 
 -- values of the same words are the same value
 pub Value-by_words : (v w : Value) → words_of v ≡ words_of w → v ≡ w
@@ -42,7 +42,7 @@ Value-by_words v w same =
       len = len i;
       short = is_prop→PathP (λ j. len j ≤ 16) (λ j. le_prop) v.short w.short i;
       padded = is_prop→PathP (λ j. words j ≡ padded (take (len j) (words j)))
-        (λ j. is_set ℤ_set (words j) (padded (take (len j) (words j)))) v.padded w.padded i;
+          (λ j. is_set ℤ_set (words j) (padded (take (len j) (words j)))) v.padded w.padded i;
     }
 
 -- it is what `==` computes of two slices

@@ -5,7 +5,7 @@ ghost use Rattle.std.specs.List.{All};
 ghost use Rattle.rte_value.specs.Arithmetic.{clamped, IsWithin};
 ghost use Rattle.rte_value.specs.Values.{words_of};
 
-use crate::{Limits, Value, clamp};
+use crate::{Limits, MOST_WORDS, Value, clamp};
 
 /// The value whose words are these, each clamped to the limits.
 pub fn clamp_value(v: &Value, l: &Limits) -> Value
@@ -13,7 +13,7 @@ pub fn clamp_value(v: &Value, l: &Limits) -> Value
     ensures words { words_of result ≡ map (clamped l.now) (words_of v.now) }
     ensures within { All (IsWithin l.now) (words_of result) }
 {
-    let mut words = [0; 16];
+    let mut words = [0; MOST_WORDS];
     for (i, word) in v.words().iter().enumerate() {
         words[i] = clamp(*word, l);
     }

@@ -6,4 +6,4 @@ pub invariant_of-result-clause-padded : goal.invariant_of-result-clause-padded
 invariant_of-result-clause-padded c =
     let words = c.args.words.now in
     padded-itself _ words (length words) refl
-      (ap (λ ws. ws ++ drop (length words) (replicate 16 (pos 0))) c.copy_from_slice.ensures.after ∙ append-drop_zeros words)
+    (ap (λ ws. ws ++ drop (length words) (replicate 16 (pos 0))) c.copy_from_slice.ensures.after ∙ append-drop_zeros words)

@@ -10,9 +10,9 @@ told c = c.eq.ensures ∙ rw c.words.ensures.words (rw c.words-2.ensures.words (
 pub returns-clause-same_words : goal.returns-clause-same_words
 returns-clause-same_words c =
     subst (λ r. IsTrue r ↔ (words_of c.args.self.now ≡ words_of c.args.other.now)) (sym (told c))
-      (same_words-Decides (words_of c.args.self.now) (words_of c.args.other.now))
+    (same_words-Decides (words_of c.args.self.now) (words_of c.args.other.now))
 
 pub returns-clause-same_value : goal.returns-clause-same_value
 returns-clause-same_value c =
     subst (λ r. IsTrue r ↔ (c.args.self.now ≡ c.args.other.now)) (sym (told c))
-      (same_value-Decides c.args.self.now c.args.other.now)
+    (same_value-Decides c.args.self.now c.args.other.now)
