@@ -40,10 +40,10 @@ pub fn div(a: Word, b: Word) -> Word
 }
 
 /// 1 where the comparison holds, and else 0.
-pub fn cmp(c: Cmp, a: Word, b: Word) -> Word
-    ensures { result ≡ comparison c a b }
+pub fn cmp(kind: Cmp, a: Word, b: Word) -> Word
+    ensures { result ≡ comparison kind a b }
 {
-    let holds = match c {
+    let holds = match kind {
         Cmp::Eq => a == b,
         Cmp::Ne => a != b,
         Cmp::Lt => a < b,
@@ -53,11 +53,11 @@ pub fn cmp(c: Cmp, a: Word, b: Word) -> Word
 }
 
 /// The word itself where it lies within the limits, and else the limit that it passes.
-pub fn clamp(x: Word, l: &Limits) -> Word
-    requires { l.now.low ≤ℤ l.now.high }
-    ensures value { result ≡ clamped l.now x }
-    ensures above_low { l.now.low ≤ℤ result }
-    ensures below_high { result ≤ℤ l.now.high }
+pub fn clamp(word: Word, limits: &Limits) -> Word
+    requires { limits.now.low ≤ℤ limits.now.high }
+    ensures value { result ≡ clamped limits.now word }
+    ensures above_low { limits.now.low ≤ℤ result }
+    ensures below_high { result ≤ℤ limits.now.high }
 {
-    x.clamp(l.low, l.high)
+    word.clamp(limits.low, limits.high)
 }

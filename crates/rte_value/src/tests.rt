@@ -1,6 +1,7 @@
 //! Values computed by hand.
 
 use crate::{ActKey, Cmp, Limits, Value, Word, add, clamp, clamp_value, cmp, div, mul, sub};
+use std::test::Fail;
 
 #[test]
 fn sums_differences_and_products(rt: HostRuntime) {
@@ -89,6 +90,13 @@ fn values_of_0_to_16_words(rt: HostRuntime) {
     assert!(rt; Value::new(&counted).is_none(), "17 words");
     assert!(rt; Value::empty().words().is_empty());
     assert_eq!(rt; Value::of_word(-5).words(), [-5].as_slice());
+}
+
+#[test]
+fn a_printed_value(rt: HostRuntime) -> Result<(), Fail> {
+    let value = Value::new(&[3, -4]).expect(&rt, "two words");
+    assert_eq!(rt; format!(in rt.alloc(); "{value:?}")?.as_str(), "[3, -4]");
+    Ok(())
 }
 
 #[test]

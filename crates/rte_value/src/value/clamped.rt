@@ -8,14 +8,17 @@ ghost use Rattle.rte_value.specs.Values.{words_of};
 use crate::{Limits, MOST_WORDS, Value, clamp};
 
 /// The value whose words are these, each clamped to the limits.
-pub fn clamp_value(v: &Value, l: &Limits) -> Value
-    requires { l.now.low ≤ℤ l.now.high }
-    ensures words { words_of result ≡ map (clamped l.now) (words_of v.now) }
-    ensures within { All (IsWithin l.now) (words_of result) }
+pub fn clamp_value(value: &Value, limits: &Limits) -> Value
+    requires { limits.now.low ≤ℤ limits.now.high }
+    ensures words { words_of result ≡ map (clamped limits.now) (words_of value.now) }
+    ensures within { All (IsWithin limits.now) (words_of result) }
 {
     let mut words = [0; MOST_WORDS];
-    for (i, word) in v.words().iter().enumerate() {
-        words[i] = clamp(*word, l);
+    for (i, word) in value.words().iter().enumerate() {
+        words[i] = clamp(*word, limits);
     }
-    Value { words, len: v.len }
+    Value {
+        words,
+        len: value.len,
+    }
 }

@@ -13,6 +13,6 @@ loop-i-preserved c = grind (arith, common_steps, set-padded, to_z-of_z)
 
 pub returns-clause-within : goal.returns-clause-within
 returns-clause-within c =
-    let words : take c.args.v.now.len c.loop-i.words ≡ map (clamped c.args.l.now) (words_of c.args.v.now) =
+    let words : take c.args.value.now.len c.loop-i.words ≡ map (clamped c.args.limits.now) (words_of c.args.value.now) =
     grind (arith, common_steps, take-padded)
-    in subst (All (IsWithin c.args.l.now)) (sym words) (All-clamped c.args.l.now (words_of c.args.v.now) c.requires)
+    in subst (All (IsWithin c.args.limits.now)) (sym words) (All-clamped c.args.limits.now (words_of c.args.value.now) c.requires)

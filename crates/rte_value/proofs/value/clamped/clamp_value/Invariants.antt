@@ -5,4 +5,4 @@ use Rattle.rte_value.specs.Values.{words_of}
 use Rattle.rte_value.proofs.value.clamped.clamp_value.Given as goal
 
 abbrev pub invariant-loop-i : goal.invariant-loop-i
-invariant-loop-i l = l.words ≡ padded (map (clamped l.l) (take l.i (words_of l.v)))
+invariant-loop-i l = l.words ≡ padded (map (clamped l.limits) (take l.i (words_of l.value)))
