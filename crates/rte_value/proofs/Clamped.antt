@@ -1,5 +1,5 @@
 -- Clamped words lie within the limits.
-use Rattle.std.proofs.Common.{ℤ, ◌≤ℤ◌, List, map, length, arith}
+use Rattle.std.proofs.Common.{ℤ, ◌≤ℤ◌, List, map, arith}
 use Rattle.std.proofs.lemmas.Int.{ints, clamps}
 use Rattle.std.proofs.lemmas.List.Elements.{All-map}
 use Rattle.std.specs.List.{All}

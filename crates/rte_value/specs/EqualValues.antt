@@ -1,5 +1,5 @@
 -- Values of the same words are the same value, since the unused words are 0.
-use Rattle.std.specs.Prelude.{◌≡◌, ℕ, ◌+◌, ◌-◌, ◌≤◌, max, ℤ, pos, List, [], ◌∷◌, ◌++◌, ◌&&◌, take, length, replicate}
+use Rattle.std.specs.Prelude.{◌≡◌, ◌+◌, ◌-◌, ◌≤◌, max, ℤ, pos, List, [], ◌∷◌, ◌&&◌, take, length, replicate}
 use Rattle.std.specs.Bool.{Decides}
 use Rattle.std.specs.Cmp.{IsEquivalence, IsPartialEquivalence, decided, partial_equiv_from_equiv}
 use Rattle.std.specs.Cmp.Lexicographic.{pointwise}

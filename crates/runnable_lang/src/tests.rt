@@ -32,6 +32,6 @@ fn a_nested_expression(rt: HostRuntime) -> Result<(), Fail> {
     let quotient = Expr::Bin(Op::Div, difference, second);
     assert_eq!(rt; quotient.value(&[3, 2]), -3);
     assert_eq!(rt; quotient.value(&[31, 7]), 3);
-    assert_eq!(rt; quotient.value(&[31]), 0, "the divisor is not among the variables");
+    assert_eq!(rt; quotient.value(&[31]), 0, "no such variable");
     Ok(())
 }
