@@ -1,3 +1,4 @@
 pub mod FirstLine
 pub mod LineTexts
 pub mod Counts
+pub mod Readings
