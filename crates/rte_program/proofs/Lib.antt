@@ -2,3 +2,4 @@ pub mod FirstLine
 pub mod LineTexts
 pub mod Counts
 pub mod Readings
+pub mod OneReading

@@ -50,3 +50,9 @@ line_text-injective Run Run g h e = refl
 line_text-injective (Call v) l g h e = absurd g
 line_text-injective (Tick m) (Call w) g h e = absurd h
 line_text-injective Run (Call w) g h e = absurd h
+
+-- each readable line has some text
+pub line_text-nonempty : (l : Line) → IsReadable l → [] ≡ line_text l → ⊥
+line_text-nonempty (Tick n) h e = cc
+line_text-nonempty Run h e = cc
+line_text-nonempty (Call wish) h e = absurd h
