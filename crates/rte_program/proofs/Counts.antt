@@ -1,5 +1,5 @@
 -- A count of ticks, as its decimal and as `parse` reads it.
-use Rattle.std.proofs.Common.{◌≡◌, ℕ, ◌+◌, ◌^◌, ◌<◌, ◌≤◌, List, [], ◌∷◌, length, get_or, decimal, true, Result, Ok, Err, ◌⊎◌, inl, inr, refl, sym, ap, ◌∙◌, subst, arith}
+use Rattle.std.proofs.Common.{◌≡◌, ℕ, ◌^◌, ◌<◌, ◌≤◌, List, length, get_or, decimal, true, Result, Ok, inl, inr, sym, ap, ◌∙◌, subst, arith}
 use Rattle.std.proofs.lemmas.Bool.{cases_lt}
 use Rattle.std.proofs.lemmas.Fmt.{IsAscii-decimal, decimal_nonempty, digits_decimal, first_decimal, decimal-digits_value, decimal_digit, parse-decimal}
 use Rattle.std.proofs.lemmas.Str.{IsUtf8-from_ascii}
@@ -33,9 +33,9 @@ pub read_is_decimal : {E : Type 0} (digits : List ℕ) (r : Result ℕ E) (count
 read_is_decimal {E} digits r count first is h =
     let read = subst (λ (s : Result ℕ E). ParsesUnsigned 32 10 digits s) is h in
     let plain : ((all_ascii_digits digits ≡ true) × (0 < length digits) × (digits_value 10 digits < 2 ^ 32)) × (count ≡ digits_value 10 digits) =
-        parse_plain own {E = E} 32 digits (Ok count) read (λ e. omega arith) in
+    parse_plain own {E = E} 32 digits (Ok count) read (λ e. omega arith) in
     let same : decimal (digits_value 10 digits) ≡ digits =
-        decimal-digits_value own digits plain.0.0 plain.0.1 (λ e. absurd (omega arith)) (omega (arith, plain.0.2)) in
+    decimal-digits_value own digits plain.0.0 plain.0.1 (λ e. absurd (omega arith)) (omega (arith, plain.0.2)) in
     let whole : digits ≡ decimal count = sym same ∙ ap decimal (sym plain.1) in
     (elim (cases_lt 0 count) [ inl l ↦ omega arith | inr z ↦ absurd (none count (omega arith) whole) ], whole)
   where

@@ -1,7 +1,7 @@
 -- The first line of a text, and what stands after it.
-use Rattle.std.proofs.Common.{◌≡◌, ℕ, suc, ◌+◌, ◌≤◌, Bool, true, false, not, cond, ◌==◌, List, [], ◌∷◌, ◌++◌, length, take, drop, codes, ◌⊎◌, inl, inr, refl, sym, ap, ◌∙◌, subst, Option, Some, None, nat_lt, add-one, one-add, arith}
+use Rattle.std.proofs.Common.{◌≡◌, ℕ, suc, ◌+◌, ◌≤◌, Bool, true, false, not, cond, ◌==◌, List, [], ◌∷◌, ◌++◌, length, take, drop, codes, ◌⊎◌, inl, inr, refl, sym, ap, ◌∙◌, subst, Some, None, nat_lt, add-one, one-add, arith}
 use Rattle.std.proofs.lemmas.Bool.{eqb-true, ltb-false, cond_both}
-use Rattle.std.proofs.lemmas.List.{take_all, drop_all, take_rest}
+use Rattle.std.proofs.lemmas.List.{take_all, drop_all}
 use Rattle.std.specs.List.{position, position_or_len}
 use Rattle.rte_program.specs.ScriptText.{first_line, after_line}
 
@@ -28,8 +28,8 @@ line_parts [] = inr (refl, refl)
 line_parts (b ∷ bytes) = step (b == 10) refl (line_parts bytes)
   where
     step : (t : Bool) → (b == 10) ≡ t
-      → (bytes ≡ first_line bytes ++ (codes "\n" ++ after_line bytes)) ⊎ ((bytes ≡ first_line bytes) × (after_line bytes ≡ []))
-      → (b ∷ bytes ≡ cond t [] (b ∷ first_line bytes) ++ (codes "\n" ++ cond t bytes (after_line bytes)))
+        → (bytes ≡ first_line bytes ++ (codes "\n" ++ after_line bytes)) ⊎ ((bytes ≡ first_line bytes) × (after_line bytes ≡ []))
+        → (b ∷ bytes ≡ cond t [] (b ∷ first_line bytes) ++ (codes "\n" ++ cond t bytes (after_line bytes)))
         ⊎ ((b ∷ bytes ≡ cond t [] (b ∷ first_line bytes)) × (cond t bytes (after_line bytes) ≡ []))
     step true is h = inl (ap (λ c. c ∷ bytes) (eqb-true b 10 is))
     step false is (inl h) = inl (ap (λ xs. b ∷ xs) h)
@@ -47,6 +47,7 @@ length-after_line b bytes = step (b == 10)
     shorter : (bs : List ℕ) → length (after_line bs) ≤ length bs
     shorter [] = omega arith
     shorter (x ∷ xs) = let h : length (after_line xs) ≤ length xs = shorter xs in cond_both (x == 10) xs (after_line xs) (λ ys. length ys ≤ suc (length xs)) (λ _. omega arith) (λ _. omega arith)
+
     step : (t : Bool) → length (cond t bytes (after_line bytes)) ≤ length bytes
     step true = omega arith
     step false = shorter bytes

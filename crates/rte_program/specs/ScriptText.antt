@@ -3,7 +3,6 @@ use Rattle.std.specs.Prelude.{◌≡◌, ℕ, List, [], ◌∷◌, ◌++◌, ◌
 use Rattle.std.specs.List.{All}
 use Rattle.bus_semantics.specs.declared.script.Line.{Line}
 use Rattle.bus_semantics.specs.declared.script.Line.TheVariants as line
-use Rattle.bus_semantics.specs.declared.script.Script.{Script}
 use Rattle.rte_program.specs.declared.script.ScriptRead.{ScriptRead}
 use Rattle.rte_program.specs.declared.script.ScriptRead.TheVariants as answer
 

@@ -3,8 +3,16 @@
 ghost use Rattle.std.specs.Prelude.{◌≡◌, ◌≤◌, ℕ, List, IfSome, IfNone, decimal, position, ◌==◌};
 ghost use Rattle.bus_semantics.specs.declared.script.Line.{Line};
 ghost use Rattle.rte_program.specs.ScriptText.{
-    IfBadLine, IfRead, IsBadLine, IsNoLine, IsReadable, IsScript, after_line, first_line,
-    has_no_form, line_text,
+  IfBadLine,
+  IfRead,
+  IsBadLine,
+  IsNoLine,
+  IsReadable,
+  IsScript,
+  after_line,
+  first_line,
+  has_no_form,
+  line_text,
 };
 
 use bus_semantics::{Line, Script};
@@ -111,4 +119,75 @@ fn read_count(digits: &[u8]) -> Option<u32>
         return None;
     }
     Some(count)
+}
+
+#[cfg(test)]
+mod tests {
+    use super::*;
+    use std::alloc::AllocError;
+    use std::test::Fail;
+
+    /// The ticks of each line, and 0 for `run`.
+    fn ticks_of(alloc: Global, lines: &[Line]) -> Result<Vec<u32>, AllocError> {
+        let mut ticks = Vec::new(alloc);
+        for line in lines {
+            let count = match line {
+                Line::Tick(count) => *count,
+                Line::Run => 0,
+                Line::Call(_) => u32::MAX,
+            };
+            ticks.push(count)?;
+        }
+        Ok(ticks)
+    }
+
+    #[test]
+    fn reads_scripts(rt: HostRuntime) -> Result<(), Fail> {
+        let cases: [(&[u8], &[u32]); 6] = [
+            (b"", &[]),
+            (b"run", &[0]),
+            (b"run\n", &[0]),
+            (b"tick 10\nrun\n", &[10, 0]),
+            (b"tick 100000", &[100_000]),
+            (b"tick 1\ntick 99\nrun\nrun", &[1, 99, 0, 0]),
+        ];
+        for (bytes, want) in cases {
+            let ScriptRead::Read(script) = read_script(rt.alloc(), bytes) else {
+                panic!(rt; "not read: {bytes:?}");
+            };
+            let ticks = ticks_of(rt.alloc(), script.lines.items())?;
+            assert_eq!(rt; ticks.as_slice(), want, "at {bytes:?}");
+        }
+        Ok(())
+    }
+
+    #[test]
+    fn names_the_first_bad_line(rt: HostRuntime) {
+        let cases: [(&[u8], u64); 18] = [
+            (b"tick 0", 1),
+            (b"tick 01", 1),
+            (b"tick 100001", 1),
+            (b"tick +1", 1),
+            (b"tick -1", 1),
+            (b"tick ", 1),
+            (b"tick", 1),
+            (b"tick  1", 1),
+            (b" run", 1),
+            (b"run ", 1),
+            (b"Run", 1),
+            (b"\n", 1),
+            (b"run\n\n", 2),
+            (b"tick 10\r\nrun\n", 1),
+            (b"# x", 1),
+            (b"run\ntick 5\n\xff\xfe\nrun\n", 3),
+            (b"run\ntick \xff", 2),
+            (b"run\ntick 99999999999999999999\n# x\n", 2),
+        ];
+        for (bytes, want) in cases {
+            let ScriptRead::BadLine { line, cause } = read_script(rt.alloc(), bytes) else {
+                panic!(rt; "not refused: {bytes:?}");
+            };
+            assert_eq!(rt; (line, cause), (want, 1), "at {bytes:?}");
+        }
+    }
 }

@@ -1,6 +1,5 @@
-use Rattle.std.proofs.Common.{◌≡◌, ℕ, List, ◌≤◌, get_or, length, decimal, ◌+◌, sym, ◌∙◌, ap, subst, Ok, arith}
+use Rattle.std.proofs.Common.{◌≡◌, ◌≤◌, get_or, sym, ◌∙◌, subst, Ok, arith}
 use Rattle.std.specs.Str.{IsUtf8}
-use Rattle.std.proofs.lemmas.Fmt.{parse-decimal}
 use Rattle.rte_program.proofs.Counts.{begins_as_count, count_is_text, read_is_decimal, decimal_is_read}
 use Rattle.rte_program.proofs.script.read_count.Goals as goal
 

@@ -1,6 +1,6 @@
-use Rattle.std.proofs.Common.{◌≡◌, ◌<◌, List, ◌++◌, ◌∷◌, [], length, sym, ◌∙◌, subst, rules, arith}
+use Rattle.std.proofs.Common.{◌≡◌, ◌<◌, ◌++◌, ◌∷◌, [], length, sym, ◌∙◌, rules, arith}
 use Rattle.std.proofs.lemmas.Bool.{eqb-false}
-use Rattle.rte_program.proofs.Readings.{HasRead, has_read_more, shorter_after}
+use Rattle.rte_program.proofs.Readings.{has_read_more, shorter_after}
 use Rattle.rte_program.proofs.script.read_script.Goals as goal
 
 pub loop-rest-smaller : goal.loop-rest-smaller
@@ -14,4 +14,4 @@ loop-rest-preserved c =
     let line = c.in-Some.ensures.found in
     let pushed : c.push.new.self.items ≡ c.loop-rest.lines.items ++ c.in-Some.line ∷ [] = search rules in
     rw (c.split_line.ensures.after, pushed)
-      (has_read_more c.args.bytes.now c.loop-rest.lines.items c.loop-rest.rest.now c.in-Some.line c.loop-rest.invariant some line.0 (sym c.split_line.ensures.text ∙ line.1))
+    (has_read_more c.args.bytes.now c.loop-rest.lines.items c.loop-rest.rest.now c.in-Some.line c.loop-rest.invariant some line.0 (sym c.split_line.ensures.text ∙ line.1))
