@@ -40,7 +40,11 @@ pub enum ScriptRead {
 /// Reads a script, `tick N` or `run` in each line, in a time that is linear in the bytes.
 pub fn read_script(alloc: Global, bytes: &[u8]) -> ScriptRead
     ensures read { IfRead result (λ lines. IsScript bytes.now lines) }
+    ensures only { IfRead result (λ lines. (others : List Line) → IsScript bytes.now others → others ≡ lines) }
+
+    // A line is refused only where the bytes are no script.
     ensures bad_line { IfBadLine result (λ line cause. IsBadLine bytes.now line) }
+    ensures no_script { IfBadLine result (λ line cause. (lines : List Line) → IsScript bytes.now lines → ⊥) }
     ensures cause { IfBadLine result (λ line cause. cause ≡ has_no_form) }
 {
     let mut lines = Vec::new(alloc);
