@@ -3,3 +3,4 @@ pub mod LineTexts
 pub mod Counts
 pub mod Readings
 pub mod OneReading
+pub mod SomeReading

@@ -1,6 +1,6 @@
 //! Reading a script: lines `tick N` and `run`.
 
-ghost use Rattle.std.specs.Prelude.{◌≡◌, ◌≤◌, ℕ, List, IfSome, IfNone, decimal, position, ◌==◌};
+ghost use Rattle.std.specs.Prelude.{◌≡◌, ◌≤◌, ℕ, List, IfSome, IfNone, decimal, position, ◌==◌, ◌⊎◌};
 ghost use Rattle.bus_semantics.specs.declared.script.Line.{Line};
 ghost use Rattle.rte_program.specs.ScriptText.{
   IfBadLine,
@@ -67,11 +67,11 @@ pub fn read_script(alloc: Global, bytes: &[u8]) -> ScriptRead
     })
 }
 
-/// The laws of scripts: bytes have one reading, as a script's lines or as a bad line's number. So what `read_script`
-/// refuses is no script, and what it reads has no other lines.
+/// The laws of scripts: bytes have one reading, as a script's lines or as a bad line's number, and never both.
 pub fn one_reading()
+    ensures either { (bytes : List ℕ) → ((lines : List Line) × IsScript bytes lines) ⊎ ((number : ℕ) × IsBadLine bytes number) }
+    ensures not_both { (bytes : List ℕ) (lines : List Line) (number : ℕ) → IsScript bytes lines → IsBadLine bytes number → ⊥ }
     ensures one_script { (bytes : List ℕ) (x y : List Line) → IsScript bytes x → IsScript bytes y → x ≡ y }
-    ensures script_or_bad { (bytes : List ℕ) (lines : List Line) (number : ℕ) → IsScript bytes lines → IsBadLine bytes number → ⊥ }
     ensures one_bad_line { (bytes : List ℕ) (m n : ℕ) → IsBadLine bytes m → IsBadLine bytes n → m ≡ n }
 {}
 
