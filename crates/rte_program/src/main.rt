@@ -1,4 +1,6 @@
 //! The program: it reads a description and a script, runs them on the bus and prints the trace.
 #![tactic(auto)]
 
+mod script;
+
 fn main() {}
