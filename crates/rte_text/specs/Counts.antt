@@ -1,0 +1,10 @@
+-- Counts that a `u64` keeps.
+use Rattle.std.specs.Prelude.{ℕ, ◌-◌, ◌^◌, ◌<◌}
+
+-- the last value of a count, where it stands
+abbrev pub last_count : ℕ
+last_count = 2 ^ 64 - 1
+
+-- the count is more than before, or it stands at its last value
+abbrev pub Rose : ℕ → ℕ → Type 0
+Rose before after = after < last_count → before < after
