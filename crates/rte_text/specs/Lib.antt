@@ -1,3 +1,4 @@
 pub mod Counts
+pub mod MemoryShelves
 pub mod Shelves
 pub mod Sinks

@@ -2,6 +2,8 @@
 #![tactic(auto)]
 
 mod gate;
+mod line;
+mod memory_shelf;
 mod refusal;
 mod seq;
 mod shelf;
@@ -9,6 +11,8 @@ mod sink;
 mod text;
 
 pub use gate::{Gate, OpenGate};
+pub use line::{LINE_LIMIT, LineBuf};
+pub use memory_shelf::MemoryShelf;
 pub use refusal::{Refusal, Refused};
 pub use seq::Seq;
 pub use shelf::{FILE_LIMIT, Fetched, Shelf};
