@@ -1,4 +1,5 @@
 pub mod Counts
 pub mod MemoryShelves
+pub mod MemorySinks
 pub mod Shelves
 pub mod Sinks

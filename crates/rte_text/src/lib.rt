@@ -4,6 +4,7 @@
 mod gate;
 mod line;
 mod memory_shelf;
+mod memory_sink;
 mod refusal;
 mod seq;
 mod shelf;
@@ -13,8 +14,12 @@ mod text;
 pub use gate::{Gate, OpenGate};
 pub use line::{LINE_LIMIT, LineBuf};
 pub use memory_shelf::MemoryShelf;
+pub use memory_sink::MemorySink;
 pub use refusal::{Refusal, Refused};
 pub use seq::Seq;
 pub use shelf::{FILE_LIMIT, Fetched, Shelf};
 pub use sink::{Put, Sink};
 pub use text::Text;
+
+/// There was no memory for what a call makes.
+pub type Memory = std::alloc::AllocError;
