@@ -3,3 +3,4 @@ pub mod MemoryShelves
 pub mod MemorySinks
 pub mod Shelves
 pub mod Sinks
+pub mod Told

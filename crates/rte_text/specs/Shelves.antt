@@ -55,3 +55,8 @@ LongWhereTold files name = IfSome files (λ held. IsSomeAnd (held name) (λ byte
 -- where the files are told and none has this name, the answer is a fault
 abbrev pub FailsWhereMissing : ToldFiles → List ℕ → Fetched → Type 0
 FailsWhereMissing files name answer = IfSome files (λ held. held name ≡ None → IsFailed answer)
+
+-- the two counts of a shelf
+pub record ShelfCounts : Type 0 where
+  pub faults : ℕ
+  pub long_files : ℕ

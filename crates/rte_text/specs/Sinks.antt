@@ -1,6 +1,6 @@
 -- What a sink's answer to `put` says of the bytes told.
 use Rattle.std.specs.Prelude.{◌≡◌, ℕ, List, take, Option}
-use Rattle.std.specs.Io.KnownBytes.{append_known}
+use Rattle.std.specs.Io.KnownBytes.{Appends, append_known}
 use Rattle.rte_text.specs.Counts.{Rose}
 use Rattle.rte_text.specs.declared.sink.Put.{Put}
 use Rattle.rte_text.specs.declared.sink.Put.TheVariants.{Done, Failed}
@@ -23,3 +23,8 @@ ToldAfter Failed before after piece = AppendsPrefixWhereTold before after piece
 abbrev pub SinkFaultsAfter : Put → ℕ → ℕ → Type 0
 SinkFaultsAfter Done before after = after ≡ before
 SinkFaultsAfter Failed before after = Rose before after
+
+-- what a writer holds grew by the whole piece, or by a prefix of it
+abbrev pub TakesPiece : Put → Option (List ℕ) → Option (List ℕ) → List ℕ → Type 0
+TakesPiece Done before after piece = Appends before after piece
+TakesPiece Failed before after piece = (taken : ℕ) × Appends before after (take taken piece)
