@@ -9,14 +9,14 @@ use std::fmt;
 use thiserror::Error;
 
 /// The least rule that a description breaks, with its first place: a JSON pointer, `/` for the whole.
-#[derive(Debug, Drop)]
+#[derive(Debug, Drop, PartialEq, Eq)]
 pub struct Refusal {
     pub rule: u16,
     pub place: Text,
 }
 
 /// Why a description was not read: it breaks a rule, or memory ran out.
-#[derive(Debug, Drop, Error)]
+#[derive(Debug, Drop, PartialEq, Eq, Error)]
 pub enum Refused {
     #[error("refused rule {}", .0.rule)]
     Rule(Refusal),

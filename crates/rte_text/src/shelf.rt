@@ -6,7 +6,7 @@ use std::alloc::Global;
 pub const FILE_LIMIT: usize = 8_388_608;
 
 /// What a shelf answers to a fetch.
-#[derive(Debug, Drop)]
+#[derive(Debug, Drop, PartialEq, Eq)]
 pub enum Fetched {
     /// All bytes of the file, at most `FILE_LIMIT`.
     Bytes(Vec<u8>),
