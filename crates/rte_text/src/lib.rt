@@ -11,6 +11,7 @@ mod seq;
 mod shelf;
 mod sink;
 mod text;
+mod threads;
 
 pub use gate::{Gate, OpenGate};
 pub use line::{LINE_LIMIT, LineBuf};
