@@ -1,19 +1,16 @@
 -- What a writer holds while a piece is written in several calls.
-use Rattle.std.proofs.Common.{◌≡◌, ◌∙◌, ◌-◌, ℕ, List, [], ◌++◌, refl, sym, ap, subst, append-nil, append_assoc, length, take, drop, take-append-drop}
+use Rattle.std.proofs.Common.{◌≡◌, ◌∙◌, ◌-◌, ℕ, List, ◌++◌, refl, sym, ap, subst, append-nil, append_assoc, length, take, drop, take-append-drop}
 use Rattle.std.specs.Prelude.{Option}
 use Rattle.std.proofs.Math.Seq.{take-append_seam}
 use Rattle.std.proofs.lemmas.List.{take_rest}
 use Rattle.std.specs.Io.KnownBytes.{Appends, Keeps}
-use Rattle.std.proofs.KnownBytes.{Appends-nil, Appends-trans, Appends-kept}
+use Rattle.std.proofs.KnownBytes.{Appends-trans, Appends-kept}
 
 -- the writer took the piece but for the rest
 pub record Written (old now : Option (List ℕ)) (piece rest : List ℕ) : Type 0 where
   pub taken : List ℕ
   pub whole : piece ≡ taken ++ rest
   pub held : Appends old now taken
-
-pub written-none : (old : Option (List ℕ)) (piece : List ℕ) → Written old old piece piece
-written-none old piece = record { taken = []; whole = refl; held = Appends-nil old }
 
 pub written-more : {old now : Option (List ℕ)} {piece rest : List ℕ} (new : Option (List ℕ)) (count : ℕ)
     → Written old now piece rest → Appends now new (take count rest) → Written old new piece (take (length rest - count) (drop count rest))

@@ -49,6 +49,7 @@ impl LineBuf {
         ensures line { self.new ≡ (if result then self.old ++ signed_decimal n else self.old) }
         ensures fits { IsTrue result ↔ (length self.old + length (signed_decimal n) ≤ LINE_LIMIT) }
         ensures room { length self.old + 20 ≤ LINE_LIMIT → self.new ≡ self.old ++ signed_decimal n }
+        ensures longer { length self.new ≤ length self.old + 20 }
     {
         self.text(Buffer::new().format(n).as_bytes())
     }
