@@ -1,5 +1,5 @@
 -- A sink in memory, and what it does at a call.
-use Rattle.std.specs.Prelude.{◌≡◌, ℕ, ◌-◌, ◌==◌, ◌&&◌, ◌++◌, Bool, List, length, take, find, min, nat_le, Option, option_map, is_none, if◌then◌else◌}
+use Rattle.std.specs.Prelude.{ℕ, ◌-◌, ◌==◌, ◌&&◌, ◌++◌, List, length, take, find, min, nat_le, Option, option_map, is_none, if◌then◌else◌}
 use Rattle.std.specs.Option.{option_map_or}
 use Rattle.rte_text.specs.Counts.{raised}
 use Rattle.rte_text.specs.declared.sink.Put.{Put}

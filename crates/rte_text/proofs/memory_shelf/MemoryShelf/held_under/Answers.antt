@@ -1,5 +1,4 @@
-use Rattle.std.proofs.Common.{rules, ◌≡◌, refl, option_copied, List, ℕ}
-use Rattle.rte_text.specs.MemoryShelves.{file_named}
+use Rattle.std.proofs.Common.{refl}
 use Rattle.rte_text.proofs.Files.{file_named-first}
 use Rattle.rte_text.proofs.memory_shelf.MemoryShelf.held_under.Goals as goal
 
