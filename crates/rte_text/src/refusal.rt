@@ -9,14 +9,14 @@ use std::fmt;
 use thiserror::Error;
 
 /// The least rule that a description breaks, with its first place: a JSON pointer, `/` for the whole.
-#[derive(Debug, Drop)]
+#[derive(Debug, Drop, PartialEq, Eq)]
 pub struct Refusal {
     pub rule: u16,
     pub place: Text,
 }
 
 /// Why a description was not read: it breaks a rule, or memory ran out.
-#[derive(Debug, Drop, Error)]
+#[derive(Debug, Drop, PartialEq, Eq, Error)]
 pub enum Refused {
     #[error("refused rule {}", .0.rule)]
     Rule(Refusal),
@@ -29,5 +29,21 @@ impl From<AllocError> for Refused {
 
     fn from(_e: AllocError) -> Refused {
         Refused::Memory
+    }
+}
+
+#[cfg(test)]
+mod tests {
+    use super::*;
+    use std::test::Fail;
+
+    #[test]
+    fn prints(rt: HostRuntime) -> Result<(), Fail> {
+        let place = Text::new(rt.alloc(), b"/dataTypes/0")?;
+        let refused = Refused::Rule(Refusal { rule: 7, place });
+        assert_eq!(rt; refused.to_string(rt.alloc())?.as_str(), "refused rule 7");
+        let memory = Refused::from(AllocError);
+        assert_eq!(rt; memory.to_string(rt.alloc())?.as_str(), "out of memory");
+        Ok(())
     }
 }

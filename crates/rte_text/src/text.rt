@@ -1,11 +1,12 @@
 //! A small text.
 
-ghost use Rattle.std.specs.Prelude.{◌≡◌, IfOk};
+ghost use Rattle.std.specs.Prelude.{◌≡◌, ◌==◌, [], length, IfOk};
 
-use std::alloc::{AllocError, Global};
+use crate::Memory;
+use std::alloc::Global;
 use std::marker::Model;
 
-/// A small text, seen as its bytes.
+/// A small text, as a name, seen as its bytes.
 #[derive(Debug, Drop)]
 pub struct Text {
     held: Vec<u8>,
@@ -20,12 +21,19 @@ impl Model for Text {
 }
 
 impl Text {
-    /// A copy of these bytes.
-    pub fn new(alloc: Global, bytes: &[u8]) -> Result<Text, AllocError>
+    /// A copy of these bytes. The only error is that there is no memory for it.
+    pub fn new(alloc: Global, bytes: &[u8]) -> Result<Text, Memory>
         ensures { IfOk result (λ t. t ≡ bytes.now) }
     {
         let held = Vec::from_slice(alloc, bytes)?;
         Ok(Text { held })
+    }
+
+    /// A text of these bytes. It takes no memory.
+    pub fn of(held: Vec<u8>) -> Text
+        ensures { result ≡ held.items }
+    {
+        Text { held }
     }
 
     /// Its bytes.
@@ -33,5 +41,63 @@ impl Text {
         ensures { result.now ≡ self.now }
     {
         self.held.as_slice()
+    }
+
+    /// Its bytes, given back.
+    pub fn into_vec(self) -> Vec<u8>
+        ensures { result.items ≡ self }
+    {
+        self.held
+    }
+
+    /// How many bytes it has.
+    pub fn len(&self) -> usize
+        ensures { result ≡ length self.now }
+    {
+        self.held.len()
+    }
+
+    /// Whether it has no byte.
+    pub fn is_empty(&self) -> bool
+        ensures { result ≡ (length self.now == 0) }
+    {
+        self.held.is_empty()
+    }
+}
+
+impl PartialEq for Text {
+    ghost use Rattle.std.specs.Prelude.{bytes_eq};
+    ghost use Rattle.std.specs.Cmp;
+    ghost use Rattle.std.specs.Cmp.Lexicographic.{nat_list_eq_equiv};
+
+    ghost eq = { bytes_eq };
+
+    ghost laws = { Cmp.partial_equiv_from_equiv nat_list_eq_equiv };
+
+    fn eq(&self, other: &Text) -> bool {
+        self.bytes() == other.bytes()
+    }
+}
+
+impl Eq for Text {
+    ghost use Rattle.std.specs.Cmp.Lexicographic.{nat_list_eq_equiv};
+
+    ghost laws = { nat_list_eq_equiv };
+}
+
+#[cfg(test)]
+mod tests {
+    use super::*;
+    use std::test::Fail;
+
+    #[test]
+    fn holds_bytes(rt: HostRuntime) -> Result<(), Fail> {
+        let text = Text::new(rt.alloc(), b"Speed")?;
+        assert_eq!(rt; text.bytes(), b"Speed".as_slice());
+        assert_eq!(rt; (text.len(), text.is_empty()), (5, false));
+        let held = Vec::from_slice(rt.alloc(), b"Speed")?;
+        assert_eq!(rt; text, Text::of(held));
+        assert_eq!(rt; text.into_vec().as_slice(), b"Speed".as_slice());
+        Ok(())
     }
 }

@@ -1,0 +1,93 @@
+//! A line of fixed room.
+
+ghost use Rattle.std.specs.Prelude.{◌≡◌, ◌+◌, ◌≤◌, ◌↔◌, [], ◌++◌, length, IsTrue, if◌then◌else◌};
+ghost use Rattle.std.specs.Fmt.{signed_decimal};
+
+use arrayvec::ArrayVec;
+use itoa::Buffer;
+use std::marker::Model;
+
+/// How many bytes a line may have.
+pub const LINE_LIMIT: usize = 2_048;
+
+/// A line of at most `LINE_LIMIT` bytes, seen as its bytes. It takes no memory.
+#[derive(Debug, Drop)]
+pub struct LineBuf {
+    held: ArrayVec<u8, LINE_LIMIT>,
+}
+
+impl Model for LineBuf {
+    ghost use Rattle.std.specs.Prelude.{ℕ, List};
+
+    ghost Value = { List ℕ };
+
+    ghost view = { λ line. line.held.items };
+}
+
+impl LineBuf {
+    /// An empty line.
+    pub fn new() -> LineBuf
+        ensures { result ≡ [] }
+    {
+        LineBuf {
+            held: ArrayVec::new(),
+        }
+    }
+
+    /// Appends the text, and answers whether it fits. Where it does not, the line stays.
+    pub fn text(&mut self, s: &[u8]) -> bool
+        ensures line { self.new ≡ (if result then self.old ++ s.now else self.old) }
+        ensures fits { IsTrue result ↔ (length self.old + length s.now ≤ LINE_LIMIT) }
+        ensures room { length self.old + length s.now ≤ LINE_LIMIT → self.new ≡ self.old ++ s.now }
+    {
+        self.held.try_extend_from_slice(s).is_ok()
+    }
+
+    /// Appends the number in decimal, and answers whether it fits. Where it does not, the line stays.
+    /// A number has at most 20 bytes.
+    pub fn number(&mut self, n: i64) -> bool
+        ensures line { self.new ≡ (if result then self.old ++ signed_decimal n else self.old) }
+        ensures fits { IsTrue result ↔ (length self.old + length (signed_decimal n) ≤ LINE_LIMIT) }
+        ensures room { length self.old + 20 ≤ LINE_LIMIT → self.new ≡ self.old ++ signed_decimal n }
+        ensures longer { length self.new ≤ length self.old + 20 }
+    {
+        self.text(Buffer::new().format(n).as_bytes())
+    }
+
+    /// The bytes of the line.
+    pub fn bytes(&self) -> &[u8]
+        ensures bytes { result.now ≡ self.now }
+        ensures within_limit { length result.now ≤ LINE_LIMIT }
+    {
+        self.held.as_slice()
+    }
+
+    /// Makes the line empty.
+    pub fn clear(&mut self)
+        ensures { self.new ≡ [] }
+    {
+        self.held.clear();
+    }
+}
+
+#[cfg(test)]
+mod tests {
+    use super::*;
+
+    #[test]
+    fn holds_what_fits(rt: HostRuntime) {
+        let mut line = LineBuf::new();
+        assert!(rt; line.text(&[b'x'; LINE_LIMIT - 20]));
+        assert!(rt; !line.text(&[b'x'; 21]));
+        assert!(rt; line.number(i64::MIN));
+        assert_eq!(rt;
+            &line.bytes()[LINE_LIMIT - 20..],
+            b"-9223372036854775808".as_slice()
+        );
+        assert!(rt; !line.number(0));
+        assert!(rt; line.text(b""));
+        line.clear();
+        assert!(rt; line.number(-7));
+        assert_eq!(rt; line.bytes(), b"-7".as_slice());
+    }
+}
