@@ -2,5 +2,6 @@
 #![tactic(auto)]
 
 mod script;
+mod description;
 
 fn main() {}

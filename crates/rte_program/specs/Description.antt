@@ -1,0 +1,121 @@
+-- The one form of description that is read so far: the JSON, line by line.
+use Rattle.std.specs.Prelude.{◌≡◌, ℕ, ◌≤◌, List, [], ◌∷◌, Some, IsUtf8, codes}
+use Rattle.serde_json.specs.Data.{Data}
+use Rattle.serde_json.specs.Read.{read}
+use Rattle.rte_text.specs.declared.refusal.Refused.{Refused}
+use Rattle.rte_text.specs.declared.refusal.Refused.TheVariants.{Rule, Memory}
+use Rattle.rte_program.specs.declared.description.one_writer.OneWriter.{OneWriter}
+use Rattle.rte_program.specs.Json.{text, whole, list, fields}
+
+abbrev pub data_types : Data
+data_types = list (fields (
+    ("shortName", text "T") ∷
+    ("baseType", text "uint16") ∷
+    ("lower", whole 0) ∷
+    ("upper", whole 1000) ∷
+    ("words", whole 1) ∷ []) ∷ [])
+
+abbrev pub interfaces : Data
+interfaces = list (fields (
+    ("kind", text "SenderReceiverInterface") ∷
+    ("shortName", text "I") ∷
+    ("dataElements", list (fields (
+        ("shortName", text "v") ∷
+        ("type", text "T") ∷
+        ("swImplPolicy", text "standard") ∷ []) ∷ [])) ∷ []) ∷ [])
+
+-- a TimingEvent, its period in milliseconds
+abbrev pub events : Data → ℕ → Data
+events runnable period = list (fields (
+    ("kind", text "TimingEvent") ∷
+    ("shortName", text "E") ∷
+    ("runnable", runnable) ∷
+    ("period", whole period) ∷ []) ∷ [])
+
+-- writes the constant
+abbrev pub writer : ℕ → ℕ → Data
+writer constant period = fields (
+    ("shortName", text "W") ∷
+    ("ports", list (fields (
+        ("kind", text "PPortPrototype") ∷
+        ("shortName", text "o") ∷
+        ("interface", text "I") ∷ []) ∷ [])) ∷
+    ("behavior", fields (
+        ("runnables", list (fields (
+            ("shortName", text "Step") ∷
+            ("accesses", list (list (text "write" ∷ text "o" ∷ text "v" ∷ []) ∷ [])) ∷
+            ("program", list (list (text "write" ∷ text "o" ∷ text "v" ∷ list (whole constant ∷ []) ∷ text "s" ∷ []) ∷ [])) ∷ []) ∷ [])) ∷
+        ("events", events (text "Step") period) ∷ [])) ∷ [])
+
+abbrev pub reader : ℕ → Data
+reader period = fields (
+    ("shortName", text "R") ∷
+    ("ports", list (fields (
+        ("kind", text "RPortPrototype") ∷
+        ("shortName", text "i") ∷
+        ("interface", text "I") ∷ []) ∷ [])) ∷
+    ("behavior", fields (
+        ("runnables", list (fields (
+            ("shortName", text "Look") ∷
+            ("accesses", list (list (text "read" ∷ text "i" ∷ text "v" ∷ []) ∷ [])) ∷
+            ("program", list (list (text "read" ∷ text "i" ∷ text "v" ∷ list (text "x" ∷ []) ∷ text "s" ∷ []) ∷ [])) ∷ []) ∷ [])) ∷
+        ("events", events (text "Look") period) ∷ [])) ∷ [])
+
+abbrev pub compositions : Data
+compositions = list (fields (
+    ("shortName", text "Top") ∷
+    ("prototypes", list (
+        fields (("shortName", text "w") ∷ ("type", text "W") ∷ []) ∷
+        fields (("shortName", text "r") ∷ ("type", text "R") ∷ []) ∷ [])) ∷
+    ("connectors", list (fields (
+        ("kind", text "AssemblySwConnector") ∷
+        ("provider", list (text "w" ∷ text "o" ∷ [])) ∷
+        ("requester", list (text "r" ∷ text "i" ∷ [])) ∷ []) ∷ [])) ∷ []) ∷ [])
+
+-- event E of an instance at a position of the task
+abbrev pub mapped : Data → ℕ → Data
+mapped instance position = fields (
+    ("instance", instance) ∷
+    ("event", text "E") ∷
+    ("task", text "T") ∷
+    ("position", whole position) ∷ [])
+
+abbrev pub mapping : Data
+mapping = fields (
+    ("cores", whole 1) ∷
+    ("tasks", list (fields (
+        ("shortName", text "T") ∷
+        ("core", whole 0) ∷ []) ∷ [])) ∷
+    ("events", list (mapped (text "w") 0 ∷ mapped (text "r") 1 ∷ [])) ∷ [])
+
+abbrev pub description : ℕ → ℕ → ℕ → Data
+description constant write_period read_period = fields (
+    ("dataTypes", data_types) ∷
+    ("interfaces", interfaces) ∷
+    ("components", list (writer constant write_period ∷ reader read_period ∷ [])) ∷
+    ("compositions", compositions) ∷
+    ("root", text "Top") ∷
+    ("mapping", mapping) ∷ [])
+
+-- in milliseconds
+abbrev pub IsPeriod : ℕ → Type 0
+IsPeriod period = (1 ≤ period) × (period ≤ 1000000)
+
+-- the data is the description with these three numbers
+pub record IsForm (d : Data) (w : OneWriter) : Type 0 where
+  pub constant : w.constant ≤ 1000
+  pub write_period : IsPeriod w.write_period
+  pub read_period : IsPeriod w.read_period
+  pub is : d ≡ description w.constant w.write_period w.read_period
+
+-- the bytes are JSON text of that form
+pub record Describes (bytes : List ℕ) (w : OneWriter) : Type 0 where
+  pub data_of : Data
+  pub is_text : IsUtf8 bytes
+  pub stands_for : read bytes ≡ Some data_of
+  pub form : IsForm data_of w
+
+-- what is told of bytes that were not read: rule 0 at the whole, exactly where they are not of the form; or memory ran out
+abbrev pub IsRefusalOf : List ℕ → Refused → Type 0
+IsRefusalOf bytes (Rule r) = (r.rule ≡ 0) × (r.place ≡ codes "/") × ((w : OneWriter) → ¬ Describes bytes w)
+IsRefusalOf bytes Memory = Unit {0}
