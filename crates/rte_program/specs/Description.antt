@@ -32,7 +32,28 @@ events runnable period = list (fields (
     ("runnable", runnable) ∷
     ("period", whole period) ∷ []) ∷ [])
 
--- writes the constant
+-- an access to the element v of a port
+abbrev pub access : Data → Data → Data
+access verb port = list (verb ∷ port ∷ text "v" ∷ [])
+
+-- a statement on the element v of a port, its status kept in s
+abbrev pub statement : Data → Data → Data → Data
+statement verb port argument = list (verb ∷ port ∷ text "v" ∷ list (argument ∷ []) ∷ text "s" ∷ [])
+
+-- the runnable that writes the constant
+abbrev pub steps : ℕ → Data
+steps constant = list (fields (
+    ("shortName", text "Step") ∷
+    ("accesses", list (access (text "write") (text "o") ∷ [])) ∷
+    ("program", list (statement (text "write") (text "o") (whole constant) ∷ [])) ∷ []) ∷ [])
+
+-- the runnable that reads into x
+abbrev pub looks : Data
+looks = list (fields (
+    ("shortName", text "Look") ∷
+    ("accesses", list (access (text "read") (text "i") ∷ [])) ∷
+    ("program", list (statement (text "read") (text "i") (text "x") ∷ [])) ∷ []) ∷ [])
+
 abbrev pub writer : ℕ → ℕ → Data
 writer constant period = fields (
     ("shortName", text "W") ∷
@@ -41,10 +62,7 @@ writer constant period = fields (
         ("shortName", text "o") ∷
         ("interface", text "I") ∷ []) ∷ [])) ∷
     ("behavior", fields (
-        ("runnables", list (fields (
-            ("shortName", text "Step") ∷
-            ("accesses", list (list (text "write" ∷ text "o" ∷ text "v" ∷ []) ∷ [])) ∷
-            ("program", list (list (text "write" ∷ text "o" ∷ text "v" ∷ list (whole constant ∷ []) ∷ text "s" ∷ []) ∷ [])) ∷ []) ∷ [])) ∷
+        ("runnables", steps constant) ∷
         ("events", events (text "Step") period) ∷ [])) ∷ [])
 
 abbrev pub reader : ℕ → Data
@@ -55,22 +73,25 @@ reader period = fields (
         ("shortName", text "i") ∷
         ("interface", text "I") ∷ []) ∷ [])) ∷
     ("behavior", fields (
-        ("runnables", list (fields (
-            ("shortName", text "Look") ∷
-            ("accesses", list (list (text "read" ∷ text "i" ∷ text "v" ∷ []) ∷ [])) ∷
-            ("program", list (list (text "read" ∷ text "i" ∷ text "v" ∷ list (text "x" ∷ []) ∷ text "s" ∷ []) ∷ [])) ∷ []) ∷ [])) ∷
+        ("runnables", looks) ∷
         ("events", events (text "Look") period) ∷ [])) ∷ [])
+
+abbrev pub prototypes : Data
+prototypes = list (
+    fields (("shortName", text "w") ∷ ("type", text "W") ∷ []) ∷
+    fields (("shortName", text "r") ∷ ("type", text "R") ∷ []) ∷ [])
+
+abbrev pub connectors : Data
+connectors = list (fields (
+    ("kind", text "AssemblySwConnector") ∷
+    ("provider", list (text "w" ∷ text "o" ∷ [])) ∷
+    ("requester", list (text "r" ∷ text "i" ∷ [])) ∷ []) ∷ [])
 
 abbrev pub compositions : Data
 compositions = list (fields (
     ("shortName", text "Top") ∷
-    ("prototypes", list (
-        fields (("shortName", text "w") ∷ ("type", text "W") ∷ []) ∷
-        fields (("shortName", text "r") ∷ ("type", text "R") ∷ []) ∷ [])) ∷
-    ("connectors", list (fields (
-        ("kind", text "AssemblySwConnector") ∷
-        ("provider", list (text "w" ∷ text "o" ∷ [])) ∷
-        ("requester", list (text "r" ∷ text "i" ∷ [])) ∷ []) ∷ [])) ∷ []) ∷ [])
+    ("prototypes", prototypes) ∷
+    ("connectors", connectors) ∷ []) ∷ [])
 
 -- event E of an instance at a position of the task
 abbrev pub mapped : Data → ℕ → Data
@@ -88,11 +109,14 @@ mapping = fields (
         ("core", whole 0) ∷ []) ∷ [])) ∷
     ("events", list (mapped (text "w") 0 ∷ mapped (text "r") 1 ∷ [])) ∷ [])
 
+abbrev pub components : ℕ → ℕ → ℕ → Data
+components constant write_period read_period = list (writer constant write_period ∷ reader read_period ∷ [])
+
 abbrev pub description : ℕ → ℕ → ℕ → Data
 description constant write_period read_period = fields (
     ("dataTypes", data_types) ∷
     ("interfaces", interfaces) ∷
-    ("components", list (writer constant write_period ∷ reader read_period ∷ [])) ∷
+    ("components", components constant write_period read_period) ∷
     ("compositions", compositions) ∷
     ("root", text "Top") ∷
     ("mapping", mapping) ∷ [])

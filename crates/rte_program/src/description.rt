@@ -3,6 +3,7 @@
 ghost use Rattle.std.specs.Prelude.{◌≡◌, List, ℕ};
 ghost use Rattle.rte_program.specs.Description.{Describes, IsRefusalOf};
 
+mod form;
 mod one_writer;
 
 pub use one_writer::OneWriter;
