@@ -139,7 +139,12 @@ pub record Describes (bytes : List ℕ) (w : OneWriter) : Type 0 where
   pub stands_for : read bytes ≡ Some data_of
   pub form : IsForm data_of w
 
--- what is told of bytes that were not read: rule 0 at the whole, exactly where they are not of the form; or memory ran out
+-- rule 0 at the whole
+abbrev pub IsNotReadYet : Refused → Type 0
+IsNotReadYet (Rule r) = (r.rule ≡ 0) × (r.place ≡ codes "/")
+IsNotReadYet Memory = ⊥
+
+-- bytes that were not read: memory ran out, or nothing of the form is described by them
 abbrev pub IsRefusalOf : List ℕ → Refused → Type 0
-IsRefusalOf bytes (Rule r) = (r.rule ≡ 0) × (r.place ≡ codes "/") × ((w : OneWriter) → ¬ Describes bytes w)
+IsRefusalOf bytes (Rule r) = IsNotReadYet (Rule r) × ((w : OneWriter) → ¬ Describes bytes w)
 IsRefusalOf bytes Memory = Unit {0}

@@ -1,15 +1,93 @@
 //! Reading a description.
 
-ghost use Rattle.std.specs.Prelude.{◌≡◌, List, ℕ};
-ghost use Rattle.rte_program.specs.Description.{Describes, IsRefusalOf};
+ghost use Rattle.std.specs.Prelude.{◌≡◌, ◌≤◌, List, ℕ, IfOk, IfErr, IfSome, IsSome, MatchOption, option_and_then};
+ghost use Rattle.serde_json.specs.Data.{depth};
+ghost use Rattle.serde_json.specs.Find.{pointer, as_number, as_u64};
+ghost use Rattle.serde_json.specs.Read.{max_depth};
+ghost use Rattle.serde_json.specs.View.{view};
+ghost use Rattle.rte_program.specs.Description.{Describes, IsForm, IsRefusalOf, IsNotReadYet};
 
+mod compared;
 mod form;
 mod one_writer;
 
 pub use one_writer::OneWriter;
+
+use compared::is_same;
+use form::description_value;
+use rte_text::{Refusal, Refused, Text};
+use serde_json::{Category, Value};
+use std::alloc::{AllocError, Global};
+
+const CONSTANT: &str = "/components/0/behavior/runnables/0/program/0/3/0";
+const WRITE_PERIOD: &str = "/components/0/behavior/events/0/period";
+const READ_PERIOD: &str = "/components/1/behavior/events/0/period";
 
 /// The bytes that describe a writer and a reader tell their three numbers.
 pub fn numbers_are_determined()
     ensures { (bytes : List ℕ) (a b : OneWriter) → Describes bytes a → Describes bytes b
         → (a.constant ≡ b.constant) × (a.write_period ≡ b.write_period) × (a.read_period ≡ b.read_period) }
 {}
+
+/// What the bytes describe. Bytes of any other form are refused by rule 0 at the whole, `/`.
+pub fn read_description(alloc: Global, bytes: &[u8]) -> Result<OneWriter, Refused>
+    ensures described { IfOk result (Describes bytes.now) }
+    ensures refused { IfErr result (IsRefusalOf bytes.now) }
+{
+    match Value::from_slice(alloc, bytes) {
+        Ok(value) => match form_of(alloc, &value)? {
+            Some(one_writer) => Ok(one_writer),
+            None => Err(not_read(alloc)?),
+        },
+        Err(error) => if error.classify() == Category::Memory {
+            Err(Refused::Memory)
+        } else {
+            Err(not_read(alloc)?)
+        },
+    }
+}
+
+fn not_read(alloc: Global) -> Result<Refused, AllocError>
+    ensures { IfOk result IsNotReadYet }
+{
+    let place = Text::new(alloc, "/".as_bytes())?;
+    Ok(Refused::Rule(Refusal { rule: 0, place }))
+}
+
+fn form_of(alloc: Global, value: &Value) -> Result<Option<OneWriter>, AllocError>
+    requires { depth (view value.now) ≤ max_depth }
+    ensures { IfOk result (λ found. MatchOption found ((w : OneWriter) → ¬ IsForm (view value.now) w)
+        (IsForm (view value.now))) }
+{
+    let Some(found) = numbers_of(value) else {
+        return Ok(None);
+    };
+    let expected = description_value(
+        alloc,
+        found.constant as u64,
+        found.write_period,
+        found.read_period,
+    )?;
+    if is_same(alloc, value, &expected)? {
+        Ok(Some(found))
+    } else {
+        Ok(None)
+    }
+}
+
+fn numbers_of(value: &Value) -> Option<OneWriter>
+    ensures found { (w : OneWriter) → IsForm (view value.now) w → IsSome result }
+    ensures numbers { (w : OneWriter) → IsForm (view value.now) w → IfSome result (λ o.
+        (o.constant ≡ w.constant) × (o.write_period ≡ w.write_period) × (o.read_period ≡ w.read_period)) }
+{
+    let constant = number_at(value, CONSTANT)?;
+    let write_period = number_at(value, WRITE_PERIOD)?;
+    let read_period = number_at(value, READ_PERIOD)?;
+    OneWriter::new(constant, write_period, read_period)
+}
+
+fn number_at(value: &Value, path: &str) -> Option<u64>
+    ensures { result ≡ option_and_then as_u64 (option_and_then as_number (pointer path.now (view value.now))) }
+{
+    value.pointer(path).and_then(Value::as_u64)
+}
