@@ -1,5 +1,5 @@
 -- The one form of description that is read so far: the JSON, line by line.
-use Rattle.std.specs.Prelude.{◌≡◌, ℕ, ◌≤◌, List, [], ◌∷◌, Some, IsUtf8, codes}
+use Rattle.std.specs.Prelude.{◌≡◌, ℕ, List, [], ◌∷◌, Some, IsUtf8, codes}
 use Rattle.serde_json.specs.Data.{Data}
 use Rattle.serde_json.specs.Read.{read}
 use Rattle.rte_text.specs.declared.refusal.Refused.{Refused}
@@ -121,23 +121,17 @@ description constant write_period read_period = fields (
     ("root", text "Top") ∷
     ("mapping", mapping) ∷ [])
 
--- in milliseconds
-abbrev pub IsPeriod : ℕ → Type 0
-IsPeriod period = (1 ≤ period) × (period ≤ 1000000)
+-- the data of the description with these numbers, which are in their ranges
+abbrev pub data_of : OneWriter → Data
+data_of w = description w.constant w.write_period w.read_period
 
--- the data is the description with these three numbers
-pub record IsForm (d : Data) (w : OneWriter) : Type 0 where
-  pub constant : w.constant ≤ 1000
-  pub write_period : IsPeriod w.write_period
-  pub read_period : IsPeriod w.read_period
-  pub is : d ≡ description w.constant w.write_period w.read_period
+abbrev pub HaveSameNumbers : OneWriter → OneWriter → Type 0
+HaveSameNumbers a b = (a.constant ≡ b.constant) × (a.write_period ≡ b.write_period) × (a.read_period ≡ b.read_period)
 
--- the bytes are JSON text of that form
+-- the bytes are JSON text of that description
 pub record Describes (bytes : List ℕ) (w : OneWriter) : Type 0 where
-  pub data_of : Data
   pub is_text : IsUtf8 bytes
-  pub stands_for : read bytes ≡ Some data_of
-  pub form : IsForm data_of w
+  pub stands_for : read bytes ≡ Some (data_of w)
 
 -- rule 0 at the whole
 abbrev pub IsNotReadYet : Refused → Type 0

@@ -5,7 +5,7 @@ ghost use Rattle.serde_json.specs.Data.{depth};
 ghost use Rattle.serde_json.specs.Find.{pointer, as_number, as_u64};
 ghost use Rattle.serde_json.specs.Read.{max_depth};
 ghost use Rattle.serde_json.specs.View.{view};
-ghost use Rattle.rte_program.specs.Description.{Describes, IsForm, IsRefusalOf, IsNotReadYet};
+ghost use Rattle.rte_program.specs.Description.{Describes, HaveSameNumbers, data_of, IsRefusalOf, IsNotReadYet};
 
 mod compared;
 mod form;
@@ -26,7 +26,7 @@ const READ_PERIOD: &str = "/components/1/behavior/events/0/period";
 /// The bytes that describe a writer and a reader tell their three numbers.
 pub fn numbers_are_determined()
     ensures { (bytes : List ℕ) (a b : OneWriter) → Describes bytes a → Describes bytes b
-        → (a.constant ≡ b.constant) × (a.write_period ≡ b.write_period) × (a.read_period ≡ b.read_period) }
+        → HaveSameNumbers a b }
 {}
 
 /// What the bytes describe. Bytes of any other form are refused by rule 0 at the whole, `/`.
@@ -56,8 +56,8 @@ fn not_read(alloc: Global) -> Result<Refused, AllocError>
 
 fn form_of(alloc: Global, value: &Value) -> Result<Option<OneWriter>, AllocError>
     requires { depth (view value.now) ≤ max_depth }
-    ensures { IfOk result (λ found. MatchOption found ((w : OneWriter) → ¬ IsForm (view value.now) w)
-        (IsForm (view value.now))) }
+    ensures { IfOk result (λ found. MatchOption found ((w : OneWriter) → ¬ (view value.now ≡ data_of w))
+        (λ w. view value.now ≡ data_of w)) }
 {
     let Some(found) = numbers_of(value) else {
         return Ok(None);
@@ -76,9 +76,8 @@ fn form_of(alloc: Global, value: &Value) -> Result<Option<OneWriter>, AllocError
 }
 
 fn numbers_of(value: &Value) -> Option<OneWriter>
-    ensures found { (w : OneWriter) → IsForm (view value.now) w → IsSome result }
-    ensures numbers { (w : OneWriter) → IsForm (view value.now) w → IfSome result (λ o.
-        (o.constant ≡ w.constant) × (o.write_period ≡ w.write_period) × (o.read_period ≡ w.read_period)) }
+    ensures found { (w : OneWriter) → view value.now ≡ data_of w → IsSome result }
+    ensures numbers { (w : OneWriter) → view value.now ≡ data_of w → IfSome result (HaveSameNumbers w) }
 {
     let constant = number_at(value, CONSTANT)?;
     let write_period = number_at(value, WRITE_PERIOD)?;
