@@ -2,8 +2,9 @@
 use Rattle.std.proofs.Common.{◌≡◌, ℕ, ◌≤◌, List, Option, Some, None, IfSome, codes, refl, sym, ap, ◌∙◌, option_and_then}
 use Rattle.serde_json.specs.Data.{Data}
 use Rattle.serde_json.specs.Find.{pointer, as_number, as_u64}
+use Rattle.serde_json.specs.Read.{read}
 use Rattle.serde_json.proofs.OnLiterals.{serde_json_on_literals}
-use Rattle.rte_program.specs.Description.{description, data_of, HaveSameNumbers}
+use Rattle.rte_program.specs.Description.{description, data_of, HaveSameNumbers, Describes}
 use Rattle.rte_program.specs.declared.description.one_writer.OneWriter.{OneWriter}
 
 abbrev pub number_in : List ℕ → Data → Option ℕ
@@ -47,3 +48,9 @@ pub same_as : (made : Option OneWriter) (constant write_period read_period : ℕ
     → IfSome made (λ o. (o.constant ≡ constant) × (o.write_period ≡ write_period) × (o.read_period ≡ read_period)) → IfSome made (HaveSameNumbers w)
 same_as None constant write_period read_period w a b c h = tt
 same_as (Some o) constant write_period read_period w a b c h = (sym (h.0 ∙ a), sym (h.1 ∙ b), sym (h.2 ∙ c))
+
+pub describes_nothing : (bytes : List ℕ) (d : Data) → read bytes ≡ Some d → ((w : OneWriter) → ¬ (d ≡ data_of w)) → (w : OneWriter) → ¬ Describes bytes w
+describes_nothing bytes d is none w h = let e : ◌≡◌ {A = Option Data} (Some d) (Some (data_of w)) = sym is ∙ h.stands_for in none w (cc)
+
+pub found_is : (d : Data) (found w : OneWriter) → HaveSameNumbers w found → d ≡ data_of w → d ≡ data_of found
+found_is d found w h is = is ∙ data_of-same w found h

@@ -133,12 +133,7 @@ pub record Describes (bytes : List ℕ) (w : OneWriter) : Type 0 where
   pub is_text : IsUtf8 bytes
   pub stands_for : read bytes ≡ Some (data_of w)
 
--- rule 0 at the whole
-abbrev pub IsNotReadYet : Refused → Type 0
-IsNotReadYet (Rule r) = (r.rule ≡ 0) × (r.place ≡ codes "/")
-IsNotReadYet Memory = ⊥
-
--- bytes that were not read: memory ran out, or nothing of the form is described by them
+-- bytes that were not read: they describe nothing of this form, which is rule 0 at the whole; or memory ran out
 abbrev pub IsRefusalOf : List ℕ → Refused → Type 0
-IsRefusalOf bytes (Rule r) = IsNotReadYet (Rule r) × ((w : OneWriter) → ¬ Describes bytes w)
+IsRefusalOf bytes (Rule r) = (r.rule ≡ 0) × (r.place ≡ codes "/") × ((w : OneWriter) → ¬ Describes bytes w)
 IsRefusalOf bytes Memory = Unit {0}

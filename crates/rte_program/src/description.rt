@@ -1,11 +1,11 @@
 //! Reading a description.
 
-ghost use Rattle.std.specs.Prelude.{◌≡◌, ◌≤◌, List, ℕ, IfOk, IfErr, IfSome, IsSome, MatchOption, option_and_then};
+ghost use Rattle.std.specs.Prelude.{◌≡◌, ◌≤◌, List, ℕ, ◌↔◌, codes, IsTrue, IfOk, IfErr, IfSome, IsSome, MatchOption, option_and_then};
 ghost use Rattle.serde_json.specs.Data.{depth};
 ghost use Rattle.serde_json.specs.Find.{pointer, as_number, as_u64};
 ghost use Rattle.serde_json.specs.Read.{max_depth};
 ghost use Rattle.serde_json.specs.View.{view};
-ghost use Rattle.rte_program.specs.Description.{Describes, HaveSameNumbers, data_of, IsRefusalOf, IsNotReadYet};
+ghost use Rattle.rte_program.specs.Description.{Describes, HaveSameNumbers, data_of, IsRefusalOf};
 
 mod compared;
 mod form;
@@ -37,21 +37,21 @@ pub fn read_description(alloc: Global, bytes: &[u8]) -> Result<OneWriter, Refuse
     match Value::from_slice(alloc, bytes) {
         Ok(value) => match form_of(alloc, &value)? {
             Some(one_writer) => Ok(one_writer),
-            None => Err(not_read(alloc)?),
+            None => Err(Refused::Rule(not_of_this_form(alloc)?)),
         },
         Err(error) => if error.classify() == Category::Memory {
             Err(Refused::Memory)
         } else {
-            Err(not_read(alloc)?)
+            Err(Refused::Rule(not_of_this_form(alloc)?))
         },
     }
 }
 
-fn not_read(alloc: Global) -> Result<Refused, AllocError>
-    ensures { IfOk result IsNotReadYet }
+fn not_of_this_form(alloc: Global) -> Result<Refusal, AllocError>
+    ensures { IfOk result (λ r. (r.rule ≡ 0) × (r.place ≡ codes "/")) }
 {
     let place = Text::new(alloc, "/".as_bytes())?;
-    Ok(Refused::Rule(Refusal { rule: 0, place }))
+    Ok(Refusal { rule: 0, place })
 }
 
 fn form_of(alloc: Global, value: &Value) -> Result<Option<OneWriter>, AllocError>
@@ -59,20 +59,27 @@ fn form_of(alloc: Global, value: &Value) -> Result<Option<OneWriter>, AllocError
     ensures { IfOk result (λ found. MatchOption found ((w : OneWriter) → ¬ (view value.now ≡ data_of w))
         (λ w. view value.now ≡ data_of w)) }
 {
-    let Some(found) = numbers_of(value) else {
-        return Ok(None);
-    };
+    match numbers_of(value) {
+        None => Ok(None),
+        Some(found) => if has_form(alloc, value, found)? {
+            Ok(Some(found))
+        } else {
+            Ok(None)
+        },
+    }
+}
+
+fn has_form(alloc: Global, value: &Value, numbers: OneWriter) -> Result<bool, AllocError>
+    requires { depth (view value.now) ≤ max_depth }
+    ensures { IfOk result (λ holds. IsTrue holds ↔ (view value.now ≡ data_of numbers)) }
+{
     let expected = description_value(
         alloc,
-        found.constant as u64,
-        found.write_period,
-        found.read_period,
+        numbers.constant as u64,
+        numbers.write_period,
+        numbers.read_period,
     )?;
-    if is_same(alloc, value, &expected)? {
-        Ok(Some(found))
-    } else {
-        Ok(None)
-    }
+    is_same(alloc, value, &expected)
 }
 
 fn numbers_of(value: &Value) -> Option<OneWriter>
