@@ -18,11 +18,13 @@ data_types = list (fields (
 abbrev pub interfaces : Data
 interfaces = list (fields (
     ("kind", text "SenderReceiverInterface") ∷
-    ("shortName", text "I") ∷
-    ("dataElements", list (fields (
-        ("shortName", text "v") ∷
-        ("type", text "T") ∷
-        ("swImplPolicy", text "standard") ∷ []) ∷ [])) ∷ []) ∷ [])
+    ("shortName", text "I") ∷ (
+      "dataElements",
+      list (fields (
+          ("shortName", text "v") ∷
+          ("type", text "T") ∷
+          ("swImplPolicy", text "standard") ∷ []) ∷ []),
+    ) ∷ []) ∷ [])
 
 -- a TimingEvent, its period in milliseconds
 abbrev pub events : Data → ℕ → Data
@@ -56,25 +58,33 @@ looks = list (fields (
 
 abbrev pub writer : ℕ → ℕ → Data
 writer constant period = fields (
-    ("shortName", text "W") ∷
-    ("ports", list (fields (
-        ("kind", text "PPortPrototype") ∷
-        ("shortName", text "o") ∷
-        ("interface", text "I") ∷ []) ∷ [])) ∷
-    ("behavior", fields (
-        ("runnables", steps constant) ∷
-        ("events", events (text "Step") period) ∷ [])) ∷ [])
+    ("shortName", text "W") ∷ (
+      "ports",
+      list (fields (
+          ("kind", text "PPortPrototype") ∷
+          ("shortName", text "o") ∷
+          ("interface", text "I") ∷ []) ∷ []),
+    ) ∷ (
+      "behavior",
+      fields (
+          ("runnables", steps constant) ∷
+          ("events", events (text "Step") period) ∷ []),
+    ) ∷ [])
 
 abbrev pub reader : ℕ → Data
 reader period = fields (
-    ("shortName", text "R") ∷
-    ("ports", list (fields (
-        ("kind", text "RPortPrototype") ∷
-        ("shortName", text "i") ∷
-        ("interface", text "I") ∷ []) ∷ [])) ∷
-    ("behavior", fields (
-        ("runnables", looks) ∷
-        ("events", events (text "Look") period) ∷ [])) ∷ [])
+    ("shortName", text "R") ∷ (
+      "ports",
+      list (fields (
+          ("kind", text "RPortPrototype") ∷
+          ("shortName", text "i") ∷
+          ("interface", text "I") ∷ []) ∷ []),
+    ) ∷ (
+      "behavior",
+      fields (
+          ("runnables", looks) ∷
+          ("events", events (text "Look") period) ∷ []),
+    ) ∷ [])
 
 abbrev pub prototypes : Data
 prototypes = list (
@@ -103,10 +113,12 @@ mapped instance position = fields (
 
 abbrev pub mapping : Data
 mapping = fields (
-    ("cores", whole 1) ∷
-    ("tasks", list (fields (
-        ("shortName", text "T") ∷
-        ("core", whole 0) ∷ []) ∷ [])) ∷
+    ("cores", whole 1) ∷ (
+      "tasks",
+      list (fields (
+          ("shortName", text "T") ∷
+          ("core", whole 0) ∷ []) ∷ []),
+    ) ∷
     ("events", list (mapped (text "w") 0 ∷ mapped (text "r") 1 ∷ [])) ∷ [])
 
 abbrev pub components : ℕ → ℕ → ℕ → Data

@@ -10,17 +10,20 @@ ghost use Rattle.rte_program.specs.Description.{Describes, HaveSameNumbers, data
 mod compared;
 mod form;
 mod one_writer;
-
-pub use one_writer::OneWriter;
+#[cfg(test)]
+mod tests;
 
 use compared::is_same;
 use form::description_value;
+pub use one_writer::OneWriter;
 use rte_text::{Refusal, Refused, Text};
 use serde_json::{Category, Value};
 use std::alloc::{AllocError, Global};
 
 const CONSTANT: &str = "/components/0/behavior/runnables/0/program/0/3/0";
+
 const WRITE_PERIOD: &str = "/components/0/behavior/events/0/period";
+
 const READ_PERIOD: &str = "/components/1/behavior/events/0/period";
 
 /// The bytes that describe a writer and a reader tell their three numbers.

@@ -24,7 +24,7 @@ returns-clause-found c = λ w is.
 pub returns-clause-numbers : goal.returns-clause-numbers
 returns-clause-numbers c = λ w is.
     same_as _ _ _ _ w
-        (only_one _ _ _ c.in_ok-constant.was (constant_of _ _ w c.number_at.ensures is))
-        (only_one _ _ _ c.in_ok-write_period.was (write_period_of _ _ w c.number_at-2.ensures is))
-        (only_one _ _ _ c.in_ok-read_period.was (read_period_of _ _ w c.number_at-3.ensures is))
-        c.new.ensures.numbers
+    (only_one _ _ _ c.in_ok-constant.was (constant_of _ _ w c.number_at.ensures is))
+    (only_one _ _ _ c.in_ok-write_period.was (write_period_of _ _ w c.number_at-2.ensures is))
+    (only_one _ _ _ c.in_ok-read_period.was (read_period_of _ _ w c.number_at-3.ensures is))
+    c.new.ensures.numbers
