@@ -1,5 +1,5 @@
 -- Where the three numbers of a description stand.
-use Rattle.std.proofs.Common.{◌≡◌, ℕ, ◌≤◌, List, Option, Some, None, IfSome, codes, refl, sym, ap, ◌∙◌, option_and_then}
+use Rattle.std.proofs.Common.{◌≡◌, ℕ, List, Option, Some, None, IfSome, codes, refl, sym, ap, ◌∙◌, option_and_then}
 use Rattle.serde_json.specs.Data.{Data}
 use Rattle.serde_json.specs.Find.{pointer, as_number, as_u64}
 use Rattle.serde_json.specs.Read.{read}

@@ -15,16 +15,24 @@ data_types = list (fields (
     ("upper", whole 1000) ∷
     ("words", whole 1) ∷ []) ∷ [])
 
+abbrev pub data_elements : Data
+data_elements = list (fields (
+    ("shortName", text "v") ∷
+    ("type", text "T") ∷
+    ("swImplPolicy", text "standard") ∷ []) ∷ [])
+
 abbrev pub interfaces : Data
 interfaces = list (fields (
     ("kind", text "SenderReceiverInterface") ∷
-    ("shortName", text "I") ∷ (
-      "dataElements",
-      list (fields (
-          ("shortName", text "v") ∷
-          ("type", text "T") ∷
-          ("swImplPolicy", text "standard") ∷ []) ∷ []),
-    ) ∷ []) ∷ [])
+    ("shortName", text "I") ∷
+    ("dataElements", data_elements) ∷ []) ∷ [])
+
+-- one port, of the one interface
+abbrev pub ports : Data → Data → Data
+ports kind name = list (fields (
+    ("kind", kind) ∷
+    ("shortName", name) ∷
+    ("interface", text "I") ∷ []) ∷ [])
 
 -- a TimingEvent, its period in milliseconds
 abbrev pub events : Data → ℕ → Data
@@ -56,35 +64,22 @@ looks = list (fields (
     ("accesses", list (access (text "read") (text "i") ∷ [])) ∷
     ("program", list (statement (text "read") (text "i") (text "x") ∷ [])) ∷ []) ∷ [])
 
+abbrev pub behavior : Data → Data → Data
+behavior runnables timing = fields (
+    ("runnables", runnables) ∷
+    ("events", timing) ∷ [])
+
 abbrev pub writer : ℕ → ℕ → Data
 writer constant period = fields (
-    ("shortName", text "W") ∷ (
-      "ports",
-      list (fields (
-          ("kind", text "PPortPrototype") ∷
-          ("shortName", text "o") ∷
-          ("interface", text "I") ∷ []) ∷ []),
-    ) ∷ (
-      "behavior",
-      fields (
-          ("runnables", steps constant) ∷
-          ("events", events (text "Step") period) ∷ []),
-    ) ∷ [])
+    ("shortName", text "W") ∷
+    ("ports", ports (text "PPortPrototype") (text "o")) ∷
+    ("behavior", behavior (steps constant) (events (text "Step") period)) ∷ [])
 
 abbrev pub reader : ℕ → Data
 reader period = fields (
-    ("shortName", text "R") ∷ (
-      "ports",
-      list (fields (
-          ("kind", text "RPortPrototype") ∷
-          ("shortName", text "i") ∷
-          ("interface", text "I") ∷ []) ∷ []),
-    ) ∷ (
-      "behavior",
-      fields (
-          ("runnables", looks) ∷
-          ("events", events (text "Look") period) ∷ []),
-    ) ∷ [])
+    ("shortName", text "R") ∷
+    ("ports", ports (text "RPortPrototype") (text "i")) ∷
+    ("behavior", behavior looks (events (text "Look") period)) ∷ [])
 
 abbrev pub prototypes : Data
 prototypes = list (
@@ -111,14 +106,15 @@ mapped instance position = fields (
     ("task", text "T") ∷
     ("position", whole position) ∷ [])
 
+abbrev pub tasks : Data
+tasks = list (fields (
+    ("shortName", text "T") ∷
+    ("core", whole 0) ∷ []) ∷ [])
+
 abbrev pub mapping : Data
 mapping = fields (
-    ("cores", whole 1) ∷ (
-      "tasks",
-      list (fields (
-          ("shortName", text "T") ∷
-          ("core", whole 0) ∷ []) ∷ []),
-    ) ∷
+    ("cores", whole 1) ∷
+    ("tasks", tasks) ∷
     ("events", list (mapped (text "w") 0 ∷ mapped (text "r") 1 ∷ [])) ∷ [])
 
 abbrev pub components : ℕ → ℕ → ℕ → Data
@@ -133,7 +129,7 @@ description constant write_period read_period = fields (
     ("root", text "Top") ∷
     ("mapping", mapping) ∷ [])
 
--- the data of the description with these numbers, which are in their ranges
+-- the data of the description with these numbers, whose ranges the type of w keeps
 abbrev pub data_of : OneWriter → Data
 data_of w = description w.constant w.write_period w.read_period
 
