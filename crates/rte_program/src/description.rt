@@ -20,19 +20,22 @@ use rte_text::{Refusal, Refused, Text};
 use serde_json::{Category, Value};
 use std::alloc::{AllocError, Global};
 
+// JSON pointers to the three numbers.
 const CONSTANT: &str = "/components/0/behavior/runnables/0/program/0/3/0";
 
 const WRITE_PERIOD: &str = "/components/0/behavior/events/0/period";
 
 const READ_PERIOD: &str = "/components/1/behavior/events/0/period";
 
-/// The bytes that describe a writer and a reader tell their three numbers.
+/// Bytes describe at most one constant, one period of the writer and one of the reader.
 pub fn numbers_are_determined()
     ensures { (bytes : List ℕ) (a b : OneWriter) → Describes bytes a → Describes bytes b
         → HaveSameNumbers a b }
 {}
 
-/// What the bytes describe. Bytes of any other form are refused by rule 0 at the whole, `/`.
+/// What the bytes of a description's file describe. They are JSON text; its white space and the order of its keys are
+/// free, and of a doubled key the last one stands. Bytes that describe nothing of this one form are refused by rule 0
+/// at `/`, the whole. `Memory` is answered where memory ran out, and never tells anything of the bytes.
 pub fn read_description(alloc: Global, bytes: &[u8]) -> Result<OneWriter, Refused>
     ensures described { IfOk result (Describes bytes.now) }
     ensures refused { IfErr result (IsRefusalOf bytes.now) }
