@@ -5,6 +5,8 @@ use Rattle.serde_json.specs.Read.{read}
 use Rattle.rte_text.specs.declared.refusal.Refused.{Refused}
 use Rattle.rte_text.specs.declared.refusal.Refused.TheVariants.{Rule, Memory}
 use Rattle.rte_program.specs.declared.description.one_writer.OneWriter.{OneWriter}
+use Rattle.rte_program.specs.declared.description.outer_ports.OuterPorts.{OuterPorts}
+use Rattle.rte_program.specs.declared.description.outer_ports.OuterPorts.TheVariants.{LeftOut, Empty}
 use Rattle.rte_program.specs.Json.{text, whole, list, fields}
 
 abbrev pub data_types : Data
@@ -92,9 +94,16 @@ connectors = list (fields (
     ("provider", list (text "w" ∷ text "o" ∷ [])) ∷
     ("requester", list (text "r" ∷ text "i" ∷ [])) ∷ []) ∷ [])
 
-abbrev pub compositions : Data
-compositions = list (fields (
+-- The one composition has no outer ports. A missing list is the empty list: a description may leave the key out, or
+-- write the empty list under it.
+abbrev pub compositions : OuterPorts → Data
+compositions LeftOut = list (fields (
     ("shortName", text "Top") ∷
+    ("prototypes", prototypes) ∷
+    ("connectors", connectors) ∷ []) ∷ [])
+compositions Empty = list (fields (
+    ("shortName", text "Top") ∷
+    ("ports", list []) ∷
     ("prototypes", prototypes) ∷
     ("connectors", connectors) ∷ []) ∷ [])
 
@@ -120,26 +129,32 @@ mapping = fields (
 abbrev pub components : ℕ → ℕ → ℕ → Data
 components constant write_period read_period = list (writer constant write_period ∷ reader read_period ∷ [])
 
-abbrev pub description : ℕ → ℕ → ℕ → Data
-description constant write_period read_period = fields (
+abbrev pub description : OuterPorts → ℕ → ℕ → ℕ → Data
+description outer_ports constant write_period read_period = fields (
     ("dataTypes", data_types) ∷
     ("interfaces", interfaces) ∷
     ("components", components constant write_period read_period) ∷
-    ("compositions", compositions) ∷
+    ("compositions", compositions outer_ports) ∷
     ("root", text "Top") ∷
     ("mapping", mapping) ∷ [])
 
 -- the data of the description with these numbers, whose ranges the type of w keeps
-abbrev pub data_of : OneWriter → Data
-data_of w = description w.constant w.write_period w.read_period
+abbrev pub data_of : OuterPorts → OneWriter → Data
+data_of outer_ports w = description outer_ports w.constant w.write_period w.read_period
+
+-- the same, in one of the two ways to write it
+pub record IsDataOf (w : OneWriter) (d : Data) : Type 0 where
+  pub outer_ports : OuterPorts
+  pub is_data : d ≡ data_of outer_ports w
 
 abbrev pub HaveSameNumbers : OneWriter → OneWriter → Type 0
 HaveSameNumbers a b = (a.constant ≡ b.constant) × (a.write_period ≡ b.write_period) × (a.read_period ≡ b.read_period)
 
--- the bytes are JSON text of that description
+-- The bytes are JSON text of that description. Which way the ports are written is a field, for both describe the same.
 pub record Describes (bytes : List ℕ) (w : OneWriter) : Type 0 where
+  pub outer_ports : OuterPorts
   pub is_text : IsUtf8 bytes
-  pub stands_for : read bytes ≡ Some (data_of w)
+  pub stands_for : read bytes ≡ Some (data_of outer_ports w)
 
 -- bytes that were not read: they describe nothing of this form, which is rule 0 at the whole; or memory ran out
 abbrev pub IsRefusalOf : List ℕ → Refused → Type 0

@@ -5,17 +5,19 @@ ghost use Rattle.serde_json.specs.Data.{depth};
 ghost use Rattle.serde_json.specs.Find.{pointer, as_number, as_u64};
 ghost use Rattle.serde_json.specs.Read.{max_depth};
 ghost use Rattle.serde_json.specs.View.{view};
-ghost use Rattle.rte_program.specs.Description.{Describes, HaveSameNumbers, data_of, IsRefusalOf};
+ghost use Rattle.rte_program.specs.Description.{Describes, HaveSameNumbers, data_of, IsDataOf, IsRefusalOf};
 
 mod compared;
 mod form;
 mod one_writer;
+mod outer_ports;
 #[cfg(test)]
 mod tests;
 
 use compared::is_same;
 use form::description_value;
 pub use one_writer::OneWriter;
+use outer_ports::OuterPorts;
 use rte_text::{Refusal, Refused, Text};
 use serde_json::{Category, Value};
 use std::alloc::{AllocError, Global};
@@ -34,8 +36,9 @@ pub fn numbers_are_determined()
 {}
 
 /// What the bytes of a description's file describe. They are JSON text; its white space and the order of its keys are
-/// free, and of a doubled key the last one stands. Bytes that describe nothing of this one form are refused by rule 0
-/// at `/`, the whole. `Memory` is answered where memory ran out, and never tells anything of the bytes.
+/// free, of a doubled key the last one stands, and the composition's `ports`, an empty list, may be left out. Bytes
+/// that describe nothing of this one form are refused by rule 0 at `/`, the whole. `Memory` is answered where memory
+/// ran out, and never tells anything of the bytes.
 pub fn read_description(alloc: Global, bytes: &[u8]) -> Result<OneWriter, Refused>
     ensures described { IfOk result (Describes bytes.now) }
     ensures refused { IfErr result (IsRefusalOf bytes.now) }
@@ -62,8 +65,8 @@ fn not_of_this_form(alloc: Global) -> Result<Refusal, AllocError>
 
 fn form_of(alloc: Global, value: &Value) -> Result<Option<OneWriter>, AllocError>
     requires { depth (view value.now) ≤ max_depth }
-    ensures { IfOk result (λ found. MatchOption found ((w : OneWriter) → ¬ (view value.now ≡ data_of w))
-        (λ w. view value.now ≡ data_of w)) }
+    ensures { IfOk result (λ found. MatchOption found ((w : OneWriter) → ¬ IsDataOf w (view value.now))
+        (λ w. IsDataOf w (view value.now))) }
 {
     match numbers_of(value) {
         None => Ok(None),
@@ -77,10 +80,26 @@ fn form_of(alloc: Global, value: &Value) -> Result<Option<OneWriter>, AllocError
 
 fn has_form(alloc: Global, value: &Value, numbers: OneWriter) -> Result<bool, AllocError>
     requires { depth (view value.now) ≤ max_depth }
-    ensures { IfOk result (λ holds. IsTrue holds ↔ (view value.now ≡ data_of numbers)) }
+    ensures { IfOk result (λ holds. IsTrue holds ↔ IsDataOf numbers (view value.now)) }
+{
+    Ok(
+        has_form_with(alloc, value, OuterPorts::LeftOut, numbers)?
+            || has_form_with(alloc, value, OuterPorts::Empty, numbers)?,
+    )
+}
+
+fn has_form_with(
+    alloc: Global,
+    value: &Value,
+    outer_ports: OuterPorts,
+    numbers: OneWriter,
+) -> Result<bool, AllocError>
+    requires { depth (view value.now) ≤ max_depth }
+    ensures { IfOk result (λ holds. IsTrue holds ↔ (view value.now ≡ data_of outer_ports numbers)) }
 {
     let expected = description_value(
         alloc,
+        outer_ports,
         numbers.constant as u64,
         numbers.write_period,
         numbers.read_period,
@@ -89,8 +108,8 @@ fn has_form(alloc: Global, value: &Value, numbers: OneWriter) -> Result<bool, Al
 }
 
 fn numbers_of(value: &Value) -> Option<OneWriter>
-    ensures found { (w : OneWriter) → view value.now ≡ data_of w → IsSome result }
-    ensures numbers { (w : OneWriter) → view value.now ≡ data_of w → IfSome result (HaveSameNumbers w) }
+    ensures found { (w : OneWriter) → IsDataOf w (view value.now) → IsSome result }
+    ensures numbers { (w : OneWriter) → IsDataOf w (view value.now) → IfSome result (HaveSameNumbers w) }
 {
     let constant = number_at(value, CONSTANT)?;
     let write_period = number_at(value, WRITE_PERIOD)?;

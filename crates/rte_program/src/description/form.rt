@@ -1,4 +1,4 @@
-//! The JSON of the description that is read, made anew from its three numbers.
+//! The JSON of the description that is read, made anew from its three numbers and the way its outer ports are written.
 
 ghost use Rattle.std.specs.Prelude.{◌≡◌, IfOk};
 ghost use Rattle.serde_json.specs.Data.{string};
@@ -6,6 +6,7 @@ ghost use Rattle.serde_json.specs.View.{view};
 ghost use Rattle.rte_program.specs.Json.{text, whole};
 ghost use Rattle.rte_program.specs.Description.{data_types, interfaces, events, access, statement, steps, looks, writer, reader, components, prototypes, connectors, compositions, mapped, mapping, description};
 
+use super::outer_ports::OuterPorts;
 use serde_json::{Value, json};
 use std::alloc::{AllocError, Global};
 
@@ -116,12 +117,24 @@ fn connectors_value(alloc: Global) -> Result<Value, AllocError>
     }])
 }
 
-fn compositions_value(alloc: Global) -> Result<Value, AllocError>
-    ensures { IfOk result (λ v. view v ≡ compositions) }
+fn compositions_value(alloc: Global, outer_ports: OuterPorts) -> Result<Value, AllocError>
+    ensures { IfOk result (λ v. view v ≡ compositions outer_ports) }
 {
     let prototypes = prototypes_value(alloc)?;
     let connectors = connectors_value(alloc)?;
-    json!(in alloc; [{"shortName": "Top", "prototypes": prototypes, "connectors": connectors}])
+    match outer_ports {
+        OuterPorts::LeftOut => json!(in alloc; [{
+            "shortName": "Top",
+            "prototypes": prototypes,
+            "connectors": connectors
+        }]),
+        OuterPorts::Empty => json!(in alloc; [{
+            "shortName": "Top",
+            "ports": [],
+            "prototypes": prototypes,
+            "connectors": connectors
+        }]),
+    }
 }
 
 fn mapped_value(alloc: Global, instance: &str, position: u64) -> Result<Value, AllocError>
@@ -155,19 +168,20 @@ fn components_value(
     json!(in alloc; [writer, reader])
 }
 
-/// The whole description with these three numbers.
+/// The whole description with these three numbers, its outer ports written in this way.
 pub fn description_value(
     alloc: Global,
+    outer_ports: OuterPorts,
     constant: u64,
     write_period: u64,
     read_period: u64,
 ) -> Result<Value, AllocError>
-    ensures { IfOk result (λ v. view v ≡ description constant write_period read_period) }
+    ensures { IfOk result (λ v. view v ≡ description outer_ports constant write_period read_period) }
 {
     let data_types = data_types_value(alloc)?;
     let interfaces = interfaces_value(alloc)?;
     let components = components_value(alloc, constant, write_period, read_period)?;
-    let compositions = compositions_value(alloc)?;
+    let compositions = compositions_value(alloc, outer_ports)?;
     let mapping = mapping_value(alloc)?;
     json!(in alloc; {
         "dataTypes": data_types,

@@ -1,9 +1,12 @@
+mod worked_row;
+
 use super::read_description;
 use rte_text::Refused;
 use std::alloc::{AllocError, Global};
 use std::test::Fail;
+use worked_row::TEN_TICKS_WRITE_THEN_READ;
 
-// A description, cut at its three numbers.
+// A description, cut at its three numbers and where its outer ports may stand.
 const UP_TO_CONSTANT: &str =
     r#"{"dataTypes":[{"shortName":"T","baseType":"uint16","lower":0,"upper":1000,"words":1}],
  "interfaces":[{"kind":"SenderReceiverInterface","shortName":"I","dataElements":[
@@ -22,8 +25,10 @@ const UP_TO_READ_PERIOD: &str = r#"}]}},
      "program":[["read","i","v",["x"],"s"]]}],
     "events":[{"kind":"TimingEvent","shortName":"E","runnable":"Look","period":"#;
 
-const UP_TO_END: &str = r#"}]}}],
- "compositions":[{"shortName":"Top",
+const UP_TO_OUTER_PORTS: &str = r#"}]}}],
+ "compositions":[{"shortName":"Top""#;
+
+const UP_TO_END: &str = r#",
    "prototypes":[{"shortName":"w","type":"W"},{"shortName":"r","type":"R"}],
    "connectors":[{"kind":"AssemblySwConnector","provider":["w","o"],"requester":["r","i"]}]}],
  "mapping":{"cores":1,"tasks":[{"shortName":"T","core":0}],"events":[
@@ -94,6 +99,7 @@ fn takes_numbers_in_their_ranges(rt: HostRuntime) -> Result<(), Fail> {
             write_period,
             UP_TO_READ_PERIOD,
             read_period,
+            UP_TO_OUTER_PORTS,
             UP_TO_END,
             ",\"root\":\"Top\"}",
         ];
@@ -110,14 +116,21 @@ fn takes_numbers_in_their_ranges(rt: HostRuntime) -> Result<(), Fail> {
 #[test]
 fn takes_this_form_alone(rt: HostRuntime) -> Result<(), Fail> {
     let cases = [
-        (",\"root\":\"Bottom\",\"root\":\"Top\"}", Some((7, 10, 20))),
-        (",\"root\":\"Top\",\"root\":\"Bottom\"}", None),
-        (",\"root\":\"Top\",\"modeGroups\":[]}", None),
-        ("}", None),
-        (",\"root\":\"Top\"", None),
-        (",\"root\":\"Top\"} {}", None),
+        (
+            "",
+            ",\"root\":\"Bottom\",\"root\":\"Top\"}",
+            Some((7, 10, 20)),
+        ),
+        ("", ",\"root\":\"Top\",\"root\":\"Bottom\"}", None),
+        ("", ",\"root\":\"Top\",\"modeGroups\":[]}", None),
+        ("", "}", None),
+        ("", ",\"root\":\"Top\"", None),
+        ("", ",\"root\":\"Top\"} {}", None),
+        (",\"ports\":[]", ",\"root\":\"Top\"}", Some((7, 10, 20))),
+        (",\"ports\":[1]", ",\"root\":\"Top\"}", None),
+        (",\"ports\":{}", ",\"root\":\"Top\"}", None),
     ];
-    for (end, numbers) in cases {
+    for (outer_ports, end, numbers) in cases {
         let parts = [
             UP_TO_CONSTANT,
             "7",
@@ -125,15 +138,25 @@ fn takes_this_form_alone(rt: HostRuntime) -> Result<(), Fail> {
             "10",
             UP_TO_READ_PERIOD,
             "20",
+            UP_TO_OUTER_PORTS,
+            outer_ports,
             UP_TO_END,
             end,
         ];
         let text = joined(rt.alloc(), &parts)?;
-        assert_eq!(rt; told(rt.alloc(), text.as_bytes())?, numbers, "at {end}");
+        assert_eq!(rt;
+            told(rt.alloc(), text.as_bytes())?,
+            numbers,
+            "at {outer_ports}, {end}"
+        );
     }
     assert_eq!(rt;
         told(rt.alloc(), IN_ANOTHER_ORDER.as_bytes())?,
         Some((5, 20, 30))
+    );
+    assert_eq!(rt;
+        told(rt.alloc(), TEN_TICKS_WRITE_THEN_READ.as_bytes())?,
+        Some((7, 10, 10))
     );
     assert_eq!(rt; told(rt.alloc(), "".as_bytes())?, None);
     assert_eq!(rt; told(rt.alloc(), &[0xff, 0x7b, 0x00])?, None);
