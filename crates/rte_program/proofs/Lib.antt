@@ -4,3 +4,4 @@ pub mod Counts
 pub mod Readings
 pub mod OneReading
 pub mod SomeReading
+pub mod Numbers

@@ -1,1 +1,3 @@
 pub mod ScriptText
+pub mod Json
+pub mod Description
