@@ -1,0 +1,74 @@
+//! The top call.
+
+ghost use Rattle.std.specs.Prelude.{◌≡◌, ◌≢◌, ◌⊎◌, ℕ, List, map, string_bytes};
+ghost use Rattle.rte_text.specs.Counts.{Rose};
+ghost use Rattle.bus_semantics.specs.declared.script.Line.{Line};
+ghost use Rattle.rte_program.specs.declared.description.one_writer.OneWriter.{OneWriter};
+ghost use Rattle.rte_program.specs.Inputs.{counts_of, IsNoForm, IsNoDescription, AreInputs, HaveBadLine};
+ghost use Rattle.rte_program.specs.Answers.{RunsWhatIsNamed, RefusesWhatIsNamed, RefusesWords, RefusesScript, SaysUnread, CutsWhatIsPut, AreHeld, NoFault, AnswersOrMemory};
+
+use crate::prepare::prepare;
+use crate::report::report;
+use crate::run::run_script;
+use crate::status::Status;
+use rte_text::{Gate, Put, Shelf, Sink};
+use std::alloc::Global;
+use std::sync::Wait;
+use std::thread::Threads;
+
+/// Carries out the command that the words give: `run C S` reads the description C and the script S from the shelf,
+/// runs the script on the bus of the description, and puts the trace.
+///
+/// Refusals come in this order: the words, the files in the order of the words, the description, the script. Before
+/// the run nothing is put but a refusal's text. Each line is one put.
+pub fn rte_top<R: Threads + Wait + Sync, S: Shelf, K: Sink, G: Gate>(
+    rt: &R,
+    alloc: Global,
+    words: &[String],
+    shelf: &mut S,
+    out: &mut K,
+    gate: &G,
+) -> Status
+    // The headline.
+    ensures done { result ≡ Status.Done
+        → RunsWhatIsNamed (map string_bytes words.now) (S.files shelf.old) (K.told out.old) (K.told out.new) }
+
+    // What each other answer says.
+    ensures refused { result ≡ Status.Refused
+        → RefusesWhatIsNamed (map string_bytes words.now) (S.files shelf.old) (K.told out.old) (K.told out.new) }
+    ensures words { result ≡ Status.Words → RefusesWords (map string_bytes words.now) (K.told out.old) (K.told out.new) }
+    ensures script { result ≡ Status.Script
+        → RefusesScript (map string_bytes words.now) (S.files shelf.old) (K.told out.old) (K.told out.new) }
+    ensures not_read { result ≡ Status.NotRead
+        → SaysUnread (map string_bytes words.now) (S.files shelf.old) (counts_of (S.faults shelf.old) (S.long_files shelf.old))
+        (counts_of (S.faults shelf.new) (S.long_files shelf.new)) (K.told out.old) (K.told out.new) }
+    ensures not_written { result ≡ Status.NotWritten → Rose (K.faults out.old) (K.faults out.new) }
+    ensures cut { result ≡ Status.NotWritten
+        → CutsWhatIsPut (map string_bytes words.now) (S.files shelf.old) (counts_of (S.faults shelf.old) (S.long_files shelf.old))
+        (counts_of (S.faults shelf.new) (S.long_files shelf.new)) (K.told out.old) (K.told out.new) }
+    ensures memory { result ≡ Status.Memory → K.told out.new ≡ K.told out.old }
+    ensures no_trace { result ≢ Status.Trace }
+
+    // Faults have their answers.
+    ensures no_write_fault { result ≢ Status.NotWritten → K.faults out.new ≡ K.faults out.old }
+    ensures no_read_fault { result ≢ Status.NotRead → result ≢ Status.NotWritten
+        → counts_of (S.faults shelf.new) (S.long_files shelf.new) ≡ counts_of (S.faults shelf.old) (S.long_files shelf.old) }
+    ensures files_stay { S.files shelf.new ≡ S.files shelf.old }
+
+    // When the answers come, but for want of memory: where no file and no put failed.
+    ensures always_words { IsNoForm (map string_bytes words.now) → ¬ Rose (K.faults out.old) (K.faults out.new) → result ≡ Status.Words }
+    ensures always_refused { (d s : List ℕ) → AreHeld (map string_bytes words.now) (S.files shelf.old) d s → IsNoDescription d
+        → NoFault (S.faults shelf.old) (S.faults shelf.new) (K.faults out.old) (K.faults out.new) → AnswersOrMemory result Status.Refused }
+    ensures always_script { (d s : List ℕ) (line cause : ℕ) → AreHeld (map string_bytes words.now) (S.files shelf.old) d s → HaveBadLine d s line cause
+        → NoFault (S.faults shelf.old) (S.faults shelf.new) (K.faults out.old) (K.faults out.new) → AnswersOrMemory result Status.Script }
+    ensures complete { (d s : List ℕ) (w : OneWriter) (lines : List Line) → AreHeld (map string_bytes words.now) (S.files shelf.old) d s → AreInputs d s w lines
+        → NoFault (S.faults shelf.old) (S.faults shelf.new) (K.faults out.old) (K.faults out.new) → AnswersOrMemory result Status.Done }
+{
+    match prepare(alloc, words, shelf) {
+        Ok(prepared) => match run_script(&prepared.description, &prepared.script, out) {
+            Put::Done => Status::Done,
+            Put::Failed => Status::NotWritten,
+        },
+        Err(stop) => report(&stop, out),
+    }
+}
