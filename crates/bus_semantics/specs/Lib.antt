@@ -29,5 +29,4 @@ pub mod SoundAccesses
 pub mod SoundPrograms
 pub mod SoundEvents
 pub mod Sound
-pub mod Values
 pub mod OneWriter

@@ -5,7 +5,7 @@ use Rattle.bus_semantics.specs.declared.entries.Actor.TheVariants.{Env, Act}
 use Rattle.bus_semantics.specs.declared.entries.Deed.{Deed}
 use Rattle.bus_semantics.specs.declared.entries.Deed.TheVariants as deed
 use Rattle.bus_semantics.specs.declared.entries.Entry.{Entry}
-use Rattle.bus_semantics.specs.Values.{empty_value, one_word}
+use Rattle.rte_value.specs.ShortValues.{empty_value, one_word}
 use Rattle.rte_program.specs.declared.node.NodeEntry.{NodeEntry}
 use Rattle.rte_program.specs.declared.node.NodeEntry.TheVariants.{Tick, WriterStarts, WriterWrites, WriterEnds, ReaderStarts, ReaderReads, ReaderEnds}
 

@@ -10,7 +10,7 @@ use Rattle.bus_semantics.specs.Unqueued.{value_at, is_invalid}
 use Rattle.bus_semantics.specs.Owed.{is_start_by}
 use Rattle.bus_semantics.specs.Due.{follows_last, ticks_period, ticks}
 use Rattle.bus_semantics.specs.Legal.{IsLegal}
-use Rattle.bus_semantics.specs.Values.{one_word}
+use Rattle.rte_value.specs.ShortValues.{one_word}
 use Rattle.rte_program.specs.Entries.{writer_key, reader_key}
 use Rattle.rte_program.specs.declared.timer.Timer.{Timer}
 use Rattle.rte_program.specs.declared.node.Node.{Node}
