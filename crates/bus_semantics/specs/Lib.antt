@@ -21,6 +21,7 @@ pub mod Legal
 pub mod Rest
 pub mod Run
 pub mod Spelling
+pub mod Reading
 pub mod Interleaving
 pub mod SoundPlan
 pub mod SoundElements

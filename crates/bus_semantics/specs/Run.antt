@@ -1,4 +1,4 @@
--- A run of a script: a list of items, the newest first. The environment's calls and the run marks are those of the script's lines;
+-- A run of a script, which is this project's own: a list of items, the newest first. The environment's calls and the run marks are those of the script's lines;
 -- all other entries stand inside run lines, each closed by a word that holds.
 use Rattle.std.specs.Prelude.{◌≡◌, ℕ, suc, List, [], ◌∷◌, ◌++◌, replicate, Bool, true, false, not, ◌&&◌, nat_le, if◌then◌else◌}
 use Rattle.bus_semantics.specs.declared.script.Line.{Line}
@@ -12,14 +12,14 @@ use Rattle.bus_semantics.specs.Legal.{MayFollow}
 use Rattle.bus_semantics.specs.Rest.{IsIdle}
 
 -- what closes a run line
-pub data Word : Type 0 where
-  idle : Word
-  unsettled : Word
+pub data Closing : Type 0 where
+  idle : Closing
+  unsettled : Closing
 
 pub data Item : Type 0 where
   made : Entry → Item
   run_begins : Item
-  run_closes : Word → Item
+  run_closes : Closing → Item
 
 abbrev pub Session : Type 0
 Session = List Item
@@ -93,7 +93,7 @@ pub record IsBeginningOf (script : List Line) (s : Session) : Type 0 where
   pub placed : is_placed s ≡ true
 
 -- `idle` holds at rest where no activation runs; `unsettled` where runnables and machines made at least 100,000 entries since the mark
-abbrev pub Holds : Plan → Mapping → Session → Word → Type 0
+abbrev pub Holds : Plan → Mapping → Session → Closing → Type 0
 Holds p m s idle = IsIdle p m (history_of s)
 Holds p m s unsettled = nat_le 100000 (made_in_line s) ≡ true
 

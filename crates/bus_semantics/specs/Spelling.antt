@@ -1,4 +1,4 @@
--- The spelling of a session: a header, then one line for each item. The oldest item comes first, so each new line stands at the end.
+-- The spelling of a session in a trace of version 1, which is this project's own: a header, then one line for each item. The oldest item comes first, so each new line stands at the end.
 use Rattle.std.specs.Prelude.{◌≡◌, ℕ, ℤ, List, [], ◌∷◌, ◌++◌, codes, decimal, if◌then◌else◌, Option, Some, None}
 use Rattle.std.specs.Fmt.{signed_decimal}
 use Rattle.rte_value.specs.declared.kinds.ActKey.{ActKey}
@@ -18,7 +18,7 @@ use Rattle.bus_semantics.specs.declared.entries.Deed.{Deed}
 use Rattle.bus_semantics.specs.declared.entries.Deed.TheVariants as deed
 use Rattle.bus_semantics.specs.declared.entries.Entry.{Entry}
 use Rattle.bus_semantics.specs.Plan.{Plan, Runnable, look}
-use Rattle.bus_semantics.specs.Run.{Word, idle, unsettled, Item, made, run_begins, run_closes, Session}
+use Rattle.bus_semantics.specs.Run.{Closing, idle, unsettled, Item, made, run_begins, run_closes, Session}
 
 abbrev pub Letters : Type 0
 Letters = List ℕ
@@ -49,11 +49,11 @@ instance_text p (Some i) = look p.names i (λ (t : Letters). t) []
 abbrev pub runnable_text : Plan → ℕ → Letters
 runnable_text p r = look p.runnables r (λ (v : Runnable). instance_text p (Some v.instance) ++ codes ":" ++ v.name) []
 
--- INSTANCE:RUNNABLE.PORT.OPERATION, and env.PORT.OPERATION
 abbrev pub caller_text : Plan → Option ℕ → Letters
 caller_text p None = codes "env"
 caller_text p (Some r) = runnable_text p r
 
+-- INSTANCE:RUNNABLE.PORT.OPERATION, and env.PORT.OPERATION
 abbrev pub point_text : Plan → ℕ → Letters
 point_text p q = look p.points q (λ (t : PointPlan). caller_text p t.runnable ++ codes "." ++ t.name) []
 
@@ -91,7 +91,7 @@ mode_port_name p port = look p.mode_ports port (λ (t : ModePortPlan). t.name) [
 abbrev pub event_name : Plan → ℕ → Letters
 event_name p e = look p.events e (λ (v : EventPlan). v.name) []
 
--- ---- deeds, version 1. Version 2 differs in the header and in the three spellings of a mode: give `deed_text` the version there
+-- ---- deeds
 
 abbrev pub from_text : Plan → Option ℕ → Value → Letters
 from_text p None value = []
@@ -132,14 +132,14 @@ deed_text p deed.End = codes "end"
 abbrev pub entry_text : Plan → Entry → Letters
 entry_text p e = actor_text p e.actor ++ spaced (deed_text p e.deed) ++ codes "\n"
 
-abbrev pub word_text : Word → Letters
-word_text idle = codes "idle\n"
-word_text unsettled = codes "unsettled\n"
+abbrev pub closing_text : Closing → Letters
+closing_text idle = codes "idle\n"
+closing_text unsettled = codes "unsettled\n"
 
 abbrev pub item_text : Plan → Item → Letters
 item_text p (made e) = entry_text p e
 item_text p run_begins = codes "run\n"
-item_text p (run_closes word) = word_text word
+item_text p (run_closes word) = closing_text word
 
 abbrev pub header : Letters
 header = codes "rte-trace 1\n"
