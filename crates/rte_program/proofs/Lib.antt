@@ -10,4 +10,5 @@ pub mod OneReading
 pub mod Readings
 pub mod Sessions
 pub mod SomeReading
+pub mod SoundPlan
 pub mod Words

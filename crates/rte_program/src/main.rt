@@ -4,6 +4,7 @@
 mod description;
 mod lines;
 mod node;
+mod planned;
 mod prepare;
 mod report;
 mod run;
