@@ -26,17 +26,6 @@ impl Node {
         }
     }
 
-    /// The writer starts.
-    fn start_writer(&mut self) -> NodeEntry
-        requires free { self.old.task ≡ Free }
-        requires due { self.old.write_timer.due ≡ true }
-        ensures { Turns self.old self.new result }
-    {
-        self.write_timer.due = false;
-        self.task = Task::WriterStarted;
-        NodeEntry::WriterStarts
-    }
-
     /// The clock ticks.
     pub fn tick(&mut self) -> NodeEntry
         ensures steps { Steps self.old self.new result }
@@ -45,54 +34,6 @@ impl Node {
         self.write_timer.tick();
         self.read_timer.tick();
         NodeEntry::Tick
-    }
-
-    /// The reader starts.
-    fn start_reader(&mut self) -> NodeEntry
-        requires free { self.old.task ≡ Free }
-        requires due { self.old.read_timer.due ≡ true }
-        ensures { Turns self.old self.new result }
-    {
-        self.read_timer.due = false;
-        self.task = Task::ReaderStarted;
-        NodeEntry::ReaderStarts
-    }
-
-    /// The writer writes its constant.
-    fn write(&mut self) -> NodeEntry
-        requires { self.old.task ≡ WriterStarted }
-        ensures { Turns self.old self.new result }
-    {
-        self.value = self.constant;
-        self.task = Task::WriterWrote;
-        NodeEntry::WriterWrites(self.value)
-    }
-
-    /// The reader reads the last value.
-    fn read(&mut self) -> NodeEntry
-        requires { self.old.task ≡ ReaderStarted }
-        ensures { Turns self.old self.new result }
-    {
-        self.task = Task::ReaderRead;
-        NodeEntry::ReaderReads(self.value)
-    }
-
-    /// The writer ends.
-    fn end_writer(&mut self) -> NodeEntry
-        requires { self.old.task ≡ WriterWrote }
-        ensures { Turns self.old self.new result }
-    {
-        self.task = Task::Free;
-        NodeEntry::WriterEnds
-    }
-
-    /// The reader ends.
-    fn end_reader(&mut self) -> NodeEntry
-        requires { self.old.task ≡ ReaderRead }
-        ensures { Turns self.old self.new result }
-    {
-        self.task = Task::Free;
-        NodeEntry::ReaderEnds
     }
 
     /// A turn of the core: the running activation's next call, else the first event that is due, by position.
@@ -110,5 +51,64 @@ impl Node {
             Task::Free if self.read_timer.due => Some(self.start_reader()),
             Task::Free => None,
         }
+    }
+
+    /// The writer starts.
+    fn start_writer(&mut self) -> NodeEntry
+        requires free { self.old.task ≡ Free }
+        requires due { self.old.write_timer.due ≡ true }
+        ensures { Turns self.old self.new result }
+    {
+        self.write_timer.due = false;
+        self.task = Task::WriterStarted;
+        NodeEntry::WriterStarts
+    }
+
+    /// The writer writes its constant.
+    fn write(&mut self) -> NodeEntry
+        requires { self.old.task ≡ WriterStarted }
+        ensures { Turns self.old self.new result }
+    {
+        self.value = self.constant;
+        self.task = Task::WriterWrote;
+        NodeEntry::WriterWrites(self.value)
+    }
+
+    /// The writer ends.
+    fn end_writer(&mut self) -> NodeEntry
+        requires { self.old.task ≡ WriterWrote }
+        ensures { Turns self.old self.new result }
+    {
+        self.task = Task::Free;
+        NodeEntry::WriterEnds
+    }
+
+    /// The reader starts.
+    fn start_reader(&mut self) -> NodeEntry
+        requires free { self.old.task ≡ Free }
+        requires due { self.old.read_timer.due ≡ true }
+        ensures { Turns self.old self.new result }
+    {
+        self.read_timer.due = false;
+        self.task = Task::ReaderStarted;
+        NodeEntry::ReaderStarts
+    }
+
+    /// The reader reads the last value.
+    fn read(&mut self) -> NodeEntry
+        requires { self.old.task ≡ ReaderStarted }
+        ensures { Turns self.old self.new result }
+    {
+        self.task = Task::ReaderRead;
+        NodeEntry::ReaderReads(self.value)
+    }
+
+    /// The reader ends.
+    fn end_reader(&mut self) -> NodeEntry
+        requires { self.old.task ≡ ReaderRead }
+        ensures { Turns self.old self.new result }
+    {
+        self.task = Task::Free;
+        NodeEntry::ReaderEnds
     }
 }
