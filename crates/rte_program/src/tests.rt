@@ -41,24 +41,24 @@ idle
 const REFUSED: &str = "refused rule 0 at /\n";
 
 /// The words that name the description's file and the script's.
-const RUN: [&str; 3] = ["run", "c", "s"];
+const RUN: &[&str] = &["run", "c", "s"];
 
 /// What the top call is given. The description lies in the file `c` and the script in `s`, where they are there. A
 /// fetch fails by its number, and a put by its number after so many bytes.
 #[derive(Clone, Copy)]
 struct Given<'a> {
-    words: &'a [&'a str],
+    words: &'static [&'static str],
     description: Option<&'a [u8]>,
     script: Option<&'a [u8]>,
-    failing_fetches: &'a [u64],
-    failing_puts: &'a [(u64, u64)],
+    failing_fetches: &'static [u64],
+    failing_puts: &'static [(u64, u64)],
 }
 
 impl<'a> Given<'a> {
     /// A run of these two files, in which nothing fails.
     fn run(description: &'a [u8], script: &'a [u8]) -> Given<'a> {
         Given {
-            words: &RUN,
+            words: RUN,
             description: Some(description),
             script: Some(script),
             failing_fetches: &[],
@@ -78,7 +78,10 @@ impl<'a> Given<'a> {
         let mut files = Vec::new(alloc);
         for (name, file) in [("c", self.description), ("s", self.script)] {
             if let Some(bytes) = file {
-                files.push((String::from_str(alloc, name)?, Vec::from_slice(alloc, bytes)?))?;
+                files.push((
+                    String::from_str(alloc, name)?,
+                    Vec::from_slice(alloc, bytes)?,
+                ))?;
             }
         }
         Ok(MemoryShelf::new(files, Vec::from_slice(alloc, self.failing_fetches)?))
@@ -152,7 +155,8 @@ fn runs_scripts(rt: HostRuntime) -> Result<(), Fail> {
         (
             ("0", "2", "3"),
             "tick 6\nrun\n",
-            &["rte-trace 1
+            &[
+                "rte-trace 1
 env tick
 env tick
 env tick
@@ -167,13 +171,15 @@ r:Look start E
 r:Look read i.v 0 0
 r:Look end
 idle
-"],
+",
+            ],
         ),
         // The reader reads what was written in an earlier run line.
         (
             ("1000", "2", "3"),
             "tick 2\nrun\ntick 1\nrun\n",
-            &["rte-trace 1
+            &[
+                "rte-trace 1
 env tick
 env tick
 run
@@ -187,13 +193,15 @@ r:Look start E
 r:Look read i.v 0 1000
 r:Look end
 idle
-"],
+",
+            ],
         ),
         // The reader alone first, and later what was written between.
         (
             ("41", "3", "2"),
             "tick 2\nrun\ntick 1\nrun\ntick 1\nrun\n",
-            &["rte-trace 1
+            &[
+                "rte-trace 1
 env tick
 env tick
 run
@@ -213,12 +221,14 @@ r:Look start E
 r:Look read i.v 0 41
 r:Look end
 idle
-"],
+",
+            ],
         ),
         (
             ("999", "1", "1000000"),
             "tick 1\nrun\ntick 1\nrun\n",
-            &["rte-trace 1
+            &[
+                "rte-trace 1
 env tick
 run
 w:Step start E
@@ -231,19 +241,22 @@ w:Step start E
 w:Step write o.v 999 0
 w:Step end
 idle
-"],
+",
+            ],
         ),
         (
             ("1", "1000000", "1"),
             "tick 1\nrun",
-            &["rte-trace 1
+            &[
+                "rte-trace 1
 env tick
 run
 r:Look start E
 r:Look read i.v 0 0
 r:Look end
 idle
-"],
+",
+            ],
         ),
     ];
     for (numbers, script, told) in cases {
@@ -256,7 +269,7 @@ idle
 
 #[test]
 fn refuses_words(rt: HostRuntime) -> Result<(), Fail> {
-    let cases: [&[&str]; 8] = [
+    let cases: [&'static [&'static str]; 8] = [
         &[],
         &["run"],
         &["run", "c"],
@@ -270,10 +283,8 @@ fn refuses_words(rt: HostRuntime) -> Result<(), Fail> {
     for words in cases {
         let given = Given {
             words,
-            description: Some(description.as_bytes()),
-            script: Some(b"run"),
             failing_fetches: &[0],
-            failing_puts: &[],
+            ..Given::run(description.as_bytes(), b"run")
         };
         compare(&rt, "words", &given, Status::Words, &["words refused\n"])?;
     }
@@ -286,7 +297,7 @@ fn says_what_was_not_read(rt: HostRuntime) -> Result<(), Fail> {
     let description = Some(text.as_bytes());
     let script: Option<&[u8]> = Some(b"run");
     let too_long = vec![in rt.alloc(); 0u8; FILE_LIMIT + 1]?;
-    let cases: [(Option<&[u8]>, Option<&[u8]>, &[u64], &str); 8] = [
+    let cases: [(Option<&[u8]>, Option<&[u8]>, &'static [u64], &str); 8] = [
         (description, None, &[], "not read 2\n"),
         (None, script, &[], "not read 1\n"),
         (None, None, &[], "not read 1\n"),
@@ -299,11 +310,10 @@ fn says_what_was_not_read(rt: HostRuntime) -> Result<(), Fail> {
     ];
     for (description, script, failing_fetches, told) in cases {
         let given = Given {
-            words: &RUN,
             description,
             script,
             failing_fetches,
-            failing_puts: &[],
+            ..Given::run(b"", b"")
         };
         compare(&rt, told, &given, Status::NotRead, &[told])?;
     }
@@ -313,13 +323,23 @@ fn says_what_was_not_read(rt: HostRuntime) -> Result<(), Fail> {
 #[test]
 fn ends_where_a_put_fails(rt: HostRuntime) -> Result<(), Fail> {
     let description = described(rt.alloc(), ("7", "10", "10"), "", END)?;
-    let cases: [(&[&str], &[u8], &[(u64, u64)], &[&str]); 6] = [
-        (&RUN, b"tick 10\nrun\n", &[(1, 3)], &["rte-trace 1\nenv"]),
-        (&RUN, b"tick 10\nrun\n", &[(0, 0)], &[]),
+    let cases: [(
+        &'static [&'static str],
+        &[u8],
+        &'static [(u64, u64)],
+        &[&str],
+    ); 6] = [
+        (RUN, b"tick 10\nrun\n", &[(1, 3)], &["rte-trace 1\nenv"]),
+        (RUN, b"tick 10\nrun\n", &[(0, 0)], &[]),
         // Each line is one put: the twelfth is the line `run`, and the last is `idle`.
-        (&RUN, b"tick 10\nrun\n", &[(11, 2)], &[HEADER, TEN_TICKS, "ru"]),
         (
-            &RUN,
+            RUN,
+            b"tick 10\nrun\n",
+            &[(11, 2)],
+            &[HEADER, TEN_TICKS, "ru"],
+        ),
+        (
+            RUN,
             b"tick 10\nrun\n",
             &[(18, 4)],
             &[
@@ -336,16 +356,14 @@ idle",
             ],
         ),
         // The text of a refusal.
-        (&RUN, b"walk", &[(0, 14)], &["script refused"]),
+        (RUN, b"walk", &[(0, 14)], &["script refused"]),
         (&[], b"run", &[(0, 0)], &[]),
     ];
     for (words, script, failing_puts, told) in cases {
         let given = Given {
             words,
-            description: Some(description.as_bytes()),
-            script: Some(script),
-            failing_fetches: &[],
             failing_puts,
+            ..Given::run(description.as_bytes(), script)
         };
         compare(&rt, "a put that fails", &given, Status::NotWritten, told)?;
     }
