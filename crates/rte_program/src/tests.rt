@@ -479,3 +479,21 @@ fn names_the_first_bad_line(rt: HostRuntime) -> Result<(), Fail> {
     }
     Ok(())
 }
+
+/// The number of a status is what the program ends with.
+#[test]
+fn ends_with_these_numbers(rt: HostRuntime) {
+    let cases = [
+        (Status::Done, 0),
+        (Status::Refused, 1),
+        (Status::Words, 2),
+        (Status::NotRead, 3),
+        (Status::NotWritten, 4),
+        (Status::Script, 5),
+        (Status::Trace, 6),
+        (Status::Memory, 7),
+    ];
+    for (status, number) in cases {
+        assert_eq!(rt; status as u8, number);
+    }
+}
