@@ -11,8 +11,6 @@ mod compared;
 mod form;
 mod one_writer;
 mod outer_ports;
-#[cfg(test)]
-mod tests;
 
 use compared::is_same;
 use form::description_value;

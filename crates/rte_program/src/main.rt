@@ -11,6 +11,8 @@ mod run;
 mod script;
 mod status;
 mod stop;
+#[cfg(test)]
+mod tests;
 mod timer;
 mod top;
 mod turns;
