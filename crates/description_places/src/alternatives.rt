@@ -17,263 +17,92 @@ pub struct Alternative {
     pub kind: Kind,
 }
 
+macro_rules! names {
+    ($word:literal, $kind:ident) => {
+        Alternative {
+            word: $word,
+            kind: Kind::$kind,
+        }
+    };
+}
+
 /// The words that a value of this kind may name its own kind by.
 pub fn choices_of(kind: Kind) -> &'static [Alternative]
     ensures { map choice_of result.now ≡ choices_of kind }
 {
     match kind {
         Kind::Interface => &[
-            Alternative {
-                word: "SenderReceiverInterface",
-                kind: Kind::SenderReceiverInterface,
-            },
-            Alternative {
-                word: "ClientServerInterface",
-                kind: Kind::ClientServerInterface,
-            },
-            Alternative {
-                word: "ModeSwitchInterface",
-                kind: Kind::ModeSwitchInterface,
-            },
+            names!("SenderReceiverInterface", SenderReceiverInterface),
+            names!("ClientServerInterface", ClientServerInterface),
+            names!("ModeSwitchInterface", ModeSwitchInterface),
         ],
         Kind::Event => &[
-            Alternative {
-                word: "TimingEvent",
-                kind: Kind::TimingEvent,
-            },
-            Alternative {
-                word: "InitEvent",
-                kind: Kind::InitEvent,
-            },
-            Alternative {
-                word: "DataReceivedEvent",
-                kind: Kind::DataReceivedEvent,
-            },
-            Alternative {
-                word: "OperationInvokedEvent",
-                kind: Kind::OperationInvokedEvent,
-            },
-            Alternative {
-                word: "AsynchronousServerCallReturnsEvent",
-                kind: Kind::CallReturnsEvent,
-            },
-            Alternative {
-                word: "SwcModeSwitchEvent",
-                kind: Kind::ModeSwitchEvent,
-            },
-            Alternative {
-                word: "ModeSwitchedAckEvent",
-                kind: Kind::ModeSwitchAckEvent,
-            },
+            names!("TimingEvent", TimingEvent),
+            names!("InitEvent", InitEvent),
+            names!("DataReceivedEvent", DataReceivedEvent),
+            names!("OperationInvokedEvent", OperationInvokedEvent),
+            names!("AsynchronousServerCallReturnsEvent", CallReturnsEvent),
+            names!("SwcModeSwitchEvent", ModeSwitchEvent),
+            names!("ModeSwitchedAckEvent", ModeSwitchAckEvent),
         ],
         Kind::Connector => &[
-            Alternative {
-                word: "AssemblySwConnector",
-                kind: Kind::AssemblyConnector,
-            },
-            Alternative {
-                word: "DelegationSwConnector",
-                kind: Kind::DelegationConnector,
-            },
+            names!("AssemblySwConnector", AssemblyConnector),
+            names!("DelegationSwConnector", DelegationConnector),
         ],
         Kind::Access => &[
-            Alternative {
-                word: "write",
-                kind: Kind::ItemAccess,
-            },
-            Alternative {
-                word: "read",
-                kind: Kind::ItemAccess,
-            },
-            Alternative {
-                word: "invalidate",
-                kind: Kind::ItemAccess,
-            },
-            Alternative {
-                word: "isUpdated",
-                kind: Kind::ItemAccess,
-            },
-            Alternative {
-                word: "send",
-                kind: Kind::ItemAccess,
-            },
-            Alternative {
-                word: "receive",
-                kind: Kind::ItemAccess,
-            },
-            Alternative {
-                word: "iwrite",
-                kind: Kind::ItemAccess,
-            },
-            Alternative {
-                word: "iread",
-                kind: Kind::ItemAccess,
-            },
-            Alternative {
-                word: "call",
-                kind: Kind::ItemAccess,
-            },
-            Alternative {
-                word: "acall",
-                kind: Kind::ItemAccess,
-            },
-            Alternative {
-                word: "result",
-                kind: Kind::ItemAccess,
-            },
-            Alternative {
-                word: "irvWrite",
-                kind: Kind::VariableAccess,
-            },
-            Alternative {
-                word: "irvRead",
-                kind: Kind::VariableAccess,
-            },
-            Alternative {
-                word: "irvIWrite",
-                kind: Kind::VariableAccess,
-            },
-            Alternative {
-                word: "irvIRead",
-                kind: Kind::VariableAccess,
-            },
-            Alternative {
-                word: "switch",
-                kind: Kind::PortAccess,
-            },
-            Alternative {
-                word: "mode",
-                kind: Kind::PortAccess,
-            },
-            Alternative {
-                word: "enter",
-                kind: Kind::AreaAccess,
-            },
+            names!("write", ItemAccess),
+            names!("read", ItemAccess),
+            names!("invalidate", ItemAccess),
+            names!("isUpdated", ItemAccess),
+            names!("send", ItemAccess),
+            names!("receive", ItemAccess),
+            names!("iwrite", ItemAccess),
+            names!("iread", ItemAccess),
+            names!("call", ItemAccess),
+            names!("acall", ItemAccess),
+            names!("result", ItemAccess),
+            names!("irvWrite", VariableAccess),
+            names!("irvRead", VariableAccess),
+            names!("irvIWrite", VariableAccess),
+            names!("irvIRead", VariableAccess),
+            names!("switch", PortAccess),
+            names!("mode", PortAccess),
+            names!("enter", AreaAccess),
         ],
         Kind::Statement => &[
-            Alternative {
-                word: "set",
-                kind: Kind::SetStatement,
-            },
-            Alternative {
-                word: "if",
-                kind: Kind::IfStatement,
-            },
-            Alternative {
-                word: "repeat",
-                kind: Kind::RepeatStatement,
-            },
-            Alternative {
-                word: "area",
-                kind: Kind::AreaStatement,
-            },
-            Alternative {
-                word: "write",
-                kind: Kind::GivingStatement,
-            },
-            Alternative {
-                word: "read",
-                kind: Kind::TakingStatement,
-            },
-            Alternative {
-                word: "invalidate",
-                kind: Kind::ItemStatement,
-            },
-            Alternative {
-                word: "isUpdated",
-                kind: Kind::ItemStatement,
-            },
-            Alternative {
-                word: "send",
-                kind: Kind::GivingStatement,
-            },
-            Alternative {
-                word: "receive",
-                kind: Kind::TakingStatement,
-            },
-            Alternative {
-                word: "iwrite",
-                kind: Kind::LateWrite,
-            },
-            Alternative {
-                word: "iread",
-                kind: Kind::EarlyRead,
-            },
-            Alternative {
-                word: "irvWrite",
-                kind: Kind::VariableWrite,
-            },
-            Alternative {
-                word: "irvRead",
-                kind: Kind::VariableRead,
-            },
-            Alternative {
-                word: "irvIWrite",
-                kind: Kind::VariableWrite,
-            },
-            Alternative {
-                word: "irvIRead",
-                kind: Kind::VariableRead,
-            },
-            Alternative {
-                word: "call",
-                kind: Kind::CallStatement,
-            },
-            Alternative {
-                word: "acall",
-                kind: Kind::GivingStatement,
-            },
-            Alternative {
-                word: "result",
-                kind: Kind::TakingStatement,
-            },
-            Alternative {
-                word: "switch",
-                kind: Kind::SwitchStatement,
-            },
-            Alternative {
-                word: "mode",
-                kind: Kind::ModeStatement,
-            },
+            names!("set", SetStatement),
+            names!("if", IfStatement),
+            names!("repeat", RepeatStatement),
+            names!("area", AreaStatement),
+            names!("write", GivingStatement),
+            names!("read", TakingStatement),
+            names!("invalidate", ItemStatement),
+            names!("isUpdated", ItemStatement),
+            names!("send", GivingStatement),
+            names!("receive", TakingStatement),
+            names!("iwrite", LateWrite),
+            names!("iread", EarlyRead),
+            names!("irvWrite", VariableWrite),
+            names!("irvRead", VariableRead),
+            names!("irvIWrite", VariableWrite),
+            names!("irvIRead", VariableRead),
+            names!("call", CallStatement),
+            names!("acall", GivingStatement),
+            names!("result", TakingStatement),
+            names!("switch", SwitchStatement),
+            names!("mode", ModeStatement),
         ],
         Kind::Expression => &[
-            Alternative {
-                word: "add",
-                kind: Kind::Operator,
-            },
-            Alternative {
-                word: "sub",
-                kind: Kind::Operator,
-            },
-            Alternative {
-                word: "mul",
-                kind: Kind::Operator,
-            },
-            Alternative {
-                word: "div",
-                kind: Kind::Operator,
-            },
-            Alternative {
-                word: "eq",
-                kind: Kind::Operator,
-            },
-            Alternative {
-                word: "ne",
-                kind: Kind::Operator,
-            },
-            Alternative {
-                word: "lt",
-                kind: Kind::Operator,
-            },
-            Alternative {
-                word: "le",
-                kind: Kind::Operator,
-            },
+            names!("add", Operator),
+            names!("sub", Operator),
+            names!("mul", Operator),
+            names!("div", Operator),
+            names!("eq", Operator),
+            names!("ne", Operator),
+            names!("lt", Operator),
+            names!("le", Operator),
         ],
-        Kind::ModeSwitchEvent => &[Alternative {
-            word: "onTransition",
-            kind: Kind::ModeTransitionEvent,
-        }],
+        Kind::ModeSwitchEvent => &[names!("onTransition", ModeTransitionEvent)],
         _ => &[],
     }
 }

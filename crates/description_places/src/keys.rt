@@ -16,822 +16,250 @@ pub struct Field {
     pub kind: Kind,
 }
 
+macro_rules! needed {
+    ($name:literal, $kind:ident) => {
+        Field {
+            name: $name,
+            is_needed: true,
+            kind: Kind::$kind,
+        }
+    };
+}
+
+macro_rules! optional {
+    ($name:literal, $kind:ident) => {
+        Field {
+            name: $name,
+            is_needed: false,
+            kind: Kind::$kind,
+        }
+    };
+}
+
 /// The keys of an object of this kind, in order, and none of another kind.
 pub fn keys_of(kind: Kind) -> &'static [Field]
     ensures { map key_of result.now ≡ keys_of kind }
 {
     match kind {
         Kind::Description => &[
-            Field {
-                name: "dataTypes",
-                is_needed: false,
-                kind: Kind::DataTypes,
-            },
-            Field {
-                name: "modeGroups",
-                is_needed: false,
-                kind: Kind::ModeGroups,
-            },
-            Field {
-                name: "interfaces",
-                is_needed: false,
-                kind: Kind::Interfaces,
-            },
-            Field {
-                name: "components",
-                is_needed: false,
-                kind: Kind::Components,
-            },
-            Field {
-                name: "compositions",
-                is_needed: false,
-                kind: Kind::Compositions,
-            },
-            Field {
-                name: "root",
-                is_needed: true,
-                kind: Kind::RootName,
-            },
-            Field {
-                name: "mapping",
-                is_needed: true,
-                kind: Kind::Mapping,
-            },
+            optional!("dataTypes", DataTypes),
+            optional!("modeGroups", ModeGroups),
+            optional!("interfaces", Interfaces),
+            optional!("components", Components),
+            optional!("compositions", Compositions),
+            needed!("root", RootName),
+            needed!("mapping", Mapping),
         ],
         Kind::DataType => &[
-            Field {
-                name: "shortName",
-                is_needed: true,
-                kind: Kind::DeclaredName,
-            },
-            Field {
-                name: "baseType",
-                is_needed: true,
-                kind: Kind::BaseType,
-            },
-            Field {
-                name: "lower",
-                is_needed: true,
-                kind: Kind::Limit,
-            },
-            Field {
-                name: "upper",
-                is_needed: true,
-                kind: Kind::Limit,
-            },
-            Field {
-                name: "words",
-                is_needed: true,
-                kind: Kind::WordCount,
-            },
+            needed!("shortName", DeclaredName),
+            needed!("baseType", BaseType),
+            needed!("lower", Limit),
+            needed!("upper", Limit),
+            needed!("words", WordCount),
         ],
         Kind::ModeGroup => &[
-            Field {
-                name: "shortName",
-                is_needed: true,
-                kind: Kind::DeclaredName,
-            },
-            Field {
-                name: "modes",
-                is_needed: true,
-                kind: Kind::DeclaredModes,
-            },
-            Field {
-                name: "initialMode",
-                is_needed: true,
-                kind: Kind::InitialMode,
-            },
+            needed!("shortName", DeclaredName),
+            needed!("modes", DeclaredModes),
+            needed!("initialMode", InitialMode),
         ],
         Kind::SenderReceiverInterface => &[
-            Field {
-                name: "kind",
-                is_needed: true,
-                kind: Kind::InterfaceKind,
-            },
-            Field {
-                name: "shortName",
-                is_needed: true,
-                kind: Kind::DeclaredName,
-            },
-            Field {
-                name: "dataElements",
-                is_needed: false,
-                kind: Kind::DataElements,
-            },
+            needed!("kind", InterfaceKind),
+            needed!("shortName", DeclaredName),
+            optional!("dataElements", DataElements),
         ],
         Kind::ClientServerInterface => &[
-            Field {
-                name: "kind",
-                is_needed: true,
-                kind: Kind::InterfaceKind,
-            },
-            Field {
-                name: "shortName",
-                is_needed: true,
-                kind: Kind::DeclaredName,
-            },
-            Field {
-                name: "operations",
-                is_needed: false,
-                kind: Kind::Operations,
-            },
+            needed!("kind", InterfaceKind),
+            needed!("shortName", DeclaredName),
+            optional!("operations", Operations),
         ],
         Kind::ModeSwitchInterface => &[
-            Field {
-                name: "kind",
-                is_needed: true,
-                kind: Kind::InterfaceKind,
-            },
-            Field {
-                name: "shortName",
-                is_needed: true,
-                kind: Kind::DeclaredName,
-            },
-            Field {
-                name: "modeGroup",
-                is_needed: true,
-                kind: Kind::ModeElement,
-            },
+            needed!("kind", InterfaceKind),
+            needed!("shortName", DeclaredName),
+            needed!("modeGroup", ModeElement),
         ],
         Kind::UnknownInterface => &[
-            Field {
-                name: "kind",
-                is_needed: true,
-                kind: Kind::InterfaceKind,
-            },
-            Field {
-                name: "shortName",
-                is_needed: true,
-                kind: Kind::DeclaredName,
-            },
-            Field {
-                name: "dataElements",
-                is_needed: false,
-                kind: Kind::Anything,
-            },
-            Field {
-                name: "operations",
-                is_needed: false,
-                kind: Kind::Anything,
-            },
-            Field {
-                name: "modeGroup",
-                is_needed: false,
-                kind: Kind::Anything,
-            },
+            needed!("kind", InterfaceKind),
+            needed!("shortName", DeclaredName),
+            optional!("dataElements", Anything),
+            optional!("operations", Anything),
+            optional!("modeGroup", Anything),
         ],
         Kind::DataElement => &[
-            Field {
-                name: "shortName",
-                is_needed: true,
-                kind: Kind::DeclaredName,
-            },
-            Field {
-                name: "type",
-                is_needed: true,
-                kind: Kind::TypeName,
-            },
-            Field {
-                name: "swImplPolicy",
-                is_needed: true,
-                kind: Kind::Policy,
-            },
+            needed!("shortName", DeclaredName),
+            needed!("type", TypeName),
+            needed!("swImplPolicy", Policy),
         ],
         Kind::Operation => &[
-            Field {
-                name: "shortName",
-                is_needed: true,
-                kind: Kind::DeclaredName,
-            },
-            Field {
-                name: "arguments",
-                is_needed: false,
-                kind: Kind::Arguments,
-            },
-            Field {
-                name: "errors",
-                is_needed: false,
-                kind: Kind::OperationErrors,
-            },
+            needed!("shortName", DeclaredName),
+            optional!("arguments", Arguments),
+            optional!("errors", OperationErrors),
         ],
         Kind::Argument => &[
-            Field {
-                name: "shortName",
-                is_needed: true,
-                kind: Kind::DeclaredName,
-            },
-            Field {
-                name: "type",
-                is_needed: true,
-                kind: Kind::TypeName,
-            },
-            Field {
-                name: "direction",
-                is_needed: true,
-                kind: Kind::Direction,
-            },
+            needed!("shortName", DeclaredName),
+            needed!("type", TypeName),
+            needed!("direction", Direction),
         ],
         Kind::OperationError => &[
-            Field {
-                name: "shortName",
-                is_needed: true,
-                kind: Kind::DeclaredName,
-            },
-            Field {
-                name: "code",
-                is_needed: true,
-                kind: Kind::ErrorNumber,
-            },
+            needed!("shortName", DeclaredName),
+            needed!("code", ErrorNumber),
         ],
         Kind::ModeElement => &[
-            Field {
-                name: "shortName",
-                is_needed: true,
-                kind: Kind::DeclaredName,
-            },
-            Field {
-                name: "type",
-                is_needed: true,
-                kind: Kind::GroupName,
-            },
+            needed!("shortName", DeclaredName),
+            needed!("type", GroupName),
         ],
         Kind::Component => &[
-            Field {
-                name: "shortName",
-                is_needed: true,
-                kind: Kind::DeclaredName,
-            },
-            Field {
-                name: "ports",
-                is_needed: false,
-                kind: Kind::Ports,
-            },
-            Field {
-                name: "behavior",
-                is_needed: true,
-                kind: Kind::Behavior,
-            },
+            needed!("shortName", DeclaredName),
+            optional!("ports", Ports),
+            needed!("behavior", Behavior),
         ],
         Kind::Port => &[
-            Field {
-                name: "kind",
-                is_needed: true,
-                kind: Kind::PortKind,
-            },
-            Field {
-                name: "shortName",
-                is_needed: true,
-                kind: Kind::DeclaredName,
-            },
-            Field {
-                name: "interface",
-                is_needed: true,
-                kind: Kind::InterfaceName,
-            },
-            Field {
-                name: "comSpecs",
-                is_needed: false,
-                kind: Kind::ComSpecs,
-            },
+            needed!("kind", PortKind),
+            needed!("shortName", DeclaredName),
+            needed!("interface", InterfaceName),
+            optional!("comSpecs", ComSpecs),
         ],
         Kind::ComSpec => &[
-            Field {
-                name: "element",
-                is_needed: true,
-                kind: Kind::ComSpecItem,
-            },
-            Field {
-                name: "initValue",
-                is_needed: false,
-                kind: Kind::Words,
-            },
-            Field {
-                name: "handleNeverReceived",
-                is_needed: false,
-                kind: Kind::Flag,
-            },
-            Field {
-                name: "queueLength",
-                is_needed: false,
-                kind: Kind::QueueLength,
-            },
+            needed!("element", ComSpecItem),
+            optional!("initValue", Words),
+            optional!("handleNeverReceived", Flag),
+            optional!("queueLength", QueueLength),
         ],
         Kind::Behavior => &[
-            Field {
-                name: "exclusiveAreas",
-                is_needed: false,
-                kind: Kind::DeclaredAreas,
-            },
-            Field {
-                name: "variables",
-                is_needed: false,
-                kind: Kind::Variables,
-            },
-            Field {
-                name: "runnables",
-                is_needed: false,
-                kind: Kind::Runnables,
-            },
-            Field {
-                name: "events",
-                is_needed: false,
-                kind: Kind::Events,
-            },
+            optional!("exclusiveAreas", DeclaredAreas),
+            optional!("variables", Variables),
+            optional!("runnables", Runnables),
+            optional!("events", Events),
         ],
         Kind::Variable => &[
-            Field {
-                name: "shortName",
-                is_needed: true,
-                kind: Kind::DeclaredName,
-            },
-            Field {
-                name: "type",
-                is_needed: true,
-                kind: Kind::TypeName,
-            },
-            Field {
-                name: "initValue",
-                is_needed: false,
-                kind: Kind::Words,
-            },
+            needed!("shortName", DeclaredName),
+            needed!("type", TypeName),
+            optional!("initValue", Words),
         ],
         Kind::Runnable => &[
-            Field {
-                name: "shortName",
-                is_needed: true,
-                kind: Kind::DeclaredName,
-            },
-            Field {
-                name: "canBeInvokedConcurrently",
-                is_needed: false,
-                kind: Kind::Flag,
-            },
-            Field {
-                name: "accesses",
-                is_needed: false,
-                kind: Kind::Accesses,
-            },
-            Field {
-                name: "program",
-                is_needed: false,
-                kind: Kind::Statements,
-            },
+            needed!("shortName", DeclaredName),
+            optional!("canBeInvokedConcurrently", Flag),
+            optional!("accesses", Accesses),
+            optional!("program", Statements),
         ],
         Kind::TimingEvent => &[
-            Field {
-                name: "kind",
-                is_needed: true,
-                kind: Kind::EventKind,
-            },
-            Field {
-                name: "shortName",
-                is_needed: true,
-                kind: Kind::DeclaredName,
-            },
-            Field {
-                name: "runnable",
-                is_needed: true,
-                kind: Kind::RunnableName,
-            },
-            Field {
-                name: "period",
-                is_needed: true,
-                kind: Kind::Period,
-            },
-            Field {
-                name: "disabledInModes",
-                is_needed: false,
-                kind: Kind::DisabledModes,
-            },
+            needed!("kind", EventKind),
+            needed!("shortName", DeclaredName),
+            needed!("runnable", RunnableName),
+            needed!("period", Period),
+            optional!("disabledInModes", DisabledModes),
         ],
         Kind::InitEvent => &[
-            Field {
-                name: "kind",
-                is_needed: true,
-                kind: Kind::EventKind,
-            },
-            Field {
-                name: "shortName",
-                is_needed: true,
-                kind: Kind::DeclaredName,
-            },
-            Field {
-                name: "runnable",
-                is_needed: true,
-                kind: Kind::RunnableName,
-            },
-            Field {
-                name: "disabledInModes",
-                is_needed: false,
-                kind: Kind::DisabledModes,
-            },
+            needed!("kind", EventKind),
+            needed!("shortName", DeclaredName),
+            needed!("runnable", RunnableName),
+            optional!("disabledInModes", DisabledModes),
         ],
         Kind::DataReceivedEvent => &[
-            Field {
-                name: "kind",
-                is_needed: true,
-                kind: Kind::EventKind,
-            },
-            Field {
-                name: "shortName",
-                is_needed: true,
-                kind: Kind::DeclaredName,
-            },
-            Field {
-                name: "runnable",
-                is_needed: true,
-                kind: Kind::RunnableName,
-            },
-            Field {
-                name: "port",
-                is_needed: true,
-                kind: Kind::ComponentPort,
-            },
-            Field {
-                name: "element",
-                is_needed: true,
-                kind: Kind::EventItem,
-            },
-            Field {
-                name: "disabledInModes",
-                is_needed: false,
-                kind: Kind::DisabledModes,
-            },
+            needed!("kind", EventKind),
+            needed!("shortName", DeclaredName),
+            needed!("runnable", RunnableName),
+            needed!("port", ComponentPort),
+            needed!("element", EventItem),
+            optional!("disabledInModes", DisabledModes),
         ],
         Kind::OperationInvokedEvent => &[
-            Field {
-                name: "kind",
-                is_needed: true,
-                kind: Kind::EventKind,
-            },
-            Field {
-                name: "shortName",
-                is_needed: true,
-                kind: Kind::DeclaredName,
-            },
-            Field {
-                name: "runnable",
-                is_needed: true,
-                kind: Kind::RunnableName,
-            },
-            Field {
-                name: "port",
-                is_needed: true,
-                kind: Kind::ComponentPort,
-            },
-            Field {
-                name: "operation",
-                is_needed: true,
-                kind: Kind::EventItem,
-            },
-            Field {
-                name: "disabledInModes",
-                is_needed: false,
-                kind: Kind::DisabledModes,
-            },
+            needed!("kind", EventKind),
+            needed!("shortName", DeclaredName),
+            needed!("runnable", RunnableName),
+            needed!("port", ComponentPort),
+            needed!("operation", EventItem),
+            optional!("disabledInModes", DisabledModes),
         ],
         Kind::CallReturnsEvent => &[
-            Field {
-                name: "kind",
-                is_needed: true,
-                kind: Kind::EventKind,
-            },
-            Field {
-                name: "shortName",
-                is_needed: true,
-                kind: Kind::DeclaredName,
-            },
-            Field {
-                name: "runnable",
-                is_needed: true,
-                kind: Kind::RunnableName,
-            },
-            Field {
-                name: "port",
-                is_needed: true,
-                kind: Kind::ComponentPort,
-            },
-            Field {
-                name: "operation",
-                is_needed: true,
-                kind: Kind::EventItem,
-            },
-            Field {
-                name: "disabledInModes",
-                is_needed: false,
-                kind: Kind::DisabledModes,
-            },
+            needed!("kind", EventKind),
+            needed!("shortName", DeclaredName),
+            needed!("runnable", RunnableName),
+            needed!("port", ComponentPort),
+            needed!("operation", EventItem),
+            optional!("disabledInModes", DisabledModes),
         ],
         Kind::ModeSwitchEvent => &[
-            Field {
-                name: "kind",
-                is_needed: true,
-                kind: Kind::EventKind,
-            },
-            Field {
-                name: "shortName",
-                is_needed: true,
-                kind: Kind::DeclaredName,
-            },
-            Field {
-                name: "runnable",
-                is_needed: true,
-                kind: Kind::RunnableName,
-            },
-            Field {
-                name: "port",
-                is_needed: true,
-                kind: Kind::ComponentPort,
-            },
-            Field {
-                name: "activation",
-                is_needed: true,
-                kind: Kind::Activation,
-            },
-            Field {
-                name: "modes",
-                is_needed: true,
-                kind: Kind::OneMode,
-            },
-            Field {
-                name: "disabledInModes",
-                is_needed: false,
-                kind: Kind::DisabledModes,
-            },
+            needed!("kind", EventKind),
+            needed!("shortName", DeclaredName),
+            needed!("runnable", RunnableName),
+            needed!("port", ComponentPort),
+            needed!("activation", Activation),
+            needed!("modes", OneMode),
+            optional!("disabledInModes", DisabledModes),
         ],
         Kind::ModeTransitionEvent => &[
-            Field {
-                name: "kind",
-                is_needed: true,
-                kind: Kind::EventKind,
-            },
-            Field {
-                name: "shortName",
-                is_needed: true,
-                kind: Kind::DeclaredName,
-            },
-            Field {
-                name: "runnable",
-                is_needed: true,
-                kind: Kind::RunnableName,
-            },
-            Field {
-                name: "port",
-                is_needed: true,
-                kind: Kind::ComponentPort,
-            },
-            Field {
-                name: "activation",
-                is_needed: true,
-                kind: Kind::Activation,
-            },
-            Field {
-                name: "modes",
-                is_needed: true,
-                kind: Kind::TwoModes,
-            },
-            Field {
-                name: "disabledInModes",
-                is_needed: false,
-                kind: Kind::DisabledModes,
-            },
+            needed!("kind", EventKind),
+            needed!("shortName", DeclaredName),
+            needed!("runnable", RunnableName),
+            needed!("port", ComponentPort),
+            needed!("activation", Activation),
+            needed!("modes", TwoModes),
+            optional!("disabledInModes", DisabledModes),
         ],
         Kind::ModeSwitchAckEvent => &[
-            Field {
-                name: "kind",
-                is_needed: true,
-                kind: Kind::EventKind,
-            },
-            Field {
-                name: "shortName",
-                is_needed: true,
-                kind: Kind::DeclaredName,
-            },
-            Field {
-                name: "runnable",
-                is_needed: true,
-                kind: Kind::RunnableName,
-            },
-            Field {
-                name: "port",
-                is_needed: true,
-                kind: Kind::ComponentPort,
-            },
-            Field {
-                name: "disabledInModes",
-                is_needed: false,
-                kind: Kind::DisabledModes,
-            },
+            needed!("kind", EventKind),
+            needed!("shortName", DeclaredName),
+            needed!("runnable", RunnableName),
+            needed!("port", ComponentPort),
+            optional!("disabledInModes", DisabledModes),
         ],
         Kind::UnknownEvent => &[
-            Field {
-                name: "kind",
-                is_needed: true,
-                kind: Kind::EventKind,
-            },
-            Field {
-                name: "shortName",
-                is_needed: true,
-                kind: Kind::DeclaredName,
-            },
-            Field {
-                name: "runnable",
-                is_needed: true,
-                kind: Kind::RunnableName,
-            },
-            Field {
-                name: "period",
-                is_needed: false,
-                kind: Kind::Anything,
-            },
-            Field {
-                name: "port",
-                is_needed: false,
-                kind: Kind::Anything,
-            },
-            Field {
-                name: "element",
-                is_needed: false,
-                kind: Kind::Anything,
-            },
-            Field {
-                name: "operation",
-                is_needed: false,
-                kind: Kind::Anything,
-            },
-            Field {
-                name: "activation",
-                is_needed: false,
-                kind: Kind::Anything,
-            },
-            Field {
-                name: "modes",
-                is_needed: false,
-                kind: Kind::Anything,
-            },
-            Field {
-                name: "disabledInModes",
-                is_needed: false,
-                kind: Kind::Anything,
-            },
+            needed!("kind", EventKind),
+            needed!("shortName", DeclaredName),
+            needed!("runnable", RunnableName),
+            optional!("period", Anything),
+            optional!("port", Anything),
+            optional!("element", Anything),
+            optional!("operation", Anything),
+            optional!("activation", Anything),
+            optional!("modes", Anything),
+            optional!("disabledInModes", Anything),
         ],
         Kind::DisabledModes => &[
-            Field {
-                name: "port",
-                is_needed: true,
-                kind: Kind::ComponentPort,
-            },
-            Field {
-                name: "modes",
-                is_needed: false,
-                kind: Kind::SomeModes,
-            },
+            needed!("port", ComponentPort),
+            optional!("modes", SomeModes),
         ],
         Kind::Composition => &[
-            Field {
-                name: "shortName",
-                is_needed: true,
-                kind: Kind::DeclaredName,
-            },
-            Field {
-                name: "ports",
-                is_needed: false,
-                kind: Kind::Ports,
-            },
-            Field {
-                name: "prototypes",
-                is_needed: false,
-                kind: Kind::Prototypes,
-            },
-            Field {
-                name: "connectors",
-                is_needed: false,
-                kind: Kind::Connectors,
-            },
+            needed!("shortName", DeclaredName),
+            optional!("ports", Ports),
+            optional!("prototypes", Prototypes),
+            optional!("connectors", Connectors),
         ],
         Kind::Prototype => &[
-            Field {
-                name: "shortName",
-                is_needed: true,
-                kind: Kind::DeclaredName,
-            },
-            Field {
-                name: "type",
-                is_needed: true,
-                kind: Kind::PrototypeTypeName,
-            },
+            needed!("shortName", DeclaredName),
+            needed!("type", PrototypeTypeName),
         ],
         Kind::AssemblyConnector => &[
-            Field {
-                name: "kind",
-                is_needed: true,
-                kind: Kind::ConnectorKind,
-            },
-            Field {
-                name: "provider",
-                is_needed: true,
-                kind: Kind::PortOfPrototype,
-            },
-            Field {
-                name: "requester",
-                is_needed: true,
-                kind: Kind::PortOfPrototype,
-            },
+            needed!("kind", ConnectorKind),
+            needed!("provider", PortOfPrototype),
+            needed!("requester", PortOfPrototype),
         ],
         Kind::DelegationConnector => &[
-            Field {
-                name: "kind",
-                is_needed: true,
-                kind: Kind::ConnectorKind,
-            },
-            Field {
-                name: "inner",
-                is_needed: true,
-                kind: Kind::PortOfPrototype,
-            },
-            Field {
-                name: "outer",
-                is_needed: true,
-                kind: Kind::OuterPort,
-            },
+            needed!("kind", ConnectorKind),
+            needed!("inner", PortOfPrototype),
+            needed!("outer", OuterPort),
         ],
         Kind::UnknownConnector => &[
-            Field {
-                name: "kind",
-                is_needed: true,
-                kind: Kind::ConnectorKind,
-            },
-            Field {
-                name: "provider",
-                is_needed: false,
-                kind: Kind::Anything,
-            },
-            Field {
-                name: "requester",
-                is_needed: false,
-                kind: Kind::Anything,
-            },
-            Field {
-                name: "inner",
-                is_needed: false,
-                kind: Kind::Anything,
-            },
-            Field {
-                name: "outer",
-                is_needed: false,
-                kind: Kind::Anything,
-            },
+            needed!("kind", ConnectorKind),
+            optional!("provider", Anything),
+            optional!("requester", Anything),
+            optional!("inner", Anything),
+            optional!("outer", Anything),
         ],
         Kind::Mapping => &[
-            Field {
-                name: "cores",
-                is_needed: true,
-                kind: Kind::CoreCount,
-            },
-            Field {
-                name: "tasks",
-                is_needed: false,
-                kind: Kind::Tasks,
-            },
-            Field {
-                name: "events",
-                is_needed: false,
-                kind: Kind::MappedEvents,
-            },
+            needed!("cores", CoreCount),
+            optional!("tasks", Tasks),
+            optional!("events", MappedEvents),
         ],
         Kind::Task => &[
-            Field {
-                name: "shortName",
-                is_needed: true,
-                kind: Kind::DeclaredName,
-            },
-            Field {
-                name: "core",
-                is_needed: true,
-                kind: Kind::CoreNumber,
-            },
+            needed!("shortName", DeclaredName),
+            needed!("core", CoreNumber),
         ],
         Kind::MappedEvent => &[
-            Field {
-                name: "instance",
-                is_needed: true,
-                kind: Kind::InstancePath,
-            },
-            Field {
-                name: "event",
-                is_needed: true,
-                kind: Kind::EventName,
-            },
-            Field {
-                name: "task",
-                is_needed: true,
-                kind: Kind::TaskName,
-            },
-            Field {
-                name: "position",
-                is_needed: true,
-                kind: Kind::Position,
-            },
+            needed!("instance", InstancePath),
+            needed!("event", EventName),
+            needed!("task", TaskName),
+            needed!("position", Position),
         ],
         _ => &[],
     }
