@@ -1,7 +1,9 @@
 -- Sums that are held at a cap, step by step.
-use Rattle.std.proofs.Common.{◌≡◌, ◌+◌, ◌*◌, ◌≤◌, ◌<◌, min, ℕ, arith, List, length, drop, get_or, map}
+use Rattle.std.proofs.Common.{◌≡◌, ◌+◌, ◌*◌, ◌≤◌, ◌<◌, min, ℕ, zero, suc, inl, inr, arith, List, length, drop, get_or, map}
 use Rattle.std.proofs.lemmas.List.{drop_more}
-use Rattle.std.proofs.Math.Nat.{le-mul_of_pos_right}
+use Rattle.std.proofs.Math.Nat.{zero-mul}
+use Rattle.std.proofs.lemmas.Nat.{mul-le}
+use Rattle.std.proofs.lemmas.Bool.{cases_lt}
 use Rattle.runnable_lang.specs.declared.stmt.Expr.{Expr}
 use Rattle.runnable_lang.specs.declared.stmt.Stmt.{Stmt}
 use Rattle.runnable_lang.specs.Trees.{expr_tree, exprs, stmt_tree, body_tree}
@@ -21,4 +23,11 @@ body_turn list i d total h = rw (drop_more list i d h) (capped_turn total (stmt_
 
 -- a body so many times
 pub capped_product : (times cost cap : ℕ) → min (times * min cost cap) cap ≡ min (times * cost) cap
-capped_product times cost cap = ?
+capped_product zero cost cap = simp zero-mul
+capped_product (suc n) cost cap = elim (cases_lt cap cost) [
+    inl above ↦
+      let is_cap : min cost cap ≡ cap = omega arith in
+      rw is_cap (omega (arith, mul-le 1 cap (suc n) cap (omega arith) (omega arith), mul-le 1 cost (suc n) cost (omega arith) (omega arith)))
+  | inr below ↦
+      let is_cost : min cost cap ≡ cost = omega arith in
+      rw is_cost ]
