@@ -1,10 +1,11 @@
 -- The first path that a walk finds, step by step.
 use Rattle.std.proofs.Common.{◌≡◌, ◌+◌, ◌<◌, ℕ, Bool, true, false, refl, sym, ap, ◌∙◌, arith, List, [], ◌∷◌, ◌++◌, length, drop, get_or, map, Option, Some, None}
 use Rattle.std.proofs.lemmas.List.{drop_more}
-use Rattle.std.specs.Option.{option_or}
+use Rattle.std.specs.Option.{option_map}
 use Rattle.runnable_lang.specs.declared.stmt.Stmt.{Stmt}
 use Rattle.runnable_lang.specs.Trees.{ExprTree, StmtTree, chooses, repeats, in_area, BodyTree, done, next, stmt_tree, body_tree}
 use Rattle.runnable_lang.specs.Places.{Test, within, here, under, failing_in, failing_among, first}
+use Rattle.runnable_lang.specs.Refusals.{of_rule}
 use Rattle.runnable_lang.specs.Tests.{under_path}
 
 -- further out
@@ -68,3 +69,8 @@ next_turn fails around list i d h none =
 pub found_turn : (fails : Test) (around : Option ℕ) (list : List Stmt) (i : ℕ) (d : Stmt) (path : List ℕ) → i < length list → Some path ≡ first (failing_in fails around (stmt_tree (get_or list i d))) → Some (i ∷ path) ≡ first (failing_among fails around i (body_tree (drop i list)))
 found_turn fails around list i d path h some =
     rw (drop_more list i d h) (sym (first_before i (failing_in fails around (stmt_tree (get_or list i d))) _ (i ∷ path) (ap (under_path i) (sym some))))
+
+-- the first place of a rule
+pub rule_turn : (rule : ℕ) (paths : List (List ℕ)) → first (of_rule rule paths) ≡ option_map (λ path. (rule, path)) (first paths)
+rule_turn rule [] = refl
+rule_turn rule (p ∷ ps) = refl

@@ -35,15 +35,18 @@ is_too_large p = nat_lt 100000 (body_cost p.body) || nat_lt 256 p.vars
 abbrev pub failing : Test → ProgramTree → List (List ℕ)
 failing fails p = failing_among fails None 0 p.body
 
--- what is broken of a program, rule by rule, each at its places; the place of the whole program is the empty path
+-- the whole program is one place, the empty path
+abbrev pub whole : Bool → List (List ℕ)
+whole true = [] ∷ []
+whole false = []
+
+-- each place with the rule that is broken there
+abbrev pub of_rule : ℕ → List (List ℕ) → List (ℕ × List ℕ)
+of_rule rule paths = map (λ path. (rule, path)) paths
+
+-- what is broken of a program: rule by rule, each at its places
 abbrev pub broken : List AccessSig → ProgramTree → List (ℕ × List ℕ)
-broken accesses p = at 17 (failing (lacks_access accesses) p) ++ (at 18 (whole (is_too_large p)) ++ (at 19 (failing is_declared_before p) ++ at 20 (failing calls_inside p)))
-  where
-    at : ℕ → List (List ℕ) → List (ℕ × List ℕ)
-    at rule paths = map (λ path. (rule, path)) paths
-    whole : Bool → List (List ℕ)
-    whole true = [] ∷ []
-    whole false = []
+broken accesses p = of_rule 17 (failing (lacks_access accesses) p) ++ (of_rule 18 (whole (is_too_large p)) ++ (of_rule 19 (failing is_declared_before p) ++ of_rule 20 (failing calls_inside p)))
 
 -- the refusal of a program: the least rule that it breaks, with the first place
 abbrev pub refusal : List AccessSig → ProgramTree → Option (ℕ × List ℕ)

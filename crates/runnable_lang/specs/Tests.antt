@@ -21,3 +21,9 @@ items_of found = option_map (λ path. path.items) found
 -- the same from one level further out
 abbrev pub under_path : ℕ → Option (List ℕ) → Option (List ℕ)
 under_path position path = option_map (λ p. position ∷ p) path
+
+-- its number
+abbrev pub number_of : Rule → ℕ
+number_of rule.Access = 17
+number_of rule.AreaOrder = 19
+number_of rule.NoCallInArea = 20

@@ -22,6 +22,7 @@ pub enum Rule {
 }
 
 /// A walk that looks for the first statement that breaks a rule.
+#[derive(Drop)]
 pub struct Walk<'a> {
     pub rule: Rule,
     pub accesses: &'a [AccessSig],
