@@ -56,8 +56,8 @@ refusal accesses p = first (broken accesses p)
 abbrev pub program_tree : Program → ProgramTree
 program_tree p = record { vars = p.vars; body = body_tree p.body.items }
 
--- an answer tells the refusal, or that memory ran out
+-- an answer tells the refusal, and that memory ran out only where there is one
 abbrev pub Tells : {U : Type 0} → Option (ℕ × List ℕ) → Result U ProgramRefused → Type 0
 Tells refused (Ok u) = refused ≡ None
 Tells refused (Err (Broken rule path)) = refused ≡ Some (rule, path)
-Tells refused (Err Memory) = Unit {0}
+Tells refused (Err Memory) = is_some refused ≡ true

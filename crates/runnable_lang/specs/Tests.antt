@@ -1,5 +1,5 @@
 -- The tests that a walk applies, and the path that it has found.
-use Rattle.std.specs.Prelude.{ℕ, List, ◌∷◌, Option, Some, None, Vec}
+use Rattle.std.specs.Prelude.{◌≡◌, ℕ, List, ◌∷◌, Option, Some, None, is_some, true, Vec, Result, Ok, Err}
 use Rattle.std.specs.Option.{option_map}
 use Rattle.std.specs.declared.alloc.Global.{Global}
 use Rattle.runnable_lang.specs.declared.program.AccessSig.{AccessSig}
@@ -18,7 +18,12 @@ test_of rule.NoCallInArea accesses = calls_inside
 abbrev pub items_of : Option (Vec ℕ Global) → Option (List ℕ)
 items_of found = option_map (λ path. path.items) found
 
--- the same from one level further out
+-- a walk finds the path that is wanted, and lacks memory only where there is one
+abbrev pub Finds : {E : Type 0} → Option (List ℕ) → Result (Option (Vec ℕ Global)) E → Type 0
+Finds wanted (Ok found) = items_of found ≡ wanted
+Finds wanted (Err e) = is_some wanted ≡ true
+
+-- the same path from one level further out
 abbrev pub under_path : ℕ → Option (List ℕ) → Option (List ℕ)
 under_path position path = option_map (λ p. position ∷ p) path
 

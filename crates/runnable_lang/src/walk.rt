@@ -1,9 +1,9 @@
 //! The walk over the statements of a program, to the first that fails a test.
 
-ghost use Rattle.std.specs.Prelude.{◌≡◌, ◌∷◌, IfOk};
+ghost use Rattle.std.specs.Prelude.{◌≡◌};
 ghost use Rattle.runnable_lang.specs.Trees.{stmt_tree, body_tree};
 ghost use Rattle.runnable_lang.specs.Places.{first, failing_in, failing_among, within};
-ghost use Rattle.runnable_lang.specs.Tests.{test_of, items_of, under_path};
+ghost use Rattle.runnable_lang.specs.Tests.{test_of, items_of, under_path, Finds};
 
 use crate::access;
 use crate::program::AccessSig;
@@ -39,26 +39,19 @@ fn inside(around: Option<u32>, area: u32) -> Option<u32>
     }
 }
 
-/// A path, one level further out.
-fn under(position: u32, found: Option<Vec<u32>>) -> Result<Option<Vec<u32>>, AllocError>
-    ensures { IfOk result (λ above. items_of above ≡ under_path position (items_of found)) }
+/// A path, one level further out. A position beyond 32 bits counts as no memory.
+fn under(position: usize, found: Option<Vec<u32>>) -> Result<Option<Vec<u32>>, AllocError>
+    ensures { Finds (under_path position (items_of found)) result }
 {
     match found {
         None => Ok(None),
         Some(mut path) => {
+            let Ok(position) = u32::try_from(position) else {
+                return Err(AllocError);
+            };
             path.insert(0, position)?;
             Ok(Some(path))
         }
-    }
-}
-
-/// A path in a statement, from the body that holds it. A position beyond 32 bits counts as no memory.
-fn under_index(position: usize, found: Option<Vec<u32>>) -> Result<Option<Vec<u32>>, AllocError>
-    ensures { IfOk result (λ above. items_of above ≡ under_path position (items_of found)) }
-{
-    match u32::try_from(position) {
-        Ok(position) => under(position, found),
-        Err(_) => Err(AllocError),
     }
 }
 
@@ -82,31 +75,42 @@ impl Walk<'_> {
     /// The path, within the statement, of the first that breaks the rule.
     #[cycle(walk)]
     fn in_stmt(&self, around: Option<u32>, stmt: &Stmt) -> Result<Option<Vec<u32>>, AllocError>
-        ensures { IfOk result (λ found. items_of found ≡ first (failing_in (test_of self.now.rule self.now.accesses.now) around (stmt_tree stmt.now))) }
+        ensures { Finds (first (failing_in (test_of self.now.rule self.now.accesses.now) around (stmt_tree stmt.now))) result }
     {
         if self.fails(around, stmt) {
             return Ok(Some(Vec::new(self.alloc)));
         }
         match stmt {
-            Stmt::If { yes, no, .. } => match under(2, self.in_body(around, yes)?)? {
-                None => Ok(under(3, self.in_body(around, no)?)?),
+            Stmt::If { yes, no, .. } => match self.in_part(around, 2, yes)? {
+                None => self.in_part(around, 3, no),
                 Some(path) => Ok(Some(path)),
             },
-            Stmt::Repeat { body, .. } => Ok(under(2, self.in_body(around, body)?)?),
-            Stmt::Area { area, body } => Ok(under(2, self.in_body(inside(around, *area), body)?)?),
+            Stmt::Repeat { body, .. } => self.in_part(around, 2, body),
+            Stmt::Area { area, body } => self.in_part(inside(around, *area), 2, body),
             _ => Ok(None),
         }
     }
 
+    /// The path, within a statement that holds this body at `part`, of the first in the body that
+    /// breaks the rule.
+    #[cycle(walk)]
+    #[tactic(auto, using(crate::proofs::Firsts::under_is_some))]
+    fn in_part(&self, around: Option<u32>, part: usize, body: &[Stmt]) -> Result<Option<Vec<u32>>, AllocError>
+        ensures { Finds (under_path part (first (failing_among (test_of self.now.rule self.now.accesses.now) around 0 (body_tree body.now)))) result }
+    {
+        let found = self.in_body(around, body)?;
+        under(part, found)
+    }
+
     /// The path, within the statements, of the first that breaks the rule.
     #[cycle(walk)]
-    #[tactic(auto, using(crate::proofs::Firsts::next_turn, crate::proofs::Firsts::found_turn))]
+    #[tactic(auto, using(crate::proofs::Firsts::next_turn, crate::proofs::Firsts::held_turn))]
     pub fn in_body(&self, around: Option<u32>, body: &[Stmt]) -> Result<Option<Vec<u32>>, AllocError>
-        ensures { IfOk result (λ found. items_of found ≡ first (failing_among (test_of self.now.rule self.now.accesses.now) around 0 (body_tree body.now))) }
+        ensures { Finds (first (failing_among (test_of self.now.rule self.now.accesses.now) around 0 (body_tree body.now))) result }
     {
         for (position, stmt) in body.iter().enumerate() {
             if let Some(path) = self.in_stmt(around, stmt)? {
-                return Ok(under_index(position, Some(path))?);
+                return under(position, Some(path));
             }
         }
         Ok(None)
