@@ -25,9 +25,10 @@ body_turn list i d total h = rw (drop_more list i d h) (capped_turn total (stmt_
 pub capped_product : (times cost cap : ℕ) → min (times * min cost cap) cap ≡ min (times * cost) cap
 capped_product zero cost cap = simp zero-mul
 capped_product (suc n) cost cap = elim (cases_lt cap cost) [
-    inl above ↦
+  | inl above ↦
       let is_cap : min cost cap ≡ cap = omega arith in
       rw is_cap (omega (arith, mul-le 1 cap (suc n) cap (omega arith) (omega arith), mul-le 1 cost (suc n) cost (omega arith) (omega arith)))
   | inr below ↦
       let is_cost : min cost cap ≡ cost = omega arith in
-      rw is_cost ]
+      rw is_cost
+]

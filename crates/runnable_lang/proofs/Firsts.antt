@@ -55,7 +55,7 @@ second_is fails around s e one two is ok none =
     let ts = failing_among fails around 0 two in
     let ok' = rw is at ok in
     rw is (rw (passed (fails around (chooses e one two)) (under 2 os ++ under 3 ts) ok')
-      (first_after 2 os (under 3 ts) none ∙ first_under 3 ts))
+    (first_after 2 os (under 3 ts) none ∙ first_under 3 ts))
 
 -- an `if` of which the first body has one
 pub first_is : (fails : Test) (around : Option ℕ) (s : StmtTree) (e : ExprTree) (one two : BodyTree) (path : List ℕ) → s ≡ chooses e one two → fails around s ≡ false → under_path 2 (first (failing_among fails around 0 one)) ≡ Some path → first (failing_in fails around s) ≡ Some path
@@ -64,7 +64,7 @@ first_is fails around s e one two path is ok some =
     let ts = failing_among fails around 0 two in
     let ok' = rw is at ok in
     rw is (rw (passed (fails around (chooses e one two)) (under 2 os ++ under 3 ts) ok')
-      (first_before 2 os (under 3 ts) path some))
+    (first_before 2 os (under 3 ts) path some))
 
 -- the same where the path is not known
 pub first_is_some : (fails : Test) (around : Option ℕ) (s : StmtTree) (e : ExprTree) (one two : BodyTree) → s ≡ chooses e one two → fails around s ≡ false → is_some (under_path 2 (first (failing_among fails around 0 one))) ≡ true → is_some (first (failing_in fails around s)) ≡ true
@@ -73,7 +73,7 @@ first_is_some fails around s e one two is ok some =
     let ts = failing_among fails around 0 two in
     let ok' = rw is at ok in
     rw is (rw (passed (fails around (chooses e one two)) (under 2 os ++ under 3 ts) ok')
-      (first_held 2 os (under 3 ts) some))
+    (first_held 2 os (under 3 ts) some))
 
 -- further out there is one as well
 pub under_is_some : (i : ℕ) (path : Option (List ℕ)) → is_some path ≡ true → is_some (under_path i path) ≡ true

@@ -80,7 +80,14 @@ fn names(accesses: &[AccessSig], kind: AccessKind, port: u32, item: u32) -> bool
     ensures { result ≡ list_any (serves kind port item None None) accesses.now }
 {
     let (values, vars) = (None, None);
-    Need { kind, port, item, values, vars }.is_among(accesses)
+    Need {
+        kind,
+        port,
+        item,
+        values,
+        vars,
+    }
+    .is_among(accesses)
 }
 
 /// Whether there is one that has a word for each value given.
@@ -88,7 +95,14 @@ fn gives(accesses: &[AccessSig], kind: AccessKind, port: u32, item: u32, values:
     ensures { result ≡ list_any (serves kind port item (Some (length (exprs values.now))) None) accesses.now }
 {
     let (values, vars) = (Some(values.len()), None);
-    Need { kind, port, item, values, vars }.is_among(accesses)
+    Need {
+        kind,
+        port,
+        item,
+        values,
+        vars,
+    }
+    .is_among(accesses)
 }
 
 /// Whether there is one that has a word for each variable taken.
@@ -96,7 +110,14 @@ fn takes(accesses: &[AccessSig], kind: AccessKind, port: u32, item: u32, vars: &
     ensures { result ≡ list_any (serves kind port item None (Some (length vars.now))) accesses.now }
 {
     let (values, vars) = (None, Some(vars.len()));
-    Need { kind, port, item, values, vars }.is_among(accesses)
+    Need {
+        kind,
+        port,
+        item,
+        values,
+        vars,
+    }
+    .is_among(accesses)
 }
 
 /// Whether there is an access to the operation that has a word for each argument.
@@ -105,7 +126,14 @@ fn calls(accesses: &[AccessSig], port: u32, item: u32, values: &[Expr], vars: &[
 {
     let kind = AccessKind::Call;
     let (values, vars) = (Some(values.len()), Some(vars.len()));
-    Need { kind, port, item, values, vars }.is_among(accesses)
+    Need {
+        kind,
+        port,
+        item,
+        values,
+        vars,
+    }
+    .is_among(accesses)
 }
 
 /// Whether the statement has its access. It takes no memory.
@@ -116,21 +144,69 @@ pub fn is_served(stmt: &Stmt, accesses: &[AccessSig]) -> bool
     match stmt {
         Stmt::Set { .. } | Stmt::If { .. } | Stmt::Repeat { .. } => true,
         Stmt::Area { area, .. } => names(accesses, Kind::Enter, 0, *area),
-        Stmt::Write { port, item, values, .. } => gives(accesses, Kind::Write, *port, *item, values),
-        Stmt::Read { port, item, vars, .. } => takes(accesses, Kind::Read, *port, *item, vars),
+        Stmt::Write {
+            port,
+            item,
+            values,
+            ..
+        } => gives(accesses, Kind::Write, *port, *item, values),
+        Stmt::Read {
+            port,
+            item,
+            vars,
+            ..
+        } => takes(accesses, Kind::Read, *port, *item, vars),
         Stmt::Invalidate { port, item, .. } => names(accesses, Kind::Invalidate, *port, *item),
         Stmt::IsUpdated { port, item, .. } => names(accesses, Kind::IsUpdated, *port, *item),
-        Stmt::Send { port, item, values, .. } => gives(accesses, Kind::Send, *port, *item, values),
-        Stmt::Receive { port, item, vars, .. } => takes(accesses, Kind::Receive, *port, *item, vars),
+        Stmt::Send {
+            port,
+            item,
+            values,
+            ..
+        } => gives(accesses, Kind::Send, *port, *item, values),
+        Stmt::Receive {
+            port,
+            item,
+            vars,
+            ..
+        } => takes(accesses, Kind::Receive, *port, *item, vars),
         Stmt::IWrite { port, item, values } => gives(accesses, Kind::IWrite, *port, *item, values),
         Stmt::IRead { port, item, vars } => takes(accesses, Kind::IRead, *port, *item, vars),
-        Stmt::IrvWrite { variable, values } => gives(accesses, Kind::IrvWrite, 0, *variable, values),
+        Stmt::IrvWrite { variable, values } => gives(
+            accesses,
+            Kind::IrvWrite,
+            0,
+            *variable,
+            values,
+        ),
         Stmt::IrvRead { variable, vars } => takes(accesses, Kind::IrvRead, 0, *variable, vars),
-        Stmt::IrvIWrite { variable, values } => gives(accesses, Kind::IrvIWrite, 0, *variable, values),
+        Stmt::IrvIWrite { variable, values } => gives(
+            accesses,
+            Kind::IrvIWrite,
+            0,
+            *variable,
+            values,
+        ),
         Stmt::IrvIRead { variable, vars } => takes(accesses, Kind::IrvIRead, 0, *variable, vars),
-        Stmt::Call { port, item, values, vars, .. } => calls(accesses, *port, *item, values, vars),
-        Stmt::ACall { port, item, values, .. } => gives(accesses, Kind::ACall, *port, *item, values),
-        Stmt::TakeResult { port, item, vars, .. } => takes(accesses, Kind::TakeResult, *port, *item, vars),
+        Stmt::Call {
+            port,
+            item,
+            values,
+            vars,
+            ..
+        } => calls(accesses, *port, *item, values, vars),
+        Stmt::ACall {
+            port,
+            item,
+            values,
+            ..
+        } => gives(accesses, Kind::ACall, *port, *item, values),
+        Stmt::TakeResult {
+            port,
+            item,
+            vars,
+            ..
+        } => takes(accesses, Kind::TakeResult, *port, *item, vars),
         Stmt::Switch { port, mode, .. } => has_switch(accesses, *port, *mode),
         Stmt::Mode { port, .. } => names(accesses, Kind::Mode, *port, 0),
     }

@@ -35,10 +35,17 @@ fn check_rule(alloc: Global, rule: Rule, p: &Program, s: &Signature) -> Result<(
     ensures { Tells (first (of_rule (number_of rule) (failing (test_of rule s.now.accesses) (program_tree p.now)))) result }
 {
     let accesses = s.accesses.items();
-    let walk = Walk { rule, accesses, alloc };
+    let walk = Walk {
+        rule,
+        accesses,
+        alloc,
+    };
     match walk.in_body(None, &p.body)? {
         None => Ok(()),
-        Some(path) => Err(ProgramRefused::Broken { rule: number(rule), path: Seq::of(path) }),
+        Some(path) => Err(ProgramRefused::Broken {
+            rule: number(rule),
+            path: Seq::of(path),
+        }),
     }
 }
 
@@ -47,7 +54,10 @@ fn check_size(alloc: Global, p: &Program) -> Result<(), ProgramRefused>
     ensures { Tells (first (of_rule 18 (whole (is_too_large (program_tree p.now))))) result }
 {
     if cost::of_body(&p.body) > COST_LIMIT || p.vars > VARS_LIMIT {
-        return Err(ProgramRefused::Broken { rule: 18, path: Seq::of(Vec::new(alloc)) });
+        return Err(ProgramRefused::Broken {
+            rule: 18,
+            path: Seq::of(Vec::new(alloc)),
+        });
     }
     Ok(())
 }

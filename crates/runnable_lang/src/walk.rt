@@ -95,7 +95,12 @@ impl Walk<'_> {
     /// breaks the rule.
     #[cycle(walk)]
     #[tactic(auto, using(crate::proofs::Firsts::under_is_some))]
-    fn in_part(&self, around: Option<u32>, part: usize, body: &[Stmt]) -> Result<Option<Vec<u32>>, AllocError>
+    fn in_part(
+        &self,
+        around: Option<u32>,
+        part: usize,
+        body: &[Stmt],
+    ) -> Result<Option<Vec<u32>>, AllocError>
         ensures { Finds (under_path part (first (failing_among (test_of self.now.rule self.now.accesses.now) around 0 (body_tree body.now)))) result }
     {
         let found = self.in_body(around, body)?;
@@ -105,7 +110,11 @@ impl Walk<'_> {
     /// The path, within the statements, of the first that breaks the rule.
     #[cycle(walk)]
     #[tactic(auto, using(crate::proofs::Firsts::next_turn, crate::proofs::Firsts::held_turn))]
-    pub fn in_body(&self, around: Option<u32>, body: &[Stmt]) -> Result<Option<Vec<u32>>, AllocError>
+    pub fn in_body(
+        &self,
+        around: Option<u32>,
+        body: &[Stmt],
+    ) -> Result<Option<Vec<u32>>, AllocError>
         ensures { Finds (first (failing_among (test_of self.now.rule self.now.accesses.now) around 0 (body_tree body.now))) result }
     {
         for (position, stmt) in body.iter().enumerate() {

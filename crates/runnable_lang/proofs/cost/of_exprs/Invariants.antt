@@ -6,5 +6,5 @@ use Rattle.runnable_lang.proofs.cost.of_exprs.Given as goal
 abbrev pub invariant-loop-expr : goal.invariant-loop-expr
 invariant-loop-expr l = record {
   is_capped : l.total ≤ 100001;
-  is_left : min (l.total + exprs_cost (exprs (drop l.expr-index l.list))) 100001 ≡ min (exprs_cost (exprs l.list)) 100001
+  is_left : min (l.total + exprs_cost (exprs (drop l.expr-index l.list))) 100001 ≡ min (exprs_cost (exprs l.list)) 100001;
 }
