@@ -8,6 +8,7 @@ ghost use Rattle.runnable_lang.specs.Tests.{test_of, number_of};
 use crate::cost;
 use crate::program::{Program, Signature};
 use crate::refused::ProgramRefused;
+use crate::table::Table;
 use crate::walk::{Rule, Walk};
 use rte_text::Seq;
 use std::alloc::Global;
@@ -31,13 +32,12 @@ fn number(rule: Rule) -> u16
 
 /// Whether no statement breaks the rule.
 #[tactic(auto, using(crate::proofs::Firsts::rule_turn))]
-fn check_rule(alloc: Global, rule: Rule, p: &Program, s: &Signature) -> Result<(), ProgramRefused>
-    ensures { Tells (first (of_rule (number_of rule) (failing (test_of rule s.now.accesses) (program_tree p.now)))) result }
+fn check_rule(alloc: Global, rule: Rule, p: &Program, table: &Table) -> Result<(), ProgramRefused>
+    ensures { Tells (first (of_rule (number_of rule) (failing (test_of rule table.now.accesses.now) (program_tree p.now)))) result }
 {
-    let accesses = s.accesses.items();
     let walk = Walk {
         rule,
-        accesses,
+        table,
         alloc,
     };
     match walk.in_body(None, &p.body)? {
@@ -62,6 +62,17 @@ fn check_size(alloc: Global, p: &Program) -> Result<(), ProgramRefused>
     Ok(())
 }
 
+/// Whether the program breaks no rule, from the least on.
+fn check_rules(alloc: Global, p: &Program, table: &Table) -> Result<(), ProgramRefused>
+    ensures { Tells (refusal table.now.accesses.now (program_tree p.now)) result }
+{
+    check_rule(alloc, Rule::Access, p, table)?;
+    check_size(alloc, p)?;
+    check_rule(alloc, Rule::AreaOrder, p, table)?;
+    check_rule(alloc, Rule::NoCallInArea, p, table)?;
+    Ok(())
+}
+
 /// Whether a program may run with this signature: each statement has its access (17), the program is
 /// small enough (18), areas stand inside areas that were declared before them (19), and no call
 /// stands inside an area (20). An error of `Broken` names the least of these that is broken and the
@@ -71,9 +82,6 @@ fn check_size(alloc: Global, p: &Program) -> Result<(), ProgramRefused>
 pub fn check_program(alloc: Global, p: &Program, s: &Signature) -> Result<(), ProgramRefused>
     ensures { Tells (refusal s.now.accesses (program_tree p.now)) result }
 {
-    check_rule(alloc, Rule::Access, p, s)?;
-    check_size(alloc, p)?;
-    check_rule(alloc, Rule::AreaOrder, p, s)?;
-    check_rule(alloc, Rule::NoCallInArea, p, s)?;
-    Ok(())
+    let table = Table::new(alloc, s.accesses.items());
+    check_rules(alloc, p, &table)
 }

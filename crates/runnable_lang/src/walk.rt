@@ -6,8 +6,8 @@ ghost use Rattle.runnable_lang.specs.Places.{first, failing_in, failing_among, w
 ghost use Rattle.runnable_lang.specs.Tests.{test_of, items_of, under_path, Finds};
 
 use crate::access;
-use crate::program::AccessSig;
 use crate::stmt::Stmt;
+use crate::table::Table;
 use std::alloc::{AllocError, Global};
 
 /// A rule that looks at one statement and what stands around it.
@@ -25,7 +25,7 @@ pub enum Rule {
 #[derive(Drop)]
 pub struct Walk<'a> {
     pub rule: Rule,
-    pub accesses: &'a [AccessSig],
+    pub table: &'a Table<'a>,
     pub alloc: Global,
 }
 
@@ -58,10 +58,10 @@ fn under(position: usize, found: Option<Vec<u32>>) -> Result<Option<Vec<u32>>, A
 impl Walk<'_> {
     /// Whether the statement breaks the rule.
     fn fails(&self, around: Option<u32>, stmt: &Stmt) -> bool
-        ensures { result ≡ test_of self.now.rule self.now.accesses.now around (stmt_tree stmt.now) }
+        ensures { result ≡ test_of self.now.rule self.now.table.now.accesses.now around (stmt_tree stmt.now) }
     {
         match self.rule {
-            Rule::Access => !access::is_served(stmt, self.accesses),
+            Rule::Access => !access::is_served(stmt, self.table),
             Rule::AreaOrder => match (around, stmt) {
                 (Some(greatest), Stmt::Area { area, .. }) => *area <= greatest,
                 _ => false,
@@ -75,7 +75,7 @@ impl Walk<'_> {
     /// The path, within the statement, of the first that breaks the rule.
     #[cycle(walk)]
     fn in_stmt(&self, around: Option<u32>, stmt: &Stmt) -> Result<Option<Vec<u32>>, AllocError>
-        ensures { Finds (first (failing_in (test_of self.now.rule self.now.accesses.now) around (stmt_tree stmt.now))) result }
+        ensures { Finds (first (failing_in (test_of self.now.rule self.now.table.now.accesses.now) around (stmt_tree stmt.now))) result }
     {
         if self.fails(around, stmt) {
             return Ok(Some(Vec::new(self.alloc)));
@@ -101,7 +101,7 @@ impl Walk<'_> {
         part: usize,
         body: &[Stmt],
     ) -> Result<Option<Vec<u32>>, AllocError>
-        ensures { Finds (under_path part (first (failing_among (test_of self.now.rule self.now.accesses.now) around 0 (body_tree body.now)))) result }
+        ensures { Finds (under_path part (first (failing_among (test_of self.now.rule self.now.table.now.accesses.now) around 0 (body_tree body.now)))) result }
     {
         let found = self.in_body(around, body)?;
         under(part, found)
@@ -115,7 +115,7 @@ impl Walk<'_> {
         around: Option<u32>,
         body: &[Stmt],
     ) -> Result<Option<Vec<u32>>, AllocError>
-        ensures { Finds (first (failing_among (test_of self.now.rule self.now.accesses.now) around 0 (body_tree body.now))) result }
+        ensures { Finds (first (failing_among (test_of self.now.rule self.now.table.now.accesses.now) around 0 (body_tree body.now))) result }
     {
         for (position, stmt) in body.iter().enumerate() {
             if let Some(path) = self.in_stmt(around, stmt)? {

@@ -8,7 +8,7 @@ use Rattle.runnable_lang.proofs.walk.Walk.+walk.Goals as goal
 
 pub in_stmt-returns-in-Repeat : goal.in_stmt-returns-in-Repeat
 in_stmt-returns-in-Repeat t c =
-    let fails = test_of c.args.self.now.rule c.args.self.now.accesses.now in
+    let fails = test_of c.args.self.now.rule c.args.self.now.table.now.accesses.now in
     let s = stmt_tree c.args.stmt.now in
     let body = body_tree c.in-Repeat.body.items in
     let is : s ≡ repeats c.in-Repeat.times body = ap stmt_tree c.in-Repeat.is ∙ tree_of_repeat c.in-Repeat.times c.in-Repeat.body in
@@ -17,7 +17,7 @@ in_stmt-returns-in-Repeat t c =
 
 pub in_stmt-returns-in-Area : goal.in_stmt-returns-in-Area
 in_stmt-returns-in-Area t c =
-    let fails = test_of c.args.self.now.rule c.args.self.now.accesses.now in
+    let fails = test_of c.args.self.now.rule c.args.self.now.table.now.accesses.now in
     let s = stmt_tree c.args.stmt.now in
     let body = body_tree c.in-Area.body.items in
     let is : s ≡ in_area c.in-Area.area body = ap stmt_tree c.in-Area.is ∙ tree_of_area c.in-Area.area c.in-Area.body in
@@ -27,7 +27,7 @@ in_stmt-returns-in-Area t c =
 
 pub in_stmt-returns-in-None : goal.in_stmt-returns-in-None
 in_stmt-returns-in-None t c =
-    let fails = test_of c.args.self.now.rule c.args.self.now.accesses.now in
+    let fails = test_of c.args.self.now.rule c.args.self.now.table.now.accesses.now in
     let s = stmt_tree c.args.stmt.now in
     let one = body_tree c.in-If.yes.items in
     let two = body_tree c.in-If.no.items in
@@ -38,7 +38,7 @@ in_stmt-returns-in-None t c =
 
 pub in_stmt-returns-in_err-in_part-in-If : goal.in_stmt-returns-in_err-in_part-in-If
 in_stmt-returns-in_err-in_part-in-If t c =
-    let fails = test_of c.args.self.now.rule c.args.self.now.accesses.now in
+    let fails = test_of c.args.self.now.rule c.args.self.now.table.now.accesses.now in
     let s = stmt_tree c.args.stmt.now in
     let one = body_tree c.in-If.yes.items in
     let two = body_tree c.in-If.no.items in
@@ -48,7 +48,7 @@ in_stmt-returns-in_err-in_part-in-If t c =
 
 pub in_stmt-returns-in-Some : goal.in_stmt-returns-in-Some
 in_stmt-returns-in-Some t c =
-    let fails = test_of c.args.self.now.rule c.args.self.now.accesses.now in
+    let fails = test_of c.args.self.now.rule c.args.self.now.table.now.accesses.now in
     let s = stmt_tree c.args.stmt.now in
     let one = body_tree c.in-If.yes.items in
     let two = body_tree c.in-If.no.items in
@@ -59,7 +59,7 @@ in_stmt-returns-in-Some t c =
 
 pub in_body-returns-in-Some : goal.in_body-returns-in-Some
 in_body-returns-in-Some t c =
-    let fails = test_of c.args.self.now.rule c.args.self.now.accesses.now in
+    let fails = test_of c.args.self.now.rule c.args.self.now.table.now.accesses.now in
     let item = c.index-body-position.result in
     let i = c.loop-position.position in
     let found : Some c.in-Some.path.items ≡ first (failing_in fails c.args.around (stmt_tree item)) = sym (ap items_of c.in-Some.is) ∙ c.in_ok-path.ensures in
