@@ -1,5 +1,5 @@
 -- The greatest number of the areas around a statement tells all that the rules ask of them.
-use Rattle.std.proofs.Common.{◌≡◌, ℕ, max, Bool, true, false, not, ◌&&◌, ◌||◌, nat_lt, nat_le, refl, ap, ◌∙◌, arith, List, [], ◌∷◌, length, ◌==◌, Option, Some, None, is_some}
+use Rattle.std.proofs.Common.{◌≡◌, ℕ, Bool, true, false, not, ◌&&◌, ◌||◌, nat_lt, refl, ap, ◌∙◌, arith, List, [], ◌∷◌, length, ◌==◌, Option, Some, None, is_some}
 use Rattle.std.specs.List.{list_all}
 use Rattle.std.proofs.lemmas.Bool.Decides.{nat_tests}
 use Rattle.runnable_lang.specs.Trees.{BodyTree, in_area}
