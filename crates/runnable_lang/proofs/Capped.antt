@@ -1,5 +1,5 @@
 -- Sums that are held at a cap, step by step.
-use Rattle.std.proofs.Common.{◌≡◌, ◌+◌, ◌*◌, ◌≤◌, ◌<◌, min, ℕ, zero, suc, inl, inr, arith, List, length, drop, get_or, map}
+use Rattle.std.proofs.Common.{◌≡◌, ◌+◌, ◌*◌, ◌<◌, min, ℕ, zero, suc, inl, inr, arith, List, length, drop, get_or}
 use Rattle.std.proofs.lemmas.List.{drop_more}
 use Rattle.std.proofs.Math.Nat.{zero-mul}
 use Rattle.std.proofs.lemmas.Nat.{mul-le}

@@ -1,10 +1,10 @@
 -- The first path that a walk finds, step by step.
-use Rattle.std.proofs.Common.{◌≡◌, ◌+◌, ◌<◌, ℕ, Bool, true, false, refl, sym, ap, ◌∙◌, arith, List, [], ◌∷◌, ◌++◌, length, drop, get_or, map, Option, Some, None, is_some, Result, Ok, Err, Vec, Global}
+use Rattle.std.proofs.Common.{◌≡◌, ◌+◌, ◌<◌, ℕ, Bool, true, false, refl, sym, ap, ◌∙◌, List, [], ◌∷◌, ◌++◌, length, drop, get_or, Option, Some, None, is_some, Result, Ok, Err, Vec, Global}
 use Rattle.std.proofs.lemmas.List.{drop_more}
 use Rattle.std.specs.Option.{option_map}
 use Rattle.std.specs.Result.{IsErr}
 use Rattle.runnable_lang.specs.declared.stmt.Stmt.{Stmt}
-use Rattle.runnable_lang.specs.Trees.{ExprTree, StmtTree, chooses, repeats, in_area, BodyTree, done, next, stmt_tree, body_tree}
+use Rattle.runnable_lang.specs.Trees.{ExprTree, StmtTree, chooses, repeats, in_area, BodyTree, stmt_tree, body_tree}
 use Rattle.runnable_lang.specs.Places.{Test, within, here, under, failing_in, failing_among, first}
 use Rattle.runnable_lang.specs.Refusals.{of_rule}
 use Rattle.runnable_lang.specs.Tests.{under_path, Finds}

@@ -1,3 +1,4 @@
 pub mod Capped
 pub mod Firsts
 pub mod Views
+pub mod Areas

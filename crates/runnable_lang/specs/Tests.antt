@@ -1,5 +1,5 @@
 -- The tests that a walk applies, and the path that it has found.
-use Rattle.std.specs.Prelude.{◌≡◌, ℕ, List, ◌∷◌, Option, Some, None, is_some, true, Vec, Result, Ok, Err}
+use Rattle.std.specs.Prelude.{◌≡◌, ℕ, List, ◌∷◌, Option, is_some, true, Vec, Result, Ok, Err}
 use Rattle.std.specs.Option.{option_map}
 use Rattle.std.specs.declared.alloc.Global.{Global}
 use Rattle.runnable_lang.specs.declared.program.AccessSig.{AccessSig}

@@ -57,7 +57,10 @@ impl Need {
         {
             return true;
         }
-        table.accesses.iter().any(|access| self.is_served_by(access))
+        table
+            .accesses
+            .iter()
+            .any(|access| self.is_served_by(access))
     }
 }
 
@@ -78,7 +81,10 @@ fn has_switch(table: &Table, port: u32, mode: u32) -> bool
     {
         return true;
     }
-    table.accesses.iter().any(|access| is_switch(access, port, mode))
+    table
+        .accesses
+        .iter()
+        .any(|access| is_switch(access, port, mode))
 }
 
 /// Whether there is an access of this kind, port and item.
@@ -178,21 +184,9 @@ pub fn is_served(stmt: &Stmt, table: &Table) -> bool
         } => takes(table, Kind::Receive, *port, *item, vars),
         Stmt::IWrite { port, item, values } => gives(table, Kind::IWrite, *port, *item, values),
         Stmt::IRead { port, item, vars } => takes(table, Kind::IRead, *port, *item, vars),
-        Stmt::IrvWrite { variable, values } => gives(
-            table,
-            Kind::IrvWrite,
-            0,
-            *variable,
-            values,
-        ),
+        Stmt::IrvWrite { variable, values } => gives(table, Kind::IrvWrite, 0, *variable, values),
         Stmt::IrvRead { variable, vars } => takes(table, Kind::IrvRead, 0, *variable, vars),
-        Stmt::IrvIWrite { variable, values } => gives(
-            table,
-            Kind::IrvIWrite,
-            0,
-            *variable,
-            values,
-        ),
+        Stmt::IrvIWrite { variable, values } => gives(table, Kind::IrvIWrite, 0, *variable, values),
         Stmt::IrvIRead { variable, vars } => takes(table, Kind::IrvIRead, 0, *variable, vars),
         Stmt::Call {
             port,

@@ -35,11 +35,7 @@ fn number(rule: Rule) -> u16
 fn check_rule(alloc: Global, rule: Rule, p: &Program, table: &Table) -> Result<(), ProgramRefused>
     ensures { Tells (first (of_rule (number_of rule) (failing (test_of rule table.now.accesses.now) (program_tree p.now)))) result }
 {
-    let walk = Walk {
-        rule,
-        table,
-        alloc,
-    };
+    let walk = Walk { rule, table, alloc };
     match walk.in_body(None, &p.body)? {
         None => Ok(()),
         Some(path) => Err(ProgramRefused::Broken {

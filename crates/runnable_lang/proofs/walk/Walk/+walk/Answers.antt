@@ -1,6 +1,6 @@
-use Rattle.std.proofs.Common.{rules, ◌≡◌, ◌∷◌, ℕ, ◌+◌, ◌<◌, length, Bool, true, false, List, sym, ap, ◌∙◌, subst, Option, Some, None, is_some}
-use Rattle.runnable_lang.specs.Trees.{StmtTree, stmt_tree, body_tree, expr_tree, chooses, repeats, in_area}
-use Rattle.runnable_lang.specs.Places.{first, failing_in, failing_among, within}
+use Rattle.std.proofs.Common.{◌≡◌, ◌∷◌, sym, ap, ◌∙◌, subst, Some, None}
+use Rattle.runnable_lang.specs.Trees.{stmt_tree, body_tree, expr_tree, chooses, repeats, in_area}
+use Rattle.runnable_lang.specs.Places.{first, failing_in, failing_among}
 use Rattle.runnable_lang.specs.Tests.{test_of, items_of, under_path, Finds}
 use Rattle.runnable_lang.proofs.Firsts.{repeat_is, area_is, first_is, first_is_some, second_is, found_turn, finds_at_err}
 use Rattle.runnable_lang.proofs.Views.{tree_of_if, tree_of_repeat, tree_of_area}
