@@ -1,0 +1,172 @@
+use super::judges;
+use std::test::Fail;
+
+// Keys of a description, and the rule that they break with its place.
+#[test]
+fn judges_lists_of_the_whole(rt: HostRuntime) -> Result<(), Fail> {
+    judges(
+        &rt,
+        rt.alloc(),
+        &[
+            ("", 0, ""),
+            (r#","colour":1"#, 2, "/"),
+            (r#","dataTypes":{}"#, 2, "/dataTypes"),
+            (
+                r#","dataTypes":[{"shortName":"T","baseType":"uint8","lower":-0,"upper":1.0,"words":1}]"#,
+                2,
+                "/dataTypes/0/lower",
+            ),
+            (
+                r#","dataTypes":[{"shortName":"T","baseType":"uint8","lower":0,"upper":1e2,"words":17}]"#,
+                2,
+                "/dataTypes/0/upper",
+            ),
+            (
+                r#","dataTypes":[{"shortName":"T","baseType":"uint64","lower":0,"upper":9223372036854775808,"words":1}]"#,
+                2,
+                "/dataTypes/0/baseType",
+            ),
+            (
+                r#","dataTypes":[{"shortName":"T","baseType":"uint8","lower":0,"upper":9223372036854775808,"words":1}]"#,
+                2,
+                "/dataTypes/0/upper",
+            ),
+            (
+                r#","modeGroups":[{"shortName":"G","initialMode":"A"}]"#,
+                2,
+                "/modeGroups/0",
+            ),
+            (
+                r#","modeGroups":[{"shortName":"G","modes":[],"initialMode":"A"}]"#,
+                2,
+                "/modeGroups/0/modes",
+            ),
+            (r#","mapping":{"cores":9}"#, 2, "/mapping/cores"),
+            (
+                r#","mapping":{"cores":1,"tasks":[{"shortName":"T","core":"0"}]}"#,
+                2,
+                "/mapping/tasks/0/core",
+            ),
+            (
+                r#","mapping":{"cores":1,"events":[{"instance":"w/x","event":"E","task":"T","position":65536}]}"#,
+                2,
+                "/mapping/events/0/position",
+            ),
+            (
+                r#","dataTypes":[{}],"mapping":{"cores":1,"tasks":[{"shortName":"a234567890123456789012345678901234"}]}"#,
+                2,
+                "/dataTypes/0",
+            ),
+        ],
+    )
+}
+
+#[test]
+fn judges_kinds(rt: HostRuntime) -> Result<(), Fail> {
+    judges(
+        &rt,
+        rt.alloc(),
+        &[
+            (
+                r#","interfaces":[{"kind":"SenderReceiverInterface","shortName":"I"}]"#,
+                0,
+                "",
+            ),
+            (
+                r#","interfaces":[{"kind":"Other","shortName":"I","operations":[]}]"#,
+                2,
+                "/interfaces/0/kind",
+            ),
+            (
+                r#","interfaces":[{"kind":"Other","operations":[]}]"#,
+                2,
+                "/interfaces/0",
+            ),
+            (
+                r#","interfaces":[{"kind":7,"shortName":"I"}]"#,
+                2,
+                "/interfaces/0/kind",
+            ),
+            (
+                r#","interfaces":[{"kind":"SenderReceiverInterface","shortName":"I","operations":[]}]"#,
+                2,
+                "/interfaces/0",
+            ),
+            (
+                r#","interfaces":[{"kind":"ClientServerInterface","shortName":"I","operations":[{"shortName":"o","arguments":[{"shortName":"a","type":"T","direction":"inout"}]}]}]"#,
+                2,
+                "/interfaces/0/operations/0/arguments/0/direction",
+            ),
+            (
+                r#","interfaces":[{"kind":"ModeSwitchInterface","shortName":"I"}]"#,
+                2,
+                "/interfaces/0",
+            ),
+            (
+                r#","compositions":[{"shortName":"Top","connectors":[{"kind":"AssemblySwConnector","provider":["a"],"requester":["b","q"]}]}]"#,
+                2,
+                "/compositions/0/connectors/0/provider",
+            ),
+            (
+                r#","compositions":[{"shortName":"Top","connectors":[{"kind":"DelegationSwConnector","provider":["a","p"]}]}]"#,
+                2,
+                "/compositions/0/connectors/0",
+            ),
+            (
+                r#","components":[{"shortName":"C","behavior":{"events":[{"kind":"TimingEvent","shortName":"E","runnable":"Go","period":0}]}}]"#,
+                2,
+                "/components/0/behavior/events/0/period",
+            ),
+            (
+                r#","components":[{"shortName":"C","behavior":{"events":[{"kind":"SwcModeSwitchEvent","shortName":"E","runnable":"Go","port":"p","activation":"onTransition","modes":["A"]}]}}]"#,
+                2,
+                "/components/0/behavior/events/0/modes",
+            ),
+            (
+                r#","components":[{"shortName":"C","behavior":{"events":[{"kind":"InitEvent","shortName":"E","runnable":"Go","port":"p"}]}}]"#,
+                2,
+                "/components/0/behavior/events/0",
+            ),
+        ],
+    )
+}
+
+#[test]
+fn judges_programs(rt: HostRuntime) -> Result<(), Fail> {
+    judges(
+        &rt,
+        rt.alloc(),
+        &[
+            (
+                r#","components":[{"shortName":"C","behavior":{"runnables":[{"shortName":"Go","accesses":[["write","p"]]}]}}]"#,
+                2,
+                "/components/0/behavior/runnables/0/accesses/0",
+            ),
+            (
+                r#","components":[{"shortName":"C","behavior":{"runnables":[{"shortName":"Go","program":[["set","v",["add",1]]]}]}}]"#,
+                2,
+                "/components/0/behavior/runnables/0/program/0/2",
+            ),
+            (
+                r#","components":[{"shortName":"C","behavior":{"runnables":[{"shortName":"Go","program":[["jump"]]}]}}]"#,
+                2,
+                "/components/0/behavior/runnables/0/program/0",
+            ),
+            (
+                r#","components":[{"shortName":"C","behavior":{"runnables":[{"shortName":"Go","program":[["area","a",[["repeat",2,[["if","x",[],[["repeat",1001,[]]]]]]]]]}]}}]"#,
+                2,
+                "/components/0/behavior/runnables/0/program/0/2/0/2/0/3/0/1",
+            ),
+            (
+                r#","components":[{"shortName":"C","behavior":{"runnables":[{"shortName":"Go","program":[["set","a2345678901234567890123456789012",1],["set","a23456789012345678901234567890123",1]]}]}}]"#,
+                3,
+                "/components/0/behavior/runnables/0/program/1/1",
+            ),
+            (
+                r#","components":[{"shortName":"C","behavior":{"runnables":[{"shortName":"1o","program":[["set","_",1]]}]}}]"#,
+                3,
+                "/components/0/behavior/runnables/0/shortName",
+            ),
+        ],
+    )
+}

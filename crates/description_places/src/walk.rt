@@ -1,0 +1,121 @@
+//! The walk over a description.
+
+ghost use Rattle.std.specs.Prelude.{◌≡◌, IfOk, option_map, string_bytes, length, ◌≤◌};
+ghost use Rattle.serde_json.specs.Data.{array, object};
+ghost use Rattle.serde_json.specs.View.{view, items_view, members_view};
+ghost use Rattle.description_places.specs.Forms.{form_of};
+ghost use Rattle.description_places.specs.Keys.{key_of, keys_of};
+ghost use Rattle.description_places.specs.Spots.{inside, inside_part};
+ghost use Rattle.description_places.specs.Trails.{spot_of};
+ghost use Rattle.description_places.specs.Visits.{visits, items_visits, members_visits, in_array, in_object, at_key, part_of, first_broken};
+
+use crate::alternatives::resolved;
+use crate::form::{Form, form_of};
+use crate::keys::{Field, keys_of};
+use crate::kind::Kind;
+use crate::rows::row_of;
+use crate::rule::Rule;
+use crate::trail::Trail;
+use rte_text::Memory;
+use serde_json::{Map, Value};
+use std::alloc::Global;
+
+/// The place of the first value that breaks the rule, in document order, of the value that stands here and of what it
+/// holds. The only error is that there is no memory for the place.
+#[cycle(walk)]
+pub fn first_fault<R: Rule>(
+    alloc: Global,
+    rule: &R,
+    value: &Value,
+    kind: Kind,
+    trail: &Trail,
+) -> Result<Option<String>, Memory>
+    ensures { IfOk result (λ found. option_map string_bytes found
+        ≡ first_broken R.breaks (visits (view value.now) kind (spot_of trail.now))) }
+{
+    let kind = resolved(kind, value);
+    if rule.is_broken(value, kind, trail) {
+        let place = trail.place(alloc)?;
+        return Ok(Some(place));
+    }
+    match value {
+        Value::Array(parts) => first_in_parts(alloc, rule, parts, value, kind, trail),
+        Value::Object(members) => first_in_members(alloc, rule, members, value, kind, trail),
+        _ => Ok(None),
+    }
+}
+
+#[cycle(walk)]
+fn first_in_parts<R: Rule>(
+    alloc: Global,
+    rule: &R,
+    parts: &[Value],
+    owner: &Value,
+    kind: Kind,
+    trail: &Trail,
+) -> Result<Option<String>, Memory>
+    ensures { IfOk result (λ found. option_map string_bytes found
+        ≡ first_broken R.breaks (in_array kind (view owner.now) (spot_of trail.now) (items_visits (items_view parts.now)))) }
+{
+    for index in 0..parts.len() {
+        let inner = Trail::Part(&*trail, &*owner, kind, index);
+        match first_fault(alloc, rule, &parts[index], part_of(kind, index), &inner)? {
+            Some(place) => return Ok(Some(place)),
+            None => {}
+        }
+    }
+    Ok(None)
+}
+
+#[cycle(walk)]
+fn first_in_members<R: Rule>(
+    alloc: Global,
+    rule: &R,
+    members: &Map<String, Value>,
+    owner: &Value,
+    kind: Kind,
+    trail: &Trail,
+) -> Result<Option<String>, Memory>
+    ensures { IfOk result (λ found. option_map string_bytes found
+        ≡ first_broken R.breaks (in_object kind (view owner.now) (spot_of trail.now) (members_visits (members_view members.now.entries)))) }
+{
+    for key in keys_of(kind) {
+        match first_at_key(alloc, rule, members, key, owner, kind, trail)? {
+            Some(place) => return Ok(Some(place)),
+            None => {}
+        }
+    }
+    Ok(None)
+}
+
+#[cycle(walk)]
+fn first_at_key<R: Rule>(
+    alloc: Global,
+    rule: &R,
+    members: &Map<String, Value>,
+    key: &Field,
+    owner: &Value,
+    kind: Kind,
+    trail: &Trail,
+) -> Result<Option<String>, Memory>
+    ensures { IfOk result (λ found. option_map string_bytes found
+        ≡ first_broken R.breaks (at_key (key_of key.now) (inside (spot_of trail.now) kind (view owner.now)) (members_visits (members_view members.now.entries)))) }
+{
+    match members.get(key.name) {
+        Some(value) => {
+            let inner = Trail::Member(&*trail, &*owner, kind, key.name);
+            first_fault(alloc, rule, value, key.kind, &inner)
+        }
+        None => Ok(None),
+    }
+}
+
+fn part_of(kind: Kind, index: usize) -> Kind
+    ensures { result ≡ part_of (form_of kind) kind index }
+{
+    match form_of(kind) {
+        Form::List(part) | Form::Counted(_, _, part) => part,
+        Form::Row => row_of(kind).get(index).copied().unwrap_or(Kind::Anything),
+        _ => Kind::Anything,
+    }
+}
