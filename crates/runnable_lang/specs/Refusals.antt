@@ -1,10 +1,9 @@
 -- The rules of programs: what breaks each, and which is refused.
 use Rattle.std.specs.Prelude.{◌≡◌, ℕ, List, [], ◌∷◌, ◌++◌, map, Bool, true, false, ◌&&◌, ◌||◌, not, nat_lt, nat_le, is_some, Option, Some, None, Result, Ok, Err}
 use Rattle.runnable_lang.specs.declared.program.AccessSig.{AccessSig}
-use Rattle.runnable_lang.specs.declared.program.Program.{Program}
 use Rattle.runnable_lang.specs.declared.refused.ProgramRefused.{ProgramRefused}
 use Rattle.runnable_lang.specs.declared.refused.ProgramRefused.TheVariants.{Broken, Memory}
-use Rattle.runnable_lang.specs.Trees.{StmtTree, in_area, calls, calls_and_goes_on, ProgramTree, body_tree}
+use Rattle.runnable_lang.specs.Trees.{StmtTree, in_area, calls, calls_and_goes_on, ProgramTree}
 use Rattle.runnable_lang.specs.Accesses.{has_access}
 use Rattle.runnable_lang.specs.Costs.{body_cost}
 use Rattle.runnable_lang.specs.Places.{Test, failing_among, first}
@@ -51,10 +50,6 @@ broken accesses p = of_rule 17 (failing (lacks_access accesses) p) ++ (of_rule 1
 -- the refusal of a program: the least rule that it breaks, with the first place
 abbrev pub refusal : List AccessSig → ProgramTree → Option (ℕ × List ℕ)
 refusal accesses p = first (broken accesses p)
-
--- the tree that a program is
-abbrev pub program_tree : Program → ProgramTree
-program_tree p = record { vars = p.vars; body = body_tree p.body.items }
 
 -- an answer tells the refusal, and that memory ran out only where there is one
 abbrev pub Tells : {U : Type 0} → Option (ℕ × List ℕ) → Result U ProgramRefused → Type 0

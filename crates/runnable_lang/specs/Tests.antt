@@ -14,6 +14,12 @@ test_of rule.Access accesses = lacks_access accesses
 test_of rule.AreaOrder accesses = is_declared_before
 test_of rule.NoCallInArea accesses = calls_inside
 
+-- its number
+abbrev pub number_of : Rule → ℕ
+number_of rule.Access = 17
+number_of rule.AreaOrder = 19
+number_of rule.NoCallInArea = 20
+
 -- the path that was found
 abbrev pub items_of : Option (Vec ℕ Global) → Option (List ℕ)
 items_of found = option_map (λ path. path.items) found
@@ -26,9 +32,3 @@ Finds wanted (Err e) = is_some wanted ≡ true
 -- the same path from one level further out
 abbrev pub under_path : ℕ → Option (List ℕ) → Option (List ℕ)
 under_path position path = option_map (λ p. position ∷ p) path
-
--- its number
-abbrev pub number_of : Rule → ℕ
-number_of rule.Access = 17
-number_of rule.AreaOrder = 19
-number_of rule.NoCallInArea = 20

@@ -2,8 +2,9 @@
 
 ghost use Rattle.std.specs.Prelude.{◌≡◌};
 ghost use Rattle.runnable_lang.specs.Places.{first};
-ghost use Rattle.runnable_lang.specs.Refusals.{failing, is_too_large, whole, of_rule, refusal, program_tree, Tells};
+ghost use Rattle.runnable_lang.specs.Refusals.{failing, is_too_large, whole, of_rule, refusal, Tells};
 ghost use Rattle.runnable_lang.specs.Tests.{test_of, number_of};
+ghost use Rattle.runnable_lang.specs.Trees.{program_tree};
 
 use crate::cost;
 use crate::program::{Program, Signature};
