@@ -1,4 +1,4 @@
--- Which statements have the access that they need (SWS_RTE, the API calls that a runnable's accesses give it): one of the signature with their kind, port and item, that has a word for each value given and for each variable taken.
+-- Which statements have the access that they need: one of the signature with their kind, port and item, that has a word for each value given and for each variable taken.
 use Rattle.std.specs.Prelude.{ℕ, List, length, Bool, true, ◌&&◌, ◌==◌, nat_lt, Option, Some, None}
 use Rattle.std.specs.List.{list_any}
 use Rattle.runnable_lang.specs.declared.program.AccessKind.{AccessKind}
