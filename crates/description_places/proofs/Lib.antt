@@ -1,3 +1,5 @@
+pub mod Gathers
 pub mod Members
+pub mod Repeated
 pub mod Tables
 pub mod Walks

@@ -1,4 +1,5 @@
 pub mod Alternatives
+pub mod Declarations
 pub mod Forms
 pub mod Keys
 pub mod Names

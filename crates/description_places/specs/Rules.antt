@@ -6,6 +6,7 @@ use Rattle.serde_json.specs.Read.{read}
 use Rattle.rte_text.specs.declared.refusal.Refused.{Refused}
 use Rattle.rte_text.specs.declared.refusal.Refused.TheVariants.{Rule, Memory}
 use Rattle.description_places.specs.declared.kind.Kind.TheVariants.{Description}
+use Rattle.description_places.specs.Declarations.{declarations, first_repeated}
 use Rattle.description_places.specs.Forms.{form_of}
 use Rattle.description_places.specs.Names.{is_name, is_name_form}
 use Rattle.description_places.specs.Shape.{holds, has_shape}
@@ -19,6 +20,8 @@ breaks_shape v = not (has_shape v.kind v.value)
 -- rule 3: each name has 1 to 32 bytes, a letter, then letters, digits and _
 abbrev pub breaks_names : Visit → Bool
 breaks_names v = is_name_form (form_of v.kind) && not (holds is_name (as_str v.value))
+
+-- Rule 4: what a list declares has distinct names; the place is the second one. Lists of names that refer declare none.
 
 -- the values of the description d in document order
 abbrev pub visits_of : Data → List Visit
@@ -39,7 +42,8 @@ abbrev pub refusal : Data → Option (ℕ × List ℕ)
 refusal d =
     least_of 2 (first_broken breaks_shape (visits_of d))
     (least_of 3 (first_broken breaks_names (visits_of d))
-    None)
+    (least_of 4 (first_repeated [] (declarations (visits_of d)))
+    None))
 
 -- the bytes are a value that serde_json reads
 abbrev pub Reads : List ℕ → Data → Type 0

@@ -14,13 +14,19 @@
 //!   its own place; of an interface, event or connector of unknown `kind` the `kind` is broken, but the object where a
 //!   key is missing that every kind has or one stands there that no kind has.
 //! - Rule 3: each name has 1 to 32 bytes, a letter, then letters, digits and `_`.
+//! - Rule 4: the names that one list declares are distinct; components and compositions count as one list, com specs of
+//!   one port name distinct elements, the accesses of one runnable are distinct, and so are the positions in one task,
+//!   which are compared by the task's text. The place is the second one: the name, the access or the position. What is
+//!   declared is gathered by a second walk, `gather`, with the place of its list, and looked up by hash.
 //!
 //! Places are JSON pointers (RFC 6901), and the whole is `/`. A number that is written as `-0`, with a fraction or with an
 //! exponent is no whole number; of doubled keys the last one stands.
 #![tactic(auto)]
 
 mod alternatives;
+mod distinct;
 mod form;
+mod gathering;
 mod judging;
 mod keys;
 mod kind;
@@ -35,7 +41,9 @@ mod trail;
 mod walk;
 
 pub use alternatives::{Alternative, choices_of, resolved};
+pub use distinct::first_repeated;
 pub use form::{Form, form_of};
+pub use gathering::{Declaration, gather};
 pub use judging::judge;
 pub use keys::{Field, keys_of};
 pub use kind::Kind;

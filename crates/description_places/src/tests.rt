@@ -1,3 +1,4 @@
+mod names;
 mod shapes;
 
 use crate::judge;

@@ -110,7 +110,7 @@ fn first_at_key<R: Rule>(
     }
 }
 
-fn part_of(kind: Kind, index: usize) -> Kind
+pub(crate) fn part_of(kind: Kind, index: usize) -> Kind
     ensures { result ≡ part_of (form_of kind) kind index }
 {
     match form_of(kind) {
