@@ -44,8 +44,8 @@ abbrev pub fits : Form → Kind → Data → Bool
 fits form.Anything kind d = true
 fits form.Nothing kind d = false
 fits form.Object kind d = holds (λ ms. has_needed (keys_of kind) ms && has_only (keys_of kind) ms) (as_object d)
-fits (form.List part) kind d = is_some (as_array d)
-fits (form.Counted least most part) kind d = holds (is_within least most) (part_count d)
+fits (form.List _) kind d = is_some (as_array d)
+fits (form.Counted least most _) kind d = holds (is_within least most) (part_count d)
 fits form.Row kind d = holds (λ n. n == length (row_of kind)) (part_count d)
 fits form.Name kind d = is_some (as_str d)
 fits form.Text kind d = is_some (as_str d)
