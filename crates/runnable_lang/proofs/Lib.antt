@@ -1,0 +1,4 @@
+pub mod Capped
+pub mod Firsts
+pub mod Views
+pub mod Areas
