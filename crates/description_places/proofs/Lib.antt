@@ -1,4 +1,6 @@
+pub mod Found
 pub mod Gathers
+pub mod Lookups
 pub mod Members
 pub mod Repeated
 pub mod Tables

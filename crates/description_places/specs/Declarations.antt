@@ -1,89 +1,109 @@
 -- What a description declares, and the first that was declared before.
-use Rattle.std.specs.Prelude.{ℕ, zero, suc, List, [], ◌∷◌, ◌++◌, Option, Some, None, option_and_then, unwrap_or, bytes_eq, codes, if◌then◌else◌, string_bytes}
+use Rattle.std.specs.Prelude.{ℕ, List, [], ◌∷◌, ◌++◌, Bool, map, Option, Some, None, option_map, option_and_then, unwrap_or, bytes_eq, codes, string_bytes}
 use Rattle.std.specs.Fmt.{decimal}
-use Rattle.std.specs.List.{list_any, flat_map}
+use Rattle.std.specs.List.{find, list_any, flat_map}
 use Rattle.serde_json.specs.Data.{Data, array, Items, no_items, item}
-use Rattle.serde_json.specs.Find.{get, as_str, as_number, as_u64}
+use Rattle.serde_json.specs.Find.{as_number, as_u64}
 use Rattle.description_places.specs.declared.gathering.Declaration.{Declaration}
 use Rattle.description_places.specs.declared.kind.Kind.{Kind}
-use Rattle.description_places.specs.declared.kind.Kind.TheVariants.{Composition, DeclaredName, DeclaredMode, DeclaredArea, ComSpecItem, Position, ItemAccess, VariableAccess, PortAccess, AreaAccess}
+use Rattle.description_places.specs.declared.kind.Kind.TheVariants.{Composition, DataElement, Operation, Port, Prototype, DeclaredName, DeclaredMode, DeclaredArea, ComSpecItem, Position, ItemAccess, VariableAccess, PortAccess, AreaAccess}
+use Rattle.description_places.specs.Around.{text_in, text_at, named, place_at, value_at, owner_of}
 use Rattle.description_places.specs.Spots.{Level}
 use Rattle.description_places.specs.Visits.{Visit}
 
--- Something that a description declares: its key is the place of the list that declares it with its name, as
--- `/components/0/ports/speed`, and two declarations of one key are not distinct. Its place is where it is declared.
+-- Something that a description declares.
 pub record Declared : Type 0 where
+  -- the list that declares it with its name there, as `/components/0/ports/speed`
   pub key : List ℕ
+  -- where it is declared
   pub place : List ℕ
+  -- the kind of the object or list that its name stands in
+  pub owner : Kind
+  -- what it leads to: a port to its interface and a prototype to its type, by their keys, all others to their own place
+  pub leads_to : List ℕ
 
 -- the declaration that the program's stands for
 abbrev pub declared_of : Declaration → Declared
-declared_of d = record { key = string_bytes d.key; place = string_bytes d.place }
+declared_of d = record { key = string_bytes d.key; place = string_bytes d.place; owner = d.owner; leads_to = string_bytes d.leads_to }
 
--- the place of a value round another, 0 the innermost
-abbrev pub place_at : ℕ → List Level → List ℕ
-place_at n [] = []
-place_at zero (l ∷ ls) = l.place
-place_at (suc n) (l ∷ ls) = place_at n ls
+-- the list that an object's `shortName` is declared in: components and compositions count as one list, and so do the
+-- items of an interface, whatever list of it they stand in
+abbrev pub list_of_object : Kind → List Level → List ℕ
+list_of_object Composition around = codes "/components"
+list_of_object DataElement around = place_at 2 around
+list_of_object Operation around = place_at 2 around
+list_of_object _ around = place_at 1 around
 
--- a text, and the text at a key, each empty where there is none
-abbrev pub text_in : Data → List ℕ
-text_in d = unwrap_or (as_str d) []
+-- the list that declares a value of the kind, if it is declared
+abbrev pub list_of : Kind → List Level → Option (List ℕ)
+list_of DeclaredName around = Some (list_of_object (owner_of around) around)
+list_of DeclaredMode around = Some (place_at 0 around)
+list_of DeclaredArea around = Some (place_at 0 around)
+list_of ComSpecItem around = Some (place_at 1 around)
+list_of Position around = Some (place_at 1 around)
+list_of ItemAccess around = Some (place_at 0 around)
+list_of VariableAccess around = Some (place_at 0 around)
+list_of PortAccess around = Some (place_at 0 around)
+list_of AreaAccess around = Some (place_at 0 around)
+list_of _ around = None
 
-abbrev pub text_at : List ℕ → Data → List ℕ
-text_at key d = unwrap_or (option_and_then as_str (get key d)) []
-
-abbrev pub named : List ℕ → List ℕ → List ℕ
-named scope name = (scope ++ codes "/") ++ name
-
-abbrev pub scope_in : Kind → List Level → List ℕ
-scope_in Composition ls = codes "/components"
-scope_in _ ls = place_at 0 ls
-
--- The list that an object's `shortName` is declared in. Components and compositions count as one list.
-abbrev pub object_scope : List Level → List ℕ
-object_scope [] = []
-object_scope (l ∷ ls) = scope_in l.kind ls
-
--- the parts of an access
+-- the parts of an access, each after a space
 abbrev pub parts_text : Items → List ℕ
 parts_text no_items = []
-parts_text (item d ds) = codes "/" ++ (text_in d ++ parts_text ds)
+parts_text (item d ds) = codes " " ++ (text_in d ++ parts_text ds)
 
--- a position in a task
-abbrev pub position_text : List Level → Data → List ℕ
-position_text [] d = []
-position_text (l ∷ ls) d = named (named (place_at 0 ls) (text_at (codes "task") l.value)) (decimal (unwrap_or (option_and_then as_u64 (as_number d)) 0))
+abbrev pub access_name : Data → List ℕ
+access_name (array ds) = parts_text ds
+access_name _ = []
 
-abbrev pub access_text : Data → List ℕ
-access_text (array ds) = parts_text ds
-access_text _ = []
+-- a task, a space and a position in it
+abbrev pub position_name : Data → Data → List ℕ
+position_name mapped d = (text_at (codes "task") mapped ++ codes " ") ++ decimal (unwrap_or (option_and_then as_u64 (as_number d)) 0)
 
--- the key of what a visit declares
+-- the name of a value of the kind in the list that declares it
+abbrev pub name_of : Kind → Data → List Level → List ℕ
+name_of Position d around = position_name (value_at 0 around) d
+name_of ItemAccess d around = access_name d
+name_of VariableAccess d around = access_name d
+name_of PortAccess d around = access_name d
+name_of AreaAccess d around = access_name d
+name_of _ d around = text_in d
+
 abbrev pub key_of_kind : Kind → Data → List Level → Option (List ℕ)
-key_of_kind DeclaredName d around = Some (named (object_scope around) (text_in d))
-key_of_kind DeclaredMode d around = Some (named (place_at 0 around) (text_in d))
-key_of_kind DeclaredArea d around = Some (named (place_at 0 around) (text_in d))
-key_of_kind ComSpecItem d around = Some (named (place_at 1 around) (text_in d))
-key_of_kind Position d around = Some (position_text around d)
-key_of_kind ItemAccess d around = Some (place_at 0 around ++ access_text d)
-key_of_kind VariableAccess d around = Some (place_at 0 around ++ access_text d)
-key_of_kind PortAccess d around = Some (place_at 0 around ++ access_text d)
-key_of_kind AreaAccess d around = Some (place_at 0 around ++ access_text d)
-key_of_kind _ d around = None
+key_of_kind kind d around = option_map (λ list. named list (name_of kind d around)) (list_of kind around)
 
-abbrev pub declared_at : List ℕ → Option (List ℕ) → List Declared
-declared_at place None = []
-declared_at place (Some key) = record { key = key; place = place } ∷ []
+-- what a declared name leads to, of the object that it is the `shortName` of
+abbrev pub end_of_object : Kind → Data → List ℕ → List ℕ
+end_of_object Port d place = named (codes "/interfaces") (text_at (codes "interface") d)
+end_of_object Prototype d place = named (codes "/components") (text_at (codes "type") d)
+end_of_object _ d place = place
+
+abbrev pub end_of : List Level → List ℕ
+end_of around = end_of_object (owner_of around) (value_at 0 around) (place_at 0 around)
+
+abbrev pub declared_at : Visit → Option (List ℕ) → List Declared
+declared_at v None = []
+declared_at v (Some key) = record { key = key; place = v.place; owner = owner_of v.around; leads_to = end_of v.around } ∷ []
 
 abbrev pub declared_by : Visit → List Declared
-declared_by v = declared_at v.place (key_of_kind v.kind v.value v.around)
+declared_by v = declared_at v (key_of_kind v.kind v.value v.around)
 
 -- what some visits declare, in order
 abbrev pub declarations : List Visit → List Declared
 declarations vs = flat_map declared_by vs
 
--- the place of the first declaration whose key is among those seen, or was declared before it
-abbrev pub first_repeated : List (List ℕ) → List Declared → Option (List ℕ)
-first_repeated seen [] = None
-first_repeated seen (x ∷ xs) = if list_any (bytes_eq x.key) seen then Some x.place else first_repeated (seen ++ x.key ∷ []) xs
+-- each declaration with those before it
+abbrev pub with_earlier : List Declared → List (Declared × List Declared)
+with_earlier [] = []
+with_earlier (x ∷ xs) = (x, []) ∷ map (λ p. (p.0, x ∷ p.1)) (with_earlier xs)
+
+abbrev pub has_key : List ℕ → Declared → Bool
+has_key key d = bytes_eq key d.key
+
+-- a declaration is repeated where an earlier one has its key
+abbrev pub is_repeated : Declared × List Declared → Bool
+is_repeated p = list_any (has_key p.0.key) p.1
+
+-- the place of the first one that is repeated
+abbrev pub first_repeated : List Declared → Option (List ℕ)
+first_repeated ds = option_map (λ p. p.0.place) (find is_repeated (with_earlier ds))

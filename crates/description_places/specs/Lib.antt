@@ -1,11 +1,14 @@
 pub mod Alternatives
+pub mod Around
 pub mod Declarations
 pub mod Forms
 pub mod Keys
 pub mod Names
+pub mod References
 pub mod Rows
 pub mod Rules
 pub mod Shape
 pub mod Spots
+pub mod Tables
 pub mod Trails
 pub mod Visits

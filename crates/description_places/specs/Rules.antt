@@ -6,9 +6,10 @@ use Rattle.serde_json.specs.Read.{read}
 use Rattle.rte_text.specs.declared.refusal.Refused.{Refused}
 use Rattle.rte_text.specs.declared.refusal.Refused.TheVariants.{Rule, Memory}
 use Rattle.description_places.specs.declared.kind.Kind.TheVariants.{Description}
-use Rattle.description_places.specs.Declarations.{declarations, first_repeated}
+use Rattle.description_places.specs.Declarations.{Declared, declarations, first_repeated}
 use Rattle.description_places.specs.Forms.{form_of}
 use Rattle.description_places.specs.Names.{is_name, is_name_form}
+use Rattle.description_places.specs.References.{breaks_references}
 use Rattle.description_places.specs.Shape.{holds, has_shape}
 use Rattle.description_places.specs.Spots.{top}
 use Rattle.description_places.specs.Visits.{Visit, visits, first_broken}
@@ -21,11 +22,15 @@ breaks_shape v = not (has_shape v.kind v.value)
 abbrev pub breaks_names : Visit → Bool
 breaks_names v = is_name_form (form_of v.kind) && not (holds is_name (as_str v.value))
 
--- Rule 4: what a list declares has distinct names; the place is the second one. Lists of names that refer declare none.
-
--- the values of the description d in document order
+-- the values of the description d in document order, and what they declare
 abbrev pub visits_of : Data → List Visit
 visits_of d = visits d Description top
+
+abbrev pub declarations_of : Data → List Declared
+declarations_of d = declarations (visits_of d)
+
+-- Rule 4: what a list declares has distinct names; the place is the second one. Lists of names that refer declare none.
+-- Rule 5: what the names refer to is declared.
 
 -- a place as it is written: a JSON pointer, the whole as `/`
 abbrev pub written : List ℕ → List ℕ
@@ -37,13 +42,19 @@ abbrev pub least_of : ℕ → Option (List ℕ) → Option (ℕ × List ℕ) →
 least_of rule (Some place) later = Some (rule, written place)
 least_of rule None later = later
 
+-- the refusal of what the description d declares and refers to
+abbrev pub refusal_of_names : Data → Option (ℕ × List ℕ)
+refusal_of_names d =
+    least_of 4 (first_repeated (declarations_of d))
+    (least_of 5 (first_broken (breaks_references (declarations_of d)) (visits_of d))
+    None)
+
 -- the refusal of the description d: the least rule that is broken, with its first place
 abbrev pub refusal : Data → Option (ℕ × List ℕ)
 refusal d =
     least_of 2 (first_broken breaks_shape (visits_of d))
     (least_of 3 (first_broken breaks_names (visits_of d))
-    (least_of 4 (first_repeated [] (declarations (visits_of d)))
-    None))
+    (refusal_of_names d))
 
 -- the bytes are a value that serde_json reads
 abbrev pub Reads : List ℕ → Data → Type 0

@@ -2,13 +2,15 @@
 
 ghost use Rattle.std.specs.Prelude.{◌≡◌, ◌++◌, IfOk, OnOk, map, option_map, string_bytes, Some};
 ghost use Rattle.serde_json.specs.View.{view, items_view, members_view};
-ghost use Rattle.description_places.specs.Declarations.{declared_of, declared_by, declarations, key_of_kind, place_at, named, text_in, text_at, object_scope, parts_text, access_text, position_text};
+ghost use Rattle.description_places.specs.Around.{named, value_at, owner_of};
+ghost use Rattle.description_places.specs.Declarations.{declared_of, declared_by, declarations, list_of_object, list_of, parts_text, access_name, position_name, name_of, key_of_kind, end_of_object, end_of};
 ghost use Rattle.description_places.specs.Keys.{key_of};
 ghost use Rattle.description_places.specs.Spots.{inside};
 ghost use Rattle.description_places.specs.Trails.{spot_of};
 ghost use Rattle.description_places.specs.Visits.{visits, visit_at, items_visits, members_visits, in_array, in_object, at_key};
 
 use crate::alternatives::resolved;
+use crate::around::{named, owner_of, place_at, text_around, text_in};
 use crate::keys::{Field, keys_of};
 use crate::kind::Kind;
 use crate::trail::Trail;
@@ -21,96 +23,95 @@ use std::alloc::Global;
 /// Something that a description declares.
 #[derive(Drop)]
 pub struct Declaration {
-    /// The place of the list that declares it, with its name.
+    /// The list that declares it, with its name there.
     pub key: String,
     /// Where it is declared.
     pub place: String,
+    /// The kind of the object or list that its name stands in.
+    pub owner: Kind,
+    /// What it leads to: a port to its interface and a prototype to its type, by their keys, all others to their own place.
+    pub leads_to: String,
 }
 
-fn text_in(value: &Value) -> &str
-    ensures { result.now ≡ text_in (view value.now) }
+fn list_of_object(alloc: Global, trail: &Trail) -> Result<String, Memory>
+    ensures { IfOk result (λ text. string_bytes text
+        ≡ list_of_object (owner_of ((spot_of trail.now).around)) ((spot_of trail.now).around)) }
 {
-    match value.as_str() {
-        Some(text) => text,
-        None => "",
+    match owner_of(trail) {
+        Kind::Composition => Ok(String::from_str(alloc, "/components")?),
+        Kind::DataElement | Kind::Operation => place_at(alloc, trail, 2),
+        _ => place_at(alloc, trail, 1),
     }
 }
 
-fn text_at<'a>(value: &'a Value, key: &str) -> &'a str
-    ensures { result.now ≡ text_at key.now (view value.now) }
+fn list_of(alloc: Global, kind: Kind, trail: &Trail) -> Result<Option<String>, Memory>
+    ensures { IfOk result (λ list. option_map string_bytes list ≡ list_of kind ((spot_of trail.now).around)) }
 {
-    match value.get(key).and_then(Value::as_str) {
-        Some(text) => text,
-        None => "",
+    match kind {
+        Kind::DeclaredName => Ok(Some(list_of_object(alloc, trail)?)),
+        Kind::DeclaredMode
+        | Kind::DeclaredArea
+        | Kind::ItemAccess
+        | Kind::VariableAccess
+        | Kind::PortAccess
+        | Kind::AreaAccess => Ok(Some(place_at(alloc, trail, 0)?)),
+        Kind::ComSpecItem | Kind::Position => Ok(Some(place_at(alloc, trail, 1)?)),
+        _ => Ok(None),
     }
 }
 
-fn named(scope: String, name: &str) -> Result<String, Memory>
-    ensures { IfOk result (λ text. string_bytes text ≡ named (string_bytes scope) name.now) }
-{
-    let mut text = scope;
-    text.push_str("/")?;
-    text.push_str(name)?;
-    Ok(text)
-}
-
-fn place_at(alloc: Global, trail: &Trail, steps: u8) -> Result<String, Memory>
-    ensures { IfOk result (λ text. string_bytes text ≡ place_at steps ((spot_of trail.now).around)) }
-{
-    match trail {
-        Trail::Whole => Ok(String::new(alloc)),
-        Trail::Member(outer, _, _, _) | Trail::Part(outer, _, _, _) => if steps == 0 {
-            outer.place(alloc)
-        } else {
-            place_at(alloc, *outer, steps - 1)
-        },
-    }
-}
-
-fn object_scope(alloc: Global, trail: &Trail) -> Result<String, Memory>
-    ensures { IfOk result (λ text. string_bytes text ≡ object_scope ((spot_of trail.now).around)) }
-{
-    match trail {
-        Trail::Whole => Ok(String::new(alloc)),
-        Trail::Member(outer, _, kind, _) | Trail::Part(outer, _, kind, _) => match kind {
-            Kind::Composition => String::from_str(alloc, "/components"),
-            _ => place_at(alloc, *outer, 0),
-        },
-    }
-}
-
-fn position_text(alloc: Global, value: &Value, trail: &Trail) -> Result<String, Memory>
-    ensures { IfOk result (λ text. string_bytes text ≡ position_text ((spot_of trail.now).around) (view value.now)) }
-{
-    match trail {
-        Trail::Whole => Ok(String::new(alloc)),
-        Trail::Member(outer, owner, _, _) | Trail::Part(outer, owner, _, _) => {
-            let tasks = place_at(alloc, *outer, 0)?;
-            let task = named(tasks, text_at(*owner, "task"))?;
-            let number = value.as_u64().unwrap_or(0);
-            named(task, Buffer::new().format(number))
-        }
-    }
-}
-
-fn access_text(list: String, value: &Value) -> Result<String, Memory>
-    ensures { IfOk result (λ text. string_bytes text ≡ string_bytes list ++ access_text (view value.now)) }
+fn access_name(alloc: Global, value: &Value) -> Result<String, Memory>
+    ensures { IfOk result (λ text. string_bytes text ≡ access_name (view value.now)) }
 {
     match value.as_array() {
-        Some(parts) => parts_text(list, parts),
-        None => Ok(list),
+        Some(parts) => parts_text(alloc, parts),
+        None => Ok(String::new(alloc)),
     }
 }
 
-fn parts_text(list: String, parts: &[Value]) -> Result<String, Memory>
-    ensures { IfOk result (λ text. string_bytes text ≡ string_bytes list ++ parts_text (items_view parts.now)) }
+fn parts_text(alloc: Global, parts: &[Value]) -> Result<String, Memory>
+    ensures { IfOk result (λ text. string_bytes text ≡ parts_text (items_view parts.now)) }
 {
-    let mut text = list;
+    let mut text = String::new(alloc);
     for number in 0..parts.len() {
-        text.push_str("/")?;
+        text.push_str(" ")?;
         text.push_str(text_in(&parts[number]))?;
     }
     Ok(text)
+}
+
+fn position_name(alloc: Global, value: &Value, trail: &Trail) -> Result<String, Memory>
+    ensures { IfOk result (λ text. string_bytes text ≡ position_name (value_at 0 ((spot_of trail.now).around)) (view value.now)) }
+{
+    let mut text = String::from_str(alloc, text_around(trail, 0, "task"))?;
+    text.push_str(" ")?;
+    let number = value.as_u64().unwrap_or(0);
+    text.push_str(Buffer::new().format(number))?;
+    Ok(text)
+}
+
+// The key of the value, of the list that declares it.
+fn key_in(
+    alloc: Global,
+    list: String,
+    kind: Kind,
+    value: &Value,
+    trail: &Trail,
+) -> Result<String, Memory>
+    ensures { IfOk result (λ key. string_bytes key
+        ≡ named (string_bytes list) (name_of kind (view value.now) ((spot_of trail.now).around))) }
+{
+    match kind {
+        Kind::Position => {
+            let name = position_name(alloc, value, trail)?;
+            named(list, name.as_str())
+        }
+        Kind::ItemAccess | Kind::VariableAccess | Kind::PortAccess | Kind::AreaAccess => {
+            let name = access_name(alloc, value)?;
+            named(list, name.as_str())
+        }
+        _ => named(list, text_in(value)),
+    }
 }
 
 fn key_of_kind(
@@ -122,25 +123,25 @@ fn key_of_kind(
     ensures { IfOk result (λ key. option_map string_bytes key
         ≡ key_of_kind kind (view value.now) ((spot_of trail.now).around)) }
 {
-    match kind {
-        Kind::DeclaredName => {
-            let scope = object_scope(alloc, trail)?;
-            Ok(Some(named(scope, text_in(value))?))
+    match list_of(alloc, kind, trail)? {
+        Some(list) => Ok(Some(key_in(alloc, list, kind, value, trail)?)),
+        None => Ok(None),
+    }
+}
+
+fn end_of(alloc: Global, trail: &Trail) -> Result<String, Memory>
+    ensures { IfOk result (λ text. string_bytes text ≡ end_of ((spot_of trail.now).around)) }
+{
+    match owner_of(trail) {
+        Kind::Port => {
+            let list = String::from_str(alloc, "/interfaces")?;
+            named(list, text_around(trail, 0, "interface"))
         }
-        Kind::DeclaredMode | Kind::DeclaredArea => {
-            let scope = place_at(alloc, trail, 0)?;
-            Ok(Some(named(scope, text_in(value))?))
+        Kind::Prototype => {
+            let list = String::from_str(alloc, "/components")?;
+            named(list, text_around(trail, 0, "type"))
         }
-        Kind::ComSpecItem => {
-            let scope = place_at(alloc, trail, 1)?;
-            Ok(Some(named(scope, text_in(value))?))
-        }
-        Kind::Position => Ok(Some(position_text(alloc, value, trail)?)),
-        Kind::ItemAccess | Kind::VariableAccess | Kind::PortAccess | Kind::AreaAccess => {
-            let scope = place_at(alloc, trail, 0)?;
-            Ok(Some(access_text(scope, value)?))
-        }
-        _ => Ok(None),
+        _ => place_at(alloc, trail, 0),
     }
 }
 
@@ -157,7 +158,14 @@ fn declare(
     match key_of_kind(alloc, kind, value, trail)? {
         Some(key) => {
             let place = trail.place(alloc)?;
-            found.push(Declaration { key, place })?;
+            let leads_to = end_of(alloc, trail)?;
+            let owner = owner_of(trail);
+            found.push(Declaration {
+                key,
+                place,
+                owner,
+                leads_to,
+            })?;
             Ok(())
         }
         None => Ok(()),

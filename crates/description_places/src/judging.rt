@@ -1,14 +1,16 @@
 //! Judging a description.
 
-ghost use Rattle.std.specs.Prelude.{◌≡◌, ℕ, List, [], IfOk, IfErr, option_map, string_bytes};
+ghost use Rattle.std.specs.Prelude.{◌≡◌, ℕ, List, None, IfOk, IfErr, option_map, string_bytes};
 ghost use Rattle.serde_json.specs.View.{view};
-ghost use Rattle.description_places.specs.Declarations.{declarations, first_repeated};
-ghost use Rattle.description_places.specs.Rules.{refusal, written, visits_of, IsRefusalOf, IsUnbroken};
+ghost use Rattle.description_places.specs.References.{breaks_references};
+ghost use Rattle.description_places.specs.Rules.{least_of, refusal, refusal_of_names, written, visits_of, IsRefusalOf, IsUnbroken};
+ghost use Rattle.description_places.specs.Tables.{declared_in};
 ghost use Rattle.description_places.specs.Visits.{first_broken};
 
-use crate::distinct::first_repeated;
+use crate::distinct::{Declarations, by_key};
 use crate::gathering::gather;
 use crate::kind::Kind;
+use crate::references::ReferenceRule;
 use crate::rule::Rule;
 use crate::rules::{NameRule, ShapeRule};
 use crate::trail::Trail;
@@ -17,7 +19,7 @@ use rte_text::{Memory, Refusal, Refused, Text};
 use serde_json::{Category, Value};
 use std::alloc::Global;
 
-/// The JSON value of a description's bytes, where they break none of rules 1 to 4. `Rule` names the least rule that they
+/// The JSON value of a description's bytes, where they break none of rules 1 to 5. `Rule` names the least rule that they
 /// break, with its first place; `Memory` is answered where memory ran out, and never tells anything of the bytes.
 pub fn judge(alloc: Global, bytes: &[u8]) -> Result<Value, Refused>
     ensures unbroken { IfOk result (λ v. IsUnbroken bytes.now (view v)) }
@@ -46,23 +48,36 @@ fn refusal_of(alloc: Global, value: &Value) -> Result<Option<Refusal>, Memory>
     if let Some(place) = first_place(alloc, &NameRule, value)? {
         return Ok(Some(refusal_at(alloc, 3, place)?));
     }
-    if let Some(place) = first_declared_twice(alloc, value)? {
-        return Ok(Some(refusal_at(alloc, 4, place)?));
-    }
-    Ok(None)
+    refusal_of_names(alloc, value)
 }
 
-fn first_declared_twice(alloc: Global, value: &Value) -> Result<Option<String>, Memory>
-    ensures { IfOk result (λ found. option_map string_bytes found ≡ first_repeated [] (declarations (visits_of (view value.now)))) }
+fn refusal_of_names(alloc: Global, value: &Value) -> Result<Option<Refusal>, Memory>
+    ensures { IfOk result (λ found. option_map {U = ℕ × List ℕ} (λ r. (r.rule, r.place)) found ≡ refusal_of_names (view value.now)) }
 {
     let mut found = Vec::new(alloc);
     gather(alloc, value, Kind::Description, &Trail::Whole, &mut found)?;
-    let place = first_repeated(alloc, &found)?;
-    Ok(place)
+    match by_key(alloc, &found)? {
+        Err(place) => Ok(Some(refusal_at(alloc, 4, place)?)),
+        Ok(declared) => refusal_of_references(alloc, value, &declared),
+    }
+}
+
+fn refusal_of_references(
+    alloc: Global,
+    value: &Value,
+    declared: &Declarations,
+) -> Result<Option<Refusal>, Memory>
+    ensures { IfOk result (λ found. option_map {U = ℕ × List ℕ} (λ r. (r.rule, r.place)) found
+        ≡ least_of 5 (first_broken (breaks_references (declared_in declared.now)) (visits_of (view value.now))) None) }
+{
+    match first_place(alloc, &ReferenceRule { declared }, value)? {
+        Some(place) => Ok(Some(refusal_at(alloc, 5, place)?)),
+        None => Ok(None),
+    }
 }
 
 fn first_place<R: Rule>(alloc: Global, rule: &R, value: &Value) -> Result<Option<String>, Memory>
-    ensures { IfOk result (λ found. option_map string_bytes found ≡ first_broken R.breaks (visits_of (view value.now))) }
+    ensures { IfOk result (λ found. option_map string_bytes found ≡ first_broken (R.breaks rule.now) (visits_of (view value.now))) }
 {
     let found = first_fault(alloc, rule, value, Kind::Description, &Trail::Whole)?;
     Ok(found)

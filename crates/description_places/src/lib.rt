@@ -17,13 +17,20 @@
 //! - Rule 4: the names that one list declares are distinct; components and compositions count as one list, com specs of
 //!   one port name distinct elements, the accesses of one runnable are distinct, and so are the positions in one task,
 //!   which are compared by the task's text. The place is the second one: the name, the access or the position. What is
-//!   declared is gathered by a second walk, `gather`, with the place of its list, and looked up by hash.
+//!   declared is gathered by a second walk, `gather`, under a key: the place of its list with its name there.
+//! - Rule 5: each name refers to something declared. A type, a mode group, an interface, a component or composition and a
+//!   task are looked up in the whole; a runnable, an area, a variable, a port and a prototype in the component or
+//!   composition around; an initial mode in its group. An item (a data element, operation or mode element) is looked up
+//!   in the interface of its port, and the port of a prototype in the prototype's type. The root is a composition, and a
+//!   core at least 0 and below the number of cores. The place is the name or number. Modes in events and statements, and
+//!   the instances and events of the mapping, are for later rules.
 //!
 //! Places are JSON pointers (RFC 6901), and the whole is `/`. A number that is written as `-0`, with a fraction or with an
 //! exponent is no whole number; of doubled keys the last one stands.
 #![tactic(auto)]
 
 mod alternatives;
+mod around;
 mod distinct;
 mod form;
 mod gathering;
@@ -31,6 +38,7 @@ mod judging;
 mod keys;
 mod kind;
 mod names;
+mod references;
 mod rows;
 mod rule;
 mod rules;
@@ -41,13 +49,14 @@ mod trail;
 mod walk;
 
 pub use alternatives::{Alternative, choices_of, resolved};
-pub use distinct::first_repeated;
+pub use distinct::{Declarations, by_key};
 pub use form::{Form, form_of};
 pub use gathering::{Declaration, gather};
 pub use judging::judge;
 pub use keys::{Field, keys_of};
 pub use kind::Kind;
 pub use names::is_name;
+pub use references::ReferenceRule;
 pub use rows::{row_of, words_of};
 pub use rule::Rule;
 pub use rules::{NameRule, ShapeRule};

@@ -8,17 +8,25 @@ use crate::names::is_name;
 use crate::rule::Rule;
 use crate::shape::has_shape;
 use crate::trail::Trail;
+use rte_text::Memory;
 use serde_json::Value;
+use std::alloc::Global;
 
 /// Rule 2: each value has the shape of its kind, and no key is missing or unknown.
 #[derive(Clone, Copy)]
 pub struct ShapeRule;
 
 impl Rule for ShapeRule {
-    ghost breaks = { breaks_shape };
+    ghost breaks = { λ _. breaks_shape };
 
-    fn is_broken(&self, value: &Value, kind: Kind, _trail: &Trail) -> bool {
-        !has_shape(kind, value)
+    fn is_broken(
+        &self,
+        _alloc: Global,
+        value: &Value,
+        kind: Kind,
+        _trail: &Trail,
+    ) -> Result<bool, Memory> {
+        Ok(!has_shape(kind, value))
     }
 }
 
@@ -27,15 +35,21 @@ impl Rule for ShapeRule {
 pub struct NameRule;
 
 impl Rule for NameRule {
-    ghost breaks = { breaks_names };
+    ghost breaks = { λ _. breaks_names };
 
-    fn is_broken(&self, value: &Value, kind: Kind, _trail: &Trail) -> bool {
+    fn is_broken(
+        &self,
+        _alloc: Global,
+        value: &Value,
+        kind: Kind,
+        _trail: &Trail,
+    ) -> Result<bool, Memory> {
         match form_of(kind) {
             Form::Name => match value.as_str() {
-                Some(text) => !is_name(text.as_bytes()),
-                None => true,
+                Some(text) => Ok(!is_name(text.as_bytes())),
+                None => Ok(true),
             },
-            _ => false,
+            _ => Ok(false),
         }
     }
 }

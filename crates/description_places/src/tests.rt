@@ -1,4 +1,5 @@
 mod names;
+mod references;
 mod shapes;
 
 use crate::judge;

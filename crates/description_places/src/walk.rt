@@ -21,7 +21,7 @@ use serde_json::{Map, Value};
 use std::alloc::Global;
 
 /// The place of the first value that breaks the rule, in document order, of the value that stands here and of what it
-/// holds. The only error is that there is no memory for the place.
+/// holds. The only error is that there is no memory.
 #[cycle(walk)]
 pub fn first_fault<R: Rule>(
     alloc: Global,
@@ -31,10 +31,10 @@ pub fn first_fault<R: Rule>(
     trail: &Trail,
 ) -> Result<Option<String>, Memory>
     ensures { IfOk result (λ found. option_map string_bytes found
-        ≡ first_broken R.breaks (visits (view value.now) kind (spot_of trail.now))) }
+        ≡ first_broken (R.breaks rule.now) (visits (view value.now) kind (spot_of trail.now))) }
 {
     let kind = resolved(kind, value);
-    if rule.is_broken(value, kind, trail) {
+    if rule.is_broken(alloc, value, kind, trail)? {
         let place = trail.place(alloc)?;
         return Ok(Some(place));
     }
@@ -55,7 +55,7 @@ fn first_in_parts<R: Rule>(
     trail: &Trail,
 ) -> Result<Option<String>, Memory>
     ensures { IfOk result (λ found. option_map string_bytes found
-        ≡ first_broken R.breaks (in_array kind (view owner.now) (spot_of trail.now) (items_visits (items_view parts.now)))) }
+        ≡ first_broken (R.breaks rule.now) (in_array kind (view owner.now) (spot_of trail.now) (items_visits (items_view parts.now)))) }
 {
     for index in 0..parts.len() {
         let inner = Trail::Part(&*trail, &*owner, kind, index);
@@ -77,7 +77,7 @@ fn first_in_members<R: Rule>(
     trail: &Trail,
 ) -> Result<Option<String>, Memory>
     ensures { IfOk result (λ found. option_map string_bytes found
-        ≡ first_broken R.breaks (in_object kind (view owner.now) (spot_of trail.now) (members_visits (members_view members.now.entries)))) }
+        ≡ first_broken (R.breaks rule.now) (in_object kind (view owner.now) (spot_of trail.now) (members_visits (members_view members.now.entries)))) }
 {
     for key in keys_of(kind) {
         match first_at_key(alloc, rule, members, key, owner, kind, trail)? {
@@ -99,7 +99,7 @@ fn first_at_key<R: Rule>(
     trail: &Trail,
 ) -> Result<Option<String>, Memory>
     ensures { IfOk result (λ found. option_map string_bytes found
-        ≡ first_broken R.breaks (at_key (key_of key.now) (inside (spot_of trail.now) kind (view owner.now)) (members_visits (members_view members.now.entries)))) }
+        ≡ first_broken (R.breaks rule.now) (at_key (key_of key.now) (inside (spot_of trail.now) kind (view owner.now)) (members_visits (members_view members.now.entries)))) }
 {
     match members.get(key.name) {
         Some(value) => {

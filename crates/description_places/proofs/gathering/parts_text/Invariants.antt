@@ -4,4 +4,4 @@ use Rattle.description_places.specs.Declarations.{parts_text}
 use Rattle.description_places.proofs.gathering.parts_text.Given as goal
 
 abbrev pub invariant-loop-number : goal.invariant-loop-number
-invariant-loop-number l = string_bytes l.fn.list ++ parts_text (items_view l.parts) ≡ string_bytes l.text ++ parts_text (items_view (drop l.number l.parts))
+invariant-loop-number l = parts_text (items_view l.parts) ≡ string_bytes l.text ++ parts_text (items_view (drop l.number l.parts))

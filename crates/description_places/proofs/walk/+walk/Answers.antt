@@ -14,7 +14,7 @@ first_at_key-returns-in-Some g t c =
     let found = member_found c.get.result c.args.key.now.name.now c.args.members.now.entries c.get.ensures.value in
     let value = sym (ap (option_map (λ x. view x.now)) c.in-Some.is) ∙ found in
     same_found c.first_fault.result _ _
-    (value_found g.R.Rule.breaks (key_of c.args.key.now) (inside (spot_of c.args.trail.now) c.args.kind (view c.args.owner.now)) (members_view c.args.members.now.entries) (view c.in-Some.value.now) _
+    (value_found (g.R.Rule.breaks c.args.rule.now) (key_of c.args.key.now) (inside (spot_of c.args.trail.now) c.args.kind (view c.args.owner.now)) (members_view c.args.members.now.entries) (view c.in-Some.value.now) _
     value (spot_of_member c.args.trail c.args.owner c.args.kind c.args.key.now.name))
     c.first_fault.ensures
 
@@ -22,26 +22,26 @@ pub first_at_key-returns-in-None : goal.first_at_key-returns-in-None
 first_at_key-returns-in-None g t c =
     let found = member_found c.get.result c.args.key.now.name.now c.args.members.now.entries c.get.ensures.value in
     let nothing = sym (ap (option_map (λ x. view x.now)) c.in-None.is) ∙ found in
-    none_found g.R.Rule.breaks (key_of c.args.key.now) (inside (spot_of c.args.trail.now) c.args.kind (view c.args.owner.now)) (members_view c.args.members.now.entries) nothing
+    none_found (g.R.Rule.breaks c.args.rule.now) (key_of c.args.key.now) (inside (spot_of c.args.trail.now) c.args.kind (view c.args.owner.now)) (members_view c.args.members.now.entries) nothing
 
 pub first_in_members-returns-in-Some : goal.first_in_members-returns-in-Some
 first_in_members-returns-in-Some g t c =
-    key_broken g.R.Rule.breaks c.keys_of-key-items.result.now (inside (spot_of c.args.trail.now) c.args.kind (view c.args.owner.now)) (members_visits (members_view c.args.members.now.entries))
+    key_broken (g.R.Rule.breaks c.args.rule.now) c.keys_of-key-items.result.now (inside (spot_of c.args.trail.now) c.args.kind (view c.args.owner.now)) (members_visits (members_view c.args.members.now.entries))
     c.loop-key.key-index _ _ c.in_ok-place.field-0 c.in-Some.place c.loop-key-test.true c.loop-key.invariant c.in_ok-place.ensures c.in-Some.is
 
 pub first_in_members-loop-key-preserved : goal.first_in_members-loop-key-preserved
 first_in_members-loop-key-preserved g t c =
-    key_unbroken g.R.Rule.breaks c.keys_of-key-items.result.now (inside (spot_of c.args.trail.now) c.args.kind (view c.args.owner.now)) (members_visits (members_view c.args.members.now.entries))
+    key_unbroken (g.R.Rule.breaks c.args.rule.now) c.keys_of-key-items.result.now (inside (spot_of c.args.trail.now) c.args.kind (view c.args.owner.now)) (members_visits (members_view c.args.members.now.entries))
     c.loop-key.key-index _ _ c.in_ok-place.field-0 c.loop-key-test.true c.loop-key.invariant c.in_ok-place.ensures c.in-None.is
 
 pub first_in_parts-returns-in-Some : goal.first_in_parts-returns-in-Some
 first_in_parts-returns-in-Some g t c =
-    part_broken g.R.Rule.breaks c.args.parts.now (part_of (form_of c.args.kind) c.args.kind) (inside_part (spot_of c.args.trail.now) c.args.kind (view c.args.owner.now))
+    part_broken (g.R.Rule.breaks c.args.rule.now) c.args.parts.now (part_of (form_of c.args.kind) c.args.kind) (inside_part (spot_of c.args.trail.now) c.args.kind (view c.args.owner.now))
     c.loop-index.index c.index-parts-index.result c.part_of.result _ _ c.in_ok-place.field-0 c.in-Some.place c.loop-index-test.true c.index-parts-index.is c.part_of.ensures
     (spot_of_part c.args.trail c.args.owner c.args.kind c.loop-index.index) c.loop-index.invariant c.in_ok-place.ensures c.in-Some.is
 
 pub first_in_parts-loop-index-preserved : goal.first_in_parts-loop-index-preserved
 first_in_parts-loop-index-preserved g t c =
-    part_unbroken g.R.Rule.breaks c.args.parts.now (part_of (form_of c.args.kind) c.args.kind) (inside_part (spot_of c.args.trail.now) c.args.kind (view c.args.owner.now))
+    part_unbroken (g.R.Rule.breaks c.args.rule.now) c.args.parts.now (part_of (form_of c.args.kind) c.args.kind) (inside_part (spot_of c.args.trail.now) c.args.kind (view c.args.owner.now))
     c.loop-index.index c.index-parts-index.result c.part_of.result _ _ c.in_ok-place.field-0 c.loop-index-test.true c.index-parts-index.is c.part_of.ensures
     (spot_of_part c.args.trail c.args.owner c.args.kind c.loop-index.index) c.loop-index.invariant c.in_ok-place.ensures c.in-None.is

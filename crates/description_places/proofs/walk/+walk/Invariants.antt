@@ -9,10 +9,10 @@ use Rattle.description_places.proofs.walk.+walk.Given as goal
 
 abbrev pub invariant-first_in_members-loop-key : goal.invariant-first_in_members-loop-key
 invariant-first_in_members-loop-key g l =
-    first_broken g.R.Rule.breaks (in_object l.kind (view l.owner) (spot_of l.trail) (members_visits (members_view l.members.entries)))
-    ≡ first_broken g.R.Rule.breaks (under_keys (map key_of (drop l.key-index l.key-items)) (inside (spot_of l.trail) l.kind (view l.owner)) (members_visits (members_view l.members.entries)))
+    first_broken (g.R.Rule.breaks l.rule) (in_object l.kind (view l.owner) (spot_of l.trail) (members_visits (members_view l.members.entries)))
+    ≡ first_broken (g.R.Rule.breaks l.rule) (under_keys (map key_of (drop l.key-index l.key-items)) (inside (spot_of l.trail) l.kind (view l.owner)) (members_visits (members_view l.members.entries)))
 
 abbrev pub invariant-first_in_parts-loop-index : goal.invariant-first_in_parts-loop-index
 invariant-first_in_parts-loop-index g l =
-    first_broken g.R.Rule.breaks (in_array l.kind (view l.owner) (spot_of l.trail) (items_visits (items_view l.parts)))
-    ≡ first_broken g.R.Rule.breaks (in_parts (part_of (form_of l.kind) l.kind) (inside_part (spot_of l.trail) l.kind (view l.owner)) l.index (items_visits (items_view (drop l.index l.parts))))
+    first_broken (g.R.Rule.breaks l.rule) (in_array l.kind (view l.owner) (spot_of l.trail) (items_visits (items_view l.parts)))
+    ≡ first_broken (g.R.Rule.breaks l.rule) (in_parts (part_of (form_of l.kind) l.kind) (inside_part (spot_of l.trail) l.kind (view l.owner)) l.index (items_visits (items_view (drop l.index l.parts))))
