@@ -1,7 +1,9 @@
 pub mod Found
 pub mod Gathers
+pub mod KeyLaws
 pub mod Lookups
 pub mod Members
 pub mod Repeated
 pub mod Tables
+pub mod Unbroken
 pub mod Walks

@@ -57,8 +57,11 @@ access_name (array ds) = parts_text ds
 access_name _ = []
 
 -- a task, a space and a position in it
+abbrev pub position_text : List ℕ → ℕ → List ℕ
+position_text task position = (task ++ codes " ") ++ decimal position
+
 abbrev pub position_name : Data → Data → List ℕ
-position_name mapped d = (text_at (codes "task") mapped ++ codes " ") ++ decimal (unwrap_or (option_and_then as_u64 (as_number d)) 0)
+position_name mapped d = position_text (text_at (codes "task") mapped) (unwrap_or (option_and_then as_u64 (as_number d)) 0)
 
 -- the name of a value of the kind in the list that declares it
 abbrev pub name_of : Kind → Data → List Level → List ℕ

@@ -3,6 +3,7 @@ pub mod Around
 pub mod Declarations
 pub mod Forms
 pub mod Keys
+pub mod Laws
 pub mod Names
 pub mod References
 pub mod Rows

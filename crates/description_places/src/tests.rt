@@ -1,3 +1,4 @@
+mod examples;
 mod names;
 mod references;
 mod shapes;
