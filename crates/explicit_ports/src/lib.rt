@@ -1,0 +1,13 @@
+//! Unqueued data elements: the last value, and who has seen it.
+#![tactic(auto)]
+
+mod threads;
+mod unqueued;
+
+pub use unqueued::{ReadState, Unqueued};
+
+/// There was no memory for what a call makes.
+pub type Memory = std::alloc::AllocError;
+
+#[cfg(test)]
+mod tests;

@@ -1,0 +1,135 @@
+//! A group of joined unqueued data elements.
+
+ghost use Rattle.std.specs.Prelude.{◌≡◌, ◌<◌, length, IfOk, slice_get, Some, is_some};
+ghost use Rattle.explicit_ports.specs.Kept.{fresh, after_write, after_invalidation, after_read, after_start, value_for};
+
+use crate::Memory;
+use rte_value::Value;
+use std::alloc::Global;
+use std::marker::Model;
+
+/// What joined unqueued data elements keep: the last value, and who has not seen it yet (SWS_RTE: explicit and implicit
+/// communication by `standard` elements).
+///
+/// A receiver is a position in the list of initial values, an event one in the list of events. Only `new` takes memory.
+#[derive(Drop)]
+pub struct Unqueued {
+    inits: Vec<Value>,
+    events: Vec<u32>,
+    stored: Option<Value>,
+    invalid: bool,
+    updated: Vec<bool>,
+    due: Vec<bool>,
+}
+
+impl Model for Unqueued {
+    ghost use Rattle.std.specs.Prelude.{◌≡◌, length};
+    ghost use Rattle.explicit_ports.specs.Kept.{Kept};
+
+    ghost Value = { Kept };
+
+    ghost view = { λ u. record { inits = u.inits.items; events = u.events.items; stored = u.stored; invalid = u.invalid; updated = u.updated.items; due = u.due.items } };
+
+    ghost invariant = { λ u. (length u.updated.items ≡ length u.inits.items) × (length u.due.items ≡ length u.events.items) };
+}
+
+/// What a read finds.
+#[derive(Clone, Copy)]
+pub struct ReadState {
+    /// The last value that was written or published, else the initial value of the receiver.
+    pub value: Value,
+    /// Something was written or published.
+    pub seen: bool,
+    /// The last write, publication or invalidation is an invalidation.
+    pub invalid: bool,
+}
+
+impl Unqueued {
+    /// A group to which nothing has happened, with the initial value of each receiver and, for each DataReceivedEvent, its
+    /// receiver. The only error is that there is no memory for the flags.
+    pub fn new(alloc: Global, inits: Vec<Value>, events: Vec<u32>) -> Result<Unqueued, Memory>
+        ensures { IfOk result (λ u. u ≡ fresh inits.items events.items) }
+    {
+        let updated = vec![in alloc; false; inits.len()]?;
+        let due = vec![in alloc; false; events.len()]?;
+        Ok(Unqueued {
+            inits,
+            events,
+            stored: None,
+            invalid: false,
+            updated,
+            due,
+        })
+    }
+
+    /// Stores a value that a provider writes (Rte_Write, Rte_IrvWrite).
+    pub fn write(&mut self, value: &Value)
+        ensures { self.new ≡ after_write value.now self.old }
+    {
+        self.stored = Some(*value);
+        self.invalid = false;
+        self.updated.fill(true);
+        self.due.fill(true);
+    }
+
+    /// Stores a value that a provider wrote implicitly, at the end of its activation (Rte_IWrite, Rte_IrvIWrite).
+    pub fn publish(&mut self, value: &Value)
+        ensures { self.new ≡ after_write value.now self.old }
+    {
+        self.write(value)
+    }
+
+    /// Marks the group as invalid (Rte_Invalidate). No value, update flag or pending event changes.
+    pub fn invalidate(&mut self)
+        ensures { self.new ≡ after_invalidation self.old }
+    {
+        self.invalid = true;
+    }
+
+    /// Reads for a receiver, and clears its update flag (Rte_Read, Rte_IrvRead).
+    pub fn read(&mut self, receiver: u32) -> ReadState
+        requires { receiver < length self.old.inits }
+        ensures value { Some result.value ≡ value_for receiver self.old }
+        ensures seen { result.seen ≡ is_some self.old.stored }
+        ensures invalid { result.invalid ≡ self.old.invalid }
+        ensures kept { self.new ≡ after_read receiver self.old }
+    {
+        let value = self.fetch(receiver);
+        self.updated[receiver as usize] = false;
+        ReadState {
+            value,
+            seen: self.stored.is_some(),
+            invalid: self.invalid,
+        }
+    }
+
+    /// The value of a receiver, for an activation that reads implicitly (Rte_IRead, Rte_IrvIRead). It clears no update flag.
+    pub fn fetch(&self, receiver: u32) -> Value
+        requires { receiver < length self.now.inits }
+        ensures { Some result ≡ value_for receiver self.now }
+    {
+        match self.stored {
+            Some(value) => value,
+            None => self.inits[receiver as usize],
+        }
+    }
+
+    /// Whether something was written or published since the receiver's last read (Rte_IsUpdated).
+    pub fn is_updated(&self, receiver: u32) -> bool
+        requires { receiver < length self.now.inits }
+        ensures { Some result ≡ slice_get self.now.updated receiver }
+    {
+        self.updated[receiver as usize]
+    }
+
+    /// Whether the event was pending; then it is no longer.
+    pub fn start(&mut self, event: u32) -> bool
+        requires { event < length self.old.events }
+        ensures pending { Some result ≡ slice_get self.old.due event }
+        ensures kept { self.new ≡ after_start event self.old }
+    {
+        let is_pending = self.due[event as usize];
+        self.due[event as usize] = false;
+        is_pending
+    }
+}

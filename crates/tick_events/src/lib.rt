@@ -1,0 +1,14 @@
+//! The events of the clock: TimingEvents and InitEvents.
+#![tactic(auto)]
+
+mod clock;
+mod threads;
+mod timer;
+
+pub use clock::Clock;
+
+/// There was no memory for what a call makes.
+pub type Memory = std::alloc::AllocError;
+
+#[cfg(test)]
+mod tests;
