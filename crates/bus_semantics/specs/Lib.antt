@@ -6,6 +6,7 @@ pub mod Owners
 pub mod Fitting
 pub mod State
 pub mod Programs
+pub mod Interpreted
 pub mod Activations
 pub mod Actor
 pub mod Unqueued

@@ -1,5 +1,5 @@
 -- What a line of a trace is read as: an item that fits and has this text. Codes are bytes and words have 64 bits.
-use Rattle.std.specs.Prelude.{◌≡◌, ℕ, ℤ, pos, negsuc, Bool, true, ◌&&◌, nat_lt, int_le}
+use Rattle.std.specs.Prelude.{◌≡◌, ℕ, pos, negsuc, Bool, true, ◌&&◌, nat_lt, int_le}
 use Rattle.std.specs.List.{list_all}
 use Rattle.rte_value.specs.declared.value.Value.{Value}
 use Rattle.rte_value.specs.Values.{words_of}
