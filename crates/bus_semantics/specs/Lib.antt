@@ -7,6 +7,7 @@ pub mod Fitting
 pub mod State
 pub mod Programs
 pub mod Interpreted
+pub mod Bounds
 pub mod Activations
 pub mod Actor
 pub mod Unqueued
