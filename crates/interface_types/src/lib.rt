@@ -1,0 +1,8 @@
+//! The types of a description: data types, mode groups and interfaces.
+#![tactic(auto)]
+
+mod base_type;
+mod interface;
+
+pub use base_type::{BaseType, DataType};
+pub use interface::{ApplicationError, Argument, ComSpec, DataElement, Direction, Interface, InterfaceKind, ModeElement, ModeGroup, Operation, SwImplPolicy, TypeTable};
