@@ -1,9 +1,8 @@
 //! Interfaces, mode groups and com specs.
 
+use crate::base_type::DataType;
 use rte_text::{Seq, Text};
 use rte_value::{Code, Word};
-
-use crate::base_type::DataType;
 
 /// A group of modes that exclude each other (ModeDeclarationGroup).
 #[derive(Drop)]

@@ -2,7 +2,14 @@
 #![tactic(auto)]
 
 mod base_type;
+mod check;
 mod interface;
+#[cfg(test)]
+mod tests;
 
-pub use base_type::{BaseType, DataType};
-pub use interface::{ApplicationError, Argument, ComSpec, DataElement, Direction, Interface, InterfaceKind, ModeElement, ModeGroup, Operation, SwImplPolicy, TypeTable};
+pub use base_type::{BaseType, DataType, range};
+pub use check::check_types;
+pub use interface::{
+    ApplicationError, Argument, ComSpec, DataElement, Direction, Interface, InterfaceKind,
+    ModeElement, ModeGroup, Operation, SwImplPolicy, TypeTable,
+};
