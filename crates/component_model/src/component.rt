@@ -90,19 +90,35 @@ pub struct Event {
 #[derive(Clone, Copy, Debug, PartialEq, Eq)]
 pub enum EventKind {
     /// TimingEvent, with its period in milliseconds, 1 to 1,000,000.
-    Timing { period: u32 },
+    Timing {
+        period: u32,
+    },
     /// InitEvent.
     Init,
     /// DataReceivedEvent.
-    DataReceived { port: u32, element: u32 },
+    DataReceived {
+        port: u32,
+        element: u32,
+    },
     /// OperationInvokedEvent.
-    OperationInvoked { port: u32, operation: u32 },
+    OperationInvoked {
+        port: u32,
+        operation: u32,
+    },
     /// AsynchronousServerCallReturnsEvent.
-    CallReturns { port: u32, operation: u32 },
+    CallReturns {
+        port: u32,
+        operation: u32,
+    },
     /// SwcModeSwitchEvent.
-    ModeSwitch { port: u32, activation: ModeActivation },
+    ModeSwitch {
+        port: u32,
+        activation: ModeActivation,
+    },
     /// ModeSwitchedAckEvent.
-    ModeSwitchedAck { port: u32 },
+    ModeSwitchedAck {
+        port: u32,
+    },
 }
 
 /// The moment of a mode switch at which an event comes (ModeActivationKind), with its modes by number. A mode that the port's

@@ -50,7 +50,10 @@ pub enum Connector {
         requester: InnerPort,
     },
     /// Joins a port of a prototype to an outer port, which `outer` gives by its position (DelegationSwConnector).
-    Delegation { inner: InnerPort, outer: u32 },
+    Delegation {
+        inner: InnerPort,
+        outer: u32,
+    },
 }
 
 /// A port of a prototype of the composition.

@@ -1,0 +1,6 @@
+pub mod Values
+pub mod Names
+pub mod Scopes
+pub mod Types
+pub mod Ports
+pub mod Compositions
