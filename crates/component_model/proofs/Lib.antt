@@ -1,2 +1,3 @@
 mod Lists
+mod Meanings
 mod Placed

@@ -4,3 +4,5 @@ pub mod Scopes
 pub mod Types
 pub mod Ports
 pub mod Compositions
+pub mod Words
+pub mod Components

@@ -1,7 +1,9 @@
 //! Descriptions as typed values.
 #![tactic(auto)]
 
+mod behavior_reading;
 mod component;
+mod component_names;
 mod composition_reading;
 mod description;
 mod from_value;
@@ -11,6 +13,7 @@ mod port_reading;
 mod scopes;
 mod type_reading;
 mod values;
+mod words;
 
 pub use component::{
     Access, Behavior, Component, DisabledInModes, Event, EventKind, ModeActivation, Port, PortKind,
