@@ -1,3 +1,5 @@
+mod Added
 mod Lists
 mod Meanings
+mod Parts
 mod Placed

@@ -6,3 +6,7 @@ pub mod Ports
 pub mod Compositions
 pub mod Words
 pub mod Components
+pub mod Expressions
+pub mod Variables
+pub mod Keywords
+pub mod Statements

@@ -6,13 +6,16 @@ mod component;
 mod component_names;
 mod composition_reading;
 mod description;
+mod expression_reading;
 mod from_value;
+mod keywords;
 mod mapping_reading;
 mod names;
 mod port_reading;
 mod scopes;
 mod type_reading;
 mod values;
+mod variables;
 mod words;
 
 pub use component::{
