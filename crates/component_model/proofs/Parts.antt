@@ -4,7 +4,7 @@ use Rattle.std.proofs.lemmas.Option.{slice_get-get_or, slice_get-map, slice_get_
 use Rattle.runnable_lang.specs.Trees.{constant}
 use Rattle.serde_json.specs.View.{view, items_view}
 use Rattle.serde_json.specs.declared.value.Value.{Value}
-use Rattle.component_model.specs.Expressions.{Numbered, expr_of, expr_reading, expr_readings}
+use Rattle.component_model.specs.Expressions.{expr_of, expr_reading, expr_readings}
 use Rattle.component_model.specs.Names.{Names}
 
 exprs_are : (vs : List Value) → expr_readings (items_view vs) ≡ map (λ v. expr_reading (view v)) vs

@@ -1,5 +1,5 @@
 -- What the expressions of a program are read as.
-use Rattle.std.specs.Prelude.{ℕ, ℤ, pos, List, [], ◌∷◌, map, slice_get, bytes_eq, codes, if◌then◌else◌, Option, Some, None}
+use Rattle.std.specs.Prelude.{ℕ, pos, List, [], ◌∷◌, slice_get, bytes_eq, codes, if◌then◌else◌, Option, Some, None}
 use Rattle.serde_json.specs.Data.{Data, null, boolean, number, string, array, object, Items, no_items, item}
 use Rattle.runnable_lang.specs.declared.stmt.Op.{Op}
 use Rattle.runnable_lang.specs.declared.stmt.Op.TheVariants as op

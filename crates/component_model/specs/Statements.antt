@@ -1,9 +1,10 @@
 -- What the statements of a program are read as.
-use Rattle.std.specs.Prelude.{ℕ, ◌^◌, pos, List, [], ◌∷◌, map, slice_get, Option, Some, None, option_and_then}
+use Rattle.std.specs.Prelude.{ℕ, ◌^◌, pos, List, [], ◌∷◌, map, slice_get, Option, Some, None}
 use Rattle.serde_json.specs.Data.{Data, null, boolean, number, string, array, object, Items, no_items, item}
-use Rattle.serde_json.specs.Find.{as_array, as_number, as_u64, at}
+use Rattle.serde_json.specs.Find.{at}
 use Rattle.runnable_lang.specs.Trees.{ExprTree, constant, StmtTree, sets, chooses, repeats, in_area, writes, reads, invalidates, asks_updated, sends, receives, writes_late, reads_early, writes_variable, reads_variable, writes_variable_late, reads_variable_early, calls, calls_and_goes_on, takes_result, switches, asks_mode, BodyTree, done, in_order}
 use Rattle.component_model.specs.declared.component_names.ComponentNames.{ComponentNames}
+use Rattle.component_model.specs.declared.in_program.InProgram.{InProgram}
 use Rattle.component_model.specs.declared.keywords.Keyword.{Keyword}
 use Rattle.component_model.specs.declared.keywords.Keyword.TheVariants as keyword
 use Rattle.component_model.specs.declared.scopes.InterfaceNames.{InterfaceNames}
@@ -11,13 +12,16 @@ use Rattle.component_model.specs.Components.{item_in, mode_in}
 use Rattle.component_model.specs.Expressions.{expr_reading}
 use Rattle.component_model.specs.Keywords.{keyword_of}
 use Rattle.component_model.specs.Names.{Names, position_in}
-use Rattle.component_model.specs.Values.{below, items_of, text_in, text_of_part}
+use Rattle.component_model.specs.Values.{items_of_part, number_of_part, text_in, text_of_part}
 
 -- what the names of a program refer to
 pub record Context : Type 0 where
   pub interfaces : InterfaceNames
   pub names : ComponentNames
   pub vars : Names
+
+abbrev pub context_of : InProgram → Context
+context_of p = record { interfaces = p.component.interfaces.now; names = p.component.names.now; vars = p.vars.now }
 
 -- the parts of a statement: a port, an item, a mode, an area or a variable of the component by its name, a variable of the program, and lists of expressions and of variables
 abbrev pub port_part : Context → Data → ℕ
@@ -38,11 +42,8 @@ variable_part c d = position_in c.names.variables (text_of_part 1 d)
 abbrev pub var_part : Context → (part : ℕ) → Data → ℕ
 var_part c part d = position_in c.vars (text_of_part part d)
 
-abbrev pub items_part : (part : ℕ) → Data → List Data
-items_part part d = items_of (option_and_then as_array (at part d))
-
 abbrev pub vars_part : Context → (part : ℕ) → Data → List ℕ
-vars_part c part d = map (λ v. position_in c.vars (text_in v)) (items_part part d)
+vars_part c part d = map (λ v. position_in c.vars (text_in v)) (items_of_part part d)
 
 abbrev pub expr_seen : Names → Option Data → ExprTree
 expr_seen vars None = constant (pos 0)
@@ -52,10 +53,10 @@ abbrev pub expr_part : Context → (part : ℕ) → Data → ExprTree
 expr_part c part d = expr_seen c.vars (at part d)
 
 abbrev pub exprs_part : Context → (part : ℕ) → Data → List ExprTree
-exprs_part c part d = map (λ e. expr_reading e c.vars) (items_part part d)
+exprs_part c part d = map (λ e. expr_reading e c.vars) (items_of_part part d)
 
 abbrev pub times_part : Data → ℕ
-times_part d = below (2 ^ 32) 0 (option_and_then as_u64 (option_and_then as_number (at 1 d)))
+times_part d = number_of_part (2 ^ 32) 0 1 d
 
 -- the statement of a keyword that holds no others
 abbrev pub simple : Keyword → Context → Data → StmtTree

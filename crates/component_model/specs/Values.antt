@@ -22,6 +22,10 @@ items_in d = items_of (as_array d)
 abbrev pub items_at : List ℕ → Data → List Data
 items_at key d = items_of (option_and_then as_array (get key d))
 
+-- and those of a part of an array
+abbrev pub items_of_part : ℕ → Data → List Data
+items_of_part i d = items_of (option_and_then as_array (at i d))
+
 -- a text, that at a key, that at a key of the object at another, and that of a part of an array
 abbrev pub text_in : Data → List ℕ
 text_in d = unwrap_or (as_str d) []
@@ -52,6 +56,9 @@ below limit other (Some n) = if nat_lt n limit then n else other
 
 abbrev pub number_at : (limit : ℕ) → (other : ℕ) → List ℕ → Data → ℕ
 number_at limit other key d = below limit other (option_and_then as_u64 (option_and_then as_number (get key d)))
+
+abbrev pub number_of_part : (limit : ℕ) → (other : ℕ) → ℕ → Data → ℕ
+number_of_part limit other i d = below limit other (option_and_then as_u64 (option_and_then as_number (at i d)))
 
 -- true or false
 abbrev pub flag_at : List ℕ → Data → Bool

@@ -2,7 +2,7 @@
 
 ghost use Rattle.std.specs.Prelude.{◌≡◌, ◌<◌, ◌^◌, ℕ, IfOk, map, option_map, slice_get};
 ghost use Rattle.serde_json.specs.View.{view};
-ghost use Rattle.component_model.specs.Values.{below, flag_at, items_at, items_in, number_at, seen, text_at, text_at_in, text_in, text_of_part, text_of_part_at, word_at, word_in};
+ghost use Rattle.component_model.specs.Values.{below, flag_at, items_at, items_in, items_of_part, number_at, number_of_part, seen, text_at, text_at_in, text_in, text_of_part, text_of_part_at, word_at, word_in};
 
 use rte_text::{Memory, Text};
 use rte_value::Word;
@@ -26,6 +26,17 @@ pub fn items_at<'a>(value: &'a Value, key: &str) -> &'a [Value]
     ensures { map view result.now ≡ items_at key.now (view value.now) }
 {
     match value.get(key).and_then(Value::as_array) {
+        Some(items) => items.as_slice(),
+        None => &[],
+    }
+}
+
+/// Those of the part of the array.
+#[tactic(auto, using(crate::proofs::Lists::items_listed))]
+pub fn items_of_part(value: &Value, part: usize) -> &[Value]
+    ensures { map view result.now ≡ items_of_part part (view value.now) }
+{
+    match value.get(part).and_then(Value::as_array) {
         Some(items) => items.as_slice(),
         None => &[],
     }
@@ -147,6 +158,13 @@ pub fn number_at(value: &Value, key: &str, other: u32) -> u32
         u64::from(other),
         value.get(key).and_then(Value::as_u64),
     ) as u32
+}
+
+/// The number that the part of the array is, of 32 bits, and 0 where it is none.
+pub fn number_of_part(value: &Value, part: usize) -> u32
+    ensures { result ≡ number_of_part (2 ^ 32) 0 part (view value.now) }
+{
+    below(0x1_0000_0000, 0, value.get(part).and_then(Value::as_u64)) as u32
 }
 
 /// Whether there is true at the key.
