@@ -45,3 +45,6 @@ part_added parts kinds i part kind vars after whole h part_is kind_is inv put =
     ∙ sym (all_added-append vars (names_in (view (get_or parts i part)) (kinds i)) left)
     ∙ sym (at_drop_more (λ vs. all_added vars (among_parts kinds i (names_in_each (items_view vs)))) parts i part h)
     ∙ inv
+
+pub added_after : (first names : Names) → all_added [] (first ++ names) ≡ all_added (all_added [] first) names
+added_after first names = all_added-append [] first names

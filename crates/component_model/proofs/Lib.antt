@@ -1,4 +1,5 @@
 mod Added
+mod Kept
 mod Lists
 mod Meanings
 mod Parts

@@ -35,7 +35,7 @@ statement_words =
     []
 
 -- the keyword of a word; a word that is none counts as `set`
-abbrev pub keyword_of : List ℕ → Keyword
+unfoldable pub keyword_of : List ℕ → Keyword
 keyword_of word = meaning statement_words keyword.Set word
 
 -- the entry that a line of the program's table stands for

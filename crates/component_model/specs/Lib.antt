@@ -10,3 +10,5 @@ pub mod Expressions
 pub mod Variables
 pub mod Keywords
 pub mod Statements
+pub mod Programs
+pub mod Descriptions

@@ -80,37 +80,37 @@ simple keyword.Mode c d = asks_mode (port_part c d) (var_part c 2 d)
 simple _ c d = sets (var_part c 1 d) (expr_part c 2 d)
 
 -- what a value is as a statement, and as a list of them
-pub record Reading : Type 0 where
+pub record Block : Type 0 where
   pub stmt : Context → StmtTree
   pub body : Context → BodyTree
 
 -- the body that a part is
-abbrev pub body_seen : Context → Option Reading → BodyTree
-body_seen c None = done
-body_seen c (Some r) = r.body c
+abbrev pub body_part : Context → Option Block → BodyTree
+body_part c None = done
+body_part c (Some b) = b.body c
 
 -- the statement of a keyword, from what its parts are
-abbrev pub statement : Keyword → Context → Data → List Reading → StmtTree
-statement keyword.If c d rs = chooses (expr_part c 1 d) (body_seen c (slice_get rs 2)) (body_seen c (slice_get rs 3))
-statement keyword.Repeat c d rs = repeats (times_part d) (body_seen c (slice_get rs 2))
-statement keyword.Area c d rs = in_area (area_part c d) (body_seen c (slice_get rs 2))
-statement k c d rs = simple k c d
+abbrev pub statement : Keyword → Context → Data → List Block → StmtTree
+statement keyword.If c d parts = chooses (expr_part c 1 d) (body_part c (slice_get parts 2)) (body_part c (slice_get parts 3))
+statement keyword.Repeat c d parts = repeats (times_part d) (body_part c (slice_get parts 2))
+statement keyword.Area c d parts = in_area (area_part c d) (body_part c (slice_get parts 2))
+statement k c d parts = simple k c d
 
-abbrev pub no_reading : Reading
-no_reading = record { stmt = λ c. sets 0 (constant (pos 0)); body = λ c. done }
+abbrev pub no_block : Block
+no_block = record { stmt = λ c. sets 0 (constant (pos 0)); body = λ c. done }
 
 abbrev mutual
-  pub reading : Data → Reading
-  reading null = no_reading
-  reading (boolean b) = no_reading
-  reading (number n) = no_reading
-  reading (string t) = no_reading
-  reading (array ds) = record {
-    stmt = λ c. statement (keyword_of (text_of_part 0 (array ds))) c (array ds) (readings ds);
-    body = λ c. in_order (map (λ r. r.stmt c) (readings ds));
+  pub block : Data → Block
+  block null = no_block
+  block (boolean b) = no_block
+  block (number n) = no_block
+  block (string t) = no_block
+  block (array ds) = record {
+    stmt = λ c. statement (keyword_of (text_of_part 0 (array ds))) c (array ds) (blocks ds);
+    body = λ c. in_order (map (λ b. b.stmt c) (blocks ds));
   }
-  reading (object ms) = no_reading
+  block (object ms) = no_block
 
-  pub readings : Items → List Reading
-  readings no_items = []
-  readings (item d ds) = reading d ∷ readings ds
+  pub blocks : Items → List Block
+  blocks no_items = []
+  blocks (item d ds) = block d ∷ blocks ds

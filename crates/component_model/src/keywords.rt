@@ -87,6 +87,7 @@ fn keyword_in(words: &[StatementWord], word: &str) -> Keyword
 }
 
 /// The keyword of the word, and `Set` where it is none.
+#[tactic(auto, unfolding(crate::specs::Keywords::keyword_of))]
 pub fn keyword_of(word: &str) -> Keyword
     ensures { result ≡ keyword_of word.now }
 {

@@ -1,6 +1,7 @@
 //! What is taken from a JSON value. A value that is missing or of another kind counts as empty, zero or false.
 
-ghost use Rattle.std.specs.Prelude.{◌≡◌, ◌<◌, ◌^◌, ℕ, IfOk, map, option_map, slice_get};
+ghost use Rattle.std.specs.Prelude.{◌≡◌, ◌<◌, ◌^◌, ℕ, IfOk, map, option_map, slice_get, unwrap_or};
+ghost use Rattle.serde_json.specs.Find.{get};
 ghost use Rattle.serde_json.specs.View.{view};
 ghost use Rattle.component_model.specs.Values.{below, flag_at, items_at, items_in, items_of_part, number_at, number_of_part, seen, text_at, text_at_in, text_in, text_of_part, text_of_part_at, word_at, word_in};
 
@@ -50,6 +51,16 @@ pub fn item<'a>(values: &'a [Value], position: u32) -> Option<&'a Value>
     match values.get(position as usize) {
         Some(value) => Some(value),
         None => None,
+    }
+}
+
+/// The value at the key, and the other where there is none.
+pub fn value_at<'a>(value: &'a Value, key: &str, other: &'a Value) -> &'a Value
+    ensures { view result.now ≡ unwrap_or (get key.now (view value.now)) (view other.now) }
+{
+    match value.get(key) {
+        Some(value) => value,
+        None => other,
     }
 }
 
