@@ -1,0 +1,6 @@
+mod Added
+mod Kept
+mod Lists
+mod Meanings
+mod Parts
+mod Placed

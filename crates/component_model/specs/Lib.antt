@@ -1,0 +1,14 @@
+pub mod Values
+pub mod Names
+pub mod Scopes
+pub mod Types
+pub mod Ports
+pub mod Compositions
+pub mod Words
+pub mod Components
+pub mod Expressions
+pub mod Variables
+pub mod Keywords
+pub mod Statements
+pub mod Programs
+pub mod Descriptions
