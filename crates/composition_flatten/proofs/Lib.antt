@@ -1,0 +1,5 @@
+pub mod FirstOnes
+pub mod InItself
+pub mod Members
+pub mod Reaching
+pub mod Steps

@@ -1,0 +1,155 @@
+-- What is in a list that is made of others.
+use Rattle.std.proofs.Common.{◌≡◌, ℕ, zero, suc, ◌+◌, ◌<◌, List, [], ◌∷◌, ◌++◌, length, get_or, filter, map, Bool, true, false, cond, ◌||◌, not, nat_eq, Option, Some, None, ◌⊎◌, inl, inr, ⊎_elim, refl, sym, ap, subst, ◌∙◌, true≢false, arith, fold, ◌≤◌, slice_get}
+use Rattle.std.proofs.lemmas.Bool.{eqb-true, eq-eqb, cases_Bool, or_cases, or_left, or_right, and_parts}
+use Rattle.std.proofs.lemmas.List.{get_or_append_left, length-append}
+use Rattle.std.specs.List.{flat_map, filter_map, list_any, list_all, cons_option}
+use Rattle.indexmap.specs.IndexSet.{insert_key, insert_all}
+use Rattle.composition_flatten.specs.Members.{Among}
+
+module _ {X : Type 0} where
+  pub left : (x : X) (xs ys : List X) → Among x xs → Among x (xs ++ ys)
+  left x [] ys h = absurd h
+  left x (y ∷ xs) ys (inl e) = inl e
+  left x (y ∷ xs) ys (inr h) = inr (left x xs ys h)
+
+  pub right : (x : X) (xs ys : List X) → Among x ys → Among x (xs ++ ys)
+  right x [] ys h = h
+  right x (y ∷ xs) ys h = inr (right x xs ys h)
+
+  pub cases : (x : X) (xs ys : List X) → Among x (xs ++ ys) → Among x xs ⊎ Among x ys
+  cases x [] ys h = inr h
+  cases x (y ∷ xs) ys (inl e) = inl (inl e)
+  cases x (y ∷ xs) ys (inr h) = ⊎_elim (λ l. inl (inr l)) (λ r. inr r) (cases x xs ys h)
+
+  -- the element at a place, and the place of an element
+  pub at : (xs : List X) (k : ℕ) (d : X) → k < length xs → Among (get_or xs k d) xs
+  at [] k d h = absurd (omega arith)
+  at (x ∷ xs) zero d h = inl refl
+  at (x ∷ xs) (suc k) d h = inr (at xs k d (omega arith))
+
+  pub place : (x : X) (xs : List X) → Among x xs → (k : ℕ) × (k < length xs) × ((d : X) → x ≡ get_or xs k d)
+  place x [] h = absurd h
+  place x (y ∷ xs) (inl e) = (0, omega arith, λ d. e)
+  place x (y ∷ xs) (inr h) = let p = place x xs h in (suc p.0, omega arith, p.2)
+
+module _ {X Y : Type 0} (f : X → List Y) where
+  pub flat : (x : X) (xs : List X) (y : Y) → Among x xs → Among y (f x) → Among y (flat_map f xs)
+  flat x [] y h g = absurd h
+  flat x (z ∷ xs) y (inl e) g = left y (f z) (flat_map f xs) (subst (λ w. Among y (f w)) e g)
+  flat x (z ∷ xs) y (inr h) g = right y (f z) (flat_map f xs) (flat x xs y h g)
+
+  pub unflat : (xs : List X) (y : Y) → Among y (flat_map f xs) → (x : X) × Among x xs × Among y (f x)
+  unflat [] y h = absurd h
+  unflat (z ∷ xs) y h = ⊎_elim (λ here. (z, inl refl, here)) (λ later. let p = unflat xs y later in (p.0, inr p.1, p.2)) (cases y (f z) (flat_map f xs) h)
+
+module _ {X Y : Type 0} (f : X → Option Y) where
+  picked : (o : Option Y) (y : Y) (ys : List Y) → o ≡ Some y → Among y (cons_option o ys)
+  picked None y ys e = cc
+  picked (Some z) y ys e = inl cc
+
+  unpicked : (o : Option Y) (y : Y) (ys : List Y) → Among y (cons_option o ys) → (o ≡ Some y) ⊎ Among y ys
+  unpicked None y ys h = inr h
+  unpicked (Some z) y ys (inl e) = inl (ap (λ w. Some w) (sym e))
+  unpicked (Some z) y ys (inr h) = inr h
+
+  more : (o : Option Y) (y : Y) (ys : List Y) → Among y ys → Among y (cons_option o ys)
+  more None y ys h = h
+  more (Some z) y ys h = inr h
+
+  pub pick : (x : X) (xs : List X) (y : Y) → Among x xs → f x ≡ Some y → Among y (filter_map f xs)
+  pick x [] y h e = absurd h
+  pick x (z ∷ xs) y (inl is) e = picked (f z) y (filter_map f xs) (sym (ap f is) ∙ e)
+  pick x (z ∷ xs) y (inr h) e = more (f z) y (filter_map f xs) (pick x xs y h e)
+
+  pub unpick : (xs : List X) (y : Y) → Among y (filter_map f xs) → (x : X) × Among x xs × (f x ≡ Some y)
+  unpick [] y h = absurd h
+  unpick (z ∷ xs) y h = ⊎_elim (λ e. (z, inl refl, e)) (λ later. let p = unpick xs y later in (p.0, inr p.1, p.2)) (unpicked (f z) y (filter_map f xs) h)
+
+-- the keys of a set of numbers
+pub found : (x : ℕ) (xs : List ℕ) → list_any (nat_eq x) xs ≡ true → Among x xs
+found x [] h = absurd (true≢false (sym h))
+found x (y ∷ xs) h = ⊎_elim (λ e. inl (eqb-true x y e)) (λ later. inr (found x xs later)) (or_cases (nat_eq x y) (list_any (nat_eq x) xs) h)
+
+pub find : (x : ℕ) (xs : List ℕ) → Among x xs → list_any (nat_eq x) xs ≡ true
+find x [] h = absurd h
+find x (y ∷ xs) (inl e) = or_left (nat_eq x y) (list_any (nat_eq x) xs) (eq-eqb x y e)
+find x (y ∷ xs) (inr h) = or_right (nat_eq x y) (list_any (nat_eq x) xs) (find x xs h)
+
+-- one more key
+module _ (ks : List ℕ) (x : ℕ) where
+  key_cases : (b : Bool) (P : List ℕ → Type 0) → list_any (nat_eq x) ks ≡ b → (list_any (nat_eq x) ks ≡ true → P ks) → P (ks ++ x ∷ []) → P (insert_key nat_eq ks x)
+  key_cases true P e there added = subst (λ c. P (cond c ks (ks ++ x ∷ []))) (sym e) (there e)
+  key_cases false P e there added = subst (λ c. P (cond c ks (ks ++ x ∷ []))) (sym e) added
+
+  pub key_has : Among x (insert_key nat_eq ks x)
+  key_has = key_cases _ (λ l. Among x l) refl (found x ks) (right x ks (x ∷ []) (inl refl))
+
+  pub key_keeps : (y : ℕ) → Among y ks → Among y (insert_key nat_eq ks x)
+  key_keeps y h = key_cases _ (λ l. Among y l) refl (λ _. h) (left y ks (x ∷ []) h)
+
+  pub key_only : (y : ℕ) → Among y (insert_key nat_eq ks x) → Among y ks ⊎ (y ≡ x)
+  key_only y = key_cases _ (λ l. Among y l → Among y ks ⊎ (y ≡ x)) refl (λ _ h. inl h)
+      (λ h. ⊎_elim (λ l. inl l) (λ r. ⊎_elim (λ e. inr e) (λ n. absurd n) r) (cases y ks (x ∷ []) h))
+
+-- more keys
+pub all_keep : (xs ks : List ℕ) (y : ℕ) → Among y ks → Among y (insert_all nat_eq ks xs)
+all_keep [] ks y h = h
+all_keep (x ∷ xs) ks y h = all_keep xs (insert_key nat_eq ks x) y (key_keeps ks x y h)
+
+pub all_have : (xs ks : List ℕ) (y : ℕ) → Among y xs → Among y (insert_all nat_eq ks xs)
+all_have [] ks y h = absurd h
+all_have (x ∷ xs) ks y (inl e) = all_keep xs (insert_key nat_eq ks x) y (subst (λ w. Among w (insert_key nat_eq ks x)) (sym e) (key_has ks x))
+all_have (x ∷ xs) ks y (inr h) = all_have xs (insert_key nat_eq ks x) y h
+
+pub all_only : (xs ks : List ℕ) (y : ℕ) → Among y (insert_all nat_eq ks xs) → Among y ks ⊎ Among y xs
+all_only [] ks y h = inl h
+all_only (x ∷ xs) ks y h = ⊎_elim (λ old. ⊎_elim (λ l. inl l) (λ e. inr (inl e)) (key_only ks x y old)) (λ later. inr (inr later)) (all_only xs (insert_key nat_eq ks x) y h)
+
+-- the keys that were there keep their places
+key_stays : (ks : List ℕ) (x k : ℕ) → k < length ks → get_or (insert_key nat_eq ks x) k 0 ≡ get_or ks k 0
+key_stays ks x k h = key_cases ks x _ (λ l. get_or l k 0 ≡ get_or ks k 0) refl (λ _. refl) (get_or_append_left ks (x ∷ []) 0 k h)
+
+key_longer : (ks : List ℕ) (x : ℕ) → length ks ≤ length (insert_key nat_eq ks x)
+key_longer ks x = key_cases ks x _ (λ l. length ks ≤ length l) refl (λ _. omega arith) (omega (arith, length-append ks (x ∷ [])))
+
+pub all_stay : (xs ks : List ℕ) (k : ℕ) → k < length ks → get_or (insert_all nat_eq ks xs) k 0 ≡ get_or ks k 0
+all_stay [] ks k h = refl
+all_stay (x ∷ xs) ks k h = all_stay xs (insert_key nat_eq ks x) k (omega (arith, key_longer ks x)) ∙ key_stays ks x k h
+
+-- a look-up
+module _ {X : Type 0} where
+  pub some_get : (xs : List X) (k : ℕ) (x : X) → k < length xs → x ≡ get_or xs k x → slice_get xs k ≡ Some x
+  some_get [] k x h e = absurd (omega arith)
+  some_get (y ∷ xs) zero x h e = ap (λ w. Some w) (sym e)
+  some_get (y ∷ xs) (suc k) x h e = some_get xs k x (omega arith) e
+
+  pub get_some : (xs : List X) (k : ℕ) (x : X) → slice_get xs k ≡ Some x → Among x xs
+  get_some [] k x h = cc
+  get_some (y ∷ xs) zero x h = inl cc
+  get_some (y ∷ xs) (suc k) x h = inr (get_some xs k x h)
+
+  pub get_lt : (xs : List X) (k : ℕ) (x : X) → slice_get xs k ≡ Some x → k < length xs
+  get_lt [] k x h = cc
+  get_lt (y ∷ xs) zero x h = omega arith
+  get_lt (y ∷ xs) (suc k) x h = omega (arith, get_lt xs k x h)
+
+  pub get_past : (xs : List X) (k : ℕ) → length xs ≤ k → slice_get xs k ≡ None
+  get_past [] k h = refl
+  get_past (y ∷ xs) zero h = absurd (omega arith)
+  get_past (y ∷ xs) (suc k) h = get_past xs k (omega arith)
+
+-- tests of a list
+module _ {X : Type 0} (test : X → Bool) where
+  pub any_true : (xs : List X) → list_any test xs ≡ true → (x : X) × Among x xs × (test x ≡ true)
+  any_true [] h = absurd (true≢false (sym h))
+  any_true (x ∷ xs) h = ⊎_elim (λ e. (x, inl refl, e)) (λ later. let p = any_true xs later in (p.0, inr p.1, p.2)) (or_cases (test x) (list_any test xs) h)
+
+  pub true_any : (x : X) (xs : List X) → Among x xs → test x ≡ true → list_any test xs ≡ true
+  true_any x [] h e = absurd h
+  true_any x (y ∷ xs) (inl is) e = or_left (test y) (list_any test xs) (sym (ap test is) ∙ e)
+  true_any x (y ∷ xs) (inr h) e = or_right (test y) (list_any test xs) (true_any x xs h e)
+
+  pub all_true : (x : X) (xs : List X) → list_all test xs ≡ true → Among x xs → test x ≡ true
+  all_true x [] h among = absurd among
+  all_true x (y ∷ xs) h (inl is) = ap test is ∙ (and_parts (test y) (list_all test xs) h).0
+  all_true x (y ∷ xs) h (inr later) = all_true x xs (and_parts (test y) (list_all test xs) h).1 later
