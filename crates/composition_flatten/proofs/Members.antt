@@ -1,10 +1,10 @@
 -- What is in a list that is made of others.
-use Rattle.std.proofs.Common.{◌≡◌, ℕ, zero, suc, ◌+◌, ◌<◌, List, [], ◌∷◌, ◌++◌, length, get_or, filter, map, Bool, true, false, cond, ◌||◌, not, nat_eq, Option, Some, None, ◌⊎◌, inl, inr, ⊎_elim, refl, sym, ap, subst, ◌∙◌, true≢false, arith, fold, ◌≤◌, slice_get}
+use Rattle.std.proofs.Common.{◌≡◌, ℕ, zero, suc, ◌+◌, ◌<◌, List, [], ◌∷◌, ◌++◌, length, get_or, filter, map, Bool, true, false, cond, ◌||◌, not, nat_eq, Option, Some, None, ◌⊎◌, inl, inr, ⊎_elim, refl, sym, ap, subst, ◌∙◌, true≢false, arith, fold, ◌≤◌, slice_get, add-zero}
 use Rattle.std.proofs.lemmas.Bool.{eqb-true, eq-eqb, cases_Bool, or_cases, or_left, or_right, and_parts}
-use Rattle.std.proofs.lemmas.List.{get_or_append_left, length-append}
-use Rattle.std.specs.List.{flat_map, filter_map, list_any, list_all, cons_option}
+use Rattle.std.proofs.lemmas.List.{get_or_append_left, length-append, map-append}
+use Rattle.std.specs.List.{flat_map, filter_map, list_any, list_all, cons_option, enumerate_from}
 use Rattle.indexmap.specs.IndexSet.{insert_key, insert_all}
-use Rattle.composition_flatten.specs.Members.{Among}
+use Rattle.composition_flatten.specs.Members.{Among, sum_of}
 
 module _ {X : Type 0} where
   pub left : (x : X) (xs ys : List X) → Among x xs → Among x (xs ++ ys)
@@ -133,6 +133,11 @@ module _ {X : Type 0} where
   get_lt (y ∷ xs) zero x h = omega arith
   get_lt (y ∷ xs) (suc k) x h = omega (arith, get_lt xs k x h)
 
+  pub past_end : (xs : List X) (k : ℕ) → slice_get xs k ≡ None → length xs ≤ k
+  past_end [] k h = omega arith
+  past_end (y ∷ xs) zero h = cc
+  past_end (y ∷ xs) (suc k) h = let rest = past_end xs k h in omega arith
+
   pub get_past : (xs : List X) (k : ℕ) → length xs ≤ k → slice_get xs k ≡ None
   get_past [] k h = refl
   get_past (y ∷ xs) zero h = absurd (omega arith)
@@ -153,3 +158,46 @@ module _ {X : Type 0} (test : X → Bool) where
   all_true x [] h among = absurd among
   all_true x (y ∷ xs) h (inl is) = ap test is ∙ (and_parts (test y) (list_all test xs) h).0
   all_true x (y ∷ xs) h (inr later) = all_true x xs (and_parts (test y) (list_all test xs) h).1 later
+
+-- one more at the end
+pub get_push : {X : Type 0} (xs : List X) (x y : X) (k : ℕ) → slice_get (xs ++ x ∷ []) k ≡ Some y → (slice_get xs k ≡ Some y) ⊎ ((k ≡ length xs) × (x ≡ y))
+get_push [] x y zero h = inr (refl, cc)
+get_push [] x y (suc k) h = cc
+get_push (z ∷ xs) x y zero h = inl h
+get_push (z ∷ xs) x y (suc k) h = ⊎_elim (λ l. inl l) (λ (r : (k ≡ length xs) × (x ≡ y)). inr (ap (λ n. suc n) r.0, r.1)) (get_push xs x y k h)
+
+pub all_append : (xs ys ks : List ℕ) → insert_all nat_eq ks (xs ++ ys) ≡ insert_all nat_eq (insert_all nat_eq ks xs) ys
+all_append [] ys ks = refl
+all_append (x ∷ xs) ys ks = all_append xs ys (insert_key nat_eq ks x)
+
+-- each element with its place
+module _ {X Y : Type 0} where
+  pub flat_length : (f : X → List Y) (xs : List X) → length (flat_map f xs) ≡ sum_of (λ x. length (f x)) xs
+  flat_length f [] = refl
+  flat_length f (x ∷ xs) = length-append (f x) (flat_map f xs) ∙ ap (λ n. length (f x) + n) (flat_length f xs)
+
+pub sum_same : {X : Type 0} (f g : X → ℕ) → ((x : X) → f x ≡ g x) → (xs : List X) → sum_of f xs ≡ sum_of g xs
+sum_same f g same [] = refl
+sum_same f g same (x ∷ xs) = let here = same x in let rest = sum_same f g same xs in omega arith
+
+pub sum_numbered : {X : Type 0} (f : ℕ × X → ℕ) (g : X → ℕ) → ((i : ℕ) (x : X) → f (i, x) ≡ g x) → (n : ℕ) (xs : List X) → sum_of f (enumerate_from n xs) ≡ sum_of g xs
+sum_numbered f g same n [] = refl
+sum_numbered f g same n (x ∷ xs) = let here = same n x in let rest = sum_numbered f g same (n + 1) xs in omega arith
+
+pub map_numbered : {X Y Z : Type 0} (h : Y → Z) (f : ℕ × X → List Y) (g : X → List Z) (n : ℕ) (xs : List X)
+    → ((i : ℕ) (x : X) → slice_get xs i ≡ Some x → map h (f (n + i, x)) ≡ g x) → map h (flat_map f (enumerate_from n xs)) ≡ flat_map g xs
+map_numbered h f g n [] same = refl
+map_numbered {X = X} h f g n (x ∷ xs) same =
+    map-append h (f (n, x)) (flat_map f (enumerate_from (n + 1) xs))
+    ∙ ap (λ l. l ++ map h (flat_map f (enumerate_from (n + 1) xs))) (ap (λ m. map h (f (m, x))) (sym (add-zero n)) ∙ same 0 x refl)
+    ∙ ap (λ l. g x ++ l) (map_numbered h f g (n + 1) xs (λ i y some. let e : n + 1 + i ≡ n + suc i = omega arith in ap (λ m. map h (f (m, y))) e ∙ same (suc i) y some))
+
+pub numbered : {X : Type 0} (n : ℕ) (xs : List X) (i : ℕ) (x : X) → slice_get xs i ≡ Some x → Among (n + i, x) (enumerate_from n xs)
+numbered n [] i x h = cc
+numbered n (y ∷ xs) zero x h = let e : y ≡ x = cc in inl (ap (λ m. (m, x)) (add-zero n) ∙ ap (λ w. (n, w)) (sym e))
+numbered n (y ∷ xs) (suc i) x h = inr (let e : n + 1 + i ≡ n + suc i = omega arith in subst (λ m. Among (m, x) (enumerate_from (n + 1) xs)) e (numbered (n + 1) xs i x h))
+
+pub unnumbered : {X : Type 0} (n : ℕ) (xs : List X) (k : ℕ) (x : X) → Among (k, x) (enumerate_from n xs) → (i : ℕ) × (k ≡ n + i) × (slice_get xs i ≡ Some x)
+unnumbered n [] k x h = absurd h
+unnumbered {X = X} n (y ∷ xs) k x (inl e) = let a : k ≡ n = ap (λ p. p.0) e in let b : x ≡ y = ap (λ p. p.1) e in (0, omega arith, ap (λ w. Some w) (sym b))
+unnumbered n (y ∷ xs) k x (inr h) = let r = unnumbered (n + 1) xs k x h in (suc r.0, omega (arith, r.1), r.2)

@@ -12,7 +12,7 @@ use Rattle.component_model.specs.declared.description.PrototypeType.TheVariants.
 use Rattle.indexmap.specs.IndexSet.{insert_key, insert_all}
 use Rattle.composition_flatten.specs.Members.{Among}
 use Rattle.composition_flatten.specs.Paths.{prototypes_of, type_in, type_at, Leads, held_by, declared_in, declared_composition, IsReached}
-use Rattle.composition_flatten.proofs.Members.{at, place, pick, unpick, found, all_keep, all_have, all_only, all_stay, get_some, get_lt, get_past}
+use Rattle.composition_flatten.proofs.Members.{at, place, pick, unpick, found, all_keep, all_have, all_only, all_stay, get_some, get_lt, past_end}
 use Rattle.composition_flatten.proofs.Steps.{step_is, step_of, step_on, last_step, holder_declared}
 
 -- what a declared composition of a prototype is
@@ -80,9 +80,6 @@ module _ (d : Description) where
                 all_have (held_by d holder) keys e (subst (λ x. Among e (held_by d x)) (ap (λ i. get_or keys i 0) same ∙ here) was))
               (cases_lt k next);
         })
-
-    past_end : (keys : List ℕ) (next : ℕ) → slice_get keys next ≡ None → length keys ≤ next
-    past_end keys next none = ⊎_elim (λ within. let no : None ≡ Some (get_or keys next 0) = sym none ∙ slice_get-get_or keys next 0 within in cc) (λ l. l) (cases_lt next (length keys))
 
     module _ (keys : List ℕ) (next : ℕ) (s : Search keys next) (past : length keys ≤ next) (start : ℕ) (h : Among start starts) where
       one_further : (q : ℕ) (path : List ℕ) (e : ℕ) → type_at d (Composition start) (q ∷ path) ≡ Some (Composition e) → e < length d.compositions

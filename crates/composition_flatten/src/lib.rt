@@ -2,6 +2,12 @@
 #![tactic(auto)]
 
 mod containing;
+mod counts;
+mod depth;
+mod flat;
+mod listing;
 mod prototypes;
 mod ranks;
 mod reach;
+
+pub use flat::{End, Flat, Instance, Join};

@@ -30,7 +30,8 @@ pub fn declared_composition(d: &Description, prototype: &Prototype) -> Option<u3
     }
 }
 
-fn add_held(d: &Description, holder: u32, found: &mut IndexSet<u32>) -> Result<(), Memory>
+/// Adds the declared compositions that a composition holds.
+pub fn add_held(d: &Description, holder: u32, found: &mut IndexSet<u32>) -> Result<(), Memory>
     ensures { OnOk result (found.new.keys ≡ insert_all nat_eq found.old.keys (held_by d.now holder)) }
 {
     for prototype in prototypes_of(d, holder) {
