@@ -1,6 +1,5 @@
 -- Counts of instances, capped.
-use Rattle.std.proofs.Common.{◌≡◌, ℕ, zero, suc, ◌+◌, ◌<◌, ◌≤◌, min, List, [], ◌∷◌, length, get_or, slice_get, slice_index, drop, take, map, Option, Some, None, Vec, subst, ◌++◌, ◌⊎◌, inl, inr, ⊎_elim, refl, sym, ap, ◌∙◌, arith}
-use Rattle.std.proofs.lemmas.Bool.{cases_lt}
+use Rattle.std.proofs.Common.{◌≡◌, ℕ, suc, ◌+◌, ◌<◌, min, List, [], ◌∷◌, length, get_or, slice_get, slice_index, drop, map, Option, Some, None, Vec, subst, ◌++◌, ⊎_elim, refl, sym, ap, ◌∙◌, arith}
 use Rattle.std.proofs.lemmas.List.{at_drop_more, get_or-map, get_or_past, length-map}
 use Rattle.std.proofs.lemmas.Option.{get_or_from_slice_get}
 use Rattle.std.specs.Global.{Global}
@@ -13,7 +12,6 @@ use Rattle.component_model.specs.declared.description.PrototypeType.TheVariants.
 use Rattle.composition_flatten.specs.Instances.{size, size_of}
 use Rattle.composition_flatten.specs.Counts.{AreCounts, count_for}
 use Rattle.composition_flatten.specs.Members.{sum_of}
-use Rattle.composition_flatten.specs.Paths.{prototypes_of}
 use Rattle.composition_flatten.proofs.Members.{get_lt, past_end, get_push}
 
 pub capped_more : (total here rest whole after : ℕ) → min (total + (here + rest)) 1025 ≡ whole → after ≡ min (total + here) 1025 → min (after + rest) 1025 ≡ whole

@@ -1,9 +1,8 @@
 -- Which compositions stand so deep, and whether a component stands deeper.
-use Rattle.std.proofs.Common.{◌≡◌, ℕ, zero, suc, ◌+◌, ◌-◌, ◌<◌, ◌≤◌, List, [], ◌∷◌, ◌++◌, length, take, drop, nat_eq, Bool, true, false, Option, Some, None, option_map, option_and_then, ◌⊎◌, inl, inr, ⊎_elim, ◌↔◌, IsTrue, refl, sym, ap, subst, ◌∙◌, arith}
-use Rattle.std.proofs.lemmas.List.{length-append, length-take, length-drop, take-append-drop}
+use Rattle.std.proofs.Common.{◌≡◌, ℕ, suc, ◌-◌, ◌<◌, ◌≤◌, List, [], ◌∷◌, ◌++◌, length, take, drop, nat_eq, Bool, true, Option, Some, None, option_and_then, inl, ⊎_elim, ◌↔◌, IsTrue, refl, sym, ap, subst, ◌∙◌, arith}
+use Rattle.std.proofs.lemmas.List.{length-append, length-drop, take-append-drop}
 use Rattle.std.specs.List.{flat_map, list_any}
 use Rattle.component_model.specs.declared.description.Description.{Description}
-use Rattle.component_model.specs.declared.description.Prototype.{Prototype}
 use Rattle.component_model.specs.declared.description.PrototypeType.{PrototypeType}
 use Rattle.component_model.specs.declared.description.PrototypeType.TheVariants.{Component, Composition}
 use Rattle.indexmap.specs.IndexSet.{insert_all}
@@ -11,7 +10,7 @@ use Rattle.composition_flatten.specs.Instances.{IsTooDeep}
 use Rattle.composition_flatten.specs.Levels.{is_component, IsLevel}
 use Rattle.composition_flatten.specs.Members.{Among}
 use Rattle.composition_flatten.specs.Paths.{prototypes_of, type_in, type_at, held_by, IsReached}
-use Rattle.composition_flatten.proofs.Members.{all_only, all_have, all_append, flat, unflat, any_true, true_any, get_some}
+use Rattle.composition_flatten.proofs.Members.{numbers_only, numbers_have, flat, unflat, any_true, true_any, get_some}
 use Rattle.composition_flatten.proofs.Reaching.{held_step, step_held}
 use Rattle.composition_flatten.proofs.Steps.{step_is, step_of, step_on, last_step, holder_declared}
 
@@ -41,7 +40,7 @@ module _ (d : Description) where
   module _ (n : ℕ) (level : List ℕ) (is : IsLevel d n level) where
     level_only : (e : ℕ) → Among e (insert_all nat_eq [] (flat_map (held_by d) level)) → (path : List ℕ) × (length path ≡ suc n) × (type_at d (Composition d.root) path ≡ Some (Composition e)) × (e < length d.compositions)
     level_only e h =
-        let among = ⊎_elim (λ no. absurd no) (λ a. a) (all_only (flat_map (held_by d) level) [] e h) in
+        let among = ⊎_elim (λ no. absurd no) (λ a. a) (numbers_only (flat_map (held_by d) level) [] e h) in
         let holder = unflat (held_by d) level e among in
         let step = held_step d holder.0 e holder.2 in
         let above = (is holder.0).0 holder.1 in
@@ -52,7 +51,7 @@ module _ (d : Description) where
     level_all e (q ∷ path) long typed declared =
         let l = last_step d (Composition d.root) (Composition e) q path typed in
         let there = (is l.0).1 (path, omega arith, l.1, holder_declared d l.0 q (Composition e) l.2) in
-        all_have (flat_map (held_by d) level) [] e (flat (held_by d) l.0 level e there (step_held d l.0 e q l.2 declared))
+        numbers_have (flat_map (held_by d) level) [] e (flat (held_by d) l.0 level e there (step_held d l.0 e q l.2 declared))
 
   pub level_more : (n : ℕ) (level slice next : List ℕ) → slice ≡ level → next ≡ insert_all nat_eq [] (flat_map (held_by d) slice) → IsLevel d n level → IsLevel d (suc n) next
   level_more n level slice next same made is =
@@ -61,8 +60,10 @@ module _ (d : Description) where
 
   pub level_root : (level : List ℕ) → level ≡ d.root ∷ [] → d.root < length d.compositions → IsLevel d 0 level
   level_root level is declared = subst (λ ks. IsLevel d 0 ks) (sym is)
-      (λ e. ((λ h. ⊎_elim (λ (same : e ≡ d.root). ([], refl, ap (λ x. Some (Composition x)) (sym same), subst (λ x. x < length d.compositions) (sym same) declared)) (λ no. absurd no) h),
-             (λ p. inl (root_is p.0 e p.1 p.2))))
+      (λ e. (
+        (λ h. ⊎_elim (λ (same : e ≡ d.root). ([], refl, ap (λ x. Some (Composition x)) (sym same), subst (λ x. x < length d.compositions) (sym same) declared)) (λ no. absurd no) h),
+        (λ p. inl (root_is p.0 e p.1 p.2)),
+      ))
     where
       root_is : (path : List ℕ) (e : ℕ) → length path ≡ 0 → type_at d (Composition d.root) path ≡ Some (Composition e) → e ≡ d.root
       root_is [] e none typed = cc
@@ -84,9 +85,12 @@ module _ (d : Description) where
         let r = (all holder.0).0 holder.1 in
         let top = (is r.0).0 r.1 in
         let down : type_at d (Composition d.root) (r.2.0 ++ top.0) ≡ Some (Composition holder.0) = path_on (Composition d.root) r.2.0 top.0 ∙ ap (option_and_then (λ u. type_at d u r.2.0)) top.2 ∙ r.2.1 in
-        let c = component_of p.0.of_type p.2 in
-        (k.0 ∷ (r.2.0 ++ top.0), c.0, step_on d (Composition d.root) (Composition holder.0) (Component c.0) k.0 (r.2.0 ++ top.0) down (k.1 ∙ ap (λ t. Some t) c.1),
-         omega (arith, length-append r.2.0 top.0, top.1))
+        let c = component_of p.0.of_type p.2 in (
+          k.0 ∷ (r.2.0 ++ top.0),
+          c.0,
+          step_on d (Composition d.root) (Composition holder.0) (Component c.0) k.0 (r.2.0 ++ top.0) down (k.1 ∙ ap (λ t. Some t) c.1),
+          omega (arith, length-append r.2.0 top.0, top.1),
+        )
       where
         component_of : (t : PrototypeType) → is_component t ≡ true → (k : ℕ) × (t ≡ Component k)
         component_of (Component k) is = (k, refl)
@@ -101,7 +105,7 @@ module _ (d : Description) where
         let lower = take (length path - 8) path in
         let whole : lower ++ upper ≡ path = take-append-drop (length path - 8) path in
         let two : option_and_then (λ u. type_at d u lower) (type_at d (Composition d.root) upper) ≡ Some (Composition l.0) =
-          sym (path_on (Composition d.root) lower upper) ∙ ap (type_at d (Composition d.root)) whole ∙ l.1 in
+        sym (path_on (Composition d.root) lower upper) ∙ ap (type_at d (Composition d.root)) whole ∙ l.1 in
         let mid = through_none (λ u. type_at d u lower) (type_at d (Composition d.root) upper) (Composition l.0) two in
         let declared = holder_declared d l.0 q (Component k) l.2 in
         let start = start_is mid.0 lower l.0 mid.2 declared in

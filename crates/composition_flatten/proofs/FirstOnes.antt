@@ -1,5 +1,5 @@
 -- One more number is looked at.
-use Rattle.std.proofs.Common.{◌≡◌, ℕ, ◌+◌, ◌<◌, ◌≤◌, Bool, true, false, ◌↔◌, IsTrue, sym, ◌∙◌, true≢false, arith}
+use Rattle.std.proofs.Common.{◌≡◌, ℕ, ◌+◌, ◌<◌, ◌≤◌, Bool, false, ◌↔◌, IsTrue, sym, ◌∙◌, true≢false, arith}
 use borrow.Author.Count.{below_more}
 
 pub refuted : (P : Type 0) (answer : Bool) → IsTrue answer ↔ P → answer ≡ false → ¬ P

@@ -1,14 +1,13 @@
 -- Compositions that contain themselves, and those that their rank shows not to.
-use Rattle.std.proofs.Common.{◌≡◌, ℕ, suc, ◌+◌, ◌<◌, ◌≤◌, List, [], ◌∷◌, length, slice_get, slice_index, Bool, true, false, nat_eq, nat_lt, nat_le, Option, Some, None, option_map, option_and_then, ◌⊎◌, inl, inr, ⊎_elim, ◌↔◌, refl, sym, ap, subst, ◌∙◌, arith, IsTrue}
-use Rattle.std.proofs.lemmas.Bool.{ltb-true, leb-true, eqb-true, eq-eqb, cases_lt}
+use Rattle.std.proofs.Common.{◌≡◌, ℕ, ◌<◌, ◌≤◌, List, [], ◌∷◌, length, slice_index, Bool, true, nat_lt, nat_le, Some, inl, ⊎_elim, ◌↔◌, refl, sym, ap, subst, ◌∙◌, arith, IsTrue}
+use Rattle.std.proofs.lemmas.Bool.{ltb-true, leb-true, eqb-true, eq-eqb}
 use Rattle.std.specs.List.{list_any, list_all}
 use Rattle.std.specs.Option.{option_map_or}
 use Rattle.component_model.specs.declared.description.Description.{Description}
-use Rattle.component_model.specs.declared.description.Prototype.{Prototype}
 use Rattle.component_model.specs.declared.description.PrototypeType.{PrototypeType}
 use Rattle.component_model.specs.declared.description.PrototypeType.TheVariants.{Component, Composition}
 use Rattle.composition_flatten.specs.Members.{Among}
-use Rattle.composition_flatten.specs.Paths.{prototypes_of, type_in, type_at, Leads, ContainsItself, is_composition, held_by, declared_in, declared_composition, IsReached}
+use Rattle.composition_flatten.specs.Paths.{prototypes_of, type_in, type_at, ContainsItself, is_composition, declared_in, declared_composition, IsReached}
 use Rattle.composition_flatten.specs.Ranks.{ranks_within, ranks_below}
 use Rattle.composition_flatten.proofs.Members.{get_some, any_true, true_any, all_true}
 use Rattle.composition_flatten.proofs.Steps.{step_is, step_of, step_on, last_step, holder_declared}
@@ -29,9 +28,12 @@ module _ (d : Description) (c : ℕ) where
         let p = any_true (λ p. is_composition c p.of_type) (prototypes_of d holder.0) holder.2 in
         let k = step_of d holder.0 p.0 p.1 in
         let reached = (below holder.0).0 holder.1 in
-        let start : reached.0 ≡ c = ⊎_elim (λ e. e) (λ n. absurd n) reached.1 in
-        (k.0, reached.2.0, step_on d (Composition c) (Composition holder.0) (Composition c) k.0 reached.2.0
-          (subst (λ x. type_at d (Composition x) reached.2.0 ≡ Some (Composition holder.0)) start reached.2.1) (k.1 ∙ ap (λ t. Some t) (is_it c p.0.of_type p.2)))
+        let start : reached.0 ≡ c = ⊎_elim (λ e. e) (λ n. absurd n) reached.1 in (
+          k.0,
+          reached.2.0,
+          step_on d (Composition c) (Composition holder.0) (Composition c) k.0 reached.2.0
+              (subst (λ x. type_at d (Composition x) reached.2.0 ≡ Some (Composition holder.0)) start reached.2.1) (k.1 ∙ ap (λ t. Some t) (is_it c p.0.of_type p.2)),
+        )
 
     in_itself_found : ContainsItself d c → list_any (λ h. list_any (λ p. is_composition c p.of_type) (prototypes_of d h)) keys ≡ true
     in_itself_found r =
@@ -40,7 +42,7 @@ module _ (d : Description) (c : ℕ) where
         let there = (below l.0).1 (c, inl refl, (r.1, l.1), holder_declared d l.0 r.0 (Composition c) l.2) in
         true_any (λ h. list_any (λ p. is_composition c p.of_type) (prototypes_of d h)) l.0 keys there
         (true_any (λ p. is_composition c p.of_type) p.0 (prototypes_of d l.0) (get_some (prototypes_of d l.0) r.0 p.0 p.1)
-          (ap (is_composition c) p.2 ∙ eq-eqb c c refl))
+        (ap (is_composition c) p.2 ∙ eq-eqb c c refl))
 
     in_itself_here : (answer : Bool) → answer ≡ list_any (λ h. list_any (λ p. is_composition c p.of_type) (prototypes_of d h)) keys → IsTrue answer ↔ ContainsItself d c
     in_itself_here answer is = ((λ h. found_in_itself (sym is ∙ h)), (λ r. is ∙ in_itself_found r))

@@ -1,3 +1,4 @@
+pub mod Broken
 pub mod Counting
 pub mod Deepest
 pub mod FirstOnes
@@ -5,4 +6,5 @@ pub mod InItself
 pub mod Members
 pub mod Naming
 pub mod Reaching
+pub mod SameKeys
 pub mod Steps

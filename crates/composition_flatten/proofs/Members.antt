@@ -1,6 +1,6 @@
 -- What is in a list that is made of others.
-use Rattle.std.proofs.Common.{◌≡◌, ℕ, zero, suc, ◌+◌, ◌<◌, List, [], ◌∷◌, ◌++◌, length, get_or, filter, map, Bool, true, false, cond, ◌||◌, not, nat_eq, Option, Some, None, ◌⊎◌, inl, inr, ⊎_elim, refl, sym, ap, subst, ◌∙◌, true≢false, arith, fold, ◌≤◌, slice_get, add-zero}
-use Rattle.std.proofs.lemmas.Bool.{eqb-true, eq-eqb, cases_Bool, or_cases, or_left, or_right, and_parts}
+use Rattle.std.proofs.Common.{◌≡◌, ℕ, zero, suc, ◌+◌, ◌<◌, List, [], ◌∷◌, ◌++◌, length, get_or, map, Bool, true, false, cond, not, nat_eq, Option, Some, None, ◌⊎◌, inl, inr, ⊎_elim, ◌↔◌, refl, sym, ap, subst, ◌∙◌, true≢false, arith, ◌≤◌, slice_get, add-zero}
+use Rattle.std.proofs.lemmas.Bool.{eqb-true, eq-eqb, or_cases, or_left, or_right, and_parts}
 use Rattle.std.proofs.lemmas.List.{get_or_append_left, length-append, map-append}
 use Rattle.std.specs.List.{flat_map, filter_map, list_any, list_all, cons_option, enumerate_from}
 use Rattle.indexmap.specs.IndexSet.{insert_key, insert_all}
@@ -65,52 +65,85 @@ module _ {X Y : Type 0} (f : X → Option Y) where
   unpick [] y h = absurd h
   unpick (z ∷ xs) y h = ⊎_elim (λ e. (z, inl refl, e)) (λ later. let p = unpick xs y later in (p.0, inr p.1, p.2)) (unpicked (f z) y (filter_map f xs) h)
 
--- the keys of a set of numbers
+-- the keys of a set, where equal keys are the same
+module _ {X : Type 0} (eq : X → X → Bool) (same : (x y : X) → eq x y ≡ true → x ≡ y) (itself : (x : X) → eq x x ≡ true) where
+  pub found_key : (x : X) (xs : List X) → list_any (eq x) xs ≡ true → Among x xs
+  found_key x [] h = absurd (true≢false (sym h))
+  found_key x (y ∷ xs) h = ⊎_elim (λ e. inl (same x y e)) (λ later. inr (found_key x xs later)) (or_cases (eq x y) (list_any (eq x) xs) h)
+
+  pub find_key : (x : X) (xs : List X) → Among x xs → list_any (eq x) xs ≡ true
+  find_key x [] h = absurd h
+  find_key x (y ∷ xs) (inl e) = or_left (eq x y) (list_any (eq x) xs) (sym (ap (eq x) e) ∙ itself x)
+  find_key x (y ∷ xs) (inr h) = or_right (eq x y) (list_any (eq x) xs) (find_key x xs h)
+
+  -- one more key
+  module _ (ks : List X) (x : X) where
+    pub key_cases : (b : Bool) (P : List X → Type 0) → list_any (eq x) ks ≡ b → (list_any (eq x) ks ≡ true → P ks) → P (ks ++ x ∷ []) → P (insert_key eq ks x)
+    key_cases true P e there added = subst (λ c. P (cond c ks (ks ++ x ∷ []))) (sym e) (there e)
+    key_cases false P e there added = subst (λ c. P (cond c ks (ks ++ x ∷ []))) (sym e) added
+
+    pub key_has : Among x (insert_key eq ks x)
+    key_has = key_cases _ (λ l. Among x l) refl (found_key x ks) (right x ks (x ∷ []) (inl refl))
+
+    pub key_keeps : (y : X) → Among y ks → Among y (insert_key eq ks x)
+    key_keeps y h = key_cases _ (λ l. Among y l) refl (λ _. h) (left y ks (x ∷ []) h)
+
+    pub key_only : (y : X) → Among y (insert_key eq ks x) → Among y ks ⊎ (y ≡ x)
+    key_only y = key_cases _ (λ l. Among y l → Among y ks ⊎ (y ≡ x)) refl (λ _ h. inl h)
+        (λ h. ⊎_elim (λ l. inl l) (λ r. ⊎_elim (λ e. inr e) (λ n. absurd n) r) (cases y ks (x ∷ []) h))
+
+    pub key_iff : (after : List X) → after ≡ insert_key eq ks x → (y : X) → Among y after ↔ (Among y ks ⊎ (y ≡ x))
+    key_iff after is y = (
+      (λ h. key_only y (subst (Among y) is h)),
+      (λ h. subst (Among y) (sym is) (⊎_elim (key_keeps y) (λ e. subst (λ w. Among w (insert_key eq ks x)) (sym e) key_has) h)),
+    )
+
+    pub key_was : (new : Bool) → new ≡ not (list_any (eq x) ks) → (not new ≡ true) ↔ Among x ks
+    key_was new is = ((λ h. found_key x ks (by (list_any (eq x) ks) refl h)), (λ h. ap not (is ∙ ap not (find_key x ks h))))
+      where
+        by : (b : Bool) → list_any (eq x) ks ≡ b → not new ≡ true → list_any (eq x) ks ≡ true
+        by true e h = e
+        by false e h = absurd (true≢false (sym h ∙ ap not (is ∙ ap not e)))
+
+  -- more keys
+  pub all_keep : (xs ks : List X) (y : X) → Among y ks → Among y (insert_all eq ks xs)
+  all_keep [] ks y h = h
+  all_keep (x ∷ xs) ks y h = all_keep xs (insert_key eq ks x) y (key_keeps ks x y h)
+
+  pub all_have : (xs ks : List X) (y : X) → Among y xs → Among y (insert_all eq ks xs)
+  all_have [] ks y h = absurd h
+  all_have (x ∷ xs) ks y (inl e) = all_keep xs (insert_key eq ks x) y (subst (λ w. Among w (insert_key eq ks x)) (sym e) (key_has ks x))
+  all_have (x ∷ xs) ks y (inr h) = all_have xs (insert_key eq ks x) y h
+
+  pub all_only : (xs ks : List X) (y : X) → Among y (insert_all eq ks xs) → Among y ks ⊎ Among y xs
+  all_only [] ks y h = inl h
+  all_only (x ∷ xs) ks y h = ⊎_elim (λ old. ⊎_elim (λ l. inl l) (λ e. inr (inl e)) (key_only ks x y old)) (λ later. inr (inr later)) (all_only xs (insert_key eq ks x) y h)
+
+pub same_number : (x y : ℕ) → nat_eq x y ≡ true → x ≡ y
+same_number x y h = eqb-true x y h
+
+pub itself_number : (x : ℕ) → nat_eq x x ≡ true
+itself_number x = eq-eqb x x refl
+
+-- the same of numbers
 pub found : (x : ℕ) (xs : List ℕ) → list_any (nat_eq x) xs ≡ true → Among x xs
-found x [] h = absurd (true≢false (sym h))
-found x (y ∷ xs) h = ⊎_elim (λ e. inl (eqb-true x y e)) (λ later. inr (found x xs later)) (or_cases (nat_eq x y) (list_any (nat_eq x) xs) h)
+found x xs = found_key nat_eq same_number itself_number x xs
 
-pub find : (x : ℕ) (xs : List ℕ) → Among x xs → list_any (nat_eq x) xs ≡ true
-find x [] h = absurd h
-find x (y ∷ xs) (inl e) = or_left (nat_eq x y) (list_any (nat_eq x) xs) (eq-eqb x y e)
-find x (y ∷ xs) (inr h) = or_right (nat_eq x y) (list_any (nat_eq x) xs) (find x xs h)
+pub numbers_keep : (xs ks : List ℕ) (y : ℕ) → Among y ks → Among y (insert_all nat_eq ks xs)
+numbers_keep = all_keep nat_eq same_number itself_number
 
--- one more key
-module _ (ks : List ℕ) (x : ℕ) where
-  key_cases : (b : Bool) (P : List ℕ → Type 0) → list_any (nat_eq x) ks ≡ b → (list_any (nat_eq x) ks ≡ true → P ks) → P (ks ++ x ∷ []) → P (insert_key nat_eq ks x)
-  key_cases true P e there added = subst (λ c. P (cond c ks (ks ++ x ∷ []))) (sym e) (there e)
-  key_cases false P e there added = subst (λ c. P (cond c ks (ks ++ x ∷ []))) (sym e) added
+pub numbers_have : (xs ks : List ℕ) (y : ℕ) → Among y xs → Among y (insert_all nat_eq ks xs)
+numbers_have = all_have nat_eq same_number itself_number
 
-  pub key_has : Among x (insert_key nat_eq ks x)
-  key_has = key_cases _ (λ l. Among x l) refl (found x ks) (right x ks (x ∷ []) (inl refl))
-
-  pub key_keeps : (y : ℕ) → Among y ks → Among y (insert_key nat_eq ks x)
-  key_keeps y h = key_cases _ (λ l. Among y l) refl (λ _. h) (left y ks (x ∷ []) h)
-
-  pub key_only : (y : ℕ) → Among y (insert_key nat_eq ks x) → Among y ks ⊎ (y ≡ x)
-  key_only y = key_cases _ (λ l. Among y l → Among y ks ⊎ (y ≡ x)) refl (λ _ h. inl h)
-      (λ h. ⊎_elim (λ l. inl l) (λ r. ⊎_elim (λ e. inr e) (λ n. absurd n) r) (cases y ks (x ∷ []) h))
-
--- more keys
-pub all_keep : (xs ks : List ℕ) (y : ℕ) → Among y ks → Among y (insert_all nat_eq ks xs)
-all_keep [] ks y h = h
-all_keep (x ∷ xs) ks y h = all_keep xs (insert_key nat_eq ks x) y (key_keeps ks x y h)
-
-pub all_have : (xs ks : List ℕ) (y : ℕ) → Among y xs → Among y (insert_all nat_eq ks xs)
-all_have [] ks y h = absurd h
-all_have (x ∷ xs) ks y (inl e) = all_keep xs (insert_key nat_eq ks x) y (subst (λ w. Among w (insert_key nat_eq ks x)) (sym e) (key_has ks x))
-all_have (x ∷ xs) ks y (inr h) = all_have xs (insert_key nat_eq ks x) y h
-
-pub all_only : (xs ks : List ℕ) (y : ℕ) → Among y (insert_all nat_eq ks xs) → Among y ks ⊎ Among y xs
-all_only [] ks y h = inl h
-all_only (x ∷ xs) ks y h = ⊎_elim (λ old. ⊎_elim (λ l. inl l) (λ e. inr (inl e)) (key_only ks x y old)) (λ later. inr (inr later)) (all_only xs (insert_key nat_eq ks x) y h)
+pub numbers_only : (xs ks : List ℕ) (y : ℕ) → Among y (insert_all nat_eq ks xs) → Among y ks ⊎ Among y xs
+numbers_only = all_only nat_eq same_number itself_number
 
 -- the keys that were there keep their places
 key_stays : (ks : List ℕ) (x k : ℕ) → k < length ks → get_or (insert_key nat_eq ks x) k 0 ≡ get_or ks k 0
-key_stays ks x k h = key_cases ks x _ (λ l. get_or l k 0 ≡ get_or ks k 0) refl (λ _. refl) (get_or_append_left ks (x ∷ []) 0 k h)
+key_stays ks x k h = key_cases nat_eq same_number itself_number ks x _ (λ l. get_or l k 0 ≡ get_or ks k 0) refl (λ _. refl) (get_or_append_left ks (x ∷ []) 0 k h)
 
 key_longer : (ks : List ℕ) (x : ℕ) → length ks ≤ length (insert_key nat_eq ks x)
-key_longer ks x = key_cases ks x _ (λ l. length ks ≤ length l) refl (λ _. omega arith) (omega (arith, length-append ks (x ∷ [])))
+key_longer ks x = key_cases nat_eq same_number itself_number ks x _ (λ l. length ks ≤ length l) refl (λ _. omega arith) (omega (arith, length-append ks (x ∷ [])))
 
 pub all_stay : (xs ks : List ℕ) (k : ℕ) → k < length ks → get_or (insert_all nat_eq ks xs) k 0 ≡ get_or ks k 0
 all_stay [] ks k h = refl

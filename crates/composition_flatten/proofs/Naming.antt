@@ -1,18 +1,16 @@
 -- The instances as they are listed are those of the places.
-use Rattle.std.proofs.Common.{◌≡◌, ℕ, zero, suc, ◌+◌, ◌<◌, ◌≤◌, min, List, [], ◌∷◌, ◌++◌, length, map, slice_get, slice_index, codes, Vec, Option, Some, None, option_map, refl, sym, ap, subst, ◌∙◌, arith}
+use Rattle.std.proofs.Common.{◌≡◌, ℕ, zero, suc, ◌+◌, ◌<◌, ◌≤◌, min, List, [], ◌∷◌, ◌++◌, length, map, slice_get, slice_index, codes, Vec, Option, Some, None, option_map, refl, sym, ap, ◌∙◌, arith}
 use Rattle.std.proofs.lemmas.List.{nil_from_length, append-nil}
-use Rattle.std.proofs.lemmas.Option.{slice_get-get_or}
 use Rattle.std.specs.Global.{Global}
-use Rattle.std.specs.List.{flat_map, enumerate_from}
+use Rattle.std.specs.List.{enumerate_from}
 use Rattle.std.specs.Option.{option_map_or}
 use Rattle.component_model.specs.declared.description.Description.{Description}
 use Rattle.component_model.specs.declared.description.Prototype.{Prototype}
 use Rattle.component_model.specs.declared.description.PrototypeType.{PrototypeType}
 use Rattle.component_model.specs.declared.description.PrototypeType.TheVariants.{Component, Composition}
 use Rattle.composition_flatten.specs.declared.flat.Instance.{Instance}
-use Rattle.composition_flatten.specs.Counts.{AreCounts, IsCounted, count_in}
-use Rattle.composition_flatten.specs.Instances.{Place, places_of, places_below, places, size, size_of, name_in, name_at, prefix_at, written, instance_at, instances}
-use Rattle.composition_flatten.specs.Members.{Among, sum_of}
+use Rattle.composition_flatten.specs.Counts.{IsCounted, count_in}
+use Rattle.composition_flatten.specs.Instances.{places_of, places_below, size, size_of, name_in, name_at, prefix_at, written, instance_at, instances}
 use Rattle.composition_flatten.specs.Named.{named_below, named_of}
 use Rattle.composition_flatten.specs.Paths.{prototypes_of, type_in, type_at}
 use Rattle.composition_flatten.proofs.Members.{flat_length, sum_same, sum_numbered, map_numbered, past_end}
@@ -28,7 +26,7 @@ module _ (d : Description) where
   named_size (suc n) c prefix =
       flat_length (λ (p : Prototype). named_of (named_below d n) p.of_type (prefix ++ p.short_name)) (prototypes_of d c)
       ∙ sum_same (λ (p : Prototype). length (named_of (named_below d n) p.of_type (prefix ++ p.short_name))) (λ p. size_of (size d n) p.of_type)
-        (λ p. named_one n p.of_type (prefix ++ p.short_name) (named_size n)) (prototypes_of d c)
+      (λ p. named_one n p.of_type (prefix ++ p.short_name) (named_size n)) (prototypes_of d c)
 
   placed_one : (n : ℕ) (t : PrototypeType) (path : List ℕ) → ((c : ℕ) (path : List ℕ) → length (places_below d n c path) ≡ size d n c) → length (places_of (places_below d n) t path) ≡ size_of (size d n) t
   placed_one n (Component k) path deeper = refl
@@ -39,7 +37,7 @@ module _ (d : Description) where
   placed_size (suc n) c path =
       flat_length (λ (x : ℕ × Prototype). places_of (places_below d n) x.1.of_type (x.0 ∷ path)) (enumerate_from 0 (prototypes_of d c))
       ∙ sum_numbered (λ (x : ℕ × Prototype). length (places_of (places_below d n) x.1.of_type (x.0 ∷ path))) (λ p. size_of (size d n) p.of_type)
-        (λ i p. placed_one n p.of_type (i ∷ path) (placed_size n)) 0 (prototypes_of d c)
+      (λ i p. placed_one n p.of_type (i ∷ path) (placed_size n)) 0 (prototypes_of d c)
 
   -- what the counts say
   pub counted : (levels : List (Vec ℕ Global)) (depth c : ℕ) → IsCounted d levels → depth ≤ 8 → count_in levels depth c ≡ min (size d depth c) 1025
@@ -56,7 +54,7 @@ module _ (d : Description) where
       let capped = counted levels depth c is (omega arith) in
       let long = named_size depth c (path ++ codes "/") in
       let nothing : named_of (named_below d depth) t path ≡ [] =
-        ap (λ u. named_of (named_below d depth) u path) typed ∙ nil_from_length (named_below d depth c (path ++ codes "/")) (omega arith) in
+      ap (λ u. named_of (named_below d depth) u path) typed ∙ nil_from_length (named_below d depth c (path ++ codes "/")) (omega arith) in
       sym (append-nil before) ∙ ap (λ l. before ++ l) (sym nothing)
 
   -- the instances are listed as the places say
@@ -72,11 +70,11 @@ module _ (d : Description) where
       map_numbered (instance_at d) (λ (x : ℕ × Prototype). places_of (places_below d n) x.1.of_type (x.0 ∷ path)) (λ p. named_of (named_below d n) p.of_type (prefix_at d path ++ p.short_name))
       0 (prototypes_of d c)
       (λ i p some.
-        let e : 0 + i ≡ i = omega arith in
-        let step : type_in d (Composition c) i ≡ Some p.of_type = ap (option_map (λ (x : Prototype). x.of_type)) some in
-        let name : name_at d path i ≡ p.short_name = ap (λ t. name_in d t i) typed ∙ ap (λ o. option_map_or (λ (x : Prototype). x.short_name) o []) some in
-        ap (λ m. map (instance_at d) (places_of (places_below d n) p.of_type (m ∷ path))) e
-        ∙ named_here n p.of_type path p.short_name (prefix_at d path) i (ap (λ w. prefix_at d path ++ w) name) (step_on d (Composition d.root) (Composition c) p.of_type i path typed step) (named_places n))
+      let e : 0 + i ≡ i = omega arith in
+      let step : type_in d (Composition c) i ≡ Some p.of_type = ap (option_map (λ (x : Prototype). x.of_type)) some in
+      let name : name_at d path i ≡ p.short_name = ap (λ t. name_in d t i) typed ∙ ap (λ o. option_map_or (λ (x : Prototype). x.short_name) o []) some in
+      ap (λ m. map (instance_at d) (places_of (places_below d n) p.of_type (m ∷ path))) e
+      ∙ named_here n p.of_type path p.short_name (prefix_at d path) i (ap (λ w. prefix_at d path ++ w) name) (step_on d (Composition d.root) (Composition c) p.of_type i path typed step) (named_places n))
 
   pub named_instances : named_below d 8 d.root [] ≡ instances d
   named_instances = sym (named_places 8 d.root [] refl)

@@ -1,19 +1,17 @@
 -- The search for the compositions below others.
-use Rattle.std.proofs.Common.{◌≡◌, ℕ, zero, suc, ◌+◌, ◌-◌, ◌<◌, ◌≤◌, List, [], ◌∷◌, ◌++◌, length, get_or, slice_get, Bool, true, false, cond, nat_eq, nat_lt, Option, Some, None, option_map, option_and_then, ◌⊎◌, inl, inr, ⊎_elim, ◌↔◌, refl, sym, ap, subst, ◌∙◌, arith}
+use Rattle.std.proofs.Common.{◌≡◌, ℕ, ◌+◌, ◌-◌, ◌<◌, ◌≤◌, List, [], ◌∷◌, length, get_or, slice_get, Bool, true, false, cond, nat_eq, nat_lt, Some, None, option_and_then, ⊎_elim, ◌↔◌, refl, sym, ap, subst, ◌∙◌, arith}
 use Rattle.std.proofs.lemmas.Bool.{ltb-true, lt-ltb, cases_lt}
 use Rattle.std.proofs.lemmas.Map.Steps.{length-le_from_distinct_below}
-use Rattle.std.proofs.lemmas.Option.{get_or_from_slice_get, slice_get-get_or}
-use Rattle.std.specs.List.{list_any, IsDistinct}
-use Rattle.std.specs.Option.{option_map_or}
+use Rattle.std.proofs.lemmas.Option.{get_or_from_slice_get}
+use Rattle.std.specs.List.{IsDistinct}
 use Rattle.component_model.specs.declared.description.Description.{Description}
-use Rattle.component_model.specs.declared.description.Prototype.{Prototype}
 use Rattle.component_model.specs.declared.description.PrototypeType.{PrototypeType}
 use Rattle.component_model.specs.declared.description.PrototypeType.TheVariants.{Component, Composition}
-use Rattle.indexmap.specs.IndexSet.{insert_key, insert_all}
+use Rattle.indexmap.specs.IndexSet.{insert_all}
 use Rattle.composition_flatten.specs.Members.{Among}
-use Rattle.composition_flatten.specs.Paths.{prototypes_of, type_in, type_at, Leads, held_by, declared_in, declared_composition, IsReached}
-use Rattle.composition_flatten.proofs.Members.{at, place, pick, unpick, found, all_keep, all_have, all_only, all_stay, get_some, get_lt, past_end}
-use Rattle.composition_flatten.proofs.Steps.{step_is, step_of, step_on, last_step, holder_declared}
+use Rattle.composition_flatten.specs.Paths.{prototypes_of, type_in, type_at, held_by, declared_in, declared_composition, IsReached}
+use Rattle.composition_flatten.proofs.Members.{place, pick, unpick, found, numbers_keep, numbers_have, numbers_only, all_stay, get_some, get_lt, past_end}
+use Rattle.composition_flatten.proofs.Steps.{step_is, step_of, last_step, holder_declared}
 
 -- what a declared composition of a prototype is
 pub declared_is : (count : ℕ) (t : PrototypeType) (e : ℕ) → declared_in count t ≡ Some e → (t ≡ Composition e) × (e < count)
@@ -70,14 +68,14 @@ module _ (d : Description) where
         let within = get_lt keys next holder some in
         let here : get_or keys next 0 ≡ holder = get_or_from_slice_get keys next holder 0 some in
         subst (λ ks. Search ks (next + 1)) (sym is) (record {
-          has = λ e h. all_keep (held_by d holder) keys e (s.has e h);
-          sound = λ e h. ⊎_elim (λ old. s.sound e old) (λ fresh. further holder e (s.sound holder (get_some keys next holder some)) fresh) (all_only (held_by d holder) keys e h);
+          has = λ e h. numbers_keep (held_by d holder) keys e (s.has e h);
+          sound = λ e h. ⊎_elim (λ old. s.sound e old) (λ fresh. further holder e (s.sound holder (get_some keys next holder some)) fresh) (numbers_only (held_by d holder) keys e h);
           closed = λ k e below h.
               let stays : get_or (insert_all nat_eq keys (held_by d holder)) k 0 ≡ get_or keys k 0 = all_stay (held_by d holder) keys k (omega arith) in
               let was : Among e (held_by d (get_or keys k 0)) = subst (λ x. Among e (held_by d x)) stays h in
-              ⊎_elim (λ earlier. all_keep (held_by d holder) keys e (s.closed k e earlier was))
+              ⊎_elim (λ earlier. numbers_keep (held_by d holder) keys e (s.closed k e earlier was))
               (λ (now : next ≤ k). let same : k ≡ next = omega arith in
-                all_have (held_by d holder) keys e (subst (λ x. Among e (held_by d x)) (ap (λ i. get_or keys i 0) same ∙ here) was))
+              numbers_have (held_by d holder) keys e (subst (λ x. Among e (held_by d x)) (ap (λ i. get_or keys i 0) same ∙ here) was))
               (cases_lt k next);
         })
 

@@ -1,5 +1,5 @@
 -- Counts of instances, as far as they matter.
-use Rattle.std.specs.Prelude.{◌≡◌, ◌≤◌, ℕ, List, Vec, length, min, slice_index, slice_get, Some}
+use Rattle.std.specs.Prelude.{◌≡◌, ℕ, List, Vec, length, min, slice_index, slice_get, Some}
 use Rattle.std.specs.Global.{Global}
 use Rattle.std.specs.Option.{option_map_or}
 use Rattle.component_model.specs.declared.description.Composition.{Composition}

@@ -1,10 +1,9 @@
 -- The component instances of a description (SWS_RTE: a software component instance is a prototype at the end of a path of
 -- prototypes below the root).
-use Rattle.std.specs.Prelude.{◌≡◌, ◌<◌, ℕ, zero, suc, List, [], ◌∷◌, ◌++◌, map, codes, Bool, Option, Some, None, slice_get, bytes_eq, length}
+use Rattle.std.specs.Prelude.{◌≡◌, ◌<◌, ℕ, zero, suc, List, [], ◌∷◌, ◌++◌, map, codes, Bool, Option, Some, slice_get, bytes_eq, length}
 use Rattle.std.specs.List.{flat_map, enumerate_from, list_any}
 use Rattle.std.specs.Option.{option_map_or}
 use Rattle.component_model.specs.declared.description.Description.{Description}
-use Rattle.component_model.specs.declared.description.Prototype.{Prototype}
 use Rattle.component_model.specs.declared.description.PrototypeType.{PrototypeType}
 use Rattle.component_model.specs.declared.description.PrototypeType.TheVariants.{Component, Composition}
 use Rattle.composition_flatten.specs.declared.flat.Instance.{Instance}

@@ -1,6 +1,8 @@
+pub mod Connectors
 pub mod Counts
 pub mod Firsts
 pub mod Instances
+pub mod Keys
 pub mod Levels
 pub mod Members
 pub mod Named

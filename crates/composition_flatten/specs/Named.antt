@@ -2,7 +2,6 @@
 use Rattle.std.specs.Prelude.{ℕ, zero, suc, List, [], ◌∷◌, ◌++◌, codes}
 use Rattle.std.specs.List.{flat_map}
 use Rattle.component_model.specs.declared.description.Description.{Description}
-use Rattle.component_model.specs.declared.description.Prototype.{Prototype}
 use Rattle.component_model.specs.declared.description.PrototypeType.{PrototypeType}
 use Rattle.component_model.specs.declared.description.PrototypeType.TheVariants.{Component, Composition}
 use Rattle.composition_flatten.specs.declared.flat.Instance.{Instance}

@@ -1,6 +1,6 @@
 -- Where a path of prototypes leads (Software Component Template: SwComponentPrototype). A path is a list of positions of
 -- prototypes, the innermost first; the empty path stands still.
-use Rattle.std.specs.Prelude.{◌≡◌, ℕ, ◌<◌, List, [], ◌∷◌, length, Bool, true, false, nat_eq, nat_lt, Option, Some, None, option_map, option_and_then, slice_get, if◌then◌else◌}
+use Rattle.std.specs.Prelude.{◌≡◌, ℕ, ◌<◌, List, [], ◌∷◌, length, Bool, false, nat_eq, nat_lt, Option, Some, None, option_map, option_and_then, slice_get, if◌then◌else◌}
 use Rattle.std.specs.List.{filter_map}
 use Rattle.std.specs.Option.{option_map_or}
 use Rattle.component_model.specs.declared.description.Description.{Description}

@@ -1,5 +1,5 @@
 -- Ranks of compositions.
-use Rattle.std.specs.Prelude.{◌≡◌, ◌<◌, length, ℕ, List, Bool, true, Option, Some, None, nat_lt, nat_le, slice_index}
+use Rattle.std.specs.Prelude.{◌≡◌, ◌<◌, length, ℕ, List, Bool, true, nat_lt, nat_le, slice_index}
 use Rattle.std.specs.Option.{option_map_or}
 use Rattle.std.specs.List.{list_all}
 use Rattle.component_model.specs.declared.description.Description.{Description}

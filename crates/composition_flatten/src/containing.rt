@@ -40,7 +40,13 @@ fn contains_itself(alloc: Global, d: &Description, composition: u32) -> Result<b
 
 /// Whether a composition contains itself, directly or through others. Where the ranks are right, its rank may show at once
 /// that it does not.
-fn is_in_itself(alloc: Global, d: &Description, ranks: &[u32], are_ranks: bool, composition: u32) -> Result<bool, Memory>
+fn is_in_itself(
+    alloc: Global,
+    d: &Description,
+    ranks: &[u32],
+    are_ranks: bool,
+    composition: u32,
+) -> Result<bool, Memory>
     requires declared { composition < length d.now.compositions }
     requires ranked { OnTrue are_ranks (IsRanking d.now ranks.now) }
     ensures { IfOk result (λ answer. IsTrue answer ↔ ContainsItself d.now composition) }
@@ -51,7 +57,8 @@ fn is_in_itself(alloc: Global, d: &Description, ranks: &[u32], are_ranks: bool, 
     contains_itself(alloc, d, composition)
 }
 
-fn composition_count(d: &Description) -> Result<u32, Memory>
+/// How many compositions there are. More than a `u32` can number count as want of memory.
+pub fn composition_count(d: &Description) -> Result<u32, Memory>
     ensures { IfOk result (λ count. count ≡ length d.now.compositions) }
 {
     u32::try_from(d.compositions.len()).map_err(|_| AllocError)

@@ -1,6 +1,7 @@
 //! A description made flat: its component instances, and which of their ports' items are joined.
 #![tactic(auto)]
 
+mod connectors;
 mod containing;
 mod counts;
 mod depth;
@@ -9,5 +10,6 @@ mod listing;
 mod prototypes;
 mod ranks;
 mod reach;
+mod wiring;
 
 pub use flat::{End, Flat, Instance, Join};

@@ -84,7 +84,11 @@ fn list_prototype(
 }
 
 /// The instances of the root that stand at most 8 deep. Those of a composition are looked for only where it has some.
-pub fn list_instances(alloc: Global, d: &Description, levels: &[Vec<u32>]) -> Result<Vec<Instance>, Memory>
+pub fn list_instances(
+    alloc: Global,
+    d: &Description,
+    levels: &[Vec<u32>],
+) -> Result<Vec<Instance>, Memory>
     requires { IsCounted d.now levels.now }
     ensures { IfOk result (λ listed. listed.items ≡ named_below d.now 8 d.now.root []) }
 {

@@ -103,7 +103,12 @@ fn holders_of(alloc: Global, d: &Description) -> Result<Vec<Vec<u32>>, Memory> {
     Ok(holders)
 }
 
-fn add_holder(d: &Description, prototypes: &[Prototype], holder: u32, holders: &mut Vec<Vec<u32>>) -> Result<(), Memory> {
+fn add_holder(
+    d: &Description,
+    prototypes: &[Prototype],
+    holder: u32,
+    holders: &mut Vec<Vec<u32>>,
+) -> Result<(), Memory> {
     for prototype in prototypes {
         if let Some(held) = declared_composition(d, prototype) {
             if let Some(list) = holders.get_mut(held as usize) {

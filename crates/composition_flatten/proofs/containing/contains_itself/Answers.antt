@@ -1,5 +1,3 @@
-use Rattle.std.proofs.Common.{sym, ap, ◌∙◌, subst, ℕ, ◌<◌, length}
-use Rattle.composition_flatten.specs.Members.{Among}
 use Rattle.composition_flatten.proofs.InItself.{in_itself}
 use Rattle.composition_flatten.proofs.containing.contains_itself.Goals as goal
 

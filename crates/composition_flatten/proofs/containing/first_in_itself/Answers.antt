@@ -1,4 +1,4 @@
-use Rattle.std.proofs.Common.{sym, ◌∙◌, ap, ◌+◌, ◌<◌, ◌≤◌, arith, length}
+use Rattle.std.proofs.Common.{arith, length}
 use Rattle.composition_flatten.specs.Paths.{ContainsItself}
 use Rattle.composition_flatten.proofs.FirstOnes.{none_more, none_all}
 use Rattle.composition_flatten.proofs.containing.first_in_itself.Goals as goal

@@ -1,4 +1,4 @@
-use Rattle.std.proofs.Common.{sym, ◌∙◌, ap, true≢false}
+use Rattle.std.proofs.Common.{sym, ◌∙◌, true≢false}
 use Rattle.std.proofs.lemmas.Bool.{OnTrue_at}
 use Rattle.composition_flatten.proofs.InItself.{not_in_itself}
 use Rattle.composition_flatten.proofs.containing.is_in_itself.Goals as goal

@@ -1,4 +1,4 @@
-use Rattle.std.proofs.Common.{◌∙◌, sym, ap, map}
+use Rattle.std.proofs.Common.{◌∙◌, ap, map}
 use Rattle.std.proofs.lemmas.List.{take_all}
 use Rattle.composition_flatten.specs.Counts.{count_for}
 use Rattle.composition_flatten.proofs.Counting.{counts_deeper}

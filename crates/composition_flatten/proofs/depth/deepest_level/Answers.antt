@@ -1,4 +1,4 @@
-use Rattle.std.proofs.Common.{suc, sym, subst, add-one, arith, ◌≡◌, ◌+◌}
+use Rattle.std.proofs.Common.{sym, subst, add-one, arith, ◌≡◌}
 use Rattle.composition_flatten.specs.Levels.{IsLevel}
 use Rattle.composition_flatten.proofs.depth.deepest_level.Goals as goal
 

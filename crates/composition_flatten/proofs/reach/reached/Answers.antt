@@ -1,4 +1,3 @@
-use Rattle.std.proofs.Common.{sym, ◌∙◌, ap}
 use Rattle.composition_flatten.proofs.Reaching.{search_begins, search_goes, search_ends, search_shrinks}
 use Rattle.composition_flatten.proofs.reach.reached.Goals as goal
 

@@ -1,4 +1,4 @@
-use Rattle.std.proofs.Common.{ℕ, length, ◌-◌}
+use Rattle.std.proofs.Common.{length, ◌-◌}
 use Rattle.composition_flatten.proofs.Reaching.{Search}
 use Rattle.composition_flatten.proofs.reach.reached.Given as goal
 
