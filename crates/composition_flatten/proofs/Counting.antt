@@ -24,7 +24,7 @@ count_turn f ps i d total after whole h inv is =
     capped_more total (f (get_or ps i d)) (sum_of f (drop (i + 1) ps)) whole after (sym (at_drop_more (λ rest. min (total + sum_of f rest) 1025) ps i d h) ∙ inv) is
 
 module _ (d : Description) (n : ℕ) (counts : List ℕ) (are : AreCounts d n counts) where
-  size_capped : (t : PrototypeType) → size_of (slice_index counts) t ≡ min (size_of (size d n) t) 1025
+  pub size_capped : (t : PrototypeType) → size_of (slice_index counts) t ≡ min (size_of (size d n) t) 1025
   size_capped (Component k) = refl
   size_capped (Composition c) = are c
 

@@ -7,4 +7,5 @@ pub mod Members
 pub mod Naming
 pub mod Reaching
 pub mod SameKeys
+pub mod Starting
 pub mod Steps

@@ -1,5 +1,6 @@
 pub mod Connectors
 pub mod Counts
+pub mod Ends
 pub mod Firsts
 pub mod Instances
 pub mod Keys
@@ -8,3 +9,4 @@ pub mod Members
 pub mod Named
 pub mod Paths
 pub mod Ranks
+pub mod Trees

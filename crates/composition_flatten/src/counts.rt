@@ -21,7 +21,7 @@ pub fn count_at(counts: &[u32], composition: u32) -> u32
     counts.get(composition as usize).copied().unwrap_or(0)
 }
 
-fn count_of(counts: &[u32], of_type: PrototypeType) -> u32
+pub fn count_of(counts: &[u32], of_type: PrototypeType) -> u32
     ensures { result ≡ size_of (slice_index counts.now) of_type }
 {
     match of_type {
@@ -30,7 +30,7 @@ fn count_of(counts: &[u32], of_type: PrototypeType) -> u32
     }
 }
 
-fn capped_sum(first: u32, second: u32) -> u32
+pub fn capped_sum(first: u32, second: u32) -> u32
     ensures { result ≡ min (first + second) 1025 }
 {
     first.saturating_add(second).min(COUNT_CAP)

@@ -4,12 +4,15 @@
 mod connectors;
 mod containing;
 mod counts;
+mod delegations;
 mod depth;
 mod flat;
 mod listing;
 mod prototypes;
 mod ranks;
 mod reach;
+mod starts;
+mod tree;
 mod wiring;
 
 pub use flat::{End, Flat, Instance, Join};
