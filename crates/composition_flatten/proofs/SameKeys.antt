@@ -8,13 +8,13 @@ use Rattle.composition_flatten.specs.declared.wiring.Key.TheVariants.{Assembly, 
 use Rattle.composition_flatten.specs.contracts.wiring.KeyPartialEq.TheImpl.{eq-value}
 use Rattle.composition_flatten.specs.Keys.{key_of}
 
-three : (a b c a2 b2 c2 : ℕ) → (eqb a a2 && (eqb b b2 && eqb c c2)) ≡ true → (a ≡ a2) × (b ≡ b2) × (c ≡ c2)
+pub three : (a b c a2 b2 c2 : ℕ) → (eqb a a2 && (eqb b b2 && eqb c c2)) ≡ true → (a ≡ a2) × (b ≡ b2) × (c ≡ c2)
 three a b c a2 b2 c2 h =
     let p = and_parts (eqb a a2) (eqb b b2 && eqb c c2) h in
     let q = and_parts (eqb b b2) (eqb c c2) p.1 in
     (eqb-true a a2 p.0, eqb-true b b2 q.0, eqb-true c c2 q.1)
 
-three_from : (a b c : ℕ) → (eqb a a && (eqb b b && eqb c c)) ≡ true
+pub three_from : (a b c : ℕ) → (eqb a a && (eqb b b && eqb c c)) ≡ true
 three_from a b c = and_from (eqb a a) (eqb b b && eqb c c) (eq-eqb a a refl) (and_from (eqb b b) (eqb c c) (eq-eqb b b refl) (eq-eqb c c refl))
 
 pub same_key : (x y : Key) → (eq-value).it x y ≡ true → x ≡ y

@@ -21,6 +21,10 @@ ports_of d (Composition c) = option_map_or (λ x. x.ports) (slice_get d.composit
 abbrev pub kind_of : Description → PrototypeType → ℕ → Option PortKind
 kind_of d t port = option_map (λ x. x.kind) (slice_get (ports_of d t) port)
 
+-- the position of the interface of a port of a component or composition
+abbrev pub interface_of : Description → PrototypeType → ℕ → Option ℕ
+interface_of d t port = option_map (λ x. x.interface) (slice_get (ports_of d t) port)
+
 -- the kind of a port of a prototype of the composition c
 abbrev pub kind_in : Description → ℕ → InnerPort → Option PortKind
 kind_in d c inner = option_and_then (λ t. kind_of d t inner.port) (type_in d (Composition c) inner.prototype)

@@ -2,7 +2,6 @@
 use Rattle.std.specs.Prelude.{◌≡◌, ◌==◌, ◌&&◌, ◌+◌, ◌-◌, ◌^◌, ℕ, zero, suc, List, [], ◌∷◌, ◌++◌, take, min, map, Bool, Option, Some, None, slice_get, option_and_then, if◌then◌else◌}
 use Rattle.std.specs.List.{flat_map, filter_map}
 use Rattle.std.specs.Option.{option_map_or}
-use Rattle.component_model.specs.declared.component.Port.{Port}
 use Rattle.component_model.specs.declared.description.Connector.{Connector}
 use Rattle.component_model.specs.declared.description.Connector.TheVariants.{Assembly, Delegation}
 use Rattle.component_model.specs.declared.description.Description.{Description}
@@ -11,7 +10,7 @@ use Rattle.component_model.specs.declared.description.PrototypeType.{PrototypeTy
 use Rattle.component_model.specs.declared.description.PrototypeType.TheVariants.{Component, Composition}
 use Rattle.composition_flatten.specs.declared.tree.Owner.TheVariants.{Instance}
 use Rattle.composition_flatten.specs.declared.tree.PortEnd.{PortEnd}
-use Rattle.composition_flatten.specs.Connectors.{ports_of, connectors_of, lets_join}
+use Rattle.composition_flatten.specs.Connectors.{connectors_of, interface_of, lets_join}
 use Rattle.composition_flatten.specs.Instances.{size, size_of}
 use Rattle.composition_flatten.specs.Members.{Among, sum_of}
 use Rattle.composition_flatten.specs.Paths.{prototypes_of, type_in}
@@ -33,10 +32,10 @@ delegated d c outer (Delegation inner o) = if o == outer && lets_join d c (Deleg
 abbrev pub inner_ports : Description → ℕ → ℕ → List InnerPort
 inner_ports d c outer = filter_map (delegated d c outer) (connectors_of d c)
 
--- the port of a component, as the port of the instance of this number
-abbrev pub own_end : Option Port → ℕ → ℕ → List PortEnd
+-- the port with this interface, as the port of the instance of this number
+abbrev pub own_end : Option ℕ → ℕ → ℕ → List PortEnd
 own_end None first port = []
-own_end (Some x) first port = record { owner = Instance first; port = port; interface = x.interface } ∷ []
+own_end (Some interface) first port = record { owner = Instance first; port = port; interface = interface } ∷ []
 
 -- the ends below an inner port, by those below the ports of the prototypes
 abbrev pub inner_ends : Description → ℕ → (PrototypeType → ℕ → ℕ → List PortEnd) → ℕ → ℕ → InnerPort → List PortEnd
@@ -45,6 +44,6 @@ inner_ends d n deeper c first inner = option_map_or (λ t. deeper t (number_from
 -- The ports of instances at or below the port of what stands here, at most n prototypes down. The first of its instances has
 -- the number `first`.
 abbrev pub ends : Description → ℕ → PrototypeType → ℕ → ℕ → List PortEnd
-ends d n (Component k) first port = own_end (slice_get (ports_of d (Component k)) port) first port
+ends d n (Component k) first port = own_end (interface_of d (Component k) port) first port
 ends d zero (Composition c) first port = []
 ends d (suc n) (Composition c) first port = flat_map (inner_ends d n (ends d n) c first) (inner_ports d c port)

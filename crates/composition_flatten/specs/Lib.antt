@@ -2,6 +2,7 @@ pub mod Connectors
 pub mod Counts
 pub mod Ends
 pub mod Firsts
+pub mod Fronts
 pub mod Instances
 pub mod Keys
 pub mod Levels

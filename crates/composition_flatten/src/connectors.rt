@@ -1,7 +1,7 @@
 //! Which connectors may join their ports.
 
 ghost use Rattle.std.specs.Prelude.{◌≡◌, ◌<◌, IfOk, length};
-ghost use Rattle.composition_flatten.specs.Connectors.{ports_of, kind_of, kind_in, connectors_of, is_provided, is_required, is_one_kind, lets_join};
+ghost use Rattle.composition_flatten.specs.Connectors.{ports_of, interface_of, kind_of, kind_in, connectors_of, is_provided, is_required, is_one_kind, lets_join};
 ghost use Rattle.composition_flatten.specs.Paths.{type_in};
 
 use crate::prototypes::prototypes_of;
@@ -43,6 +43,16 @@ pub fn type_in(d: &Description, composition: u32, prototype: u32) -> Option<Prot
 {
     match prototypes_of(d, composition).get(prototype as usize) {
         Some(found) => Some(found.of_type),
+        None => None,
+    }
+}
+
+/// The interface of a port of a component or composition.
+pub fn interface_of(d: &Description, of_type: PrototypeType, port: u32) -> Option<u32>
+    ensures { result ≡ interface_of d.now of_type port }
+{
+    match ports_of(d, of_type).get(port as usize) {
+        Some(found) => Some(found.interface),
         None => None,
     }
 }

@@ -6,6 +6,7 @@ mod containing;
 mod counts;
 mod delegations;
 mod depth;
+mod ends;
 mod flat;
 mod listing;
 mod prototypes;
