@@ -1,0 +1,13 @@
+pub mod Broken
+pub mod Counting
+pub mod Deepest
+pub mod FirstOnes
+pub mod Following
+pub mod InItself
+pub mod Members
+pub mod Naming
+pub mod Reaching
+pub mod SameEnds
+pub mod SameKeys
+pub mod Starting
+pub mod Steps

@@ -1,0 +1,13 @@
+pub mod Connectors
+pub mod Counts
+pub mod Ends
+pub mod Firsts
+pub mod Fronts
+pub mod Instances
+pub mod Keys
+pub mod Levels
+pub mod Members
+pub mod Named
+pub mod Paths
+pub mod Ranks
+pub mod Trees

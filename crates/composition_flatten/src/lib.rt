@@ -1,0 +1,19 @@
+//! A description made flat: its component instances, and which of their ports' items are joined.
+#![tactic(auto)]
+
+mod connectors;
+mod containing;
+mod counts;
+mod delegations;
+mod depth;
+mod ends;
+mod flat;
+mod listing;
+mod prototypes;
+mod ranks;
+mod reach;
+mod starts;
+mod tree;
+mod wiring;
+
+pub use flat::{End, Flat, Instance, Join};
