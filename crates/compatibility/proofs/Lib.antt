@@ -1,0 +1,3 @@
+pub mod Turns
+pub mod Firsts
+pub mod Passing

@@ -1,0 +1,6 @@
+pub mod Firsts
+pub mod Types
+pub mod Interfaces
+pub mod Connectors
+pub mod Passed
+pub mod Refusals
