@@ -1,7 +1,8 @@
 -- The turns of the loops that look for the first.
-use Rattle.std.proofs.Common.{◌≡◌, ℕ, zero, suc, ◌+◌, ◌<◌, ◌≤◌, List, [], ◌∷◌, length, get_or, drop, Option, Some, None, refl, sym, ap, ◌∙◌, arith, add-one}
+use Rattle.std.proofs.Common.{◌≡◌, ℕ, zero, suc, ◌+◌, ◌<◌, ◌≤◌, List, [], ◌∷◌, length, get_or, drop, Option, Some, None, Bool, false, ◌-◌, if◌then◌else◌, refl, sym, ap, ◌∙◌, arith, add-one}
 use Rattle.std.specs.Option.{option_or}
 use Rattle.compatibility.specs.Firsts.{first_of}
+use Rattle.compatibility.specs.Items.{first_number}
 
 module _ {X Y : Type 0} (f : ℕ → X → Option Y) where
   first_next : (xs : List X) (n i : ℕ) (x : X) → i < length xs → x ≡ get_or xs i x
@@ -22,3 +23,10 @@ module _ {X Y : Type 0} (f : ℕ → X → Option Y) where
 
     pub first_here : (y : Y) → f i x ≡ Some y → first_of f i (drop i xs) ≡ Some y
     first_here y found = first_next xs i i x within is ∙ ap (λ r. option_or r (first_of f (i + 1) (drop (suc i) xs))) found
+
+-- one more number fails the test
+pub number_more : (test : ℕ → Bool) (i n : ℕ) → i < n → test i ≡ false → first_number test i (n - i) ≡ first_number test (i + 1) (n - (i + 1))
+number_more test i n within fails = ap (first_number test i) (one_less within) ∙ ap (λ b. if b then Some i else first_number test (i + 1) (n - (i + 1))) fails
+  where
+    one_less : i < n → n - i ≡ suc (n - (i + 1))
+    one_less h = omega arith

@@ -1,3 +1,4 @@
 pub mod Turns
 pub mod Firsts
 pub mod Passing
+pub mod Keeping

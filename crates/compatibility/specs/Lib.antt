@@ -4,3 +4,7 @@ pub mod Interfaces
 pub mod Connectors
 pub mod Passed
 pub mod Refusals
+pub mod Joins
+pub mod Partners
+pub mod Items
+pub mod Names

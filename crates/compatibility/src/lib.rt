@@ -4,12 +4,17 @@
 mod check;
 mod connectors;
 mod elements;
+mod groups;
 mod hints;
+mod items;
 mod judge;
+mod names;
 mod operations;
+mod partners;
 mod places;
 mod ports;
 mod root_ports;
+mod rule;
 mod types;
 
-pub use check::check_ports;
+pub use check::check_joins;
