@@ -8,3 +8,4 @@ pub mod Joins
 pub mod Partners
 pub mod Items
 pub mod Names
+pub mod Groups

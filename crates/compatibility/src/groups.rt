@@ -1,8 +1,9 @@
 //! Groups of data elements that joins connect.
 
-ghost use Rattle.std.specs.Prelude.{◌≡◌, ◌&&◌, ◌||◌, IfOk, OnOk};
+ghost use Rattle.std.specs.Prelude.{◌≡◌, ◌&&◌, ◌↔◌, ◌||◌, IfOk, IsTrue, OnOk};
 ghost use Rattle.composition_flatten.specs.declared.flat.End.{End};
 ghost use Rattle.indexmap.specs.IndexSet.{contains};
+ghost use Rattle.compatibility.specs.Groups.{IsManyToMany};
 ghost use Rattle.compatibility.specs.Joins.{is_crowded, is_many_to_many};
 ghost use Rattle.compatibility.specs.Partners.{key_of, same_key, Key};
 
@@ -70,7 +71,8 @@ fn provided_by(alloc: Global, crowded: &Crowded) -> Result<IndexSet<Key>, Memory
 
 /// The required ends that are in a group of many to many.
 pub fn many_to_many(alloc: Global, degrees: &Degrees) -> Result<IndexSet<Key>, Memory>
-    ensures { IfOk result (λ found. (e : End) → contains same_key found (key_of e) ≡ is_many_to_many degrees.now.joins.now e) }
+    ensures nearby { IfOk result (λ found. (e : End) → contains same_key found (key_of e) ≡ is_many_to_many degrees.now.joins.now e) }
+    ensures groups { IfOk result (λ found. (e : End) → IsTrue (contains same_key found (key_of e)) ↔ IsManyToMany degrees.now.joins.now e) }
 {
     let crowded = Crowded::new(alloc, degrees)?;
     provided_by(alloc, &crowded)

@@ -1,6 +1,6 @@
 //! Compatible interfaces.
 
-ghost use Rattle.std.specs.Prelude.{◌≡◌, IfOk};
+ghost use Rattle.std.specs.Prelude.{◌≡◌, IfOk, is_some, slice_get};
 ghost use Rattle.compatibility.specs.Interfaces.{serves, are_compatible};
 
 use crate::elements::groups_agree;
@@ -53,8 +53,25 @@ impl Judge<'_> {
         Ok(Judge { types, hints })
     }
 
-    /// Whether the interfaces at two positions are compatible, the first of a provided port and the second of a required one.
+    fn is_declared(&self, interface: u32) -> bool
+        ensures { result ≡ is_some (slice_get self.now.types.now.interfaces interface) }
+    {
+        let interfaces = self.types.interfaces.items();
+        interfaces.get(interface as usize).is_some()
+    }
+
+    /// Whether the interfaces at two positions are compatible, the first of a provided port and the second of a required one. An
+    /// interface is compatible with itself, without a look at its items.
     pub fn are_compatible(&self, provided: u32, required: u32) -> bool
+        ensures { result ≡ are_compatible self.now.types.now provided required }
+    {
+        if provided == required {
+            return self.is_declared(provided);
+        }
+        self.serves(provided, required)
+    }
+
+    fn serves(&self, provided: u32, required: u32) -> bool
         ensures { result ≡ are_compatible self.now.types.now provided required }
     {
         let hints = self.hints.get(provided as usize);

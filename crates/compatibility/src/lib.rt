@@ -18,3 +18,6 @@ mod rule;
 mod types;
 
 pub use check::check_joins;
+
+#[cfg(test)]
+mod tests;
