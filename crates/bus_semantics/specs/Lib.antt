@@ -20,6 +20,7 @@ pub mod Admission
 pub mod Phases
 pub mod Due
 pub mod Legal
+pub mod Locality
 pub mod Rest
 pub mod Run
 pub mod Spelling
