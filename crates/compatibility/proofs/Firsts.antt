@@ -30,3 +30,8 @@ number_more test i n within fails = ap (first_number test i) (one_less within) �
   where
     one_less : i < n → n - i ≡ suc (n - (i + 1))
     one_less h = omega arith
+
+-- no number passes the test
+pub number_none : (test : ℕ → Bool) → ((k : ℕ) → test k ≡ false) → (i n : ℕ) → first_number test i n ≡ None
+number_none test fails i zero = refl
+number_none test fails i (suc n) = ap (λ b. if b then Some i else first_number test (i + 1) n) (fails i) ∙ number_none test fails (i + 1) n

@@ -1,9 +1,10 @@
 //! Required items, and the first that breaks a rule.
 
-ghost use Rattle.std.specs.Prelude.{◌≡◌, IfOk, None, Some, if◌then◌else◌};
+ghost use Rattle.std.specs.Prelude.{◌≡◌, IfOk, IsTrue, false, None, Some, if◌then◌else◌};
 ghost use Rattle.composition_flatten.specs.declared.flat.End.{End};
 ghost use Rattle.component_model.specs.declared.description.PrototypeType.TheVariants as of_type;
 ghost use Rattle.indexmap.specs.IndexSet.{contains};
+ghost use Rattle.interface_types.specs.declared.interface.InterfaceKind.{InterfaceKind};
 ghost use Rattle.compatibility.specs.Connectors.{ports_of};
 ghost use Rattle.compatibility.specs.Joins.{is_many_to_many};
 ghost use Rattle.compatibility.specs.Partners.{key_of, same_key};
@@ -94,8 +95,33 @@ impl Search<'_> {
         }
     }
 
-    #[tactic(auto, using(crate::proofs::Firsts::number_more))]
+    /// Whether no item breaks the rule, which shows at once where no group is one of many to many.
+    fn is_kept(&self, rule: Rule) -> bool
+        ensures { IsTrue result → (kind : InterfaceKind) (e : End) → breaks rule self.now.f.now.joins kind e ≡ false }
+    {
+        match rule {
+            Rule::Services => false,
+            Rule::Groups => self.crowded.is_empty(),
+        }
+    }
+
     fn first_item(
+        &self,
+        rule: Rule,
+        instance: Option<u32>,
+        port: u32,
+        kind: &InterfaceKind,
+    ) -> Result<Option<End>, Memory>
+        ensures { IfOk result (λ end. end ≡ first_item rule self.now.f.now.joins instance port kind.now) }
+    {
+        if self.is_kept(rule) {
+            return Ok(None);
+        }
+        self.first_item_of(rule, instance, port, kind)
+    }
+
+    #[tactic(auto, using(crate::proofs::Firsts::number_more))]
+    fn first_item_of(
         &self,
         rule: Rule,
         instance: Option<u32>,
