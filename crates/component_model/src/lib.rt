@@ -10,11 +10,13 @@ mod description;
 mod expression_reading;
 mod from_value;
 mod in_program;
+mod initials;
 mod keywords;
 mod mapping_reading;
 mod names;
 mod port_reading;
 mod program_reading;
+mod reading;
 mod scopes;
 mod servers;
 mod simple_reading;
@@ -32,3 +34,4 @@ pub use description::{
     Composition, Connector, Description, InnerPort, MappedEvent, Prototype, PrototypeType, Task,
     TaskMapping,
 };
+pub use reading::read_description;
