@@ -1,4 +1,5 @@
 mod Added
+mod Firsts
 mod Kept
 mod Lists
 mod Meanings

@@ -6,7 +6,7 @@ use Rattle.serde_json.specs.View.{view, items_view}
 use Rattle.serde_json.specs.declared.value.Value.{Value}
 use Rattle.component_model.specs.Expressions.{expr_of, expr_reading, expr_readings}
 use Rattle.component_model.specs.Names.{Names}
-use Rattle.component_model.specs.Statements.{Block, Context, block, blocks, body_part}
+use Rattle.component_model.specs.Statements.{Context, block, blocks, body_part}
 
 exprs_are : (vs : List Value) → expr_readings (items_view vs) ≡ map (λ v. expr_reading (view v)) vs
 exprs_are [] = refl

@@ -12,3 +12,5 @@ pub mod Keywords
 pub mod Statements
 pub mod Programs
 pub mod Descriptions
+pub mod Initials
+pub mod Refusals

@@ -1,5 +1,5 @@
 -- What the programs of runnables are read as, and the components that hold them.
-use Rattle.std.specs.Prelude.{ℕ, List, [], ◌∷◌, ◌++◌, map, filter, length, slice_get, slice_index_or, Bool, bytes_eq, codes, Option, Some, None, option_and_then, unwrap_or}
+use Rattle.std.specs.Prelude.{ℕ, List, [], ◌∷◌, ◌++◌, map, filter, length, slice_get, slice_index_or, Bool, bytes_eq, codes, Option, Some, None, unwrap_or}
 use Rattle.serde_json.specs.Data.{Data, null}
 use Rattle.serde_json.specs.Find.{get}
 use Rattle.runnable_lang.specs.Trees.{ProgramTree, program_tree}
@@ -17,7 +17,7 @@ use Rattle.component_model.specs.declared.scopes.TypeNames.{TypeNames}
 use Rattle.component_model.specs.Components.{access_reading, component_names, event_reading, item_of_event, port_of_event, variable_reading}
 use Rattle.component_model.specs.Names.{Names, position_in, texts}
 use Rattle.component_model.specs.Ports.{port_reading}
-use Rattle.component_model.specs.Statements.{Context, block}
+use Rattle.component_model.specs.Statements.{block}
 use Rattle.component_model.specs.Values.{flag_at, items_at, text_at}
 use Rattle.component_model.specs.Variables.{variables_of}
 

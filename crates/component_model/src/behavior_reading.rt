@@ -11,7 +11,9 @@ use crate::component_names::InComponent;
 use crate::from_value::{FromValue, read_list};
 use crate::port_reading::init_value;
 use crate::scopes::TypeNames;
-use crate::values::{copy_at, items_at, number_at, text_at, text_in, text_of_part, text_of_part_at};
+use crate::values::{
+    copy_at, items_at, number_at, text_at, text_in, text_of_part, text_of_part_at,
+};
 use crate::words::access_kind_of;
 use rte_text::Memory;
 use runnable_lang::AccessKind;
@@ -21,11 +23,7 @@ use std::alloc::Global;
 impl<'a> FromValue<TypeNames<'a>> for Variable {
     ghost reading = { variable_reading };
 
-    fn from_value(
-        alloc: Global,
-        types: &TypeNames<'a>,
-        value: &Value,
-    ) -> Result<Variable, Memory> {
+    fn from_value(alloc: Global, types: &TypeNames<'a>, value: &Value) -> Result<Variable, Memory> {
         let short_name = copy_at(alloc, value, "shortName")?;
         let init_value = init_value(alloc, value)?;
         Ok(Variable {
@@ -53,10 +51,8 @@ fn item_of_access(scope: &InComponent, kind: AccessKind, value: &Value) -> u32
     ensures { result ≡ item_of_access scope.now.interfaces.now scope.now.names.now kind (view value.now) }
 {
     match kind {
-        AccessKind::IrvWrite
-        | AccessKind::IrvRead
-        | AccessKind::IrvIWrite
-        | AccessKind::IrvIRead => scope.names.variables.find(text_of_part(value, 1)),
+        AccessKind::IrvWrite | AccessKind::IrvRead | AccessKind::IrvIWrite | AccessKind::IrvIRead =>
+            scope.names.variables.find(text_of_part(value, 1)),
         AccessKind::Enter => scope.names.areas.find(text_of_part(value, 1)),
         AccessKind::Switch | AccessKind::Mode => 0,
         _ => scope.item(scope.port(text_of_part(value, 1)), text_of_part(value, 2)),
@@ -109,7 +105,10 @@ fn activation_of(scope: &InComponent, word: &str, value: &Value) -> ModeActivati
     } else if word == "onExit" {
         ModeActivation::OnExit(mode_of_event(scope, value, 0))
     } else {
-        ModeActivation::OnTransition(mode_of_event(scope, value, 0), mode_of_event(scope, value, 1))
+        ModeActivation::OnTransition(
+            mode_of_event(scope, value, 0),
+            mode_of_event(scope, value, 1),
+        )
     }
 }
 
@@ -167,11 +166,7 @@ impl<'s, 'a> FromValue<ModesOfPort<'s, 'a>> for u32 {
     }
 }
 
-fn disabling(
-    alloc: Global,
-    scope: &InComponent,
-    value: &Value,
-) -> Result<DisabledInModes, Memory>
+fn disabling(alloc: Global, scope: &InComponent, value: &Value) -> Result<DisabledInModes, Memory>
     ensures { IfOk result (λ m. m ≡ disabling_reading scope.now.interfaces.now scope.now.names.now (view value.now)) }
 {
     let port = port_of_event(scope, value);

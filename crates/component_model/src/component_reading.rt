@@ -103,12 +103,7 @@ fn read_behavior(
     })
 }
 
-fn behavior(
-    alloc: Global,
-    scope: &Scope,
-    value: &Value,
-    inner: &Value,
-) -> Result<Behavior, Memory>
+fn behavior(alloc: Global, scope: &Scope, value: &Value, inner: &Value) -> Result<Behavior, Memory>
     ensures { IfOk result (λ b. behavior_tree b
         ≡ behavior_reading scope.now.types scope.now.interfaces (component_names scope.now.interfaces (view value.now) (view inner.now)) (view inner.now)) }
 {

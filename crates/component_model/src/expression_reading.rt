@@ -51,12 +51,7 @@ pub fn read_expr(alloc: Global, vars: &Positions, value: &Value) -> Result<Expr,
 }
 
 #[cycle(expression)]
-fn read_operator(
-    alloc: Global,
-    vars: &Positions,
-    op: Op,
-    parts: &[Value],
-) -> Result<Expr, Memory>
+fn read_operator(alloc: Global, vars: &Positions, op: Op, parts: &[Value]) -> Result<Expr, Memory>
     ensures { IfOk result (λ e. expr_tree e ≡ combined op
         (expr_of vars.now (slice_get (expr_readings (items_view parts.now)) 1))
         (expr_of vars.now (slice_get (expr_readings (items_view parts.now)) 2))) }
@@ -69,12 +64,7 @@ fn read_operator(
 }
 
 #[cycle(expression)]
-fn read_part(
-    alloc: Global,
-    vars: &Positions,
-    parts: &[Value],
-    part: usize,
-) -> Result<Expr, Memory>
+fn read_part(alloc: Global, vars: &Positions, parts: &[Value], part: usize) -> Result<Expr, Memory>
     ensures { IfOk result (λ e. expr_tree e ≡ expr_of vars.now (slice_get (expr_readings (items_view parts.now)) part)) }
 {
     if part < parts.len() {
@@ -85,11 +75,7 @@ fn read_part(
 }
 
 /// The expressions that the values are.
-pub fn read_exprs(
-    alloc: Global,
-    vars: &Positions,
-    values: &[Value],
-) -> Result<Vec<Expr>, Memory>
+pub fn read_exprs(alloc: Global, vars: &Positions, values: &[Value]) -> Result<Vec<Expr>, Memory>
     ensures { IfOk result (λ es. exprs es.items ≡ map (λ d. expr_reading d vars.now) (map view values.now)) }
 {
     let mut list = Vec::new(alloc);

@@ -1,4 +1,18 @@
-//! Descriptions as typed values.
+//! Descriptions as typed values, read from JSON.
+//!
+//! `read_description` takes the bytes of a description and gives a `Description`, or the least rule that they break, with
+//! its first place. Rules 1 and those of shapes and names are judged by `description_places`, the rules of types (6 and 7)
+//! by `interface_types`, and rule 8 here: an initial value of a data element or variable has as many words as its type,
+//! each within its limits. It is judged on every port and side, used or not; the place is the initial value.
+//!
+//! What refers to something by its name holds a position: that of the first item of this name in the list that declares
+//! it, and the number of items there where none has it. Each list stands in declared order, so positions give the JSON
+//! pointer of everything. A key that may be missing is an `Option` or has its default. The variables of a program are
+//! numbered by their first place in its text; in a server, after the arguments of its operation and `error`.
+//!
+//! A reading is there for every value (`specs/Descriptions.antt`), with defaults where the rules leave nothing to be read.
+//! Names are looked up by hash, in maps that are built once for each list that declares them, so reading grows linearly
+//! with the file.
 #![tactic(auto)]
 
 mod behavior_reading;
@@ -10,15 +24,19 @@ mod description;
 mod expression_reading;
 mod from_value;
 mod in_program;
+mod initials;
 mod keywords;
 mod mapping_reading;
 mod names;
 mod port_reading;
 mod program_reading;
+mod reading;
 mod scopes;
 mod servers;
 mod simple_reading;
 mod statement_reading;
+#[cfg(test)]
+mod tests;
 mod type_reading;
 mod values;
 mod variables;
@@ -32,3 +50,4 @@ pub use description::{
     Composition, Connector, Description, InnerPort, MappedEvent, Prototype, PrototypeType, Task,
     TaskMapping,
 };
+pub use reading::read_description;

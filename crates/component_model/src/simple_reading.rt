@@ -31,7 +31,12 @@ impl InProgram<'_, '_> {
         let (port, item) = (self.port(value), self.item(value));
         let values = self.exprs(alloc, value, 3)?;
         let status = self.var(value, 4);
-        Ok(Stmt::Write { port, item, values, status })
+        Ok(Stmt::Write {
+            port,
+            item,
+            values,
+            status,
+        })
     }
 
     /// `read`.
@@ -41,7 +46,12 @@ impl InProgram<'_, '_> {
         let (port, item) = (self.port(value), self.item(value));
         let vars = self.vars(alloc, value, 3)?;
         let status = self.var(value, 4);
-        Ok(Stmt::Read { port, item, vars, status })
+        Ok(Stmt::Read {
+            port,
+            item,
+            vars,
+            status,
+        })
     }
 
     /// `invalidate`.
@@ -69,7 +79,12 @@ impl InProgram<'_, '_> {
         let (port, item) = (self.port(value), self.item(value));
         let values = self.exprs(alloc, value, 3)?;
         let status = self.var(value, 4);
-        Ok(Stmt::Send { port, item, values, status })
+        Ok(Stmt::Send {
+            port,
+            item,
+            values,
+            status,
+        })
     }
 
     /// `receive`.
@@ -79,7 +94,12 @@ impl InProgram<'_, '_> {
         let (port, item) = (self.port(value), self.item(value));
         let vars = self.vars(alloc, value, 3)?;
         let status = self.var(value, 4);
-        Ok(Stmt::Receive { port, item, vars, status })
+        Ok(Stmt::Receive {
+            port,
+            item,
+            vars,
+            status,
+        })
     }
 
     /// `iwrite`.
@@ -160,7 +180,12 @@ impl InProgram<'_, '_> {
         let (port, item) = (self.port(value), self.item(value));
         let values = self.exprs(alloc, value, 3)?;
         let status = self.var(value, 4);
-        Ok(Stmt::ACall { port, item, values, status })
+        Ok(Stmt::ACall {
+            port,
+            item,
+            values,
+            status,
+        })
     }
 
     /// `result`.
@@ -170,7 +195,12 @@ impl InProgram<'_, '_> {
         let (port, item) = (self.port(value), self.item(value));
         let vars = self.vars(alloc, value, 3)?;
         let status = self.var(value, 4);
-        Ok(Stmt::TakeResult { port, item, vars, status })
+        Ok(Stmt::TakeResult {
+            port,
+            item,
+            vars,
+            status,
+        })
     }
 
     /// `switch`.

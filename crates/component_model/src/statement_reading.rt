@@ -32,9 +32,7 @@ fn read_stmt(alloc: Global, scope: &InProgram, value: &Value) -> Result<Stmt, Me
                 let cond = scope.expr(alloc, value, 1)?;
                 Ok(Stmt::If { cond, yes, no })
             }
-            Keyword::Repeat => {
-                read_repeat(alloc, scope, number_of_part(value, 1), parts)
-            }
+            Keyword::Repeat => { read_repeat(alloc, scope, number_of_part(value, 1), parts) }
             Keyword::Area => {
                 let body = read_part(alloc, scope, parts, 2)?;
                 let area = scope.area(value);

@@ -98,11 +98,7 @@ fn part_of(kind: Kind, part: usize) -> Kind
 
 /// Adds the variables that the value of this kind names, in document order.
 #[cycle(names)]
-pub fn add_names<'a>(
-    vars: &mut Variables<'a>,
-    value: &'a Value,
-    kind: Kind,
-) -> Result<(), Memory>
+pub fn add_names<'a>(vars: &mut Variables<'a>, value: &'a Value, kind: Kind) -> Result<(), Memory>
     ensures { OnOk result (vars.new ≡ all_added vars.old (names_in (view value.now) kind)) }
 {
     let kind = resolved(kind, value);
@@ -123,11 +119,7 @@ fn add_name<'a>(vars: &mut Variables<'a>, name: &'a str, kind: Kind) -> Result<(
 }
 
 #[cycle(names)]
-fn add_in_parts<'a>(
-    vars: &mut Variables<'a>,
-    parts: &'a [Value],
-    kind: Kind,
-) -> Result<(), Memory>
+fn add_in_parts<'a>(vars: &mut Variables<'a>, parts: &'a [Value], kind: Kind) -> Result<(), Memory>
     ensures { OnOk result (vars.new ≡ all_added vars.old (in_parts kind (names_in_each (items_view parts.now)))) }
 {
     for part in 0..parts.len() {
