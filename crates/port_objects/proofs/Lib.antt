@@ -1,0 +1,4 @@
+pub mod Placing
+pub mod GroupLeads
+pub mod ClockLeads
+pub mod Leads
