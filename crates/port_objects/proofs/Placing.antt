@@ -72,7 +72,7 @@ all_filter t (x ∷ xs) = by_test (t x) refl (all_filter t xs)
     by_test true e rest = ap (λ b. b && list_all t (filter t xs)) e ∙ rest
     by_test false e rest = rest
 
-all_kept : (q t : ℕ → Bool) (xs : List ℕ) → list_all q xs ≡ true → list_all q (filter t xs) ≡ true
+pub all_kept : (q t : ℕ → Bool) (xs : List ℕ) → list_all q xs ≡ true → list_all q (filter t xs) ≡ true
 all_kept q t [] all = refl
 all_kept q t (x ∷ xs) all = by_test (t x) (all_kept q t xs (both (q x) (list_all q xs) all).1)
   where
@@ -159,7 +159,7 @@ below_more (x ∷ xs) n all =
     let more : nat_lt x (suc n) ≡ true = grind (arith, nat_tests) in
     ap (λ b. b && list_all (λ m. nat_lt m (suc n)) xs) more ∙ below_more xs n parts.1
 
-below_positions : (n : ℕ) → list_all (λ m. nat_lt m n) (positions n) ≡ true
+pub below_positions : (n : ℕ) → list_all (λ m. nat_lt m n) (positions n) ≡ true
 below_positions zero = refl
 below_positions (suc n) = let last : nat_lt n (suc n) ≡ true = grind (arith, nat_tests) in all_end (λ m. nat_lt m (suc n)) (positions n) n (below_more (positions n) n (below_positions n)) last
 
@@ -177,7 +177,7 @@ distinct_end (x ∷ xs) n all once =
     let alone = both (not (list_any (λ m. m == x) xs)) (is_distinct xs) once in
     ap (λ b. not b && is_distinct (xs ++ n ∷ [])) (any_end xs x n (not_true (list_any (λ m. m == x) xs) alone.0) differ) ∙ distinct_end xs n parts.1 alone.1
 
-append_none : (xs : List ℕ) → xs ++ [] ≡ xs
+pub append_none : (xs : List ℕ) → xs ++ [] ≡ xs
 append_none [] = refl
 append_none (x ∷ xs) = ap (λ ys. x ∷ ys) (append_none xs)
 
