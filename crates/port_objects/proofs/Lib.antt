@@ -6,3 +6,5 @@ pub mod Rising
 pub mod Taking
 pub mod Members
 pub mod GroupTaking
+pub mod Others
+pub mod Answering

@@ -5,3 +5,5 @@ pub mod Standing
 pub mod Leading
 pub mod Rising
 pub mod Acting
+pub mod Objects
+pub mod Answers

@@ -1,18 +1,20 @@
 //! A group of unqueued data elements with the plan's events that wait for it.
 
-ghost use Rattle.std.specs.Prelude.{◌≡◌, ◌<◌, ℕ, length, true};
+ghost use Rattle.std.specs.Prelude.{◌≡◌, ◌<◌, ℕ, length, true, Some};
 ghost use Rattle.std.specs.Option.{MatchOption};
 ghost use Rattle.rte_value.specs.Values.{words_of};
 ghost use Rattle.bus_semantics.specs.Plan.{Plan, plan_of, look};
 ghost use Rattle.bus_semantics.specs.SoundPlan.{groups_fit};
-ghost use Rattle.bus_semantics.specs.Wanted.{to_start, to_fetch, to_write, to_read, to_invalidate, to_see_updated, to_publish};
+ghost use Rattle.bus_semantics.specs.Wanted.{to_start, to_fetch, to_write, to_read, to_invalidate, to_see_updated, to_publish, wanted_of};
+ghost use Rattle.bus_semantics.specs.Objects.{object_of};
+ghost use Rattle.port_objects.specs.Objects.{GroupOfPlan, touched};
 ghost use Rattle.port_objects.specs.Acting.{LeadsGroup, HoldsGroup, IsTakenOfGroup, started_at};
 ghost use Rattle.port_objects.specs.Layout.{place, members_of};
 ghost use Rattle.port_objects.specs.Leading.{read_code_by};
 ghost use Rattle.port_objects.specs.Rising.{is_rising};
 
 use crate::find::find;
-use bus_semantics::{BusPlan, Deed, ElemKind, ElemPlan};
+use bus_semantics::{Actor, BusPlan, Deed, ElemKind, ElemPlan, Wish};
 use explicit_ports::{ReadState, Unqueued};
 use rte_value::{Code, Value};
 
@@ -63,6 +65,34 @@ fn code_for(p: &BusPlan, elem: u32, state: &ReadState) -> Code
 }
 
 impl Group {
+    /// The deed of a wish, or none where there is no deed of it that may come.
+    pub(crate) fn act(&mut self, p: &BusPlan, who: &Actor, wish: &Wish) -> Option<Deed>
+        requires groups { groups_fit (plan_of p.now) ≡ true }
+        requires touching { object_of (plan_of p.now) who.now (wanted_of wish.now) ≡ Some (touched (plan_of p.now) who.now (wanted_of wish.now)) }
+        requires planned { GroupOfPlan (plan_of p.now) (touched (plan_of p.now) who.now (wanted_of wish.now)) self.old }
+        ensures { MatchOption result (HoldsGroup (plan_of p.now) (touched (plan_of p.now) who.now (wanted_of wish.now)) (wanted_of wish.now) self.old self.new) (LeadsGroup (plan_of p.now) (touched (plan_of p.now) who.now (wanted_of wish.now)) (wanted_of wish.now) self.old self.new) }
+    {
+        match wish {
+            Wish::Write { elem, value } => Some(self.write(*elem, value)),
+            Wish::Publish { elem, value } => Some(self.publish(*elem, value)),
+            Wish::Invalidate { elem } => Some(self.invalidate(*elem)),
+            Wish::Read { elem } => match p.group_of(*elem) {
+                Some(group) => self.read(p, group, *elem),
+                None => None,
+            },
+            Wish::Fetch { elem } => match p.group_of(*elem) {
+                Some(group) => self.fetch(p, group, *elem),
+                None => None,
+            },
+            Wish::IsUpdated { elem } => match p.group_of(*elem) {
+                Some(group) => self.is_updated(p, group, *elem),
+                None => None,
+            },
+            Wish::Start { event } => self.start(*event),
+            _ => None,
+        }
+    }
+
     /// A write to an element.
     pub(crate) fn write(&mut self, elem: u32, value: &Value) -> Deed
         ensures { (p : Plan) (group : ℕ) → LeadsGroup p group (to_write elem (words_of value.now)) self.old self.new result }

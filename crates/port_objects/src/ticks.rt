@@ -2,14 +2,14 @@
 
 ghost use Rattle.std.specs.Prelude.{◌≡◌, length, true};
 ghost use Rattle.std.specs.Option.{MatchOption};
-ghost use Rattle.bus_semantics.specs.Wanted.{to_tick, to_start};
+ghost use Rattle.bus_semantics.specs.Wanted.{to_tick, to_start, wanted_of};
 ghost use Rattle.port_objects.specs.Acting.{LeadsClock, HoldsClock, IsTaken};
 ghost use Rattle.port_objects.specs.Layout.{place};
 ghost use Rattle.port_objects.specs.Leading.{lead_of_start};
 ghost use Rattle.port_objects.specs.Rising.{is_rising};
 
 use crate::find::find;
-use bus_semantics::Deed;
+use bus_semantics::{Deed, Wish};
 use rte_value::Value;
 use tick_events::Clock;
 
@@ -22,6 +22,21 @@ pub struct Ticks {
 }
 
 impl Ticks {
+    /// The deed of a wish, or none where there is no deed of it that may come.
+    pub(crate) fn act(&mut self, wish: &Wish) -> Option<Deed>
+        requires timings { is_rising self.old.timings.items ≡ true }
+        requires inits { is_rising self.old.inits.items ≡ true }
+        requires timers { length self.old.clock.timers ≡ length self.old.timings.items }
+        requires unstarted { length self.old.clock.unstarted ≡ length self.old.inits.items }
+        ensures { MatchOption result (HoldsClock (wanted_of wish.now) self.old self.new) (LeadsClock (wanted_of wish.now) self.old self.new) }
+    {
+        match wish {
+            Wish::Tick => Some(self.tick()),
+            Wish::Start { event } => self.start(*event),
+            _ => None,
+        }
+    }
+
     /// A tick.
     pub(crate) fn tick(&mut self) -> Deed
         ensures { LeadsClock to_tick self.old self.new result }
