@@ -33,15 +33,15 @@ use Rattle.port_objects.proofs.GroupLeads.{noting, answer_part, admitted, flag_s
 
 -- ---- kinds
 
-record OfPeriod (k : EventKind) : Type 0 where
-  period : ℕ
-  kind : k ≡ Timing period
+pub record OfPeriod (k : EventKind) : Type 0 where
+  pub period : ℕ
+  pub kind : k ≡ Timing period
 
-of_period : (k : EventKind) → is_timing k ≡ true → OfPeriod k
+pub of_period : (k : EventKind) → is_timing k ≡ true → OfPeriod k
 of_period (Timing period) e = record { period = period; kind = refl }
 of_period k e = absurd (false≢true e)
 
-of_init : (k : EventKind) → is_init k ≡ true → k ≡ Init
+pub of_init : (k : EventKind) → is_init k ≡ true → k ≡ Init
 of_init Init e = refl
 of_init k e = absurd (false≢true e)
 
@@ -63,26 +63,26 @@ flipped e f off = by_test (f == e) refl
     by_test true t = clash (e == f) (same_test e f (sym (number_same f e t))) off
     by_test false t = t
 
-timing_due : (p : Plan) (e period : ℕ) (l : Past) → kind_of p e ≡ Timing period → due_after p l e ≡ follows_last (is_start_by e) (ticks_period period) l
+pub timing_due : (p : Plan) (e period : ℕ) (l : Past) → kind_of p e ≡ Timing period → due_after p l e ≡ follows_last (is_start_by e) (ticks_period period) l
 timing_due p e period l kind = ap (λ k. is_due_kind p Env e k l) kind
 
-init_due : (p : Plan) (e : ℕ) (l : Past) → kind_of p e ≡ Init → due_after p l e ≡ never_started e l
+pub init_due : (p : Plan) (e : ℕ) (l : Past) → kind_of p e ≡ Init → due_after p l e ≡ never_started e l
 init_due p e l kind = ap (λ k. is_due_kind p Env e k l) kind
 
 module _ (p : Plan) where
-  timings_all : list_all (λ e. is_timing (kind_of p e)) (events_of p is_timing) ≡ true
+  pub timings_all : list_all (λ e. is_timing (kind_of p e)) (events_of p is_timing) ≡ true
   timings_all = all_filter (λ e. is_timing (kind_of p e)) (positions (length p.events))
 
   timings_once : is_distinct (events_of p is_timing) ≡ true
   timings_once = distinct_positions (λ e. is_timing (kind_of p e)) (length p.events)
 
-  inits_all : list_all (λ e. is_init (kind_of p e)) (events_of p is_init) ≡ true
+  pub inits_all : list_all (λ e. is_init (kind_of p e)) (events_of p is_init) ≡ true
   inits_all = all_filter (λ e. is_init (kind_of p e)) (positions (length p.events))
 
   inits_once : is_distinct (events_of p is_init) ≡ true
   inits_once = distinct_positions (λ e. is_init (kind_of p e)) (length p.events)
 
-map_map : {X Y : Type 0} (f : X → Y) (g : ℕ → X) (xs : List ℕ) → map f (map g xs) ≡ map (λ x. f (g x)) xs
+pub map_map : {X Y : Type 0} (f : X → Y) (g : ℕ → X) (xs : List ℕ) → map f (map g xs) ≡ map (λ x. f (g x)) xs
 map_map f g [] = refl
 map_map f g (x ∷ xs) = ap (λ ys. f (g x) ∷ ys) (map_map f g xs)
 

@@ -66,13 +66,13 @@ waiting_for p g (DataReceived x) e = record { element = x; kind = refl; inside =
 waiting_for p g k e = absurd (false≢true e)
 
 module _ (p : Plan) (g : ℕ) where
-  members_all : list_all (is_in_group p g) (members_of p g) ≡ true
+  pub members_all : list_all (is_in_group p g) (members_of p g) ≡ true
   members_all = all_filter (is_in_group p g) (positions (length p.elements))
 
   members_once : is_distinct (members_of p g) ≡ true
   members_once = distinct_positions (is_in_group p g) (length p.elements)
 
-  events_all : list_all (λ e. waits_for_data p g (kind_of p e)) (events_of p (waits_for_data p g)) ≡ true
+  pub events_all : list_all (λ e. waits_for_data p g (kind_of p e)) (events_of p (waits_for_data p g)) ≡ true
   events_all = all_filter (λ e. waits_for_data p g (kind_of p e)) (positions (length p.events))
 
   events_once : is_distinct (events_of p (waits_for_data p g)) ≡ true
@@ -88,7 +88,7 @@ updated_same p g x n l inside gives = let m = member_of p g x inside in let foun
 
 -- ---- due events after an entry
 
-due_kind : (p : Plan) (e x : ℕ) (l : Past) → kind_of p e ≡ DataReceived x → due_after p l e ≡ follows_last (is_start_by e) (brings_data p x) l
+pub due_kind : (p : Plan) (e x : ℕ) (l : Past) → kind_of p e ≡ DataReceived x → due_after p l e ≡ follows_last (is_start_by e) (brings_data p x) l
 due_kind p e x l kind = ap (λ k. is_due_kind p Env e k l) kind
 
 -- new data makes the events of its group due

@@ -8,3 +8,4 @@ pub mod Members
 pub mod GroupTaking
 pub mod Others
 pub mod Answering
+pub mod Opening

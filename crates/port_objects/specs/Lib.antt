@@ -7,3 +7,4 @@ pub mod Rising
 pub mod Acting
 pub mod Objects
 pub mod Answers
+pub mod Opening

@@ -10,6 +10,6 @@ mod ticks;
 
 pub use acting::{Acted, Shown, act};
 pub use group::Group;
-pub use laws::leads_are_legal;
+pub use laws::{first_objects_stand_for_nothing, leads_are_legal};
 pub use object::Object;
 pub use ticks::Ticks;
