@@ -1,0 +1,36 @@
+-- What `act` answers, by the lead: the entry of the wish by which what the object kept leads to what it keeps, or that no entry of the
+-- wish leads anywhere.
+use Rattle.std.specs.Prelude.{◌≡◌, ℕ, Option, Some, None}
+use Rattle.bus_semantics.specs.declared.entries.Actor.{Actor}
+use Rattle.bus_semantics.specs.declared.entries.Entry.{Entry}
+use Rattle.bus_semantics.specs.Plan.{Plan}
+use Rattle.bus_semantics.specs.History.{Noted}
+use Rattle.bus_semantics.specs.Wanted.{Wanted, to_start, wanted_by}
+use Rattle.port_objects.specs.declared.object.Object.{Object}
+use Rattle.port_objects.specs.declared.acting.Acted.{Acted}
+use Rattle.port_objects.specs.declared.acting.Acted.TheVariants.{Done, NotYet}
+use Rattle.port_objects.specs.declared.acting.Shown.{Shown}
+use Rattle.port_objects.specs.declared.acting.Shown.TheVariants.{NotDue, Unmatched}
+use Rattle.port_objects.specs.Leading.{lead}
+use Rattle.port_objects.specs.Objects.{kept_of}
+
+-- the entry is the actor's, of the wish, and what was kept leads by it to what is kept
+pub record IsMade (p : Plan) (object : ℕ) (a : Actor) (w : Wanted) (old new : Object) (e : Entry) : Type 0 where
+  pub actor : e.actor ≡ a
+  pub wish : (event : ℕ) → wanted_by event e.deed ≡ w
+  pub leads : (event : Option ℕ) → lead p object (kept_of old) (record { entry = e; event = event }) ≡ Some (kept_of new)
+
+-- why a wish may not come: a start is not due; every other wish that may not come is none of the object's
+abbrev pub why_held : Wanted → Shown
+why_held (to_start event) = NotDue event
+why_held w = Unmatched
+
+-- nothing has changed, and no entry of the wish leads anywhere
+pub record IsHeld (p : Plan) (object : ℕ) (w : Wanted) (old new : Object) (shown : Shown) : Type 0 where
+  pub why : shown ≡ why_held w
+  pub same : new ≡ old
+  pub none : (n : Noted) (event : ℕ) → wanted_by event n.entry.deed ≡ w → lead p object (kept_of old) n ≡ None
+
+abbrev pub IsAnswer : Plan → (object : ℕ) → Actor → Wanted → (old new : Object) → Acted → Type 0
+IsAnswer p object a w old new (Done e) = IsMade p object a w old new e
+IsAnswer p object a w old new (NotYet shown) = IsHeld p object w old new shown

@@ -1,0 +1,10 @@
+pub mod Layout
+pub mod Kept
+pub mod Matching
+pub mod Standing
+pub mod Leading
+pub mod Rising
+pub mod Acting
+pub mod Objects
+pub mod Answers
+pub mod Opening

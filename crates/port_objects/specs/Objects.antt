@@ -1,0 +1,39 @@
+-- The objects of a plan, as the code has them: what each keeps as plain data, and all in it that no call changes.
+use Rattle.std.specs.Prelude.{◌≡◌, ℕ, ◌<◌, map, length, unwrap_or}
+use Rattle.bus_semantics.specs.declared.entries.Actor.{Actor}
+use Rattle.bus_semantics.specs.Plan.{Plan, kind_of}
+use Rattle.bus_semantics.specs.Wanted.{Wanted}
+use Rattle.bus_semantics.specs.Objects.{clock, object_of}
+use Rattle.tick_events.specs.Kept.{Timer}
+use Rattle.port_objects.specs.declared.group.Group.{Group}
+use Rattle.port_objects.specs.declared.ticks.Ticks.{Ticks}
+use Rattle.port_objects.specs.declared.object.Object.{Object}
+use Rattle.port_objects.specs.declared.object.Object.TheVariants.{Unqueued, Clock}
+use Rattle.port_objects.specs.Layout.{members_of, initial_of, events_of, waits_for_data, is_timing, is_init, period_in, receiver_of}
+use Rattle.port_objects.specs.Kept.{Kept, of_group, of_clock}
+
+abbrev pub kept_of : Object → Kept
+kept_of (Unqueued g) = of_group g.events.items g.unqueued
+kept_of (Clock t) = of_clock t.timings.items t.inits.items t.clock
+
+pub record GroupOfPlan (p : Plan) (group : ℕ) (g : Group) : Type 0 where
+  pub number : group < length p.groups
+  pub waiting : g.events.items ≡ events_of p (waits_for_data p group)
+  pub inits : g.unqueued.inits ≡ map (initial_of p) (members_of p group)
+  pub receivers : g.unqueued.events ≡ map (receiver_of p group) g.events.items
+
+pub record ClockOfPlan (p : Plan) (object : ℕ) (t : Ticks) : Type 0 where
+  pub number : object ≡ clock p
+  pub timing : t.timings.items ≡ events_of p is_timing
+  pub initial : t.inits.items ≡ events_of p is_init
+  pub periods : map (λ (r : Timer). r.period) t.clock.timers ≡ map (λ e. period_in (kind_of p e)) t.timings.items
+  pub count : length t.clock.unstarted ≡ length t.inits.items
+
+-- it is the plan's object of that number
+abbrev pub IsOfPlan : Plan → (object : ℕ) → Object → Type 0
+IsOfPlan p object (Unqueued g) = GroupOfPlan p object g
+IsOfPlan p object (Clock t) = ClockOfPlan p object t
+
+-- the object that a wish touches
+abbrev pub touched : Plan → Actor → Wanted → ℕ
+touched p a w = unwrap_or (object_of p a w) 0

@@ -1,0 +1,70 @@
+//! One entry on an object.
+
+ghost use Rattle.std.specs.Prelude.{◌≡◌, true, Some};
+ghost use Rattle.bus_semantics.specs.Plan.{plan_of};
+ghost use Rattle.bus_semantics.specs.SoundPlan.{groups_fit};
+ghost use Rattle.bus_semantics.specs.Wanted.{wanted_of};
+ghost use Rattle.bus_semantics.specs.Objects.{object_of};
+ghost use Rattle.port_objects.specs.Objects.{IsOfPlan, touched};
+ghost use Rattle.port_objects.specs.Answers.{IsAnswer, why_held};
+
+use crate::object::Object;
+use bus_semantics::{Actor, BusPlan, Entry, Wish};
+use rte_value::ActKey;
+
+/// What came of a wish.
+#[derive(Drop)]
+pub enum Acted {
+    /// This entry was made.
+    Done(Entry),
+    /// No entry of the wish may come, and why.
+    NotYet(Shown),
+}
+
+/// Why no entry of a wish may come.
+#[derive(Drop)]
+pub enum Shown {
+    /// The event is not pending.
+    NotDue(u32),
+    /// The area is held.
+    HeldBy(ActKey),
+    /// Nothing was returned for the point.
+    NotReturned(u32),
+    /// No accepted switch has not begun.
+    NoSwitch,
+    /// An admitted activation of the event runs that the next mode disables.
+    Running(u32),
+    /// What the event owes is not done.
+    Owed(u32),
+    /// The wish is none of the object's, or does not match what was before.
+    Unmatched,
+}
+
+/// Makes the entry of a wish on the object that it touches, where one may come. Else nothing changes. It takes no memory.
+pub fn act(p: &BusPlan, object: &mut Object, who: &Actor, wish: &Wish) -> Acted
+    requires groups { groups_fit (plan_of p.now) ≡ true }
+    requires touching { object_of (plan_of p.now) who.now (wanted_of wish.now) ≡ Some (touched (plan_of p.now) who.now (wanted_of wish.now)) }
+    requires planned { IsOfPlan (plan_of p.now) (touched (plan_of p.now) who.now (wanted_of wish.now)) object.old }
+    ensures { IsAnswer (plan_of p.now) (touched (plan_of p.now) who.now (wanted_of wish.now)) who.now (wanted_of wish.now) object.old object.new result }
+{
+    match object {
+        Object::Unqueued(group) => match group.act(p, who, wish) {
+            Some(deed) => Acted::Done(Entry { actor: *who, deed }),
+            None => Acted::NotYet(why_not(wish)),
+        },
+        Object::Clock(ticks) => match ticks.act(wish) {
+            Some(deed) => Acted::Done(Entry { actor: *who, deed }),
+            None => Acted::NotYet(why_not(wish)),
+        },
+    }
+}
+
+/// Why a wish of the clock or of a group may not come: a start is not due.
+fn why_not(wish: &Wish) -> Shown
+    ensures { result ≡ why_held (wanted_of wish.now) }
+{
+    match wish {
+        Wish::Start { event } => Shown::NotDue(*event),
+        _ => Shown::Unmatched,
+    }
+}
