@@ -3,11 +3,17 @@ pub mod Counting
 pub mod Deepest
 pub mod FirstOnes
 pub mod Following
+pub mod Growth
 pub mod InItself
 pub mod Members
 pub mod Naming
+pub mod Noding
+pub mod Placing
 pub mod Reaching
 pub mod SameEnds
 pub mod SameKeys
+pub mod SameLinks
+pub mod SameNames
 pub mod Starting
 pub mod Steps
+pub mod Wholes

@@ -3,9 +3,14 @@ pub mod Counts
 pub mod Ends
 pub mod Firsts
 pub mod Fronts
+pub mod Growing
 pub mod Instances
+pub mod Items
+pub mod Joined
 pub mod Keys
 pub mod Levels
+pub mod Links
+pub mod Matching
 pub mod Members
 pub mod Named
 pub mod Paths

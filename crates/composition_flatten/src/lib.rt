@@ -4,16 +4,22 @@
 mod connectors;
 mod containing;
 mod counts;
+mod cross;
 mod delegations;
 mod depth;
 mod ends;
 mod flat;
+mod links;
 mod listing;
+mod matches;
+mod nodes;
+mod own;
 mod prototypes;
 mod ranks;
 mod reach;
 mod starts;
 mod tree;
+mod whole;
 mod wiring;
 
 pub use flat::{End, Flat, Instance, Join};
