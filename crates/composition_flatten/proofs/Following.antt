@@ -25,7 +25,7 @@ use Rattle.composition_flatten.proofs.Members.{left, right, cases, flat, unflat,
 use Rattle.composition_flatten.proofs.Naming.{counted}
 use Rattle.composition_flatten.proofs.Steps.{step_is}
 
-sum_zero : {X : Type 0} (f : X → ℕ) (x : X) (xs : List X) → sum_of f xs ≡ 0 → Among x xs → f x ≡ 0
+pub sum_zero : {X : Type 0} (f : X → ℕ) (x : X) (xs : List X) → sum_of f xs ≡ 0 → Among x xs → f x ≡ 0
 sum_zero f x [] z h = absurd h
 sum_zero f x (y ∷ xs) z (inl e) = ap f e ∙ omega arith
 sum_zero f x (y ∷ xs) z (inr h) = sum_zero f x xs (omega arith) h

@@ -1,4 +1,5 @@
 pub mod Broken
+pub mod Chains
 pub mod Counting
 pub mod Deepest
 pub mod FirstOnes
@@ -14,6 +15,7 @@ pub mod SameEnds
 pub mod SameKeys
 pub mod SameLinks
 pub mod SameNames
+pub mod Standing
 pub mod Starting
 pub mod Steps
 pub mod Wholes
