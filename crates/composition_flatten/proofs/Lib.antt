@@ -6,6 +6,7 @@ pub mod FirstOnes
 pub mod Following
 pub mod Growth
 pub mod InItself
+pub mod Joining
 pub mod Members
 pub mod Naming
 pub mod Noding

@@ -7,6 +7,7 @@ pub mod Growing
 pub mod Instances
 pub mod Items
 pub mod Joined
+pub mod Joins
 pub mod Keys
 pub mod Levels
 pub mod Links
