@@ -41,39 +41,39 @@ use Rattle.composition_flatten.proofs.Standing.{StandsAt, root_segment, placed_t
 use Rattle.composition_flatten.proofs.Steps.{step_on}
 
 -- joined items are of interfaces that there are
-items_some : (x y : Option InterfaceKind) (i j : ℕ) → ItemsJoin x y i j → ((k : InterfaceKind) × (x ≡ Some k)) × ((k : InterfaceKind) × (y ≡ Some k))
+pub items_some : (x y : Option InterfaceKind) (i j : ℕ) → ItemsJoin x y i j → ((k : InterfaceKind) × (x ≡ Some k)) × ((k : InterfaceKind) × (y ≡ Some k))
 items_some None y i j h = absurd h
 items_some (Some (SenderReceiver xs)) None i j h = absurd h
 items_some (Some (ClientServer xs)) None i j h = absurd h
 items_some (Some (ModeSwitch m)) None i j h = absurd h
 items_some (Some k) (Some l) i j h = ((k, refl), (l, refl))
 
-provided_some : (o : Option PortKind) → is_provided o ≡ true → o ≡ Some Provided
+pub provided_some : (o : Option PortKind) → is_provided o ≡ true → o ≡ Some Provided
 provided_some None h = absurd (true≢false (sym h))
 provided_some (Some Required) h = absurd (true≢false (sym h))
 provided_some (Some Provided) h = refl
 
-required_some : (o : Option PortKind) → is_required o ≡ true → o ≡ Some Required
+pub required_some : (o : Option PortKind) → is_required o ≡ true → o ≡ Some Required
 required_some None h = absurd (true≢false (sym h))
 required_some (Some Provided) h = absurd (true≢false (sym h))
 required_some (Some Required) h = refl
 
 module _ (d : Description) (short : length (places d) ≤ 1024) (shallow : ¬ IsTooDeep d) where
-  once : (i j : ℕ) (x y : Place) → slice_get (places d) i ≡ Some x → slice_get (places d) j ≡ Some y → x.path ≡ y.path → i ≡ j
+  pub once : (i j : ℕ) (x y : Place) → slice_get (places d) i ≡ Some x → slice_get (places d) j ≡ Some y → x.path ≡ y.path → i ≡ j
   once i j x y = place_once d 8 (Composition d.root) [] i j x y
 
   -- the interface of an end at its stand
-  interface_is : (list : List Place) (within : length list ≤ 1024) (x : PortEnd) (s : Stand) → IsEndAt d list within x s → interface_below d s ≡ interface_at d x.interface
+  pub interface_is : (list : List Place) (within : length list ≤ 1024) (x : PortEnd) (s : Stand) → IsEndAt d list within x s → interface_below d s ≡ interface_at d x.interface
   interface_is list within x s at = ap (option_and_then (λ t. option_and_then (interface_at d) (interface_of d t s.port))) at.stands ∙ ap (option_and_then (interface_at d)) at.interface
 
   -- what an end of an instance says of its stand
-  record InstanceAt (number port : ℕ) (s : Stand) : Type 0 where
-    component : ℕ
-    place : slice_get (places d) number ≡ Some (record { path = s.path; component = component })
-    same_port : port ≡ s.port
-    stands : type_at d (Composition d.root) s.path ≡ Some (Component component)
+  pub record InstanceAt (number port : ℕ) (s : Stand) : Type 0 where
+    pub component : ℕ
+    pub place : slice_get (places d) number ≡ Some (record { path = s.path; component = component })
+    pub same_port : port ≡ s.port
+    pub stands : type_at d (Composition d.root) s.path ≡ Some (Component component)
 
-  instance_at : (number port : ℕ) (s : Stand) → stand_in d (Some number) port ≡ Some s → InstanceAt number port s
+  pub instance_at : (number port : ℕ) (s : Stand) → stand_in d (Some number) port ≡ Some s → InstanceAt number port s
   instance_at number port s h = by (slice_get (places d) number) refl
     where
       by : (o : Option Place) → slice_get (places d) number ≡ o → InstanceAt number port s
