@@ -7,6 +7,7 @@ pub mod Following
 pub mod Growth
 pub mod InItself
 pub mod Joining
+pub mod Limiting
 pub mod Linking
 pub mod Members
 pub mod Naming

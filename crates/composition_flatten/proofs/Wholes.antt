@@ -78,12 +78,12 @@ module _ (d : Description) where
       let b = owner_same first x.required.owner y.required.owner within low_x.1 low_y.1 (ap (λ l. l.required.owner) e) in
       (λ i. record { provided = record { owner = a i; port = (e i).provided.port; element = (e i).provided.element }; required = record { owner = b i; port = (e i).required.port; element = (e i).required.element } })
 
-mapped : {X Y : Type 0} (f : X → Y) (y : Y) (xs : List X) → Among y (map f xs) → (x : X) × Among x xs × (y ≡ f x)
+pub mapped : {X Y : Type 0} (f : X → Y) (y : Y) (xs : List X) → Among y (map f xs) → (x : X) × Among x xs × (y ≡ f x)
 mapped f y [] h = absurd h
 mapped f y (x ∷ xs) (inl e) = (x, inl refl, e)
 mapped f y (x ∷ xs) (inr h) = let r = mapped f y xs h in (r.0, inr r.1, r.2)
 
-apart_map : {X Y : Type 0} (f : X → Y) (xs : List X) → ((x y : X) → Among x xs → Among y xs → f x ≡ f y → x ≡ y) → AllApart xs → AllApart (map f xs)
+pub apart_map : {X Y : Type 0} (f : X → Y) (xs : List X) → ((x y : X) → Among x xs → Among y xs → f x ≡ f y → x ≡ y) → AllApart xs → AllApart (map f xs)
 apart_map f [] same apart = tt
 apart_map f (x ∷ xs) same apart =
     ((λ h. let r = mapped f (f x) xs h in apart.0 (subst (λ w. Among w xs) (sym (same x r.0 (inl refl) (inr r.1) r.2)) r.1)),

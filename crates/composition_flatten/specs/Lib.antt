@@ -2,6 +2,7 @@ pub mod Connectors
 pub mod Counts
 pub mod Ends
 pub mod Firsts
+pub mod Flattening
 pub mod Fronts
 pub mod Growing
 pub mod Instances
@@ -14,6 +15,8 @@ pub mod Links
 pub mod Matching
 pub mod Members
 pub mod Named
+pub mod Orders
 pub mod Paths
 pub mod Ranks
 pub mod Trees
+pub mod Within

@@ -9,6 +9,8 @@ mod delegations;
 mod depth;
 mod ends;
 mod flat;
+mod flattening;
+mod limits;
 mod links;
 mod listing;
 mod matches;
@@ -23,3 +25,4 @@ mod whole;
 mod wiring;
 
 pub use flat::{End, Flat, Instance, Join};
+pub use flattening::flatten;

@@ -24,7 +24,7 @@ pub struct Link {
 }
 
 /// The greatest number of joined pairs.
-const LINK_LIMIT: usize = 65_536;
+pub const LINK_LIMIT: usize = 65_536;
 
 /// Adds a link. The answer is whether there are more of them now than the limit.
 pub fn add_link(links: &mut BTreeSet<Link>, link: Link) -> Result<bool, Memory>
