@@ -14,7 +14,7 @@ use Rattle.composition_flatten.proofs.Members.{numbers_only, numbers_have, flat,
 use Rattle.composition_flatten.proofs.Reaching.{held_step, step_held}
 use Rattle.composition_flatten.proofs.Steps.{step_is, step_of, step_on, last_step, holder_declared}
 
-through_none : {X Y : Type 0} (f : X → Option Y) (o : Option X) (y : Y) → option_and_then f o ≡ Some y → (x : X) × (o ≡ Some x) × (f x ≡ Some y)
+pub through_none : {X Y : Type 0} (f : X → Option Y) (o : Option X) (y : Y) → option_and_then f o ≡ Some y → (x : X) × (o ≡ Some x) × (f x ≡ Some y)
 through_none f None y h = cc
 through_none f (Some x) y h = (x, refl, h)
 

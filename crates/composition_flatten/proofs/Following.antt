@@ -25,7 +25,7 @@ use Rattle.composition_flatten.proofs.Members.{left, right, cases, flat, unflat,
 use Rattle.composition_flatten.proofs.Naming.{counted}
 use Rattle.composition_flatten.proofs.Steps.{step_is}
 
-sum_zero : {X : Type 0} (f : X → ℕ) (x : X) (xs : List X) → sum_of f xs ≡ 0 → Among x xs → f x ≡ 0
+pub sum_zero : {X : Type 0} (f : X → ℕ) (x : X) (xs : List X) → sum_of f xs ≡ 0 → Among x xs → f x ≡ 0
 sum_zero f x [] z h = absurd h
 sum_zero f x (y ∷ xs) z (inl e) = ap f e ∙ omega arith
 sum_zero f x (y ∷ xs) z (inr h) = sum_zero f x xs (omega arith) h
@@ -148,3 +148,9 @@ inner_from d n c first start number inner t x N O typed start_is number_is h =
     let same : inner_ends d n (ends d n) c first inner ≡ ends d n t number inner.port =
       ap (λ o. option_map_or (λ u. ends d n u (number_from first (offset d n c inner.prototype)) inner.port) o []) typed ∙ ap (λ m. ends d n t m inner.port) (sym numbered) in
     subst (λ l. N ↔ (O ⊎ Among x l)) (sym same) h
+
+pub inner_is : (d : Description) (n c first start number : ℕ) (inner : InnerPort) (t : PrototypeType) → type_in d (Composition c) inner.prototype ≡ Some t
+    → start ≡ min (offset d n c inner.prototype) 1025 → number ≡ number_from first start → ends d n t number inner.port ≡ inner_ends d n (ends d n) c first inner
+inner_is d n c first start number inner t typed start_is number_is =
+    let numbered : number ≡ number_from first (offset d n c inner.prototype) = number_is ∙ omega arith in
+    sym (ap (λ o. option_map_or (λ u. ends d n u (number_from first (offset d n c inner.prototype)) inner.port) o []) typed ∙ ap (λ m. ends d n t m inner.port) (sym numbered))

@@ -28,7 +28,7 @@ module _ (d : Description) where
       ∙ sum_same (λ (p : Prototype). length (named_of (named_below d n) p.of_type (prefix ++ p.short_name))) (λ p. size_of (size d n) p.of_type)
       (λ p. named_one n p.of_type (prefix ++ p.short_name) (named_size n)) (prototypes_of d c)
 
-  placed_one : (n : ℕ) (t : PrototypeType) (path : List ℕ) → ((c : ℕ) (path : List ℕ) → length (places_below d n c path) ≡ size d n c) → length (places_of (places_below d n) t path) ≡ size_of (size d n) t
+  pub placed_one : (n : ℕ) (t : PrototypeType) (path : List ℕ) → ((c : ℕ) (path : List ℕ) → length (places_below d n c path) ≡ size d n c) → length (places_of (places_below d n) t path) ≡ size_of (size d n) t
   placed_one n (Component k) path deeper = refl
   placed_one n (Composition c) path deeper = deeper c path
 

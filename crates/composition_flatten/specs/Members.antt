@@ -10,3 +10,8 @@ Among x (y ∷ ys) = (x ≡ y) ⊎ Among x ys
 abbrev pub sum_of : {X : Type 0} → (X → ℕ) → List X → ℕ
 sum_of f [] = 0
 sum_of f (x ∷ xs) = f x + sum_of f xs
+
+-- no element is in the list twice
+abbrev pub AllApart : {X : Type 0} → List X → Type 0
+AllApart [] = Unit {0}
+AllApart (x ∷ xs) = (Among x xs → ⊥) × AllApart xs

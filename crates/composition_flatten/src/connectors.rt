@@ -57,7 +57,8 @@ pub fn interface_of(d: &Description, of_type: PrototypeType, port: u32) -> Optio
     }
 }
 
-fn kind_of(d: &Description, of_type: PrototypeType, port: u32) -> Option<PortKind>
+/// The kind of a port of a component or composition.
+pub fn kind_of(d: &Description, of_type: PrototypeType, port: u32) -> Option<PortKind>
     ensures { result ≡ kind_of d.now of_type port }
 {
     match ports_of(d, of_type).get(port as usize) {

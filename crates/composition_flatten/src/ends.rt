@@ -86,7 +86,7 @@ fn start_in(starts: &[Vec<u32>], composition: u32, prototype: u32) -> u32
 }
 
 /// How many instances stand before those of a prototype, up to the cap.
-fn start_of(tree: &Tree, depth: usize, composition: u32, prototype: u32) -> u32
+pub fn start_of(tree: &Tree, depth: usize, composition: u32, prototype: u32) -> u32
     requires is_tree { IsTree tree.now }
     requires within { depth ≤ 8 }
     requires declared { prototype < length (prototypes_of tree.now.d.now composition) }
@@ -95,7 +95,8 @@ fn start_of(tree: &Tree, depth: usize, composition: u32, prototype: u32) -> u32
     start_in(starts_at(tree.starts.as_slice(), depth), composition, prototype)
 }
 
-fn number_from(first: u32, further: u32) -> u32
+/// A number so many further on.
+pub fn number_from(first: u32, further: u32) -> u32
     requires { further ≤ 1025 }
     ensures { result ≡ number_from first further }
 {
