@@ -93,16 +93,19 @@ module _ (d : Description) where
     pub ends_sound : (n : ℕ) (t : PrototypeType) (first port : ℕ) (path : List ℕ) (x : PortEnd) → type_at d (Composition d.root) path ≡ Some t → Segment d list first n t path → Among x (ends d n t first port)
         → (s : Stand) × IsBelow d s (record { path = path; port = port }) × IsEndAt x s
     ends_sound n (Component k) first port path x typed segment h =
-        let o = own_at (interface_of d (Component k) port) first port x h in
-        (record { path = path; port = port }, itself, record {
-          number = first;
-          owner = ap (λ y. y.owner) o.2;
-          component = k;
-          place = segment_first n first k path segment;
-          port = ap (λ y. y.port) o.2;
-          interface = o.1 ∙ ap (λ y. Some y.interface) (sym o.2);
-          stands = typed;
-        })
+        let o = own_at (interface_of d (Component k) port) first port x h in (
+          record { path = path; port = port },
+          itself,
+          record {
+            number = first;
+            owner = ap (λ y. y.owner) o.2;
+            component = k;
+            place = segment_first n first k path segment;
+            port = ap (λ y. y.port) o.2;
+            interface = o.1 ∙ ap (λ y. Some y.interface) (sym o.2);
+            stands = typed;
+          },
+        )
     ends_sound zero (Composition c) first port path x typed segment h = absurd h
     ends_sound (suc n) (Composition c) first port path x typed segment h =
         let inner = unflat (inner_ends d n (ends d n) c first) (inner_ports d c port) x h in
@@ -112,15 +115,18 @@ module _ (d : Description) where
         let deeper = segment_inner d list first n c inner.0.prototype t.0 path segment t.1 in
         let exact : number_from first (offset d n c inner.0.prototype) ≡ first + offset d n c inner.0.prototype = number_exact first (offset d n c inner.0.prototype) (let fits = deeper.fits in omega arith) in
         let r = ends_sound n t.0 (first + offset d n c inner.0.prototype) inner.0.port (inner.0.prototype ∷ path) x (step_on d (Composition d.root) (Composition c) t.0 inner.0.prototype path typed t.1) deeper
-          (subst (λ k. Among x (ends d n t.0 k inner.0.port)) exact t.2) in
-        (r.0, further (record {
-          composition = c;
-          stands = typed;
-          prototype = inner.0.prototype;
-          inside = refl;
-          connects = subst (λ y. Among y (connectors_of d c)) is.0 m.1;
-          lets = is.1;
-        }) r.1, r.2)
+        (subst (λ k. Among x (ends d n t.0 k inner.0.port)) exact t.2) in (
+          r.0,
+          further (record {
+            composition = c;
+            stands = typed;
+            prototype = inner.0.prototype;
+            inside = refl;
+            connects = subst (λ y. Among y (connectors_of d c)) is.0 m.1;
+            lets = is.1;
+          }) r.1,
+          r.2,
+        )
 
     module _ (once : (i j : ℕ) (x y : Place) → slice_get list i ≡ Some x → slice_get list j ≡ Some y → x.path ≡ y.path → i ≡ j) (shallow : ¬ IsTooDeep d) (x : PortEnd) (s : Stand) (at : IsEndAt x s) where
       end_is : (first k : ℕ) (path : List ℕ) → slice_get list first ≡ Some (record { path = path; component = k }) → path ≡ s.path → at.number ≡ first
@@ -154,7 +160,7 @@ module _ (d : Description) where
           let long : length next.path ≡ suc (length u.path) = ap length down.inside in
           let found = ends_complete next below n t.0 (first + offset d n c down.prototype) typed_next deeper_here (omega arith) in
           let there : inner_ends d n (ends d n) c first inner ≡ ends d n t.0 (first + offset d n c down.prototype) next.port =
-            ap (λ o. option_map_or (λ v. ends d n v (number_from first (offset d n c down.prototype)) next.port) o []) t.1 ∙ ap (λ m. ends d n t.0 m next.port) exact in
+          ap (λ o. option_map_or (λ v. ends d n v (number_from first (offset d n c down.prototype)) next.port) o []) t.1 ∙ ap (λ m. ends d n t.0 m next.port) exact in
           flat (inner_ends d n (ends d n) c first) inner (inner_ports d c u.port) x
           (pick (delegated d c u.port) (Delegation inner u.port) (connectors_of d c) inner connects (delegated_from d c u.port inner lets))
           (subst (Among x) (sym there) found)

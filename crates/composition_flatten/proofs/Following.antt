@@ -62,18 +62,20 @@ module _ (d : Description) where
   module _ (n : ℕ) where
     pub spots_more : (old new : List Spot) (spot : Spot) (found : List PortEnd) → ((s : Spot) → Among s new ↔ (Among s old ⊎ (s ≡ spot))) → (x : PortEnd)
         → IsFound d n new found x ↔ (IsFound d n old found x ⊎ Among x (spot_ends d n spot))
-    spots_more old new spot found more x =
-        ((λ h. ⊎_elim (λ f. inl (inl f)) (λ g. let s = unflat (spot_ends d n) new x g in
-            ⊎_elim (λ there. inl (inr (flat (spot_ends d n) s.0 old x there s.2))) (λ e. inr (subst (λ w. Among x (spot_ends d n w)) e s.2)) ((more s.0).0 s.1)) h),
-         (λ h. ⊎_elim (λ o. ⊎_elim (λ f. inl f) (λ g. let s = unflat (spot_ends d n) old x g in inr (flat (spot_ends d n) s.0 new x ((more s.0).1 (inl s.1)) s.2)) o)
-            (λ here. inr (flat (spot_ends d n) spot new x ((more spot).1 (inr refl)) here)) h))
+    spots_more old new spot found more x = (
+      (λ h. ⊎_elim (λ f. inl (inl f)) (λ g. let s = unflat (spot_ends d n) new x g in
+          ⊎_elim (λ there. inl (inr (flat (spot_ends d n) s.0 old x there s.2))) (λ e. inr (subst (λ w. Among x (spot_ends d n w)) e s.2)) ((more s.0).0 s.1)) h),
+      (λ h. ⊎_elim (λ o. ⊎_elim (λ f. inl f) (λ g. let s = unflat (spot_ends d n) old x g in inr (flat (spot_ends d n) s.0 new x ((more s.0).1 (inl s.1)) s.2)) o)
+          (λ here. inr (flat (spot_ends d n) spot new x ((more spot).1 (inr refl)) here)) h),
+    )
 
     pub ends_more : (spots : List Spot) (old new : List PortEnd) (end : PortEnd) (all : List PortEnd) → all ≡ end ∷ [] → ((e : PortEnd) → Among e new ↔ (Among e old ⊎ (e ≡ end))) → (x : PortEnd)
         → IsFound d n spots new x ↔ (IsFound d n spots old x ⊎ Among x all)
-    ends_more spots old new end all one more x =
-        ((λ h. ⊎_elim (λ f. ⊎_elim (λ o. inl (inl o)) (λ e. inr (subst (Among x) (sym one) (inl e))) ((more x).0 f)) (λ g. inl (inr g)) h),
-         (λ h. ⊎_elim (λ o. ⊎_elim (λ f. inl ((more x).1 (inl f))) (λ g. inr g) o)
-            (λ here. ⊎_elim (λ e. inl ((more x).1 (inr e))) (λ no. absurd no) (subst (Among x) one here)) h))
+    ends_more spots old new end all one more x = (
+      (λ h. ⊎_elim (λ f. ⊎_elim (λ o. inl (inl o)) (λ e. inr (subst (Among x) (sym one) (inl e))) ((more x).0 f)) (λ g. inl (inr g)) h),
+      (λ h. ⊎_elim (λ o. ⊎_elim (λ f. inl ((more x).1 (inl f))) (λ g. inr g) o)
+          (λ here. ⊎_elim (λ e. inl ((more x).1 (inr e))) (λ no. absurd no) (subst (Among x) one here)) h),
+    )
 
   pub none_more : (n : ℕ) (spots : List Spot) (found all : List PortEnd) (x : PortEnd) → (Among x all → ⊥) → IsFound d n spots found x ↔ (IsFound d n spots found x ⊎ Among x all)
   none_more n spots found all x none = ((λ h. inl h), (λ h. ⊎_elim (λ o. o) (λ a. absurd (none a)) h))
@@ -87,15 +89,17 @@ module _ (d : Description) where
 -- the first of a list and one more
 pub taken_more : {X Y : Type 0} (f : X → List Y) (xs : List X) (i : ℕ) (d : X) (y : Y) → i < length xs → Among y (flat_map f (take (i + 1) xs)) ↔ (Among y (flat_map f (take i xs)) ⊎ Among y (f (get_or xs i d)))
 taken_more {X = X} {Y = Y} f xs i d y h =
-    let grown : flat_map f (take (i + 1) xs) ≡ flat_map f (take i xs) ++ (f (get_or xs i d) ++ []) = ap (flat_map f) (take_more xs i d h) ∙ flat_map-append f (take i xs) (get_or xs i d ∷ []) in
-    ((λ a. ⊎_elim (λ l. inl l) (λ r. inr (subst (Among y) (append-nil (f (get_or xs i d))) r)) (cases y (flat_map f (take i xs)) (f (get_or xs i d) ++ []) (subst (Among y) grown a))),
-     (λ a. subst (Among y) (sym grown) (⊎_elim (λ l. left y (flat_map f (take i xs)) (f (get_or xs i d) ++ []) l) (λ r. right y (flat_map f (take i xs)) (f (get_or xs i d) ++ []) (subst (Among y) (sym (append-nil (f (get_or xs i d)))) r)) a)))
+    let grown : flat_map f (take (i + 1) xs) ≡ flat_map f (take i xs) ++ (f (get_or xs i d) ++ []) = ap (flat_map f) (take_more xs i d h) ∙ flat_map-append f (take i xs) (get_or xs i d ∷ []) in (
+      (λ a. ⊎_elim (λ l. inl l) (λ r. inr (subst (Among y) (append-nil (f (get_or xs i d))) r)) (cases y (flat_map f (take i xs)) (f (get_or xs i d) ++ []) (subst (Among y) grown a))),
+      (λ a. subst (Among y) (sym grown) (⊎_elim (λ l. left y (flat_map f (take i xs)) (f (get_or xs i d) ++ []) l) (λ r. right y (flat_map f (take i xs)) (f (get_or xs i d) ++ []) (subst (Among y) (sym (append-nil (f (get_or xs i d)))) r)) a)),
+    )
 
 -- what was so before, with the first of a list, is now so with one more of it
 pub step_joined : (N O B T H T2 : Type 0) → N ↔ (O ⊎ H) → O ↔ (B ⊎ T) → T2 ↔ (T ⊎ H) → N ↔ (B ⊎ T2)
-step_joined N O B T H T2 now before more =
-    ((λ n. ⊎_elim (λ o. ⊎_elim (λ b. inl b) (λ t. inr (more.1 (inl t))) (before.0 o)) (λ h. inr (more.1 (inr h))) (now.0 n)),
-     (λ s. ⊎_elim (λ b. now.1 (inl (before.1 (inl b)))) (λ t2. ⊎_elim (λ t. now.1 (inl (before.1 (inr t)))) (λ h. now.1 (inr h)) (more.0 t2)) s))
+step_joined N O B T H T2 now before more = (
+  (λ n. ⊎_elim (λ o. ⊎_elim (λ b. inl b) (λ t. inr (more.1 (inl t))) (before.0 o)) (λ h. inr (more.1 (inr h))) (now.0 n)),
+  (λ s. ⊎_elim (λ b. now.1 (inl (before.1 (inl b)))) (λ t2. ⊎_elim (λ t. now.1 (inl (before.1 (inr t)))) (λ h. now.1 (inr h)) (more.0 t2)) s),
+)
 
 -- the start that the tables have
 pub started : (d : Description) (table : List (Vec (Vec ℕ Global) Global)) (depth c q : ℕ) → IsStarted d table → depth ≤ 8 → q < length (prototypes_of d c)
@@ -118,7 +122,7 @@ pub found_deeper : (d : Description) (n left : ℕ) (deeper spots slice : List S
     → IsFound d n deeper after x ↔ IsFound d (suc n) slice before x → IsFound d left spots before x ↔ A → IsFound d n deeper after x ↔ A
 found_deeper d n left deeper spots slice after before x A down same now then' =
     let here : IsFound d n deeper after x ↔ IsFound d left spots before x =
-      subst (λ m. IsFound d n deeper after x ↔ IsFound d m spots before x) down (subst (λ l. IsFound d n deeper after x ↔ IsFound d (suc n) l before x) same now) in
+    subst (λ m. IsFound d n deeper after x ↔ IsFound d m spots before x) down (subst (λ l. IsFound d n deeper after x ↔ IsFound d (suc n) l before x) same now) in
     ((λ h. then'.0 (here.0 h)), (λ a. here.1 (then'.1 a)))
 
 no_ends_at : (d : Description) (spots : List Spot) (x : PortEnd) → Among x (flat_map (spot_ends d 0) spots) → ⊥
@@ -146,7 +150,7 @@ pub inner_from : (d : Description) (n : ℕ) (c first start number : ℕ) (inner
 inner_from d n c first start number inner t x N O typed start_is number_is h =
     let numbered : number ≡ number_from first (offset d n c inner.prototype) = number_is ∙ omega arith in
     let same : inner_ends d n (ends d n) c first inner ≡ ends d n t number inner.port =
-      ap (λ o. option_map_or (λ u. ends d n u (number_from first (offset d n c inner.prototype)) inner.port) o []) typed ∙ ap (λ m. ends d n t m inner.port) (sym numbered) in
+    ap (λ o. option_map_or (λ u. ends d n u (number_from first (offset d n c inner.prototype)) inner.port) o []) typed ∙ ap (λ m. ends d n t m inner.port) (sym numbered) in
     subst (λ l. N ↔ (O ⊎ Among x l)) (sym same) h
 
 pub inner_is : (d : Description) (n c first start number : ℕ) (inner : InnerPort) (t : PrototypeType) → type_in d (Composition c) inner.prototype ≡ Some t

@@ -52,7 +52,7 @@ module _ {X : Type 0} where
     stays = λ x a. h.stays x (g.stays x a);
     has = λ f x pq. ⊎_elim (λ p. h.stays x (g.has refl x p)) (λ q. h.has f x q) pq;
     past = λ f. past_weaker (λ x. Among x between ⊎ Q x) (λ x. Among x before ⊎ (P x ⊎ Q x))
-      (λ x s. ⊎_elim (λ b. ⊎_elim (λ o. inl o) (λ p. inr (inl p)) (g.sound x b)) (λ q. inr (inr q)) s) (h.past f);
+        (λ x s. ⊎_elim (λ b. ⊎_elim (λ o. inl o) (λ p. inr (inl p)) (g.sound x b)) (λ q. inr (inr q)) s) (h.past f);
   }
 
   pub grown_stop : (P Q : X → Type 0) (before after : List X) → Grown P before after true → Grown (λ x. P x ⊎ Q x) before after true
@@ -89,7 +89,7 @@ module _ {X Y : Type 0} (Q : X → Y → Type 0) (xs : List X) where
       → Grown (AnyOf Q xs) before after true
   grown_full i d before between after is_full h g one full =
       let all = grown_stop (λ y. AnyOf Q (take i xs) y ⊎ Q (get_or xs i d) y) (AnyOf Q xs) before after
-        (grown_then (AnyOf Q (take i xs)) (Q (get_or xs i d)) before between after true g (subst (Grown (Q (get_or xs i d)) between after) full one)) in
+      (grown_then (AnyOf Q (take i xs)) (Q (get_or xs i d)) before between after true g (subst (Grown (Q (get_or xs i d)) between after) full one)) in
       grown_same (λ y. (AnyOf Q (take i xs) y ⊎ Q (get_or xs i d) y) ⊎ AnyOf Q xs y) (AnyOf Q xs) before after true
       (λ y s. ⊎_elim (λ t. ⊎_elim (λ a. (a.0, within_all i a.0 a.1, a.2)) (λ q. (get_or xs i d, at xs i d h, q)) t) (λ a. a) s) (λ y a. inr a) all
 

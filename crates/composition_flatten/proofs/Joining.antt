@@ -112,7 +112,7 @@ module _ (d : Description) (short : length (places d) ≤ 1024) (shallow : ¬ Is
         let segment = segment_inner d local 0 node.depth node.composition inner.prototype t.0 path (segment_whole d (suc node.depth) node.composition path) t.1 in
         let exact = number_exact d local local_short 0 (offset d node.depth node.composition inner.prototype) (let fits = segment.fits in omega arith) in
         let r = ends_sound d local local_short node.depth t.0 (0 + offset d node.depth node.composition inner.prototype) inner.port (inner.prototype ∷ path) x
-          (step_on d (Composition d.root) (Composition node.composition) t.0 inner.prototype path at.typed t.1) segment (subst (λ k. Among x (ends d node.depth t.0 k inner.port)) exact t.2) in
+        (step_on d (Composition d.root) (Composition node.composition) t.0 inner.prototype path at.typed t.1) segment (subst (λ k. Among x (ends d node.depth t.0 k inner.port)) exact t.2) in
         let e = r.2 in
         let whole = at.segment.at e.number (record { path = r.0.path; component = e.component }) e.place in
         let within = get_lt (places d) (node.first + e.number) (record { path = r.0.path; component = e.component }) whole in

@@ -51,9 +51,10 @@ few_enough d levels count is made few =
 
 pub counts_kept : (d : Description) (levels : List (Vec ℕ Global)) (count : ℕ) (named deep : Bool) → IsCounted d levels → count ≡ count_in levels 8 d.root → count ≤ 1024 → named ≡ names_env d → named ≡ false → IsTrue deep ↔ IsTooDeep d
     → IsTrue (not deep) ↔ KeepsCounts d
-counts_kept d levels count named deep is made few named_is no_env says =
-    ((λ h. record { few = few_enough d levels count is made few; shallow = (λ t. true≢false (sym h ∙ ap not (says.1 t))); names = sym named_is ∙ no_env }),
-     (λ k. by deep refl k))
+counts_kept d levels count named deep is made few named_is no_env says = (
+  (λ h. record { few = few_enough d levels count is made few; shallow = (λ t. true≢false (sym h ∙ ap not (says.1 t))); names = sym named_is ∙ no_env }),
+  (λ k. by deep refl k),
+)
   where
     by : (b : Bool) → deep ≡ b → KeepsCounts d → not deep ≡ true
     by true e k = absurd (k.shallow (says.0 e))
@@ -83,18 +84,19 @@ few_apart [] ys apart within = omega arith
 few_apart {X = X} (x ∷ xs) ys apart within =
     let s = split x ys (within x (inl refl)) in
     let rest = few_apart xs (s.0 ++ s.1) apart.1 (λ y h. ⊎_elim (λ l. left y s.0 s.1 l)
-      (λ r. ⊎_elim (λ e. absurd (apart.0 (subst (λ w. Among w xs) e h))) (λ b. right y s.0 s.1 b) r) (cases y s.0 (x ∷ s.1) (subst (Among y) s.2 (within y (inr h))))) in
+    (λ r. ⊎_elim (λ e. absurd (apart.0 (subst (λ w. Among w xs) e h))) (λ b. right y s.0 s.1 b) r) (cases y s.0 (x ∷ s.1) (subst (Among y) s.2 (within y (inr h))))) in
     let whole : length ys ≡ length s.0 + suc (length s.1) = ap length s.2 ∙ length-append s.0 (x ∷ s.1) in
     let shorter = length-append s.0 s.1 in
     omega arith
 
 module _ (d : Description) (keeps : KeepsCounts d) where
   past_joined : (P : Link → Type 0) → ((x : Link) → P x → IsLink d x) → IsPastLimit P → IsPastLimit (IsJoined d)
-  past_joined P links past =
-      (map join_of past.0,
-       apart_map join_of past.0 (λ x y _ _ e. join_same x y e) past.1,
-       (λ j h. let r = mapped join_of j past.0 h in subst (IsJoined d) (sym r.2) (link_joined d keeps.few keeps.shallow r.0 (links r.0 (past.2 r.0 r.1)))),
-       subst (λ m. 65536 < m) (sym (length-map past.0 join_of)) past.3)
+  past_joined P links past = (
+    map join_of past.0,
+    apart_map join_of past.0 (λ x y _ _ e. join_same x y e) past.1,
+    (λ j h. let r = mapped join_of j past.0 h in subst (IsJoined d) (sym r.2) (link_joined d keeps.few keeps.shallow r.0 (links r.0 (past.2 r.0 r.1)))),
+    subst (λ m. 65536 < m) (sym (length-map past.0 join_of)) past.3,
+  )
 
   pub past_full : (before after : List Link) (is_full : Bool) → before ≡ [] → Grown (IsLink d) before after is_full → is_full ≡ true → IsPastLimit (IsJoined d)
   past_full before after is_full none g full =
@@ -136,9 +138,10 @@ module _ (d : Description) (keeps : KeepsCounts d) where
       → list ≡ after → slice ≡ list → joins ≡ map join_of slice → AreJoins d joins
   are_joins before after slice list joins is_full none g room order few list_is slice_is joins_are =
       let same : joins ≡ map join_of after = joins_are ∙ ap (map join_of) (slice_is ∙ list_is) in
-      let exact : (j : Join) → Among j joins ↔ IsJoined d j = λ j.
-        ((λ h. let r = mapped join_of j after (subst (Among j) same h) in subst (IsJoined d) (sym r.2) (link_joined d keeps.few keeps.shallow r.0 (⊎_elim (λ b. absurd (subst (Among r.0) none b)) (λ l. l) (g.sound r.0 r.1)))),
-         (λ h. let r = join_linked d keeps.few keeps.shallow j h in subst (Among j) (sym same) (subst (λ w. Among w (map join_of after)) r.2 (among_map r.0 after (g.has room r.0 r.1))))) in
+      let exact : (j : Join) → Among j joins ↔ IsJoined d j = λ j. (
+        (λ h. let r = mapped join_of j after (subst (Among j) same h) in subst (IsJoined d) (sym r.2) (link_joined d keeps.few keeps.shallow r.0 (⊎_elim (λ b. absurd (subst (Among r.0) none b)) (λ l. l) (g.sound r.0 r.1)))),
+        (λ h. let r = join_linked d keeps.few keeps.shallow j h in subst (Among j) (sym same) (subst (λ w. Among w (map join_of after)) r.2 (among_map r.0 after (g.has room r.0 r.1)))),
+      ) in
       record {
         few = λ past. let bound = few_apart past.0 joins past.1 (λ j h. (exact j).1 (past.2 j h)) in let long : length joins ≡ length after = ap length same ∙ length-map after join_of in let many = past.3 in omega arith;
         in_order = subst (IsStrictlySortedBy join_order) (sym same) (joins_ordered after order);

@@ -48,11 +48,14 @@ module _ (d : Description) (short : length (places d) ≤ 1024) (shallow : ¬ Is
       → (x : PortEnd) × IsEndAt d list within x s × (x.owner ≡ Instance number) × (x.port ≡ s.port) × (interface_at d x.interface ≡ Some kind)
   end_at list within number component s kind place stands some =
       let here : option_and_then (interface_at d) (interface_of d (Component component) s.port) ≡ Some kind =
-        sym (ap (option_and_then (λ t. option_and_then (interface_at d) (interface_of d t s.port))) stands) ∙ some in
-      let i = through_none (interface_at d) (interface_of d (Component component) s.port) kind here in
-      (record { owner = Instance number; port = s.port; interface = i.0 },
-       record { number = number; owner = refl; component = component; place = place; port = refl; interface = i.1; stands = stands },
-       refl, refl, i.2)
+      sym (ap (option_and_then (λ t. option_and_then (interface_at d) (interface_of d t s.port))) stands) ∙ some in
+      let i = through_none (interface_at d) (interface_of d (Component component) s.port) kind here in (
+        record { owner = Instance number; port = s.port; interface = i.0 },
+        record { number = number; owner = refl; component = component; place = place; port = refl; interface = i.1; stands = stands },
+        refl,
+        refl,
+        i.2,
+      )
 
   -- one side of an assembly
   module _ (composition : ℕ) (path : List ℕ) (typed : type_at d (Composition d.root) path ≡ Some (Composition composition)) (n : ℕ) (deep : length path + suc n ≡ 8)
@@ -93,7 +96,7 @@ module _ (d : Description) (short : length (places d) ≤ 1024) (shallow : ¬ Is
         let long : length upper.path ≡ suc (length path) = ap length inside in
         let found = ends_complete d local local_short (λ i j x y. place_once d (suc n) (Composition composition) path i j x y) shallow e.0 s e.1 upper below n t.0 (0 + offset d n composition prototype) typed_upper deeper_here (omega arith) in
         let there : inner_ends d n (ends d n) composition 0 (as_inner prototype upper) ≡ ends d n t.0 (0 + offset d n composition prototype) upper.port =
-          ap (λ o. option_map_or (λ v. ends d n v (number_from 0 (offset d n composition prototype)) upper.port) o []) t.1 ∙ ap (λ m. ends d n t.0 m upper.port) exact in
+        ap (λ o. option_map_or (λ v. ends d n v (number_from 0 (offset d n composition prototype)) upper.port) o []) t.1 ∙ ap (λ m. ends d n t.0 m upper.port) exact in
         record {
           end = e.0;
           among = subst (Among e.0) (sym there) found;
@@ -142,24 +145,27 @@ module _ (d : Description) (short : length (places d) ≤ 1024) (shallow : ¬ Is
       let kinds = items_some (interface_below d h.provided) (interface_below d h.required) j.provided.element j.required.element h.items in
       let lets = and_parts (is_provided (kind_in d across.composition (as_inner across.provider chain.upper))) (is_required (kind_in d across.composition (as_inner across.requester chain.other))) across.lets in
       let left = side across.composition across.path across.stands (7 - length across.path) deep node.0.first node.4 h.provided chain.upper p_number.0 across.provider Provided kinds.0.0 chain.up across.inside_provider
-        (provided_some (kind_in d across.composition (as_inner across.provider chain.upper)) lets.0) (at_own_port p_number.0 j.provided.port h.provided p_at) kinds.0.1 in
+      (provided_some (kind_in d across.composition (as_inner across.provider chain.upper)) lets.0) (at_own_port p_number.0 j.provided.port h.provided p_at) kinds.0.1 in
       let right = side across.composition across.path across.stands (7 - length across.path) deep node.0.first node.4 h.required chain.other r_number.0 across.requester Required kinds.1.0 chain.down across.inside_requester
-        (required_some (kind_in d across.composition (as_inner across.requester chain.other)) lets.1) (at_own_port r_number.0 j.required.port h.required r_at) kinds.1.1 in
+      (required_some (kind_in d across.composition (as_inner across.requester chain.other)) lets.1) (at_own_port r_number.0 j.required.port h.required r_at) kinds.1.1 in
       let items : ItemsJoin (interface_at d left.end.interface) (interface_at d right.end.interface) j.provided.element j.required.element =
-        subst (λ k. ItemsJoin k (interface_at d right.end.interface) j.provided.element j.required.element) (kinds.0.1 ∙ sym left.interface)
-        (subst (λ k. ItemsJoin (interface_below d h.provided) k j.provided.element j.required.element) (kinds.1.1 ∙ sym right.interface) h.items) in
-      let own : IsOwnLink d (7 - length across.path) across.composition (link_of left.end right.end (j.provided.element, j.required.element)) =
-        (Assembly (as_inner across.provider chain.upper) (as_inner across.requester chain.other), across.connects,
-         (across.lets, (left.end, left.among, (right.end, right.among, (j.provided.element, j.required.element, items, refl))))) in
+      subst (λ k. ItemsJoin k (interface_at d right.end.interface) j.provided.element j.required.element) (kinds.0.1 ∙ sym left.interface)
+      (subst (λ k. ItemsJoin (interface_below d h.provided) k j.provided.element j.required.element) (kinds.1.1 ∙ sym right.interface) h.items) in
+      let own : IsOwnLink d (7 - length across.path) across.composition (link_of left.end right.end (j.provided.element, j.required.element)) = (
+        Assembly (as_inner across.provider chain.upper) (as_inner across.requester chain.other),
+        across.connects,
+        (across.lets, (left.end, left.among, (right.end, right.among, (j.provided.element, j.required.element, items, refl)))),
+      ) in
       let own_here : IsOwnLink d node.0.depth node.0.composition (link_of left.end right.end (j.provided.element, j.required.element)) =
-        subst (λ m. IsOwnLink d m node.0.composition (link_of left.end right.end (j.provided.element, j.required.element))) (sym node.2)
-        (subst (λ c. IsOwnLink d (7 - length across.path) c (link_of left.end right.end (j.provided.element, j.required.element))) (sym node.3) own) in
-      (link_from node.0.first (link_of left.end right.end (j.provided.element, j.required.element)),
-       inl (node.0, node.1, (link_of left.end right.end (j.provided.element, j.required.element), own_here, refl)),
-       (λ i. record {
-         provided = record { instance = (ap instance_of left.owner ∙ sym p_number.1) i; port = (left.same_port ∙ sym p_at.same_port) i; element = j.provided.element };
-         required = record { instance = (ap instance_of right.owner ∙ sym r_number.1) i; port = (right.same_port ∙ sym r_at.same_port) i; element = j.required.element };
-       }))
+      subst (λ m. IsOwnLink d m node.0.composition (link_of left.end right.end (j.provided.element, j.required.element))) (sym node.2)
+      (subst (λ c. IsOwnLink d (7 - length across.path) c (link_of left.end right.end (j.provided.element, j.required.element))) (sym node.3) own) in (
+        link_from node.0.first (link_of left.end right.end (j.provided.element, j.required.element)),
+        inl (node.0, node.1, (link_of left.end right.end (j.provided.element, j.required.element), own_here, refl)),
+        (λ i. record {
+          provided = record { instance = (ap instance_of left.owner ∙ sym p_number.1) i; port = (left.same_port ∙ sym p_at.same_port) i; element = j.provided.element };
+          required = record { instance = (ap instance_of right.owner ∙ sym r_number.1) i; port = (right.same_port ∙ sym r_at.same_port) i; element = j.required.element };
+        }),
+      )
 
   -- the end of an instance below a port of the root
   record Inner (s : Stand) (number port : ℕ) (kind : InterfaceKind) : Type 0 where
@@ -186,7 +192,7 @@ module _ (d : Description) (short : length (places d) ≤ 1024) (shallow : ¬ Is
       → (x : PortEnd) × Among x (outer_ends (interface_of d (Composition d.root) s.port) s.port) × (x.owner ≡ Environment) × (x.port ≡ s.port) × (interface_at d x.interface ≡ Some kind)
   outer_end s kind root some =
       let here : option_and_then (interface_at d) (interface_of d (Composition d.root) s.port) ≡ Some kind =
-        sym (ap (λ p. option_and_then (λ t. option_and_then (interface_at d) (interface_of d t s.port)) (type_at d (Composition d.root) p)) root) ∙ some in
+      sym (ap (λ p. option_and_then (λ t. option_and_then (interface_at d) (interface_of d t s.port)) (type_at d (Composition d.root) p)) root) ∙ some in
       let i = through_none (interface_at d) (interface_of d (Composition d.root) s.port) kind here in
       let x : PortEnd = record { owner = Environment; port = s.port; interface = i.0 } in
       (x, subst (λ o. Among x (outer_ends o s.port)) (sym i.1) (inl refl), refl, refl, i.2)
@@ -205,17 +211,18 @@ module _ (d : Description) (short : length (places d) ≤ 1024) (shallow : ¬ Is
       let a = outer_end h.provided kinds.0.0 outside.root kinds.0.1 in
       let b = inner Required h.required h.provided r_number.0 j.required.port kinds.1.0 outside r_at kinds.1.1 in
       let items : ItemsJoin (interface_at d a.0.interface) (interface_at d b.end.interface) j.provided.element j.required.element =
-        subst (λ k. ItemsJoin k (interface_at d b.end.interface) j.provided.element j.required.element) (kinds.0.1 ∙ sym a.4)
-        (subst (λ k. ItemsJoin (interface_below d h.provided) k j.provided.element j.required.element) (kinds.1.1 ∙ sym b.interface) h.items) in
+      subst (λ k. ItemsJoin k (interface_at d b.end.interface) j.provided.element j.required.element) (kinds.0.1 ∙ sym a.4)
+      (subst (λ k. ItemsJoin (interface_below d h.provided) k j.provided.element j.required.element) (kinds.1.1 ∙ sym b.interface) h.items) in
       let x = link_of a.0 b.end (j.provided.element, j.required.element) in
       let crossed : IsCrossLink d (outer_ends (interface_of d (Composition d.root) h.provided.port) h.provided.port) (ends d 8 (Composition d.root) 0 h.provided.port) (link_of a.0 b.end (j.provided.element, j.required.element)) =
-        (a.0, a.1, (b.end, b.among, (j.provided.element, j.required.element, items, refl))) in
-      (link_of a.0 b.end (j.provided.element, j.required.element),
-       inr (h.provided.port, subst (λ k. outer_link k d (outer_ends (interface_of d (Composition d.root) h.provided.port) h.provided.port) (ends d 8 (Composition d.root) 0 h.provided.port) (link_of a.0 b.end (j.provided.element, j.required.element))) (sym outside.is_kind) crossed),
-       (λ i. record {
-         provided = record { instance = (ap instance_of a.2 ∙ sym p_none.0) i; port = (a.3 ∙ sym p_none.1) i; element = j.provided.element };
-         required = record { instance = (ap instance_of b.owner ∙ sym r_number.1) i; port = (b.same_port ∙ sym r_at.same_port) i; element = j.required.element };
-       }))
+      (a.0, a.1, (b.end, b.among, (j.provided.element, j.required.element, items, refl))) in (
+        link_of a.0 b.end (j.provided.element, j.required.element),
+        inr (h.provided.port, subst (λ k. outer_link k d (outer_ends (interface_of d (Composition d.root) h.provided.port) h.provided.port) (ends d 8 (Composition d.root) 0 h.provided.port) (link_of a.0 b.end (j.provided.element, j.required.element))) (sym outside.is_kind) crossed),
+        (λ i. record {
+          provided = record { instance = (ap instance_of a.2 ∙ sym p_none.0) i; port = (a.3 ∙ sym p_none.1) i; element = j.provided.element };
+          required = record { instance = (ap instance_of b.owner ∙ sym r_number.1) i; port = (b.same_port ∙ sym r_at.same_port) i; element = j.required.element };
+        }),
+      )
 
   to_linked : (j : Join) (h : IsJoined d j) → IsOutside d Provided h.required h.provided → (x : Link) × IsLink d x × (join_of x ≡ j)
   to_linked j h outside =
@@ -226,16 +233,17 @@ module _ (d : Description) (short : length (places d) ≤ 1024) (shallow : ¬ Is
       let a = inner Provided h.provided h.required p_number.0 j.provided.port kinds.0.0 outside p_at kinds.0.1 in
       let b = outer_end h.required kinds.1.0 outside.root kinds.1.1 in
       let items : ItemsJoin (interface_at d a.end.interface) (interface_at d b.0.interface) j.provided.element j.required.element =
-        subst (λ k. ItemsJoin k (interface_at d b.0.interface) j.provided.element j.required.element) (kinds.0.1 ∙ sym a.interface)
-        (subst (λ k. ItemsJoin (interface_below d h.provided) k j.provided.element j.required.element) (kinds.1.1 ∙ sym b.4) h.items) in
+      subst (λ k. ItemsJoin k (interface_at d b.0.interface) j.provided.element j.required.element) (kinds.0.1 ∙ sym a.interface)
+      (subst (λ k. ItemsJoin (interface_below d h.provided) k j.provided.element j.required.element) (kinds.1.1 ∙ sym b.4) h.items) in
       let crossed : IsCrossLink d (ends d 8 (Composition d.root) 0 h.required.port) (outer_ends (interface_of d (Composition d.root) h.required.port) h.required.port) (link_of a.end b.0 (j.provided.element, j.required.element)) =
-        (a.end, a.among, (b.0, b.1, (j.provided.element, j.required.element, items, refl))) in
-      (link_of a.end b.0 (j.provided.element, j.required.element),
-       inr (h.required.port, subst (λ k. outer_link k d (outer_ends (interface_of d (Composition d.root) h.required.port) h.required.port) (ends d 8 (Composition d.root) 0 h.required.port) (link_of a.end b.0 (j.provided.element, j.required.element))) (sym outside.is_kind) crossed),
-       (λ i. record {
-         provided = record { instance = (ap instance_of a.owner ∙ sym p_number.1) i; port = (a.same_port ∙ sym p_at.same_port) i; element = j.provided.element };
-         required = record { instance = (ap instance_of b.2 ∙ sym r_none.0) i; port = (b.3 ∙ sym r_none.1) i; element = j.required.element };
-       }))
+      (a.end, a.among, (b.0, b.1, (j.provided.element, j.required.element, items, refl))) in (
+        link_of a.end b.0 (j.provided.element, j.required.element),
+        inr (h.required.port, subst (λ k. outer_link k d (outer_ends (interface_of d (Composition d.root) h.required.port) h.required.port) (ends d 8 (Composition d.root) 0 h.required.port) (link_of a.end b.0 (j.provided.element, j.required.element))) (sym outside.is_kind) crossed),
+        (λ i. record {
+          provided = record { instance = (ap instance_of a.owner ∙ sym p_number.1) i; port = (a.same_port ∙ sym p_at.same_port) i; element = j.provided.element };
+          required = record { instance = (ap instance_of b.2 ∙ sym r_none.0) i; port = (b.3 ∙ sym r_none.1) i; element = j.required.element };
+        }),
+      )
 
   -- each join is a link
   pub join_linked : (j : Join) → IsJoined d j → (x : Link) × IsLink d x × (join_of x ≡ j)

@@ -52,12 +52,12 @@ module _ {X Y : Type 0} (f : ℕ × X → List Y) (g : X → ℕ) (long : (k : �
   unpiece n (z ∷ xs) k y h = ⊎_elim
       (λ l. let number : n ≡ n + 0 = omega arith in (0, z, k, refl, subst (λ m. slice_get (f (m, z)) k ≡ Some y) number l, omega arith))
       (λ (r : (i : ℕ) × (k ≡ length (f (n, z)) + i) × (slice_get (flat_map f (enumerate_from (n + 1) xs)) i ≡ Some y)).
-        let s = unpiece (n + 1) xs r.0 y r.2 in
-        let number : n + 1 + s.0 ≡ n + suc s.0 = omega arith in
-        let size = long n z in
-        let e = r.1 in
-        let e2 = s.5 in
-        (suc s.0, s.1, s.2, s.3, subst (λ m. slice_get (f (m, s.1)) s.2 ≡ Some y) number s.4, omega arith))
+      let s = unpiece (n + 1) xs r.0 y r.2 in
+      let number : n + 1 + s.0 ≡ n + suc s.0 = omega arith in
+      let size = long n z in
+      let e = r.1 in
+      let e2 = s.5 in
+      (suc s.0, s.1, s.2, s.3, subst (λ m. slice_get (f (m, s.1)) s.2 ≡ Some y) number s.4, omega arith))
       (get_split (f (n, z)) (flat_map f (enumerate_from (n + 1) xs)) k y h)
 
   pub pieces_fit : (xs : List X) (q : ℕ) (x : X) → slice_get xs q ≡ Some x → sum_of g (take q xs) + g x ≤ sum_of g xs
@@ -101,11 +101,12 @@ module _ (d : Description) where
       let u = unpiece (λ (y : ℕ × Prototype). places_of (places_below d n) y.1.of_type (y.0 ∷ path)) (λ p. size_of (size d n) p.of_type) (below_long n path) 0 (prototypes_of d c) i x h in
       let r = placed n u.1.of_type ((0 + u.0) ∷ path) u.2 x u.4 in
       let number : 0 + u.0 ≡ u.0 = omega arith in
-      let step : type_in d (Composition c) u.0 ≡ Some u.1.of_type = ap (option_map (λ (p : Prototype). p.of_type)) u.3 in
-      (r.0 ++ (u.0 ∷ []),
-       r.1 ∙ ap (λ m. r.0 ++ (m ∷ path)) number ∙ sym (append_assoc r.0 (u.0 ∷ []) path),
-       path_on d (Composition c) r.0 (u.0 ∷ []) ∙ ap (option_and_then (λ v. type_at d v r.0)) step ∙ r.2,
-       (let long = length-append r.0 (u.0 ∷ []) in let few = r.3 in omega arith))
+      let step : type_in d (Composition c) u.0 ≡ Some u.1.of_type = ap (option_map (λ (p : Prototype). p.of_type)) u.3 in (
+        r.0 ++ (u.0 ∷ []),
+        r.1 ∙ ap (λ m. r.0 ++ (m ∷ path)) number ∙ sym (append_assoc r.0 (u.0 ∷ []) path),
+        path_on d (Composition c) r.0 (u.0 ∷ []) ∙ ap (option_and_then (λ v. type_at d v r.0)) step ∙ r.2,
+        (let long = length-append r.0 (u.0 ∷ []) in let few = r.3 in omega arith),
+      )
 
   -- and each such path has its place
   pub place_of : (n : ℕ) (t : PrototypeType) (rest path : List ℕ) (k : ℕ) → type_at d t rest ≡ Some (Component k) → length rest ≤ n
@@ -131,12 +132,13 @@ module _ (d : Description) where
       let r = place_of n mid.0 lower (one.0 ∷ path) k mid.2 (omega (arith, length-take (length rest) (q ∷ rest))) in
       let number : one.0 ≡ 0 + one.0 = omega arith in
       let here : slice_get (places_of (places_below d n) p.0.of_type ((0 + one.0) ∷ path)) r.0 ≡ Some (record { path = lower ++ (one.0 ∷ path); component = k }) =
-        subst (λ m. slice_get (places_of (places_below d n) p.0.of_type (m ∷ path)) r.0 ≡ Some (record { path = lower ++ (one.0 ∷ path); component = k })) number
-        (subst (λ u. slice_get (places_of (places_below d n) u (one.0 ∷ path)) r.0 ≡ Some (record { path = lower ++ (one.0 ∷ path); component = k })) (sym p.2) r.1) in
-      let path_is : lower ++ (one.0 ∷ path) ≡ (q ∷ rest) ++ path = sym (append_assoc lower (one.0 ∷ []) path) ∙ ap (λ l. (lower ++ l) ++ path) (sym one.1) ∙ ap (λ l. l ++ path) join in
-      (offset d n c one.0 + r.0,
-       piece (λ (y : ℕ × Prototype). places_of (places_below d n) y.1.of_type (y.0 ∷ path)) (λ p. size_of (size d n) p.of_type) (below_long n path) 0 (prototypes_of d c) one.0 r.0 (offset d n c one.0 + r.0) p.0 _ p.1 here refl
-       ∙ ap (λ l. Some (record { path = l; component = k })) path_is)
+      subst (λ m. slice_get (places_of (places_below d n) p.0.of_type (m ∷ path)) r.0 ≡ Some (record { path = lower ++ (one.0 ∷ path); component = k })) number
+      (subst (λ u. slice_get (places_of (places_below d n) u (one.0 ∷ path)) r.0 ≡ Some (record { path = lower ++ (one.0 ∷ path); component = k })) (sym p.2) r.1) in
+      let path_is : lower ++ (one.0 ∷ path) ≡ (q ∷ rest) ++ path = sym (append_assoc lower (one.0 ∷ []) path) ∙ ap (λ l. (lower ++ l) ++ path) (sym one.1) ∙ ap (λ l. l ++ path) join in (
+        offset d n c one.0 + r.0,
+        piece (λ (y : ℕ × Prototype). places_of (places_below d n) y.1.of_type (y.0 ∷ path)) (λ p. size_of (size d n) p.of_type) (below_long n path) 0 (prototypes_of d c) one.0 r.0 (offset d n c one.0 + r.0) p.0 _ p.1 here refl
+            ∙ ap (λ l. Some (record { path = l; component = k })) path_is,
+      )
 
   -- no two places have one path
   pub place_once : (n : ℕ) (t : PrototypeType) (path : List ℕ) (i j : ℕ) (x y : Place) → slice_get (places_of (places_below d n) t path) i ≡ Some x → slice_get (places_of (places_below d n) t path) j ≡ Some y → x.path ≡ y.path → i ≡ j

@@ -53,7 +53,7 @@ module _ (d : Description) where
     node_inner (suc n) c first q e m y (inl is) deep typed live =
         let depth_is : n ≡ suc m = sym (ap (λ z. z.depth) is) ∙ deep in
         let here : IsNode d n e (number_from first (offset d n c q)) (record { depth = m; composition = e; first = number_from first (offset d n c q) }) =
-          subst (λ k. IsNode d k e (number_from first (offset d n c q)) (record { depth = m; composition = e; first = number_from first (offset d n c q) })) (sym depth_is) (inl refl) in
+        subst (λ k. IsNode d k e (number_from first (offset d n c q)) (record { depth = m; composition = e; first = number_from first (offset d n c q) })) (sym depth_is) (inl refl) in
         let typed_here : type_in d (Composition c) q ≡ Some (Composition e) = subst (λ (z : Node). type_in d (Composition z.composition) q ≡ Some (Composition e)) is typed in
         let live_here : size d n e ≡ 0 → ⊥ = subst (λ (z : Node). size d z.depth e ≡ 0 → ⊥) is live in
         subst (λ (z : Node). IsNode d (suc n) c first (record { depth = m; composition = e; first = number_from z.first (offset d z.depth z.composition q) })) (sym is) (inr (q, e, typed_here, live_here, here))
@@ -64,9 +64,13 @@ module _ (d : Description) where
         → (x : Node) × IsNode d 8 d.root 0 x × (x.depth ≡ m) × (x.composition ≡ c) × Segment d (places d) x.first (suc m) (Composition c) path
     node_at [] c m typed deep live =
         let both : d.root ≡ c = cc in
-        let m_is : 7 ≡ m = omega arith in
-        (record { depth = 7; composition = d.root; first = 0 }, inl refl, m_is, both,
-         subst (λ k. Segment d (places d) 0 (suc k) (Composition c) []) m_is (subst (λ r. Segment d (places d) 0 8 (Composition r) []) both root_segment))
+        let m_is : 7 ≡ m = omega arith in (
+          record { depth = 7; composition = d.root; first = 0 },
+          inl refl,
+          m_is,
+          both,
+          subst (λ k. Segment d (places d) 0 (suc k) (Composition c) []) m_is (subst (λ r. Segment d (places d) 0 8 (Composition r) []) both root_segment),
+        )
     node_at (q ∷ path) c m typed deep live =
         let l = last_step d (Composition d.root) (Composition c) q path typed in
         let p = step_is d l.0 q (Composition c) l.2 in
@@ -75,11 +79,13 @@ module _ (d : Description) where
         let deeper = segment_inner d (places d) r.0.first (suc m) l.0 q (Composition c) path r.4 l.2 in
         let exact = number_exact d (places d) short r.0.first (offset d (suc m) l.0 q) (let fits = deeper.fits in omega arith) in
         let first_is : number_from r.0.first (offset d r.0.depth r.0.composition q) ≡ r.0.first + offset d (suc m) l.0 q =
-          ap (λ k. number_from r.0.first (offset d k r.0.composition q)) r.2 ∙ ap (λ k. number_from r.0.first (offset d (suc m) k q)) r.3 ∙ exact in
-        (record { depth = m; composition = c; first = number_from r.0.first (offset d r.0.depth r.0.composition q) },
-         node_inner 8 d.root 0 q c m r.0 r.1 r.2 (subst (λ k. type_in d (Composition k) q ≡ Some (Composition c)) (sym r.3) l.2) (subst (λ k. size d k c ≡ 0 → ⊥) (sym r.2) live),
-         refl, refl,
-         subst (λ k. Segment d (places d) k (suc m) (Composition c) (q ∷ path)) (sym first_is) deeper)
+        ap (λ k. number_from r.0.first (offset d k r.0.composition q)) r.2 ∙ ap (λ k. number_from r.0.first (offset d (suc m) k q)) r.3 ∙ exact in (
+          record { depth = m; composition = c; first = number_from r.0.first (offset d r.0.depth r.0.composition q) },
+          node_inner 8 d.root 0 q c m r.0 r.1 r.2 (subst (λ k. type_in d (Composition k) q ≡ Some (Composition c)) (sym r.3) l.2) (subst (λ k. size d k c ≡ 0 → ⊥) (sym r.2) live),
+          refl,
+          refl,
+          subst (λ k. Segment d (places d) k (suc m) (Composition c) (q ∷ path)) (sym first_is) deeper,
+        )
 
   module _ (shallow : ¬ IsTooDeep d) where
     -- an instance below a composition has its place among those of the composition

@@ -85,9 +85,10 @@ mapped f y (x ∷ xs) (inr h) = let r = mapped f y xs h in (r.0, inr r.1, r.2)
 
 pub apart_map : {X Y : Type 0} (f : X → Y) (xs : List X) → ((x y : X) → Among x xs → Among y xs → f x ≡ f y → x ≡ y) → AllApart xs → AllApart (map f xs)
 apart_map f [] same apart = tt
-apart_map f (x ∷ xs) same apart =
-    ((λ h. let r = mapped f (f x) xs h in apart.0 (subst (λ w. Among w xs) (sym (same x r.0 (inl refl) (inr r.1) r.2)) r.1)),
-     apart_map f xs (λ a b in_a in_b. same a b (inr in_a) (inr in_b)) apart.1)
+apart_map f (x ∷ xs) same apart = (
+  (λ h. let r = mapped f (f x) xs h in apart.0 (subst (λ w. Among w xs) (sym (same x r.0 (inl refl) (inr r.1) r.2)) r.1)),
+  apart_map f xs (λ a b in_a in_b. same a b (inr in_a) (inr in_b)) apart.1,
+)
 
 module _ (d : Description) (node : Node) (own : Own) (depth : own.depth ≡ node.depth) (composition : own.composition ≡ node.composition) (is : IsOwn d own) where
   here : Grown (IsOwnLink d node.depth node.composition) [] own.links.items own.is_full
@@ -101,10 +102,12 @@ module _ (d : Description) (node : Node) (own : Own) (depth : own.depth ≡ node
         sound = λ x h. inl h;
         stays = λ x h. h;
         has = λ f. absurd (true≢false f);
-        past = λ _. (map (link_from node.first) p.0,
+        past = λ _. (
+          map (link_from node.first) p.0,
           apart_map (link_from node.first) p.0 (λ x y in_x in_y e. link_same d node.first node.depth node.composition x y within deep (each x in_x) (each y in_y) e) p.1,
           (λ x h. let r = mapped (link_from node.first) x p.0 h in inr (r.0, each r.0 r.1, r.2)),
-          subst (λ m. 65536 < m) (sym (length-map p.0 (link_from node.first))) p.3);
+          subst (λ m. 65536 < m) (sym (length-map p.0 (link_from node.first))) p.3,
+        );
       }
 
   pub node_grown : (slice before after : List Link) (is_full : Bool) → slice ≡ own.links.items → own.is_full ≡ false
@@ -167,7 +170,7 @@ module _ {Y : Type 0} (Q : ℕ → Y → Type 0) where
       grown_same (λ y. (((k : ℕ) × (k < i) × Q k y) ⊎ Q i y) ⊎ ((k : ℕ) × Q k y)) (λ y. (k : ℕ) × Q k y) before after true
       (λ y s. ⊎_elim (λ t. ⊎_elim (λ a. (a.0, a.2)) (λ q. (i, q)) t) (λ a. a) s) (λ y a. inr a)
       (grown_stop (λ y. ((k : ℕ) × (k < i) × Q k y) ⊎ Q i y) (λ y. (k : ℕ) × Q k y) before after
-        (grown_then (λ y. (k : ℕ) × (k < i) × Q k y) (Q i) before between after true g (subst (Grown (Q i) between after) full one)))
+      (grown_then (λ y. (k : ℕ) × (k < i) × Q k y) (Q i) before between after true g (subst (Grown (Q i) between after) full one)))
 
 -- how deep and how high the compositions stand
 pub node_bounds : (d : Description) (n c first : ℕ) (x : Node) → IsNode d n c first x → (x.depth ≤ n) × (x.first ≤ first + n * 1025)

@@ -39,7 +39,12 @@ fn link_of(provided: PortEnd, required: PortEnd, items: (u32, u32)) -> Link
     }
 }
 
-fn add_item(provided: PortEnd, required: PortEnd, items: (u32, u32), links: &mut BTreeSet<Link>) -> Result<bool, Memory>
+fn add_item(
+    provided: PortEnd,
+    required: PortEnd,
+    items: (u32, u32),
+    links: &mut BTreeSet<Link>,
+) -> Result<bool, Memory>
     ensures { IfOk result (λ is_full. Grown (λ x. x ≡ link_of provided required items) links.old.keys links.new.keys is_full) }
 {
     let is_full = add_link(links, link_of(provided, required, items))?;
@@ -48,7 +53,12 @@ fn add_item(provided: PortEnd, required: PortEnd, items: (u32, u32), links: &mut
 
 /// Adds the links of these items of two ports. The answer is whether there are more links now than the limit; then the rest
 /// may be missing.
-fn add_items(provided: PortEnd, required: PortEnd, pairs: &[(u32, u32)], links: &mut BTreeSet<Link>) -> Result<bool, Memory>
+fn add_items(
+    provided: PortEnd,
+    required: PortEnd,
+    pairs: &[(u32, u32)],
+    links: &mut BTreeSet<Link>,
+) -> Result<bool, Memory>
     ensures { IfOk result (λ is_full. Grown (AnyOf (λ (items : ℕ × ℕ) x. x ≡ link_of provided required items) pairs.now) links.old.keys links.new.keys is_full) }
 {
     for pair in pairs {
@@ -60,7 +70,13 @@ fn add_items(provided: PortEnd, required: PortEnd, pairs: &[(u32, u32)], links: 
 }
 
 /// Takes the items of two interfaces that are joined, if they are not the last that were taken.
-fn match_again(alloc: Global, d: &Description, provided: u32, required: u32, matched: &mut Matched) -> Result<(), Memory>
+fn match_again(
+    alloc: Global,
+    d: &Description,
+    provided: u32,
+    required: u32,
+    matched: &mut Matched,
+) -> Result<(), Memory>
     requires { IsMatched d.now matched.old }
     ensures provided { OnOk result (matched.new.provided ≡ provided) }
     ensures required { OnOk result (matched.new.required ≡ required) }
@@ -78,7 +94,14 @@ fn match_again(alloc: Global, d: &Description, provided: u32, required: u32, mat
 }
 
 /// Adds the links of two ports.
-fn add_pair(alloc: Global, d: &Description, provided: PortEnd, required: PortEnd, matched: &mut Matched, links: &mut BTreeSet<Link>) -> Result<bool, Memory>
+fn add_pair(
+    alloc: Global,
+    d: &Description,
+    provided: PortEnd,
+    required: PortEnd,
+    matched: &mut Matched,
+    links: &mut BTreeSet<Link>,
+) -> Result<bool, Memory>
     requires { IsMatched d.now matched.old }
     ensures matched { OnOk result (IsMatched d.now matched.new) }
     ensures grown { IfOk result (λ is_full. Grown (IsPairLink d.now provided required) links.old.keys links.new.keys is_full) }
@@ -88,7 +111,14 @@ fn add_pair(alloc: Global, d: &Description, provided: PortEnd, required: PortEnd
     Ok(is_full)
 }
 
-fn add_row(alloc: Global, d: &Description, provided: PortEnd, required: &[PortEnd], matched: &mut Matched, links: &mut BTreeSet<Link>) -> Result<bool, Memory>
+fn add_row(
+    alloc: Global,
+    d: &Description,
+    provided: PortEnd,
+    required: &[PortEnd],
+    matched: &mut Matched,
+    links: &mut BTreeSet<Link>,
+) -> Result<bool, Memory>
     requires { IsMatched d.now matched.old }
     ensures matched { OnOk result (IsMatched d.now matched.new) }
     ensures grown { IfOk result (λ is_full. Grown (AnyOf (IsPairLink d.now provided) required.now) links.old.keys links.new.keys is_full) }
@@ -102,7 +132,14 @@ fn add_row(alloc: Global, d: &Description, provided: PortEnd, required: &[PortEn
 }
 
 /// Adds the links of each of the provided ports with each of the required ones.
-pub fn cross(alloc: Global, d: &Description, provided: &[PortEnd], required: &[PortEnd], matched: &mut Matched, links: &mut BTreeSet<Link>) -> Result<bool, Memory>
+pub fn cross(
+    alloc: Global,
+    d: &Description,
+    provided: &[PortEnd],
+    required: &[PortEnd],
+    matched: &mut Matched,
+    links: &mut BTreeSet<Link>,
+) -> Result<bool, Memory>
     requires { IsMatched d.now matched.old }
     ensures matched { OnOk result (IsMatched d.now matched.new) }
     ensures grown { IfOk result (λ is_full. Grown (IsCrossLink d.now provided.now required.now) links.old.keys links.new.keys is_full) }

@@ -32,7 +32,12 @@ fn add_port(by_port: &mut Vec<Vec<InnerPort>>, outer: u32, inner: InnerPort) -> 
     Ok(())
 }
 
-fn add_delegation(d: &Description, composition: u32, connector: Connector, by_port: &mut Vec<Vec<InnerPort>>) -> Result<(), Memory>
+fn add_delegation(
+    d: &Description,
+    composition: u32,
+    connector: Connector,
+    by_port: &mut Vec<Vec<InnerPort>>,
+) -> Result<(), Memory>
     requires { length by_port.old.items ≡ length (ports_of d.now (PrototypeType.Composition composition)) }
     ensures long { length by_port.new.items ≡ length by_port.old.items }
     ensures added { OnOk result ((port : ℕ) → ports_at by_port.new.items port ≡ ports_at by_port.old.items port ++ option_to_list (delegated d.now composition port connector)) }
@@ -46,10 +51,17 @@ fn add_delegation(d: &Description, composition: u32, connector: Connector, by_po
     }
 }
 
-fn delegations_in(alloc: Global, d: &Description, composition: u32) -> Result<Vec<Vec<InnerPort>>, Memory>
+fn delegations_in(
+    alloc: Global,
+    d: &Description,
+    composition: u32,
+) -> Result<Vec<Vec<InnerPort>>, Memory>
     ensures { IfOk result (λ by_port. (port : ℕ) → ports_at by_port.items port ≡ inner_ports d.now composition port) }
 {
-    let mut by_port = no_ports(alloc, ports_of(d, PrototypeType::Composition(composition)).len())?;
+    let mut by_port = no_ports(
+        alloc,
+        ports_of(d, PrototypeType::Composition(composition)).len(),
+    )?;
     for connector in connectors_of(d, composition) {
         add_delegation(d, composition, *connector, &mut by_port)?;
     }

@@ -92,7 +92,11 @@ pub fn start_of(tree: &Tree, depth: usize, composition: u32, prototype: u32) -> 
     requires declared { prototype < length (prototypes_of tree.now.d.now composition) }
     ensures { result ≡ min (offset tree.now.d.now depth composition prototype) 1025 }
 {
-    start_in(starts_at(tree.starts.as_slice(), depth), composition, prototype)
+    start_in(
+        starts_at(tree.starts.as_slice(), depth),
+        composition,
+        prototype,
+    )
 }
 
 /// A number so many further on.
@@ -123,7 +127,14 @@ fn enter(
         PrototypeType::Component(_) => {
             if let Some(interface) = interface_of(tree.d, of_type, port) {
                 let owner = Owner::Instance(first);
-                note_end(found, PortEnd { owner, port, interface })?;
+                note_end(
+                    found,
+                    PortEnd {
+                        owner,
+                        port,
+                        interface,
+                    },
+                )?;
             }
             Ok(())
         }
@@ -131,7 +142,14 @@ fn enter(
             if count_below(tree.levels.as_slice(), depth, composition) == 0 {
                 return Ok(());
             }
-            note_spot(spots, Spot { composition, first, port })?;
+            note_spot(
+                spots,
+                Spot {
+                    composition,
+                    first,
+                    port,
+                },
+            )?;
             Ok(())
         }
     }
@@ -162,7 +180,13 @@ fn enter_inner(
 }
 
 /// Follows the delegations of a port of a composition one prototype down.
-fn descend(tree: &Tree, depth: usize, spot: Spot, spots: &mut IndexSet<Spot>, found: &mut IndexSet<PortEnd>) -> Result<(), Memory>
+fn descend(
+    tree: &Tree,
+    depth: usize,
+    spot: Spot,
+    spots: &mut IndexSet<Spot>,
+    found: &mut IndexSet<PortEnd>,
+) -> Result<(), Memory>
     requires is_tree { IsTree tree.now }
     requires within { depth ≤ 8 }
     ensures { OnOk result ((x : PortEnd) → IsFound tree.now.d.now depth spots.new.keys found.new.keys x
@@ -175,7 +199,13 @@ fn descend(tree: &Tree, depth: usize, spot: Spot, spots: &mut IndexSet<Spot>, fo
 }
 
 /// Follows all delegations from some spots one prototype down.
-fn follow(alloc: Global, tree: &Tree, depth: usize, spots: &[Spot], found: &mut IndexSet<PortEnd>) -> Result<IndexSet<Spot>, Memory>
+fn follow(
+    alloc: Global,
+    tree: &Tree,
+    depth: usize,
+    spots: &[Spot],
+    found: &mut IndexSet<PortEnd>,
+) -> Result<IndexSet<Spot>, Memory>
     requires is_tree { IsTree tree.now }
     requires within { depth ≤ 8 }
     ensures { IfOk result (λ deeper. (x : PortEnd) → IsFound tree.now.d.now depth deeper.keys found.new.keys x ↔ IsFound tree.now.d.now (suc depth) spots.now found.old.keys x) }
@@ -189,7 +219,14 @@ fn follow(alloc: Global, tree: &Tree, depth: usize, spots: &[Spot], found: &mut 
 
 /// All ends at or below a port of a component or composition, each once. Where many chains lead to one port, it is followed
 /// once.
-pub fn ends_of(alloc: Global, tree: &Tree, depth: usize, of_type: PrototypeType, first: u32, port: u32) -> Result<IndexSet<PortEnd>, Memory>
+pub fn ends_of(
+    alloc: Global,
+    tree: &Tree,
+    depth: usize,
+    of_type: PrototypeType,
+    first: u32,
+    port: u32,
+) -> Result<IndexSet<PortEnd>, Memory>
     requires is_tree { IsTree tree.now }
     requires within { depth ≤ 8 }
     ensures { IfOk result (λ found. (x : PortEnd) → Among x found.keys ↔ Among x (ends tree.now.d.now depth of_type first port)) }

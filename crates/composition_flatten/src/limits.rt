@@ -38,9 +38,8 @@ pub struct Within {
 fn names_env(d: &Description) -> bool
     ensures { result ≡ names_env d.now }
 {
-    prototypes_of(d, d.root)
-        .iter()
-        .any(|prototype| prototype.short_name.bytes() == "env".as_bytes())
+    prototypes_of(d, d.root).iter().any(|prototype| prototype.short_name.bytes()
+        == "env".as_bytes())
 }
 
 fn instance_of(owner: Owner) -> Option<u32>

@@ -51,7 +51,13 @@ fn name_at<'a>(names: &[&'a [u8]], number: u32) -> Option<&'a [u8]>
     names.get(number as usize).copied()
 }
 
-fn add_if_same(number: u32, name: &[u8], other: u32, other_name: &[u8], pairs: &mut Vec<(u32, u32)>) -> Result<(), Memory>
+fn add_if_same(
+    number: u32,
+    name: &[u8],
+    other: u32,
+    other_name: &[u8],
+    pairs: &mut Vec<(u32, u32)>,
+) -> Result<(), Memory>
     ensures { OnOk result ((i j : ℕ) → Among (i, j) pairs.new.items ↔ (Among (i, j) pairs.old.items ⊎ ((i ≡ number) × (j ≡ other) × (other_name.now ≡ name.now)))) }
 {
     if !is_same(other_name, name) {
@@ -61,7 +67,13 @@ fn add_if_same(number: u32, name: &[u8], other: u32, other_name: &[u8], pairs: &
     Ok(())
 }
 
-fn add_at(number: u32, name: &[u8], names: &[&[u8]], other: u32, pairs: &mut Vec<(u32, u32)>) -> Result<(), Memory>
+fn add_at(
+    number: u32,
+    name: &[u8],
+    names: &[&[u8]],
+    other: u32,
+    pairs: &mut Vec<(u32, u32)>,
+) -> Result<(), Memory>
     ensures { OnOk result ((i j : ℕ) → Among (i, j) pairs.new.items ↔ (Among (i, j) pairs.old.items ⊎ ((i ≡ number) × (j ≡ other) × (slice_get (names_of names.now) other ≡ Some name.now)))) }
 {
     if let Some(other_name) = name_at(names, other) {
@@ -71,7 +83,12 @@ fn add_at(number: u32, name: &[u8], names: &[&[u8]], other: u32, pairs: &mut Vec
 }
 
 /// Adds the pairs of this item with the others of its name.
-fn add_same(number: u32, name: &[u8], names: &[&[u8]], pairs: &mut Vec<(u32, u32)>) -> Result<(), Memory>
+fn add_same(
+    number: u32,
+    name: &[u8],
+    names: &[&[u8]],
+    pairs: &mut Vec<(u32, u32)>,
+) -> Result<(), Memory>
     ensures { OnOk result ((i j : ℕ) → Among (i, j) pairs.new.items ↔ (Among (i, j) pairs.old.items ⊎ ((i ≡ number) × (slice_get (names_of names.now) j ≡ Some name.now)))) }
 {
     for other in 0..name_count(names)? {
@@ -80,7 +97,12 @@ fn add_same(number: u32, name: &[u8], names: &[&[u8]], pairs: &mut Vec<(u32, u32
     Ok(())
 }
 
-fn add_item(number: u32, names: &[&[u8]], others: &[&[u8]], pairs: &mut Vec<(u32, u32)>) -> Result<(), Memory>
+fn add_item(
+    number: u32,
+    names: &[&[u8]],
+    others: &[&[u8]],
+    pairs: &mut Vec<(u32, u32)>,
+) -> Result<(), Memory>
     ensures { OnOk result ((i j : ℕ) → Among (i, j) pairs.new.items ↔ (Among (i, j) pairs.old.items ⊎ ((i ≡ number) × IsSameName (names_of names.now) (names_of others.now) number j))) }
 {
     if let Some(name) = name_at(names, number) {
@@ -114,7 +136,12 @@ fn one_pair(alloc: Global) -> Result<Vec<(u32, u32)>, Memory>
 }
 
 /// The items of a provided and a required interface that are joined, by their positions.
-pub fn matches(alloc: Global, d: &Description, provided: u32, required: u32) -> Result<Vec<(u32, u32)>, Memory>
+pub fn matches(
+    alloc: Global,
+    d: &Description,
+    provided: u32,
+    required: u32,
+) -> Result<Vec<(u32, u32)>, Memory>
     ensures { IfOk result (λ pairs. (i j : ℕ) → Among (i, j) pairs.items ↔ ItemsJoin (interface_at d.now provided) (interface_at d.now required) i j) }
 {
     match interface_at(d, provided) {
@@ -126,7 +153,11 @@ pub fn matches(alloc: Global, d: &Description, provided: u32, required: u32) -> 
     }
 }
 
-fn matches_of(alloc: Global, provided: &InterfaceKind, required: &InterfaceKind) -> Result<Vec<(u32, u32)>, Memory>
+fn matches_of(
+    alloc: Global,
+    provided: &InterfaceKind,
+    required: &InterfaceKind,
+) -> Result<Vec<(u32, u32)>, Memory>
     ensures { IfOk result (λ pairs. (i j : ℕ) → Among (i, j) pairs.items ↔ ItemsJoin (Some provided.now) (Some required.now) i j) }
 {
     match provided {

@@ -26,7 +26,13 @@ pub struct Node {
 }
 
 #[cycle(listing_nodes)]
-fn list_nodes(tree: &Tree, depth: usize, composition: u32, first: u32, nodes: &mut Vec<Node>) -> Result<(), Memory>
+fn list_nodes(
+    tree: &Tree,
+    depth: usize,
+    composition: u32,
+    first: u32,
+    nodes: &mut Vec<Node>,
+) -> Result<(), Memory>
     requires is_tree { IsTree tree.now }
     requires within { depth ≤ 8 }
     ensures { OnOk result ((x : Node) → Among x nodes.new.items ↔ (Among x nodes.old.items ⊎ IsNode tree.now.d.now depth composition first x)) }
@@ -47,7 +53,14 @@ fn list_nodes(tree: &Tree, depth: usize, composition: u32, first: u32, nodes: &m
 
 /// Lists the compositions at or below a prototype. Those without instances are left out.
 #[cycle(listing_nodes)]
-fn list_node(tree: &Tree, depth: usize, composition: u32, first: u32, prototype: u32, nodes: &mut Vec<Node>) -> Result<(), Memory>
+fn list_node(
+    tree: &Tree,
+    depth: usize,
+    composition: u32,
+    first: u32,
+    prototype: u32,
+    nodes: &mut Vec<Node>,
+) -> Result<(), Memory>
     requires is_tree { IsTree tree.now }
     requires within { depth < 8 }
     ensures { OnOk result ((x : Node) → Among x nodes.new.items ↔ (Among x nodes.old.items ⊎ IsInnerNode tree.now.d.now depth composition first prototype x)) }

@@ -20,7 +20,13 @@ use std::alloc::Global;
 use std::collections::BTreeSet;
 
 /// The ends at or below a port of a prototype, with instances numbered from the composition's first one on.
-fn inner_ends(alloc: Global, tree: &Tree, depth: usize, composition: u32, inner: InnerPort) -> Result<IndexSet<PortEnd>, Memory>
+fn inner_ends(
+    alloc: Global,
+    tree: &Tree,
+    depth: usize,
+    composition: u32,
+    inner: InnerPort,
+) -> Result<IndexSet<PortEnd>, Memory>
     requires is_tree { IsTree tree.now }
     requires within { depth ≤ 8 }
     ensures { IfOk result (λ found. (x : PortEnd) → Among x found.keys ↔ Among x (inner_ends tree.now.d.now depth (ends tree.now.d.now depth) composition 0 inner)) }
@@ -28,7 +34,14 @@ fn inner_ends(alloc: Global, tree: &Tree, depth: usize, composition: u32, inner:
     match type_in(tree.d, composition, inner.prototype) {
         Some(of_type) => {
             let start = start_of(tree, depth, composition, inner.prototype);
-            let found = ends_of(alloc, tree, depth, of_type, number_from(0, start), inner.port)?;
+            let found = ends_of(
+                alloc,
+                tree,
+                depth,
+                of_type,
+                number_from(0, start),
+                inner.port,
+            )?;
             Ok(found)
         }
         None => Ok(IndexSet::new(alloc)),
@@ -55,11 +68,26 @@ fn add_crossing(
 {
     let provided = inner_ends(alloc, tree, depth, composition, provider)?;
     let required = inner_ends(alloc, tree, depth, composition, requester)?;
-    let is_full = cross(alloc, tree.d, provided.as_slice(), required.as_slice(), matched, links)?;
+    let is_full = cross(
+        alloc,
+        tree.d,
+        provided.as_slice(),
+        required.as_slice(),
+        matched,
+        links,
+    )?;
     Ok(is_full)
 }
 
-fn add_assembly(alloc: Global, tree: &Tree, depth: usize, composition: u32, connector: Connector, matched: &mut Matched, links: &mut BTreeSet<Link>) -> Result<bool, Memory>
+fn add_assembly(
+    alloc: Global,
+    tree: &Tree,
+    depth: usize,
+    composition: u32,
+    connector: Connector,
+    matched: &mut Matched,
+    links: &mut BTreeSet<Link>,
+) -> Result<bool, Memory>
     requires is_tree { IsTree tree.now }
     requires within { depth ≤ 8 }
     requires matched { IsMatched tree.now.d.now matched.old }
@@ -67,11 +95,23 @@ fn add_assembly(alloc: Global, tree: &Tree, depth: usize, composition: u32, conn
     ensures grown { IfOk result (λ is_full. Grown (IsAssemblyLink tree.now.d.now depth composition connector) links.old.keys links.new.keys is_full) }
 {
     match connector {
-        Connector::Assembly { provider, requester } => {
+        Connector::Assembly {
+            provider,
+            requester,
+        } => {
             if !lets_join(tree.d, composition, connector) {
                 return Ok(false);
             }
-            let is_full = add_crossing(alloc, tree, depth, composition, provider, requester, matched, links)?;
+            let is_full = add_crossing(
+                alloc,
+                tree,
+                depth,
+                composition,
+                provider,
+                requester,
+                matched,
+                links,
+            )?;
             Ok(is_full)
         }
         Connector::Delegation { .. } => Ok(false),
@@ -79,7 +119,14 @@ fn add_assembly(alloc: Global, tree: &Tree, depth: usize, composition: u32, conn
 }
 
 /// Adds the links that the assemblies of a composition make. The answer is whether there are more links now than the limit.
-pub fn add_own(alloc: Global, tree: &Tree, depth: usize, composition: u32, matched: &mut Matched, links: &mut BTreeSet<Link>) -> Result<bool, Memory>
+pub fn add_own(
+    alloc: Global,
+    tree: &Tree,
+    depth: usize,
+    composition: u32,
+    matched: &mut Matched,
+    links: &mut BTreeSet<Link>,
+) -> Result<bool, Memory>
     requires is_tree { IsTree tree.now }
     requires within { depth ≤ 8 }
     requires matched { IsMatched tree.now.d.now matched.old }

@@ -33,7 +33,11 @@ fn starts_at(alloc: Global, d: &Description, counts: &[u32]) -> Result<Vec<Vec<u
 }
 
 /// For each depth up to the limit, the starts of the prototypes of each composition.
-pub fn start_levels(alloc: Global, d: &Description, levels: &[Vec<u32>]) -> Result<Vec<Vec<Vec<u32>>>, Memory>
+pub fn start_levels(
+    alloc: Global,
+    d: &Description,
+    levels: &[Vec<u32>],
+) -> Result<Vec<Vec<Vec<u32>>>, Memory>
     requires { IsCounted d.now levels.now }
     ensures { IfOk result (λ table. IsStarted d.now table.items) }
 {

@@ -90,7 +90,13 @@ fn add_from(first: u32, own: &[Link], links: &mut BTreeSet<Link>) -> Result<bool
     Ok(false)
 }
 
-fn own_of(alloc: Global, tree: &Tree, depth: usize, composition: u32, matched: &mut Matched) -> Result<Own, Memory>
+fn own_of(
+    alloc: Global,
+    tree: &Tree,
+    depth: usize,
+    composition: u32,
+    matched: &mut Matched,
+) -> Result<Own, Memory>
     requires is_tree { IsTree tree.now }
     requires within { depth ≤ 8 }
     requires matched { IsMatched tree.now.d.now matched.old }
@@ -111,7 +117,13 @@ fn own_of(alloc: Global, tree: &Tree, depth: usize, composition: u32, matched: &
 }
 
 /// Takes the links of a composition, if they are not the last that were taken.
-fn take_own(alloc: Global, tree: &Tree, node: Node, own: &mut Own, matched: &mut Matched) -> Result<(), Memory>
+fn take_own(
+    alloc: Global,
+    tree: &Tree,
+    node: Node,
+    own: &mut Own,
+    matched: &mut Matched,
+) -> Result<(), Memory>
     requires is_tree { IsTree tree.now }
     requires within { node.depth ≤ 8 }
     requires own { IsOwn tree.now.d.now own.old }
@@ -129,7 +141,14 @@ fn take_own(alloc: Global, tree: &Tree, node: Node, own: &mut Own, matched: &mut
 
 /// Adds the links that a composition's assemblies make where it stands. The answer is whether there are more links than
 /// the limit.
-fn add_node(alloc: Global, tree: &Tree, node: Node, own: &mut Own, matched: &mut Matched, links: &mut BTreeSet<Link>) -> Result<bool, Memory>
+fn add_node(
+    alloc: Global,
+    tree: &Tree,
+    node: Node,
+    own: &mut Own,
+    matched: &mut Matched,
+    links: &mut BTreeSet<Link>,
+) -> Result<bool, Memory>
     requires is_tree { IsTree tree.now }
     requires depth { node.depth ≤ 8 }
     requires first { node.first ≤ 2 ^ 31 }
@@ -147,7 +166,13 @@ fn add_node(alloc: Global, tree: &Tree, node: Node, own: &mut Own, matched: &mut
     Ok(is_full)
 }
 
-fn add_nodes(alloc: Global, tree: &Tree, nodes: &[Node], matched: &mut Matched, links: &mut BTreeSet<Link>) -> Result<bool, Memory>
+fn add_nodes(
+    alloc: Global,
+    tree: &Tree,
+    nodes: &[Node],
+    matched: &mut Matched,
+    links: &mut BTreeSet<Link>,
+) -> Result<bool, Memory>
     requires is_tree { IsTree tree.now }
     requires within { (x : Node) → Among x nodes.now → (x.depth ≤ 8) × (x.first ≤ 2 ^ 31) }
     requires matched { IsMatched tree.now.d.now matched.old }
@@ -178,7 +203,15 @@ fn outer_ends(alloc: Global, interface: Option<u32>, port: u32) -> Result<Vec<Po
     Ok(ends)
 }
 
-fn add_by_kind(alloc: Global, tree: &Tree, kind: PortKind, own: &[PortEnd], inner: &[PortEnd], matched: &mut Matched, links: &mut BTreeSet<Link>) -> Result<bool, Memory>
+fn add_by_kind(
+    alloc: Global,
+    tree: &Tree,
+    kind: PortKind,
+    own: &[PortEnd],
+    inner: &[PortEnd],
+    matched: &mut Matched,
+    links: &mut BTreeSet<Link>,
+) -> Result<bool, Memory>
     requires { IsMatched tree.now.d.now matched.old }
     ensures matched { OnOk result (IsMatched tree.now.d.now matched.new) }
     ensures grown { IfOk result (λ is_full. Grown (outer_link (Some kind) tree.now.d.now own.now inner.now) links.old.keys links.new.keys is_full) }
@@ -195,7 +228,15 @@ fn add_by_kind(alloc: Global, tree: &Tree, kind: PortKind, own: &[PortEnd], inne
     }
 }
 
-fn add_between(alloc: Global, tree: &Tree, kind: Option<PortKind>, own: &[PortEnd], inner: &[PortEnd], matched: &mut Matched, links: &mut BTreeSet<Link>) -> Result<bool, Memory>
+fn add_between(
+    alloc: Global,
+    tree: &Tree,
+    kind: Option<PortKind>,
+    own: &[PortEnd],
+    inner: &[PortEnd],
+    matched: &mut Matched,
+    links: &mut BTreeSet<Link>,
+) -> Result<bool, Memory>
     requires { IsMatched tree.now.d.now matched.old }
     ensures matched { OnOk result (IsMatched tree.now.d.now matched.new) }
     ensures grown { IfOk result (λ is_full. Grown (outer_link kind tree.now.d.now own.now inner.now) links.old.keys links.new.keys is_full) }
@@ -210,7 +251,13 @@ fn add_between(alloc: Global, tree: &Tree, kind: Option<PortKind>, own: &[PortEn
 }
 
 /// Adds the links of a port of the root, the environment's.
-fn add_outer(alloc: Global, tree: &Tree, port: u32, matched: &mut Matched, links: &mut BTreeSet<Link>) -> Result<bool, Memory>
+fn add_outer(
+    alloc: Global,
+    tree: &Tree,
+    port: u32,
+    matched: &mut Matched,
+    links: &mut BTreeSet<Link>,
+) -> Result<bool, Memory>
     requires is_tree { IsTree tree.now }
     requires matched { IsMatched tree.now.d.now matched.old }
     ensures matched { OnOk result (IsMatched tree.now.d.now matched.new) }
@@ -220,7 +267,15 @@ fn add_outer(alloc: Global, tree: &Tree, port: u32, matched: &mut Matched, links
     let own = outer_ends(alloc, interface_of(tree.d, root, port), port)?;
     let inner = ends_of(alloc, tree, DEPTH_LIMIT, root, 0, port)?;
     let kind = kind_of(tree.d, root, port);
-    let is_full = add_between(alloc, tree, kind, own.as_slice(), inner.as_slice(), matched, links)?;
+    let is_full = add_between(
+        alloc,
+        tree,
+        kind,
+        own.as_slice(),
+        inner.as_slice(),
+        matched,
+        links,
+    )?;
     Ok(is_full)
 }
 
@@ -232,7 +287,12 @@ fn outer_count(tree: &Tree) -> Result<u32, Memory>
 }
 
 /// Adds the links of all ports of the root.
-fn add_outers(alloc: Global, tree: &Tree, matched: &mut Matched, links: &mut BTreeSet<Link>) -> Result<bool, Memory>
+fn add_outers(
+    alloc: Global,
+    tree: &Tree,
+    matched: &mut Matched,
+    links: &mut BTreeSet<Link>,
+) -> Result<bool, Memory>
     requires is_tree { IsTree tree.now }
     requires matched { IsMatched tree.now.d.now matched.old }
     ensures { IfOk result (λ is_full. Grown (λ (x : Link). (port : ℕ) × IsOuterLink tree.now.d.now port x) links.old.keys links.new.keys is_full) }

@@ -7,14 +7,14 @@ pub returns-then-branch : goal.returns-then-branch
 returns-then-branch c = record {
   matched = c.in_ok-add_row.ensures.matched;
   grown = grown_full (λ p. AnyOf (IsPairLink c.args.d.now p) c.args.required.now) c.args.provided.now c.loop-end.end-index no_end c.args.links.now.keys c.loop-end.links.keys c.add_row.new.links.keys c.in_ok-add_row.field-0
-    c.loop-end-test.true c.loop-end.invariant.grown c.in_ok-add_row.ensures.grown c.if-branch.true;
+      c.loop-end-test.true c.loop-end.invariant.grown c.in_ok-add_row.ensures.grown c.if-branch.true;
 }
 
 pub loop-end-preserved : goal.loop-end-preserved
 loop-end-preserved c = record {
   matched = c.in_ok-add_row.ensures.matched;
   grown = grown_more (λ p. AnyOf (IsPairLink c.args.d.now p) c.args.required.now) c.args.provided.now c.loop-end.end-index no_end c.args.links.now.keys c.loop-end.links.keys c.add_row.new.links.keys c.in_ok-add_row.field-0
-    c.loop-end-test.true c.loop-end.invariant.grown c.in_ok-add_row.ensures.grown c.if-branch.false;
+      c.loop-end-test.true c.loop-end.invariant.grown c.in_ok-add_row.ensures.grown c.if-branch.false;
 }
 
 pub returns : goal.returns

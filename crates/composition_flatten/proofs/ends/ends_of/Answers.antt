@@ -16,7 +16,7 @@ loop-left-preserved c =
     record {
       within = omega arith;
       all = λ x. found_deeper c.args.tree.now.d.now (c.loop-left.left - 1) c.loop-left.left c.in_ok-spots.spots.keys c.loop-left.spots.keys c.as_slice.result.now c.follow.new.found.keys c.loop-left.found.keys x _
-        down c.as_slice.ensures.keys (c.in_ok-spots.ensures x) (c.loop-left.invariant.all x);
+          down c.as_slice.ensures.keys (c.in_ok-spots.ensures x) (c.loop-left.invariant.all x);
     }
 
 pub returns : goal.returns

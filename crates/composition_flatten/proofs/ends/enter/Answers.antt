@@ -13,7 +13,7 @@ use Rattle.composition_flatten.proofs.ends.enter.Goals as goal
 pub returns-then-count_below-eq0 : goal.returns-then-count_below-eq0
 returns-then-count_below-eq0 c = λ x. none_more c.args.tree.now.d.now c.args.depth c.args.spots.now.keys c.args.found.now.keys (ends c.args.tree.now.d.now c.args.depth c.args.of_type c.args.first c.args.port) x
     (dead_spot c.args.tree.now.d.now c.args.tree.now.levels.items c.args.depth c.in-Composition.composition c.count_below.result c.args.first c.args.port c.args.of_type c.requires.is_tree.counted c.requires.within
-      (c.count_below.ensures ∙ ap (λ l. count_in l c.args.depth c.in-Composition.composition) c.as_slice.ensures.value) c.if-count_below-eq0.true c.in-Composition.is x)
+    (c.count_below.ensures ∙ ap (λ l. count_in l c.args.depth c.in-Composition.composition) c.as_slice.ensures.value) c.if-count_below-eq0.true c.in-Composition.is x)
 
 pub returns-in_ok-note_end-in-Component : goal.returns-in_ok-note_end-in-Component
 returns-in_ok-note_end-in-Component c = λ x. ends_more c.args.tree.now.d.now c.args.depth c.args.spots.now.keys c.args.found.now.keys c.note_end.new.found.keys

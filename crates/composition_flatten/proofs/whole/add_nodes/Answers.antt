@@ -12,7 +12,7 @@ pub returns-then-branch : goal.returns-then-branch
 returns-then-branch c = record {
   matched = c.in_ok-add_node.ensures.matched;
   grown = grown_full (IsNodeLink c.args.tree.now.d.now) c.args.nodes.now c.loop-node.node-index no_node c.args.links.now.keys c.loop-node.links.keys c.add_node.new.links.keys c.in_ok-add_node.field-0
-    c.loop-node-test.true c.loop-node.invariant.grown c.in_ok-add_node.ensures.grown c.if-branch.true;
+      c.loop-node-test.true c.loop-node.invariant.grown c.in_ok-add_node.ensures.grown c.if-branch.true;
 }
 
 pub loop-node-preserved : goal.loop-node-preserved
@@ -20,7 +20,7 @@ loop-node-preserved c = record {
   matched = c.in_ok-add_node.ensures.matched;
   own = c.in_ok-add_node.ensures.own;
   grown = grown_more (IsNodeLink c.args.tree.now.d.now) c.args.nodes.now c.loop-node.node-index no_node c.args.links.now.keys c.loop-node.links.keys c.add_node.new.links.keys c.in_ok-add_node.field-0
-    c.loop-node-test.true c.loop-node.invariant.grown c.in_ok-add_node.ensures.grown c.if-branch.false;
+      c.loop-node-test.true c.loop-node.invariant.grown c.in_ok-add_node.ensures.grown c.if-branch.false;
 }
 
 pub returns : goal.returns
