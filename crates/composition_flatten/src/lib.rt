@@ -26,3 +26,6 @@ mod wiring;
 
 pub use flat::{End, Flat, Instance, Join};
 pub use flattening::flatten;
+
+#[cfg(test)]
+mod tests;
