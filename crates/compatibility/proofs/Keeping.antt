@@ -1,0 +1,90 @@
+-- What is kept of partners.
+use Rattle.std.proofs.Common.{◌≡◌, ℕ, zero, suc, ◌+◌, ◌<◌, ◌≤◌, List, [], ◌∷◌, length, get_or, drop, map, filter, Bool, true, false, cond, ◌&&◌, ◌||◌, not, nat_eq, Option, Some, None, refl, sym, ap, ◌∙◌, arith, add-one, true≢false}
+use Rattle.std.proofs.lemmas.Bool.{eqb-true, eq-eqb, and_parts}
+use Rattle.std.specs.List.{list_any}
+use Rattle.std.specs.Option.{option_eq, option_map_or, is_some}
+use Rattle.composition_flatten.specs.declared.flat.End.{End}
+use Rattle.composition_flatten.specs.declared.flat.Join.{Join}
+use Rattle.compatibility.specs.declared.partners.Partners.{Partners}
+use Rattle.compatibility.specs.Joins.{same_end, partners, are_several, is_none}
+use Rattle.compatibility.specs.Partners.{added, summary, with_one, key_of, same_key, Key}
+
+-- one that is said to be the same is the same
+same_number : (a b : Option ℕ) → option_eq nat_eq a b ≡ true → a ≡ b
+same_number None None h = refl
+same_number None (Some y) h = absurd (true≢false (sym h))
+same_number (Some x) None h = absurd (true≢false (sym h))
+same_number (Some x) (Some y) h = ap (λ n. Some n) (eqb-true x y h)
+
+pub same_end_is : (a b : End) → same_end a b ≡ true → a ≡ b
+same_end_is a b h =
+    let outer = and_parts (option_eq nat_eq a.instance b.instance && nat_eq a.port b.port) (nat_eq a.element b.element) h in
+    let inner = and_parts (option_eq nat_eq a.instance b.instance) (nat_eq a.port b.port) outer.0 in
+    (λ j. record { instance = same_number a.instance b.instance inner.0 j; port = eqb-true a.port b.port inner.1 j; element = eqb-true a.element b.element outer.1 j })
+
+same_number_refl : (a : Option ℕ) → option_eq nat_eq a a ≡ true
+same_number_refl None = refl
+same_number_refl (Some x) = eq-eqb x x refl
+
+pub same_end_refl : (a : End) → same_end a a ≡ true
+same_end_refl a = (λ j. (same_number_refl a.instance j && eq-eqb a.port a.port refl j) && eq-eqb a.element a.element refl j)
+
+-- what is kept of some partners, and of those that come after them
+added_some : (x : End) (s : Bool) (xs : List End) → added (Some (record { first = x; several = s })) xs ≡ Some (record { first = x; several = s || list_any (λ y. not (same_end x y)) xs })
+added_some x true [] = refl
+added_some x false [] = refl
+added_some x true (y ∷ xs) = added_some x true xs
+added_some x false (y ∷ xs) = added_some x (not (same_end x y)) xs
+
+pub added_all : (xs : List End) → added None xs ≡ summary xs
+added_all [] = refl
+added_all (x ∷ xs) = added_some x false xs
+
+module _ (own other : Join → End) (e : End) where
+  partners_next : (joins : List Join) (i : ℕ) (d : Join) → i < length joins
+      → partners own other (drop i joins) e ≡ cond (same_end (own (get_or joins i d)) e) (other (get_or joins i d) ∷ partners own other (drop (suc i) joins) e) (partners own other (drop (suc i) joins) e)
+  partners_next [] i d within = absurd (omega arith)
+  partners_next (k ∷ joins) zero d within = by (same_end (own k) e)
+    where
+      by : (b : Bool) → map other (cond b (k ∷ filter (λ j. same_end (own j) e) joins) (filter (λ j. same_end (own j) e) joins)) ≡ cond b (other k ∷ partners own other joins e) (partners own other joins e)
+      by true = refl
+      by false = refl
+  partners_next (k ∷ joins) (suc i) d within = partners_next joins i d (omega arith)
+
+  module _ (old new : Key → Option Partners) (a x : End) (noted : (q : Key) → new q ≡ cond (same_key (key_of a) q) (Some (with_one (old (key_of a)) x)) (old q)) (rest : List End) where
+    noted_here : (b : Bool) → same_end a e ≡ b → added (old (key_of e)) (cond b (x ∷ rest) rest) ≡ added (cond b (Some (with_one (old (key_of a)) x)) (old (key_of e))) rest
+    noted_here true h = λ t. added (Some (with_one (old (key_of (sym (same_end_is a e h) t))) x)) rest
+    noted_here false h = refl
+
+    noted_now : added (old (key_of e)) (cond (same_end a e) (x ∷ rest) rest) ≡ added (new (key_of e)) rest
+    noted_now = noted_here (same_end a e) refl ∙ (λ t. added (sym (noted (key_of e)) t) rest)
+
+  -- one more join is noted
+  pub noted_more : (joins : List Join) (i : ℕ) (d : Join) (old new : Key → Option Partners) (a x : End) (whole : Option Partners) → i < length joins → a ≡ own (get_or joins i d) → x ≡ other (get_or joins i d)
+      → ((q : Key) → new q ≡ cond (same_key (key_of a) q) (Some (with_one (old (key_of a)) x)) (old q))
+      → whole ≡ added (old (key_of e)) (partners own other (drop i joins) e) → whole ≡ added (new (key_of e)) (partners own other (drop (i + 1) joins) e)
+  noted_more joins i d old new a x whole within isa isx noted so_far = so_far ∙ ap (added (old (key_of e))) (partners_next joins i d within)
+      ∙ (λ t. added (old (key_of e)) (cond (same_end (sym isa t) e) (sym isx t ∷ partners own other (drop (suc i) joins) e) (partners own other (drop (suc i) joins) e)))
+      ∙ noted_now old new a x noted (partners own other (drop (suc i) joins) e) ∙ (λ t. added (new (key_of e)) (partners own other (drop (sym (add-one i) t) joins) e))
+
+  pub none_left : (joins : List Join) (i : ℕ) (kept : Option Partners) → length joins ≤ i → added kept (partners own other (drop i joins) e) ≡ kept
+  none_left [] zero kept past = refl
+  none_left [] (suc i) kept past = refl
+  none_left (k ∷ joins) zero kept past = absurd (omega arith)
+  none_left (k ∷ joins) (suc i) kept past = none_left joins i kept (omega arith)
+
+-- what is kept tells whether there are several and whether there are none
+pub several_found : (xs : List End) (kept : Option Partners) (p : Partners) → kept ≡ summary xs → kept ≡ Some p → p.several ≡ are_several xs
+several_found [] kept p is some = cc
+several_found (x ∷ xs) kept p is some = found (sym some ∙ is)
+  where
+    found : Some p ≡ summary (x ∷ xs) → p.several ≡ are_several (x ∷ xs)
+    found same = ap (λ o. option_map_or (λ p. p.several) o false) same
+
+pub none_found : (xs : List End) (kept : Option Partners) → kept ≡ summary xs → kept ≡ None → false ≡ are_several xs
+none_found [] kept is none = refl
+none_found (x ∷ xs) kept is none = cc
+
+pub none_is : (xs : List End) (kept : Option Partners) → kept ≡ summary xs → not (is_some kept) ≡ is_none xs
+none_is [] kept is = ap (λ o. not (is_some o)) is
+none_is (x ∷ xs) kept is = ap (λ o. not (is_some o)) is

@@ -1,0 +1,17 @@
+use Rattle.std.proofs.Common.{◌≡◌, ◌↔◌, true, subst}
+use Rattle.std.proofs.lemmas.Result.{IfOk-weaker}
+use Rattle.indexmap.specs.IndexSet.{contains}
+use Rattle.composition_flatten.specs.declared.flat.End.{End}
+use Rattle.compatibility.specs.Groups.{IsManyToMany}
+use Rattle.compatibility.specs.Joins.{is_many_to_many}
+use Rattle.compatibility.specs.Partners.{key_of, same_key}
+use Rattle.compatibility.proofs.Stars.{known_groups}
+use Rattle.compatibility.proofs.groups.many_to_many.Goals as goal
+
+pub returns-clause-groups : goal.returns-clause-groups
+returns-clause-groups c = IfOk-weaker c.provided_by.result
+    (λ found. (e : End) → contains same_key found (key_of e) ≡ is_many_to_many c.in_ok-crowded.crowded.joins.now e)
+    (λ found. (e : End) → contains same_key found (key_of e) ≡ true ↔ IsManyToMany c.args.degrees.now.joins.now e)
+    (λ found is e. subst (λ joins. contains same_key found (key_of e) ≡ true ↔ IsManyToMany joins e) c.in_ok-crowded.ensures
+    (known_groups c.in_ok-crowded.crowded.joins.now e (contains same_key found (key_of e)) (is e)))
+    c.provided_by.ensures

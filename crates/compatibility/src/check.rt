@@ -1,0 +1,104 @@
+//! The checks, and what they refuse.
+
+ghost use Rattle.std.specs.Prelude.{◌≡◌, Some};
+ghost use Rattle.compatibility.specs.Refusals.{Tells, of_connectors, of_root_ports, of_items, number_of, port_refusal, item_refusal, refusal};
+
+use crate::connectors::incompatible;
+use crate::items::Search;
+use crate::names::end_text;
+use crate::places::in_composition;
+use crate::root_ports::root_client;
+use crate::rule::Rule;
+use composition_flatten::Flat;
+use description_types::Description;
+use rte_text::{Refusal, Refused, Text};
+use std::alloc::Global;
+
+fn refused(rule: u16, place: Text) -> Result<(), Refused>
+    ensures { Tells (Some (rule, place)) result }
+{
+    Err(Refused::Rule(Refusal { rule, place }))
+}
+
+fn check_connectors(alloc: Global, d: &Description) -> Result<(), Refused>
+    ensures { Tells (of_connectors d.now) result }
+{
+    match incompatible(alloc, d)? {
+        None => Ok(()),
+        Some((composition, connector)) => {
+            let place = in_composition(alloc, composition, "/connectors/", connector)?;
+            refused(12, place)
+        }
+    }
+}
+
+fn check_root_ports(alloc: Global, d: &Description) -> Result<(), Refused>
+    ensures { Tells (of_root_ports d.now) result }
+{
+    match root_client(d) {
+        None => Ok(()),
+        Some(port) => {
+            let place = in_composition(alloc, d.root as usize, "/ports/", port)?;
+            refused(13, place)
+        }
+    }
+}
+
+fn check_ports(alloc: Global, d: &Description) -> Result<(), Refused>
+    ensures { Tells (port_refusal d.now) result }
+{
+    check_connectors(alloc, d)?;
+    check_root_ports(alloc, d)
+}
+
+fn number_of(rule: Rule) -> u16
+    ensures { result ≡ number_of rule }
+{
+    match rule {
+        Rule::Services => 14,
+        Rule::Groups => 15,
+    }
+}
+
+fn check_rule(
+    alloc: Global,
+    search: &Search,
+    rule: Rule,
+    d: &Description,
+    f: &Flat,
+) -> Result<(), Refused>
+    requires description { search.now.d.now ≡ d.now }
+    requires flat { search.now.f.now ≡ f.now }
+    ensures { Tells (of_items rule d.now f.now) result }
+{
+    match search.first_broken(rule)? {
+        None => Ok(()),
+        Some(end) => {
+            let place = end_text(alloc, d, f, end)?;
+            refused(number_of(rule), place)
+        }
+    }
+}
+
+fn check_items(alloc: Global, d: &Description, f: &Flat) -> Result<(), Refused>
+    ensures { Tells (item_refusal d.now f.now) result }
+{
+    let search = Search::new(alloc, d, f)?;
+    check_rule(alloc, &search, Rule::Services, d, f)?;
+    check_rule(alloc, &search, Rule::Groups, d, f)
+}
+
+/// Whether what a description joins may be joined: the ports of each connector are compatible (12), the environment serves no
+/// operation (13), each required operation and mode element has at most one provided one and each required mode element of an
+/// instance has one (14), and no group has more than one provided and more than one required data element (15). An error of
+/// `Rule` names the least of these that is broken and its first place: `/compositions/N/connectors/M` (12) and
+/// `/compositions/N/ports/K` (13) in the order of the document, the name of the required item, as `b/r0.i.v` or `env.p.o` (14
+/// and 15), by instance, port and item, the environment last.
+///
+/// `f` is the description made flat. An error of `Memory` may come at any time.
+pub fn check_joins(alloc: Global, d: &Description, f: &Flat) -> Result<(), Refused>
+    ensures { Tells (refusal d.now f.now) result }
+{
+    check_ports(alloc, d)?;
+    check_items(alloc, d, f)
+}

@@ -1,0 +1,23 @@
+//! Whether the ports that connectors join are compatible, and whether items are joined as they may be.
+#![tactic(auto)]
+
+mod check;
+mod connectors;
+mod elements;
+mod groups;
+mod hints;
+mod items;
+mod judge;
+mod names;
+mod operations;
+mod partners;
+mod places;
+mod ports;
+mod root_ports;
+mod rule;
+mod types;
+
+pub use check::check_joins;
+
+#[cfg(test)]
+mod tests;

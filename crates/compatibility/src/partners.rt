@@ -1,0 +1,160 @@
+//! Who is joined with an end.
+
+ghost use Rattle.std.specs.Prelude.{◌≡◌, IfOk, OnOk, Some};
+ghost use Rattle.indexmap.specs.IndexMap.{Updates, get};
+ghost use Rattle.compatibility.specs.Joins.{are_several, crowds, is_none, providers, requirers, same_end};
+ghost use Rattle.compatibility.specs.declared.partners.Side.TheVariants as side;
+ghost use Rattle.compatibility.specs.Partners.{AreKept, key_of, other, own, same_key, with_one};
+
+use composition_flatten::{End, Join};
+use indexmap::IndexMap;
+use rte_text::Memory;
+use std::alloc::Global;
+
+/// A side of a join.
+#[derive(Clone, Copy)]
+pub enum Side {
+    Provided,
+    Required,
+}
+
+impl Side {
+    fn own(self, join: &Join) -> End
+        ensures { result ≡ own self join.now }
+    {
+        match self {
+            Side::Provided => join.provided,
+            Side::Required => join.required,
+        }
+    }
+
+    fn other(self, join: &Join) -> End
+        ensures { result ≡ other self join.now }
+    {
+        match self {
+            Side::Provided => join.required,
+            Side::Required => join.provided,
+        }
+    }
+}
+
+/// What is kept of the ends that are joined with an end: the first, and whether there is another.
+#[derive(Clone, Copy)]
+pub struct Partners {
+    first: End,
+    several: bool,
+}
+
+/// An end as a key of a map.
+pub type Key = (Option<u32>, u32, u32);
+
+/// The key of an end.
+pub fn key_of(end: End) -> Key
+    ensures { result ≡ key_of end }
+{
+    (end.instance, end.port, end.element)
+}
+
+fn same_end(a: End, b: End) -> bool
+    ensures { result ≡ same_end a b }
+{
+    key_of(a) == key_of(b)
+}
+
+fn kept_of(map: &IndexMap<Key, Partners>, end: End) -> Option<Partners>
+    ensures { result ≡ get same_key map.now (key_of end) }
+{
+    map.get(&key_of(end)).copied()
+}
+
+fn with_one(kept: Option<Partners>, partner: End) -> Partners
+    ensures { result ≡ with_one kept partner }
+{
+    match kept {
+        None => Partners {
+            first: partner,
+            several: false,
+        },
+        Some(found) => Partners {
+            first: found.first,
+            several: found.several || !same_end(found.first, partner),
+        },
+    }
+}
+
+fn note(map: &mut IndexMap<Key, Partners>, end: End, partner: End) -> Result<(), Memory>
+    ensures { OnOk result (Updates same_key map.old map.new (key_of end) (Some (with_one (get same_key map.old (key_of end)) partner))) }
+{
+    let kept = with_one(kept_of(map, end), partner);
+    map.insert(key_of(end), kept)?;
+    Ok(())
+}
+
+fn kept_of_all(alloc: Global, side: Side, joins: &[Join]) -> Result<IndexMap<Key, Partners>, Memory>
+    ensures { IfOk result (λ kept. AreKept side joins.now kept) }
+{
+    let mut kept = IndexMap::new(alloc);
+    for join in joins {
+        note(&mut kept, side.own(join), side.other(join))?;
+    }
+    Ok(kept)
+}
+
+/// How many partners the ends of joins have, as far as it matters.
+#[derive(Drop)]
+pub struct Degrees<'a> {
+    pub joins: &'a [Join],
+    of_required: IndexMap<Key, Partners>,
+    of_provided: IndexMap<Key, Partners>,
+    ghost required: { AreKept side.Required joins.now of_required },
+    ghost provided: { AreKept side.Provided joins.now of_provided },
+}
+
+impl Degrees<'_> {
+    /// Those of the ends of these joins.
+    pub fn new(alloc: Global, joins: &[Join]) -> Result<Degrees<'_>, Memory>
+        ensures { IfOk result (λ degrees. degrees.joins.now ≡ joins.now) }
+    {
+        let of_required = kept_of_all(alloc, Side::Required, joins)?;
+        let of_provided = kept_of_all(alloc, Side::Provided, joins)?;
+        Ok(Degrees {
+            joins,
+            of_required,
+            of_provided,
+        })
+    }
+
+    /// Whether two provided ends or more are joined with a required one.
+    pub fn has_several_providers(&self, required: End) -> bool
+        ensures { result ≡ are_several (providers self.now.joins.now required) }
+    {
+        match kept_of(&self.of_required, required) {
+            None => false,
+            Some(found) => found.several,
+        }
+    }
+
+    /// Whether no provided end is joined with a required one.
+    pub fn has_no_provider(&self, required: End) -> bool
+        ensures { result ≡ is_none (providers self.now.joins.now required) }
+    {
+        kept_of(&self.of_required, required).is_none()
+    }
+
+    /// Whether two required ends or more are joined with a provided one.
+    pub fn has_several_requirers(&self, provided: End) -> bool
+        ensures { result ≡ are_several (requirers self.now.joins.now provided) }
+    {
+        match kept_of(&self.of_provided, provided) {
+            None => false,
+            Some(found) => found.several,
+        }
+    }
+
+    /// Whether both ends of a join have several partners.
+    pub fn crowds(&self, join: &Join) -> bool
+        ensures { result ≡ crowds self.now.joins.now join.now }
+    {
+        self.has_several_requirers(join.provided) && self.has_several_providers(join.required)
+    }
+}

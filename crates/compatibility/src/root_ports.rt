@@ -1,0 +1,40 @@
+//! Which ports the root may have.
+
+ghost use Rattle.std.specs.Prelude.{◌≡◌};
+ghost use Rattle.compatibility.specs.Connectors.{is_client_server, requires_server, root_client};
+
+use crate::ports::ports_of;
+use description_types::{Description, Port, PortKind, PrototypeType};
+use interface_types::{InterfaceKind, TypeTable};
+
+fn is_client_server(kind: &InterfaceKind) -> bool
+    ensures { result ≡ is_client_server kind.now }
+{
+    matches!(kind, InterfaceKind::ClientServer(_))
+}
+
+fn requires_server(types: &TypeTable, port: &Port) -> bool
+    ensures { result ≡ requires_server types.now port.now }
+{
+    match (
+        port.kind,
+        types.interfaces.items().get(port.interface as usize),
+    ) {
+        (PortKind::Required, Some(interface)) => is_client_server(&interface.kind),
+        _ => false,
+    }
+}
+
+/// The first port of the root by which the environment would have to serve operations.
+#[tactic(auto, using(crate::proofs::Firsts::first_more, crate::proofs::Firsts::first_here, crate::proofs::Firsts::first_none))]
+pub fn root_client(d: &Description) -> Option<usize>
+    ensures { result ≡ root_client d.now }
+{
+    let ports = ports_of(d, PrototypeType::Composition(d.root));
+    for (position, port) in ports.iter().enumerate() {
+        if requires_server(&d.types, port) {
+            return Some(position);
+        }
+    }
+    None
+}

@@ -1,0 +1,17 @@
+use Rattle.std.proofs.Common.{codes, map, unwrap_or, ap, ◌∙◌}
+use Rattle.serde_json.specs.Find.{get}
+use Rattle.serde_json.specs.View.{view}
+use Rattle.component_model.specs.Compositions.{composition_reading, mapping_reading}
+use Rattle.declared_names.specs.Names.{position_in}
+use Rattle.component_model.specs.Programs.{component_reading}
+use Rattle.component_model.proofs.Lists.{view_null}
+use Rattle.component_model.proofs.reading.read_in.Goals as goal
+
+pub returns : goal.returns
+returns c =
+    let scope = c.args.scope.now in
+    let components = c.in_ok-components.ensures ∙ ap (map (component_reading scope)) c.items_at-listed.ensures in
+    let compositions = c.in_ok-compositions.ensures ∙ ap (map (composition_reading scope.interfaces scope.prototypes)) c.items_at-composed.ensures in
+    let root = c.find-root.ensures ∙ ap (position_in scope.prototypes.compositions) c.text_at.ensures in
+    let mapping = c.in_ok-mapping.ensures ∙ ap mapping_reading (c.value_at-mapped.ensures ∙ ap (unwrap_or (get (codes "mapping") (view c.args.value.now))) view_null) in
+    λ i. record { types = c.in_ok-types.ensures i; components = components i; compositions = compositions i; root = root i; mapping = mapping i }

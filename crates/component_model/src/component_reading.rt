@@ -1,0 +1,133 @@
+//! Components, read from JSON.
+
+ghost use Rattle.std.specs.Prelude.{◌≡◌, IfOk, map};
+ghost use Rattle.runnable_lang.specs.Trees.{program_tree};
+ghost use Rattle.serde_json.specs.View.{view};
+ghost use Rattle.declared_names.specs.Components.{component_names};
+ghost use Rattle.component_model.specs.Programs.{behavior_reading, behavior_tree, component_reading, component_tree, runnable_reading, runnable_tree, runnables_in};
+ghost use Rattle.declared_names.specs.Values.{seen};
+
+use crate::from_value::read_list;
+use crate::servers::{Servers, first_names, servers_in};
+use declared_names::{
+    InComponent, Scope, TypeNames, component_names, copy_at, flag_at, items_at, text_at, value_at,
+};
+use description_types::{Behavior, Component, Runnable};
+use program_reading::read_program;
+use rte_text::{Memory, Seq};
+use runnable_lang::Program;
+use serde_json::Value;
+use std::alloc::Global;
+
+fn program(
+    alloc: Global,
+    scope: &InComponent,
+    servers: &Servers,
+    value: &Value,
+) -> Result<Program, Memory>
+    ensures { IfOk result (λ p. program_tree p
+        ≡ (runnable_reading scope.now.interfaces.now scope.now.names.now (map seen servers.now.events.items) servers.now.runnables (view value.now)).program) }
+{
+    let nothing = Value::Null;
+    let event = servers.event_of(text_at(value, "shortName"));
+    let first = first_names(alloc, scope, event)?;
+    let program = read_program(alloc, scope, &first, value_at(value, "program", &nothing))?;
+    Ok(program)
+}
+
+fn read_runnable(
+    alloc: Global,
+    scope: &InComponent,
+    servers: &Servers,
+    value: &Value,
+) -> Result<Runnable, Memory>
+    ensures { IfOk result (λ r. runnable_tree r
+        ≡ runnable_reading scope.now.interfaces.now scope.now.names.now (map seen servers.now.events.items) servers.now.runnables (view value.now)) }
+{
+    let short_name = copy_at(alloc, value, "shortName")?;
+    let accesses = read_list(alloc, scope, items_at(value, "accesses"))?;
+    let program = program(alloc, scope, servers, value)?;
+    Ok(Runnable {
+        short_name,
+        can_be_invoked_concurrently: flag_at(value, "canBeInvokedConcurrently"),
+        accesses,
+        program,
+    })
+}
+
+fn read_runnables(
+    alloc: Global,
+    scope: &InComponent,
+    servers: &Servers,
+    values: &[Value],
+) -> Result<Seq<Runnable>, Memory>
+    ensures { IfOk result (λ rs. map runnable_tree rs
+        ≡ map (runnable_reading scope.now.interfaces.now scope.now.names.now (map seen servers.now.events.items) servers.now.runnables) (map view values.now)) }
+{
+    let mut list = Vec::new(alloc);
+    for value in values {
+        list.push(read_runnable(alloc, scope, servers, value)?)?;
+    }
+    Ok(Seq::of(list))
+}
+
+fn runnables(alloc: Global, scope: &InComponent, value: &Value) -> Result<Seq<Runnable>, Memory>
+    ensures { IfOk result (λ rs. map runnable_tree rs
+        ≡ runnables_in scope.now.interfaces.now scope.now.names.now (view value.now)) }
+{
+    let servers = servers_in(alloc, value)?;
+    let runnables = read_runnables(alloc, scope, &servers, items_at(value, "runnables"))?;
+    Ok(runnables)
+}
+
+fn read_behavior(
+    alloc: Global,
+    types: &TypeNames,
+    scope: &InComponent,
+    value: &Value,
+) -> Result<Behavior, Memory>
+    ensures { IfOk result (λ b. behavior_tree b ≡ behavior_reading types.now scope.now.interfaces.now scope.now.names.now (view value.now)) }
+{
+    let areas = items_at(value, "exclusiveAreas");
+    let declared = items_at(value, "variables");
+    let starting = items_at(value, "events");
+    let exclusive_areas = read_list(alloc, &(), areas)?;
+    let variables = read_list(alloc, types, declared)?;
+    let runnables = runnables(alloc, scope, value)?;
+    let events = read_list(alloc, scope, starting)?;
+    Ok(Behavior {
+        exclusive_areas,
+        variables,
+        runnables,
+        events,
+    })
+}
+
+fn behavior(alloc: Global, scope: &Scope, value: &Value, inner: &Value) -> Result<Behavior, Memory>
+    ensures { IfOk result (λ b. behavior_tree b
+        ≡ behavior_reading scope.now.types scope.now.interfaces (component_names scope.now.interfaces (view value.now) (view inner.now)) (view inner.now)) }
+{
+    let interfaces = &scope.interfaces;
+    let names = component_names(alloc, interfaces, value, inner)?;
+    let component = InComponent {
+        interfaces,
+        names: &names,
+    };
+    let behavior = read_behavior(alloc, &scope.types, &component, inner)?;
+    Ok(behavior)
+}
+
+/// The component that the value is.
+pub fn read_component(alloc: Global, scope: &Scope, value: &Value) -> Result<Component, Memory>
+    ensures { IfOk result (λ c. component_tree c ≡ component_reading scope.now (view value.now)) }
+{
+    let nothing = Value::Null;
+    let short_name = copy_at(alloc, value, "shortName")?;
+    let ports = read_list(alloc, &scope.interfaces, items_at(value, "ports"))?;
+    let behavior = behavior(alloc, scope, value, value_at(value, "behavior", &nothing))?;
+    Ok(Component {
+        short_name,
+        ports,
+        behavior,
+    })
+}

@@ -1,0 +1,36 @@
+//! Descriptions as typed values, read from JSON.
+//!
+//! `read_description` takes the bytes of a description and gives a `Description`, or the least rule that they break, with
+//! its first place. Rules 1 and those of shapes and names are judged by `description_places`, the rules of types (6 and 7)
+//! by `interface_types`, and rule 8 here: an initial value of a data element or variable has as many words as its type,
+//! each within its limits. It is judged on every port and side, used or not; the place is the initial value.
+//!
+//! What refers to something by its name holds a position: that of the first item of this name in the list that declares
+//! it, and the number of items there where none has it. Each list stands in declared order, so positions give the JSON
+//! pointer of everything. A key that may be missing is an `Option` or has its default. The variables of a program are
+//! numbered by their first place in its text; in a server, after the arguments of its operation and `error`.
+//!
+//! A reading is there for every value (`specs/Descriptions.antt`), with defaults where the rules leave nothing to be read.
+//! Names are looked up by hash, in maps that are built once for each list that declares them, so reading grows linearly
+//! with the file.
+#![tactic(auto)]
+
+mod behavior_reading;
+mod component_reading;
+mod composition_reading;
+mod from_value;
+mod initials;
+mod mapping_reading;
+mod port_reading;
+mod reading;
+mod servers;
+#[cfg(test)]
+mod tests;
+mod type_reading;
+
+pub use description_types::{
+    Access, Behavior, Component, Composition, Connector, Description, DisabledInModes, Event,
+    EventKind, InnerPort, MappedEvent, ModeActivation, Port, PortKind, Prototype, PrototypeType,
+    Runnable, Task, TaskMapping, Variable,
+};
+pub use reading::read_description;

@@ -1,0 +1,95 @@
+//! A description, read from its bytes.
+
+ghost use Rattle.std.specs.Prelude.{◌≡◌, IfErr, IfOk, map};
+ghost use Rattle.serde_json.specs.View.{view};
+ghost use Rattle.interface_types.specs.Lists.{first};
+ghost use Rattle.interface_types.specs.Refusals.{Tells, of_rule};
+ghost use Rattle.component_model.specs.Descriptions.{description_of, reading, reading_in};
+ghost use Rattle.component_model.specs.Initials.{broken_initials, initial_place};
+ghost use Rattle.component_model.specs.Programs.{component_reading, component_tree};
+ghost use Rattle.component_model.specs.Refusals.{IsRead, IsRefusalOf, typed_refusal};
+
+use crate::component_reading::read_component;
+use crate::from_value::read_list;
+use crate::initials::{first_broken, initial_place};
+use crate::mapping_reading::read_mapping;
+use crate::type_reading::read_types;
+use declared_names::{Scope, items_at, scope_of, text_at, value_at};
+use description_places::judge;
+use description_types::{Component, Description};
+use interface_types::check_types;
+use rte_text::{Memory, Refusal, Refused, Seq};
+use serde_json::Value;
+use std::alloc::Global;
+
+fn read_components(alloc: Global, scope: &Scope, values: &[Value]) -> Result<Seq<Component>, Memory>
+    ensures { IfOk result (λ cs. map component_tree cs ≡ map (component_reading scope.now) (map view values.now)) }
+{
+    let mut list = Vec::new(alloc);
+    for value in values {
+        list.push(read_component(alloc, scope, value)?)?;
+    }
+    Ok(Seq::of(list))
+}
+
+fn read_in(alloc: Global, scope: &Scope, value: &Value) -> Result<Description, Memory>
+    ensures { IfOk result (λ d. description_of d ≡ reading_in scope.now (view value.now)) }
+{
+    let nothing = Value::Null;
+    let mapped = value_at(value, "mapping", &nothing);
+    let listed = items_at(value, "components");
+    let composed = items_at(value, "compositions");
+    let root = scope.prototypes.compositions.find(text_at(value, "root"));
+    let types = read_types(alloc, &scope.types, value)?;
+    let components = read_components(alloc, scope, listed)?;
+    let compositions = read_list(alloc, scope, composed)?;
+    let mapping = read_mapping(alloc, mapped)?;
+    Ok(Description {
+        types,
+        components,
+        compositions,
+        root,
+        mapping,
+    })
+}
+
+fn read(alloc: Global, value: &Value) -> Result<Description, Memory>
+    ensures { IfOk result (λ d. description_of d ≡ reading (view value.now)) }
+{
+    let scope = scope_of(alloc, value)?;
+    let description = read_in(alloc, &scope, value)?;
+    Ok(description)
+}
+
+fn check_initials(alloc: Global, description: &Description) -> Result<(), Refused>
+    ensures { Tells (first (of_rule 8 initial_place (broken_initials (description_of description.now)))) result }
+{
+    match first_broken(description) {
+        None => Ok(()),
+        Some(initial) => {
+            let place = initial_place(alloc, initial)?;
+            Err(Refused::Rule(Refusal { rule: 8, place }))
+        }
+    }
+}
+
+fn check(alloc: Global, description: &Description) -> Result<(), Refused>
+    ensures { Tells (typed_refusal (description_of description.now)) result }
+{
+    check_types(alloc, &description.types)?;
+    check_initials(alloc, description)
+}
+
+/// The description that the bytes are, where they break none of rules 1 to 8: those of `judge` of `description_places`, those
+/// of `check_types` of `interface_types`, and that an initial value of a data element or variable has as many words as its
+/// type, each within its limits (8, at the initial value). `Rule` names the least rule that they break, with its first
+/// place; `Memory` is answered where memory ran out, and never tells anything of the bytes.
+pub fn read_description(alloc: Global, bytes: &[u8]) -> Result<Description, Refused>
+    ensures read { IfOk result (λ d. IsRead bytes.now (description_of d)) }
+    ensures refused { IfErr result (IsRefusalOf bytes.now) }
+{
+    let value = judge(alloc, bytes)?;
+    let description = read(alloc, &value)?;
+    check(alloc, &description)?;
+    Ok(description)
+}

@@ -1,0 +1,121 @@
+use super::texts::{A, whole};
+use crate::read_description;
+use rte_text::Refused;
+use std::alloc::Global;
+use std::process::Abort;
+use std::test::Fail;
+
+// The rule that a text breaks, with its place, or 0.
+fn judges(
+    rt: &impl Abort,
+    alloc: Global,
+    parts: [&str; 4],
+    rule: u16,
+    place: &str,
+) -> Result<(), Fail> {
+    let text = whole(alloc, parts)?;
+    match read_description(alloc, text.as_bytes()) {
+        Ok(_) => assert_eq!(rt; 0, rule),
+        Err(Refused::Rule(refusal)) => {
+            assert_eq!(rt; refusal.rule, rule);
+            assert_eq!(rt; refusal.place.bytes(), place.as_bytes());
+        }
+        Err(Refused::Memory) => assert!(rt; false, "no memory"),
+    }
+    Ok(())
+}
+
+const TYPES: &str =
+    r#""dataTypes":[{"shortName":"T","baseType":"uint16","lower":2,"upper":8,"words":2}],
+    "interfaces":[{"kind":"SenderReceiverInterface","shortName":"I","dataElements":[
+      {"shortName":"v","type":"T","swImplPolicy":"standard"}]},
+     {"kind":"ClientServerInterface","shortName":"S","operations":[{"shortName":"op"}]}]"#;
+
+fn with_port(alloc: Global, init: &str) -> Result<String, Fail> {
+    let mut text = String::from_str(
+        alloc,
+        r#"{"shortName":"C","ports":[{"kind":"PPortPrototype","shortName":"s","interface":"S",
+            "comSpecs":[{"element":"op","initValue":[]}]},
+           {"kind":"PPortPrototype","shortName":"o","interface":"I","comSpecs":[{"element":"v""#,
+    )?;
+    text.push_str(init)?;
+    text.push_str(r#"}]}],"behavior":{"variables":[{"shortName":"n","type":"T""#)?;
+    Ok(text)
+}
+
+// The initial value of a data element on an unused side, that of a variable, and that of a port of a composition.
+#[test]
+fn initial_values(rt: HostRuntime) -> Result<(), Fail> {
+    let alloc = rt.alloc();
+    let cases = [
+        ("", 0),
+        (r#","initValue":[2,8]"#, 0),
+        (r#","initValue":[2]"#, 8),
+        (r#","initValue":[2,8,2]"#, 8),
+        (r#","initValue":[1,8]"#, 8),
+        (r#","initValue":[2,9]"#, 8),
+        (r#","initValue":[]"#, 8),
+    ];
+    for (init, rule) in cases {
+        let mut text = with_port(alloc, init)?;
+        text.push_str("}]}}")?;
+        let parts = [TYPES, text.as_str(), "", ""];
+        judges(
+            &rt,
+            alloc,
+            parts,
+            rule,
+            "/components/0/ports/1/comSpecs/0/initValue",
+        )?;
+        let mut text = with_port(alloc, "")?;
+        text.push_str(init)?;
+        text.push_str("}]}}")?;
+        let parts = [TYPES, text.as_str(), "", ""];
+        judges(
+            &rt,
+            alloc,
+            parts,
+            rule,
+            "/components/0/behavior/variables/0/initValue",
+        )?;
+    }
+    let top =
+        r#","ports":[{"kind":"RPortPrototype","shortName":"i","interface":"I","comSpecs":[{"element":"v","initValue":[3]}]}]"#;
+    let parts = [TYPES, "", top, ""];
+    judges(
+        &rt,
+        alloc,
+        parts,
+        8,
+        "/compositions/0/ports/0/comSpecs/0/initValue",
+    )?;
+    Ok(())
+}
+
+#[test]
+fn lower_rules_first(rt: HostRuntime) -> Result<(), Fail> {
+    let alloc = rt.alloc();
+    judges(&rt, alloc, A, 0, "")?;
+    let turned =
+        r#""dataTypes":[{"shortName":"T","baseType":"uint16","lower":9,"upper":8,"words":1}]"#;
+    judges(&rt, alloc, [turned, "", "", ""], 6, "/dataTypes/0")?;
+    let named =
+        r#""dataTypes":[{"shortName":"T","baseType":"uint16","lower":9,"upper":8,"words":1}],
+        "interfaces":[{"kind":"ClientServerInterface","shortName":"S","operations":[{"shortName":"op","arguments":[
+          {"shortName":"error","type":"T","direction":"in"}]}]}]"#;
+    judges(&rt, alloc, [named, "", "", ""], 6, "/dataTypes/0")?;
+    let two_words =
+        r#""dataTypes":[{"shortName":"T","baseType":"uint16","lower":8,"upper":9,"words":2}],
+        "interfaces":[{"kind":"ClientServerInterface","shortName":"S","operations":[{"shortName":"op"},{"shortName":"put","arguments":[
+          {"shortName":"a","type":"T","direction":"in"}]}]}]"#;
+    judges(
+        &rt,
+        alloc,
+        [two_words, "", "", ""],
+        7,
+        "/interfaces/0/operations/1",
+    )?;
+    judges(&rt, alloc, ["\"dataTypes\":7", "", "", ""], 2, "/dataTypes")?;
+    judges(&rt, alloc, ["7", "", "", ""], 1, "/")?;
+    Ok(())
+}

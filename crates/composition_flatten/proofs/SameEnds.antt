@@ -1,0 +1,42 @@
+-- Equal spots and equal ends are the same.
+use Rattle.std.proofs.Common.{◌≡◌, true, ap, ◌&&◌, refl, sym, true≢false, eqb}
+use Rattle.std.proofs.lemmas.Bool.{eqb-true, eq-eqb, and_parts, and_from}
+use Rattle.composition_flatten.specs.declared.ends.Spot.{Spot}
+use Rattle.composition_flatten.specs.declared.tree.Owner.{Owner}
+use Rattle.composition_flatten.specs.declared.tree.Owner.TheVariants.{Instance, Environment}
+use Rattle.composition_flatten.specs.declared.tree.PortEnd.{PortEnd}
+use Rattle.composition_flatten.specs.contracts.ends.SpotPartialEq.TheImpl as spot
+use Rattle.composition_flatten.specs.contracts.tree.OwnerPartialEq.TheImpl as owner
+use Rattle.composition_flatten.specs.contracts.tree.PortEndPartialEq.TheImpl as port_end
+use Rattle.composition_flatten.proofs.SameKeys.{three, three_from}
+
+pub same_spot : (x y : Spot) → (spot.eq-value).it x y ≡ true → x ≡ y
+same_spot x y h =
+    let p = three x.composition x.first x.port y.composition y.first y.port h in
+    (λ i. record { composition = p.0 i; first = p.1 i; port = p.2 i })
+
+pub itself_spot : (x : Spot) → (spot.eq-value).it x x ≡ true
+itself_spot x = three_from x.composition x.first x.port
+
+same_owner : (x y : Owner) → (owner.eq-value).it x y ≡ true → x ≡ y
+same_owner (Instance a) (Instance b) h = ap (λ n. Instance n) (eqb-true a b h)
+same_owner (Instance a) Environment h = absurd (true≢false (sym h))
+same_owner Environment (Instance b) h = absurd (true≢false (sym h))
+same_owner Environment Environment h = refl
+
+itself_owner : (x : Owner) → (owner.eq-value).it x x ≡ true
+itself_owner (Instance a) = eq-eqb a a refl
+itself_owner Environment = refl
+
+pub same_end : (x y : PortEnd) → (port_end.eq-value).it x y ≡ true → x ≡ y
+same_end x y h =
+    let p = and_parts ((owner.eq-value).it x.owner y.owner) (eqb x.port y.port && eqb x.interface y.interface) h in
+    let q = and_parts (eqb x.port y.port) (eqb x.interface y.interface) p.1 in
+    let a = same_owner x.owner y.owner p.0 in
+    let b = eqb-true x.port y.port q.0 in
+    let c = eqb-true x.interface y.interface q.1 in
+    (λ i. record { owner = a i; port = b i; interface = c i })
+
+pub itself_end : (x : PortEnd) → (port_end.eq-value).it x x ≡ true
+itself_end x = and_from ((owner.eq-value).it x.owner x.owner) (eqb x.port x.port && eqb x.interface x.interface) (itself_owner x.owner)
+    (and_from (eqb x.port x.port) (eqb x.interface x.interface) (eq-eqb x.port x.port refl) (eq-eqb x.interface x.interface refl))

@@ -1,0 +1,5 @@
+use Rattle.composition_flatten.proofs.Noding.{from_none}
+use Rattle.composition_flatten.proofs.nodes.nodes_of.Goals as goal
+
+pub returns : goal.returns
+returns c = λ x. from_none c.new-nodes.result.items x _ _ c.new-nodes.ensures.items (c.in_ok-list_nodes.ensures x)

@@ -1,0 +1,11 @@
+use Rattle.std.proofs.Common.{take, false}
+use Rattle.composition_flatten.specs.Growing.{AnyOf, Grown}
+use Rattle.composition_flatten.specs.Links.{IsMatched, IsOwn, IsNodeLink}
+use Rattle.composition_flatten.proofs.whole.add_nodes.Given as goal
+
+abbrev pub invariant-loop-node : goal.invariant-loop-node
+invariant-loop-node l = record {
+  matched : IsMatched l.tree.d.now l.matched;
+  own : IsOwn l.tree.d.now l.own;
+  grown : Grown (AnyOf (IsNodeLink l.tree.d.now) (take l.node-index l.nodes)) l.fn.links.keys l.links.keys false;
+}

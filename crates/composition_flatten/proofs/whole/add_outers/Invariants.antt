@@ -1,0 +1,11 @@
+use Rattle.std.proofs.Common.{ℕ, ◌<◌, false}
+use Rattle.composition_flatten.specs.declared.links.Link.{Link}
+use Rattle.composition_flatten.specs.Growing.{Grown}
+use Rattle.composition_flatten.specs.Links.{IsMatched, IsOuterLink}
+use Rattle.composition_flatten.proofs.whole.add_outers.Given as goal
+
+abbrev pub invariant-loop-port : goal.invariant-loop-port
+invariant-loop-port l = record {
+  matched : IsMatched l.tree.d.now l.matched;
+  grown : Grown (λ (x : Link). (k : ℕ) × (k < l.port) × IsOuterLink l.tree.d.now k x) l.fn.links.keys l.links.keys false;
+}

@@ -1,0 +1,31 @@
+//! A description made flat: its component instances, and which of their ports' items are joined.
+#![tactic(auto)]
+
+mod connectors;
+mod containing;
+mod counts;
+mod cross;
+mod delegations;
+mod depth;
+mod ends;
+mod flat;
+mod flattening;
+mod limits;
+mod links;
+mod listing;
+mod matches;
+mod nodes;
+mod own;
+mod prototypes;
+mod ranks;
+mod reach;
+mod starts;
+mod tree;
+mod whole;
+mod wiring;
+
+pub use flat::{End, Flat, Instance, Join};
+pub use flattening::flatten;
+
+#[cfg(test)]
+mod tests;

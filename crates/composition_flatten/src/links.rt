@@ -1,0 +1,35 @@
+//! Sets of links.
+
+ghost use Rattle.std.specs.Prelude.{◌≡◌, IfOk};
+ghost use Rattle.composition_flatten.specs.Growing.{Grown};
+
+use crate::tree::Owner;
+use rte_text::Memory;
+use std::collections::BTreeSet;
+
+/// An item of a port.
+#[derive(Clone, Copy, PartialEq, Eq, PartialOrd, Ord)]
+pub struct Item {
+    pub owner: Owner,
+    pub port: u32,
+    /// The position of the item in the port's interface.
+    pub element: u32,
+}
+
+/// Two items that are joined.
+#[derive(Clone, Copy, PartialEq, Eq, PartialOrd, Ord)]
+pub struct Link {
+    pub provided: Item,
+    pub required: Item,
+}
+
+/// The greatest number of joined pairs.
+pub const LINK_LIMIT: usize = 65_536;
+
+/// Adds a link. The answer is whether there are more of them now than the limit.
+pub fn add_link(links: &mut BTreeSet<Link>, link: Link) -> Result<bool, Memory>
+    ensures { IfOk result (λ is_full. Grown (λ x. x ≡ link) links.old.keys links.new.keys is_full) }
+{
+    links.insert(link)?;
+    Ok(links.len() > LINK_LIMIT)
+}

@@ -1,0 +1,332 @@
+//! All links of a description.
+
+ghost use Rattle.std.specs.Prelude.{◌≡◌, ◌≤◌, ◌<◌, ◌^◌, [], ◌∷◌, ℕ, IfOk, OnOk, Some, length};
+ghost use Rattle.composition_flatten.specs.Connectors.{ports_of};
+ghost use Rattle.composition_flatten.specs.declared.links.Link.{Link};
+ghost use Rattle.composition_flatten.specs.declared.nodes.Node.{Node};
+ghost use Rattle.composition_flatten.specs.Members.{Among};
+ghost use Rattle.composition_flatten.specs.Growing.{AnyOf, Grown};
+ghost use Rattle.composition_flatten.specs.Links.{IsMatched, IsOwn, IsNode, IsNodeLink, IsOuterLink, IsLink, link_from, item_from, owner_from, outer_ends, outer_link};
+ghost use Rattle.composition_flatten.specs.Trees.{IsTree};
+
+use crate::connectors::{interface_of, kind_of, ports_of};
+use crate::counts::DEPTH_LIMIT;
+use crate::cross::{Matched, cross};
+use crate::ends::ends_of;
+use crate::links::{Item, Link, add_link};
+use crate::matches::matches;
+use crate::nodes::{Node, nodes_of};
+use crate::own::add_own;
+use crate::tree::{Owner, PortEnd, Tree};
+use description_types::{PortKind, PrototypeType};
+use rte_text::Memory;
+use std::alloc::{AllocError, Global};
+use std::collections::BTreeSet;
+
+/// The links that a composition's assemblies make, with instances numbered from its first one on. Where there are more
+/// than the limit, some may be missing.
+#[derive(Drop)]
+pub struct Own {
+    pub depth: usize,
+    pub composition: u32,
+    pub links: Vec<Link>,
+    pub is_full: bool,
+}
+
+/// The links of a set, in order.
+pub fn listed(alloc: Global, links: &BTreeSet<Link>) -> Result<Vec<Link>, Memory>
+    ensures { IfOk result (λ list. list.items ≡ links.now.keys) }
+{
+    let mut list = Vec::new(alloc);
+    for link in links {
+        list.push(*link)?;
+    }
+    Ok(list)
+}
+
+fn owner_from(first: u32, owner: Owner) -> Owner
+    ensures { result ≡ owner_from first owner }
+{
+    match owner {
+        Owner::Instance(number) => Owner::Instance(first.saturating_add(number)),
+        Owner::Environment => Owner::Environment,
+    }
+}
+
+fn item_from(first: u32, item: Item) -> Item
+    ensures { result ≡ item_from first item }
+{
+    Item {
+        owner: owner_from(first, item.owner),
+        port: item.port,
+        element: item.element,
+    }
+}
+
+fn link_from(first: u32, link: Link) -> Link
+    ensures { result ≡ link_from first link }
+{
+    Link {
+        provided: item_from(first, link.provided),
+        required: item_from(first, link.required),
+    }
+}
+
+fn add_one_from(first: u32, link: Link, links: &mut BTreeSet<Link>) -> Result<bool, Memory>
+    ensures { IfOk result (λ is_full. Grown (λ x. x ≡ link_from first link) links.old.keys links.new.keys is_full) }
+{
+    let is_full = add_link(links, link_from(first, link))?;
+    Ok(is_full)
+}
+
+fn add_from(first: u32, own: &[Link], links: &mut BTreeSet<Link>) -> Result<bool, Memory>
+    ensures { IfOk result (λ is_full. Grown (AnyOf (λ (y : Link) x. x ≡ link_from first y) own.now) links.old.keys links.new.keys is_full) }
+{
+    for link in own {
+        if add_one_from(first, *link, links)? {
+            return Ok(true);
+        }
+    }
+    Ok(false)
+}
+
+fn own_of(
+    alloc: Global,
+    tree: &Tree,
+    depth: usize,
+    composition: u32,
+    matched: &mut Matched,
+) -> Result<Own, Memory>
+    requires is_tree { IsTree tree.now }
+    requires within { depth ≤ 8 }
+    requires matched { IsMatched tree.now.d.now matched.old }
+    ensures matched { OnOk result (IsMatched tree.now.d.now matched.new) }
+    ensures depth { IfOk result (λ own. own.depth ≡ depth) }
+    ensures composition { IfOk result (λ own. own.composition ≡ composition) }
+    ensures own { IfOk result (λ own. IsOwn tree.now.d.now own) }
+{
+    let mut found = BTreeSet::new(alloc);
+    let is_full = add_own(alloc, tree, depth, composition, matched, &mut found)?;
+    let links = listed(alloc, &found)?;
+    Ok(Own {
+        depth,
+        composition,
+        links,
+        is_full,
+    })
+}
+
+/// Takes the links of a composition, if they are not the last that were taken.
+fn take_own(
+    alloc: Global,
+    tree: &Tree,
+    node: Node,
+    own: &mut Own,
+    matched: &mut Matched,
+) -> Result<(), Memory>
+    requires is_tree { IsTree tree.now }
+    requires within { node.depth ≤ 8 }
+    requires own { IsOwn tree.now.d.now own.old }
+    requires matched { IsMatched tree.now.d.now matched.old }
+    ensures matched { OnOk result (IsMatched tree.now.d.now matched.new) }
+    ensures depth { OnOk result (own.new.depth ≡ node.depth) }
+    ensures composition { OnOk result (own.new.composition ≡ node.composition) }
+    ensures own { OnOk result (IsOwn tree.now.d.now own.new) }
+{
+    if own.depth != node.depth || own.composition != node.composition {
+        *own = own_of(alloc, tree, node.depth, node.composition, matched)?;
+    }
+    Ok(())
+}
+
+/// Adds the links that a composition's assemblies make where it stands. The answer is whether there are more links than
+/// the limit.
+fn add_node(
+    alloc: Global,
+    tree: &Tree,
+    node: Node,
+    own: &mut Own,
+    matched: &mut Matched,
+    links: &mut BTreeSet<Link>,
+) -> Result<bool, Memory>
+    requires is_tree { IsTree tree.now }
+    requires depth { node.depth ≤ 8 }
+    requires first { node.first ≤ 2 ^ 31 }
+    requires own { IsOwn tree.now.d.now own.old }
+    requires matched { IsMatched tree.now.d.now matched.old }
+    ensures matched { OnOk result (IsMatched tree.now.d.now matched.new) }
+    ensures own { OnOk result (IsOwn tree.now.d.now own.new) }
+    ensures grown { IfOk result (λ is_full. Grown (IsNodeLink tree.now.d.now node) links.old.keys links.new.keys is_full) }
+{
+    take_own(alloc, tree, node, own, matched)?;
+    if own.is_full {
+        return Ok(true);
+    }
+    let is_full = add_from(node.first, own.links.as_slice(), links)?;
+    Ok(is_full)
+}
+
+fn add_nodes(
+    alloc: Global,
+    tree: &Tree,
+    nodes: &[Node],
+    matched: &mut Matched,
+    links: &mut BTreeSet<Link>,
+) -> Result<bool, Memory>
+    requires is_tree { IsTree tree.now }
+    requires within { (x : Node) → Among x nodes.now → (x.depth ≤ 8) × (x.first ≤ 2 ^ 31) }
+    requires matched { IsMatched tree.now.d.now matched.old }
+    ensures matched { OnOk result (IsMatched tree.now.d.now matched.new) }
+    ensures grown { IfOk result (λ is_full. Grown (AnyOf (IsNodeLink tree.now.d.now) nodes.now) links.old.keys links.new.keys is_full) }
+{
+    let mut own = own_of(alloc, tree, 0, tree.d.root, matched)?;
+    for node in nodes {
+        if add_node(alloc, tree, *node, &mut own, matched, links)? {
+            return Ok(true);
+        }
+    }
+    Ok(false)
+}
+
+fn outer_ends(alloc: Global, interface: Option<u32>, port: u32) -> Result<Vec<PortEnd>, Memory>
+    ensures { IfOk result (λ ends. ends.items ≡ outer_ends interface port) }
+{
+    let mut ends = Vec::new(alloc);
+    if let Some(interface) = interface {
+        let owner = Owner::Environment;
+        ends.push(PortEnd {
+            owner,
+            port,
+            interface,
+        })?;
+    }
+    Ok(ends)
+}
+
+fn add_by_kind(
+    alloc: Global,
+    tree: &Tree,
+    kind: PortKind,
+    own: &[PortEnd],
+    inner: &[PortEnd],
+    matched: &mut Matched,
+    links: &mut BTreeSet<Link>,
+) -> Result<bool, Memory>
+    requires { IsMatched tree.now.d.now matched.old }
+    ensures matched { OnOk result (IsMatched tree.now.d.now matched.new) }
+    ensures grown { IfOk result (λ is_full. Grown (outer_link (Some kind) tree.now.d.now own.now inner.now) links.old.keys links.new.keys is_full) }
+{
+    match kind {
+        PortKind::Required => {
+            let is_full = cross(alloc, tree.d, own, inner, matched, links)?;
+            Ok(is_full)
+        }
+        PortKind::Provided => {
+            let is_full = cross(alloc, tree.d, inner, own, matched, links)?;
+            Ok(is_full)
+        }
+    }
+}
+
+fn add_between(
+    alloc: Global,
+    tree: &Tree,
+    kind: Option<PortKind>,
+    own: &[PortEnd],
+    inner: &[PortEnd],
+    matched: &mut Matched,
+    links: &mut BTreeSet<Link>,
+) -> Result<bool, Memory>
+    requires { IsMatched tree.now.d.now matched.old }
+    ensures matched { OnOk result (IsMatched tree.now.d.now matched.new) }
+    ensures grown { IfOk result (λ is_full. Grown (outer_link kind tree.now.d.now own.now inner.now) links.old.keys links.new.keys is_full) }
+{
+    match kind {
+        Some(kind) => {
+            let is_full = add_by_kind(alloc, tree, kind, own, inner, matched, links)?;
+            Ok(is_full)
+        }
+        None => Ok(false),
+    }
+}
+
+/// Adds the links of a port of the root, the environment's.
+fn add_outer(
+    alloc: Global,
+    tree: &Tree,
+    port: u32,
+    matched: &mut Matched,
+    links: &mut BTreeSet<Link>,
+) -> Result<bool, Memory>
+    requires is_tree { IsTree tree.now }
+    requires matched { IsMatched tree.now.d.now matched.old }
+    ensures matched { OnOk result (IsMatched tree.now.d.now matched.new) }
+    ensures grown { IfOk result (λ is_full. Grown (IsOuterLink tree.now.d.now port) links.old.keys links.new.keys is_full) }
+{
+    let root = PrototypeType::Composition(tree.d.root);
+    let own = outer_ends(alloc, interface_of(tree.d, root, port), port)?;
+    let inner = ends_of(alloc, tree, DEPTH_LIMIT, root, 0, port)?;
+    let kind = kind_of(tree.d, root, port);
+    let is_full = add_between(
+        alloc,
+        tree,
+        kind,
+        own.as_slice(),
+        inner.as_slice(),
+        matched,
+        links,
+    )?;
+    Ok(is_full)
+}
+
+fn outer_count(tree: &Tree) -> Result<u32, Memory>
+    ensures { IfOk result (λ count. count ≡ length (ports_of tree.now.d.now (PrototypeType.Composition tree.now.d.now.root))) }
+{
+    let root = PrototypeType::Composition(tree.d.root);
+    u32::try_from(ports_of(tree.d, root).len()).map_err(|_| AllocError)
+}
+
+/// Adds the links of all ports of the root.
+fn add_outers(
+    alloc: Global,
+    tree: &Tree,
+    matched: &mut Matched,
+    links: &mut BTreeSet<Link>,
+) -> Result<bool, Memory>
+    requires is_tree { IsTree tree.now }
+    requires matched { IsMatched tree.now.d.now matched.old }
+    ensures { IfOk result (λ is_full. Grown (λ (x : Link). (port : ℕ) × IsOuterLink tree.now.d.now port x) links.old.keys links.new.keys is_full) }
+{
+    for port in 0..outer_count(tree)? {
+        if add_outer(alloc, tree, port, matched, links)? {
+            return Ok(true);
+        }
+    }
+    Ok(false)
+}
+
+fn first_matched(alloc: Global, tree: &Tree) -> Result<Matched, Memory>
+    ensures { IfOk result (λ matched. IsMatched tree.now.d.now matched) }
+{
+    let pairs = matches(alloc, tree.d, 0, 0)?;
+    Ok(Matched {
+        provided: 0,
+        required: 0,
+        pairs,
+    })
+}
+
+/// Adds all links of a description. The answer is whether there are more of them than the limit; then the rest may be
+/// missing.
+pub fn add_links(alloc: Global, tree: &Tree, links: &mut BTreeSet<Link>) -> Result<bool, Memory>
+    requires { IsTree tree.now }
+    ensures { IfOk result (λ is_full. Grown (IsLink tree.now.d.now) links.old.keys links.new.keys is_full) }
+{
+    let mut matched = first_matched(alloc, tree)?;
+    let nodes = nodes_of(alloc, tree)?;
+    if add_nodes(alloc, tree, nodes.as_slice(), &mut matched, links)? {
+        return Ok(true);
+    }
+    let is_full = add_outers(alloc, tree, &mut matched, links)?;
+    Ok(is_full)
+}

@@ -1,0 +1,22 @@
+-- One more name, before those that have been placed.
+use Rattle.std.proofs.Common.{◌≡◌, ℕ, ◌+◌, ◌<◌, Bool, true, false, cond, List, bytes_eq, map, drop, length, get_or, Option, Some, unwrap_or, Bor, sym, ap, ◌∙◌, arith}
+use Rattle.std.proofs.lemmas.List.{at_drop_more}
+use Rattle.std.proofs.lemmas.Map.Text.{hash_map_updates_str}
+use Rattle.std.specs.HashMap.{HashMap, UpdatesBy, get_by}
+use Rattle.declared_names.specs.Names.{position_in, text_of}
+
+chosen : (same : Bool) (rest : Option ℕ) (count j left : ℕ) → unwrap_or rest count ≡ (j + 1) + left → unwrap_or (cond same (Some j) rest) count ≡ j + cond same 0 (1 + left)
+chosen true rest count j left h = omega arith
+chosen false rest count j left h = omega arith
+
+pub placed : {S : Type 0} (names : List (Bor (List ℕ))) (j : ℕ) (name : Bor (List ℕ)) (m n : HashMap (Bor (List ℕ)) ℕ S) (count : ℕ) → j < length names → name.now ≡ (get_or names j name).now
+    → UpdatesBy (λ x y. bytes_eq x.now y.now) (λ k. bytes_eq name.now k.now) m n (Some j)
+    → ((q : List ℕ) → unwrap_or (get_by (λ k. bytes_eq q k.now) m) count ≡ (j + 1) + position_in (map text_of (drop (j + 1) names)) q)
+    → (q : List ℕ) → unwrap_or (get_by (λ k. bytes_eq q k.now) n) count ≡ j + position_in (map text_of (drop j names)) q
+placed names j name m n count h is put before q =
+    let found = hash_map_updates_str name.now m n (Some j) put q in
+    let left = at_drop_more (λ ns. position_in (map text_of ns) q) names j name h in
+    ap (λ r. unwrap_or r count) found
+    ∙ chosen (bytes_eq name.now q) (get_by (λ k. bytes_eq q k.now) m) count j (position_in (map text_of (drop (j + 1) names)) q) (before q)
+    ∙ ap (λ t. j + cond (bytes_eq t q) 0 (1 + position_in (map text_of (drop (j + 1) names)) q)) is
+    ∙ ap (λ p. j + p) (sym left)

@@ -1,0 +1,4 @@
+pub mod Values
+pub mod Names
+pub mod Scopes
+pub mod Components

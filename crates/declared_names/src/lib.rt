@@ -1,0 +1,24 @@
+//! What the names of a description mean: the lists that declare them, and where a name stands in its list.
+//!
+//! `scope_of` gathers the names of a description's types, interfaces, components and compositions, `component_names` those
+//! of one component. A name stands at the position of the first item of this name, and at the number of items where none
+//! has it. Names are looked up by hash, in maps that are built once for each list that declares them. Beside them stands
+//! what is taken from a JSON value: a key that is missing or of another kind counts as empty, zero or false.
+#![tactic(auto)]
+
+mod in_component;
+mod names;
+mod scopes;
+mod values;
+
+pub use in_component::{ComponentNames, InComponent, component_names};
+pub use names::{Positions, find_at, short_names, texts};
+pub use scopes::{
+    InterfaceNames, PrototypeNames, Scope, TypeNames, interface_names, prototype_names, scope_of,
+    type_names,
+};
+pub use values::{
+    copy_at, flag_at, item, items_at, items_in, items_of_part, number_at, number_of_part,
+    small_number_at, text_at, text_at_in, text_in, text_of_part, text_of_part_at, value_at,
+    word_at, word_in,
+};

@@ -1,0 +1,112 @@
+//! Names, and where they stand.
+
+ghost use Rattle.std.specs.Prelude.{◌≡◌, IfOk, length, map};
+ghost use Rattle.serde_json.specs.View.{view};
+ghost use Rattle.declared_names.specs.Names.{position_at, position_in, short_names, text_of, texts};
+
+use crate::values::{text_at, text_in};
+use indexmap::IndexMap;
+use rte_text::Memory;
+use serde_json::Value;
+use std::alloc::{AllocError, Global};
+use std::marker::Model;
+
+/// The names of a list, with where each stands.
+#[derive(Drop)]
+pub struct Positions<'a> {
+    names: Vec<&'a str>,
+    places: IndexMap<&'a str, u32>,
+    count: u32,
+}
+
+impl<'a> Model for Positions<'a> {
+    ghost use Rattle.std.specs.Prelude.{◌≡◌, ℕ, List, bytes_eq, length, map, unwrap_or};
+    ghost use Rattle.indexmap.specs.IndexMap.{get_by};
+    ghost use Rattle.declared_names.specs.Names.{position_at, position_in, text_of};
+
+    ghost Value = { List (List ℕ) };
+
+    ghost view = { λ p. map text_of p.names.items };
+
+    ghost invariant = { λ p. (p.count ≡ length (map text_of p.names.items))
+        × ((name : List ℕ) → unwrap_or (get_by (λ k. bytes_eq name k.now) p.places) p.count ≡ position_in (map text_of p.names.items) name) };
+}
+
+impl<'a> Positions<'a> {
+    /// The positions of these names, the first one's where a name is doubled.
+    pub fn of(alloc: Global, names: Vec<&'a str>) -> Result<Positions<'a>, Memory>
+        ensures { IfOk result (λ p. p ≡ map text_of names.entry.items) }
+    {
+        let count = match u32::try_from(names.len()) {
+            Ok(count) => count,
+            Err(_) => return Err(AllocError),
+        };
+        let mut places = IndexMap::new(alloc);
+        let mut left = names.len();
+        while left > 0 {
+            left -= 1;
+            places.insert(names[left], left as u32)?;
+        }
+        Ok(Positions {
+            names,
+            places,
+            count,
+        })
+    }
+
+    /// The names.
+    pub fn names(&self) -> &[&'a str]
+        ensures { map text_of result.now ≡ self.now }
+    {
+        self.names.as_slice()
+    }
+
+    /// How many names there are.
+    pub fn count(&self) -> u32
+        ensures { result ≡ length self.now }
+    {
+        self.count
+    }
+
+    /// Where the name stands, and how many names there are where it is none of them.
+    pub fn find(&self, name: &str) -> u32
+        ensures { result ≡ position_in self.now name.now }
+    {
+        match self.places.get(name) {
+            Some(position) => *position,
+            None => self.count,
+        }
+    }
+}
+
+/// Where the name stands in the list of this position, and 0 where there is no such list.
+pub fn find_at(lists: &[Positions], position: u32, name: &str) -> u32
+    ensures { result ≡ position_at lists.now position name.now }
+{
+    match lists.get(position as usize) {
+        Some(names) => names.find(name),
+        None => 0,
+    }
+}
+
+/// The short names of what is declared in a list.
+pub fn short_names<'a>(alloc: Global, values: &'a [Value]) -> Result<Vec<&'a str>, Memory>
+    ensures { IfOk result (λ names. map text_of names.items ≡ short_names (map view values.now)) }
+{
+    let mut names = Vec::new(alloc);
+    for value in values {
+        names.push(text_at(value, "shortName"))?;
+    }
+    Ok(names)
+}
+
+/// The texts of a list of them.
+pub fn texts<'a>(alloc: Global, values: &'a [Value]) -> Result<Vec<&'a str>, Memory>
+    ensures { IfOk result (λ names. map text_of names.items ≡ texts (map view values.now)) }
+{
+    let mut names = Vec::new(alloc);
+    for value in values {
+        names.push(text_in(value))?;
+    }
+    Ok(names)
+}

@@ -1,0 +1,18 @@
+//! The typed description: what `component_model` reads, and what every later stage looks at.
+//!
+//! What refers to something by its name holds a position: that of the first item of this name in the list that declares
+//! it. Each list stands in declared order, so positions give the JSON pointer of everything. A key that may be missing is
+//! an `Option` or has its default.
+#![tactic(auto)]
+
+mod component;
+mod description;
+
+pub use component::{
+    Access, Behavior, Component, DisabledInModes, Event, EventKind, ModeActivation, Port, PortKind,
+    Runnable, Variable,
+};
+pub use description::{
+    Composition, Connector, Description, InnerPort, MappedEvent, Prototype, PrototypeType, Task,
+    TaskMapping,
+};

@@ -1,0 +1,4 @@
+mod Added
+mod Kept
+mod Meanings
+mod Parts

@@ -1,0 +1,11 @@
+use Rattle.std.proofs.Common.{◌≡◌, drop}
+use Rattle.description_places.specs.Forms.{form_of}
+use Rattle.description_places.specs.Visits.{part_of}
+use Rattle.serde_json.specs.View.{items_view}
+use Rattle.program_reading.specs.Variables.{all_added, among_parts, in_parts, names_in_each}
+use Rattle.component_model.proofs.variables.+names.Given as goal
+
+abbrev pub invariant-add_in_parts-loop-part : goal.invariant-add_in_parts-loop-part
+invariant-add_in_parts-loop-part l =
+    all_added l.vars (among_parts (part_of (form_of l.kind) l.kind) l.part (names_in_each (items_view (drop l.part l.parts))))
+    ≡ all_added l.initial.vars (in_parts l.kind (names_in_each (items_view l.parts)))
