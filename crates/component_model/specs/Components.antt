@@ -1,5 +1,5 @@
 -- What components are read as, but for the programs of their runnables.
-use Rattle.std.specs.Prelude.{ℕ, ◌^◌, List, map, slice_get, bytes_eq, codes, if◌then◌else◌, Option, Some, None, option_map}
+use Rattle.std.specs.Prelude.{ℕ, ◌^◌, List, map, bytes_eq, codes, if◌then◌else◌, option_map}
 use Rattle.serde_json.specs.Data.{Data}
 use Rattle.serde_json.specs.Find.{get}
 use Rattle.runnable_lang.specs.declared.program.AccessKind.{AccessKind}
@@ -15,11 +15,10 @@ use Rattle.description_types.specs.declared.component.Variable.{Variable}
 use Rattle.declared_names.specs.declared.in_component.ComponentNames.{ComponentNames}
 use Rattle.declared_names.specs.declared.scopes.InterfaceNames.{InterfaceNames}
 use Rattle.declared_names.specs.declared.scopes.TypeNames.{TypeNames}
-use Rattle.declared_names.specs.Names.{Names, position_at, position_in, short_names, texts}
-use Rattle.declared_names.specs.Components.{interface_of_port}
-use Rattle.component_model.specs.Ports.{init_value_reading}
-use Rattle.declared_names.specs.Scopes.{port_names}
+use Rattle.declared_names.specs.Components.{item_in, mode_in}
+use Rattle.declared_names.specs.Names.{position_in}
 use Rattle.declared_names.specs.Values.{items_at, number_at, text_at, text_in, text_of_part, text_of_part_at}
+use Rattle.component_model.specs.Ports.{init_value_reading}
 use Rattle.program_reading.specs.Words.{access_kind_of}
 
 -- a variable (VariableDataPrototype, an inter-runnable variable)

@@ -7,7 +7,8 @@ use Rattle.description_types.specs.declared.component.Port.{Port}
 use Rattle.description_types.specs.declared.component.PortKind.{PortKind}
 use Rattle.description_types.specs.declared.component.PortKind.TheVariants.{Provided, Required}
 use Rattle.declared_names.specs.declared.scopes.InterfaceNames.{InterfaceNames}
-use Rattle.declared_names.specs.Names.{Names, position_at, position_in}
+use Rattle.declared_names.specs.Components.{interface_of_port}
+use Rattle.declared_names.specs.Names.{Names, position_at}
 use Rattle.declared_names.specs.Values.{flag_at, items_at, items_in, number_at, text_at, word_in}
 
 -- the initial value of a com spec or variable, where there is one

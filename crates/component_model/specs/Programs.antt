@@ -1,5 +1,5 @@
 -- What the programs of runnables are read as, and the components that hold them.
-use Rattle.std.specs.Prelude.{ℕ, List, [], ◌∷◌, ◌++◌, map, filter, length, slice_get, slice_index_or, Bool, bytes_eq, codes, Option, Some, None, unwrap_or}
+use Rattle.std.specs.Prelude.{ℕ, List, [], ◌∷◌, ◌++◌, map, filter, slice_get, slice_index_or, Bool, bytes_eq, codes, Option, Some, None, unwrap_or}
 use Rattle.serde_json.specs.Data.{Data, null}
 use Rattle.serde_json.specs.Find.{get}
 use Rattle.runnable_lang.specs.Trees.{ProgramTree, program_tree}
@@ -15,12 +15,11 @@ use Rattle.declared_names.specs.declared.scopes.InterfaceNames.{InterfaceNames}
 use Rattle.declared_names.specs.declared.scopes.Scope.{Scope}
 use Rattle.declared_names.specs.declared.scopes.TypeNames.{TypeNames}
 use Rattle.declared_names.specs.Components.{component_names}
-use Rattle.component_model.specs.Components.{access_reading, event_reading, item_of_event, port_of_event, variable_reading}
 use Rattle.declared_names.specs.Names.{Names, position_in, texts}
-use Rattle.component_model.specs.Ports.{port_reading}
-use Rattle.program_reading.specs.Statements.{block}
 use Rattle.declared_names.specs.Values.{flag_at, items_at, text_at}
-use Rattle.program_reading.specs.Variables.{variables_of}
+use Rattle.program_reading.specs.Programs.{program_reading}
+use Rattle.component_model.specs.Components.{access_reading, event_reading, item_of_event, port_of_event, variable_reading}
+use Rattle.component_model.specs.Ports.{port_reading}
 
 -- A runnable, a behavior and a component with its programs as trees; all else as it stands.
 pub record RunnableTree : Type 0 where

@@ -5,14 +5,12 @@
 //! by `interface_types`, and rule 8 here: an initial value of a data element or variable has as many words as its type,
 //! each within its limits. It is judged on every port and side, used or not; the place is the initial value.
 //!
-//! What refers to something by its name holds a position: that of the first item of this name in the list that declares
-//! it, and the number of items there where none has it. Each list stands in declared order, so positions give the JSON
-//! pointer of everything. A key that may be missing is an `Option` or has its default. The variables of a program are
-//! numbered by their first place in its text; in a server, after the arguments of its operation and `error`.
+//! What refers to something by its name holds the position of the item of this name in the list that declares it
+//! (`declared_names`); programs are read by `program_reading`, and in a server the program's first variables are the
+//! arguments of its operation and `error`. The typed values are those of `description_types`.
 //!
 //! A reading is there for every value (`specs/Descriptions.antt`), with defaults where the rules leave nothing to be read.
-//! Names are looked up by hash, in maps that are built once for each list that declares them, so reading grows linearly
-//! with the file.
+//! Each name is looked up by hash, so reading grows linearly with the file.
 #![tactic(auto)]
 
 mod behavior_reading;

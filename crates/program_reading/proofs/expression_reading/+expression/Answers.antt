@@ -1,7 +1,7 @@
 use Rattle.std.proofs.Common.{rules, arith}
 use Rattle.runnable_lang.specs.declared.stmt.Expr.{the_lemmas}
 use Rattle.program_reading.proofs.Parts.{expr_there, expr_past}
-use Rattle.component_model.proofs.expression_reading.+expression.Goals as goal
+use Rattle.program_reading.proofs.expression_reading.+expression.Goals as goal
 
 pub read_part-returns-then-part-parts : goal.read_part-returns-then-part-parts
 read_part-returns-then-part-parts t c =

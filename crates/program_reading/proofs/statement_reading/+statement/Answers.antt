@@ -6,7 +6,7 @@ use Rattle.serde_json.proofs.Views.{view-Array}
 use Rattle.program_reading.specs.Statements.{block, context_of}
 use Rattle.program_reading.proofs.Kept.{kept}
 use Rattle.program_reading.proofs.Parts.{body_there, body_past, stmts_are}
-use Rattle.component_model.proofs.statement_reading.+statement.Goals as goal
+use Rattle.program_reading.proofs.statement_reading.+statement.Goals as goal
 
 pub read_part-returns-then-part-parts : goal.read_part-returns-then-part-parts
 read_part-returns-then-part-parts t c =

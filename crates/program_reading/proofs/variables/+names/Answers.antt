@@ -1,7 +1,7 @@
 use Rattle.description_places.specs.Forms.{form_of}
 use Rattle.description_places.specs.Visits.{part_of}
 use Rattle.program_reading.proofs.Added.{part_added}
-use Rattle.component_model.proofs.variables.+names.Goals as goal
+use Rattle.program_reading.proofs.variables.+names.Goals as goal
 
 pub add_in_parts-loop-part-preserved : goal.add_in_parts-loop-part-preserved
 add_in_parts-loop-part-preserved t c =

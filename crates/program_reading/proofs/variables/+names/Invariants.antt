@@ -3,7 +3,7 @@ use Rattle.description_places.specs.Forms.{form_of}
 use Rattle.description_places.specs.Visits.{part_of}
 use Rattle.serde_json.specs.View.{items_view}
 use Rattle.program_reading.specs.Variables.{all_added, among_parts, in_parts, names_in_each}
-use Rattle.component_model.proofs.variables.+names.Given as goal
+use Rattle.program_reading.proofs.variables.+names.Given as goal
 
 abbrev pub invariant-add_in_parts-loop-part : goal.invariant-add_in_parts-loop-part
 invariant-add_in_parts-loop-part l =

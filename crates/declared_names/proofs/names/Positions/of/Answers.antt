@@ -2,7 +2,7 @@ use Rattle.std.proofs.Common.{◌≡◌, ℕ, ◌+◌, ◌-◌, List, bytes_eq, 
 use Rattle.indexmap.specs.IndexMap.{get_by}
 use Rattle.declared_names.specs.Names.{position_in, text_of}
 use Rattle.declared_names.proofs.Placed.{placed}
-use Rattle.component_model.proofs.names.Positions.of.Goals as goal
+use Rattle.declared_names.proofs.names.Positions.of.Goals as goal
 
 pub loop-left-preserved : goal.loop-left-preserved
 loop-left-preserved c =

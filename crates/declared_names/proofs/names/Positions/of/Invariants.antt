@@ -1,7 +1,7 @@
 use Rattle.std.proofs.Common.{◌≡◌, ℕ, ◌+◌, ◌≤◌, List, bytes_eq, map, drop, length, unwrap_or}
 use Rattle.indexmap.specs.IndexMap.{get_by}
 use Rattle.declared_names.specs.Names.{position_in, text_of}
-use Rattle.component_model.proofs.names.Positions.of.Given as goal
+use Rattle.declared_names.proofs.names.Positions.of.Given as goal
 
 abbrev pub invariant-loop-left : goal.invariant-loop-left
 invariant-loop-left l = record {

@@ -1,7 +1,7 @@
 use Rattle.std.proofs.Common.{refl, ap, ◌∙◌}
 use Rattle.program_reading.specs.Variables.{added}
 use Rattle.program_reading.proofs.Added.{one_added}
-use Rattle.component_model.proofs.variables.Variables.add.Goals as goal
+use Rattle.program_reading.proofs.variables.Variables.add.Goals as goal
 
 pub returns : goal.returns
 returns c =

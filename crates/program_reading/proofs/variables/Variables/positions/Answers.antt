@@ -1,6 +1,6 @@
 use Rattle.std.proofs.Common.{◌<◌, length, arith}
 use Rattle.program_reading.proofs.Added.{name_copied}
-use Rattle.component_model.proofs.variables.Variables.positions.Goals as goal
+use Rattle.program_reading.proofs.variables.Variables.positions.Goals as goal
 
 pub loop-number-preserved : goal.loop-number-preserved
 loop-number-preserved c =
