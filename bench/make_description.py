@@ -3,12 +3,16 @@
 
     make_description.py MEBIBYTES [BREAK]
 
-It breaks none of the rules that are judged today (1 to 5), and has every kind of object, access and statement. With BREAK
-the last name of the file refers to nothing, so that each rule is looked at to the end of the file.
+It breaks none of the rules that are judged today (1 to 15), and has every kind of object, access and statement. At most
+1,000 instances of its components stand below the root, since a description may have 1,024. With BREAK the last name of the
+file refers to nothing, so that each rule of names is looked at to the end of the file.
 """
 
 import json
 import sys
+
+# The compositions of two components each that stand below the root.
+PAIRS = 500
 
 
 def data_type(n):
@@ -156,6 +160,9 @@ def composition(n):
         "prototypes": [{"shortName": "first", "type": f"Component{n}"}, {"shortName": "second", "type": f"Component{n}"}],
         "connectors": [
             {"kind": "AssemblySwConnector", "provider": ["first", "out"], "requester": ["second", "in"]},
+            {"kind": "AssemblySwConnector", "provider": ["first", "serves"], "requester": ["second", "calls"]},
+            {"kind": "AssemblySwConnector", "provider": ["first", "switches"], "requester": ["second", "modes"]},
+            {"kind": "AssemblySwConnector", "provider": ["second", "switches"], "requester": ["first", "modes"]},
             {"kind": "DelegationSwConnector", "inner": ["second", "out"], "outer": "outer"},
         ],
     }
@@ -167,7 +174,8 @@ def mapped(n):
 
 def description(count):
     numbers = range(count)
-    top = {"shortName": "Top", "prototypes": [{"shortName": f"c{n}", "type": f"Composition{n}"} for n in numbers]}
+    used = numbers[:PAIRS]
+    top = {"shortName": "Top", "prototypes": [{"shortName": f"c{n}", "type": f"Composition{n}"} for n in used]}
     return {
         "dataTypes": [data_type(n) for n in numbers],
         "modeGroups": [mode_group(n) for n in numbers],
@@ -178,7 +186,7 @@ def description(count):
         "mapping": {
             "cores": 4,
             "tasks": [{"shortName": f"Task{n}", "core": n % 4} for n in range(256)],
-            "events": [mapped(n) for n in numbers],
+            "events": [mapped(n) for n in used],
         },
     }
 

@@ -1,11 +1,20 @@
 use super::texts::{A, whole};
 use crate::read_description;
-use rte_text::Refused;
+use rte_text::{Refused, Text};
 use std::alloc::Global;
 use std::process::Abort;
 use std::test::Fail;
 
-// The rule that a text breaks, with its place, or 0.
+// The rule that a description breaks, with its place, or 0 at no place.
+fn judged(alloc: Global, parts: [&str; 4]) -> Result<(u16, Text), Refused> {
+    let text = whole(alloc, parts)?;
+    match read_description(alloc, text.as_bytes()) {
+        Ok(_) => Ok((0, Text::new(alloc, b"")?)),
+        Err(Refused::Rule(refusal)) => Ok((refusal.rule, refusal.place)),
+        Err(Refused::Memory) => Err(Refused::Memory),
+    }
+}
+
 fn judges(
     rt: &impl Abort,
     alloc: Global,
@@ -13,15 +22,9 @@ fn judges(
     rule: u16,
     place: &str,
 ) -> Result<(), Fail> {
-    let text = whole(alloc, parts)?;
-    match read_description(alloc, text.as_bytes()) {
-        Ok(_) => assert_eq!(rt; 0, rule),
-        Err(Refused::Rule(refusal)) => {
-            assert_eq!(rt; refusal.rule, rule);
-            assert_eq!(rt; refusal.place.bytes(), place.as_bytes());
-        }
-        Err(Refused::Memory) => assert!(rt; false, "no memory"),
-    }
+    let answer = judged(alloc, parts)?;
+    assert_eq!(rt; answer.0, rule);
+    assert_eq!(rt; answer.1.bytes(), place.as_bytes());
     Ok(())
 }
 
