@@ -34,53 +34,45 @@ const TYPES: &str =
       {"shortName":"v","type":"T","swImplPolicy":"standard"}]},
      {"kind":"ClientServerInterface","shortName":"S","operations":[{"shortName":"op"}]}]"#;
 
-fn with_port(alloc: Global, init: &str) -> Result<String, Fail> {
+// A component with a server port, which has no data, and a data port and a variable with these initial values.
+fn component(alloc: Global, of_port: &str, of_variable: &str) -> Result<String, Fail> {
     let mut text = String::from_str(
         alloc,
         r#"{"shortName":"C","ports":[{"kind":"PPortPrototype","shortName":"s","interface":"S",
             "comSpecs":[{"element":"op","initValue":[]}]},
            {"kind":"PPortPrototype","shortName":"o","interface":"I","comSpecs":[{"element":"v""#,
     )?;
-    text.push_str(init)?;
+    text.push_str(of_port)?;
     text.push_str(r#"}]}],"behavior":{"variables":[{"shortName":"n","type":"T""#)?;
+    text.push_str(of_variable)?;
+    text.push_str("}]}}")?;
     Ok(text)
 }
+
+const OF_PORT: &str = "/components/0/ports/1/comSpecs/0/initValue";
+
+const OF_VARIABLE: &str = "/components/0/behavior/variables/0/initValue";
 
 // The initial value of a data element on an unused side, that of a variable, and that of a port of a composition.
 #[test]
 fn initial_values(rt: HostRuntime) -> Result<(), Fail> {
     let alloc = rt.alloc();
-    let cases = [
-        ("", 0),
-        (r#","initValue":[2,8]"#, 0),
-        (r#","initValue":[2]"#, 8),
-        (r#","initValue":[2,8,2]"#, 8),
-        (r#","initValue":[1,8]"#, 8),
-        (r#","initValue":[2,9]"#, 8),
-        (r#","initValue":[]"#, 8),
+    for init in ["", r#","initValue":[2,8]"#] {
+        let both = component(alloc, init, init)?;
+        judges(&rt, alloc, [TYPES, both.as_str(), "", ""], 0, "")?;
+    }
+    let broken = [
+        r#","initValue":[2]"#,
+        r#","initValue":[2,8,2]"#,
+        r#","initValue":[1,8]"#,
+        r#","initValue":[2,9]"#,
+        r#","initValue":[]"#,
     ];
-    for (init, rule) in cases {
-        let mut text = with_port(alloc, init)?;
-        text.push_str("}]}}")?;
-        let parts = [TYPES, text.as_str(), "", ""];
-        judges(
-            &rt,
-            alloc,
-            parts,
-            rule,
-            "/components/0/ports/1/comSpecs/0/initValue",
-        )?;
-        let mut text = with_port(alloc, "")?;
-        text.push_str(init)?;
-        text.push_str("}]}}")?;
-        let parts = [TYPES, text.as_str(), "", ""];
-        judges(
-            &rt,
-            alloc,
-            parts,
-            rule,
-            "/components/0/behavior/variables/0/initValue",
-        )?;
+    for init in broken {
+        let both = component(alloc, init, init)?;
+        judges(&rt, alloc, [TYPES, both.as_str(), "", ""], 8, OF_PORT)?;
+        let one = component(alloc, "", init)?;
+        judges(&rt, alloc, [TYPES, one.as_str(), "", ""], 8, OF_VARIABLE)?;
     }
     let top =
         r#","ports":[{"kind":"RPortPrototype","shortName":"i","interface":"I","comSpecs":[{"element":"v","initValue":[3]}]}]"#;
