@@ -59,7 +59,8 @@ fn initial_values(rt: HostRuntime) -> Result<(), Fail> {
     let alloc = rt.alloc();
     for init in ["", r#","initValue":[2,8]"#] {
         let both = component(alloc, init, init)?;
-        judges(&rt, alloc, [TYPES, both.as_str(), "", ""], 0, "")?;
+        let parts = [TYPES, both.as_str(), "", ""];
+        judges(&rt, alloc, parts, 0, "")?;
     }
     let broken = [
         r#","initValue":[2]"#,
@@ -70,9 +71,11 @@ fn initial_values(rt: HostRuntime) -> Result<(), Fail> {
     ];
     for init in broken {
         let both = component(alloc, init, init)?;
-        judges(&rt, alloc, [TYPES, both.as_str(), "", ""], 8, OF_PORT)?;
+        let parts = [TYPES, both.as_str(), "", ""];
+        judges(&rt, alloc, parts, 8, OF_PORT)?;
         let one = component(alloc, "", init)?;
-        judges(&rt, alloc, [TYPES, one.as_str(), "", ""], 8, OF_VARIABLE)?;
+        let parts = [TYPES, one.as_str(), "", ""];
+        judges(&rt, alloc, parts, 8, OF_VARIABLE)?;
     }
     let top =
         r#","ports":[{"kind":"RPortPrototype","shortName":"i","interface":"I","comSpecs":[{"element":"v","initValue":[3]}]}]"#;
