@@ -7,7 +7,6 @@ use Rattle.description_types.specs.declared.description.Connector.{Connector}
 use Rattle.description_types.specs.declared.description.Connector.TheVariants.{Assembly, Delegation}
 use Rattle.description_types.specs.declared.description.Description.{Description}
 use Rattle.description_types.specs.declared.description.PrototypeType.TheVariants.{Composition}
-use Rattle.composition_flatten.specs.declared.cross.Matched.{Matched}
 use Rattle.composition_flatten.specs.declared.links.Item.{Item}
 use Rattle.composition_flatten.specs.declared.links.Link.{Link}
 use Rattle.composition_flatten.specs.declared.nodes.Node.{Node}
@@ -29,10 +28,6 @@ item_of e i = record { owner = e.owner; port = e.port; element = i }
 -- the link of two items of a provided and a required port
 abbrev pub link_of : PortEnd → PortEnd → ℕ × ℕ → Link
 link_of p r items = record { provided = item_of p items.0; required = item_of r items.1 }
-
--- the items i and j of the two interfaces are joined exactly where the pairs have them
-abbrev pub IsMatched : Description → Matched → Type 0
-IsMatched d m = (i j : ℕ) → Among (i, j) m.pairs.items ↔ ItemsJoin (interface_at d m.provided) (interface_at d m.required) i j
 
 -- a link of two ports
 abbrev pub IsPairLink : Description → PortEnd → PortEnd → Link → Type 0
