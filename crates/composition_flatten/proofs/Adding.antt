@@ -1,5 +1,5 @@
 -- One more value under a key of a map.
-use Rattle.std.proofs.Common.{◌≡◌, List, [], ◌∷◌, ◌++◌, Bool, true, false, cond, IsTrue, Option, Some, None, Vec, ◌⊎◌, inl, inr, ⊎_elim, ◌↔◌, refl, sym, ap, subst, ◌∙◌, true≢false}
+use Rattle.std.proofs.Common.{◌≡◌, List, [], ◌∷◌, ◌++◌, Bool, true, false, cond, IsTrue, Some, None, Vec, ◌⊎◌, inl, inr, ⊎_elim, ◌↔◌, refl, sym, ap, subst, ◌∙◌, true≢false}
 use Rattle.std.specs.Cmp.{IsEquivalence}
 use Rattle.std.specs.Global.{Global}
 use Rattle.std.specs.HashMap.{HashMap, UpdatesBy, Updates, get, get_by}
@@ -17,8 +17,7 @@ module _ {K X S : Type 0} (eq : K → K → Bool) (laws : IsEquivalence eq) (key
     where
       by : (b : Bool) → eq key q ≡ b → Among x (under (get eq new q)) ↔ (Among x (under (get eq old q)) ⊎ ((x ≡ value) × IsTrue (eq key q)))
       by true h =
-          let now : under (get eq new q) ≡ list ++ value ∷ [] = ap under (put.0 q ∙ ap (λ b. cond b (Some last) (get eq between q)) h) ∙ is in
-          (
+          let now : under (get eq new q) ≡ list ++ value ∷ [] = ap under (put.0 q ∙ ap (λ b. cond b (Some last) (get eq between q)) h) ∙ is in (
             (λ a. ⊎_elim (λ l. inl (subst (Among x) (sym (one_list q h)) l)) (λ r. ⊎_elim (λ e. inr (e, h)) (λ no. absurd no) r) (cases x list (value ∷ []) (subst (Among x) now a))),
             (λ s. subst (Among x) (sym now) (⊎_elim (λ l. left x list (value ∷ []) (subst (Among x) (one_list q h) l)) (λ r. right x list (value ∷ []) (inl r.0)) s)),
           )

@@ -1,5 +1,5 @@
 -- Names and ends, as they are noted and looked up.
-use Rattle.std.proofs.Common.{◌≡◌, ℕ, ◌+◌, ◌<◌, ◌≤◌, List, [], ◌∷◌, length, get_or, take, IsTrue, nat_eq, Option, Some, None, Vec, Bor, slice_get, option_map, unwrap_or, ◌⊎◌, inl, inr, ⊎_elim, ◌↔◌, sym, ap, subst, ◌∙◌, arith}
+use Rattle.std.proofs.Common.{◌≡◌, ℕ, ◌+◌, ◌<◌, ◌≤◌, List, [], ◌∷◌, length, get_or, take, IsTrue, nat_eq, Some, None, Vec, Bor, slice_get, option_map, unwrap_or, ◌⊎◌, inl, inr, ⊎_elim, ◌↔◌, sym, ap, subst, ◌∙◌, arith}
 use Rattle.std.proofs.lemmas.Bool.{cases_lt, eqb-true, eq-eqb}
 use Rattle.std.proofs.lemmas.List.{take_more, take_all, length-map}
 use Rattle.std.proofs.lemmas.Option.{slice_get-get_or, slice_get-map, slice_get_within}
@@ -8,7 +8,7 @@ use Rattle.std.specs.Global.{Global}
 use Rattle.std.specs.HashMap.{HashMap, get}
 use Rattle.composition_flatten.specs.declared.tree.PortEnd.{PortEnd}
 use Rattle.composition_flatten.specs.Members.{Among}
-use Rattle.composition_flatten.specs.Tables.{names_of, same_name, under, ArePlaces, AreGroups}
+use Rattle.composition_flatten.specs.Tables.{names_of, same_name, under, ArePlaces}
 use Rattle.composition_flatten.proofs.Members.{left, right, cases}
 
 -- one more name is noted
@@ -17,12 +17,11 @@ pub name_more : (names : List (Bor (List ℕ))) (position : ℕ) (name q : Bor (
     → N ↔ ((slice_get (names_of names) j ≡ Some q.now) × (j < position + 1))
 name_more names position name q j N M within is now before =
     let at : slice_get (names_of names) position ≡ Some name.now = slice_get-map (λ b. b.now) names position ∙ ap (option_map (λ b. b.now)) (slice_get-get_or names position name within) ∙ ap (λ n. Some n) (sym is) in
-    let same = bytes_decides name.now q.now in
-    (
+    let same = bytes_decides name.now q.now in (
       (λ n. ⊎_elim (λ m. let b = before.0 m in (b.0, omega (arith, b.1))) (λ s. (ap (slice_get (names_of names)) s.0 ∙ at ∙ ap (λ n. Some n) (same.0 s.1), omega (arith, s.0))) (now.0 n)),
       (λ h. ⊎_elim (λ l. now.1 (inl (before.1 (h.0, l))))
           (λ (l : position ≤ j). let e : j ≡ position = omega (arith, h.1) in
-              now.1 (inr (e, same.1 (ap (λ o. unwrap_or o []) (sym at ∙ ap (slice_get (names_of names)) (sym e) ∙ h.0))))) (cases_lt j position)),
+          now.1 (inr (e, same.1 (ap (λ o. unwrap_or o []) (sym at ∙ ap (slice_get (names_of names)) (sym e) ∙ h.0))))) (cases_lt j position)),
     )
 
 module _ {S : Type 0} (names : List (Bor (List ℕ))) (places : HashMap (Bor (List ℕ)) (Vec ℕ Global) S) where
@@ -45,8 +44,7 @@ pub end_more : (ends : List PortEnd) (k : ℕ) (d : PortEnd) (q : ℕ) (x : Port
     → N ↔ (M ⊎ ((x ≡ get_or ends k d) × IsTrue (nat_eq (get_or ends k d).interface q))) → M ↔ (Among x (take k ends) × (x.interface ≡ q)) → N ↔ (Among x (take (k + 1) ends) × (x.interface ≡ q))
 end_more ends k d q x N M within now before =
     let last = get_or ends k d in
-    let taken = take_more ends k d within in
-    (
+    let taken = take_more ends k d within in (
       (λ n. ⊎_elim (λ m. let b = before.0 m in (subst (Among x) (sym taken) (left x (take k ends) (last ∷ []) b.0), b.1))
           (λ s. (subst (Among x) (sym taken) (right x (take k ends) (last ∷ []) (inl s.0)), ap (λ e. e.interface) s.0 ∙ eqb-true last.interface q s.1)) (now.0 n)),
       (λ h. ⊎_elim (λ l. now.1 (inl (before.1 (l, h.1))))

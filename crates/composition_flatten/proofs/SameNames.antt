@@ -1,5 +1,5 @@
 -- Items of one name.
-use Rattle.std.proofs.Common.{Option, map, take, get_or, option_map, ◌≡◌, ℕ, ◌+◌, ◌<◌, ◌≤◌, List, [], ◌∷◌, ◌++◌, length, slice_get, Some, None, ◌⊎◌, inl, inr, ⊎_elim, ◌↔◌, sym, ap, subst, ◌∙◌, arith}
+use Rattle.std.proofs.Common.{Option, take, get_or, option_map, ◌≡◌, ℕ, ◌+◌, ◌<◌, ◌≤◌, List, [], ◌∷◌, ◌++◌, length, slice_get, Some, None, ◌⊎◌, inl, inr, ⊎_elim, ◌↔◌, sym, ap, subst, ◌∙◌, arith}
 use Rattle.std.proofs.lemmas.Bool.{cases_lt}
 use Rattle.std.proofs.lemmas.List.{take_more, take_all}
 use Rattle.std.proofs.lemmas.Option.{slice_get-map}
@@ -21,15 +21,14 @@ pub push_more : (number : ℕ) (places : List ℕ) (k : ℕ) (before pairs after
     → (i j : ℕ) → Among (i, j) after ↔ (Among (i, j) before ⊎ ((i ≡ number) × Among j (take (k + 1) places)))
 push_more number places k before pairs after within is h i j =
     let last = get_or places k 0 in
-    let taken = take_more places k 0 within in
-    (
+    let taken = take_more places k 0 within in (
       (λ a. ⊎_elim (λ l. ⊎_elim (λ o. inl o) (λ s. inr (s.0, subst (Among j) (sym taken) (left j (take k places) (last ∷ []) s.1))) ((h i j).0 l))
           (λ r. ⊎_elim (λ (e : (i, j) ≡ (number, last)). inr (ap (λ x. x.0) e, subst (Among j) (sym taken) (right j (take k places) (last ∷ []) (inl (ap (λ x. x.1) e))))) (λ no. absurd no) r)
           (cases (i, j) pairs ((number, last) ∷ []) (subst (Among (i, j)) is a))),
       (λ s. subst (Among (i, j)) (sym is) (⊎_elim (λ o. left (i, j) pairs ((number, last) ∷ []) ((h i j).1 (inl o)))
           (λ p. ⊎_elim (λ l. left (i, j) pairs ((number, last) ∷ []) ((h i j).1 (inr (p.0, l))))
-              (λ r. ⊎_elim (λ (e : j ≡ last). right (i, j) pairs ((number, last) ∷ []) (inl (λ t. (p.0 t, e t)))) (λ no. absurd no) r)
-              (cases j (take k places) (last ∷ []) (subst (Among j) taken p.1))) s)),
+          (λ r. ⊎_elim (λ (e : j ≡ last). right (i, j) pairs ((number, last) ∷ []) (inl (λ t. (p.0 t, e t)))) (λ no. absurd no) r)
+          (cases j (take k places) (last ∷ []) (subst (Among j) taken p.1))) s)),
     )
 
 pub push_all : (number : ℕ) (places : List ℕ) (k i j : ℕ) (N O : Type 0) → length places ≤ k → N ↔ (O ⊎ ((i ≡ number) × Among j (take k places))) → N ↔ (O ⊎ ((i ≡ number) × Among j places))
@@ -69,8 +68,7 @@ turned_back (p ∷ ps) i j (inr h) = inr (turned_back ps i j h)
 pub turned_names : (names others : List (List ℕ)) (pairs slice list : List (ℕ × ℕ)) → ((i j : ℕ) → Among (i, j) pairs ↔ IsSameName others names i j) → slice ≡ pairs → list ≡ turned slice
     → (i j : ℕ) → Among (i, j) list ↔ IsSameName names others i j
 turned_names names others pairs slice list h same is i j =
-    let all = is ∙ ap turned same in
-    (
+    let all = is ∙ ap turned same in (
       (λ a. let s = (h j i).0 (turned_there pairs i j (subst (Among (i, j)) all a)) in (s.0, s.2, s.1)),
       (λ s. subst (Among (i, j)) (sym all) (turned_back pairs i j ((h j i).1 (s.0, s.2, s.1)))),
     )

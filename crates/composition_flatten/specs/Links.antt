@@ -1,6 +1,6 @@
 -- The links of a description, as they are found: those that a composition's assemblies make below it, with instances numbered
 -- from its own first one on, and those of the environment.
-use Rattle.std.specs.Prelude.{◌≡◌, ℕ, zero, suc, ◌+◌, ◌-◌, ◌^◌, min, List, [], ◌∷◌, true, Option, Some, None, ◌⊎◌, ◌↔◌}
+use Rattle.std.specs.Prelude.{◌≡◌, ℕ, zero, suc, ◌+◌, ◌-◌, ◌^◌, min, List, [], ◌∷◌, true, Option, Some, None, ◌⊎◌}
 use Rattle.description_types.specs.declared.component.PortKind.{PortKind}
 use Rattle.description_types.specs.declared.component.PortKind.TheVariants.{Provided, Required}
 use Rattle.description_types.specs.declared.description.Connector.{Connector}
@@ -19,7 +19,6 @@ use Rattle.composition_flatten.specs.Ends.{ends, inner_ends, number_from, offset
 use Rattle.composition_flatten.specs.Growing.{AnyOf, Grown}
 use Rattle.composition_flatten.specs.Instances.{size}
 use Rattle.composition_flatten.specs.Items.{interface_at, ItemsJoin}
-use Rattle.composition_flatten.specs.Members.{Among}
 use Rattle.composition_flatten.specs.Paths.{type_in}
 
 abbrev pub item_of : PortEnd → ℕ → Item

@@ -8,11 +8,11 @@ ghost use Rattle.indexmap.specs.IndexMap.{get};
 ghost use Rattle.composition_flatten.specs.Matching.{same_pair, AreMatches, IsAdding, IsMatched};
 ghost use Rattle.composition_flatten.specs.Tables.{under};
 
-use crate::links::LINK_LIMIT;
 use crate::interfaces::Listed;
+use crate::links::LINK_LIMIT;
 use crate::matches::{interfaces_of, matches};
-use description_types::Description;
 use crate::tree::PortEnd;
+use description_types::Description;
 use indexmap::{IndexMap, IndexSet};
 use rte_text::Memory;
 use std::alloc::Global;

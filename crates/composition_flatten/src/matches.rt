@@ -90,7 +90,11 @@ fn one_pair(alloc: Global) -> Result<Vec<(u32, u32)>, Memory>
     Ok(pairs)
 }
 
-fn matches_of(alloc: Global, provided: &Listed, required: &Listed) -> Result<Vec<(u32, u32)>, Memory>
+fn matches_of(
+    alloc: Global,
+    provided: &Listed,
+    required: &Listed,
+) -> Result<Vec<(u32, u32)>, Memory>
     ensures { IfOk result (λ pairs. (i j : ℕ) → Among (i, j) pairs.items ↔ ItemsJoin (Some provided.now.kind.now) (Some required.now.kind.now) i j) }
 {
     match provided.kind {

@@ -1,8 +1,6 @@
 //! Small descriptions of very much.
 
-use super::build::{
-    assembly, component, composition, delegation, description, elements, numbered,
-};
+use super::build::{assembly, component, composition, delegation, description, elements, numbered};
 use super::shown;
 use crate::flatten;
 use description_types::{Composition, Connector, Description, PortKind, PrototypeType};
@@ -195,7 +193,11 @@ fn many_items(rt: HostRuntime) -> Result<(), Fail> {
     ];
     for (count, copies, text) in cases {
         let d = wide(alloc, count, copies)?;
-        assert_eq!(&rt; shown(alloc, &d)?.as_str(), text, "{count} items, {copies} connectors");
+        assert_eq!(&rt;
+            shown(alloc, &d)?.as_str(),
+            text,
+            "{count} items, {copies} connectors"
+        );
     }
     let d = wide(alloc, 65_536, 1)?;
     match flatten(alloc, &d) {

@@ -1,4 +1,4 @@
-use Rattle.composition_flatten.proofs.Grouping.{at_links, at_none}
+use Rattle.composition_flatten.proofs.Grouping.{at_links}
 use Rattle.composition_flatten.proofs.cross.add_group_at.Goals as goal
 
 pub add_group-requires-clause-group : goal.add_group-requires-clause-group

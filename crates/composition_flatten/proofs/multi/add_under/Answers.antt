@@ -1,4 +1,4 @@
-use Rattle.std.proofs.Common.{◌≡◌, ◌∙◌, sym, ap, rules}
+use Rattle.std.proofs.Common.{◌≡◌, rules}
 use Rattle.composition_flatten.specs.Tables.{under}
 use Rattle.indexmap.specs.IndexMap.{get}
 use Rattle.composition_flatten.proofs.Adding.{added}
