@@ -6,14 +6,12 @@ use Rattle.description_types.specs.declared.description.Connector.{Connector}
 use Rattle.description_types.specs.declared.description.Connector.TheVariants.{Assembly}
 use Rattle.description_types.specs.declared.description.Description.{Description}
 use Rattle.description_types.specs.declared.description.InnerPort.{InnerPort}
-use Rattle.composition_flatten.specs.declared.cross.Matched.{Matched}
 use Rattle.composition_flatten.specs.declared.links.Link.{Link}
 use Rattle.composition_flatten.specs.declared.tree.Owner.TheVariants.{Instance}
 use Rattle.composition_flatten.specs.declared.tree.PortEnd.{PortEnd}
 use Rattle.composition_flatten.specs.Connectors.{lets_join}
 use Rattle.composition_flatten.specs.Ends.{ends, inner_ends}
-use Rattle.composition_flatten.specs.Items.{interface_at, ItemsJoin}
-use Rattle.composition_flatten.specs.Links.{link_of, IsMatched, IsPairLink, IsCrossLink, IsAssemblyLink}
+use Rattle.composition_flatten.specs.Links.{IsCrossLink, IsAssemblyLink}
 use Rattle.composition_flatten.specs.Growing.{AnyOf, IsPastLimit, Grown}
 use Rattle.composition_flatten.specs.Members.{Among, AllApart}
 use Rattle.composition_flatten.proofs.Members.{left, right, cases, at}
@@ -99,21 +97,6 @@ module _ {X Y : Type 0} (Q : X → Y → Type 0) (xs : List X) where
 -- an element past the end of a list of ends
 abbrev pub no_end : PortEnd
 no_end = record { owner = Instance 0; port = 0; interface = 0 }
-
--- the links of two ports, by the pairs of their items
-module _ (d : Description) (p r : PortEnd) (m : Matched) (is : IsMatched d m) (provided : m.provided ≡ p.interface) (required : m.required ≡ r.interface) where
-  pub pair_links : (slice : List (ℕ × ℕ)) (before after : List Link) (is_full : Bool) → slice ≡ m.pairs.items
-      → Grown (AnyOf (λ (items : ℕ × ℕ) x. x ≡ link_of p r items) slice) before after is_full → Grown (IsPairLink d p r) before after is_full
-  pair_links slice before after is_full same g =
-      grown_same (AnyOf (λ (items : ℕ × ℕ) x. x ≡ link_of p r items) slice) (IsPairLink d p r) before after is_full
-      (λ x a. (a.0.0, a.0.1, joined a.0.0 a.0.1 (subst (Among a.0) same a.1), a.2))
-      (λ x h. ((h.0, h.1), subst (Among (h.0, h.1)) (sym same) (paired h.0 h.1 h.2), h.3)) g
-    where
-      joined : (i j : ℕ) → Among (i, j) m.pairs.items → ItemsJoin (interface_at d p.interface) (interface_at d r.interface) i j
-      joined i j a = subst (λ n. ItemsJoin (interface_at d p.interface) (interface_at d n) i j) required (subst (λ n. ItemsJoin (interface_at d n) (interface_at d m.required) i j) provided ((is i j).0 a))
-
-      paired : (i j : ℕ) → ItemsJoin (interface_at d p.interface) (interface_at d r.interface) i j → Among (i, j) m.pairs.items
-      paired i j h = (is i j).1 (subst (λ n. ItemsJoin (interface_at d n) (interface_at d m.required) i j) (sym provided) (subst (λ n. ItemsJoin (interface_at d p.interface) (interface_at d n) i j) (sym required) h))
 
 -- the links of the same ports
 pub cross_same : (d : Description) (ps qs first ps2 qs2 second : List PortEnd) (before after : List Link) (is_full : Bool) → first ≡ ps → second ≡ qs

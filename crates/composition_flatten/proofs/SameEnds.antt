@@ -40,3 +40,13 @@ same_end x y h =
 pub itself_end : (x : PortEnd) → (port_end.eq-value).it x x ≡ true
 itself_end x = and_from ((owner.eq-value).it x.owner x.owner) (eqb x.port x.port && eqb x.interface x.interface) (itself_owner x.owner)
     (and_from (eqb x.port x.port) (eqb x.interface x.interface) (eq-eqb x.port x.port refl) (eq-eqb x.interface x.interface refl))
+
+pub same_pair : (x y : PortEnd × PortEnd) → ((port_end.eq-value).it x.0 y.0 && (port_end.eq-value).it x.1 y.1) ≡ true → x ≡ y
+same_pair x y h =
+    let p = and_parts ((port_end.eq-value).it x.0 y.0) ((port_end.eq-value).it x.1 y.1) h in
+    let a = same_end x.0 y.0 p.0 in
+    let b = same_end x.1 y.1 p.1 in
+    (λ i. (a i, b i))
+
+pub itself_pair : (x : PortEnd × PortEnd) → ((port_end.eq-value).it x.0 x.0 && (port_end.eq-value).it x.1 x.1) ≡ true
+itself_pair x = and_from ((port_end.eq-value).it x.0 x.0) ((port_end.eq-value).it x.1 x.1) (itself_end x.0) (itself_end x.1)

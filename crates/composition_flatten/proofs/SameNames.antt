@@ -1,43 +1,44 @@
 -- Items of one name.
-use Rattle.std.proofs.Common.{◌≡◌, ℕ, ◌+◌, ◌<◌, ◌≤◌, List, [], ◌∷◌, ◌++◌, length, slice_get, Some, None, ◌⊎◌, inl, inr, ⊎_elim, ◌↔◌, sym, ap, subst, ◌∙◌, arith}
+use Rattle.std.proofs.Common.{Option, take, get_or, option_map, ◌≡◌, ℕ, ◌+◌, ◌<◌, ◌≤◌, List, [], ◌∷◌, ◌++◌, length, slice_get, Some, None, ◌⊎◌, inl, inr, ⊎_elim, ◌↔◌, sym, ap, subst, ◌∙◌, arith}
 use Rattle.std.proofs.lemmas.Bool.{cases_lt}
+use Rattle.std.proofs.lemmas.List.{take_more, take_all}
+use Rattle.std.proofs.lemmas.Option.{slice_get-map}
+use Rattle.description_types.specs.declared.description.Description.{Description}
+use Rattle.composition_flatten.specs.declared.interfaces.Listed.{Listed}
 use Rattle.interface_types.specs.declared.interface.DataElement.{DataElement}
 use Rattle.interface_types.specs.declared.interface.InterfaceKind.{InterfaceKind}
-use Rattle.interface_types.specs.declared.interface.InterfaceKind.TheVariants.{SenderReceiver, ClientServer}
+use Rattle.interface_types.specs.declared.interface.InterfaceKind.TheVariants.{SenderReceiver, ClientServer, ModeSwitch}
 use Rattle.interface_types.specs.declared.interface.Operation.{Operation}
-use Rattle.composition_flatten.specs.Items.{element_names, operation_names, IsSameName, ItemsJoin}
+use Rattle.composition_flatten.specs.Items.{interface_at, element_names, operation_names, IsSameName, ItemsJoin}
+use Rattle.composition_flatten.specs.Matching.{AreListed, turned}
 use Rattle.composition_flatten.specs.Members.{Among}
+use Rattle.composition_flatten.specs.Tables.{item_names}
 use Rattle.composition_flatten.proofs.Members.{left, right, cases, get_lt}
 
--- one more is pushed where P holds
-pub pushed : (before after : List (ℕ × ℕ)) (number other : ℕ) (P : Type 0) → after ≡ before ++ (number, other) ∷ [] → P
-    → (i j : ℕ) → Among (i, j) after ↔ (Among (i, j) before ⊎ ((i ≡ number) × (j ≡ other) × P))
-pushed before after number other P is p i j = (
-  (λ h. ⊎_elim (λ l. inl l) (λ r. ⊎_elim (λ (e : (i, j) ≡ (number, other)). inr (ap (λ x. x.0) e, ap (λ x. x.1) e, p)) (λ no. absurd no) r) (cases (i, j) before ((number, other) ∷ []) (subst (Among (i, j)) is h))),
-  (λ h. subst (Among (i, j)) (sym is) (⊎_elim (λ l. left (i, j) before ((number, other) ∷ []) l) (λ r. right (i, j) before ((number, other) ∷ []) (inl (λ k. (r.0 k, r.1 k)))) h)),
-)
+-- one more pair is pushed
+pub push_more : (number : ℕ) (places : List ℕ) (k : ℕ) (before pairs after : List (ℕ × ℕ)) → k < length places → after ≡ pairs ++ (number, get_or places k 0) ∷ []
+    → ((i j : ℕ) → Among (i, j) pairs ↔ (Among (i, j) before ⊎ ((i ≡ number) × Among j (take k places))))
+    → (i j : ℕ) → Among (i, j) after ↔ (Among (i, j) before ⊎ ((i ≡ number) × Among j (take (k + 1) places)))
+push_more number places k before pairs after within is h i j =
+    let last = get_or places k 0 in
+    let taken = take_more places k 0 within in (
+      (λ a. ⊎_elim (λ l. ⊎_elim (λ o. inl o) (λ s. inr (s.0, subst (Among j) (sym taken) (left j (take k places) (last ∷ []) s.1))) ((h i j).0 l))
+          (λ r. ⊎_elim (λ (e : (i, j) ≡ (number, last)). inr (ap (λ x. x.0) e, subst (Among j) (sym taken) (right j (take k places) (last ∷ []) (inl (ap (λ x. x.1) e))))) (λ no. absurd no) r)
+          (cases (i, j) pairs ((number, last) ∷ []) (subst (Among (i, j)) is a))),
+      (λ s. subst (Among (i, j)) (sym is) (⊎_elim (λ o. left (i, j) pairs ((number, last) ∷ []) ((h i j).1 (inl o)))
+          (λ p. ⊎_elim (λ l. left (i, j) pairs ((number, last) ∷ []) ((h i j).1 (inr (p.0, l))))
+          (λ r. ⊎_elim (λ (e : j ≡ last). right (i, j) pairs ((number, last) ∷ []) (inl (λ t. (p.0 t, e t)))) (λ no. absurd no) r)
+          (cases j (take k places) (last ∷ []) (subst (Among j) taken p.1))) s)),
+    )
 
-pub not_pushed : (before : List (ℕ × ℕ)) (number other : ℕ) (P : Type 0) → (P → ⊥) → (i j : ℕ) → Among (i, j) before ↔ (Among (i, j) before ⊎ ((i ≡ number) × (j ≡ other) × P))
-not_pushed before number other P none i j = ((λ h. inl h), (λ h. ⊎_elim (λ l. l) (λ r. absurd (none r.2)) h))
+pub push_all : (number : ℕ) (places : List ℕ) (k i j : ℕ) (N O : Type 0) → length places ≤ k → N ↔ (O ⊎ ((i ≡ number) × Among j (take k places))) → N ↔ (O ⊎ ((i ≡ number) × Among j places))
+push_all number places k i j N O past h = subst (λ l. N ↔ (O ⊎ ((i ≡ number) × Among j l))) (take_all k places past) h
 
-pub same_more : (names : List (List ℕ)) (name : List ℕ) (number other i j : ℕ) (N M O : Type 0) → N ↔ (M ⊎ ((i ≡ number) × (j ≡ other) × (slice_get names other ≡ Some name)))
-    → M ↔ (O ⊎ ((i ≡ number) × (slice_get names j ≡ Some name) × (j < other))) → N ↔ (O ⊎ ((i ≡ number) × (slice_get names j ≡ Some name) × (j < other + 1)))
-same_more names name number other i j N M O now before = (
-  (λ n. ⊎_elim (λ m. ⊎_elim (λ o. inl o) (λ s. inr (s.0, s.1, omega arith)) (before.0 m)) (λ s. inr (s.0, ap (slice_get names) s.1 ∙ s.2, omega (arith, s.1))) (now.0 n)),
-  (λ h. ⊎_elim (λ o. now.1 (inl (before.1 (inl o)))) (λ s. ⊎_elim (λ l. now.1 (inl (before.1 (inr (s.0, s.1, l)))))
-      (λ (l : other ≤ j). let e : j ≡ other = omega (arith, s.2) in now.1 (inr (s.0, e, ap (slice_get names) (sym e) ∙ s.1))) (cases_lt j other)) h),
-)
-
-pub same_all : (names : List (List ℕ)) (name : List ℕ) (number count other i j : ℕ) (N O : Type 0) → count ≡ length names → count ≤ other
-    → N ↔ (O ⊎ ((i ≡ number) × (slice_get names j ≡ Some name) × (j < other))) → N ↔ (O ⊎ ((i ≡ number) × (slice_get names j ≡ Some name)))
-same_all names name number count other i j N O counted past h =
-    ((λ n. ⊎_elim (λ o. inl o) (λ s. inr (s.0, s.1)) (h.0 n)), (λ s. h.1 (⊎_elim (λ o. inl o) (λ p. let within = get_lt names j name p.1 in inr (p.0, p.1, omega arith)) s)))
-
-pub item_named : (names others : List (List ℕ)) (name : List ℕ) (number i j : ℕ) (N O : Type 0) → slice_get names number ≡ Some name
-    → N ↔ (O ⊎ ((i ≡ number) × (slice_get others j ≡ Some name))) → N ↔ (O ⊎ ((i ≡ number) × IsSameName names others number j))
-item_named names others name number i j N O some h = (
-  (λ n. ⊎_elim (λ o. inl o) (λ s. inr (s.0, (name, some, s.1))) (h.0 n)),
-  (λ s. h.1 (⊎_elim (λ o. inl o) (λ p. let e : Some p.1.0 ≡ Some name = sym p.1.1 ∙ some in inr (p.0, p.1.2 ∙ e)) s)),
+pub item_named : (names others : List (List ℕ)) (name : List ℕ) (number i j : ℕ) (N O P : Type 0) → slice_get names number ≡ Some name → P ↔ (slice_get others j ≡ Some name)
+    → N ↔ (O ⊎ ((i ≡ number) × P)) → N ↔ (O ⊎ ((i ≡ number) × IsSameName names others number j))
+item_named names others name number i j N O P some found h = (
+  (λ n. ⊎_elim (λ o. inl o) (λ s. inr (s.0, (name, some, found.0 s.1))) (h.0 n)),
+  (λ s. h.1 (⊎_elim (λ o. inl o) (λ p. let e : Some p.1.0 ≡ Some name = sym p.1.1 ∙ some in inr (p.0, found.1 (p.1.2 ∙ e))) s)),
 )
 
 pub item_unnamed : (names others : List (List ℕ)) (number i j : ℕ) (O : Type 0) → slice_get names number ≡ None → O ↔ (O ⊎ ((i ≡ number) × IsSameName names others number j))
@@ -53,21 +54,61 @@ items_more names others number i j N M now before = (
 pub items_all : (names others : List (List ℕ)) (count number i j : ℕ) (N : Type 0) → count ≡ length names → count ≤ number → N ↔ (IsSameName names others i j × (i < number)) → N ↔ IsSameName names others i j
 items_all names others count number i j N counted past h = ((λ n. (h.0 n).0), (λ s. let within = get_lt names i s.0 s.1 in h.1 (s, omega arith)))
 
-pub joined_elements : (xs ys : List DataElement) (names others first second : List (List ℕ)) (p r : InterfaceKind) (i j : ℕ) (N : Type 0) → p ≡ SenderReceiver xs → r ≡ SenderReceiver ys → names ≡ element_names xs → others ≡ element_names ys
-    → first ≡ names → second ≡ others → N ↔ IsSameName first second i j → N ↔ ItemsJoin (Some p) (Some r) i j
-joined_elements xs ys names others first second p r i j N p_is r_is names_are others_are first_is second_is h =
+-- the pairs the other way round
+turned_there : (pairs : List (ℕ × ℕ)) (i j : ℕ) → Among (i, j) (turned pairs) → Among (j, i) pairs
+turned_there [] i j h = h
+turned_there (p ∷ ps) i j (inl e) = inl (λ t. ((e t).1, (e t).0))
+turned_there (p ∷ ps) i j (inr h) = inr (turned_there ps i j h)
+
+turned_back : (pairs : List (ℕ × ℕ)) (i j : ℕ) → Among (j, i) pairs → Among (i, j) (turned pairs)
+turned_back [] i j h = h
+turned_back (p ∷ ps) i j (inl e) = inl (λ t. ((e t).1, (e t).0))
+turned_back (p ∷ ps) i j (inr h) = inr (turned_back ps i j h)
+
+pub turned_names : (names others : List (List ℕ)) (pairs slice list : List (ℕ × ℕ)) → ((i j : ℕ) → Among (i, j) pairs ↔ IsSameName others names i j) → slice ≡ pairs → list ≡ turned slice
+    → (i j : ℕ) → Among (i, j) list ↔ IsSameName names others i j
+turned_names names others pairs slice list h same is i j =
+    let all = is ∙ ap turned same in (
+      (λ a. let s = (h j i).0 (turned_there pairs i j (subst (Among (i, j)) all a)) in (s.0, s.2, s.1)),
+      (λ s. subst (Among (i, j)) (sym all) (turned_back pairs i j ((h j i).1 (s.0, s.2, s.1)))),
+    )
+
+pub joined_elements : (xs ys : List DataElement) (names others : List (List ℕ)) (p r : InterfaceKind) (i j : ℕ) (N : Type 0) → p ≡ SenderReceiver xs → r ≡ SenderReceiver ys → names ≡ item_names p → others ≡ item_names r
+    → N ↔ IsSameName names others i j → N ↔ ItemsJoin (Some p) (Some r) i j
+joined_elements xs ys names others p r i j N p_is r_is names_are others_are h =
     subst (λ k. N ↔ ItemsJoin (Some k) (Some r) i j) (sym p_is) (subst (λ k. N ↔ ItemsJoin (Some (SenderReceiver xs)) (Some k) i j) (sym r_is)
-    (subst (λ l. N ↔ IsSameName l (element_names ys) i j) (first_is ∙ names_are) (subst (λ l. N ↔ IsSameName first l i j) (second_is ∙ others_are) h)))
+    (subst (λ l. N ↔ IsSameName l (element_names ys) i j) (names_are ∙ ap item_names p_is) (subst (λ l. N ↔ IsSameName names l i j) (others_are ∙ ap item_names r_is) h)))
 
-pub joined_operations : (xs ys : List Operation) (names others first second : List (List ℕ)) (p r : InterfaceKind) (i j : ℕ) (N : Type 0) → p ≡ ClientServer xs → r ≡ ClientServer ys → names ≡ operation_names xs → others ≡ operation_names ys
-    → first ≡ names → second ≡ others → N ↔ IsSameName first second i j → N ↔ ItemsJoin (Some p) (Some r) i j
-joined_operations xs ys names others first second p r i j N p_is r_is names_are others_are first_is second_is h =
+pub joined_operations : (xs ys : List Operation) (names others : List (List ℕ)) (p r : InterfaceKind) (i j : ℕ) (N : Type 0) → p ≡ ClientServer xs → r ≡ ClientServer ys → names ≡ item_names p → others ≡ item_names r
+    → N ↔ IsSameName names others i j → N ↔ ItemsJoin (Some p) (Some r) i j
+joined_operations xs ys names others p r i j N p_is r_is names_are others_are h =
     subst (λ k. N ↔ ItemsJoin (Some k) (Some r) i j) (sym p_is) (subst (λ k. N ↔ ItemsJoin (Some (ClientServer xs)) (Some k) i j) (sym r_is)
-    (subst (λ l. N ↔ IsSameName l (operation_names ys) i j) (first_is ∙ names_are) (subst (λ l. N ↔ IsSameName first l i j) (second_is ∙ others_are) h)))
+    (subst (λ l. N ↔ IsSameName l (operation_names ys) i j) (names_are ∙ ap item_names p_is) (subst (λ l. N ↔ IsSameName names l i j) (others_are ∙ ap item_names r_is) h)))
 
-pub at_named : (names : List (List ℕ)) (other_name name : List ℕ) (number other i j : ℕ) (N O : Type 0) → slice_get names other ≡ Some other_name
-    → N ↔ (O ⊎ ((i ≡ number) × (j ≡ other) × (other_name ≡ name))) → N ↔ (O ⊎ ((i ≡ number) × (j ≡ other) × (slice_get names other ≡ Some name)))
-at_named names other_name name number other i j N O some h = (
-  (λ n. ⊎_elim (λ o. inl o) (λ s. inr (s.0, s.1, some ∙ ap (λ w. Some w) s.2)) (h.0 n)),
-  (λ s. h.1 (⊎_elim (λ o. inl o) (λ p. let e : Some other_name ≡ Some name = sym some ∙ p.2 in inr (p.0, p.1, cc)) s)),
-)
+-- a listed interface is the description's
+pub listed_at : (d : Description) (list : List Listed) (k : ℕ) → AreListed d list → option_map (λ (x : Listed). x.kind.now) (slice_get list k) ≡ interface_at d k
+listed_at d list k is = sym (slice_get-map (λ (x : Listed). x.kind.now) list k) ∙ ap (λ l. slice_get l k) is ∙ slice_get-map (λ x. x.kind) d.types.interfaces k
+
+no_join : (o : Option InterfaceKind) (i j : ℕ) → ItemsJoin o None i j → ⊥
+no_join None i j h = h
+no_join (Some (SenderReceiver xs)) i j h = h
+no_join (Some (ClientServer xs)) i j h = h
+no_join (Some (ModeSwitch x)) i j h = h
+
+module _ (d : Description) (list : List Listed) (p r : ℕ) (is : AreListed d list) (i j : ℕ) where
+  pub both_listed : (first second : Listed) (N : Type 0) → slice_get list p ≡ Some first → slice_get list r ≡ Some second → N ↔ ItemsJoin (Some first.kind.now) (Some second.kind.now) i j
+      → N ↔ ItemsJoin (interface_at d p) (interface_at d r) i j
+  both_listed first second N here there h =
+      let one : Some first.kind.now ≡ interface_at d p = ap (option_map (λ (x : Listed). x.kind.now)) (sym here) ∙ listed_at d list p is in
+      let two : Some second.kind.now ≡ interface_at d r = ap (option_map (λ (x : Listed). x.kind.now)) (sym there) ∙ listed_at d list r is in
+      subst (λ o. N ↔ ItemsJoin (interface_at d p) o i j) two (subst (λ o. N ↔ ItemsJoin o (Some second.kind.now) i j) one h)
+
+  pub first_unlisted : (pairs : List (ℕ × ℕ)) → pairs ≡ [] → slice_get list p ≡ None → Among (i, j) pairs ↔ ItemsJoin (interface_at d p) (interface_at d r) i j
+  first_unlisted pairs none here =
+      let one : interface_at d p ≡ None = sym (listed_at d list p is) ∙ ap (option_map (λ (x : Listed). x.kind.now)) here in
+      ((λ a. absurd (subst (Among (i, j)) none a)), (λ s. absurd (subst (λ o. ItemsJoin o (interface_at d r) i j) one s)))
+
+  pub second_unlisted : (pairs : List (ℕ × ℕ)) → pairs ≡ [] → slice_get list r ≡ None → Among (i, j) pairs ↔ ItemsJoin (interface_at d p) (interface_at d r) i j
+  second_unlisted pairs none there =
+      let two : interface_at d r ≡ None = sym (listed_at d list r is) ∙ ap (option_map (λ (x : Listed). x.kind.now)) there in
+      ((λ a. absurd (subst (Among (i, j)) none a)), (λ s. absurd (no_join (interface_at d p) i j (subst (λ o. ItemsJoin (interface_at d p) o i j) two s))))

@@ -18,5 +18,6 @@ pub mod Named
 pub mod Orders
 pub mod Paths
 pub mod Ranks
+pub mod Tables
 pub mod Trees
 pub mod Within

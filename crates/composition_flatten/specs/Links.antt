@@ -1,13 +1,12 @@
 -- The links of a description, as they are found: those that a composition's assemblies make below it, with instances numbered
 -- from its own first one on, and those of the environment.
-use Rattle.std.specs.Prelude.{◌≡◌, ℕ, zero, suc, ◌+◌, ◌-◌, ◌^◌, min, List, [], ◌∷◌, true, Option, Some, None, ◌⊎◌, ◌↔◌}
+use Rattle.std.specs.Prelude.{◌≡◌, ℕ, zero, suc, ◌+◌, ◌-◌, ◌^◌, min, List, [], ◌∷◌, true, Option, Some, None, ◌⊎◌}
 use Rattle.description_types.specs.declared.component.PortKind.{PortKind}
 use Rattle.description_types.specs.declared.component.PortKind.TheVariants.{Provided, Required}
 use Rattle.description_types.specs.declared.description.Connector.{Connector}
 use Rattle.description_types.specs.declared.description.Connector.TheVariants.{Assembly, Delegation}
 use Rattle.description_types.specs.declared.description.Description.{Description}
 use Rattle.description_types.specs.declared.description.PrototypeType.TheVariants.{Composition}
-use Rattle.composition_flatten.specs.declared.cross.Matched.{Matched}
 use Rattle.composition_flatten.specs.declared.links.Item.{Item}
 use Rattle.composition_flatten.specs.declared.links.Link.{Link}
 use Rattle.composition_flatten.specs.declared.nodes.Node.{Node}
@@ -20,7 +19,6 @@ use Rattle.composition_flatten.specs.Ends.{ends, inner_ends, number_from, offset
 use Rattle.composition_flatten.specs.Growing.{AnyOf, Grown}
 use Rattle.composition_flatten.specs.Instances.{size}
 use Rattle.composition_flatten.specs.Items.{interface_at, ItemsJoin}
-use Rattle.composition_flatten.specs.Members.{Among}
 use Rattle.composition_flatten.specs.Paths.{type_in}
 
 abbrev pub item_of : PortEnd → ℕ → Item
@@ -29,10 +27,6 @@ item_of e i = record { owner = e.owner; port = e.port; element = i }
 -- the link of two items of a provided and a required port
 abbrev pub link_of : PortEnd → PortEnd → ℕ × ℕ → Link
 link_of p r items = record { provided = item_of p items.0; required = item_of r items.1 }
-
--- the items i and j of the two interfaces are joined exactly where the pairs have them
-abbrev pub IsMatched : Description → Matched → Type 0
-IsMatched d m = (i j : ℕ) → Among (i, j) m.pairs.items ↔ ItemsJoin (interface_at d m.provided) (interface_at d m.required) i j
 
 -- a link of two ports
 abbrev pub IsPairLink : Description → PortEnd → PortEnd → Link → Type 0

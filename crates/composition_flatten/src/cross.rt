@@ -2,23 +2,20 @@
 
 ghost use Rattle.std.specs.Prelude.{◌≡◌, ℕ, IfOk, OnOk};
 ghost use Rattle.composition_flatten.specs.Growing.{AnyOf, Grown};
-ghost use Rattle.composition_flatten.specs.Links.{item_of, link_of, IsMatched, IsPairLink, IsCrossLink};
+ghost use Rattle.composition_flatten.specs.declared.tree.PortEnd.{PortEnd};
+ghost use Rattle.composition_flatten.specs.Members.{Among};
+ghost use Rattle.composition_flatten.specs.Links.{item_of, link_of, IsPairLink, IsCrossLink};
+ghost use Rattle.composition_flatten.specs.Matching.{IsAdding, IsGroupLink};
+ghost use Rattle.composition_flatten.specs.Tables.{AreGroups};
 
+use crate::groups::{Groups, group_at, groups_of};
 use crate::links::{Item, Link, add_link};
-use crate::matches::matches;
+use crate::matched::Matched;
 use crate::tree::PortEnd;
 use description_types::Description;
 use rte_text::Memory;
 use std::alloc::Global;
 use std::collections::BTreeSet;
-
-/// Which items of two interfaces are joined.
-#[derive(Drop)]
-pub struct Matched {
-    pub provided: u32,
-    pub required: u32,
-    pub pairs: Vec<(u32, u32)>,
-}
 
 fn item_of(end: PortEnd, element: u32) -> Item
     ensures { result ≡ item_of end element }
@@ -69,31 +66,7 @@ fn add_items(
     Ok(false)
 }
 
-/// Takes the items of two interfaces that are joined, if they are not the last that were taken.
-fn match_again(
-    alloc: Global,
-    d: &Description,
-    provided: u32,
-    required: u32,
-    matched: &mut Matched,
-) -> Result<(), Memory>
-    requires { IsMatched d.now matched.old }
-    ensures provided { OnOk result (matched.new.provided ≡ provided) }
-    ensures required { OnOk result (matched.new.required ≡ required) }
-    ensures matched { OnOk result (IsMatched d.now matched.new) }
-{
-    if matched.provided != provided || matched.required != required {
-        let pairs = matches(alloc, d, provided, required)?;
-        *matched = Matched {
-            provided,
-            required,
-            pairs,
-        };
-    }
-    Ok(())
-}
-
-/// Adds the links of two ports.
+/// Adds the links of two ports, unless they were added before.
 fn add_pair(
     alloc: Global,
     d: &Description,
@@ -102,16 +75,23 @@ fn add_pair(
     matched: &mut Matched,
     links: &mut BTreeSet<Link>,
 ) -> Result<bool, Memory>
-    requires { IsMatched d.now matched.old }
-    ensures matched { OnOk result (IsMatched d.now matched.new) }
+    requires { IsAdding d.now matched.old links.old.keys }
+    ensures matched { OnOk result (IsAdding d.now matched.new links.new.keys) }
     ensures grown { IfOk result (λ is_full. Grown (IsPairLink d.now provided required) links.old.keys links.new.keys is_full) }
 {
-    match_again(alloc, d, provided.interface, required.interface, matched)?;
-    let is_full = add_items(provided, required, matched.pairs.as_slice(), links)?;
-    Ok(is_full)
+    if matched.is_done(provided, required) {
+        return Ok(false);
+    }
+    let pair = (provided.interface, required.interface);
+    matched.find(alloc, d, pair)?;
+    if add_items(provided, required, matched.kept(pair), links)? {
+        return Ok(true);
+    }
+    matched.note_done(provided, required)?;
+    Ok(false)
 }
 
-fn add_row(
+fn add_ends(
     alloc: Global,
     d: &Description,
     provided: PortEnd,
@@ -119,8 +99,8 @@ fn add_row(
     matched: &mut Matched,
     links: &mut BTreeSet<Link>,
 ) -> Result<bool, Memory>
-    requires { IsMatched d.now matched.old }
-    ensures matched { OnOk result (IsMatched d.now matched.new) }
+    requires { IsAdding d.now matched.old links.old.keys }
+    ensures matched { OnOk result (IsAdding d.now matched.new links.new.keys) }
     ensures grown { IfOk result (λ is_full. Grown (AnyOf (IsPairLink d.now provided) required.now) links.old.keys links.new.keys is_full) }
 {
     for end in required {
@@ -131,7 +111,78 @@ fn add_row(
     Ok(false)
 }
 
-/// Adds the links of each of the provided ports with each of the required ones.
+/// Adds the links of a provided port with the required ones of one interface.
+fn add_group(
+    alloc: Global,
+    d: &Description,
+    provided: PortEnd,
+    interface: u32,
+    required: &[PortEnd],
+    matched: &mut Matched,
+    links: &mut BTreeSet<Link>,
+) -> Result<bool, Memory>
+    requires matched { IsAdding d.now matched.old links.old.keys }
+    requires group { (x : PortEnd) → Among x required.now → x.interface ≡ interface }
+    ensures matched { OnOk result (IsAdding d.now matched.new links.new.keys) }
+    ensures grown { IfOk result (λ is_full. Grown (AnyOf (IsPairLink d.now provided) required.now) links.old.keys links.new.keys is_full) }
+{
+    let pair = (provided.interface, interface);
+    matched.find(alloc, d, pair)?;
+    if matched.kept(pair).is_empty() {
+        return Ok(false);
+    }
+    let is_full = add_ends(alloc, d, provided, required, matched, links)?;
+    Ok(is_full)
+}
+
+fn add_group_at(
+    alloc: Global,
+    d: &Description,
+    provided: PortEnd,
+    required: &[PortEnd],
+    groups: &Groups,
+    place: usize,
+    matched: &mut Matched,
+    links: &mut BTreeSet<Link>,
+) -> Result<bool, Memory>
+    requires matched { IsAdding d.now matched.old links.old.keys }
+    requires grouped { AreGroups required.now groups.now }
+    ensures matched { OnOk result (IsAdding d.now matched.new links.new.keys) }
+    ensures grown { IfOk result (λ is_full. Grown (IsGroupLink d.now provided required.now groups.now.entries place) links.old.keys links.new.keys is_full) }
+{
+    match group_at(required, groups, place) {
+        Some((interface, group)) => {
+            let is_full = add_group(alloc, d, provided, interface, group, matched, links)?;
+            Ok(is_full)
+        }
+        None => Ok(false),
+    }
+}
+
+fn add_row(
+    alloc: Global,
+    d: &Description,
+    provided: PortEnd,
+    required: &[PortEnd],
+    groups: &Groups,
+    matched: &mut Matched,
+    links: &mut BTreeSet<Link>,
+) -> Result<bool, Memory>
+    requires matched { IsAdding d.now matched.old links.old.keys }
+    requires grouped { AreGroups required.now groups.now }
+    ensures matched { OnOk result (IsAdding d.now matched.new links.new.keys) }
+    ensures grown { IfOk result (λ is_full. Grown (AnyOf (IsPairLink d.now provided) required.now) links.old.keys links.new.keys is_full) }
+{
+    for place in 0..groups.len() {
+        if add_group_at(alloc, d, provided, required, groups, place, matched, links)? {
+            return Ok(true);
+        }
+    }
+    Ok(false)
+}
+
+/// Adds the links of each of the provided ports with each of the required ones. Of the required ones those of one interface
+/// are taken together, so that interfaces which share no item cost one look and not one for each pair of ports.
 pub fn cross(
     alloc: Global,
     d: &Description,
@@ -140,12 +191,13 @@ pub fn cross(
     matched: &mut Matched,
     links: &mut BTreeSet<Link>,
 ) -> Result<bool, Memory>
-    requires { IsMatched d.now matched.old }
-    ensures matched { OnOk result (IsMatched d.now matched.new) }
+    requires { IsAdding d.now matched.old links.old.keys }
+    ensures matched { OnOk result (IsAdding d.now matched.new links.new.keys) }
     ensures grown { IfOk result (λ is_full. Grown (IsCrossLink d.now provided.now required.now) links.old.keys links.new.keys is_full) }
 {
+    let groups = groups_of(alloc, required)?;
     for end in provided {
-        if add_row(alloc, d, *end, required, matched, links)? {
+        if add_row(alloc, d, *end, required, &groups, matched, links)? {
             return Ok(true);
         }
     }

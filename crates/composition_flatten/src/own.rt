@@ -4,14 +4,16 @@ ghost use Rattle.std.specs.Prelude.{◌≡◌, ◌≤◌, ◌↔◌, IfOk, OnOk}
 ghost use Rattle.composition_flatten.specs.declared.tree.PortEnd.{PortEnd};
 ghost use Rattle.composition_flatten.specs.Ends.{ends, inner_ends};
 ghost use Rattle.composition_flatten.specs.Growing.{Grown};
-ghost use Rattle.composition_flatten.specs.Links.{IsMatched, IsAssemblyLink, IsCrossLink, IsOwnLink};
+ghost use Rattle.composition_flatten.specs.Links.{IsAssemblyLink, IsCrossLink, IsOwnLink};
+ghost use Rattle.composition_flatten.specs.Matching.{IsAdding};
 ghost use Rattle.composition_flatten.specs.Members.{Among};
 ghost use Rattle.composition_flatten.specs.Trees.{IsTree};
 
 use crate::connectors::{connectors_of, lets_join, type_in};
-use crate::cross::{Matched, cross};
+use crate::cross::cross;
 use crate::ends::{ends_of, number_from, start_of};
 use crate::links::Link;
+use crate::matched::Matched;
 use crate::tree::{PortEnd, Tree};
 use description_types::{Connector, InnerPort};
 use indexmap::IndexSet;
@@ -60,8 +62,8 @@ fn add_crossing(
 ) -> Result<bool, Memory>
     requires is_tree { IsTree tree.now }
     requires within { depth ≤ 8 }
-    requires matched { IsMatched tree.now.d.now matched.old }
-    ensures matched { OnOk result (IsMatched tree.now.d.now matched.new) }
+    requires matched { IsAdding tree.now.d.now matched.old links.old.keys }
+    ensures matched { OnOk result (IsAdding tree.now.d.now matched.new links.new.keys) }
     ensures grown { IfOk result (λ is_full. Grown (IsCrossLink tree.now.d.now
         (inner_ends tree.now.d.now depth (ends tree.now.d.now depth) composition 0 provider)
         (inner_ends tree.now.d.now depth (ends tree.now.d.now depth) composition 0 requester)) links.old.keys links.new.keys is_full) }
@@ -90,8 +92,8 @@ fn add_assembly(
 ) -> Result<bool, Memory>
     requires is_tree { IsTree tree.now }
     requires within { depth ≤ 8 }
-    requires matched { IsMatched tree.now.d.now matched.old }
-    ensures matched { OnOk result (IsMatched tree.now.d.now matched.new) }
+    requires matched { IsAdding tree.now.d.now matched.old links.old.keys }
+    ensures matched { OnOk result (IsAdding tree.now.d.now matched.new links.new.keys) }
     ensures grown { IfOk result (λ is_full. Grown (IsAssemblyLink tree.now.d.now depth composition connector) links.old.keys links.new.keys is_full) }
 {
     match connector {
@@ -129,8 +131,8 @@ pub fn add_own(
 ) -> Result<bool, Memory>
     requires is_tree { IsTree tree.now }
     requires within { depth ≤ 8 }
-    requires matched { IsMatched tree.now.d.now matched.old }
-    ensures matched { OnOk result (IsMatched tree.now.d.now matched.new) }
+    requires matched { IsAdding tree.now.d.now matched.old links.old.keys }
+    ensures matched { OnOk result (IsAdding tree.now.d.now matched.new links.new.keys) }
     ensures grown { IfOk result (λ is_full. Grown (IsOwnLink tree.now.d.now depth composition) links.old.keys links.new.keys is_full) }
 {
     for connector in connectors_of(tree.d, composition) {

@@ -6,15 +6,16 @@ ghost use Rattle.composition_flatten.specs.declared.links.Link.{Link};
 ghost use Rattle.composition_flatten.specs.declared.nodes.Node.{Node};
 ghost use Rattle.composition_flatten.specs.Members.{Among};
 ghost use Rattle.composition_flatten.specs.Growing.{AnyOf, Grown};
-ghost use Rattle.composition_flatten.specs.Links.{IsMatched, IsOwn, IsNode, IsNodeLink, IsOuterLink, IsLink, link_from, item_from, owner_from, outer_ends, outer_link};
+ghost use Rattle.composition_flatten.specs.Links.{IsOwn, IsNode, IsNodeLink, IsOuterLink, IsLink, link_from, item_from, owner_from, outer_ends, outer_link};
+ghost use Rattle.composition_flatten.specs.Matching.{IsAdding, IsMatched};
 ghost use Rattle.composition_flatten.specs.Trees.{IsTree};
 
 use crate::connectors::{interface_of, kind_of, ports_of};
 use crate::counts::DEPTH_LIMIT;
-use crate::cross::{Matched, cross};
+use crate::cross::cross;
 use crate::ends::ends_of;
 use crate::links::{Item, Link, add_link};
-use crate::matches::matches;
+use crate::matched::Matched;
 use crate::nodes::{Node, nodes_of};
 use crate::own::add_own;
 use crate::tree::{Owner, PortEnd, Tree};
@@ -106,6 +107,7 @@ fn own_of(
     ensures own { IfOk result (λ own. IsOwn tree.now.d.now own) }
 {
     let mut found = BTreeSet::new(alloc);
+    matched.begin(alloc, tree.d);
     let is_full = add_own(alloc, tree, depth, composition, matched, &mut found)?;
     let links = listed(alloc, &found)?;
     Ok(Own {
@@ -212,8 +214,8 @@ fn add_by_kind(
     matched: &mut Matched,
     links: &mut BTreeSet<Link>,
 ) -> Result<bool, Memory>
-    requires { IsMatched tree.now.d.now matched.old }
-    ensures matched { OnOk result (IsMatched tree.now.d.now matched.new) }
+    requires { IsAdding tree.now.d.now matched.old links.old.keys }
+    ensures matched { OnOk result (IsAdding tree.now.d.now matched.new links.new.keys) }
     ensures grown { IfOk result (λ is_full. Grown (outer_link (Some kind) tree.now.d.now own.now inner.now) links.old.keys links.new.keys is_full) }
 {
     match kind {
@@ -237,8 +239,8 @@ fn add_between(
     matched: &mut Matched,
     links: &mut BTreeSet<Link>,
 ) -> Result<bool, Memory>
-    requires { IsMatched tree.now.d.now matched.old }
-    ensures matched { OnOk result (IsMatched tree.now.d.now matched.new) }
+    requires { IsAdding tree.now.d.now matched.old links.old.keys }
+    ensures matched { OnOk result (IsAdding tree.now.d.now matched.new links.new.keys) }
     ensures grown { IfOk result (λ is_full. Grown (outer_link kind tree.now.d.now own.now inner.now) links.old.keys links.new.keys is_full) }
 {
     match kind {
@@ -267,6 +269,7 @@ fn add_outer(
     let own = outer_ends(alloc, interface_of(tree.d, root, port), port)?;
     let inner = ends_of(alloc, tree, DEPTH_LIMIT, root, 0, port)?;
     let kind = kind_of(tree.d, root, port);
+    matched.begin(alloc, tree.d);
     let is_full = add_between(
         alloc,
         tree,
@@ -305,24 +308,13 @@ fn add_outers(
     Ok(false)
 }
 
-fn first_matched(alloc: Global, tree: &Tree) -> Result<Matched, Memory>
-    ensures { IfOk result (λ matched. IsMatched tree.now.d.now matched) }
-{
-    let pairs = matches(alloc, tree.d, 0, 0)?;
-    Ok(Matched {
-        provided: 0,
-        required: 0,
-        pairs,
-    })
-}
-
 /// Adds all links of a description. The answer is whether there are more of them than the limit; then the rest may be
 /// missing.
 pub fn add_links(alloc: Global, tree: &Tree, links: &mut BTreeSet<Link>) -> Result<bool, Memory>
     requires { IsTree tree.now }
     ensures { IfOk result (λ is_full. Grown (IsLink tree.now.d.now) links.old.keys links.new.keys is_full) }
 {
-    let mut matched = first_matched(alloc, tree)?;
+    let mut matched = Matched::new(alloc, tree.d)?;
     let nodes = nodes_of(alloc, tree)?;
     if add_nodes(alloc, tree, nodes.as_slice(), &mut matched, links)? {
         return Ok(true);

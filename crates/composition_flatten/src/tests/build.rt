@@ -29,6 +29,23 @@ pub fn elements(alloc: Global, names: &[&str]) -> Result<Interface, Memory> {
     })
 }
 
+/// An interface with so many data elements, each with a name of its own.
+pub fn numbered(alloc: Global, count: u32) -> Result<Interface, Memory> {
+    let mut list = Vec::new(alloc);
+    for number in 0..count {
+        let name = format!(in alloc; "e{number}")?;
+        list.push(DataElement {
+            short_name: Text::new(alloc, name.as_bytes())?,
+            of_type: 0,
+            sw_impl_policy: SwImplPolicy::Standard,
+        })?;
+    }
+    Ok(Interface {
+        short_name: Text::new(alloc, "I".as_bytes())?,
+        kind: InterfaceKind::SenderReceiver(Seq::of(list)),
+    })
+}
+
 pub fn modes(alloc: Global, name: &str) -> Result<Interface, Memory> {
     Ok(Interface {
         short_name: Text::new(alloc, "M".as_bytes())?,

@@ -1,6 +1,6 @@
 //! Small descriptions of very much.
 
-use super::build::{assembly, component, composition, delegation, description, elements};
+use super::build::{assembly, component, composition, delegation, description, elements, numbered};
 use super::shown;
 use crate::flatten;
 use description_types::{Composition, Connector, Description, PortKind, PrototypeType};
@@ -158,5 +158,51 @@ fn many_chains(rt: HostRuntime) -> Result<(), Fail> {
         shown(alloc, &d)?.as_str(),
         "a/x/x/x/x/x/x/x r 0.0.0>1.0.0 "
     );
+    Ok(())
+}
+
+// One writer and one reader of two interfaces with so many elements of the same names, joined by so many equal connectors.
+fn wide(alloc: Global, count: u32, copies: u32) -> Result<Description, Memory> {
+    let mut wires = Vec::new(alloc);
+    for _ in 0..copies {
+        wires.push(assembly((0, 0), (1, 0)))?;
+    }
+    let root = composition(
+        alloc,
+        &[],
+        &[
+            ("w", PrototypeType::Component(0)),
+            ("r", PrototypeType::Component(1)),
+        ],
+        wires.as_slice(),
+    )?;
+    Ok(description(
+        alloc,
+        vec![in alloc; numbered(alloc, count)?, numbered(alloc, count)?]?,
+        vec![in alloc; component(alloc, &[(P, 0)])?, component(alloc, &[(R, 1)])?]?,
+        vec![in alloc; root]?,
+    ))
+}
+
+#[test]
+fn many_items(rt: HostRuntime) -> Result<(), Fail> {
+    let alloc = rt.alloc();
+    let cases = [
+        (65_537, 1, "rule 10 at /root"),
+        (65_536, 3000, "rule 11 at /compositions/0/connectors/1"),
+    ];
+    for (count, copies, text) in cases {
+        let d = wide(alloc, count, copies)?;
+        assert_eq!(&rt;
+            shown(alloc, &d)?.as_str(),
+            text,
+            "{count} items, {copies} connectors"
+        );
+    }
+    let d = wide(alloc, 65_536, 1)?;
+    match flatten(alloc, &d) {
+        Ok(flat) => assert_eq!(&rt; flat.joins.len(), 65_536),
+        Err(_) => assert!(&rt; false, "65,536 joined items are not too many"),
+    }
     Ok(())
 }

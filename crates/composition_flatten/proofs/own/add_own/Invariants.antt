@@ -1,10 +1,11 @@
 use Rattle.std.proofs.Common.{take, false}
 use Rattle.composition_flatten.specs.Growing.{AnyOf, Grown}
-use Rattle.composition_flatten.specs.Links.{IsMatched, IsAssemblyLink}
+use Rattle.composition_flatten.specs.Links.{IsAssemblyLink}
+use Rattle.composition_flatten.specs.Matching.{IsAdding}
 use Rattle.composition_flatten.proofs.own.add_own.Given as goal
 
 abbrev pub invariant-loop-connector : goal.invariant-loop-connector
 invariant-loop-connector l = record {
-  matched : IsMatched l.tree.d.now l.matched;
+  matched : IsAdding l.tree.d.now l.matched l.links.keys;
   grown : Grown (AnyOf (IsAssemblyLink l.tree.d.now l.depth l.composition) (take l.connector-index l.connector-items)) l.fn.links.keys l.links.keys false;
 }

@@ -1,0 +1,9 @@
+use Rattle.std.proofs.Common.{subst}
+use Rattle.composition_flatten.specs.Members.{Among}
+use Rattle.composition_flatten.proofs.matched.Matched.begin.Goals as goal
+
+pub returns : goal.returns
+returns c = λ links. record {
+  matched = record { listed = c.requires.listed; kept = c.requires.kept };
+  done = λ k a. absurd (subst (Among k) c.new.ensures.empty a);
+}

@@ -1,8 +1,0 @@
-use Rattle.std.proofs.Common.{ℕ, ◌<◌, ◌↔◌}
-use Rattle.composition_flatten.specs.Items.{IsSameName}
-use Rattle.composition_flatten.specs.Matching.{names_of}
-use Rattle.composition_flatten.specs.Members.{Among}
-use Rattle.composition_flatten.proofs.matches.same_names.Given as goal
-
-abbrev pub invariant-loop-number : goal.invariant-loop-number
-invariant-loop-number l = (i j : ℕ) → Among (i, j) l.pairs.items ↔ (IsSameName (names_of l.names) (names_of l.others) i j × (i < l.number))
