@@ -9,3 +9,4 @@ pub mod GroupTaking
 pub mod Others
 pub mod Answering
 pub mod Opening
+pub mod Opened

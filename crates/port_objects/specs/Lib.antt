@@ -8,3 +8,5 @@ pub mod Acting
 pub mod Objects
 pub mod Answers
 pub mod Opening
+pub mod Plans
+pub mod Gathered

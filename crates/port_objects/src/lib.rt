@@ -2,14 +2,23 @@
 #![tactic(auto)]
 
 mod acting;
+mod events;
 mod find;
 mod group;
 mod laws;
+mod making;
 mod object;
 mod ticks;
+mod touching;
+mod waiting;
 
 pub use acting::{Acted, Shown, act};
 pub use group::Group;
 pub use laws::{first_objects_stand_for_nothing, leads_are_legal};
+pub use making::make_objects;
 pub use object::Object;
 pub use ticks::Ticks;
+pub use touching::object_of;
+
+/// There was no memory for what a call makes.
+pub type Memory = std::alloc::AllocError;
