@@ -10,3 +10,9 @@ pub mod Others
 pub mod Answering
 pub mod Opening
 pub mod Opened
+pub mod Ranges
+pub mod Plain
+pub mod Complete
+pub mod Single
+pub mod Sounds
+pub mod Parts
