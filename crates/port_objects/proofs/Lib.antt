@@ -16,3 +16,5 @@ pub mod Complete
 pub mod Single
 pub mod Sounds
 pub mod Parts
+pub mod Coming
+pub mod Staying

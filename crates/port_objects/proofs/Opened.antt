@@ -159,23 +159,23 @@ opened_at p objects plain made i o found =
 abbrev no_data : data_kept.Kept
 no_data = data_kept.fresh [] []
 
-abbrev events_in : Kept → List ℕ
+abbrev pub events_in : Kept → List ℕ
 events_in (of_group events k) = events
 events_in (of_clock timings inits k) = timings
 
-abbrev inits_in : Kept → List ℕ
+abbrev pub inits_in : Kept → List ℕ
 inits_in (of_group events k) = []
 inits_in (of_clock timings inits k) = inits
 
-abbrev data_in : Kept → data_kept.Kept
+abbrev pub data_in : Kept → data_kept.Kept
 data_in (of_group events k) = k
 data_in (of_clock timings inits k) = no_data
 
-abbrev clock_in : Kept → clock_kept.Kept
+abbrev pub clock_in : Kept → clock_kept.Kept
 clock_in (of_group events k) = clock_kept.fresh [] 0
 clock_in (of_clock timings inits k) = k
 
-abbrev is_group : Kept → Bool
+abbrev pub is_group : Kept → Bool
 is_group (of_group events k) = true
 is_group (of_clock timings inits k) = false
 

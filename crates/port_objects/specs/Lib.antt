@@ -10,3 +10,4 @@ pub mod Answers
 pub mod Opening
 pub mod Plans
 pub mod Gathered
+pub mod Coming

@@ -14,7 +14,10 @@ mod waiting;
 
 pub use acting::{Acted, Shown, act};
 pub use group::Group;
-pub use laws::{first_objects_stand_for_nothing, leads_are_legal};
+pub use laws::{
+    first_objects_stand_for_nothing, leads_are_legal, leads_miss_nothing,
+    legal_histories_part_into_objects, one_entry_of_a_wish, sound_plans_have_objects,
+};
 pub use making::make_objects;
 pub use object::Object;
 pub use ticks::Ticks;
