@@ -1,5 +1,5 @@
 -- What the parts of an object answer is what `act` answers on it.
-use Rattle.std.proofs.Common.{◌≡◌, ℕ, Bool, ◌&&◌, [], refl, sym, ◌∙◌, ap, subst, true, Option, Some, None, length}
+use Rattle.std.proofs.Common.{◌≡◌, ℕ, ◌&&◌, [], refl, sym, ◌∙◌, ap, subst, true, Option, Some, None, length}
 use Rattle.std.specs.Prelude.{is_none, unwrap_or, option_map}
 use Rattle.std.specs.List.{list_all}
 use Rattle.std.proofs.lemmas.Bool.{false≢true}

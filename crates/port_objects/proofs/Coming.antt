@@ -1,5 +1,5 @@
 -- What `act` answers by the lead is what may come after the entries that the object stands for.
-use Rattle.std.proofs.Common.{◌≡◌, ℕ, suc, Bool, true, false, ◌&&◌, not, ◌==◌, if◌then◌else◌, refl, sym, ◌∙◌, ap, subst, ◌∷◌, Option, Some, None, is_some}
+use Rattle.std.proofs.Common.{◌≡◌, ℕ, true, false, ◌&&◌, if◌then◌else◌, refl, sym, ◌∙◌, ap, subst, Some, None, is_some}
 use Rattle.std.specs.Prelude.{is_none, unwrap_or}
 use Rattle.std.proofs.lemmas.Bool.{false≢true}
 use Rattle.rte_value.specs.Values.{same_number}
@@ -10,20 +10,18 @@ use Rattle.bus_semantics.specs.declared.entries.Deed.{Deed}
 use Rattle.bus_semantics.specs.declared.entries.Deed.TheVariants as deed
 use Rattle.bus_semantics.specs.declared.entries.Entry.{Entry}
 use Rattle.bus_semantics.specs.Plan.{Plan, instance_of}
-use Rattle.bus_semantics.specs.Wanted.{Wanted, to_start, to_admit, to_end, wanted_by}
-use Rattle.bus_semantics.specs.History.{Noted, Past, needs_event}
+use Rattle.bus_semantics.specs.Wanted.{Wanted, to_admit, to_end, wanted_by}
+use Rattle.bus_semantics.specs.History.{Past, needs_event}
 use Rattle.bus_semantics.specs.Objects.{object_of, touched_by, touches}
 use Rattle.bus_semantics.specs.Owners.{key_fits, event_fits}
-use Rattle.bus_semantics.specs.Fitting.{wish_fits, activation_fits, answer_fits, fits}
+use Rattle.bus_semantics.specs.Fitting.{wish_fits, activation_fits, answer_fits}
 use Rattle.bus_semantics.specs.Locality.{starts_its_own, is_proper}
-use Rattle.port_objects.specs.Kept.{Kept}
-use Rattle.port_objects.specs.Standing.{Follows, Stands}
 use Rattle.port_objects.specs.Leading.{lead}
 use Rattle.port_objects.specs.Objects.{kept_of, touched}
 use Rattle.port_objects.specs.declared.object.Object.{Object}
 use Rattle.port_objects.specs.declared.acting.Shown.{Shown}
 use Rattle.port_objects.specs.Answers.{event_of, noted_for, IsMade, IsHeld}
-use Rattle.port_objects.specs.Coming.{asks_its_own, MayAsk, MayCome, IsTheOne, NoneMayCome}
+use Rattle.port_objects.specs.Coming.{asks_its_own, MayAsk, IsTheOne, NoneMayCome}
 use Rattle.port_objects.proofs.Complete.{leads_on}
 use Rattle.port_objects.proofs.Leads.{lead_follows, lead_stands}
 use Rattle.port_objects.proofs.Placing.{both, same_test}

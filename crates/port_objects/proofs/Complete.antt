@@ -1,25 +1,24 @@
 -- The lead misses no entry that may come.
-use Rattle.std.proofs.Common.{◌≡◌, ℕ, zero, suc, ◌<◌, ℤ, Bool, true, false, ◌&&◌, ◌||◌, not, ◌==◌, if◌then◌else◌, refl, sym, ◌∙◌, ap, subst, arith, List, [], ◌∷◌, ◌++◌, length, Option, Some, None, is_some}
+use Rattle.std.proofs.Common.{◌≡◌, ℕ, zero, suc, ◌<◌, Bool, true, false, ◌&&◌, ◌==◌, if◌then◌else◌, refl, sym, ◌∙◌, ap, subst, arith, List, [], ◌∷◌, ◌++◌, length, Option, Some, None, is_some}
 use Rattle.std.specs.Prelude.{filter, nat_lt, option_map, option_and_then}
-use Rattle.std.specs.List.{list_all, list_any, slice_get}
+use Rattle.std.specs.List.{list_all, slice_get}
 use Rattle.std.specs.Option.{option_map_or}
 use Rattle.std.proofs.lemmas.Bool.{false≢true}
 use Rattle.std.proofs.lemmas.Bool.Decides.{nat_tests}
 use Rattle.std.proofs.lemmas.List.Elements.{filter-append}
 use Rattle.rte_value.specs.declared.value.Value.{Value}
-use Rattle.rte_value.specs.declared.kinds.ActKey.{ActKey}
 use Rattle.rte_value.specs.Values.{words_of, same_words, same_number}
 use Rattle.bus_semantics.specs.declared.plan.ElemPlan.{ElemPlan}
 use Rattle.bus_semantics.specs.declared.plan.EventPlan.{EventPlan}
 use Rattle.bus_semantics.specs.declared.plan.EventKind.{EventKind}
-use Rattle.bus_semantics.specs.declared.plan.EventKind.TheVariants.{Timing, Init, DataReceived}
+use Rattle.bus_semantics.specs.declared.plan.EventKind.TheVariants.{Init, DataReceived}
 use Rattle.bus_semantics.specs.declared.script.Mapping.{Mapping}
 use Rattle.bus_semantics.specs.declared.entries.Actor.{Actor}
 use Rattle.bus_semantics.specs.declared.entries.Actor.TheVariants.{Env, Machine, Act}
 use Rattle.bus_semantics.specs.declared.entries.Deed.{Deed}
 use Rattle.bus_semantics.specs.declared.entries.Deed.TheVariants as deed
 use Rattle.bus_semantics.specs.Plan.{Plan, group_of, kind_of, instance_of, positions}
-use Rattle.bus_semantics.specs.Wanted.{to_start, wanted_by}
+use Rattle.bus_semantics.specs.Wanted.{to_start}
 use Rattle.bus_semantics.specs.History.{Noted, Past}
 use Rattle.bus_semantics.specs.Objects.{clock, object_of_kind, touches}
 use Rattle.bus_semantics.specs.Owners.{key_fits, event_fits}
@@ -33,15 +32,14 @@ use Rattle.explicit_ports.specs.Kept as data_kept
 use Rattle.tick_events.specs.Kept as clock_kept
 use Rattle.port_objects.specs.Kept.{Kept, of_group, of_clock}
 use Rattle.port_objects.specs.Layout.{members_of, events_of, waits_for_data, is_timing, is_init, place}
-use Rattle.port_objects.specs.Standing.{Follows, due_after, timer_after, GroupKeeps, ClockKeeps, Keeps, Stands}
-use Rattle.port_objects.specs.Leading.{given, read_code_in, has_value, is_set, has_flag, is_timer_due, lead_of_group, lead_of_start, lead_of_clock, lead}
+use Rattle.port_objects.specs.Standing.{Follows, due_after, GroupKeeps, ClockKeeps, Keeps, Stands}
+use Rattle.port_objects.specs.Leading.{given, read_code_in, has_value, is_set, has_flag, is_timer_due, lead_of_group, lead_of_clock, lead}
 use Rattle.port_objects.specs.Plans.{IsUnqueuedPlan}
 use Rattle.port_objects.proofs.ClockLeads.{timings_all, timer_at}
-use Rattle.port_objects.proofs.GroupLeads.{noting, Member, member_of, value_same, code_in}
+use Rattle.port_objects.proofs.GroupLeads.{noting, member_of, value_same, code_in}
 use Rattle.port_objects.proofs.Opened.{clock_last, group_within}
 use Rattle.port_objects.proofs.Placing.{clash, both, number_same, same_test, mapped_at, place_at, all_at}
 use Rattle.port_objects.proofs.Plain.{is_plain, Starting, at_time, at_init, at_data, plain_start, plain_deed, wish_part}
-use Rattle.port_objects.proofs.Ranges.{some_same}
 
 -- ---- what passes has its place
 

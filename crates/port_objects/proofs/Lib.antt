@@ -18,3 +18,4 @@ pub mod Sounds
 pub mod Parts
 pub mod Coming
 pub mod Staying
+pub mod Benching

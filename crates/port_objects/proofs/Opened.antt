@@ -1,5 +1,5 @@
 -- The objects of a plan as they are made.
-use Rattle.std.proofs.Common.{◌≡◌, ℕ, zero, suc, ◌+◌, ◌<◌, ◌≤◌, ◌^◌, Bool, true, false, ◌&&◌, not, ◌==◌, if◌then◌else◌, refl, sym, ◌∙◌, ap, subst, arith, List, [], ◌∷◌, ◌++◌, length, map, Option, Some, None, length-append}
+use Rattle.std.proofs.Common.{◌≡◌, ℕ, zero, suc, ◌+◌, ◌<◌, ◌≤◌, ◌^◌, Bool, true, false, ◌==◌, if◌then◌else◌, refl, sym, ◌∙◌, ap, subst, arith, List, [], ◌∷◌, ◌++◌, length, map, Option, Some, None, length-append}
 use Rattle.std.specs.Prelude.{filter, nat_le, nat_lt, All, slice_index_or}
 use Rattle.rte_value.specs.declared.value.Value.{Value}
 use Rattle.rte_value.specs.Values.{words_of, same_number}
@@ -17,7 +17,7 @@ use Rattle.bus_semantics.specs.declared.plan.EventKind.{EventKind}
 use Rattle.bus_semantics.specs.declared.plan.EventKind.TheVariants.{Timing, Init, DataReceived}
 use Rattle.bus_semantics.specs.Plan.{Plan, look, group_of, kind_of, positions}
 use Rattle.bus_semantics.specs.Objects.{clock}
-use Rattle.bus_semantics.specs.SoundPlan.{groups_fit, objects_counted}
+use Rattle.bus_semantics.specs.SoundPlan.{groups_fit}
 use Rattle.explicit_ports.specs.Kept as data_kept
 use Rattle.tick_events.specs.Kept as clock_kept
 use Rattle.port_objects.specs.declared.object.Object.{Object}
@@ -28,7 +28,7 @@ use Rattle.port_objects.specs.Objects.{kept_of, IsOfPlan, ArePlans}
 use Rattle.port_objects.specs.Opening.{opening, opening_group, opening_clock}
 use Rattle.port_objects.specs.Plans.{IsUnqueuedPlan, HasObjects, has_period}
 use Rattle.port_objects.specs.Standing.{Stands}
-use Rattle.port_objects.proofs.ClockLeads.{timings_all, map_map}
+use Rattle.port_objects.proofs.ClockLeads.{timings_all}
 use Rattle.port_objects.proofs.Opening.{group_opens, clock_opens}
 use Rattle.port_objects.proofs.Placing.{both, number_same, same_test, append_none}
 
@@ -145,7 +145,7 @@ data OpenedAt (p : Plan) (i : ℕ) (o : Object) : Type 0 where
 opened_at : (p : Plan) (objects : List Object) → IsUnqueuedPlan p → map kept_of objects ≡ opening p → (i : ℕ) (o : Object) → slice_get objects i ≡ Some o → OpenedAt p i o
 opened_at p objects plain made i o found =
     by_place (at_append (map (opening_group p) (positions (length p.groups))) (opening_clock p) (kept_of o) i
-        (subst (λ ks. slice_get ks i ≡ Some (kept_of o)) made (at_map kept_of objects i o found)))
+    (subst (λ ks. slice_get ks i ≡ Some (kept_of o)) made (at_map kept_of objects i o found)))
   where
     count : length (map (opening_group p) (positions (length p.groups))) ≡ length p.groups
     count = length_mapped (opening_group p) (positions (length p.groups)) ∙ length_positions (length p.groups)

@@ -1,5 +1,5 @@
 -- The entries of a legal history that touch an object follow one after the other.
-use Rattle.std.proofs.Common.{◌≡◌, ℕ, Bool, true, false, ◌&&◌, ◌==◌, refl, sym, ◌∙◌, ap, subst, if◌then◌else◌, List, [], ◌∷◌, Option, Some, None}
+use Rattle.std.proofs.Common.{◌≡◌, ℕ, Bool, true, false, refl, sym, ◌∙◌, ap, if◌then◌else◌, [], ◌∷◌, Option, Some, None}
 use Rattle.std.specs.Prelude.{filter}
 use Rattle.std.specs.List.{list_all}
 use Rattle.std.proofs.lemmas.Bool.{false≢true}
@@ -57,12 +57,15 @@ legal_past looks p m (e ∷ h) object sound plain legal =
   where
     by_test : (b : Bool) → touches p object (note h e) ≡ b → is_proper p (note h e) ≡ true → list_all (is_proper p) (noted h) ≡ true → IsPastOf p object (filter (touches p object) (noted h))
         → IsPastOf p object (if b then note h e ∷ filter (touches p object) (noted h) else filter (touches p object) (noted h))
-    by_test true touching proper before past = (past, record {
-      touching = touching;
-      proper = proper;
-      answers = fewer p (note h e) (noted h) (filter (touches p object) (noted h)) (looks.touching p m (noted h) (note h e) object sound before proper (touched_is (touched_by p (note h e)) object touching)) legal.1.answers;
-      matching = touching_matches p m sound plain object (filter (touches p object) (noted h)) (note h e) touching proper;
-    })
+    by_test true touching proper before past = (
+      past,
+      record {
+        touching = touching;
+        proper = proper;
+        answers = fewer p (note h e) (noted h) (filter (touches p object) (noted h)) (looks.touching p m (noted h) (note h e) object sound before proper (touched_is (touched_by p (note h e)) object touching)) legal.1.answers;
+        matching = touching_matches p m sound plain object (filter (touches p object) (noted h)) (note h e) touching proper;
+      },
+    )
     by_test false touching proper before past = past
 
 pub answered : Looks → (p : Plan) (m : Mapping) (h : History) (e : Entry) (object : ℕ) → IsSound p m → IsLegal p h → Follows p object (entries_of p h object) (note h e) → Answers p (noted h) (note h e)

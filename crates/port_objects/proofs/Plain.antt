@@ -1,7 +1,6 @@
 -- In a sound plan of unqueued data nothing touches a server, an area or a machine.
-use Rattle.std.proofs.Common.{◌≡◌, ℕ, ◌<◌, Bool, true, false, ◌&&◌, not, ◌==◌, refl, sym, ◌∙◌, ap, subst, arith, List, [], length, Option, Some, None}
+use Rattle.std.proofs.Common.{◌≡◌, ℕ, ◌<◌, Bool, true, false, ◌&&◌, not, refl, sym, ◌∙◌, ap, arith, length, Option, Some, None}
 use Rattle.std.specs.Prelude.{nat_lt, option_map}
-use Rattle.std.specs.List.{list_all, slice_get}
 use Rattle.std.proofs.lemmas.Bool.{false≢true}
 use Rattle.std.proofs.lemmas.Bool.Decides.{nat_tests}
 use Rattle.rte_value.specs.declared.kinds.ActKey.{ActKey}
@@ -19,9 +18,9 @@ use Rattle.bus_semantics.specs.declared.entries.Deed.TheVariants as deed
 use Rattle.bus_semantics.specs.Plan.{Plan, kind_of, instance_of, server_of, machine_of_port}
 use Rattle.bus_semantics.specs.Wanted.{Wanted, to_send, to_receive, to_enter, to_leave, to_switch, to_move_on, wanted_by}
 use Rattle.bus_semantics.specs.History.{Noted, Past, needs_event}
-use Rattle.bus_semantics.specs.Objects.{clock, object_of_kind, server_object, machine_object, disabler_of, machine_of_event, owing, served_by, machine_itself, touches}
+use Rattle.bus_semantics.specs.Objects.{object_of_kind, disabler_of, machine_of_event, owing, served_by, touches}
 use Rattle.bus_semantics.specs.Owners.{is_queued, key_fits, elem_fits, area_fits, switch_fits}
-use Rattle.bus_semantics.specs.Fitting.{fits, wish_fits, activation_fits, answer_fits, environment_may_want, activation_may_want, machine_may_want}
+use Rattle.bus_semantics.specs.Fitting.{fits, wish_fits, answer_fits, environment_may_want, activation_may_want, machine_may_want}
 use Rattle.bus_semantics.specs.Locality.{is_proper, starts_its_own}
 use Rattle.bus_semantics.specs.Sound.{IsSound}
 use Rattle.port_objects.specs.Matching.{matches, start_matches}

@@ -1,5 +1,5 @@
 -- In a sound plan what is named is there.
-use Rattle.std.proofs.Common.{◌≡◌, ℕ, zero, suc, ◌+◌, ◌<◌, ◌≤◌, Bool, true, false, ◌&&◌, ◌||◌, not, ◌==◌, refl, sym, ◌∙◌, ap, subst, arith, List, [], ◌∷◌, length, map, Option, Some, None}
+use Rattle.std.proofs.Common.{◌≡◌, ℕ, zero, suc, ◌<◌, Bool, true, false, ◌&&◌, ◌||◌, not, ◌==◌, refl, sym, ◌∙◌, ap, subst, arith, List, [], ◌∷◌, length, Option, Some, None}
 use Rattle.std.specs.Prelude.{nat_lt, nat_le, option_map}
 use Rattle.std.specs.List.{list_all, list_any, slice_get}
 use Rattle.std.specs.Option.{option_map_or}
@@ -11,16 +11,14 @@ use Rattle.bus_semantics.specs.declared.plan.ServerPlan.{ServerPlan}
 use Rattle.bus_semantics.specs.declared.plan.ModePortPlan.{ModePortPlan}
 use Rattle.bus_semantics.specs.declared.plan.EventPlan.{EventPlan}
 use Rattle.bus_semantics.specs.declared.plan.EventKind.{EventKind}
-use Rattle.bus_semantics.specs.declared.plan.EventKind.TheVariants.{Timing, Init, DataReceived, Invoked, Returns, ModeSwitch, Ack}
+use Rattle.bus_semantics.specs.declared.plan.EventKind.TheVariants.{Init, Invoked, ModeSwitch, Ack}
 use Rattle.bus_semantics.specs.declared.plan.Moment.{Moment}
 use Rattle.bus_semantics.specs.declared.plan.Disabling.{Disabling}
 use Rattle.bus_semantics.specs.declared.script.Mapping.{Mapping}
 use Rattle.bus_semantics.specs.declared.entries.Actor.{Actor}
 use Rattle.bus_semantics.specs.declared.entries.Actor.TheVariants.{Env, Machine, Act}
-use Rattle.bus_semantics.specs.Plan.{Plan, Runnable, look, every_from, kind_of, disabling_of, server_of, machine_of_port, instance_of}
-use Rattle.bus_semantics.specs.Objects.{disabler_of, machine_of_event, owing, served_by}
-use Rattle.bus_semantics.specs.SoundPlan.{is_in}
-use Rattle.bus_semantics.specs.SoundAccesses.{points_fit}
+use Rattle.bus_semantics.specs.Plan.{Plan, Runnable, look, every_from, kind_of, server_of, machine_of_port, instance_of}
+use Rattle.bus_semantics.specs.Objects.{disabler_of, served_by}
 use Rattle.bus_semantics.specs.SoundEvents.{requires_machine, kind_sound, disabling_sound, is_invoked, event_sound, server_served, serves_back}
 use Rattle.bus_semantics.specs.Sound.{IsSound}
 use Rattle.port_objects.proofs.Members.{every_at}
@@ -128,7 +126,7 @@ module _ (p : Plan) (m : Mapping) (sound : IsSound p m) where
       let at = kind_at e (Invoked s) is refl in
       let v = at.event in
       (sought p.servers s (λ (w : ServerPlan). (w.event == e) && ((w.runnable == v.runnable) && same_number (Some w.instance) (instance_of p v.runnable)))
-          (subst (λ k. kind_sound p e v.runnable (instance_of p v.runnable) k ≡ true) at.kind (kind_fits e v at.found))).within
+      (subst (λ k. kind_sound p e v.runnable (instance_of p v.runnable) k ≡ true) at.kind (kind_fits e v at.found))).within
 
   pub switching_machine : (e n : ℕ) (moment : Moment) → kind_of p e ≡ ModeSwitch n moment → n < length p.machines
   unfolding is_no_init

@@ -1,20 +1,18 @@
 -- Of one wish at most one entry may come.
-use Rattle.std.proofs.Common.{◌≡◌, ℕ, ℤ, Bool, true, false, ◌&&◌, not, ◌==◌, refl, sym, ◌∙◌, ap, subst, List, [], Option, Some, None}
+use Rattle.std.proofs.Common.{◌≡◌, ℕ, ℤ, Bool, true, false, ◌&&◌, ◌==◌, refl, sym, ◌∙◌, ap, subst, List, [], Option, Some, None}
 use Rattle.std.proofs.lemmas.Bool.{false≢true}
 use Rattle.rte_value.specs.declared.value.Value.{Value}
-use Rattle.rte_value.specs.Values.{words_of, same_words, same_number}
+use Rattle.rte_value.specs.Values.{words_of, same_words}
 use Rattle.rte_value.specs.EqualValues.{Value-by_words, same_words-Decides}
 use Rattle.bus_semantics.specs.declared.plan.EventKind.{EventKind}
-use Rattle.bus_semantics.specs.declared.plan.EventKind.TheVariants.{Timing, Init, DataReceived}
 use Rattle.bus_semantics.specs.declared.script.Mapping.{Mapping}
 use Rattle.bus_semantics.specs.declared.entries.Actor.{Actor}
 use Rattle.bus_semantics.specs.declared.entries.Deed.{Deed}
 use Rattle.bus_semantics.specs.declared.entries.Deed.TheVariants as deed
-use Rattle.bus_semantics.specs.declared.entries.Entry.{Entry}
 use Rattle.bus_semantics.specs.Plan.{Plan, kind_of}
 use Rattle.bus_semantics.specs.Wanted.{wanted_by}
 use Rattle.bus_semantics.specs.History.{Noted, Past}
-use Rattle.bus_semantics.specs.Objects.{object_of_kind, touches}
+use Rattle.bus_semantics.specs.Objects.{touches}
 use Rattle.bus_semantics.specs.Fitting.{start_fits}
 use Rattle.bus_semantics.specs.Unqueued.{value_at, read_code, is_updated}
 use Rattle.bus_semantics.specs.Legal.{same_bool, unqueued_allows}

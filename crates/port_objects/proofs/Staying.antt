@@ -1,5 +1,5 @@
 -- An object stays the plan's.
-use Rattle.std.proofs.Common.{◌≡◌, ℕ, zero, suc, Bool, true, false, ◌&&◌, ◌==◌, refl, sym, ◌∙◌, ap, subst, List, [], ◌∷◌, length, map, Option, Some, None}
+use Rattle.std.proofs.Common.{◌≡◌, ℕ, zero, suc, false, ◌&&◌, ◌==◌, refl, sym, ◌∙◌, ap, subst, List, [], ◌∷◌, length, map, Option, Some, None}
 use Rattle.std.specs.Prelude.{set, option_map}
 use Rattle.std.specs.List.{slice_get}
 use Rattle.std.specs.Option.{option_map_or}
@@ -20,7 +20,7 @@ use Rattle.port_objects.specs.declared.object.Object.TheVariants.{Unqueued, Cloc
 use Rattle.port_objects.specs.declared.acting.Acted.{Acted}
 use Rattle.port_objects.specs.declared.acting.Acted.TheVariants.{Done, NotYet}
 use Rattle.port_objects.specs.Objects.{kept_of, touched, IsOfPlan}
-use Rattle.port_objects.specs.Answers.{noted_for, IsMade, IsHeld, IsAnswer}
+use Rattle.port_objects.specs.Answers.{noted_for, IsAnswer}
 use Rattle.bus_semantics.specs.declared.script.Mapping.{Mapping}
 use Rattle.bus_semantics.specs.History.{Past}
 use Rattle.bus_semantics.specs.Objects.{object_of}
@@ -71,7 +71,7 @@ record SameClock (k after : clock_kept.Kept) : Type 0 where
   periods : periods after ≡ periods k
   count : length after.unstarted ≡ length k.unstarted
 
-length_set : {X : Type 0} (xs : List X) (i : ℕ) (x : X) → length (set xs i x) ≡ length xs
+pub length_set : {X : Type 0} (xs : List X) (i : ℕ) (x : X) → length (set xs i x) ≡ length xs
 length_set [] i x = refl
 length_set (y ∷ xs) zero x = refl
 length_set (y ∷ xs) (suc i) x = ap (λ n. suc n) (length_set xs i x)

@@ -1,5 +1,5 @@
 -- What comes of a wish after the entries that its object stands for: the one entry that may come, or that none may.
-use Rattle.std.specs.Prelude.{◌≡◌, ℕ, ◌∷◌, Bool, true, Some, unwrap_or}
+use Rattle.std.specs.Prelude.{◌≡◌, ◌∷◌, Bool, true, Some, unwrap_or}
 use Rattle.rte_value.specs.Values.{same_number}
 use Rattle.bus_semantics.specs.declared.script.Mapping.{Mapping}
 use Rattle.bus_semantics.specs.declared.entries.Actor.{Actor}

@@ -11,3 +11,4 @@ pub mod Opening
 pub mod Plans
 pub mod Gathered
 pub mod Coming
+pub mod Benches

@@ -13,7 +13,11 @@ ghost use Rattle.bus_semantics.specs.Legal.{Answers, IsLegal};
 ghost use Rattle.bus_semantics.specs.Locality.{is_proper};
 ghost use Rattle.bus_semantics.specs.Sound.{IsSound};
 ghost use Rattle.port_objects.specs.Kept.{Kept};
-ghost use Rattle.port_objects.specs.Objects.{IsObject};
+ghost use Rattle.port_objects.specs.declared.object.Object.{Object};
+ghost use Rattle.port_objects.specs.declared.acting.Shown.{Shown};
+ghost use Rattle.port_objects.specs.Objects.{kept_of, touched, IsObject};
+ghost use Rattle.port_objects.specs.Answers.{IsMade, IsHeld};
+ghost use Rattle.port_objects.specs.Coming.{MayAsk, IsTheOne, NoneMayCome};
 ghost use Rattle.port_objects.specs.Opening.{opening_group, opening_clock};
 ghost use Rattle.port_objects.specs.Plans.{IsUnqueuedPlan, HasObjects};
 ghost use Rattle.port_objects.specs.Standing.{Follows, IsPastOf, Stands};
@@ -70,4 +74,15 @@ pub fn sound_plans_have_objects()
     ensures asked { (p : Plan) (m : Mapping) → IsSound p m → HasObjects p }
     ensures touched { (p : Plan) (m : Mapping) (a : Actor) (w : Wanted) → IsSound p m → wish_fits p a w ≡ true →
         IfSome (object_of p a w) (IsObject p) }
+{}
+
+/// What is answered on an object by the lead, as benches that tell their objects answer, is the one entry of the wish that may
+/// come after the entries for which the object stands, or that none may.
+pub fn answers_are_what_may_come()
+    ensures made { (p : Plan) (m : Mapping) (a : Actor) (w : Wanted) (old new : Object) (l : Past) (e : Entry) →
+        object_of p a w ≡ Some (touched p a w) → MayAsk p m a w (kept_of old) l →
+        IsMade p (touched p a w) a w old new e → IsTheOne p a w (kept_of new) l e }
+    ensures held { (p : Plan) (m : Mapping) (a : Actor) (w : Wanted) (old new : Object) (l : Past) (shown : Shown) →
+        object_of p a w ≡ Some (touched p a w) → MayAsk p m a w (kept_of old) l →
+        IsHeld p (touched p a w) w old new shown → NoneMayCome p a w l }
 {}

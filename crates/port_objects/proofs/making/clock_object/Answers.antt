@@ -1,7 +1,7 @@
-use Rattle.std.proofs.Common.{◌≡◌, ◌<◌, ◌≤◌, sym, ◌∙◌, ap, subst, map, length, arith, Fits, w32}
+use Rattle.std.proofs.Common.{◌≤◌, sym, ◌∙◌, ap, subst, map, length, arith}
 use Rattle.std.specs.Prelude.{All}
 use Rattle.bus_semantics.specs.Plan.{plan_of, kind_of}
-use Rattle.port_objects.specs.Layout.{events_of, is_init, is_timing, period_in}
+use Rattle.port_objects.specs.Layout.{events_of, is_init, period_in}
 use Rattle.port_objects.proofs.Opened.{few_events_of, periods_fit}
 use Rattle.port_objects.proofs.making.clock_object.Goals as goal
 

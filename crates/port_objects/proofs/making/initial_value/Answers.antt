@@ -1,4 +1,4 @@
-use Rattle.std.proofs.Common.{◌≡◌, ◌≤◌, subst, length}
+use Rattle.std.proofs.Common.{◌≤◌, subst, length}
 use Rattle.bus_semantics.specs.Plan.{plan_of}
 use Rattle.port_objects.proofs.Opened.{initial_beyond}
 use Rattle.port_objects.proofs.making.initial_value.Goals as goal

@@ -1,4 +1,4 @@
-use Rattle.std.proofs.Common.{◌≡◌, ◌≤◌, map, length, arith}
+use Rattle.std.proofs.Common.{◌≡◌, map, length, arith}
 use Rattle.bus_semantics.specs.Plan.{plan_of}
 use Rattle.port_objects.specs.Objects.{kept_of}
 use Rattle.port_objects.specs.Opening.{opening}
