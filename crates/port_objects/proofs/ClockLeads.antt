@@ -152,7 +152,7 @@ module _ (p : Plan) (timings inits : List ℕ) (k : Kept) (l : Past) (keeps : Cl
     this_init : is_init (kind_of p e) ≡ true → due_after p (noting a (deed.Start e point value) event ∷ l) e ≡ false
     this_init init = init_due p e (noting a (deed.Start e point value) event ∷ l) (of_init (kind_of p e) init) ∙ ap (λ b. not (b || list_any (is_start_by e) l)) (same_test e e refl)
 
-    timer_at : (i : ℕ) → place e timings ≡ Some i → slice_get k.timers i ≡ Some (timer_after p l e)
+    pub timer_at : (i : ℕ) → place e timings ≡ Some i → slice_get k.timers i ≡ Some (timer_after p l e)
     timer_at i there = ap (λ ts. slice_get ts i) keeps.timers ∙ mapped_at (timer_after p l) timings i e (place_at e timings i there)
 
     timing_at : (i : ℕ) → place e timings ≡ Some i → is_timing (kind_of p e) ≡ true

@@ -119,8 +119,8 @@ due_started p g e n l waits it = let w = waiting_for p g (kind_of p e) waits in
 -- ---- what is read
 
 module _ (p : Plan) (g : ℕ) (events : List ℕ) (k : Kept) (l : Past) (keeps : GroupKeeps p g events k l) where
-  value_in : (x r : ℕ) (v : ElemPlan) → slice_get p.elements x ≡ Some v → v.group ≡ g → place x (members_of p g) ≡ Some r → (value : Value) → has_value value r k ≡ true → same_words (words_of value) (value_at p x l) ≡ true
-  value_in x r v found group there value has = by_stored k.stored refl
+  pub value_same : (x r : ℕ) (v : ElemPlan) → slice_get p.elements x ≡ Some v → v.group ≡ g → place x (members_of p g) ≡ Some r → (value : Value) → has_value value r k ≡ same_words (words_of value) (value_at p x l)
+  value_same x r v found group there value = by_stored k.stored refl
     where
       initial : slice_get k.inits r ≡ Some v.init
       initial = ap (λ is. slice_get is r) keeps.inits
@@ -131,15 +131,18 @@ module _ (p : Plan) (g : ℕ) (events : List ℕ) (k : Kept) (l : Past) (keeps :
       value_is s is = ap (λ (o : Option ElemPlan). option_map_or (λ (e : ElemPlan). unwrap_or (last_stored p e.group l) (words_of e.init)) o []) found
           ∙ ap (λ i. unwrap_or (last_stored p i l) (words_of v.init)) group ∙ ap (λ o. unwrap_or o (words_of v.init)) is
 
-      by_stored : (o : Option Value) → k.stored ≡ o → same_words (words_of value) (value_at p x l) ≡ true
+      by_stored : (o : Option Value) → k.stored ≡ o → has_value value r k ≡ same_words (words_of value) (value_at p x l)
       by_stored None is =
           let none : last_stored p g l ≡ None = sym keeps.stored ∙ ap (option_map words_of) is in
-          let same : same_words (words_of value) (words_of v.init) ≡ true = rw (is, initial) at has in
-          rw (value_is None none) same
+          let same : has_value value r k ≡ same_words (words_of value) (words_of v.init) = rw (is, initial) refl in
+          same ∙ ap (same_words (words_of value)) (sym (value_is None none))
       by_stored (Some w) is =
           let stored : last_stored p g l ≡ Some (words_of w) = sym keeps.stored ∙ ap (option_map words_of) is in
-          let same : same_words (words_of value) (words_of w) ≡ true = rw is at has in
-          rw (value_is (Some (words_of w)) stored) same
+          let same : has_value value r k ≡ same_words (words_of value) (words_of w) = rw is refl in
+          same ∙ ap (same_words (words_of value)) (sym (value_is (Some (words_of w)) stored))
+
+  value_in : (x r : ℕ) (v : ElemPlan) → slice_get p.elements x ≡ Some v → v.group ≡ g → place x (members_of p g) ≡ Some r → (value : Value) → has_value value r k ≡ true → same_words (words_of value) (value_at p x l) ≡ true
+  value_in x r v found group there value has = sym (value_same x r v found group there value) ∙ has
 
   seen_in : is_some k.stored ≡ is_some (last_stored p g l)
   seen_in = by_stored k.stored ∙ ap is_some keeps.stored
@@ -153,7 +156,7 @@ module _ (p : Plan) (g : ℕ) (events : List ℕ) (k : Kept) (l : Past) (keeps :
   code_by v Unqueued is group = rw (is, group) (λ i. if not v.joined then 134 else if keeps.invalid i then 1 else if v.never_received && not (seen_in i) then 133 else 0)
   code_by v Queued is group = rw (is, group) (λ i. if not v.joined then 134 else if keeps.invalid i then 1 else if v.never_received && not (seen_in i) then 133 else 0)
 
-  code_in : (x : ℕ) (v : ElemPlan) → slice_get p.elements x ≡ Some v → v.group ≡ g → read_code_in p x k ≡ read_code p x l
+  pub code_in : (x : ℕ) (v : ElemPlan) → slice_get p.elements x ≡ Some v → v.group ≡ g → read_code_in p x k ≡ read_code p x l
   code_in x v found group = rw found (code_by v v.kind refl group)
 
 -- ---- starts

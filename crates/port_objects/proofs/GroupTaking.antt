@@ -52,6 +52,7 @@ pub read_leads : (p : Plan) (g x r : ℕ) (old : Group) (new : Kept) (code : ℕ
     → LeadsGroup p g (to_read x) old (record { events = old.events; unqueued = new }) (deed.Read x code v)
 read_leads p g x r old new code v there value is next = record {
   wish = λ event. refl;
+  bare = refl;
   leads = rw there (ap (λ b. given b (after_read r old.unqueued)) (λ i. same_test code (read_code_in p x old.unqueued) is i && has_itself old.unqueued r v value i) ∙ ap (λ k. Some k) (sym next));
   events = refl;
 }
@@ -59,6 +60,7 @@ read_leads p g x r old new code v there value is next = record {
 pub fetch_leads : (p : Plan) (g x r : ℕ) (old : Group) (v : Value) → place x (members_of p g) ≡ Some r → Some v ≡ value_for r old.unqueued → LeadsGroup p g (to_fetch x) old old (deed.Fetch x v)
 fetch_leads p g x r old v there value = record {
   wish = λ event. refl;
+  bare = refl;
   leads = rw there (ap (λ b. given b old.unqueued) (has_itself old.unqueued r v value));
   events = refl;
 }
@@ -66,6 +68,7 @@ fetch_leads p g x r old v there value = record {
 pub look_leads : (p : Plan) (g x r : ℕ) (old : Group) (b : Bool) → place x (members_of p g) ≡ Some r → Some b ≡ slice_get old.unqueued.updated r → LeadsGroup p g (to_see_updated x) old old (deed.IsUpdated x b)
 look_leads p g x r old b there flag = record {
   wish = λ event. refl;
+  bare = refl;
   leads = rw (there, ← flag) (ap (λ c. given c old.unqueued) (flag_itself b));
   events = refl;
 }

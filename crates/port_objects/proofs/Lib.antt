@@ -9,3 +9,13 @@ pub mod GroupTaking
 pub mod Others
 pub mod Answering
 pub mod Opening
+pub mod Opened
+pub mod Ranges
+pub mod Plain
+pub mod Complete
+pub mod Single
+pub mod Sounds
+pub mod Parts
+pub mod Coming
+pub mod Staying
+pub mod Benching

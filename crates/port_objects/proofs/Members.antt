@@ -10,7 +10,7 @@ use Rattle.bus_semantics.specs.SoundPlan.{same_numbers, members, firsts, is_risi
 use Rattle.port_objects.specs.Layout.{members_of}
 use Rattle.port_objects.proofs.Placing.{clash, both, number_same, same_test}
 
-every_at : {X : Type 0} (f : ℕ → X → Bool) (i : ℕ) (xs : List X) → every_from i f xs ≡ true → (j k : ℕ) (x : X) → k ≡ i + j → slice_get xs j ≡ Some x → f k x ≡ true
+pub every_at : {X : Type 0} (f : ℕ → X → Bool) (i : ℕ) (xs : List X) → every_from i f xs ≡ true → (j k : ℕ) (x : X) → k ≡ i + j → slice_get xs j ≡ Some x → f k x ≡ true
 every_at f i [] all j k x at found = absurd (cc found)
 every_at f i (y ∷ xs) all zero k x at found =
     let first : f i y ≡ true = (both (f i y) (every_from (i + 1) f xs) all).0 in

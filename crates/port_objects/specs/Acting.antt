@@ -1,6 +1,8 @@
 -- What `act` answers on an object: an entry of the wish that leads, or that there is none.
-use Rattle.std.specs.Prelude.{◌≡◌, ℕ, Bool, true, false, Option, Some, None, option_and_then}
+use Rattle.std.specs.Prelude.{◌≡◌, ℕ, [], Bool, true, false, ◌&&◌, Option, Some, None, is_none, option_and_then}
+use Rattle.rte_value.specs.Values.{words_of, same_words}
 use Rattle.bus_semantics.specs.declared.entries.Deed.{Deed}
+use Rattle.bus_semantics.specs.declared.entries.Deed.TheVariants as deed
 use Rattle.bus_semantics.specs.Plan.{Plan}
 use Rattle.bus_semantics.specs.Wanted.{Wanted, wanted_by}
 use Rattle.explicit_ports.specs.Kept as data_kept
@@ -9,9 +11,15 @@ use Rattle.port_objects.specs.declared.group.Group.{Group}
 use Rattle.port_objects.specs.declared.ticks.Ticks.{Ticks}
 use Rattle.port_objects.specs.Leading.{given, is_set, lead_of_group, lead_of_clock}
 
+-- a start names no point and gives no words
+abbrev pub is_bare : Deed → Bool
+is_bare (deed.Start event point value) = is_none point && same_words (words_of value) []
+is_bare _ = true
+
 -- the deed is one of the wish, and what was kept leads by it to what is kept
 pub record LeadsGroup (p : Plan) (group : ℕ) (w : Wanted) (old new : Group) (d : Deed) : Type 0 where
   pub wish : (event : ℕ) → wanted_by event d ≡ w
+  pub bare : is_bare d ≡ true
   pub leads : lead_of_group p group old.events.items old.unqueued d ≡ Some new.unqueued
   pub events : new.events ≡ old.events
 
@@ -22,6 +30,7 @@ pub record HoldsGroup (p : Plan) (group : ℕ) (w : Wanted) (old new : Group) : 
 
 pub record LeadsClock (w : Wanted) (old new : Ticks) (d : Deed) : Type 0 where
   pub wish : (event : ℕ) → wanted_by event d ≡ w
+  pub bare : is_bare d ≡ true
   pub leads : lead_of_clock old.timings.items old.inits.items old.clock d ≡ Some new.clock
   pub timings : new.timings ≡ old.timings
   pub inits : new.inits ≡ old.inits

@@ -1,11 +1,12 @@
 -- What `act` answers, by the lead: the entry of the wish by which what the object kept leads to what it keeps, or that no entry of the
 -- wish leads anywhere.
-use Rattle.std.specs.Prelude.{◌≡◌, ℕ, Option, Some, None}
+use Rattle.std.specs.Prelude.{◌≡◌, ℕ, true, Option, Some, None, unwrap_or}
 use Rattle.bus_semantics.specs.declared.entries.Actor.{Actor}
 use Rattle.bus_semantics.specs.declared.entries.Entry.{Entry}
 use Rattle.bus_semantics.specs.Plan.{Plan}
 use Rattle.bus_semantics.specs.History.{Noted}
-use Rattle.bus_semantics.specs.Wanted.{Wanted, to_start, wanted_by}
+use Rattle.bus_semantics.specs.Wanted.{Wanted, to_start, to_admit, to_end, wanted_by}
+use Rattle.bus_semantics.specs.Fitting.{answer_fits}
 use Rattle.port_objects.specs.declared.object.Object.{Object}
 use Rattle.port_objects.specs.declared.acting.Acted.{Acted}
 use Rattle.port_objects.specs.declared.acting.Acted.TheVariants.{Done, NotYet}
@@ -14,11 +15,22 @@ use Rattle.port_objects.specs.declared.acting.Shown.TheVariants.{NotDue, Unmatch
 use Rattle.port_objects.specs.Leading.{lead}
 use Rattle.port_objects.specs.Objects.{kept_of}
 
--- the entry is the actor's, of the wish, and what was kept leads by it to what is kept
+-- the event that a wish names for the entry: of an Admit or End
+abbrev pub event_of : Wanted → Option ℕ
+event_of (to_admit event) = Some event
+event_of (to_end event) = Some event
+event_of w = None
+
+-- an entry with the event that its wish names
+abbrev pub noted_for : Wanted → Entry → Noted
+noted_for w e = record { entry = e; event = event_of w }
+
+-- the entry is the actor's and of the wish, what it names as an answer fits, and what was kept leads by it to what is kept
 pub record IsMade (p : Plan) (object : ℕ) (a : Actor) (w : Wanted) (old new : Object) (e : Entry) : Type 0 where
   pub actor : e.actor ≡ a
-  pub wish : (event : ℕ) → wanted_by event e.deed ≡ w
-  pub leads : (event : Option ℕ) → lead p object (kept_of old) (record { entry = e; event = event }) ≡ Some (kept_of new)
+  pub wish : wanted_by (unwrap_or (event_of w) 0) e.deed ≡ w
+  pub answer : answer_fits p a e.deed ≡ true
+  pub leads : lead p object (kept_of old) (noted_for w e) ≡ Some (kept_of new)
 
 -- why a wish may not come: a start is not due; every other wish that may not come is none of the object's
 abbrev pub why_held : Wanted → Shown

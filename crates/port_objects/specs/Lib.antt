@@ -8,3 +8,7 @@ pub mod Acting
 pub mod Objects
 pub mod Answers
 pub mod Opening
+pub mod Plans
+pub mod Gathered
+pub mod Coming
+pub mod Benches

@@ -1,5 +1,5 @@
 -- The objects of a plan, as the code has them: what each keeps as plain data, and all in it that no call changes.
-use Rattle.std.specs.Prelude.{◌≡◌, ℕ, ◌<◌, map, length, unwrap_or}
+use Rattle.std.specs.Prelude.{◌≡◌, ℕ, suc, ◌<◌, List, map, length, slice_get, Some, unwrap_or}
 use Rattle.bus_semantics.specs.declared.entries.Actor.{Actor}
 use Rattle.bus_semantics.specs.Plan.{Plan, kind_of}
 use Rattle.bus_semantics.specs.Wanted.{Wanted}
@@ -37,3 +37,12 @@ IsOfPlan p object (Clock t) = ClockOfPlan p object t
 -- the object that a wish touches
 abbrev pub touched : Plan → Actor → Wanted → ℕ
 touched p a w = unwrap_or (object_of p a w) 0
+
+-- they are the plan's objects, each at its number
+pub record ArePlans (p : Plan) (objects : List Object) : Type 0 where
+  pub count : length objects ≡ suc (clock p)
+  pub each : (i : ℕ) (o : Object) → slice_get objects i ≡ Some o → IsOfPlan p i o
+
+-- the number is one of an object
+abbrev pub IsObject : Plan → (object : ℕ) → Type 0
+IsObject p object = object < p.objects

@@ -5,7 +5,13 @@ ghost use Rattle.bus_semantics.specs.Plan.{plan_of};
 ghost use Rattle.bus_semantics.specs.SoundPlan.{groups_fit};
 ghost use Rattle.bus_semantics.specs.Wanted.{wanted_of};
 ghost use Rattle.bus_semantics.specs.Objects.{object_of};
-ghost use Rattle.port_objects.specs.Objects.{IsOfPlan, touched};
+ghost use Rattle.bus_semantics.specs.declared.script.Mapping.{Mapping};
+ghost use Rattle.bus_semantics.specs.declared.entries.Entry.{Entry};
+ghost use Rattle.bus_semantics.specs.History.{Past};
+ghost use Rattle.port_objects.specs.declared.acting.Shown.{Shown};
+ghost use Rattle.port_objects.specs.declared.acting.Acted.TheVariants.{Done, NotYet};
+ghost use Rattle.port_objects.specs.Objects.{IsOfPlan, kept_of, touched};
+ghost use Rattle.port_objects.specs.Coming.{MayAsk, IsTheOne, NoneMayCome};
 ghost use Rattle.port_objects.specs.Answers.{IsAnswer, why_held};
 
 use crate::object::Object;
@@ -40,8 +46,26 @@ pub enum Shown {
     Unmatched,
 }
 
-/// Makes the entry of a wish on the object that it touches, where one may come. Else nothing changes. It takes no memory.
+/// Makes the entry of a wish on the object that it touches, where one may come. It takes no memory.
+///
+/// Done answers the one entry of the wish that may come after the entries for which the object stands, and the object then
+/// stands for them and that entry. NotYet comes exactly where there is none; it says why, and nothing changes.
 pub fn act(p: &BusPlan, object: &mut Object, who: &Actor, wish: &Wish) -> Acted
+    requires groups { groups_fit (plan_of p.now) ≡ true }
+    requires touching { object_of (plan_of p.now) who.now (wanted_of wish.now) ≡ Some (touched (plan_of p.now) who.now (wanted_of wish.now)) }
+    requires planned { IsOfPlan (plan_of p.now) (touched (plan_of p.now) who.now (wanted_of wish.now)) object.old }
+    ensures lead { IsAnswer (plan_of p.now) (touched (plan_of p.now) who.now (wanted_of wish.now)) who.now (wanted_of wish.now) object.old object.new result }
+    ensures planned { IsOfPlan (plan_of p.now) (touched (plan_of p.now) who.now (wanted_of wish.now)) object.new }
+    ensures done { (m : Mapping) (l : Past) (e : Entry) → MayAsk (plan_of p.now) m who.now (wanted_of wish.now) (kept_of object.old) l →
+        result ≡ Done e → IsTheOne (plan_of p.now) who.now (wanted_of wish.now) (kept_of object.new) l e }
+    ensures not_yet { (m : Mapping) (l : Past) (shown : Shown) → MayAsk (plan_of p.now) m who.now (wanted_of wish.now) (kept_of object.old) l →
+        result ≡ NotYet shown → NoneMayCome (plan_of p.now) who.now (wanted_of wish.now) l }
+{
+    act_by_kind(p, object, who, wish)
+}
+
+/// Makes the entry of a wish on an object, by its kind.
+fn act_by_kind(p: &BusPlan, object: &mut Object, who: &Actor, wish: &Wish) -> Acted
     requires groups { groups_fit (plan_of p.now) ≡ true }
     requires touching { object_of (plan_of p.now) who.now (wanted_of wish.now) ≡ Some (touched (plan_of p.now) who.now (wanted_of wish.now)) }
     requires planned { IsOfPlan (plan_of p.now) (touched (plan_of p.now) who.now (wanted_of wish.now)) object.old }

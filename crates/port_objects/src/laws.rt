@@ -1,14 +1,29 @@
-//! The law of leads.
+//! Laws of objects.
 
-ghost use Rattle.std.specs.Prelude.{◌≡◌, ◌<◌, ℕ, length, true, [], ◌∷◌, Some};
+ghost use Rattle.std.specs.Prelude.{◌≡◌, ◌<◌, ℕ, length, true, [], ◌∷◌, Some, is_some, IfSome};
+ghost use Rattle.bus_semantics.specs.declared.script.Mapping.{Mapping};
+ghost use Rattle.bus_semantics.specs.declared.entries.Actor.{Actor};
+ghost use Rattle.bus_semantics.specs.declared.entries.Entry.{Entry};
 ghost use Rattle.bus_semantics.specs.Plan.{Plan};
-ghost use Rattle.bus_semantics.specs.History.{Noted, Past};
-ghost use Rattle.bus_semantics.specs.Objects.{clock, touches};
+ghost use Rattle.bus_semantics.specs.Wanted.{Wanted, wanted_by};
+ghost use Rattle.bus_semantics.specs.History.{History, Noted, Past, noted, note};
+ghost use Rattle.bus_semantics.specs.Objects.{clock, object_of, touches, entries_of};
+ghost use Rattle.bus_semantics.specs.Fitting.{wish_fits};
+ghost use Rattle.bus_semantics.specs.Legal.{Answers, IsLegal};
 ghost use Rattle.bus_semantics.specs.Locality.{is_proper};
+ghost use Rattle.bus_semantics.specs.Sound.{IsSound};
 ghost use Rattle.port_objects.specs.Kept.{Kept};
+ghost use Rattle.port_objects.specs.declared.object.Object.{Object};
+ghost use Rattle.port_objects.specs.declared.acting.Shown.{Shown};
+ghost use Rattle.port_objects.specs.Objects.{kept_of, touched, IsObject};
+ghost use Rattle.port_objects.specs.Answers.{IsMade, IsHeld};
+ghost use Rattle.port_objects.specs.Coming.{MayAsk, IsTheOne, NoneMayCome};
 ghost use Rattle.port_objects.specs.Opening.{opening_group, opening_clock};
-ghost use Rattle.port_objects.specs.Standing.{Follows, Stands};
+ghost use Rattle.port_objects.specs.Plans.{IsUnqueuedPlan, HasObjects};
+ghost use Rattle.port_objects.specs.Standing.{Follows, IsPastOf, Stands};
 ghost use Rattle.port_objects.specs.Leading.{lead};
+
+use bus_semantics::answers_look_at_one_object;
 
 /// Where an object stands for a list of entries, and the lead of a further entry gives something, that entry is what the bus
 /// answers after the list and matches it, and what the lead gives stands for the list and the entry. The entry touches the
@@ -26,4 +41,48 @@ pub fn leads_are_legal()
 pub fn first_objects_stand_for_nothing()
     ensures group { (p : Plan) (group : ℕ) → group < length p.groups → Stands p group (opening_group p group) [] }
     ensures clock { (p : Plan) → Stands p (clock p) (opening_clock p) [] }
+{}
+
+/// The lead misses no entry that may come: where an object of a sound plan of unqueued data stands for a list of entries, and
+/// a further entry may follow them, the lead of that entry gives something.
+pub fn leads_miss_nothing()
+    ensures { (p : Plan) (m : Mapping) (object : ℕ) (before : Kept) (l : Past) (n : Noted) → IsSound p m → IsUnqueuedPlan p →
+        Stands p object before l → Follows p object l n → is_some (lead p object before n) ≡ true }
+{}
+
+/// Of one wish of an actor at most one entry may follow the entries of its object. (`by` is the event that started the
+/// activation.)
+pub fn one_entry_of_a_wish()
+    ensures { (p : Plan) (m : Mapping) (object : ℕ) (l : Past) (by : ℕ) (a b : Noted) → IsSound p m → IsUnqueuedPlan p →
+        Follows p object l a → Follows p object l b → b.entry.actor ≡ a.entry.actor →
+        wanted_by by b.entry.deed ≡ wanted_by by a.entry.deed → b.entry ≡ a.entry }
+{}
+
+/// The entries of a legal history that touch an object follow one after the other; so each matches those before it. And what
+/// follows these is what the bus answers after the whole history.
+pub fn legal_histories_part_into_objects()
+    ensures parts { (p : Plan) (m : Mapping) (h : History) (object : ℕ) → IsSound p m → IsUnqueuedPlan p → IsLegal p h →
+        IsPastOf p object (entries_of p h object) }
+    ensures whole { (p : Plan) (m : Mapping) (h : History) (e : Entry) (object : ℕ) → IsSound p m → IsLegal p h →
+        Follows p object (entries_of p h object) (note h e) → Answers p (noted h) (note h e) }
+{
+    answers_look_at_one_object();
+}
+
+/// A sound plan has what `make_objects` asks of a plan, and what a wish that fits its actor touches is an object of the plan.
+pub fn sound_plans_have_objects()
+    ensures asked { (p : Plan) (m : Mapping) → IsSound p m → HasObjects p }
+    ensures touched { (p : Plan) (m : Mapping) (a : Actor) (w : Wanted) → IsSound p m → wish_fits p a w ≡ true →
+        IfSome (object_of p a w) (IsObject p) }
+{}
+
+/// What is answered on an object by the lead, as benches that tell their objects answer, is the one entry of the wish that may
+/// come after the entries for which the object stands, or that none may.
+pub fn answers_are_what_may_come()
+    ensures made { (p : Plan) (m : Mapping) (a : Actor) (w : Wanted) (old new : Object) (l : Past) (e : Entry) →
+        object_of p a w ≡ Some (touched p a w) → MayAsk p m a w (kept_of old) l →
+        IsMade p (touched p a w) a w old new e → IsTheOne p a w (kept_of new) l e }
+    ensures held { (p : Plan) (m : Mapping) (a : Actor) (w : Wanted) (old new : Object) (l : Past) (shown : Shown) →
+        object_of p a w ≡ Some (touched p a w) → MayAsk p m a w (kept_of old) l →
+        IsHeld p (touched p a w) w old new shown → NoneMayCome p a w l }
 {}

@@ -2,14 +2,35 @@
 #![tactic(auto)]
 
 mod acting;
+mod among;
+mod bench;
+mod events;
 mod find;
 mod group;
 mod laws;
+mod making;
 mod object;
+mod plain_bench;
+#[cfg(test)]
+mod tests;
+mod threads;
 mod ticks;
+mod touching;
+mod waiting;
 
 pub use acting::{Acted, Shown, act};
+pub use bench::{Bench, Benched};
 pub use group::Group;
-pub use laws::{first_objects_stand_for_nothing, leads_are_legal};
+pub use laws::{
+    answers_are_what_may_come, first_objects_stand_for_nothing, leads_are_legal,
+    leads_miss_nothing, legal_histories_part_into_objects, one_entry_of_a_wish,
+    sound_plans_have_objects,
+};
+pub use making::make_objects;
 pub use object::Object;
+pub use plain_bench::PlainBench;
 pub use ticks::Ticks;
+pub use touching::object_of;
+
+/// There was no memory for what a call makes.
+pub type Memory = std::alloc::AllocError;

@@ -1,31 +1,18 @@
 use Rattle.bus_semantics.specs.Plan.{plan_of}
 use Rattle.bus_semantics.specs.Wanted.{wanted_of}
 use Rattle.port_objects.specs.Objects.{touched}
-use Rattle.port_objects.proofs.Answering.{group_made, group_held, clock_made, clock_held, timings_rise, inits_rise}
+use Rattle.port_objects.proofs.Staying.{stays_planned, done_is_one, not_yet_is_none}
 use Rattle.port_objects.proofs.acting.act.Goals as goal
 
-pub act-requires-in-Clock-clause-timings : goal.act-requires-in-Clock-clause-timings
-act-requires-in-Clock-clause-timings c = timings_rise (plan_of c.args.p.now) (touched (plan_of c.args.p.now) c.args.who.now (wanted_of c.args.wish.now)) c.args.object.now c.in-Clock.ticks c.in-Clock.is c.requires.planned
+pub returns-clause-planned : goal.returns-clause-planned
+returns-clause-planned c =
+    stays_planned (plan_of c.args.p.now) (touched (plan_of c.args.p.now) c.args.who.now (wanted_of c.args.wish.now)) c.args.who.now (wanted_of c.args.wish.now) c.args.object.now c.act_by_kind.new.object c.act_by_kind.result
+    c.requires.planned c.act_by_kind.ensures
 
-pub act-requires-in-Clock-clause-inits : goal.act-requires-in-Clock-clause-inits
-act-requires-in-Clock-clause-inits c = inits_rise (plan_of c.args.p.now) (touched (plan_of c.args.p.now) c.args.who.now (wanted_of c.args.wish.now)) c.args.object.now c.in-Clock.ticks c.in-Clock.is c.requires.planned
+pub returns-clause-done : goal.returns-clause-done
+returns-clause-done c = λ m l e ask is.
+    done_is_one (plan_of c.args.p.now) m c.args.who.now (wanted_of c.args.wish.now) c.args.object.now c.act_by_kind.new.object c.act_by_kind.result c.requires.touching c.act_by_kind.ensures l e ask is
 
-pub returns-in-Some : goal.returns-in-Some
-returns-in-Some c =
-    group_made (plan_of c.args.p.now) (touched (plan_of c.args.p.now) c.args.who.now (wanted_of c.args.wish.now)) c.args.who.now (wanted_of c.args.wish.now) c.args.object.now c.in-Unqueued.group c.act.new.self c.in-Some.deed c.in-Unqueued.is
-    c.in-Some.ensures
-
-pub returns-in-None : goal.returns-in-None
-returns-in-None c =
-    group_held (plan_of c.args.p.now) (touched (plan_of c.args.p.now) c.args.who.now (wanted_of c.args.wish.now)) (wanted_of c.args.wish.now) c.args.object.now c.in-Unqueued.group c.act.new.self c.why_not.result c.why_not.ensures c.in-Unqueued.is
-    c.in-None.ensures
-
-pub returns-in-Some-act : goal.returns-in-Some-act
-returns-in-Some-act c =
-    clock_made (plan_of c.args.p.now) (touched (plan_of c.args.p.now) c.args.who.now (wanted_of c.args.wish.now)) c.args.who.now (wanted_of c.args.wish.now) c.args.object.now c.in-Clock.ticks c.act-in-Clock.new.self c.in-Some-act.deed c.in-Clock.is
-    c.in-Some-act.ensures
-
-pub returns-in-None-act : goal.returns-in-None-act
-returns-in-None-act c =
-    clock_held (plan_of c.args.p.now) (touched (plan_of c.args.p.now) c.args.who.now (wanted_of c.args.wish.now)) (wanted_of c.args.wish.now) c.args.object.now c.in-Clock.ticks c.act-in-Clock.new.self c.why_not-in-None-act.result c.why_not-in-None-act.ensures c.in-Clock.is
-    c.in-None-act.ensures
+pub returns-clause-not_yet : goal.returns-clause-not_yet
+returns-clause-not_yet c = λ m l shown ask is.
+    not_yet_is_none (plan_of c.args.p.now) m c.args.who.now (wanted_of c.args.wish.now) c.args.object.now c.act_by_kind.new.object c.act_by_kind.result c.requires.touching c.act_by_kind.ensures l shown ask is

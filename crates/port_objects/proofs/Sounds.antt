@@ -1,0 +1,143 @@
+-- A sound plan has what its objects need, and a wish that fits touches an object that there is.
+use Rattle.std.proofs.Common.{◌≡◌, ℕ, zero, suc, ◌+◌, ◌<◌, Bool, true, ◌&&◌, ◌==◌, refl, ◌∙◌, ap, subst, arith, List, [], ◌∷◌, length, Option, Some, None}
+use Rattle.std.specs.Prelude.{IfSome, nat_lt, nat_le, option_map}
+use Rattle.std.specs.List.{list_all, slice_get}
+use Rattle.std.proofs.lemmas.Bool.{false≢true}
+use Rattle.std.proofs.lemmas.Bool.Decides.{nat_tests}
+use Rattle.rte_value.specs.Values.{same_number}
+use Rattle.bus_semantics.specs.declared.plan.AreaPlan.{AreaPlan}
+use Rattle.bus_semantics.specs.declared.plan.MachinePlan.{MachinePlan}
+use Rattle.bus_semantics.specs.declared.plan.EventPlan.{EventPlan}
+use Rattle.bus_semantics.specs.declared.plan.EventKind.{EventKind}
+use Rattle.bus_semantics.specs.declared.plan.EventKind.TheVariants.{Timing, Init, DataReceived, Invoked, Returns, ModeSwitch, Ack}
+use Rattle.bus_semantics.specs.declared.script.Mapping.{Mapping}
+use Rattle.bus_semantics.specs.declared.entries.Actor.{Actor}
+use Rattle.bus_semantics.specs.declared.entries.Actor.TheVariants.{Env, Machine, Act}
+use Rattle.bus_semantics.specs.Plan.{Plan, every_from, group_of, kind_of, instance_of, server_of, machine_of_port}
+use Rattle.bus_semantics.specs.Wanted.{Wanted, to_tick, to_start, to_admit, to_fetch, to_write, to_read, to_invalidate, to_see_updated, to_send, to_receive, to_ask, to_hear, to_take_result, to_return, to_enter, to_leave, to_switch, to_see_mode, to_move_on, to_publish, to_end}
+use Rattle.bus_semantics.specs.Objects.{first_server, first_area, first_machine, clock, object_of, object_of_kind, disabler_of, machine_of_event, owing, served_by}
+use Rattle.bus_semantics.specs.Owners.{area_fits, switch_fits}
+use Rattle.bus_semantics.specs.Fitting.{wish_fits}
+use Rattle.bus_semantics.specs.SoundEvents.{event_sound, kind_sound}
+use Rattle.bus_semantics.specs.Sound.{IsSound}
+use Rattle.port_objects.specs.Objects.{IsObject}
+use Rattle.port_objects.specs.Plans.{HasObjects, has_period}
+use Rattle.port_objects.proofs.Opened.{group_within}
+use Rattle.port_objects.proofs.Placing.{both, number_same}
+use Rattle.port_objects.proofs.Plain.{by_actor}
+use Rattle.port_objects.proofs.Ranges.{sought, kind_fits, invoked_server, switching_machine, acked_machine, disabling_machine, joined_server, port_machine, serving_server}
+
+all_where : {X : Type 0} (test : X → Bool) (xs : List X) → ((i : ℕ) (x : X) → slice_get xs i ≡ Some x → test x ≡ true) → list_all test xs ≡ true
+all_where test [] each = refl
+all_where test (x ∷ xs) each = ap (λ b. b && list_all test xs) (each zero x refl) ∙ all_where test xs (λ i y there. each (suc i) y there)
+
+pub has_objects : (p : Plan) (m : Mapping) → IsSound p m → HasObjects p
+has_objects p m sound = record {
+  groups = sound.groups;
+  counted = sound.objects;
+  few_events = (both (every_from 0 (event_sound p) p.events) (nat_le (length p.events) 16384) sound.events).1;
+  periods = all_where (λ (v : EventPlan). has_period v.kind) p.events (λ i v there. of_kind i v.runnable (instance_of p v.runnable) v.kind (kind_fits p m sound i v there));
+}
+  where
+    of_kind : (e r : ℕ) (home : Option ℕ) (k : EventKind) → kind_sound p e r home k ≡ true → has_period k ≡ true
+    of_kind e r home (Timing period) fit = (both (nat_le 1 period) (nat_le period 1000000) fit).0
+    of_kind e r home Init fit = refl
+    of_kind e r home (DataReceived x) fit = refl
+    of_kind e r home (Invoked s) fit = refl
+    of_kind e r home (Returns q) fit = refl
+    of_kind e r home (ModeSwitch n moment) fit = refl
+    of_kind e r home (Ack n) fit = refl
+
+where_some : (o : Option ℕ) (P : ℕ → Type 0) → ((n : ℕ) → o ≡ Some n → P n) → IfSome o P
+where_some None P each = tt
+where_some (Some n) P each = each n refl
+
+where_mapped : (f : ℕ → ℕ) (o : Option ℕ) (P : ℕ → Type 0) → ((n : ℕ) → o ≡ Some n → P (f n)) → IfSome (option_map f o) P
+where_mapped f None P each = tt
+where_mapped f (Some n) P each = each n refl
+
+module _ (p : Plan) (m : Mapping) (sound : IsSound p m) where
+  counted : p.objects ≡ clock p + 1
+  counted = number_same p.objects (clock p + 1) (both (p.objects == clock p + 1) (nat_le p.objects 16384) sound.objects).0
+
+  the_clock : IsObject p (clock p)
+  the_clock = let all = counted in omega arith
+
+  a_group : (x : ℕ) → IfSome (group_of p x) (IsObject p)
+  a_group x = where_some (group_of p x) (IsObject p) (λ n is. within n (group_within p x n sound.groups is))
+    where
+      within : (n : ℕ) → n < length p.groups → IsObject p n
+      within n less = let all = counted in omega arith
+
+  a_server : (o : Option ℕ) → ((s : ℕ) → o ≡ Some s → s < length p.servers) → IfSome (option_map (λ n. first_server p + n) o) (IsObject p)
+  a_server o below = where_mapped (λ n. first_server p + n) o (IsObject p) (λ n is. within n (below n is))
+    where
+      within : (n : ℕ) → n < length p.servers → IsObject p (first_server p + n)
+      within n less = let all = counted in omega arith
+
+  an_area : (x : ℕ) → x < length p.areas → IsObject p (first_area p + x)
+  an_area x less = let all = counted in omega arith
+
+  a_machine : (o : Option ℕ) → ((n : ℕ) → o ≡ Some n → n < length p.machines) → IfSome (option_map (λ n. first_machine p + n) o) (IsObject p)
+  a_machine o below = where_mapped (λ n. first_machine p + n) o (IsObject p) (λ n is. within n (below n is))
+    where
+      within : (n : ℕ) → n < length p.machines → IsObject p (first_machine p + n)
+      within n less = let all = counted in omega arith
+
+  this_machine : (n : ℕ) → n < length p.machines → IsObject p (first_machine p + n)
+  this_machine n less = let all = counted in omega arith
+
+  of_event : (e : ℕ) (k : EventKind) → kind_of p e ≡ k → IfSome (object_of_kind p k) (IsObject p)
+  of_event e (Timing period) is = the_clock
+  of_event e Init is = the_clock
+  of_event e (DataReceived x) is = a_group x
+  of_event e (Invoked s) is = let less = invoked_server p m sound e s is in let all = counted in omega arith
+  of_event e (Returns q) is = a_server (server_of p q) (joined_server p m sound q)
+  of_event e (ModeSwitch n moment) is = this_machine n (switching_machine p m sound e n moment is)
+  of_event e (Ack n) is = this_machine n (acked_machine p m sound e n is)
+
+  matters : (e n : ℕ) → machine_of_event p e ≡ Some n → n < length p.machines
+  matters e n is = by_kind (kind_of p e) refl is
+    where
+      by_kind : (k : EventKind) → kind_of p e ≡ k → owing k (disabler_of p e) ≡ Some n → n < length p.machines
+      by_kind (ModeSwitch o moment) kind own = let same : o ≡ n = cc in subst (λ z. z < length p.machines) same (switching_machine p m sound e o moment kind)
+      by_kind (Timing period) kind own = disabling_machine p m sound e n own
+      by_kind Init kind own = disabling_machine p m sound e n own
+      by_kind (DataReceived x) kind own = disabling_machine p m sound e n own
+      by_kind (Invoked s) kind own = disabling_machine p m sound e n own
+      by_kind (Returns q) kind own = disabling_machine p m sound e n own
+      by_kind (Ack o) kind own = disabling_machine p m sound e n own
+
+  area_within : (home : Option ℕ) (x : ℕ) → area_fits p home x ≡ true → IsObject p (first_area p + x)
+  area_within home x fit = an_area x (sought p.areas x (λ (a : AreaPlan). same_number (Some a.instance) home) fit).within
+
+  switch_within : (home : Option ℕ) (n mode : ℕ) → switch_fits p home n mode ≡ true → IsObject p (first_machine p + n)
+  switch_within home n mode fit = this_machine n (sought p.machines n (λ (v : MachinePlan). same_number v.instance home && nat_lt mode (length v.modes)) fit).within
+
+  pub touches_an_object : (a : Actor) (w : Wanted) → wish_fits p a w ≡ true → IfSome (object_of p a w) (IsObject p)
+  touches_an_object a to_tick fit = the_clock
+  touches_an_object a (to_start e) fit = of_event e (kind_of p e) refl
+  touches_an_object a (to_admit e) fit = a_machine (disabler_of p e) (disabling_machine p m sound e)
+  touches_an_object a (to_fetch x) fit = a_group x
+  touches_an_object a (to_write x ws) fit = a_group x
+  touches_an_object a (to_read x) fit = a_group x
+  touches_an_object a (to_invalidate x) fit = a_group x
+  touches_an_object a (to_see_updated x) fit = a_group x
+  touches_an_object a (to_send x ws) fit = a_group x
+  touches_an_object a (to_receive x) fit = a_group x
+  touches_an_object a (to_publish x ws) fit = a_group x
+  touches_an_object a (to_ask q ws) fit = a_server (server_of p q) (joined_server p m sound q)
+  touches_an_object a (to_hear q) fit = a_server (server_of p q) (joined_server p m sound q)
+  touches_an_object a (to_take_result q) fit = a_server (server_of p q) (joined_server p m sound q)
+  touches_an_object a (to_return code ws) fit = a_server (served_by p a) (serving_server p m sound a)
+  touches_an_object a (to_enter x) fit = by_actor p a (to_enter x) fit (λ f. absurd (false≢true f)) (λ k f. area_within (instance_of p k.runnable) x f) (λ n there f. absurd (false≢true f))
+  touches_an_object a (to_leave x) fit = by_actor p a (to_leave x) fit (λ f. absurd (false≢true f)) (λ k f. area_within (instance_of p k.runnable) x f) (λ n there f. absurd (false≢true f))
+  touches_an_object a (to_switch n mode) fit = by_actor p a (to_switch n mode) fit (λ f. switch_within None n mode f) (λ k f. switch_within (instance_of p k.runnable) n mode f) (λ o there f. absurd (false≢true f))
+  touches_an_object a (to_see_mode port) fit = a_machine (machine_of_port p port) (port_machine p m sound port)
+  touches_an_object Env to_move_on fit = tt
+  touches_an_object (Act k) to_move_on fit = tt
+  touches_an_object (Machine n) to_move_on fit =
+      let there : nat_lt n (length p.machines) ≡ true = (both (nat_lt n (length p.machines)) true fit).0 in
+      let less : n < length p.machines = grind (arith, nat_tests) in
+      this_machine n less
+  touches_an_object a (to_end e) fit = a_machine (machine_of_event p e) (matters e)

@@ -1,0 +1,107 @@
+-- What a bench answers, and what it tells of it: the objects where it has them all to itself, and its own work where it keeps an account.
+use Rattle.std.specs.Prelude.{◌≡◌, ◌≤◌, ℕ, suc, ◌+◌, List, [], ◌∷◌, ◌++◌, set, slice_get, true, Option, Some, None, unwrap_or}
+use Rattle.bus_semantics.specs.declared.entries.Actor.{Actor}
+use Rattle.bus_semantics.specs.declared.entries.Entry.{Entry}
+use Rattle.bus_semantics.specs.declared.entries.Stamped.{Stamped}
+use Rattle.bus_semantics.specs.declared.plan.BusPlan.{BusPlan}
+use Rattle.bus_semantics.specs.Plan.{Plan}
+use Rattle.bus_semantics.specs.Wanted.{Wanted, wanted_by}
+use Rattle.bus_semantics.specs.Fitting.{wish_fits, answer_fits}
+use Rattle.bus_semantics.specs.Objects.{object_of}
+use Rattle.port_objects.specs.declared.object.Object.{Object}
+use Rattle.port_objects.specs.declared.acting.Shown.{Shown}
+use Rattle.port_objects.specs.declared.acting.Acted.{Acted}
+use Rattle.port_objects.specs.declared.acting.Acted.TheVariants as acted
+use Rattle.port_objects.specs.declared.bench.Benched.{Benched}
+use Rattle.port_objects.specs.declared.bench.Benched.TheVariants.{Done, NotYet, Contended}
+use Rattle.port_objects.specs.Objects.{IsObject}
+use Rattle.port_objects.specs.Answers.{event_of, IsMade, IsHeld}
+use Rattle.port_objects.specs.Coming.{asks_its_own}
+
+-- ---- what may be asked
+
+-- the wish fits its actor and touches the object, which is one of the plan's; a start is of the actor's own runnable
+pub record IsAsked (p : Plan) (object : ℕ) (a : Actor) (w : Wanted) : Type 0 where
+  pub touching : object_of p a w ≡ Some object
+  pub there : IsObject p object
+  pub fits : wish_fits p a w ≡ true
+  pub own : asks_its_own p a w ≡ true
+
+-- ---- the entry
+
+-- the entry is the actor's and of the wish, what it names as an answer fits, and it comes with the event that the wish names
+pub record IsStampedFor (p : Plan) (a : Actor) (w : Wanted) (s : Stamped) : Type 0 where
+  pub actor : s.entry.actor ≡ a
+  pub wish : wanted_by (unwrap_or (event_of w) 0) s.entry.deed ≡ w
+  pub answer : answer_fits p a s.entry.deed ≡ true
+  pub event : s.event ≡ event_of w
+
+abbrev pub EntryIsFor : Plan → Actor → Wanted → Benched → Type 0
+EntryIsFor p a w (Done s) = IsStampedFor p a w s
+EntryIsFor p a w r = Unit {0}
+
+-- ---- the room: how many entries it can still make
+
+abbrev pub RoomAfter : (old new : ℕ) → Benched → Type 0
+RoomAfter old new (Done s) = old ≡ suc new
+RoomAfter old new r = new ≡ old
+
+-- ---- the objects, where it tells them: the one that is touched changes as `act` changes it, and every other stays
+
+pub record MadeOn (p : Plan) (object : ℕ) (a : Actor) (w : Wanted) (objects : List Object) (after : Option (List Object)) (e : Entry) : Type 0 where
+  pub before : Object
+  pub now : Object
+  pub found : slice_get objects object ≡ Some before
+  pub made : IsMade p object a w before now e
+  pub others : after ≡ Some (set objects object now)
+
+pub record HeldOn (p : Plan) (object : ℕ) (w : Wanted) (objects : List Object) (after : Option (List Object)) (shown : Shown) : Type 0 where
+  pub before : Object
+  pub found : slice_get objects object ≡ Some before
+  pub held : IsHeld p object w before before shown
+  pub same : after ≡ Some objects
+
+abbrev pub ActedOn : Plan → (object : ℕ) → Actor → Wanted → (old new : List Object) → Acted → Type 0
+ActedOn p n a w objects after (acted.Done e) = MadeOn p n a w objects (Some after) e
+ActedOn p n a w objects after (acted.NotYet shown) = HeldOn p n w objects (Some after) shown
+
+-- where it tells its objects, it never answers Contended
+abbrev pub ObjectsAfter : Plan → (object : ℕ) → Actor → Wanted → (old new : Option (List Object)) → Benched → Type 0
+ObjectsAfter p n a w None new r = new ≡ None
+ObjectsAfter p n a w (Some objects) new (Done s) = MadeOn p n a w objects new s.entry
+ObjectsAfter p n a w (Some objects) new (NotYet shown) = HeldOn p n w objects new shown
+ObjectsAfter p n a w (Some objects) new Contended = ⊥
+
+-- ---- its work, where it tells it
+
+-- the entries that it made, the oldest first, and how often it answered NotYet and Contended
+pub record Work : Type 0 where
+  pub made : List Stamped
+  pub not_yet : ℕ
+  pub contended : ℕ
+
+-- entries are added at the end, and no count falls
+pub record Further (old : Work) (new : Option Work) (added : List Stamped) (held lost : ℕ) : Type 0 where
+  pub work : Work
+  pub told : new ≡ Some work
+  pub made : work.made ≡ old.made ++ added
+  pub not_yet : old.not_yet + held ≤ work.not_yet
+  pub contended : old.contended + lost ≤ work.contended
+
+abbrev pub IsFurther : Option Work → Option Work → (added : List Stamped) → (held lost : ℕ) → Type 0
+IsFurther None new added held lost = new ≡ None
+IsFurther (Some old) new added held lost = Further old new added held lost
+
+abbrev pub WorkAfter : Option Work → Option Work → Benched → Type 0
+WorkAfter old new (Done s) = IsFurther old new (s ∷ []) 0 0
+WorkAfter old new (NotYet shown) = IsFurther old new [] 1 0
+WorkAfter old new Contended = IsFurther old new [] 0 1
+
+-- ---- a plain bench
+
+-- its plan, its objects, how many entries it can still make, and the next stamp
+pub record Plain : Type 0 where
+  pub plan : BusPlan
+  pub objects : List Object
+  pub room : ℕ
+  pub next : ℕ

@@ -1,0 +1,31 @@
+//! One entry on an object among all.
+
+ghost use Rattle.std.specs.Prelude.{◌≡◌, Some};
+ghost use Rattle.bus_semantics.specs.Plan.{plan_of};
+ghost use Rattle.bus_semantics.specs.Wanted.{wanted_of};
+ghost use Rattle.bus_semantics.specs.Objects.{object_of};
+ghost use Rattle.port_objects.specs.Objects.{IsObject, ArePlans};
+ghost use Rattle.port_objects.specs.Plans.{HasObjects};
+ghost use Rattle.port_objects.specs.Benches.{ActedOn};
+
+use crate::acting::{Acted, act};
+use crate::object::Object;
+use bus_semantics::{Actor, BusPlan, Wish};
+
+/// Makes the entry of a wish on the object of this number, where one may come.
+pub(crate) fn act_among(
+    p: &BusPlan,
+    objects: &mut Vec<Object>,
+    object: u32,
+    who: &Actor,
+    wish: &Wish,
+) -> Acted
+    requires sound { HasObjects (plan_of p.now) }
+    requires planned { ArePlans (plan_of p.now) objects.old.items }
+    requires touching { object_of (plan_of p.now) who.now (wanted_of wish.now) ≡ Some object }
+    requires there { IsObject (plan_of p.now) object }
+    ensures planned { ArePlans (plan_of p.now) objects.new.items }
+    ensures on { ActedOn (plan_of p.now) object who.now (wanted_of wish.now) objects.old.items objects.new.items result }
+{
+    act(p, &mut objects[object as usize], who, wish)
+}

@@ -1,0 +1,122 @@
+//! A bench of one thread.
+
+ghost use Rattle.std.specs.Prelude.{◌≡◌, ◌<◌, ◌-◌, suc};
+ghost use Rattle.bus_semantics.specs.Plan.{plan_of};
+ghost use Rattle.bus_semantics.specs.Wanted.{wanted_of};
+ghost use Rattle.port_objects.specs.Objects.{ArePlans};
+ghost use Rattle.port_objects.specs.Plans.{HasObjects};
+ghost use Rattle.port_objects.specs.Answers.{event_of};
+
+use crate::acting::Acted;
+use crate::among::act_among;
+use crate::bench::{Bench, Benched};
+use crate::object::Object;
+use bus_semantics::{Actor, BusPlan, Entry, Stamped, Wish};
+use std::marker::Model;
+
+/// All objects of a plan, which one thread has to itself. It tells its objects and not its work, and never answers
+/// `Contended`. Its stamps begin at 0.
+#[derive(Drop)]
+pub struct PlainBench<'a> {
+    plan: &'a BusPlan,
+    objects: Vec<Object>,
+    room: u32,
+    next: u64,
+}
+
+impl<'a> Model for PlainBench<'a> {
+    ghost use Rattle.std.specs.Prelude.{◌≡◌, ◌+◌, ◌^◌, ◌≤◌};
+    ghost use Rattle.bus_semantics.specs.Plan.{plan_of};
+    ghost use Rattle.port_objects.specs.Objects.{ArePlans};
+    ghost use Rattle.port_objects.specs.Plans.{HasObjects};
+    ghost use Rattle.port_objects.specs.Benches.{Plain};
+    ghost use Rattle.runnable_lang.specs.contracts.stmt.Stmt as statements;
+    ghost use Rattle.runnable_lang.specs.contracts.stmt.Expr as expressions;
+    ghost use Rattle.std.specs.Coded.{codes};
+
+    ghost Value = { Plain };
+
+    ghost coded = { Prim.hlevel (codes, statements.the_row.coded, expressions.the_row.coded) };
+
+    ghost view = { λ b. record { plan = b.plan.now; objects = b.objects.items; room = b.room; next = b.next } };
+
+    ghost invariant = { λ b. HasObjects (plan_of b.plan.now) × ArePlans (plan_of b.plan.now) b.objects.items × (b.next + b.room ≤ 2 ^ 32) };
+}
+
+impl<'a> PlainBench<'a> {
+    /// A bench of these objects of the plan, each at its number, with room for so many entries. It takes no memory.
+    pub fn new(plan: &'a BusPlan, objects: Vec<Object>, room: u32) -> PlainBench<'a>
+        requires sound { HasObjects (plan_of plan.now) }
+        requires planned { ArePlans (plan_of plan.now) objects.items }
+        ensures { result ≡ record { plan = plan.now; objects = objects.items; room = room; next = 0 } }
+    {
+        PlainBench {
+            plan,
+            objects,
+            room,
+            next: 0,
+        }
+    }
+
+    /// Its objects, given back; they are the plan's. It takes no memory.
+    pub fn into_objects(self) -> Vec<Object>
+        ensures objects { result.items ≡ self.entry.objects }
+        ensures planned { ArePlans (plan_of self.entry.plan) result.items }
+    {
+        self.objects
+    }
+
+    /// The stamped entry with the next stamp.
+    fn stamped(&mut self, entry: Entry, event: Option<u32>) -> Stamped
+        requires { 0 < self.old.room }
+        ensures stamped { result ≡ record { stamp = self.old.next; entry = entry; event = event } }
+        ensures bench { self.new ≡ record { plan = self.old.plan; objects = self.old.objects; room = self.old.room - 1; next = suc self.old.next } }
+    {
+        let stamp = self.next;
+        self.next += 1;
+        self.room -= 1;
+        Stamped {
+            stamp,
+            entry,
+            event,
+        }
+    }
+}
+
+/// The event that a wish names for its entry: of an Admit or End.
+fn event_of(wish: &Wish) -> Option<u32>
+    ensures { result ≡ event_of (wanted_of wish.now) }
+{
+    match wish {
+        Wish::Admit { event } | Wish::End { event } => Some(*event),
+        _ => None,
+    }
+}
+
+impl<'a> Bench for PlainBench<'a> {
+    ghost use Rattle.std.specs.Prelude.{Some, None};
+    ghost use Rattle.bus_semantics.specs.Plan.{plan_of};
+
+    type Home = ();
+
+    ghost home = { λ b. tt };
+
+    ghost plan = { λ b. plan_of b.plan };
+
+    ghost room = { λ b. b.room };
+
+    ghost objects = { λ b. Some b.objects };
+
+    ghost work = { λ b. None };
+
+    fn act(&mut self, object: u32, who: &Actor, wish: &Wish) -> Benched {
+        match act_among(self.plan, &mut self.objects, object, who, wish) {
+            Acted::Done(entry) => Benched::Done(self.stamped(entry, event_of(wish))),
+            Acted::NotYet(shown) => Benched::NotYet(shown),
+        }
+    }
+
+    fn stamp(&mut self, entry: &Entry) -> u64 {
+        self.stamped(*entry, None).stamp
+    }
+}
