@@ -114,18 +114,18 @@ kind_placed p a e test fit passes = placed (λ f. test (kind_of p f)) (length p.
 flag_there : (flags : List Bool) (i : ℕ) (b : Bool) → slice_get flags i ≡ Some b → b ≡ true → is_set flags i ≡ true
 flag_there flags i b there on = rw (there, on) refl
 
-flag_here : (flags : List Bool) (i : ℕ) (b c : Bool) → slice_get flags i ≡ Some c → same_bool b c ≡ true → has_flag b flags i ≡ true
+pub flag_here : (flags : List Bool) (i : ℕ) (b c : Bool) → slice_get flags i ≡ Some c → same_bool b c ≡ true → has_flag b flags i ≡ true
 flag_here flags i b c there same = rw there same
 
-given_where : {X : Type 0} (b : Bool) (x : X) → b ≡ true → is_some (given b x) ≡ true
+pub given_where : {X : Type 0} (b : Bool) (x : X) → b ≡ true → is_some (given b x) ≡ true
 given_where b x on = rw on refl
 
-then_where : {X Y : Type 0} (f : X → Option Y) (o : Option X) (x : X) → o ≡ Some x → is_some (f x) ≡ true → is_some (option_and_then f o) ≡ true
+pub then_where : {X Y : Type 0} (f : X → Option Y) (o : Option X) (x : X) → o ≡ Some x → is_some (f x) ≡ true → is_some (option_and_then f o) ≡ true
 then_where f o x there some = rw there some
 
 -- ---- a group
 
-not_clock : {X : Type 0} (p : Plan) (g : ℕ) → IsUnqueuedPlan p → g < length p.groups → same_number (Some (clock p)) (Some g) ≡ true → X
+pub not_clock : {X : Type 0} (p : Plan) (g : ℕ) → IsUnqueuedPlan p → g < length p.groups → same_number (Some (clock p)) (Some g) ≡ true → X
 not_clock p g plain within e = let same : clock p ≡ g = number_same (clock p) g e in let last = clock_last p plain in absurd (omega arith)
 
 module _ (p : Plan) (m : Mapping) (sound : IsSound p m) (plain : IsUnqueuedPlan p) (g : ℕ) (within : g < length p.groups)
@@ -182,7 +182,7 @@ module _ (p : Plan) (m : Mapping) (sound : IsSound p m) (plain : IsUnqueuedPlan 
 
 -- ---- the clock
 
-not_group : {X : Type 0} (p : Plan) (m : Mapping) (x object : ℕ) → IsSound p m → IsUnqueuedPlan p → object ≡ clock p → is_in_group p object x ≡ true → X
+pub not_group : {X : Type 0} (p : Plan) (m : Mapping) (x object : ℕ) → IsSound p m → IsUnqueuedPlan p → object ≡ clock p → is_in_group p object x ≡ true → X
 not_group p m x object sound plain at inside =
     let of = member_of p object x inside in
     let found : group_of p x ≡ Some object = ap (λ (o : Option ElemPlan). option_map_or (λ (e : ElemPlan). Some e.group) o None) of.found ∙ ap (λ n. Some n) of.group in
@@ -236,7 +236,7 @@ module _ (p : Plan) (m : Mapping) (sound : IsSound p m) (plain : IsUnqueuedPlan 
 
 -- ---- the whole
 
-mapped_where : {X Y : Type 0} (f : X → Y) (o : Option X) → is_some o ≡ true → is_some (option_map f o) ≡ true
+pub mapped_where : {X Y : Type 0} (f : X → Y) (o : Option X) → is_some o ≡ true → is_some (option_map f o) ≡ true
 mapped_where f None some = some
 mapped_where f (Some x) some = refl
 

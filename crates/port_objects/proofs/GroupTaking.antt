@@ -41,10 +41,10 @@ starts_by p g events k d by event same = absurd (cc same)
 
 -- ---- reads, fetches and looks at a flag
 
-has_itself : (k : Kept) (r : ℕ) (v : Value) → Some v ≡ value_for r k → has_value v r k ≡ true
+pub has_itself : (k : Kept) (r : ℕ) (v : Value) → Some v ≡ value_for r k → has_value v r k ≡ true
 has_itself k r v e = rw (← e) ((same_words-Decides (words_of v) (words_of v)).1 refl)
 
-flag_itself : (b : Bool) → same_bool b b ≡ true
+pub flag_itself : (b : Bool) → same_bool b b ≡ true
 flag_itself true = refl
 flag_itself false = refl
 

@@ -19,3 +19,4 @@ pub mod Parts
 pub mod Coming
 pub mod Staying
 pub mod Benching
+pub mod Unheld

@@ -47,7 +47,7 @@ pub data Starting (k : EventKind) : Type 0 where
   at_init : k ≡ Init → Starting k
   at_data : (x : ℕ) → k ≡ DataReceived x → Starting k
 
-untouched : {X : Type 0} (f : ℕ → ℕ) (o : Option ℕ) (object : ℕ) → o ≡ None → same_number (option_map f o) (Some object) ≡ true → X
+pub untouched : {X : Type 0} (f : ℕ → ℕ) (o : Option ℕ) (object : ℕ) → o ≡ None → same_number (option_map f o) (Some object) ≡ true → X
 untouched f o object none e = absurd (false≢true (sym (ap (λ q. same_number (option_map f q) (Some object)) none) ∙ e))
 
 -- who may wish
@@ -105,19 +105,19 @@ module _ (p : Plan) (m : Mapping) (sound : IsSound p m) (plain : IsUnqueuedPlan 
       by_kind (Returns q) is = never_disabled e
       by_kind (Ack n) is = never_disabled e
 
-  none_queued : {X : Type 0} (home : Option ℕ) (test : ElemPlan → Bool) (x : ℕ) → ((e : ElemPlan) → test e ≡ true → is_queued e ≡ true) → elem_fits p home test x ≡ true → X
+  pub none_queued : {X : Type 0} (home : Option ℕ) (test : ElemPlan → Bool) (x : ℕ) → ((e : ElemPlan) → test e ≡ true → is_queued e ≡ true) → elem_fits p home test x ≡ true → X
   none_queued home test x queued fit =
       let at = sought p.elements x (λ (e : ElemPlan). same_number e.instance home && test e) fit in
       let is : is_queued at.item ≡ true = queued at.item (both (same_number at.item.instance home) (test at.item) at.holds).1 in
       clash (not (is_queued at.item)) (all_has (λ (e : ElemPlan). not (is_queued e)) p.elements x at.item plain.unqueued at.found) (ap not is)
 
-  no_area : {X : Type 0} (home : Option ℕ) (x : ℕ) → area_fits p home x ≡ true → X
+  pub no_area : {X : Type 0} (home : Option ℕ) (x : ℕ) → area_fits p home x ≡ true → X
   no_area home x fit = let none = no_areas in let less = (sought p.areas x (λ (a : AreaPlan). same_number (Some a.instance) home) fit).within in absurd (omega arith)
 
-  no_switch : {X : Type 0} (home : Option ℕ) (n mode : ℕ) → switch_fits p home n mode ≡ true → X
+  pub no_switch : {X : Type 0} (home : Option ℕ) (n mode : ℕ) → switch_fits p home n mode ≡ true → X
   no_switch home n mode fit = let none = no_machines in let less = (sought p.machines n (λ (v : MachinePlan). same_number v.instance home && nat_lt mode (length v.modes)) fit).within in absurd (omega arith)
 
-  no_such_machine : {X : Type 0} (n : ℕ) → nat_lt n (length p.machines) ≡ true → X
+  pub no_such_machine : {X : Type 0} (n : ℕ) → nat_lt n (length p.machines) ≡ true → X
   no_such_machine n e = let none = no_machines in let less : n < length p.machines = grind (arith, nat_tests) in absurd (omega arith)
 
   -- ---- what touches an object

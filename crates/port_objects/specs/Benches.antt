@@ -46,6 +46,21 @@ abbrev pub RoomAfter : (old new : ℕ) → Benched → Type 0
 RoomAfter old new (Done s) = old ≡ suc new
 RoomAfter old new r = new ≡ old
 
+-- ---- its next stamp, where it tells it: each entry takes it
+
+abbrev pub StampAfter : Option ℕ → Option ℕ → (added : Option Stamped) → Type 0
+StampAfter None new added = new ≡ None
+StampAfter (Some next) new None = new ≡ Some next
+StampAfter (Some next) new (Some s) = (s.stamp ≡ next) × (new ≡ Some (suc next))
+
+abbrev pub added_by : Benched → Option Stamped
+added_by (Done s) = Some s
+added_by r = None
+
+-- an entry that touches no object, with its stamp
+abbrev pub stamped_alone : (stamp : ℕ) → Entry → Stamped
+stamped_alone stamp e = record { stamp = stamp; entry = e; event = None }
+
 -- ---- the objects, where it tells them: the one that is touched changes as `act` changes it, and every other stays
 
 pub record MadeOn (p : Plan) (object : ℕ) (a : Actor) (w : Wanted) (objects : List Object) (after : Option (List Object)) (e : Entry) : Type 0 where

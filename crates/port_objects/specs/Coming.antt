@@ -1,5 +1,5 @@
 -- What comes of a wish after the entries that its object stands for: the one entry that may come, or that none may.
-use Rattle.std.specs.Prelude.{◌≡◌, ◌∷◌, Bool, true, Some, unwrap_or}
+use Rattle.std.specs.Prelude.{◌≡◌, ◌∷◌, Bool, true, false, Some, unwrap_or}
 use Rattle.rte_value.specs.Values.{same_number}
 use Rattle.bus_semantics.specs.declared.script.Mapping.{Mapping}
 use Rattle.bus_semantics.specs.declared.entries.Actor.{Actor}
@@ -20,6 +20,10 @@ use Rattle.port_objects.specs.Answers.{noted_for}
 abbrev pub asks_its_own : Plan → Actor → Wanted → Bool
 asks_its_own p (Act k) (to_start event) = same_number (runnable_of_event p event) (Some k.runnable)
 asks_its_own p a w = true
+
+abbrev pub is_start : Wanted → Bool
+is_start (to_start event) = true
+is_start w = false
 
 -- the plan is a sound one of unqueued data, the wish fits its actor, and its object stands for these entries
 pub record MayAsk (p : Plan) (m : Mapping) (a : Actor) (w : Wanted) (k : Kept) (l : Past) : Type 0 where

@@ -17,15 +17,15 @@ pub enum Benched {
 /// Where the entries of a turn are made: objects that one thread has to itself, or a seat at a table that cores share.
 ///
 /// A bench has a plan and room for so many entries, and a home, which no call changes (what it borrows, for instance). It may
-/// tell its objects, and it may tell its work: the entries that it made and how often it answered `NotYet` and `Contended`.
-/// What it tells it goes on telling. No call takes memory.
+/// tell its next stamp and its objects, and it may tell its work: the entries that it made and how often it answered `NotYet`
+/// and `Contended`. What it tells it goes on telling. No call takes memory.
 pub trait Bench {
-    ghost use Rattle.std.specs.Prelude.{◌≡◌, ◌<◌, ℕ, suc, List, [], ◌∷◌, Option, None};
+    ghost use Rattle.std.specs.Prelude.{◌≡◌, ◌<◌, ℕ, suc, List, [], ◌∷◌, Option, Some};
     ghost use Rattle.bus_semantics.specs.declared.entries.Stamped.{Stamped};
     ghost use Rattle.bus_semantics.specs.Plan.{Plan};
     ghost use Rattle.bus_semantics.specs.Wanted.{wanted_of};
     ghost use Rattle.port_objects.specs.declared.object.Object.{Object};
-    ghost use Rattle.port_objects.specs.Benches.{Work, IsAsked, EntryIsFor, RoomAfter, ObjectsAfter, WorkAfter, IsFurther};
+    ghost use Rattle.port_objects.specs.Benches.{Work, IsAsked, EntryIsFor, RoomAfter, StampAfter, added_by, stamped_alone, ObjectsAfter, WorkAfter, IsFurther};
 
     /// What stays the same of a bench.
     type Home;
@@ -35,6 +35,8 @@ pub trait Bench {
     ghost plan: { Self → Plan };
 
     ghost room: { Self → ℕ };
+
+    ghost next: { Self → Option ℕ };
 
     ghost objects: { Self → Option (List Object) };
 
@@ -48,6 +50,7 @@ pub trait Bench {
         ensures plan { plan self.new ≡ plan self.old }
         ensures entry { EntryIsFor (plan self.old) who.now (wanted_of wish.now) result }
         ensures room { RoomAfter (room self.old) (room self.new) result }
+        ensures next { StampAfter (next self.old) (next self.new) (added_by result) }
         ensures objects { ObjectsAfter (plan self.old) object who.now (wanted_of wish.now) (objects self.old) (objects self.new) result }
         ensures work { WorkAfter (work self.old) (work self.new) result };
 
@@ -57,6 +60,7 @@ pub trait Bench {
         ensures home { home self.new ≡ home self.old }
         ensures plan { plan self.new ≡ plan self.old }
         ensures room { room self.old ≡ suc (room self.new) }
+        ensures next { StampAfter (next self.old) (next self.new) (Some (stamped_alone result entry.now)) }
         ensures objects { objects self.new ≡ objects self.old }
-        ensures work { IsFurther (work self.old) (work self.new) (record { stamp = result; entry = entry.now; event = None } ∷ []) 0 0 };
+        ensures work { IsFurther (work self.old) (work self.new) (stamped_alone result entry.now ∷ []) 0 0 };
 }

@@ -5,7 +5,8 @@ ghost use Rattle.bus_semantics.specs.declared.script.Mapping.{Mapping};
 ghost use Rattle.bus_semantics.specs.declared.entries.Actor.{Actor};
 ghost use Rattle.bus_semantics.specs.declared.entries.Entry.{Entry};
 ghost use Rattle.bus_semantics.specs.Plan.{Plan};
-ghost use Rattle.bus_semantics.specs.Wanted.{Wanted, wanted_by};
+ghost use Rattle.bus_semantics.specs.declared.entries.Wish.{Wish};
+ghost use Rattle.bus_semantics.specs.Wanted.{Wanted, wanted_of, wanted_by};
 ghost use Rattle.bus_semantics.specs.History.{History, Noted, Past, noted, note};
 ghost use Rattle.bus_semantics.specs.Objects.{clock, object_of, touches, entries_of};
 ghost use Rattle.bus_semantics.specs.Fitting.{wish_fits};
@@ -17,7 +18,7 @@ ghost use Rattle.port_objects.specs.declared.object.Object.{Object};
 ghost use Rattle.port_objects.specs.declared.acting.Shown.{Shown};
 ghost use Rattle.port_objects.specs.Objects.{kept_of, touched, IsObject};
 ghost use Rattle.port_objects.specs.Answers.{IsMade, IsHeld};
-ghost use Rattle.port_objects.specs.Coming.{MayAsk, IsTheOne, NoneMayCome};
+ghost use Rattle.port_objects.specs.Coming.{is_start, MayAsk, IsTheOne, NoneMayCome};
 ghost use Rattle.port_objects.specs.Opening.{opening_group, opening_clock};
 ghost use Rattle.port_objects.specs.Plans.{IsUnqueuedPlan, HasObjects};
 ghost use Rattle.port_objects.specs.Standing.{Follows, IsPastOf, Stands};
@@ -85,4 +86,11 @@ pub fn answers_are_what_may_come()
     ensures held { (p : Plan) (m : Mapping) (a : Actor) (w : Wanted) (old new : Object) (l : Past) (shown : Shown) →
         object_of p a w ≡ Some (touched p a w) → MayAsk p m a w (kept_of old) l →
         IsHeld p (touched p a w) w old new shown → NoneMayCome p a w l }
+{}
+
+/// In a plan of unqueued data only a start may have to wait: every other wish that fits has an entry that may come.
+pub fn only_starts_wait()
+    ensures { (p : Plan) (m : Mapping) (a : Actor) (w : Wish) (old new : Object) (l : Past) (shown : Shown) →
+        object_of p a (wanted_of w) ≡ Some (touched p a (wanted_of w)) → MayAsk p m a (wanted_of w) (kept_of old) l →
+        IsHeld p (touched p a (wanted_of w)) (wanted_of w) old new shown → is_start (wanted_of w) ≡ true }
 {}

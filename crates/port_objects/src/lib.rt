@@ -23,7 +23,7 @@ pub use bench::{Bench, Benched};
 pub use group::Group;
 pub use laws::{
     answers_are_what_may_come, first_objects_stand_for_nothing, leads_are_legal,
-    leads_miss_nothing, legal_histories_part_into_objects, one_entry_of_a_wish,
+    leads_miss_nothing, legal_histories_part_into_objects, one_entry_of_a_wish, only_starts_wait,
     sound_plans_have_objects,
 };
 pub use making::make_objects;

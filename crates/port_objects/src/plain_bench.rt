@@ -14,8 +14,8 @@ use crate::object::Object;
 use bus_semantics::{Actor, BusPlan, Entry, Stamped, Wish};
 use std::marker::Model;
 
-/// All objects of a plan, which one thread has to itself. It tells its objects and not its work, and never answers
-/// `Contended`. Its stamps begin at 0.
+/// All objects of a plan, which one thread has to itself. It tells its objects and its next stamp, which begins
+/// at 0, and not its work, and never answers `Contended`.
 #[derive(Drop)]
 pub struct PlainBench<'a> {
     plan: &'a BusPlan,
@@ -104,6 +104,8 @@ impl<'a> Bench for PlainBench<'a> {
     ghost plan = { λ b. plan_of b.plan };
 
     ghost room = { λ b. b.room };
+
+    ghost next = { λ b. Some b.next };
 
     ghost objects = { λ b. Some b.objects };
 
