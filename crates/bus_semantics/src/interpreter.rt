@@ -27,7 +27,7 @@ pub enum Ran<'a> {
     WentOn(ActivationState, &'a [Deed]),
 }
 
-/// The number of what an access names, and the limits of each word that it gives.
+/// What an access names, and the limits of each word that it gives. Clauses see it as the definition's `Access`, `access_of`.
 #[derive(Clone, Copy)]
 pub struct Access<'a> {
     /// An element, point, area, machine (for a switch) or mode port, by its position in the plan.
@@ -44,7 +44,7 @@ fn is_to(access: &AccessSig, kind: AccessKind, port: u32, item: u32) -> bool
 }
 
 /// The access of a runnable to this item by a statement of this kind. One that there is not names 0 and gives no word.
-fn find_access(runnable: &RunnablePlan, kind: AccessKind, port: u32, item: u32) -> Access<'_>
+pub fn find_access(runnable: &RunnablePlan, kind: AccessKind, port: u32, item: u32) -> Access<'_>
     ensures { access_of result ≡ access (runnable_of runnable.now) kind port item }
 {
     let accesses = runnable.signature.accesses.items();
