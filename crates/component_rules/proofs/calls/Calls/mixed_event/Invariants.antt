@@ -1,0 +1,10 @@
+use Rattle.std.proofs.Common.{◌≡◌, drop}
+use Rattle.component_rules.specs.Firsts.{first_of, unless}
+use Rattle.component_rules.specs.declared.spots.Spot.{Spot}
+use Rattle.component_rules.specs.declared.spots.Spot.TheVariants as spot
+use Rattle.component_rules.specs.Calls.{event_keeps}
+use Rattle.component_rules.proofs.calls.Calls.mixed_event.Given as goal
+
+abbrev pub invariant-loop-position : goal.invariant-loop-position
+invariant-loop-position l = first_of {Y = Spot} (λ k e. unless (event_keeps l.self.runnables.now e.kind) (spot.Event k)) 0 l.events
+    ≡ first_of {Y = Spot} (λ k e. unless (event_keeps l.self.runnables.now e.kind) (spot.Event k)) l.position (drop l.position l.events)

@@ -1,0 +1,10 @@
+use Rattle.std.proofs.Common.{◌≡◌, drop}
+use Rattle.component_rules.specs.Firsts.{first_of, unless}
+use Rattle.component_rules.specs.declared.spots.Spot.{Spot}
+use Rattle.component_rules.specs.declared.spots.Spot.TheVariants as spot
+use Rattle.component_rules.specs.Events.{disabling_fits}
+use Rattle.component_rules.proofs.events.wrongly_disabled.Given as goal
+
+abbrev pub invariant-loop-position : goal.invariant-loop-position
+invariant-loop-position l = first_of {Y = Spot} (λ k e. unless (disabling_fits l.types l.component.ports e.kind e.disabled_in_modes) (spot.Event k)) 0 l.component.behavior.events
+    ≡ first_of {Y = Spot} (λ k e. unless (disabling_fits l.types l.component.ports e.kind e.disabled_in_modes) (spot.Event k)) l.position (drop l.position l.component.behavior.events)

@@ -1,0 +1,7 @@
+use Rattle.std.proofs.Common.{◌≡◌, take}
+use Rattle.std.specs.List.{flat_map}
+use Rattle.component_rules.specs.Invocations.{operation_of}
+use Rattle.component_rules.proofs.invocations.invoked.Given as goal
+
+abbrev pub invariant-loop-event : goal.invariant-loop-event
+invariant-loop-event l = l.found.items ≡ flat_map (λ e. operation_of e.kind) (take l.event-index l.events)

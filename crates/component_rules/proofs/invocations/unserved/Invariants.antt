@@ -1,0 +1,10 @@
+use Rattle.std.proofs.Common.{◌≡◌, drop}
+use Rattle.component_rules.specs.Firsts.{first_of, unless}
+use Rattle.component_rules.specs.declared.spots.Spot.{Spot}
+use Rattle.component_rules.specs.declared.spots.Spot.TheVariants as spot
+use Rattle.component_rules.specs.Invocations.{is_served}
+use Rattle.component_rules.proofs.invocations.unserved.Given as goal
+
+abbrev pub invariant-loop-number : goal.invariant-loop-number
+invariant-loop-number l = first_of {Y = Spot} (λ k port. unless (is_served l.types l.component.behavior.events k port) (spot.Port k)) 0 l.component.ports
+    ≡ first_of {Y = Spot} (λ k port. unless (is_served l.types l.component.behavior.events k port) (spot.Port k)) l.number (drop l.number l.component.ports)

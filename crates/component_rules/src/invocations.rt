@@ -1,0 +1,167 @@
+//! Who serves the operations of a component.
+
+ghost use Rattle.std.specs.Prelude.{◌≡◌, ◌++◌, ◌==◌, IfOk, OnOk, nat_eq};
+ghost use Rattle.std.specs.Option.{option_or};
+ghost use Rattle.component_rules.specs.Firsts.{each_number};
+ghost use Rattle.component_rules.specs.Tallies.{count, same_operation};
+ghost use Rattle.component_rules.specs.Invocations.{operation_of, invoked, operation_count, operations_at, is_served, started, is_alone, unserved, shared, wrongly_served};
+
+use crate::spots::Spot;
+use crate::tally::Tally;
+use description_types::{Component, Event, EventKind, Port, PortKind};
+use interface_types::{InterfaceKind, TypeTable};
+use rte_text::Memory;
+use std::alloc::{AllocError, Global};
+
+fn note(found: &mut Vec<(u32, u32)>, kind: EventKind) -> Result<(), Memory>
+    ensures { OnOk result (found.new.items ≡ found.old.items ++ operation_of kind) }
+{
+    if let EventKind::OperationInvoked { port, operation } = kind {
+        found.push((port, operation))?;
+    }
+    Ok(())
+}
+
+fn invoked(alloc: Global, events: &[Event]) -> Result<Vec<(u32, u32)>, Memory>
+    ensures { IfOk result (λ found. found.items ≡ invoked events.now) }
+{
+    let mut found = Vec::new(alloc);
+    for event in events {
+        note(&mut found, event.kind)?;
+    }
+    Ok(found)
+}
+
+fn started(alloc: Global, events: &[Event]) -> Result<Vec<u32>, Memory>
+    ensures { IfOk result (λ found. found.items ≡ started events.now) }
+{
+    let mut found = Vec::new(alloc);
+    for event in events {
+        found.push(event.runnable)?;
+    }
+    Ok(found)
+}
+
+fn operations_at(types: &TypeTable, port: &Port) -> usize
+    ensures { result ≡ operations_at types.now port.now }
+{
+    match types.interfaces.items().get(port.interface as usize) {
+        Some(interface) => match &interface.kind {
+            InterfaceKind::ClientServer(operations) => operations.len(),
+            InterfaceKind::SenderReceiver(_) | InterfaceKind::ModeSwitch(_) => 0,
+        },
+        None => 0,
+    }
+}
+
+fn position(number: usize) -> Result<u32, Memory>
+    ensures { IfOk result (λ position. position ≡ number) }
+{
+    u32::try_from(number).map_err(|_| AllocError)
+}
+
+#[tactic(auto, using(crate::proofs::Firsts::each_more, crate::proofs::Firsts::each_fails))]
+fn have_one_event(tally: &Tally<(u32, u32)>, port: u32, operations: u32) -> bool
+    ensures { result ≡ each_number (λ n. count (same_operation (port, n)) tally.now.keys.items == 1) 0 operations }
+{
+    for operation in 0..operations {
+        if !tally.comes_once((port, operation)) {
+            return false;
+        }
+    }
+    true
+}
+
+fn is_served(
+    types: &TypeTable,
+    events: &[Event],
+    tally: &Tally<(u32, u32)>,
+    number: usize,
+    port: &Port,
+) -> Result<bool, Memory>
+    requires { tally.now.keys.items ≡ invoked events.now }
+    ensures { IfOk result (λ answer. answer ≡ is_served types.now events.now number port.now) }
+{
+    match port.kind {
+        PortKind::Provided => {
+            let operations = position(operations_at(types, port))?;
+            Ok(have_one_event(tally, position(number)?, operations))
+        }
+        PortKind::Required => Ok(true),
+    }
+}
+
+#[tactic(auto, using(crate::proofs::Firsts::first_more, crate::proofs::Firsts::first_here, crate::proofs::Firsts::first_none))]
+fn unserved(
+    types: &TypeTable,
+    component: &Component,
+    tally: &Tally<(u32, u32)>,
+) -> Result<Option<Spot>, Memory>
+    requires { tally.now.keys.items ≡ invoked component.now.behavior.events }
+    ensures { IfOk result (λ spot. spot ≡ unserved types.now component.now) }
+{
+    let events = component.behavior.events.items();
+    for (number, port) in component.ports.items().iter().enumerate() {
+        if !is_served(types, events, tally, number, port)? {
+            return Ok(Some(Spot::Port(number)));
+        }
+    }
+    Ok(None)
+}
+
+fn is_alone(events: &[Event], tally: &Tally<u32>, event: &Event) -> bool
+    requires { tally.now.keys.items ≡ started events.now }
+    ensures { result ≡ is_alone events.now event.now }
+{
+    match event.kind {
+        EventKind::OperationInvoked { .. } => tally.comes_once(event.runnable),
+        _ => true,
+    }
+}
+
+#[tactic(auto, using(crate::proofs::Firsts::first_more, crate::proofs::Firsts::first_here, crate::proofs::Firsts::first_none))]
+fn shared(component: &Component, tally: &Tally<u32>) -> Option<Spot>
+    requires { tally.now.keys.items ≡ started component.now.behavior.events }
+    ensures { result ≡ shared component.now }
+{
+    let events = component.behavior.events.items();
+    for (position, event) in events.iter().enumerate() {
+        if !is_alone(events, tally, event) {
+            return Some(Spot::Event(position));
+        }
+    }
+    None
+}
+
+fn first_shared(alloc: Global, component: &Component) -> Result<Option<Spot>, Memory>
+    ensures { IfOk result (λ spot. spot ≡ shared component.now) }
+{
+    let tally = Tally::new(alloc, started(alloc, component.behavior.events.items())?)?;
+    Ok(shared(component, &tally))
+}
+
+fn first_unserved(
+    alloc: Global,
+    types: &TypeTable,
+    component: &Component,
+) -> Result<Option<Spot>, Memory>
+    ensures { IfOk result (λ spot. spot ≡ unserved types.now component.now) }
+{
+    let tally = Tally::new(alloc, invoked(alloc, component.behavior.events.items())?)?;
+    unserved(types, component, &tally)
+}
+
+/// The first port of a component with an operation that does not have exactly one OperationInvokedEvent, or else the first
+/// OperationInvokedEvent whose runnable has another event.
+pub fn wrongly_served(
+    alloc: Global,
+    types: &TypeTable,
+    component: &Component,
+) -> Result<Option<Spot>, Memory>
+    ensures { IfOk result (λ spot. spot ≡ wrongly_served types.now component.now) }
+{
+    match first_unserved(alloc, types, component)? {
+        Some(spot) => Ok(Some(spot)),
+        None => first_shared(alloc, component),
+    }
+}

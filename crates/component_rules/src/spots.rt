@@ -1,0 +1,10 @@
+//! Places in a component.
+
+/// A place in a component, by positions.
+#[derive(Clone, Copy)]
+pub enum Spot {
+    Port(usize),
+    /// An access of a runnable.
+    Access { runnable: usize, access: usize },
+    Event(usize),
+}

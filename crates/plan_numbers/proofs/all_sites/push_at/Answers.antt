@@ -1,0 +1,8 @@
+use Rattle.std.proofs.Common.{[], sym, ap, ◌∙◌}
+use Rattle.std.specs.Option.{option_map_or}
+use Rattle.plan_numbers.specs.Sites.{sites_with}
+use Rattle.plan_numbers.proofs.Listing.{nothing}
+use Rattle.plan_numbers.proofs.all_sites.push_at.Goals as goal
+
+pub returns-in-None : goal.returns-in-None
+returns-in-None c = nothing c.args.list.now.items _ (ap (λ o. option_map_or (λ x. sites_with c.args.owner c.args.number x.0 x.1) o []) (sym c.shape_at.ensures ∙ c.in-None.is))

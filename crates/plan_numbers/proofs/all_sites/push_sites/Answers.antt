@@ -1,0 +1,7 @@
+use Rattle.std.proofs.Common.{Some}
+use Rattle.plan_numbers.specs.Sites.{site}
+use Rattle.plan_numbers.proofs.Listing.{one_more}
+use Rattle.plan_numbers.proofs.all_sites.push_sites.Goals as goal
+
+pub loop-item-preserved : goal.loop-item-preserved
+loop-item-preserved c = one_more (λ n. site c.args.owner (Some c.args.port) n c.args.kind) _ _ _ c.loop-item.item c.args.count c.loop-item-test.true c.in_ok-push_item.ensures c.loop-item.invariant

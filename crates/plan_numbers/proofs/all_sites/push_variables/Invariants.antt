@@ -1,0 +1,9 @@
+use Rattle.std.proofs.Common.{◌≡◌, ◌++◌, ◌-◌, map, Some, None}
+use Rattle.plan_numbers.specs.Lists.{positions}
+use Rattle.plan_numbers.specs.declared.site.SiteKind.TheVariants.{Variable}
+use Rattle.plan_numbers.specs.Sites.{site}
+use Rattle.plan_numbers.proofs.all_sites.push_variables.Given as goal
+
+abbrev pub invariant-loop-item : goal.invariant-loop-item
+invariant-loop-item l = l.initial.list.items ++ map (λ n. site (Some l.instance) None n Variable) (positions 0 l.count)
+    ≡ l.list.items ++ map (λ n. site (Some l.instance) None n Variable) (positions l.item (l.count - l.item))
