@@ -1,0 +1,72 @@
+-- Instructions that are written after those that they pass over.
+use Rattle.std.proofs.Common.{◌≡◌, ℕ, ◌+◌, ◌-◌, List, [], ◌∷◌, ◌++◌, length, map, set, sym, ap, ◌∙◌, arith, append_assoc, length-append}
+use Rattle.std.proofs.Math.Seq.{set-append_seam}
+use Rattle.std.proofs.lemmas.List.{map-set}
+use Rattle.task_machine.specs.declared.instr.Instr.{Instr}
+use Rattle.task_machine.specs.Instructions.{Instruction, instruction_of, skip, begin_loop, end_loop}
+use Rattle.task_generator.specs.Code.{choosing_code, looping_code}
+
+pub map_replaced : (code : List Instr) (at : ℕ) (i : Instr) → map instruction_of (set code at i) ≡ set (map instruction_of code) at (instruction_of i)
+map_replaced code at i = map-set instruction_of code at i
+
+-- one and one more
+pub two_more : (a b c : List Instruction) (x y : Instruction) → b ≡ a ++ x ∷ [] → c ≡ b ++ y ∷ [] → c ≡ a ++ (x ∷ y ∷ [])
+two_more a b c x y first second = second ∙ ap (λ is. is ++ y ∷ []) first ∙ append_assoc a (x ∷ []) (y ∷ [])
+
+-- one before and one behind
+pub around_more : (a b c d body : List Instruction) (x y : Instruction) → b ≡ a ++ x ∷ [] → c ≡ b ++ body → d ≡ c ++ y ∷ [] → d ≡ a ++ (x ∷ (body ++ y ∷ []))
+around_more a b c d body x y first second third =
+    let all : d ≡ ((a ++ x ∷ []) ++ body) ++ y ∷ [] = cc in
+    let flat : ((a ++ x ∷ []) ++ body) ++ y ∷ [] ≡ a ++ (x ∷ (body ++ y ∷ [])) = simp append_assoc in
+    all ∙ flat
+
+two_writes : (a b c : List Instruction) (x y i j : Instruction) → set (set (a ++ x ∷ (b ++ y ∷ c)) (length a) i) (length (a ++ i ∷ b)) j ≡ a ++ i ∷ (b ++ j ∷ c)
+two_writes a b c x y i j =
+    ap (λ l. set l (length (a ++ i ∷ b)) j) (set-append_seam a x (b ++ y ∷ c) i ∙ sym (append_assoc a (i ∷ b) (y ∷ c)))
+    ∙ set-append_seam (a ++ i ∷ b) y c j
+    ∙ append_assoc a (i ∷ b) (j ∷ c)
+
+-- the jumps of a choice
+pub choice_patched : (whole base first second : List Instruction) (x y t : Instruction) (test jump n : ℕ)
+    → whole ≡ (((base ++ x ∷ []) ++ first) ++ y ∷ []) ++ second → test ≡ length base → jump ≡ length ((base ++ x ∷ []) ++ first) → n ≡ length whole - jump - 1
+    → set (set whole test t) jump (skip n) ≡ base ++ choosing_code t first second
+choice_patched whole base first second x y t test jump n is at_test at_jump counted =
+    let flat : (((base ++ x ∷ []) ++ first) ++ y ∷ []) ++ second ≡ base ++ x ∷ (first ++ y ∷ second) = simp append_assoc in
+    let long = ap length (is ∙ flat) ∙ length-append base (x ∷ (first ++ y ∷ second)) in
+    let inner = length-append first (y ∷ second) in
+    let front = length-append (base ++ x ∷ []) first in
+    let one = length-append base (x ∷ []) in
+    let other = length-append base (t ∷ first) in
+    let place : jump ≡ length (base ++ t ∷ first) = omega arith in
+    let left : n ≡ length second = omega arith in
+    ap (λ l. set (set l test t) jump (skip n)) (is ∙ flat)
+    ∙ ap (λ k. set (set (base ++ x ∷ (first ++ y ∷ second)) k t) jump (skip n)) at_test
+    ∙ ap (λ k. set (set (base ++ x ∷ (first ++ y ∷ second)) (length base) t) k (skip n)) place
+    ∙ two_writes base first second x y t (skip n)
+    ∙ ap (λ k. base ++ t ∷ (first ++ skip k ∷ second)) left
+
+-- how far the test jumps
+pub first_is : (base first : List Instruction) (x : Instruction) (test jump : ℕ) → test ≡ length base → jump ≡ length ((base ++ x ∷ []) ++ first) → jump - test ≡ length first + 1
+first_is base first x test jump at_test at_jump =
+    let front = length-append (base ++ x ∷ []) first in
+    let one = length-append base (x ∷ []) in
+    omega arith
+
+-- the beginning of a loop
+pub loop_patched : (whole base body : List Instruction) (x : Instruction) (begin counter times past back : ℕ)
+    → whole ≡ (base ++ x ∷ []) ++ body → begin ≡ length base → past ≡ length whole - begin → back ≡ past - 1
+    → set (whole ++ end_loop counter back ∷ []) begin (begin_loop counter times past) ≡ base ++ looping_code counter times body
+loop_patched whole base body x begin counter times past back is at_begin counted counted_back =
+    let last = end_loop counter back in
+    let begins = begin_loop counter times past in
+    let flat : ((base ++ x ∷ []) ++ body) ++ last ∷ [] ≡ base ++ x ∷ (body ++ last ∷ []) = simp append_assoc in
+    let long = ap length is ∙ length-append (base ++ x ∷ []) body in
+    let one = length-append base (x ∷ []) in
+    let lower : past ≡ length body + 1 = omega arith in
+    let inner : back ≡ length body = omega arith in
+    ap (λ l. set (l ++ last ∷ []) begin begins) is
+    ∙ ap (λ l. set l begin begins) flat
+    ∙ ap (λ k. set (base ++ x ∷ (body ++ last ∷ [])) k begins) at_begin
+    ∙ set-append_seam base x (body ++ last ∷ []) begins
+    ∙ ap (λ k. base ++ begin_loop counter times k ∷ (body ++ last ∷ [])) lower
+    ∙ ap (λ k. base ++ begin_loop counter times (length body + 1) ∷ (body ++ end_loop counter k ∷ [])) inner

@@ -1,0 +1,50 @@
+use Rattle.std.proofs.Common.{rules, arith, ◌≡◌, ◌+◌, [], ◌∷◌, ◌++◌, length, map, sym, ap, ◌∙◌}
+use Rattle.std.proofs.lemmas.Grind.{common_steps}
+use Rattle.std.proofs.lemmas.List.{length-map}
+use Rattle.runnable_lang.specs.Trees.{expr_tree, stmt_tree, body_tree, chooses}
+use Rattle.bus_semantics.specs.Plan.{runnable_of}
+use Rattle.bus_semantics.specs.Wanted.{to_enter, to_leave}
+use Rattle.bus_semantics.specs.Programs.{takes_nothing}
+use Rattle.task_machine.specs.Instructions.{instruction_of, skip, call, passes_nothing}
+use Rattle.task_generator.specs.Code.{looping_code, code_of, code_of_body}
+use Rattle.task_generator.proofs.Patching.{around_more}
+use Rattle.task_generator.proofs.Views.{tree_of_if}
+use Rattle.task_generator.proofs.generator.Generator.+generate.Goals as goal
+
+pub area-returns : goal.area-returns
+area-returns t c =
+    let r = runnable_of c.args.self.now.accesses.now.runnable.now in
+    let old = map instruction_of c.args.code.now.items in
+    let body = code_of_body r c.args.depth (body_tree c.args.body.now) in
+    around_more _ _ _ _ body _ _ c.in_ok-put_call.ensures c.in_ok-body.ensures c.in_ok-put_call-2.ensures
+    ∙ ap (λ x. old ++ (call (λ event s. to_enter x) takes_nothing passes_nothing ∷ (body ++ call (λ event s. to_leave x) takes_nothing passes_nothing ∷ []))) c.target-area.ensures
+
+pub repeat-returns : goal.repeat-returns
+repeat-returns t c =
+    let r = runnable_of c.args.self.now.accesses.now.runnable.now in
+    let old = map instruction_of c.args.code.now.items in
+    let body = code_of_body r c.in-Some.inner (body_tree c.args.body.now) in
+    let inner : c.in-Some.inner ≡ c.args.depth + 1 = first_of (omega (arith, c.in-Some.ensures), grind (arith, common_steps, c.in-Some.ensures), search (rules, c.in-Some.ensures)) in
+    c.in_ok-end_loop.ensures old body
+    (c.in_ok-body.ensures ∙ ap (λ is. is ++ body) c.in_ok-begin.ensures.code)
+    (c.in_ok-begin.ensures.place ∙ sym (length-map c.args.code.now.items instruction_of))
+    ∙ ap (λ n. old ++ looping_code c.args.depth c.args.times (code_of_body r n (body_tree c.args.body.now))) inner
+
+pub statement-returns-in_ok-end_choice-in-If : goal.statement-returns-in_ok-end_choice-in-If
+statement-returns-in_ok-end_choice-in-If t c =
+    let r = runnable_of c.args.self.now.accesses.now.runnable.now in
+    let old = map instruction_of c.args.code.now.items in
+    let first = code_of_body r c.args.depth (body_tree c.in-If.yes.items) in
+    let second = code_of_body r c.args.depth (body_tree c.in-If.no.items) in
+    let is : stmt_tree c.args.stmt.now ≡ chooses (expr_tree c.in-If.cond) (body_tree c.in-If.yes.items) (body_tree c.in-If.no.items) =
+    ap stmt_tree c.in-If.is ∙ tree_of_if c.in-If.cond c.in-If.yes c.in-If.no in
+    let one = rw c.deref.ensures.value at c.in_ok-body-in-If.ensures in
+    let front : map instruction_of c.body.new.code.items ≡ (old ++ skip 0 ∷ []) ++ first =
+    one ∙ ap (λ l. l ++ first) c.in_ok-test-in-If.ensures.code in
+    let two = rw c.deref-in-If.ensures.value at c.in_ok-body-in-If-2.ensures in
+    let whole : map instruction_of c.body-in-If.new.code.items ≡ (((old ++ skip 0 ∷ []) ++ first) ++ skip 0 ∷ []) ++ second =
+    two ∙ ap (λ l. l ++ second) (c.in_ok-jump-in-If.ensures.code ∙ ap (λ l. l ++ skip 0 ∷ []) front) in
+    c.in_ok-end_choice-in-If.ensures old first second whole
+    (c.in_ok-test-in-If.ensures.place ∙ sym (length-map c.args.code.now.items instruction_of))
+    (c.in_ok-jump-in-If.ensures.place ∙ sym (length-map c.body.new.code.items instruction_of) ∙ ap length front)
+    ∙ ap (λ st. old ++ code_of r c.args.depth st) (sym is)

@@ -1,0 +1,24 @@
+-- The instructions of statements that hold no statements, in two groups.
+use Rattle.std.specs.Prelude.{List, []}
+use Rattle.runnable_lang.specs.Trees.{StmtTree, sets, chooses, repeats, in_area, writes, reads, invalidates, asks_updated, sends, receives}
+use Rattle.bus_semantics.specs.Plan.{Runnable}
+use Rattle.task_machine.specs.Instructions.{Instruction}
+use Rattle.task_generator.specs.Code.{code_of}
+
+-- those of a statement that calls the bus; none of another one
+abbrev pub bus_call_code : Runnable → StmtTree → List Instruction
+bus_call_code r (sets v e) = []
+bus_call_code r (chooses c first second) = []
+bus_call_code r (repeats turns body) = []
+bus_call_code r (in_area x body) = []
+bus_call_code r st = code_of r 0 st
+
+-- those of a statement at an operation, a mode or a variable; none of another one
+abbrev pub other_call_code : Runnable → StmtTree → List Instruction
+other_call_code r (writes port item es status) = []
+other_call_code r (reads port item vs status) = []
+other_call_code r (invalidates port item status) = []
+other_call_code r (asks_updated port item v) = []
+other_call_code r (sends port item es status) = []
+other_call_code r (receives port item vs status) = []
+other_call_code r st = bus_call_code r st

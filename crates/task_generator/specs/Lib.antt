@@ -1,0 +1,6 @@
+pub mod Code
+pub mod Calls
+pub mod Bounds
+pub mod Shapes
+pub mod Promise
+pub mod Found

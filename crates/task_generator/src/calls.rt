@@ -1,0 +1,272 @@
+//! The instructions of statements that hold no statements.
+
+ghost use Rattle.std.specs.Prelude.{◌≡◌, ◌++◌, ◌∷◌, [], IfOk, OnOk, map};
+ghost use Rattle.runnable_lang.specs.Trees.{exprs, stmt_tree, reads_variable, sends, calls, switches};
+ghost use Rattle.bus_semantics.specs.Plan.{runnable_of};
+ghost use Rattle.bus_semantics.specs.Wanted.{to_write, to_ask};
+ghost use Rattle.bus_semantics.specs.State.{State, access, given};
+ghost use Rattle.bus_semantics.specs.Programs.{takes_words};
+ghost use Rattle.task_machine.specs.Words.{words_given};
+ghost use Rattle.task_machine.specs.Instructions.{instruction_of, call, requested, change_of, passes_of, passes_nothing};
+ghost use Rattle.task_generator.specs.Code.{code_of};
+ghost use Rattle.task_generator.specs.Calls.{bus_call_code, other_call_code};
+
+use crate::Memory;
+use crate::code::put_call;
+use crate::copies::copy_numbers;
+use crate::generator::Generator;
+use program_copy::copy_expr;
+use runnable_lang::{AccessKind, Expr, Stmt};
+use std::alloc::AllocError;
+use task_machine::{Given, GivenWord, Instr, Request, Taken};
+
+impl Generator<'_, '_> {
+    /// The number of what a statement names.
+    pub fn target(&self, kind: AccessKind, port: u32, item: u32) -> u32
+        ensures { result ≡ (access (runnable_of self.now.accesses.now.runnable.now) kind port item).target }
+    {
+        self.accesses.find(kind, port, item).target
+    }
+
+    /// The words that a statement gives, each with the limits to which it is clamped.
+    fn given_words(
+        &self,
+        kind: AccessKind,
+        port: u32,
+        item: u32,
+        values: &[Expr],
+    ) -> Result<Vec<GivenWord>, Memory>
+        ensures { IfOk result (λ words. (s : State) → words_given s.vars words.items ≡ given (access (runnable_of self.now.accesses.now.runnable.now) kind port item) (exprs values.now) s) }
+    {
+        let access = self.accesses.find(kind, port, item);
+        let mut words = Vec::new(self.alloc);
+        for (limits, value) in access.ins.iter().zip(values) {
+            let value = copy_expr(self.alloc, value)?;
+            words.push(GivenWord {
+                limits: *limits,
+                value,
+            })?;
+        }
+        Ok(words)
+    }
+
+    /// The words that a statement gives. More than 16, which no sound plan has, count as no memory.
+    fn given(
+        &self,
+        kind: AccessKind,
+        port: u32,
+        item: u32,
+        values: &[Expr],
+    ) -> Result<Given, Memory>
+        ensures { IfOk result (λ g. (s : State) → words_given s.vars g.words.items ≡ given (access (runnable_of self.now.accesses.now.runnable.now) kind port item) (exprs values.now) s) }
+    {
+        let words = self.given_words(kind, port, item, values)?;
+        match Given::new(words) {
+            Some(given) => Ok(given),
+            None => Err(AllocError),
+        }
+    }
+
+    /// A write of an element or a variable.
+    fn write(
+        &self,
+        code: &mut Vec<Instr>,
+        kind: AccessKind,
+        port: u32,
+        item: u32,
+        values: &[Expr],
+        taken: Taken,
+    ) -> Result<(), Memory>
+        ensures { OnOk result (let a = access (runnable_of self.now.accesses.now.runnable.now) kind port item in
+            map instruction_of code.new.items ≡ map instruction_of code.old.items ++ call (λ event s. to_write a.target (given a (exprs values.now) s)) (change_of taken) (passes_of taken) ∷ []) }
+    {
+        let given = self.given(kind, port, item, values)?;
+        let elem = self.target(kind, port, item);
+        put_call(code, Request::Write { elem, given }, taken)
+    }
+
+    /// A sending to an element.
+    fn send(
+        &self,
+        code: &mut Vec<Instr>,
+        port: u32,
+        item: u32,
+        values: &[Expr],
+        status: u32,
+    ) -> Result<(), Memory>
+        ensures { OnOk result (map instruction_of code.new.items ≡ map instruction_of code.old.items ++ code_of (runnable_of self.now.accesses.now.runnable.now) 0 (sends port item (exprs values.now) status)) }
+    {
+        let given = self.given(AccessKind::Send, port, item, values)?;
+        let elem = self.target(AccessKind::Send, port, item);
+        put_call(code, Request::Send { elem, given }, Taken::Code(status))
+    }
+
+    /// An ask at a point.
+    fn ask(
+        &self,
+        code: &mut Vec<Instr>,
+        kind: AccessKind,
+        port: u32,
+        item: u32,
+        values: &[Expr],
+        taken: Taken,
+    ) -> Result<(), Memory>
+        ensures { OnOk result (let a = access (runnable_of self.now.accesses.now.runnable.now) kind port item in
+            map instruction_of code.new.items ≡ map instruction_of code.old.items ++ call (λ event s. to_ask a.target (given a (exprs values.now) s)) (change_of taken) (passes_of taken) ∷ []) }
+    {
+        let given = self.given(kind, port, item, values)?;
+        let point = self.target(kind, port, item);
+        put_call(code, Request::Ask { point, given }, taken)
+    }
+
+    /// A call that waits for the answer of the operation.
+    fn ask_and_hear(
+        &self,
+        code: &mut Vec<Instr>,
+        port: u32,
+        item: u32,
+        values: &[Expr],
+        vars: &[u32],
+        status: u32,
+    ) -> Result<(), Memory>
+        ensures { OnOk result (map instruction_of code.new.items ≡ map instruction_of code.old.items ++ code_of (runnable_of self.now.accesses.now.runnable.now) 0 (calls port item (exprs values.now) vars.now status)) }
+    {
+        let asked = Taken::Refusal(status);
+        self.ask(code, AccessKind::Call, port, item, values, asked)?;
+        let point = self.target(AccessKind::Call, port, item);
+        let vars = copy_numbers(self.alloc, vars)?;
+        put_call(code, Request::Answer { point }, Taken::Words(vars, status))?;
+        Ok(())
+    }
+
+    /// Words and a status are taken of the answer to a request.
+    fn take_words(
+        &self,
+        code: &mut Vec<Instr>,
+        request: Request,
+        vars: &[u32],
+        status: u32,
+    ) -> Result<(), Memory>
+        ensures { OnOk result (map instruction_of code.new.items ≡ map instruction_of code.old.items ++ call (requested request) (takes_words vars.now status) passes_nothing ∷ []) }
+    {
+        let vars = copy_numbers(self.alloc, vars)?;
+        put_call(code, request, Taken::Words(vars, status))
+    }
+
+    /// A read of a variable.
+    fn read_variable(
+        &self,
+        code: &mut Vec<Instr>,
+        variable: u32,
+        vars: &[u32],
+    ) -> Result<(), Memory>
+        ensures { OnOk result (map instruction_of code.new.items ≡ map instruction_of code.old.items ++ code_of (runnable_of self.now.accesses.now.runnable.now) 0 (reads_variable variable vars.now)) }
+    {
+        let elem = self.target(AccessKind::IrvRead, 0, variable);
+        let vars = copy_numbers(self.alloc, vars)?;
+        put_call(code, Request::Read { elem }, Taken::Value(vars))
+    }
+
+    /// A switch to a mode.
+    fn switch(&self, code: &mut Vec<Instr>, port: u32, mode: u32, status: u32) -> Result<(), Memory>
+        ensures { OnOk result (map instruction_of code.new.items ≡ map instruction_of code.old.items ++ code_of (runnable_of self.now.accesses.now.runnable.now) 0 (switches port mode status)) }
+    {
+        let machine = self.target(AccessKind::Switch, port, 0);
+        put_call(code, Request::Switch { machine, mode }, Taken::Code(status))
+    }
+
+    /// The instructions of a statement that calls the bus and holds no statements. Of another one there are none.
+    pub fn bus_call(&self, code: &mut Vec<Instr>, stmt: &Stmt) -> Result<(), Memory>
+        ensures { OnOk result (map instruction_of code.new.items ≡ map instruction_of code.old.items ++ bus_call_code (runnable_of self.now.accesses.now.runnable.now) (stmt_tree stmt.now)) }
+    {
+        use AccessKind as Kind;
+        match stmt {
+            Stmt::Write {
+                port,
+                item,
+                values,
+                status,
+            } => {
+                let taken = Taken::Zero(*status);
+                self.write(code, Kind::Write, *port, *item, values, taken)
+            }
+            Stmt::Read {
+                port,
+                item,
+                vars,
+                status,
+            } => {
+                let elem = self.target(Kind::Read, *port, *item);
+                self.take_words(code, Request::Read { elem }, vars, *status)
+            }
+            Stmt::Invalidate { port, item, status } => {
+                let elem = self.target(Kind::Invalidate, *port, *item);
+                put_call(code, Request::Invalidate { elem }, Taken::Zero(*status))
+            }
+            Stmt::IsUpdated { port, item, var } => {
+                let elem = self.target(Kind::IsUpdated, *port, *item);
+                put_call(code, Request::IsUpdated { elem }, Taken::Number(*var))
+            }
+            Stmt::Send {
+                port,
+                item,
+                values,
+                status,
+            } => self.send(code, *port, *item, values, *status),
+            Stmt::Receive {
+                port,
+                item,
+                vars,
+                status,
+            } => {
+                let elem = self.target(Kind::Receive, *port, *item);
+                self.take_words(code, Request::Receive { elem }, vars, *status)
+            }
+            _ => self.other_call(code, stmt),
+        }
+    }
+
+    /// The instructions of a statement at an operation, a mode or a variable. Of another one there are none.
+    fn other_call(&self, code: &mut Vec<Instr>, stmt: &Stmt) -> Result<(), Memory>
+        ensures { OnOk result (map instruction_of code.new.items ≡ map instruction_of code.old.items ++ other_call_code (runnable_of self.now.accesses.now.runnable.now) (stmt_tree stmt.now)) }
+    {
+        use AccessKind as Kind;
+        match stmt {
+            Stmt::IrvWrite { variable, values } => {
+                self.write(code, Kind::IrvWrite, 0, *variable, values, Taken::Nothing)
+            }
+            Stmt::IrvRead { variable, vars } => self.read_variable(code, *variable, vars),
+            Stmt::Call {
+                port,
+                item,
+                values,
+                vars,
+                status,
+            } => { self.ask_and_hear(code, *port, *item, values, vars, *status) }
+            Stmt::ACall {
+                port,
+                item,
+                values,
+                status,
+            } => {
+                let taken = Taken::Code(*status);
+                self.ask(code, Kind::ACall, *port, *item, values, taken)
+            }
+            Stmt::TakeResult {
+                port,
+                item,
+                vars,
+                status,
+            } => {
+                let point = self.target(Kind::TakeResult, *port, *item);
+                self.take_words(code, Request::TakeResult { point }, vars, *status)
+            }
+            Stmt::Switch { port, mode, status } => self.switch(code, *port, *mode, *status),
+            Stmt::Mode { port, var } => {
+                let port = self.target(Kind::Mode, *port, 0);
+                put_call(code, Request::Mode { port }, Taken::Number(*var))
+            }
+            _ => Ok(()),
+        }
+    }
+}

@@ -1,0 +1,108 @@
+//! The instructions of a body while it is made.
+
+ghost use Rattle.std.specs.Prelude.{◌≡◌, ◌+◌, ◌-◌, List, ◌++◌, ◌∷◌, [], IfOk, OnOk, map, set, length};
+ghost use Rattle.runnable_lang.specs.Trees.{expr_tree};
+ghost use Rattle.task_machine.specs.Instructions.{Instruction, instruction_of, unless, skip, call, requested, change_of, passes_of};
+ghost use Rattle.task_generator.specs.Code.{choosing_code, looping_code};
+
+use crate::Memory;
+use program_copy::copy_expr;
+use runnable_lang::Expr;
+use std::alloc::{AllocError, Global};
+use task_machine::{Instr, Request, Taken};
+
+/// One more instruction.
+pub fn put(code: &mut Vec<Instr>, instr: Instr) -> Result<(), Memory>
+    ensures { OnOk result (map instruction_of code.new.items ≡ map instruction_of code.old.items ++ instruction_of instr ∷ []) }
+{
+    code.push(instr)?;
+    Ok(())
+}
+
+/// One more call.
+pub fn put_call(code: &mut Vec<Instr>, request: Request, taken: Taken) -> Result<(), Memory>
+    ensures { OnOk result (map instruction_of code.new.items ≡ map instruction_of code.old.items ++ call (requested request) (change_of taken) (passes_of taken) ∷ []) }
+{
+    put(code, Instr::Call { request, taken })
+}
+
+/// Holds a place for an instruction that is written later. Answers the place.
+pub fn hold(code: &mut Vec<Instr>) -> Result<usize, Memory>
+    ensures place { IfOk result (λ at. at ≡ length code.old.items) }
+    ensures code { OnOk result (map instruction_of code.new.items ≡ map instruction_of code.old.items ++ skip 0 ∷ []) }
+{
+    let at = code.len();
+    put(code, Instr::Skip { past: 0 })?;
+    Ok(at)
+}
+
+/// Another instruction in the place of one. Where there is none, nothing changes.
+#[tactic(auto, using(crate::proofs::Patching::map_replaced))]
+fn replace(code: &mut Vec<Instr>, at: usize, instr: Instr)
+    ensures code { map instruction_of code.new.items ≡ set (map instruction_of code.old.items) at (instruction_of instr) }
+    ensures len { length code.new.items ≡ length code.old.items }
+{
+    if let Some(place) = code.get_mut(at) {
+        *place = instr;
+    }
+}
+
+/// How many instructions stand from one place to another. A number beyond 32 bits counts as no memory.
+fn distance(from: usize, to: usize) -> Result<u32, Memory>
+    ensures { IfOk result (λ n. n ≡ to - from) }
+{
+    match u32::try_from(to.saturating_sub(from)) {
+        Ok(distance) => Ok(distance),
+        Err(_) => Err(AllocError),
+    }
+}
+
+/// Writes the jumps of a choice, whose test and whose jump past the second side have held places.
+pub fn end_choice(
+    alloc: Global,
+    code: &mut Vec<Instr>,
+    cond: &Expr,
+    test: usize,
+    jump: usize,
+) -> Result<(), Memory>
+    ensures { (base first second : List Instruction) → map instruction_of code.old.items ≡ (((base ++ skip 0 ∷ []) ++ first) ++ skip 0 ∷ []) ++ second → test ≡ length base → jump ≡ length ((base ++ skip 0 ∷ []) ++ first)
+        → OnOk result (map instruction_of code.new.items ≡ base ++ choosing_code (unless (expr_tree cond.now) (length first + 1)) first second) }
+{
+    let cond = copy_expr(alloc, cond)?;
+    let first = distance(test, jump)?;
+    let second = distance(jump, code.len())?;
+    replace(code, test, Instr::Unless { cond, past: first });
+    replace(
+        code,
+        jump,
+        Instr::Skip {
+            past: second.saturating_sub(1),
+        },
+    );
+    Ok(())
+}
+
+/// Ends a loop, whose beginning has held a place.
+pub fn end_loop(code: &mut Vec<Instr>, begin: usize, counter: u32, times: u32) -> Result<(), Memory>
+    ensures { (base body : List Instruction) → map instruction_of code.old.items ≡ (base ++ skip 0 ∷ []) ++ body → begin ≡ length base
+        → OnOk result (map instruction_of code.new.items ≡ base ++ looping_code counter times body) }
+{
+    let past = distance(begin, code.len())?;
+    put(
+        code,
+        Instr::Again {
+            counter,
+            back: past.saturating_sub(1),
+        },
+    )?;
+    replace(
+        code,
+        begin,
+        Instr::Repeat {
+            counter,
+            times,
+            past,
+        },
+    );
+    Ok(())
+}

@@ -1,0 +1,97 @@
+//! The instructions of each statement.
+
+ghost use Rattle.std.specs.Prelude.{◌≡◌, ◌++◌, OnOk, map};
+ghost use Rattle.runnable_lang.specs.Trees.{stmt_tree, body_tree, repeats, in_area};
+ghost use Rattle.bus_semantics.specs.Plan.{runnable_of};
+ghost use Rattle.task_machine.specs.Instructions.{instruction_of};
+ghost use Rattle.task_generator.specs.Code.{code_of, code_of_body};
+
+use crate::Memory;
+use crate::accesses::Accesses;
+use crate::code::{end_choice, end_loop, hold, put, put_call};
+use program_copy::copy_expr;
+use runnable_lang::{AccessKind, Stmt};
+use std::alloc::{AllocError, Global};
+use task_machine::{Instr, Request, Taken};
+
+/// What makes the instructions of a runnable.
+#[derive(Clone, Copy)]
+pub struct Generator<'a, 'p> {
+    pub alloc: Global,
+    pub accesses: &'a Accesses<'p>,
+}
+
+impl Generator<'_, '_> {
+    /// A loop: the counter is set, the body runs, and the counter is lowered.
+    #[cycle(generate)]
+    fn repeat(
+        &self,
+        code: &mut Vec<Instr>,
+        depth: u32,
+        times: u32,
+        body: &[Stmt],
+    ) -> Result<(), Memory>
+        ensures { OnOk result (map instruction_of code.new.items ≡ map instruction_of code.old.items ++ code_of (runnable_of self.now.accesses.now.runnable.now) depth (repeats times (body_tree body.now))) }
+    {
+        let Some(inner) = depth.checked_add(1) else {
+            return Err(AllocError);
+        };
+        let begin = hold(code)?;
+        self.body(code, inner, body)?;
+        end_loop(code, begin, depth, times)?;
+        Ok(())
+    }
+
+    /// An area: it is entered, the body runs, and it is left.
+    #[cycle(generate)]
+    fn area(
+        &self,
+        code: &mut Vec<Instr>,
+        depth: u32,
+        area: u32,
+        body: &[Stmt],
+    ) -> Result<(), Memory>
+        ensures { OnOk result (map instruction_of code.new.items ≡ map instruction_of code.old.items ++ code_of (runnable_of self.now.accesses.now.runnable.now) depth (in_area area (body_tree body.now))) }
+    {
+        let area = self.target(AccessKind::Enter, 0, area);
+        put_call(code, Request::Enter { area }, Taken::Nothing)?;
+        self.body(code, depth, body)?;
+        put_call(code, Request::Leave { area }, Taken::Nothing)?;
+        Ok(())
+    }
+
+    /// The instructions of a statement with so many loops around it.
+    #[cycle(generate)]
+    fn statement(&self, code: &mut Vec<Instr>, depth: u32, stmt: &Stmt) -> Result<(), Memory>
+        ensures { OnOk result (map instruction_of code.new.items ≡ map instruction_of code.old.items ++ code_of (runnable_of self.now.accesses.now.runnable.now) depth (stmt_tree stmt.now)) }
+    {
+        match stmt {
+            Stmt::Set { var, value } => {
+                let value = copy_expr(self.alloc, value)?;
+                put(code, Instr::Set { var: *var, value })
+            }
+            Stmt::If { cond, yes, no } => {
+                let test = hold(code)?;
+                self.body(code, depth, yes)?;
+                let jump = hold(code)?;
+                self.body(code, depth, no)?;
+                end_choice(self.alloc, code, cond, test, jump)?;
+                Ok(())
+            }
+            Stmt::Repeat { times, body } => self.repeat(code, depth, *times, body),
+            Stmt::Area { area, body } => self.area(code, depth, *area, body),
+            _ => self.bus_call(code, stmt),
+        }
+    }
+
+    /// The instructions of statements with so many loops around them, one after the other.
+    #[cycle(generate)]
+    pub fn body(&self, code: &mut Vec<Instr>, depth: u32, body: &[Stmt]) -> Result<(), Memory>
+        ensures { OnOk result (map instruction_of code.new.items ≡ map instruction_of code.old.items ++ code_of_body (runnable_of self.now.accesses.now.runnable.now) depth (body_tree body.now)) }
+    {
+        for stmt in body {
+            self.statement(code, depth, stmt)?;
+        }
+        Ok(())
+    }
+}

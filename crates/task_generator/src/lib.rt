@@ -1,0 +1,20 @@
+//! The generator of task bodies: it makes the program of each runnable into flat instructions.
+#![tactic(auto)]
+
+mod accesses;
+mod bounds;
+mod calls;
+mod code;
+mod copies;
+mod generator;
+mod laws;
+mod set;
+
+pub use laws::sound_programs_are_explicit;
+pub use set::generate;
+
+/// There was no memory for what a call makes.
+pub type Memory = std::alloc::AllocError;
+
+#[cfg(test)]
+mod tests;

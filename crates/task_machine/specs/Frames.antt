@@ -1,0 +1,64 @@
+-- What a frame stands for: a key, the Start of its activation, and the answers so far.
+use Rattle.std.specs.Prelude.{◌≡◌, ℕ, ◌≤◌, max, List, [], ◌∷◌, Option, Some, None, slice_get}
+use Rattle.rte_value.specs.declared.kinds.ActKey.{ActKey}
+use Rattle.bus_semantics.specs.declared.entries.Deed.{Deed}
+use Rattle.bus_semantics.specs.declared.entries.Deed.TheVariants as deed
+use Rattle.bus_semantics.specs.Wanted.{Wanted, wanted_of}
+use Rattle.task_machine.specs.declared.instr.Body.{Body}
+use Rattle.task_machine.specs.declared.instr.TaskSet.{TaskSet}
+use Rattle.task_machine.specs.declared.frame.Next.{Next}
+use Rattle.task_machine.specs.declared.frame.Next.TheVariants.{Call, Over}
+use Rattle.task_machine.specs.Instructions.{Instruction}
+use Rattle.task_machine.specs.Machine.{Spot, wanted_at, after}
+use Rattle.task_machine.specs.Spots.{code_in, first_spot, no_spot}
+use Rattle.task_machine.specs.Standing.{Standing}
+
+-- ---- what an activation asks
+
+-- the instructions of a runnable; none where there is no body
+abbrev pub code_from : Option Body → List Instruction
+code_from None = []
+code_from (Some b) = code_in b
+
+abbrev pub code_of : TaskSet → (runnable : ℕ) → List Instruction
+code_of t r = code_from (slice_get t.bodies r)
+
+abbrev pub spot_from : Option Body → Spot
+spot_from None = no_spot
+spot_from (Some b) = first_spot b
+
+-- the event of a Start
+abbrev pub event_in : Deed → ℕ
+event_in (deed.Start event point value) = event
+event_in _ = 0
+
+-- where the activation stands that began with this Start, after these answers
+abbrev pub spot_after : TaskSet → ActKey → (start : Deed) → (answers : List Deed) → Spot
+spot_after t k start answers = after (code_of t k.runnable) answers (spot_from (slice_get t.bodies k.runnable))
+
+-- what it asks; none where it is over
+abbrev pub asks : TaskSet → ActKey → (start : Deed) → (answers : List Deed) → Option Wanted
+asks t k start answers = wanted_at (code_of t k.runnable) (event_in start) (spot_after t k start answers)
+
+-- ---- frames
+
+-- a frame stands for the activation of a key that began with this Start, after these answers
+pub record Stands (t : TaskSet) (k : ActKey) (start : Deed) (answers : List Deed) (f : Standing) : Type 0 where
+  pub key : f.key ≡ k
+  pub event : f.event ≡ event_in start
+  pub at : f.at ≡ spot_after t k start answers
+
+-- the most that a body has
+abbrev pub most : (Body → ℕ) → List Body → ℕ
+most f [] = 0
+most f (b ∷ bs) = max (f b) (most f bs)
+
+-- a frame has the room that each body of these takes
+pub record IsMadeFor (t : TaskSet) (f : Standing) : Type 0 where
+  pub vars : most (λ (b : Body). b.vars) t.bodies ≤ f.vars_room
+  pub counters : most (λ (b : Body). b.counters) t.bodies ≤ f.counters_room
+
+-- what an answer of `next_call` asks
+abbrev pub wanted_in : Next → Option Wanted
+wanted_in (Call w) = Some (wanted_of w)
+wanted_in Over = None

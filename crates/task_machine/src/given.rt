@@ -1,0 +1,51 @@
+//! The words that a call gives.
+
+ghost use Rattle.std.specs.Prelude.{◌≡◌, ◌≤◌, ◌↔◌, length, IsSome, IfSome};
+ghost use Rattle.rte_value.specs.Values.{words_of};
+ghost use Rattle.task_machine.specs.Words.{words_given};
+
+use arrayvec::ArrayVec;
+use rte_value::{Limits, MOST_WORDS, Value, Word};
+use runnable_lang::Expr;
+
+/// A word that a call gives: an expression, and the limits to which its word is clamped.
+#[derive(Drop)]
+pub struct GivenWord {
+    pub limits: Limits,
+    pub value: Expr,
+}
+
+/// The words that a call gives, at most 16, in declared order.
+#[derive(Drop)]
+pub struct Given {
+    pub words: Vec<GivenWord>,
+    ghost short: { length words.items ≤ 16 },
+}
+
+impl Given {
+    /// A list of these words. None exactly where there are more than 16. It takes no memory.
+    pub fn new(words: Vec<GivenWord>) -> Option<Given>
+        ensures fits { IsSome result ↔ (length words.items ≤ 16) }
+        ensures words { IfSome result (λ g. g.words.items ≡ words.items) }
+    {
+        if words.len() > MOST_WORDS {
+            return None;
+        }
+        Some(Given { words })
+    }
+
+    /// The words over these variables, each clamped to its limits. A variable that there is not counts 0. It takes no memory.
+    pub fn value(&self, vars: &[Word]) -> Value
+        ensures { words_of result ≡ words_given vars.now self.now.words.items }
+    {
+        let mut words: ArrayVec<Word, 16> = ArrayVec::new();
+        for word in &self.words {
+            let worth = word.value.value(vars);
+            words.push(word.limits.low.max(worth.min(word.limits.high)));
+        }
+        match Value::new(words.as_slice()) {
+            Some(value) => value,
+            None => unreachable!(),
+        }
+    }
+}

@@ -1,0 +1,177 @@
+//! Where an activation stands in its body.
+
+ghost use Rattle.std.specs.Prelude.{◌≡◌, ◌≤◌, ◌<◌, ◌^◌, ℕ, zero, pos, List, map, replicate, set, Bool, true, false, if◌then◌else◌, Some};
+ghost use Rattle.std.specs.Vec.{vec_capacity};
+ghost use Rattle.bus_semantics.specs.State.{State};
+ghost use Rattle.task_machine.specs.Instructions.{instruction_of};
+ghost use Rattle.task_machine.specs.Machine.{Spot, Rest, silently, settled, answered};
+ghost use Rattle.task_machine.specs.Spots.{state_with, spot_of, first_spot, no_spot};
+
+use crate::instr::{Body, Instr};
+use crate::taking::put;
+use bus_semantics::Deed;
+use rte_value::Word;
+
+/// Where an activation stands in its body. Clauses see it by `spot_of`.
+#[derive(Drop)]
+pub struct Place {
+    /// How many instructions it may still execute.
+    pub left: u64,
+    /// The place of the next instruction.
+    pub place: usize,
+    /// Its variables, each at the place of its number.
+    pub vars: Vec<Word>,
+    /// The counters of its loops.
+    pub counters: Vec<u32>,
+}
+
+/// So many zeros, in the room that there is.
+#[tactic(auto, using(std::proofs::lemmas::List::replicate_more))]
+fn clear_words(words: &mut Vec<Word>, count: u32)
+    requires room { count ≤ vec_capacity words.old }
+    ensures zeros { words.new.items ≡ replicate count (pos 0) }
+    ensures room { vec_capacity words.new ≡ vec_capacity words.old }
+{
+    words.clear();
+    for _ in 0..count {
+        words.push_reserved(0);
+    }
+}
+
+/// So many zeros, in the room that there is.
+#[tactic(auto, using(std::proofs::lemmas::List::replicate_more))]
+fn clear_counters(counters: &mut Vec<u32>, count: u32)
+    requires room { count ≤ vec_capacity counters.old }
+    ensures zeros { counters.new.items ≡ replicate count 0 }
+    ensures room { vec_capacity counters.new ≡ vec_capacity counters.old }
+{
+    counters.clear();
+    for _ in 0..count {
+        counters.push_reserved(0);
+    }
+}
+
+/// The counter takes the number. One that there is not takes nothing.
+fn count(counters: &mut Vec<u32>, counter: u32, number: u32)
+    ensures counters { counters.new.items ≡ set counters.old.items counter number }
+    ensures room { vec_capacity counters.new ≡ vec_capacity counters.old }
+{
+    if let Some(place) = counters.get_mut(counter as usize) {
+        *place = number;
+    }
+}
+
+impl Place {
+    /// Executes an instruction that asks nothing of the bus. Answers whether it is one; a call changes nothing.
+    fn step(&mut self, instr: &Instr) -> bool
+        requires within { self.old.place < 2 ^ 63 }
+        ensures stepped { (rest : Rest) (here : Spot) → silently (Some (instruction_of instr.now)) rest self.old.place (state_with self.old.vars.items) self.old.counters.items here
+            ≡ (if result then rest self.new.place (state_with self.new.vars.items) self.new.counters.items else here) }
+        ensures budget { self.new.left ≡ self.old.left }
+        ensures call { result ≡ false → spot_of self.new ≡ spot_of self.old }
+        ensures vars_room { vec_capacity self.new.vars ≡ vec_capacity self.old.vars }
+        ensures counters_room { vec_capacity self.new.counters ≡ vec_capacity self.old.counters }
+    {
+        match instr {
+            Instr::Set { var, value } => {
+                let word = value.value(&self.vars);
+                put(&mut self.vars, *var, word);
+                self.place += 1;
+            }
+            Instr::Unless { cond, past } => {
+                if cond.value(&self.vars) == 0 {
+                    self.place += 1 + *past as usize;
+                } else {
+                    self.place += 1;
+                }
+            }
+            Instr::Skip { past } => self.place += 1 + *past as usize,
+            Instr::Repeat {
+                counter,
+                times,
+                past,
+            } => {
+                if *times == 0 {
+                    self.place += 1 + *past as usize;
+                } else {
+                    count(&mut self.counters, *counter, *times);
+                    self.place += 1;
+                }
+            }
+            Instr::Again { counter, back } => {
+                let counted = self.counters.get(*counter as usize).copied().unwrap_or(0);
+                if counted > 1 {
+                    count(&mut self.counters, *counter, counted - 1);
+                    self.place = self.place.saturating_sub(*back as usize);
+                } else {
+                    self.place += 1;
+                }
+            }
+            Instr::Call { .. } => return false,
+        }
+        true
+    }
+
+    /// Executes the instructions that ask nothing of the bus, one after the other, while the budget lasts.
+    fn settle(&mut self, code: &[Instr])
+        ensures settled { spot_of self.new ≡ settled (map instruction_of code.now) self.old.left self.old.place (state_with self.old.vars.items) self.old.counters.items }
+        ensures vars_room { vec_capacity self.new.vars ≡ vec_capacity self.old.vars }
+        ensures counters_room { vec_capacity self.new.counters ≡ vec_capacity self.old.counters }
+    {
+        while self.left > 0 {
+            match code.get(self.place) {
+                Some(instr) => {
+                    if !self.step(instr) {
+                        return;
+                    }
+                }
+                None => return,
+            }
+            self.left -= 1;
+        }
+    }
+
+    /// An activation begins in this body.
+    pub fn begin(&mut self, body: &Body)
+        requires vars { body.now.vars ≤ vec_capacity self.old.vars }
+        requires counters { body.now.counters ≤ vec_capacity self.old.counters }
+        ensures first { spot_of self.new ≡ first_spot body.now }
+        ensures vars_room { vec_capacity self.new.vars ≡ vec_capacity self.old.vars }
+        ensures counters_room { vec_capacity self.new.counters ≡ vec_capacity self.old.counters }
+    {
+        self.left = body.budget;
+        self.place = 0;
+        clear_words(&mut self.vars, body.vars);
+        clear_counters(&mut self.counters, body.counters);
+        self.settle(body.code.items());
+    }
+
+    /// An activation begins where there is no body, and is over.
+    pub fn begin_nowhere(&mut self)
+        ensures first { spot_of self.new ≡ no_spot }
+        ensures vars_room { vec_capacity self.new.vars ≡ vec_capacity self.old.vars }
+        ensures counters_room { vec_capacity self.new.counters ≡ vec_capacity self.old.counters }
+    {
+        self.left = 0;
+        self.place = 0;
+        self.vars.clear();
+        self.counters.clear();
+    }
+
+    /// Takes the answer to the call where it stands, and goes on to the next one.
+    pub fn feed(&mut self, code: &[Instr], answer: &Deed)
+        ensures answered { spot_of self.new ≡ answered (map instruction_of code.now) answer.now (spot_of self.old) }
+        ensures vars_room { vec_capacity self.new.vars ≡ vec_capacity self.old.vars }
+        ensures counters_room { vec_capacity self.new.counters ≡ vec_capacity self.old.counters }
+    {
+        if self.left == 0 {
+            return;
+        }
+        if let Some(Instr::Call { taken, .. }) = code.get(self.place) {
+            taken.take(answer, &mut self.vars);
+            self.place += 1 + taken.passes(answer);
+            self.left -= 1;
+            self.settle(code);
+        }
+    }
+}
