@@ -1,6 +1,6 @@
 //! The sites of a small description, listed by hand.
 
-use crate::{Site, SiteKind, Table, sites};
+use crate::{Site, SiteKind, Table, numbered_areas, numbered_events, numbered_runnables, sites};
 use samples::{description, flat};
 use std::test::Fail;
 
@@ -35,6 +35,22 @@ fn lists_sites(rt: HostRuntime) -> Result<(), Fail> {
     ];
     let found = sites(alloc, &description(alloc)?, &flat(alloc)?)?;
     assert_eq!(rt; found.as_slice(), expected.as_slice());
+    Ok(())
+}
+
+#[test]
+fn numbers_parts(rt: HostRuntime) -> Result<(), Fail> {
+    let alloc = rt.alloc();
+    let (d, f) = (description(alloc)?, flat(alloc)?);
+    let runnables = numbered_runnables(alloc, &d, &f)?;
+    assert_eq!(rt; runnables.as_slice(), [(0u32, 0u32), (1, 0)].as_slice());
+    let events = numbered_events(alloc, &d, &f)?;
+    assert_eq!(rt;
+        events.as_slice(),
+        [(0u32, 0u32), (1, 0), (1, 1)].as_slice()
+    );
+    let areas = numbered_areas(alloc, &d, &f)?;
+    assert_eq!(rt; areas.as_slice(), [(1u32, 0u32)].as_slice());
     Ok(())
 }
 

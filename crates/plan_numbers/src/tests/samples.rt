@@ -2,12 +2,14 @@
 
 use composition_flatten::{Flat, Instance};
 use description_types::{
-    Behavior, Component, Composition, Description, Port, PortKind, TaskMapping, Variable,
+    Behavior, Component, Composition, Description, Event, EventKind, Port, PortKind, Runnable,
+    TaskMapping, Variable,
 };
 use interface_types::{
     DataElement, Interface, InterfaceKind, ModeElement, Operation, SwImplPolicy, TypeTable,
 };
 use rte_text::{Seq, Text};
+use runnable_lang::Program;
 use std::alloc::{AllocError, Global};
 
 const P: PortKind = PortKind::Provided;
@@ -78,34 +80,63 @@ fn ports(alloc: Global, list: &[(PortKind, u32)]) -> Result<Seq<Port>, AllocErro
     Ok(Seq::of(ports))
 }
 
-fn component(
-    alloc: Global,
-    list: &[(PortKind, u32)],
-    variables: u32,
-) -> Result<Component, AllocError> {
-    let mut declared = Vec::new(alloc);
+fn runnable(alloc: Global) -> Result<Runnable, AllocError> {
+    Ok(Runnable {
+        short_name: text(alloc, "Go")?,
+        can_be_invoked_concurrently: false,
+        accesses: empty(alloc),
+        program: Program {
+            vars: 0,
+            body: Vec::new(alloc),
+        },
+    })
+}
+
+fn event(alloc: Global) -> Result<Event, AllocError> {
+    Ok(Event {
+        short_name: text(alloc, "E")?,
+        runnable: 0,
+        kind: EventKind::Init,
+        disabled_in_modes: None,
+    })
+}
+
+/// A behaviour with so many variables and areas, a runnable, and an event more than variables.
+fn behavior(alloc: Global, variables: u32) -> Result<Behavior, AllocError> {
+    let (mut declared, mut areas) = (Vec::new(alloc), Vec::new(alloc));
+    let mut events = vec![in alloc; event(alloc)?]?;
     for _ in 0..variables {
         declared.push(Variable {
             short_name: text(alloc, "n")?,
             of_type: 0,
             init_value: None,
         })?;
+        areas.push(text(alloc, "a")?)?;
+        events.push(event(alloc)?)?;
     }
-    Ok(Component {
-        short_name: text(alloc, "C")?,
-        ports: ports(alloc, list)?,
-        behavior: Behavior {
-            exclusive_areas: empty(alloc),
-            variables: Seq::of(declared),
-            runnables: empty(alloc),
-            events: empty(alloc),
-        },
+    Ok(Behavior {
+        exclusive_areas: Seq::of(areas),
+        variables: Seq::of(declared),
+        runnables: Seq::of(vec![in alloc; runnable(alloc)?]?),
+        events: Seq::of(events),
     })
 }
 
-/// Component 0 has a P-port and an R-port of modes and a variable; component 1 an R-port of data, and a P-port and an R-port of
-/// operations. The root, which is composition 1, has an R-port and a P-port of data, a P-port of operations and an R-port of
-/// modes.
+fn component(
+    alloc: Global,
+    list: &[(PortKind, u32)],
+    variables: u32,
+) -> Result<Component, AllocError> {
+    Ok(Component {
+        short_name: text(alloc, "C")?,
+        ports: ports(alloc, list)?,
+        behavior: behavior(alloc, variables)?,
+    })
+}
+
+/// Component 0 has a P-port and an R-port of modes, a variable, an area and two events; component 1 has an R-port of data, a
+/// P-port and an R-port of operations, and an event. The root, which is composition 1, has an R-port and a P-port of data, a
+/// P-port of operations and an R-port of modes.
 pub fn description(alloc: Global) -> Result<Description, AllocError> {
     let components = vec![in alloc;
         component(alloc, &[(P, 2), (R, 2)], 1)?,
