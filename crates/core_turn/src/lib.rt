@@ -1,0 +1,14 @@
+//! The turn of a core: one entry of one of its tasks, in cyclic order, over any bench.
+#![tactic(auto)]
+
+mod cores;
+mod look;
+mod slot;
+mod trying;
+mod turn;
+
+pub use cores::Core;
+pub use turn::Turned;
+
+/// There was no memory for what a call makes.
+pub type Memory = std::alloc::AllocError;
