@@ -195,3 +195,15 @@ module _ (p : Plan) (m : Mapping) (built : IsBuilt p m) where
       of_wish (to_invalidate x) is = both_of (key_fits p (plain_key i)) _ (key_is i r there less) is
       of_wish (to_see_updated x) is = both_of (key_fits p (plain_key i)) _ (key_is i r there less) is
       of_wish w is = absurd (false≢true is)
+
+-- an event that starts a runnable is there
+pub event_known : (p : Plan) (e i : ℕ) → runnable_of_event p e ≡ Some i → nat_lt e (length p.events) ≡ true
+event_known p e i starts = of_list p.events e starts
+  where
+    of_list : (vs : List EventPlan) (e : ℕ) → look vs e (λ (v : EventPlan). Some v.runnable) None ≡ Some i → nat_lt e (length vs) ≡ true
+    of_list [] e starts = absurd (cc starts)
+    of_list (v ∷ vs) zero starts = grind (arith, nat_tests)
+    of_list (v ∷ vs) (suc e) starts =
+        let less : e < length vs = below e (length vs) (of_list vs e starts) in
+        let more : suc e < length (v ∷ vs) = omega arith in
+        grind (arith, nat_tests)

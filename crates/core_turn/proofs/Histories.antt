@@ -14,7 +14,7 @@ use Rattle.bus_semantics.specs.declared.entries.Deed.TheVariants as deed
 use Rattle.bus_semantics.specs.declared.entries.Entry.{Entry}
 use Rattle.bus_semantics.specs.Plan.{Plan, server_of, runnable_of_event}
 use Rattle.bus_semantics.specs.Wanted.{Wanted, to_start, to_write, to_read, to_invalidate, to_see_updated, to_end, wanted_by, same_wanted}
-use Rattle.bus_semantics.specs.History.{History, is_over, is_of, made_by, event_started, needs_event, runs, last_started}
+use Rattle.bus_semantics.specs.History.{History, is_over, is_end, is_of, made_by, event_started, needs_event, runs, last_started}
 use Rattle.bus_semantics.specs.Actor.{Activation, with_deed, activation_of, next_wish, direct_key, asked_last, is_held_back, caller_has_asked, may_start, is_this, is_wanted_next, starts_or_goes_on, follows_program}
 use Rattle.bus_semantics.specs.Locality.{starts_its_own}
 use Rattle.task_machine.specs.declared.instr.TaskSet.{TaskSet}
@@ -35,16 +35,17 @@ pub record IsDatum (p : Plan) (d : Deed) : Type 0 where
   pub goes_on : (g : History) (k : ActKey) → starts_or_goes_on p g k d ≡ is_wanted_next p g k d
   pub same : (by other : ℕ) → wanted_by by d ≡ wanted_by other d
   pub over : is_over d ≡ false
+  pub no_end : is_end d ≡ false
   pub started : event_started d ≡ None
   pub free : needs_event d ≡ false
   pub own : (k : ActKey) → starts_its_own p (Act k) d ≡ true
   pub more : (a : Activation) → with_deed d (Some a) ≡ Some (record { event = a.event; start = a.start; deeds = a.deeds ++ d ∷ [] })
 
 pub datum : (p : Plan) (home : Option ℕ) (by : ℕ) (d : Deed) → is_data p home (wanted_by by d) ≡ true → IsDatum p d
-datum p home by (deed.Write x value) is = record { goes_on = λ g k. refl; same = λ a b. refl; over = refl; started = refl; free = refl; own = λ k. refl; more = λ a. refl }
-datum p home by (deed.Read x code value) is = record { goes_on = λ g k. refl; same = λ a b. refl; over = refl; started = refl; free = refl; own = λ k. refl; more = λ a. refl }
-datum p home by (deed.Invalidate x) is = record { goes_on = λ g k. refl; same = λ a b. refl; over = refl; started = refl; free = refl; own = λ k. refl; more = λ a. refl }
-datum p home by (deed.IsUpdated x updated) is = record { goes_on = λ g k. refl; same = λ a b. refl; over = refl; started = refl; free = refl; own = λ k. refl; more = λ a. refl }
+datum p home by (deed.Write x value) is = record { goes_on = λ g k. refl; same = λ a b. refl; over = refl; no_end = refl; started = refl; free = refl; own = λ k. refl; more = λ a. refl }
+datum p home by (deed.Read x code value) is = record { goes_on = λ g k. refl; same = λ a b. refl; over = refl; no_end = refl; started = refl; free = refl; own = λ k. refl; more = λ a. refl }
+datum p home by (deed.Invalidate x) is = record { goes_on = λ g k. refl; same = λ a b. refl; over = refl; no_end = refl; started = refl; free = refl; own = λ k. refl; more = λ a. refl }
+datum p home by (deed.IsUpdated x updated) is = record { goes_on = λ g k. refl; same = λ a b. refl; over = refl; no_end = refl; started = refl; free = refl; own = λ k. refl; more = λ a. refl }
 datum p home by d is = absurd (false≢true is)
 
 pub end_is : (by n : ℕ) (d : Deed) → wanted_by by d ≡ to_end n → d ≡ deed.End

@@ -6,3 +6,8 @@ pub mod Activities
 pub mod Facts
 pub mod Histories
 pub mod Tries
+pub mod Begun
+pub mod Stepping
+pub mod Looks
+pub mod Starts
+pub mod Beginning

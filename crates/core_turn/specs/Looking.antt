@@ -1,14 +1,16 @@
 -- What comes of looks at wishes over a bench, in their order: the entry of the first that may come, or that none may.
-use Rattle.std.specs.Prelude.{◌≡◌, ℕ, suc, List, [], ◌∷◌, ◌++◌, slice_get, true, Option, Some, None, unwrap_or, is_some, IfSome}
+use Rattle.std.specs.Prelude.{◌≡◌, ℕ, suc, List, [], ◌∷◌, ◌++◌, slice_get, true, ◌==◌, Option, Some, None, unwrap_or, is_some, IfSome}
+use Rattle.std.specs.List.{list_any}
 use Rattle.bus_semantics.specs.declared.entries.Actor.{Actor}
+use Rattle.bus_semantics.specs.declared.entries.Actor.TheVariants.{Act}
 use Rattle.bus_semantics.specs.declared.entries.Entry.{Entry}
 use Rattle.bus_semantics.specs.declared.entries.Stamped.{Stamped}
-use Rattle.bus_semantics.specs.Plan.{Plan}
-use Rattle.bus_semantics.specs.Wanted.{Wanted, to_end, wanted_by}
+use Rattle.bus_semantics.specs.Plan.{Plan, runnable_of_event}
+use Rattle.bus_semantics.specs.Wanted.{Wanted, to_start, to_end, wanted_by}
 use Rattle.bus_semantics.specs.History.{Noted}
 use Rattle.bus_semantics.specs.Fitting.{wish_fits, answer_fits}
 use Rattle.bus_semantics.specs.Objects.{object_of}
-use Rattle.bus_semantics.specs.Rest.{Try}
+use Rattle.bus_semantics.specs.Rest.{Try, plain_key}
 use Rattle.port_objects.specs.declared.object.Object.{Object}
 use Rattle.port_objects.specs.Coming.{asks_its_own}
 use Rattle.port_objects.specs.Objects.{IsObject, kept_of}
@@ -129,3 +131,17 @@ pub record Looked (p : Plan) (ts : List Try) (looks : ℕ) (old new : Told) (l :
   pub next : StampAfter old.next new.next (made_in l)
   pub objects : ObjectsLooked p ts old.objects new.objects l
   pub work : WorkLooked looks old.work new.work l
+
+-- ---- starts
+
+-- the entry is of a start by one of these events
+pub record IsStartBy (p : Plan) (events : List ℕ) (s : Stamped) : Type 0 where
+  pub event : ℕ
+  pub mapped : list_any (λ e. e == event) events ≡ true
+  pub runnable : ℕ
+  pub starts : runnable_of_event p event ≡ Some runnable
+  pub entry : IsEntryOf p (Act (plain_key runnable)) (to_start event) s
+
+abbrev pub StartBy : Plan → (events : List ℕ) → Look → Type 0
+StartBy p events (Made s) = IsStartBy p events s
+StartBy p events l = Unit {0}

@@ -1,12 +1,13 @@
 -- What comes of a turn: one entry of one slot, and what its core stands for then; or nothing, and why (OS: scheduling; the order of slots is
 -- this project's own).
-use Rattle.std.specs.Prelude.{◌≡◌, ℕ, suc, List, [], ◌∷◌, ◌++◌, set, slice_get, true, Option, Some, None}
+use Rattle.std.specs.Prelude.{◌≡◌, ℕ, suc, List, [], ◌∷◌, ◌++◌, set, slice_get, Bool, true, false, if◌then◌else◌, Option, Some, None}
 use Rattle.rte_value.specs.declared.kinds.ActKey.{ActKey}
 use Rattle.bus_semantics.specs.declared.entries.Actor.TheVariants.{Act}
+use Rattle.bus_semantics.specs.declared.entries.Deed.{Deed}
 use Rattle.bus_semantics.specs.declared.entries.Entry.{Entry}
 use Rattle.bus_semantics.specs.declared.entries.Stamped.{Stamped}
 use Rattle.bus_semantics.specs.Plan.{Plan}
-use Rattle.bus_semantics.specs.History.{History, note, noted}
+use Rattle.bus_semantics.specs.History.{History, note, noted, is_end}
 use Rattle.bus_semantics.specs.Objects.{touched_by}
 use Rattle.bus_semantics.specs.Actor.{follows_program}
 use Rattle.bus_semantics.specs.Legal.{Answers}
@@ -14,6 +15,7 @@ use Rattle.bus_semantics.specs.Locality.{is_proper}
 use Rattle.port_objects.specs.declared.object.Object.{Object}
 use Rattle.port_objects.specs.Benches.{IsFurther, StampAfter}
 use Rattle.task_machine.specs.declared.instr.TaskSet.{TaskSet}
+use Rattle.task_machine.specs.Frames.{Stands}
 use Rattle.core_turn.specs.declared.slot.Slot.{Slot}
 use Rattle.core_turn.specs.declared.look.Look.{Look}
 use Rattle.core_turn.specs.declared.look.Look.TheVariants as look
@@ -42,6 +44,22 @@ pub record SlotStep (p : Plan) (t : TaskSet) (slot after : Slot) (s : Stamped) :
   pub events : after.events ≡ slot.events
   pub ready : IsReadySlot p t after
   pub follows : (g : History) → SlotStands p t g slot → StepFollows p t g after s.entry
+
+-- a slot whose running activation has heard an answer: it goes on, or is over with its end
+pub record Heard (t : TaskSet) (d : Deed) (old new : Slot) : Type 0 where
+  pub events : new.events ≡ old.events
+  pub running : new.running ≡ (if is_end d then None else old.running)
+  pub vars_room : new.frame.vars_room ≡ old.frame.vars_room
+  pub counters_room : new.frame.counters_room ≡ old.frame.counters_room
+  pub stands : is_end d ≡ false → (k : ActKey) (start : Deed) (answers : List Deed) → Stands t k start answers old.frame → Stands t k start (answers ++ d ∷ []) new.frame
+
+-- a slot in which the activation of an entry's actor has begun with its deed
+pub record BegunBy (t : TaskSet) (e : Entry) (old new : Slot) : Type 0 where
+  pub events : new.events ≡ old.events
+  pub running : (k : ActKey) → e.actor ≡ Act k → new.running ≡ Some k
+  pub vars_room : new.frame.vars_room ≡ old.frame.vars_room
+  pub counters_room : new.frame.counters_room ≡ old.frame.counters_room
+  pub stands : (k : ActKey) → e.actor ≡ Act k → Stands t k e.deed [] new.frame
 
 -- after a look: it stepped, or is as it was
 abbrev pub SlotLooked : Plan → TaskSet → (old new : Slot) → Look → Type 0

@@ -2,8 +2,10 @@
 #![tactic(auto)]
 
 mod cores;
+mod going;
 mod look;
 mod slot;
+mod starting;
 mod trying;
 mod turn;
 
