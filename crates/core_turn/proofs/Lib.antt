@@ -11,3 +11,6 @@ pub mod Stepping
 pub mod Looks
 pub mod Starts
 pub mod Beginning
+pub mod Passing
+pub mod Apart
+pub mod Stepped

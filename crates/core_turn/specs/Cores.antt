@@ -1,5 +1,5 @@
 -- What a core keeps, and the order in which it looks at its slots.
-use Rattle.std.specs.Prelude.{◌≡◌, ℕ, ◌+◌, List, [], ◌∷◌, map, filter, Bool, ◌&&◌, ◌||◌, ◌==◌, nat_le, nat_lt, if◌then◌else◌}
+use Rattle.std.specs.Prelude.{◌≡◌, ℕ, ◌+◌, ◌-◌, List, [], ◌∷◌, ◌++◌, take, drop, map, filter, ◌==◌, nat_le, if◌then◌else◌}
 use Rattle.bus_semantics.specs.declared.script.Mapping.{Mapping}
 use Rattle.bus_semantics.specs.declared.script.Task.{Task}
 use Rattle.bus_semantics.specs.declared.entries.Stamped.{Stamped}
@@ -27,9 +27,13 @@ tasks_of_core m n = filter (λ (t : Task). t.core == n) m.tasks
 abbrev pub HasTasks : Mapping → CoreState → Type 0
 HasTasks m c = map events_of_slot c.slots ≡ map (λ (t : Task). t.events) (tasks_of_core m c.number)
 
--- in cyclic order from the first on, a place comes before another one
-abbrev pub comes_before : (first : ℕ) → (at : ℕ) → (place : ℕ) → Bool
-comes_before first at i = if nat_le first at then nat_le first i && nat_lt i at else nat_le first i || nat_lt i at
+-- the slots from one place up to another
+abbrev pub slots_between : (from : ℕ) → (to : ℕ) → List Slot → List Slot
+slots_between from to slots = take (to - from) (drop from slots)
+
+-- the slots before a place, in cyclic order from the first on
+abbrev pub slots_before : (first : ℕ) → (at : ℕ) → List Slot → List Slot
+slots_before first at slots = if nat_le first at then slots_between first at slots else drop first slots ++ take at slots
 
 -- the looks of all slots
 abbrev pub looks_in : Plan → List Slot → ℕ

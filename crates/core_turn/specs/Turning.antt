@@ -1,6 +1,6 @@
 -- What comes of a turn: one entry of one slot, and what its core stands for then; or nothing, and why (OS: scheduling; the order of slots is
 -- this project's own).
-use Rattle.std.specs.Prelude.{◌≡◌, ℕ, suc, List, [], ◌∷◌, ◌++◌, set, slice_get, Bool, true, false, if◌then◌else◌, Option, Some, None}
+use Rattle.std.specs.Prelude.{◌≡◌, ℕ, suc, ◌<◌, ◌≤◌, List, [], ◌∷◌, ◌++◌, set, slice_get, Bool, true, false, if◌then◌else◌, Option, Some, None}
 use Rattle.rte_value.specs.declared.kinds.ActKey.{ActKey}
 use Rattle.bus_semantics.specs.declared.entries.Actor.TheVariants.{Act}
 use Rattle.bus_semantics.specs.declared.entries.Deed.{Deed}
@@ -12,6 +12,7 @@ use Rattle.bus_semantics.specs.Objects.{touched_by}
 use Rattle.bus_semantics.specs.Actor.{follows_program}
 use Rattle.bus_semantics.specs.Legal.{Answers}
 use Rattle.bus_semantics.specs.Locality.{is_proper}
+use Rattle.bus_semantics.specs.Rest.{gathered}
 use Rattle.port_objects.specs.declared.object.Object.{Object}
 use Rattle.port_objects.specs.Benches.{IsFurther, StampAfter}
 use Rattle.task_machine.specs.declared.instr.TaskSet.{TaskSet}
@@ -19,13 +20,15 @@ use Rattle.task_machine.specs.Frames.{Stands}
 use Rattle.core_turn.specs.declared.slot.Slot.{Slot}
 use Rattle.core_turn.specs.declared.look.Look.{Look}
 use Rattle.core_turn.specs.declared.look.Look.TheVariants as look
-use Rattle.core_turn.specs.declared.turn.Turned.{Turned}
-use Rattle.core_turn.specs.declared.turn.Turned.TheVariants.{Stepped, NothingNow, Contended}
-use Rattle.core_turn.specs.Slots.{is_key_of, slot_tries}
-use Rattle.core_turn.specs.Cores.{CoreState, comes_before, looks_in}
+use Rattle.core_turn.specs.declared.look.Passed.{Passed}
+use Rattle.core_turn.specs.declared.look.Passed.TheVariants as pass
+use Rattle.core_turn.specs.declared.turning.Turned.{Turned}
+use Rattle.core_turn.specs.declared.turning.Turned.TheVariants.{Stepped, NothingNow, Contended}
+use Rattle.core_turn.specs.Slots.{is_key_of, slot_tries, looks}
+use Rattle.core_turn.specs.Cores.{CoreState, slots_between, slots_before, looks_in}
 use Rattle.core_turn.specs.Ready.{IsReadySlot}
 use Rattle.core_turn.specs.Standing.{SlotStands, CoreStands}
-use Rattle.core_turn.specs.Looking.{AllHeld, FirstMade, Told}
+use Rattle.core_turn.specs.Looking.{AllHeld, FirstMade, Told, Looked}
 
 -- ---- a slot steps
 
@@ -66,11 +69,31 @@ abbrev pub SlotLooked : Plan → TaskSet → (old new : Slot) → Look → Type 
 SlotLooked p t old new (look.Made s) = SlotStep p t old new s
 SlotLooked p t old new l = new ≡ old
 
+-- ---- slots are passed
+
+-- nothing of the slots before this one may come, and of this one the first that may come was made
+pub record PassMade (p : Plan) (t : TaskSet) (old new : List Slot) (from : ℕ) (at : ℕ) (before after : Told) (s : Stamped) : Type 0 where
+  pub slot : Slot
+  pub stepped : Slot
+  pub behind : from ≤ at
+  pub there : slice_get old at ≡ Some slot
+  pub slots : new ≡ set old at stepped
+  pub step : SlotStep p t slot stepped s
+  pub middle : Told
+  pub passed : Looked p (gathered (slot_tries p t) (slots_between from at old)) (looks_in p (slots_between from at old)) before middle look.Nothing
+  pub looked : Looked p (slot_tries p t slot) (looks p slot) middle after (look.Made s)
+
+-- what came of looks at the slots from one place up to another
+abbrev pub IsPass : Plan → TaskSet → (old new : List Slot) → (from : ℕ) → (to : ℕ) → (before after : Told) → Passed → Type 0
+IsPass p t old new from to before after (pass.Made at s) = (at < to) × PassMade p t old new from at before after s
+IsPass p t old new from to before after pass.Nothing = (new ≡ old) × Looked p (gathered (slot_tries p t) (slots_between from to old)) (looks_in p (slots_between from to old)) before after look.Nothing
+IsPass p t old new from to before after (pass.Contended object) = (new ≡ old) × Looked p [] 0 before after (look.Contended object)
+
 -- ---- a core steps
 
 -- where the bench tells its objects: nothing of the slots that come before may come, and of this one the first that may come was made
 pub record FirstInOrder (p : Plan) (t : TaskSet) (c : CoreState) (at : ℕ) (slot : Slot) (objects : List Object) (after : Option (List Object)) (s : Stamped) : Type 0 where
-  pub passed : (i : ℕ) (other : Slot) → slice_get c.slots i ≡ Some other → comes_before c.first at i ≡ true → AllHeld p objects (slot_tries p t other)
+  pub passed : AllHeld p objects (gathered (slot_tries p t) (slots_before c.first at c.slots))
   pub made : FirstMade p (slot_tries p t slot) objects after s
 
 abbrev pub OrderTold : Plan → TaskSet → CoreState → (at : ℕ) → Slot → (old new : Option (List Object)) → Stamped → Type 0
@@ -99,7 +122,7 @@ pub record Steps (p : Plan) (t : TaskSet) (old new : CoreState) (before after : 
 
 abbrev pub NoneTold : Plan → TaskSet → CoreState → (old new : Option (List Object)) → Type 0
 NoneTold p t c None after = after ≡ None
-NoneTold p t c (Some objects) after = ((i : ℕ) (s : Slot) → slice_get c.slots i ≡ Some s → AllHeld p objects (slot_tries p t s)) × (after ≡ Some objects)
+NoneTold p t c (Some objects) after = AllHeld p objects (gathered (slot_tries p t) c.slots) × (after ≡ Some objects)
 
 -- nothing of any slot may come: where the bench tells its work, each look that it takes to see this answered NotYet
 pub record NothingComes (p : Plan) (t : TaskSet) (old new : CoreState) (before after : Told) : Type 0 where

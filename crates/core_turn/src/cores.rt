@@ -1,6 +1,6 @@
 //! A core.
 
-ghost use Rattle.std.specs.Prelude.{◌≡◌, ◌+◌, ◌-◌, ◌≤◌, ℕ, [], length, IfOk, OnOk, min};
+ghost use Rattle.std.specs.Prelude.{◌≡◌, ◌+◌, ◌<◌, ◌≤◌, suc, [], ◌∷◌, ◌++◌, length, OnOk, min};
 ghost use Rattle.std.specs.Vec.{vec_capacity};
 ghost use Rattle.bus_semantics.specs.Plan.{Plan};
 ghost use Rattle.bus_semantics.specs.declared.script.Mapping.{Mapping};
@@ -19,10 +19,10 @@ use task_machine::{Frame, TaskSet};
 /// A core with its tasks, which makes one turn after the other, and the trace of what it made.
 #[derive(Drop)]
 pub struct Core {
-    number: u32,
-    slots: Vec<Slot>,
-    first: usize,
-    trace: Vec<Stamped>,
+    pub(crate) number: u32,
+    pub(crate) slots: Vec<Slot>,
+    pub(crate) first: usize,
+    pub(crate) trace: Vec<Stamped>,
 }
 
 impl Model for Core {
@@ -73,5 +73,22 @@ impl Core {
         ensures first { self.new.first ≡ self.old.first }
     {
         self.trace.clear();
+    }
+}
+
+impl Core {
+    /// The slot at this place has made this entry: it is the last of the trace, and the next turn begins behind the slot.
+    pub(crate) fn note(&mut self, at: usize, stamped: Stamped)
+        requires room { 0 < self.old.room }
+        requires within { at < length self.old.slots }
+        ensures first { self.new.first ≡ suc at }
+        ensures trace { self.new.trace ≡ self.old.trace ++ stamped ∷ [] }
+        ensures room { self.old.room ≡ suc self.new.room }
+        ensures number { self.new.number ≡ self.old.number }
+        ensures slots { self.new.slots ≡ self.old.slots }
+    {
+        let _slots = self.slots.len();
+        self.first = at + 1;
+        self.trace.push_reserved(stamped);
     }
 }

@@ -4,13 +4,14 @@
 mod cores;
 mod going;
 mod look;
+mod looking;
 mod slot;
 mod starting;
 mod trying;
-mod turn;
+mod turning;
 
 pub use cores::Core;
-pub use turn::Turned;
+pub use turning::{Turned, turn};
 
 /// There was no memory for what a call makes.
 pub type Memory = std::alloc::AllocError;
