@@ -30,6 +30,13 @@ number_same a b = (unsigned_Decides a b).0
 pub same_test : (a b : ℕ) → a ≡ b → (a == b) ≡ true
 same_test a b = (unsigned_Decides a b).1
 
+pub differ_test : (a b : ℕ) → (a ≡ b → ⊥) → (a == b) ≡ false
+differ_test a b apart = of_test (a == b) refl
+  where
+    of_test : (v : Bool) → (a == b) ≡ v → v ≡ false
+    of_test false is = refl
+    of_test true is = absurd (apart (number_same a b is))
+
 pub words_same : (ws : List ℤ) → same_words ws ws ≡ true
 words_same [] = refl
 words_same (x ∷ ws) = both_of (int_eq x x) (same_words ws ws) ((signed_Decides x x).1 refl) (words_same ws)

@@ -14,3 +14,5 @@ pub mod Beginning
 pub mod Passing
 pub mod Apart
 pub mod Stepped
+pub mod Made
+pub mod Keeping

@@ -1,6 +1,7 @@
 pub mod Plans
 pub mod Slots
 pub mod Cores
+pub mod Made
 pub mod Ready
 pub mod Standing
 pub mod Looking

@@ -1,6 +1,6 @@
 //! A core.
 
-ghost use Rattle.std.specs.Prelude.{◌≡◌, ◌+◌, ◌<◌, ◌≤◌, suc, [], ◌∷◌, ◌++◌, length, OnOk, min};
+ghost use Rattle.std.specs.Prelude.{◌≡◌, ◌+◌, ◌<◌, ◌≤◌, suc, [], ◌∷◌, ◌++◌, length, IfOk, OnOk, min};
 ghost use Rattle.std.specs.Vec.{vec_capacity};
 ghost use Rattle.bus_semantics.specs.Plan.{Plan};
 ghost use Rattle.bus_semantics.specs.declared.script.Mapping.{Mapping};
@@ -10,11 +10,12 @@ ghost use Rattle.core_turn.specs.Ready.{IsReady};
 ghost use Rattle.core_turn.specs.Standing.{CoreStands};
 
 use crate::Memory;
+use crate::making::slots_of;
 use crate::slot::Slot;
 use bus_semantics::{Mapping, Stamped};
 use std::alloc::Global;
 use std::marker::Model;
-use task_machine::{Frame, TaskSet};
+use task_machine::TaskSet;
 
 /// A core with its tasks, which makes one turn after the other, and the trace of what it made.
 #[derive(Drop)]
@@ -38,6 +39,25 @@ impl Model for Core {
 }
 
 impl Core {
+    /// The core of this number of the mapping, with its tasks in the order of the description and frames for these bodies. No
+    /// activation runs, and the trace is empty and has no room. The only error is that there is no memory.
+    pub fn new(alloc: Global, m: &Mapping, t: &TaskSet, number: u32) -> Result<Core, Memory>
+        ensures number { IfOk result (λ c. c.number ≡ number) }
+        ensures tasks { IfOk result (λ c. HasTasks m.now c) }
+        ensures first { IfOk result (λ c. c.first ≡ 0) }
+        ensures trace { IfOk result (λ c. c.trace ≡ []) }
+        ensures ready { IfOk result (λ c. (p : Plan) → IsBuilt p m.now → IsReady p m.now t.now c) }
+        ensures stands { IfOk result (λ c. (p : Plan) → CoreStands p t.now [] c) }
+    {
+        let slots = slots_of(alloc, m, t, number)?;
+        Ok(Core {
+            number,
+            slots,
+            first: 0,
+            trace: Vec::new(alloc),
+        })
+    }
+
     /// Room in the trace for so many more entries. Where there is no memory for it, the trace keeps its entries and its room.
     pub fn make_room(&mut self, _alloc: Global, n: u32) -> Result<(), Memory>
         ensures room { OnOk result (n ≤ self.new.room) }

@@ -5,6 +5,7 @@ mod cores;
 mod going;
 mod look;
 mod looking;
+mod making;
 mod slot;
 mod starting;
 mod trying;
