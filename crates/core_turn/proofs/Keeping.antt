@@ -179,3 +179,107 @@ module _ (p : Plan) (m : Mapping) (built : IsBuilt p m) where
           own = subst (λ v. asks_its_own p a v ≡ true) wish (own_asked p a s.entry.deed 0 free (subst (λ x. starts_its_own p x s.entry.deed ≡ true) entry.actor parts.1));
           stands = subst (λ n. Stands p n (kept_of k) (entries_of p h object)) (sym (ap (λ o. unwrap_or o 0) touching)) stands;
         }
+
+-- ---- a turn
+
+module _ (p : Plan) (m : Mapping) (t : TaskSet) (cores : List CoreState) (i : ℕ) (old new : CoreState) (objects after : List Object) (before now : Told) (s : Stamped) (h : History)
+    (lawful : IsLawful p m t cores objects h) (is : slice_get cores i ≡ Some old) (ready : IsReady p m t new) (steps : Steps p t old new before now s)
+    (made_one : (a : Actor) (w : Wanted) (x y : Object) (l : Past) (e : Entry) → object_of p a w ≡ Some (touched p a w) → MayAsk p m a w (kept_of x) l → IsMade p (touched p a w) a w x y e → IsTheOne p a w (kept_of y) l e)
+    (whole : (e : Entry) (object : ℕ) → Follows p object (entries_of p h object) (note h e) → Answers p (noted h) (note h e)) where
+  old_ready : IsReady p m t old
+  old_ready = lawful.ready i old is
+
+  follows : StepFollows p t h steps.stepped s.entry
+  follows = steps.step.follows h (lawful.stands i old is steps.at steps.slot steps.there)
+
+  -- ---- the cores
+
+  entry_is : s.entry ≡ entry_by steps.step.key s.entry.deed
+  entry_is = λ j. record { actor = steps.step.actor j; deed = s.entry.deed }
+
+  other_core : (j : ℕ) (c : CoreState) → j ≢ i → slice_get cores j ≡ Some c → CoreStands p t (s.entry ∷ h) c
+  other_core j c other found n x at =
+      let c_ready = lawful.ready j c found in
+      let differ : old.number ≢ c.number = λ e. other (sym (sym (lawful.number i old is) ∙ e ∙ lawful.number j c found)) in
+      let foreign = cores_apart p m old_ready.built old c steps.step.key steps.at n steps.slot x old_ready.tasks c_ready.tasks differ steps.there steps.step.own at in
+      subst (λ e. SlotStands p t (e ∷ h) x) (sym entry_is)
+      (other_stands p t h x.events.items steps.step.key s.entry.deed x.frame x.running foreign
+      (λ k running. (subst (IsBegunIn p t x.events.items x.frame) running (c_ready.each n x at).begun).own) (lawful.stands j c found n x at))
+
+  cores_stand : (j : ℕ) (c : CoreState) → Placed CoreState cores i new j c → CoreStands p t (s.entry ∷ h) c
+  cores_stand j c (here place same) = subst (CoreStands p t (s.entry ∷ h)) (sym same) (steps.stands h (lawful.stands i old is))
+  cores_stand j c (there other found) = other_core j c other found
+
+  cores_ready : (j : ℕ) (c : CoreState) → Placed CoreState cores i new j c → IsReady p m t c
+  cores_ready j c (here place same) = subst (IsReady p m t) (sym same) ready
+  cores_ready j c (there other found) = lawful.ready j c found
+
+  cores_numbered : (j : ℕ) (c : CoreState) → Placed CoreState cores i new j c → c.number ≡ j
+  cores_numbered j c (here place same) = ap (λ (x : CoreState). x.number) same ∙ steps.number ∙ lawful.number i old is ∙ sym place
+  cores_numbered j c (there other found) = lawful.number j c found
+
+  -- ---- the entry and the objects
+
+  record Kept : Type 0 where
+    answers : Answers p (noted h) (note h s.entry)
+    stand : (j : ℕ) (o : Object) → slice_get after j ≡ Some o → Stands p j (kept_of o) (entries_of p (s.entry ∷ h) j)
+
+  untouched : (a : Actor) (w : Wanted) → IsEntryOf p a w s → object_of p a w ≡ None → after ≡ objects → Kept
+  untouched a w entry none same =
+      let touching = touched_note p m old_ready.built h s a w entry ∙ none in
+      record {
+        answers = follows.free touching;
+        stand = λ j o found. subst (Stands p j (kept_of o)) (sym (parted p m old_ready.built h s a w entry j false (ap (λ x. same_number x (Some j)) touching)))
+            (lawful.stand j o (subst (λ os. slice_get os j ≡ Some o) same found));
+      }
+
+  changed : (a : Actor) (w : Wanted) (object : ℕ) → IsEntryOf p a w s → object_of p a w ≡ Some object → MadeOn p object a w objects (Some after) s.entry → Kept
+  changed a w object entry touching made =
+      let number : touched p a w ≡ object = ap (λ o. unwrap_or o 0) touching in
+      let ask = asked_on p m old_ready.built h s a w entry object made.before touching steps.step.proper (lawful.stand object made.before made.found) in
+      let one = made_one a w made.before made.now (entries_of p h object) s.entry (touching ∙ ap (λ n. Some n) (sym number)) ask (subst (λ n. IsMade p n a w made.before made.now s.entry) (sym number) made.made) in
+      let same = noted_same p m old_ready.built h s a w entry object touching in
+      let comes : Follows p object (entries_of p h object) (note h s.entry) =
+      subst (λ n. Follows p n (entries_of p h object) (note h s.entry)) number (subst (Follows p (touched p a w) (entries_of p h object)) same one.comes.follows) in
+      let standing : Stands p object (kept_of made.now) (note h s.entry ∷ entries_of p h object) =
+      subst (λ n. Stands p n (kept_of made.now) (note h s.entry ∷ entries_of p h object)) number (subst (λ x. Stands p (touched p a w) (kept_of made.now) (x ∷ entries_of p h object)) same one.stands) in
+      record {
+        answers = whole s.entry object comes;
+        stand = λ j o found. of_place made.now standing j o (placed objects object made.now j o (subst (λ (os : List Object). slice_get os j ≡ Some o) (same_list made.others) found));
+      }
+    where
+      same_list : {x y : List Object} → Some x ≡ Some y → x ≡ y
+      same_list e = cc
+
+      of_place : (now_is : Object) → Stands p object (kept_of now_is) (note h s.entry ∷ entries_of p h object) → (j : ℕ) (o : Object) → Placed Object objects object now_is j o → Stands p j (kept_of o) (entries_of p (s.entry ∷ h) j)
+      of_place now_is standing j o (here place same) =
+          let touch : touches p j (note h s.entry) ≡ true = touches_at p m old_ready.built h s a w entry j object touching ∙ same_test object j (sym place) in
+          subst (Stands p j (kept_of o)) (sym (parted p m old_ready.built h s a w entry j true touch))
+          (subst (λ n. Stands p n (kept_of o) (note h s.entry ∷ entries_of p h n)) (sym place) (subst (λ x. Stands p object (kept_of x) (note h s.entry ∷ entries_of p h object)) (sym same) standing))
+      of_place now_is standing j o (there other found) =
+          let touch : touches p j (note h s.entry) ≡ false = touches_at p m old_ready.built h s a w entry j object touching ∙ differ_test object j (λ e. other (sym e)) in
+          subst (Stands p j (kept_of o)) (sym (parted p m old_ready.built h s a w entry j false touch)) (lawful.stand j o found)
+
+  same_some : {x y : List Object} → Some x ≡ Some y → x ≡ y
+  same_some e = cc
+
+  kept_by : (a : Actor) (w : Wanted) (o : Option ℕ) → object_of p a w ≡ o → IsEntryOf p a w s → MadeAt p objects (Some after) (a, w) s.entry o → Kept
+  kept_by a w None touching entry made = untouched a w entry touching (same_some made)
+  kept_by a w (Some object) touching entry made = changed a w object entry touching made
+
+  kept : before.objects ≡ Some objects → now.objects ≡ Some after → Kept
+  kept told tells =
+      let order : FirstInOrder p t old steps.at steps.slot objects (Some after) s =
+      subst (λ o. OrderTold p t old steps.at steps.slot (Some objects) o s) tells (subst (λ o. OrderTold p t old steps.at steps.slot o now.objects s) told steps.order) in
+      kept_by order.made.tried.0 order.made.tried.1 (object_of p order.made.tried.0 order.made.tried.1) refl order.made.entry order.made.made
+
+  pub keeps_lawful : before.objects ≡ Some objects → now.objects ≡ Some after → IsLawful p m t (set cores i new) after (s.entry ∷ h)
+  keeps_lawful told tells =
+      let k = kept told tells in
+      record {
+        legal = (lawful.legal, record { fit = (both (fits p s.entry) (starts_its_own p s.entry.actor s.entry.deed) steps.step.proper).0; actor = follows.rule; answers = k.answers });
+        stand = k.stand;
+        number = λ j c found. cores_numbered j c (placed cores i new j c found);
+        ready = λ j c found. cores_ready j c (placed cores i new j c found);
+        stands = λ j c found. cores_stand j c (placed cores i new j c found);
+      }
