@@ -1,0 +1,63 @@
+-- Slots that are passed one after the other.
+use Rattle.std.proofs.Common.{◌≡◌, ℕ, suc, ◌+◌, ◌-◌, ◌<◌, ◌≤◌, refl, sym, ◌∙◌, ap, subst, arith, List, [], ◌∷◌, ◌++◌, length, take, drop, set, get_or, length-drop, Some}
+use Rattle.std.specs.List.{slice_get}
+use Rattle.std.proofs.lemmas.List.{take_more, get_or-drop, set-get_or}
+use Rattle.std.proofs.lemmas.Option.{slice_get-get_or}
+use Rattle.bus_semantics.specs.declared.entries.Stamped.{Stamped}
+use Rattle.bus_semantics.specs.Plan.{Plan}
+use Rattle.bus_semantics.specs.Rest.{gathered}
+use Rattle.task_machine.specs.declared.instr.TaskSet.{TaskSet}
+use Rattle.core_turn.specs.declared.slot.Slot.{Slot}
+use Rattle.core_turn.specs.declared.look.Look.{Look}
+use Rattle.core_turn.specs.declared.look.Look.TheVariants.{Made, Nothing}
+use Rattle.core_turn.specs.Slots.{slot_tries, looks}
+use Rattle.core_turn.specs.Cores.{slots_between, looks_in}
+use Rattle.core_turn.specs.Looking.{Told, Looked}
+use Rattle.core_turn.specs.Turning.{SlotStep, PassMade}
+use Rattle.core_turn.proofs.Looks.{looked_on, looked_as, gathered_one}
+
+pub looks_on : (p : Plan) (xs ys : List Slot) → looks_in p (xs ++ ys) ≡ looks_in p xs + looks_in p ys
+looks_on p [] ys = omega arith
+looks_on p (x ∷ xs) ys = let more = looks_on p xs ys in omega arith
+
+pub found_at : (slots : List Slot) (at : ℕ) (s : Slot) → at < length slots → s ≡ get_or slots at s → slice_get slots at ≡ Some s
+found_at slots at s within is = slice_get-get_or slots at s within ∙ ap (λ x. Some x) (sym is)
+
+pub set_same : (slots : List Slot) (at : ℕ) (s : Slot) → s ≡ get_or slots at s → set slots at s ≡ slots
+set_same slots at s is = ap (set slots at) is ∙ set-get_or slots at s
+
+module _ (p : Plan) (t : TaskSet) (slots : List Slot) (from at : ℕ) (s : Slot) (behind : from ≤ at) (within : at < length slots) (is : s ≡ get_or slots at s) where
+  between_more : slots_between from (at + 1) slots ≡ slots_between from at slots ++ s ∷ []
+  between_more =
+      let count : at + 1 - from ≡ at - from + 1 = omega arith in
+      let place : from + (at - from) ≡ at = omega arith in
+      let inside : at - from < length (drop from slots) = omega (arith, length-drop from slots) in
+      let here : get_or (drop from slots) (at - from) s ≡ s = get_or-drop from slots (at - from) s ∙ ap (λ n. get_or slots n s) place ∙ sym is in
+      ap (λ n. take n (drop from slots)) count ∙ take_more (drop from slots) (at - from) s inside ∙ ap (λ x. take (at - from) (drop from slots) ++ x ∷ []) here
+
+  pub pass_on : (a b c : Told) (l : Look) → Looked p (gathered (slot_tries p t) (slots_between from at slots)) (looks_in p (slots_between from at slots)) a b Nothing
+      → Looked p (slot_tries p t s) (looks p s) b c l
+      → Looked p (gathered (slot_tries p t) (slots_between from (at + 1) slots)) (looks_in p (slots_between from (at + 1) slots)) a c l
+  pass_on a b c l before now =
+      let tries : gathered (slot_tries p t) (slots_between from at slots) ++ slot_tries p t s ≡ gathered (slot_tries p t) (slots_between from (at + 1) slots) =
+      sym (ap (gathered (slot_tries p t)) between_more ∙ gathered_one (slot_tries p t) (slots_between from at slots) s) in
+      let one : looks_in p (s ∷ []) ≡ looks p s = omega arith in
+      let count : looks_in p (slots_between from at slots) + looks p s ≡ looks_in p (slots_between from (at + 1) slots) =
+      sym (ap (looks_in p) between_more ∙ looks_on p (slots_between from at slots) (s ∷ []) ∙ ap (λ n. looks_in p (slots_between from at slots) + n) one) in
+      looked_as p _ _ _ _ a c l tries count (looked_on p _ _ _ _ a b c l before now)
+
+  pub pass_made : (new : List Slot) (stepped : Slot) (a b c : Told) (e : Stamped) → new ≡ set slots at stepped → SlotStep p t s stepped e
+      → Looked p (gathered (slot_tries p t) (slots_between from at slots)) (looks_in p (slots_between from at slots)) a b Nothing
+      → Looked p (slot_tries p t s) (looks p s) b c (Made e)
+      → PassMade p t slots new from at a c e
+  pass_made new stepped a b c e changed step before now = record {
+    slot = s;
+    stepped = stepped;
+    behind = behind;
+    there = found_at slots at s within is;
+    slots = changed;
+    step = step;
+    middle = b;
+    passed = before;
+    looked = now;
+  }

@@ -1,0 +1,226 @@
+-- A core after the step of one of its slots.
+use Rattle.std.proofs.Common.{◌≡◌, ◌≢◌, ℕ, zero, suc, ◌+◌, ◌-◌, ◌<◌, ◌≤◌, Bool, true, false, if◌then◌else◌, refl, sym, ◌∙◌, ap, subst, arith, List, [], ◌∷◌, ◌++◌, length, take, drop, set, get_or, map, add_comm, length-drop, Option, Some, None}
+use Rattle.std.specs.Prelude.{nat_le}
+use Rattle.std.specs.List.{slice_get}
+use Rattle.std.proofs.lemmas.Bool.Decides.{nat_tests}
+use Rattle.std.proofs.lemmas.List.{take-append-drop, length-set}
+use Rattle.std.proofs.Math.Seq.{take-length}
+use Rattle.std.proofs.lemmas.Option.{slice_get_within}
+use Rattle.rte_value.specs.declared.kinds.ActKey.{ActKey}
+use Rattle.bus_semantics.specs.declared.entries.Actor.TheVariants.{Act}
+use Rattle.bus_semantics.specs.declared.entries.Entry.{Entry}
+use Rattle.bus_semantics.specs.declared.entries.Stamped.{Stamped}
+use Rattle.bus_semantics.specs.declared.script.Mapping.{Mapping}
+use Rattle.bus_semantics.specs.declared.script.Task.{Task}
+use Rattle.bus_semantics.specs.Plan.{Plan}
+use Rattle.bus_semantics.specs.History.{History}
+use Rattle.bus_semantics.specs.Rest.{Try, gathered}
+use Rattle.port_objects.specs.declared.object.Object.{Object}
+use Rattle.port_objects.specs.Benches.{IsFurther, StampAfter}
+use Rattle.task_machine.specs.declared.instr.TaskSet.{TaskSet}
+use Rattle.task_machine.specs.Standing.{Standing}
+use Rattle.core_turn.specs.declared.slot.Slot.{Slot}
+use Rattle.core_turn.specs.declared.look.Look.TheVariants.{Made, Nothing, Contended}
+use Rattle.core_turn.specs.Slots.{is_key_of, slot_tries, looks}
+use Rattle.core_turn.specs.Cores.{CoreState, events_of_slot, tasks_of_core, HasTasks, slots_between, slots_before, looks_in}
+use Rattle.core_turn.specs.Ready.{IsBegunIn, IsReadySlot, IsReady}
+use Rattle.core_turn.specs.Standing.{TaskStands, SlotStands, CoreStands}
+use Rattle.core_turn.specs.Looking.{AllHeld, FirstMade, ObjectsLooked, Told, Looked}
+use Rattle.core_turn.specs.Turning.{SlotStep, PassMade, OrderTold, Steps, NothingComes, NoneTold, IsContended, NeverTold}
+use Rattle.core_turn.proofs.Basics.{clash}
+use Rattle.core_turn.proofs.Looks.{looked_on, looked_as, gathered_on, all_on}
+use Rattle.core_turn.proofs.Passing.{looks_on}
+use Rattle.core_turn.proofs.Histories.{entry_by, other_stands}
+use Rattle.core_turn.proofs.Apart.{apart}
+
+-- ---- what stands at a place of a list in which one item was set
+
+pub data Placed (X : Type 0) (xs : List X) (n : ℕ) (y : X) (i : ℕ) (x : X) : Type 0 where
+  here : i ≡ n → x ≡ y → Placed X xs n y i x
+  there : i ≢ n → slice_get xs i ≡ Some x → Placed X xs n y i x
+
+pub placed : {X : Type 0} (xs : List X) (n : ℕ) (y : X) (i : ℕ) (x : X) → slice_get (set xs n y) i ≡ Some x → Placed X xs n y i x
+placed [] n y i x e = absurd (cc e)
+placed (z ∷ xs) zero y zero x e = here refl cc
+placed (z ∷ xs) zero y (suc i) x e = there (omega arith) e
+placed (z ∷ xs) (suc n) y zero x e = there (omega arith) e
+placed (z ∷ xs) (suc n) y (suc i) x e = deeper (placed xs n y i x e)
+  where
+    deeper : Placed _ xs n y i x → Placed _ (z ∷ xs) (suc n) y (suc i) x
+    deeper (here at same) = here (ap suc at) same
+    deeper (there other found) = there (omega arith) found
+
+module _ (p : Plan) (m : Mapping) (t : TaskSet) (old new : CoreState) (ready : IsReady p m t old) (at : ℕ) (slot stepped : Slot) (s : Stamped)
+    (is : slice_get old.slots at ≡ Some slot) (slots : new.slots ≡ set old.slots at stepped) (number : new.number ≡ old.number) (step : SlotStep p t slot stepped s) where
+  entry_is : s.entry ≡ entry_by step.key s.entry.deed
+  entry_is = λ i. record { actor = step.actor i; deed = s.entry.deed }
+
+  own_of : (x : Slot) → IsReadySlot p t x → (j : ActKey) → x.running ≡ Some j → is_key_of p x.events.items j ≡ true
+  own_of x r j running = (subst (IsBegunIn p t x.events.items x.frame) running r.begun).own
+
+  pub stands_on : (g : History) → CoreStands p t g old → CoreStands p t (s.entry ∷ g) new
+  stands_on g stands i x found = of_place (placed old.slots at stepped i x (subst (λ xs. slice_get xs i ≡ Some x) slots found))
+    where
+      of_place : Placed Slot old.slots at stepped i x → SlotStands p t (s.entry ∷ g) x
+      of_place (here place same) = subst (SlotStands p t (s.entry ∷ g)) (sym same) (step.follows g (stands at slot is)).stands
+      of_place (there other here_it) =
+          let foreign = apart p m ready.built old step.key at i slot x ready.tasks is step.own here_it (λ e. other (sym e)) in
+          subst (λ e. SlotStands p t (e ∷ g) x) (sym entry_is)
+          (other_stands p t g x.events.items step.key s.entry.deed x.frame x.running foreign (own_of x (ready.each i x here_it)) (stands i x here_it))
+
+  set_events : (xs : List Slot) (n : ℕ) → slice_get xs n ≡ Some slot → map events_of_slot (set xs n stepped) ≡ map events_of_slot xs
+  set_events [] n e = refl
+  set_events (x ∷ xs) zero e =
+      let same : x ≡ slot = cc in
+      ap (λ (y : List ℕ). y ∷ map events_of_slot xs) (ap (λ (v : _). v.items) step.events ∙ ap events_of_slot (sym same))
+  set_events (x ∷ xs) (suc n) e = ap (λ ys. x.events.items ∷ ys) (set_events xs n e)
+
+  pub ready_on : IsReady p m t new
+  ready_on = record {
+    built = ready.built;
+    tasks = subst (λ n. map events_of_slot new.slots ≡ map (λ (t : Task). t.events) (tasks_of_core m n)) (sym number) (ap (map events_of_slot) slots ∙ set_events old.slots at is ∙ ready.tasks);
+    each = λ i x found. of_place i x (placed old.slots at stepped i x (subst (λ xs. slice_get xs i ≡ Some x) slots found));
+  }
+    where
+      of_place : (i : ℕ) (x : Slot) → Placed Slot old.slots at stepped i x → IsReadySlot p t x
+      of_place i x (here place same) = subst (IsReadySlot p t) (sym same) step.ready
+      of_place i x (there other found) = ready.each i x found
+
+-- ---- the order of slots
+
+order_told : (p : Plan) (t : TaskSet) (c : CoreState) (at : ℕ) (slot : Slot) (a b d : Option (List Object)) (s : Stamped) (xs : List Slot) → xs ≡ slots_before c.first at c.slots
+    → ObjectsLooked p (gathered (slot_tries p t) xs) a b Nothing → ObjectsLooked p (slot_tries p t slot) b d (Made s) → OrderTold p t c at slot a d s
+order_told p t c at slot None b d s xs is passed now = subst (λ o. ObjectsLooked p (slot_tries p t slot) o d (Made s)) passed now
+order_told p t c at slot (Some objects) b d s xs is passed now = record {
+  passed = subst (λ ys. AllHeld p objects (gathered (slot_tries p t) ys)) is passed.0;
+  made = subst (λ o. ObjectsLooked p (slot_tries p t slot) o d (Made s)) passed.1 now;
+}
+
+-- a core whose slot stepped after others were passed
+steps_of : (p : Plan) (m : Mapping) (t : TaskSet) (old new : CoreState) (ready : IsReady p m t old) (at : ℕ) (slot stepped : Slot) (s : Stamped) (a b d : Told) (xs : List Slot)
+    → slice_get old.slots at ≡ Some slot → new.slots ≡ set old.slots at stepped → new.number ≡ old.number → new.first ≡ suc at → new.trace ≡ old.trace ++ s ∷ [] → old.room ≡ suc new.room
+    → SlotStep p t slot stepped s → xs ≡ slots_before old.first at old.slots
+    → Looked p (gathered (slot_tries p t) xs) (looks_in p xs) a b Nothing → Looked p (slot_tries p t slot) (looks p slot) b d (Made s)
+    → Steps p t old new a d s
+steps_of p m t old new ready at slot stepped s a b d xs is slots number first trace room step order passed now =
+    let whole = looked_on p _ _ _ _ a b d (Made s) passed now in
+    record {
+      at = at;
+      slot = slot;
+      stepped = stepped;
+      there = is;
+      slots = slots;
+      first = first;
+      number = number;
+      trace = trace;
+      room = room;
+      step = step;
+      stands = stands_on p m t old new ready at slot stepped s is slots number step;
+      bench_room = whole.room;
+      next = whole.next;
+      work = whole.work;
+      order = order_told p t old at slot a.objects b.objects d.objects s xs order passed.objects now.objects;
+    }
+
+le_true : (a b : ℕ) → a ≤ b → nat_le a b ≡ true
+le_true a b h = grind (arith, nat_tests)
+
+le_false : (a b : ℕ) → b < a → nat_le a b ≡ false
+le_false a b h = grind (arith, nat_tests)
+
+-- ---- the first pass, from the first slot on
+
+module _ (p : Plan) (m : Mapping) (t : TaskSet) (old new : CoreState) (ready : IsReady p m t old) (s : Stamped) (at : ℕ)
+    (number : new.number ≡ old.number) (first : new.first ≡ suc at) (trace : new.trace ≡ old.trace ++ s ∷ []) (room : old.room ≡ suc new.room) where
+  pub back_steps : (a d : Told) → PassMade p t old.slots new.slots old.first at a d s → Steps p t old new a d s
+  back_steps a d pass =
+      let order : slots_between old.first at old.slots ≡ slots_before old.first at old.slots =
+      ap (λ b. if b then slots_between old.first at old.slots else drop old.first old.slots ++ take at old.slots) (sym (le_true old.first at pass.behind)) in
+      steps_of p m t old new ready at pass.slot pass.stepped s a pass.middle d (slots_between old.first at old.slots) pass.there pass.slots number first trace room pass.step order pass.passed pass.looked
+
+  -- the second pass, up to the first slot
+  pub front_steps : (a c d : Told) → at < old.first → Looked p (gathered (slot_tries p t) (drop old.first old.slots)) (looks_in p (drop old.first old.slots)) a c Nothing
+      → PassMade p t old.slots new.slots 0 at c d s → Steps p t old new a d s
+  front_steps a c d before back pass =
+      let none : at - 0 ≡ at = omega arith in
+      let order : drop old.first old.slots ++ slots_between 0 at old.slots ≡ slots_before old.first at old.slots =
+      ap (λ n. drop old.first old.slots ++ take n old.slots) none
+      ∙ ap (λ b. if b then slots_between old.first at old.slots else drop old.first old.slots ++ take at old.slots) (sym (le_false old.first at before)) in
+      let tries : gathered (slot_tries p t) (drop old.first old.slots) ++ gathered (slot_tries p t) (slots_between 0 at old.slots) ≡ gathered (slot_tries p t) (drop old.first old.slots ++ slots_between 0 at old.slots) =
+      sym (gathered_on (slot_tries p t) (drop old.first old.slots) (slots_between 0 at old.slots)) in
+      let count : looks_in p (drop old.first old.slots) + looks_in p (slots_between 0 at old.slots) ≡ looks_in p (drop old.first old.slots ++ slots_between 0 at old.slots) =
+      sym (looks_on p (drop old.first old.slots) (slots_between 0 at old.slots)) in
+      let passed = looked_as p _ _ _ _ a pass.middle Nothing tries count (looked_on p _ _ _ _ a c pass.middle Nothing back pass.passed) in
+      steps_of p m t old new ready at pass.slot pass.stepped s a pass.middle d (drop old.first old.slots ++ slots_between 0 at old.slots) pass.there pass.slots number first trace room pass.step order passed pass.looked
+
+-- ---- nothing steps
+
+none_told : (p : Plan) (t : TaskSet) (c : CoreState) (a d : Option (List Object)) → ObjectsLooked p (gathered (slot_tries p t) c.slots) a d Nothing → NoneTold p t c a d
+none_told p t c None d looked = looked
+none_told p t c (Some objects) d looked = looked
+
+-- in another order they are held as well
+swapped : (p : Plan) (ts us : List Try) (a d : Option (List Object)) → ObjectsLooked p (ts ++ us) a d Nothing → ObjectsLooked p (us ++ ts) a d Nothing
+swapped p ts us None d looked = looked
+swapped p ts us (Some objects) d looked = let parts = all_parts p objects ts us looked.0 in (all_on p objects us ts parts.1 parts.0, looked.1)
+  where
+    all_parts : (p : Plan) (objects : List Object) (ts us : List Try) → AllHeld p objects (ts ++ us) → AllHeld p objects ts × AllHeld p objects us
+    all_parts p objects [] us all = (tt, all)
+    all_parts p objects (x ∷ ts) us all = let rest = all_parts p objects ts us all.1 in ((all.0, rest.0), rest.1)
+
+pub nothing_comes : (p : Plan) (t : TaskSet) (c new : CoreState) (a b d : Told) → new ≡ c
+    → Looked p (gathered (slot_tries p t) (drop c.first c.slots)) (looks_in p (drop c.first c.slots)) a b Nothing
+    → Looked p (gathered (slot_tries p t) (take c.first c.slots)) (looks_in p (take c.first c.slots)) b d Nothing
+    → NothingComes p t c new a d
+nothing_comes p t c new a b d same back front =
+    let whole = looked_on p _ _ _ _ a b d Nothing back front in
+    let count : looks_in p (drop c.first c.slots) + looks_in p (take c.first c.slots) ≡ looks_in p c.slots =
+    add_comm (looks_in p (drop c.first c.slots)) (looks_in p (take c.first c.slots)) ∙ sym (looks_on p (take c.first c.slots) (drop c.first c.slots)) ∙ ap (looks_in p) (take-append-drop c.first c.slots) in
+    let tries : gathered (slot_tries p t) (take c.first c.slots) ++ gathered (slot_tries p t) (drop c.first c.slots) ≡ gathered (slot_tries p t) c.slots =
+    sym (gathered_on (slot_tries p t) (take c.first c.slots) (drop c.first c.slots)) ∙ ap (gathered (slot_tries p t)) (take-append-drop c.first c.slots) in
+    record {
+      same = same;
+      room = whole.room;
+      next = whole.next;
+      work = subst (λ n. IsFurther a.work d.work [] n 0) count whole.work;
+      objects = none_told p t c a.objects d.objects (subst (λ ts. ObjectsLooked p ts a.objects d.objects Nothing) tries
+          (swapped p (gathered (slot_tries p t) (drop c.first c.slots)) (gathered (slot_tries p t) (take c.first c.slots)) a.objects d.objects whole.objects));
+    }
+
+-- ---- contended
+
+never_told : (p : Plan) (a d : Option (List Object)) (object : ℕ) (ts : List Try) → ObjectsLooked p ts a d (Contended object) → NeverTold a d
+never_told p None d object ts looked = looked
+never_told p (Some objects) d object ts looked = looked
+
+pub is_contended : (p : Plan) (c new : CoreState) (a d : Told) (object n : ℕ) (ts : List Try) → new ≡ c → Looked p ts n a d (Contended object) → IsContended c new a d
+is_contended p c new a d object n ts same looked = record { same = same; room = looked.room; next = looked.next; work = looked.work; objects = never_told p a.objects d.objects object ts looked.objects }
+
+-- ---- passes over the slots that a core has
+
+pub pass_at : (p : Plan) (t : TaskSet) (old old' new new' : List Slot) (from from' at : ℕ) (a d : Told) (s : Stamped) → old ≡ old' → new ≡ new' → from ≡ from' → PassMade p t old new from at a d s → PassMade p t old' new' from' at a d s
+pass_at p t old old' new new' from from' at a d s same changed begun pass =
+    subst (λ n. PassMade p t old' new' n at a d s) begun (subst (λ xs. PassMade p t old' xs from at a d s) changed (subst (λ xs. PassMade p t xs new from at a d s) same pass))
+
+pub made_within : (p : Plan) (t : TaskSet) (old new : List Slot) (from at : ℕ) (a d : Told) (s : Stamped) → PassMade p t old new from at a d s → at < length new
+made_within p t old new from at a d s pass =
+    let less = slice_get_within old at pass.slot pass.there in
+    omega (arith, ap length pass.slots, length-set old at pass.stepped)
+
+module _ (p : Plan) (t : TaskSet) (c : CoreState) (xs : List Slot) (first : ℕ) (a b : Told) (same : xs ≡ c.slots) (begun : first ≡ c.first) where
+  pub behind_all : (count : ℕ) → count ≡ length xs → Looked p (gathered (slot_tries p t) (slots_between first count xs)) (looks_in p (slots_between first count xs)) a b Nothing
+      → Looked p (gathered (slot_tries p t) (drop c.first c.slots)) (looks_in p (drop c.first c.slots)) a b Nothing
+  behind_all count whole looked =
+      let all : slots_between first count xs ≡ drop c.first c.slots =
+      ap (λ n. take (n - first) (drop first xs)) whole
+      ∙ ap (λ n. take n (drop first xs)) (sym (length-drop first xs))
+      ∙ take-length (drop first xs)
+      ∙ (λ i. drop (begun i) (same i)) in
+      subst (λ ys. Looked p (gathered (slot_tries p t) ys) (looks_in p ys) a b Nothing) all looked
+
+  pub before_all : Looked p (gathered (slot_tries p t) (slots_between 0 first xs)) (looks_in p (slots_between 0 first xs)) a b Nothing
+      → Looked p (gathered (slot_tries p t) (take c.first c.slots)) (looks_in p (take c.first c.slots)) a b Nothing
+  before_all looked =
+      let none : first - 0 ≡ first = omega arith in
+      let all : slots_between 0 first xs ≡ take c.first c.slots = ap (λ n. take n xs) none ∙ (λ i. take (begun i) (same i)) in
+      subst (λ ys. Looked p (gathered (slot_tries p t) ys) (looks_in p ys) a b Nothing) all looked

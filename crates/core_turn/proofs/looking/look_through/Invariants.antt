@@ -1,0 +1,18 @@
+use Rattle.std.proofs.Common.{◌≡◌}
+use Rattle.bus_semantics.specs.Plan.{plan_of}
+use Rattle.bus_semantics.specs.Rest.{gathered}
+use Rattle.core_turn.specs.declared.look.Look.TheVariants.{Nothing}
+use Rattle.core_turn.specs.Slots.{slot_tries}
+use Rattle.core_turn.specs.Cores.{slots_between, looks_in}
+use Rattle.core_turn.specs.Looking.{Looked}
+use Rattle.core_turn.proofs.looking.look_through.Given as goal
+
+abbrev pub invariant-loop-at : goal.invariant-loop-at
+invariant-loop-at g l = record {
+  slots : l.slots.items ≡ l.initial.slots.items;
+  home : g.B.Bench.home l.bench ≡ g.B.Bench.home l.initial.bench;
+  plan : g.B.Bench.plan l.bench ≡ g.B.Bench.plan l.initial.bench;
+  looked : Looked (plan_of l.p) (gathered (slot_tries (plan_of l.p) l.t) (slots_between l.from l.at l.initial.slots.items)) (looks_in (plan_of l.p) (slots_between l.from l.at l.initial.slots.items))
+      (record { room = g.B.Bench.room l.initial.bench; next = g.B.Bench.next l.initial.bench; objects = g.B.Bench.objects l.initial.bench; work = g.B.Bench.work l.initial.bench })
+      (record { room = g.B.Bench.room l.bench; next = g.B.Bench.next l.bench; objects = g.B.Bench.objects l.bench; work = g.B.Bench.work l.bench }) Nothing;
+}

@@ -1,0 +1,17 @@
+use Rattle.std.proofs.Common.{◌≡◌, take}
+use Rattle.bus_semantics.specs.Plan.{plan_of}
+use Rattle.bus_semantics.specs.History.{count}
+use Rattle.bus_semantics.specs.Rest.{gathered, start_try}
+use Rattle.core_turn.specs.declared.look.Look.TheVariants.{Nothing}
+use Rattle.core_turn.specs.Slots.{waits}
+use Rattle.core_turn.specs.Looking.{Looked}
+use Rattle.core_turn.proofs.starting.start_first.Given as goal
+
+abbrev pub invariant-loop-event : goal.invariant-loop-event
+invariant-loop-event g l = record {
+  home : g.B.Bench.home l.bench ≡ g.B.Bench.home l.initial.bench;
+  plan : g.B.Bench.plan l.bench ≡ g.B.Bench.plan l.initial.bench;
+  looked : Looked (plan_of l.p) (gathered (start_try (plan_of l.p)) (take l.event-index l.events)) (count (waits (plan_of l.p)) (take l.event-index l.events))
+      (record { room = g.B.Bench.room l.initial.bench; next = g.B.Bench.next l.initial.bench; objects = g.B.Bench.objects l.initial.bench; work = g.B.Bench.work l.initial.bench })
+      (record { room = g.B.Bench.room l.bench; next = g.B.Bench.next l.bench; objects = g.B.Bench.objects l.bench; work = g.B.Bench.work l.bench }) Nothing;
+}

@@ -1,0 +1,51 @@
+-- A core that turns can be made of: it was made for a mapping with which the plan is sound, and each running activation asks something.
+use Rattle.std.specs.Prelude.{◌≡◌, ℕ, List, length, nat_lt, true, Option, Some, None, slice_get}
+use Rattle.std.specs.List.{list_all}
+use Rattle.rte_value.specs.declared.value.Value.{Value}
+use Rattle.rte_value.specs.declared.kinds.ActKey.{ActKey}
+use Rattle.rte_value.specs.Values.{words_of}
+use Rattle.bus_semantics.specs.declared.script.Mapping.{Mapping}
+use Rattle.bus_semantics.specs.declared.entries.Deed.{Deed}
+use Rattle.bus_semantics.specs.declared.entries.Deed.TheVariants as deed
+use Rattle.bus_semantics.specs.Plan.{Plan, Runnable, runnable_of_event}
+use Rattle.bus_semantics.specs.Wanted.{Wanted}
+use Rattle.bus_semantics.specs.Activations.{next_of_activity}
+use Rattle.task_machine.specs.declared.instr.TaskSet.{TaskSet}
+use Rattle.task_machine.specs.Standing.{Standing}
+use Rattle.task_machine.specs.Frames.{Stands, IsMadeFor}
+use Rattle.core_turn.specs.declared.slot.Slot.{Slot}
+use Rattle.core_turn.specs.Slots.{is_key_of}
+use Rattle.core_turn.specs.Cores.{CoreState, HasTasks}
+use Rattle.core_turn.specs.Plans.{IsBuilt}
+
+-- the activation of a key, begun by an event of its runnable, after some answers and before its end
+pub record IsBegun (p : Plan) (t : TaskSet) (events : List ℕ) (f : Standing) (k : ActKey) : Type 0 where
+  pub own : is_key_of p events k ≡ true
+  pub runnable : Runnable
+  pub there : slice_get p.runnables k.runnable ≡ Some runnable
+  pub event : ℕ
+  pub starts : runnable_of_event p event ≡ Some k.runnable
+  pub point : Option ℕ
+  pub value : Value
+  pub answers : List Deed
+  pub wish : Wanted
+  pub next : next_of_activity p runnable event (words_of value) answers ≡ Some wish
+  pub stands : Stands t k (deed.Start event point value) answers f
+
+abbrev pub IsBegunIn : Plan → TaskSet → (events : List ℕ) → Standing → Option ActKey → Type 0
+IsBegunIn p t events f None = Unit {0}
+IsBegunIn p t events f (Some k) = IsBegun p t events f k
+
+-- the events are the plan's, the frame was made for the bodies, and the running activation is one of the task's
+pub record IsReadyTask (p : Plan) (t : TaskSet) (events : List ℕ) (running : Option ActKey) (f : Standing) : Type 0 where
+  pub mapped : list_all (λ e. nat_lt e (length p.events)) events ≡ true
+  pub made : IsMadeFor t f
+  pub begun : IsBegunIn p t events f running
+
+abbrev pub IsReadySlot : Plan → TaskSet → Slot → Type 0
+IsReadySlot p t s = IsReadyTask p t s.events.items s.running s.frame
+
+pub record IsReady (p : Plan) (m : Mapping) (t : TaskSet) (c : CoreState) : Type 0 where
+  pub built : IsBuilt p m
+  pub tasks : HasTasks m c
+  pub each : (i : ℕ) (s : Slot) → slice_get c.slots i ≡ Some s → IsReadySlot p t s

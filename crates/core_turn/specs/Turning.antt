@@ -1,0 +1,150 @@
+-- What comes of a turn: one entry of one slot, and what its core stands for then; or nothing, and why (OS: scheduling; the order of slots is
+-- this project's own).
+use Rattle.std.specs.Prelude.{◌≡◌, ℕ, suc, ◌<◌, ◌≤◌, List, [], ◌∷◌, ◌++◌, set, slice_get, Bool, true, false, if◌then◌else◌, Option, Some, None}
+use Rattle.rte_value.specs.declared.kinds.ActKey.{ActKey}
+use Rattle.bus_semantics.specs.declared.entries.Actor.TheVariants.{Act}
+use Rattle.bus_semantics.specs.declared.entries.Deed.{Deed}
+use Rattle.bus_semantics.specs.declared.entries.Entry.{Entry}
+use Rattle.bus_semantics.specs.declared.entries.Stamped.{Stamped}
+use Rattle.bus_semantics.specs.Plan.{Plan}
+use Rattle.bus_semantics.specs.History.{History, note, noted, is_end}
+use Rattle.bus_semantics.specs.Objects.{touched_by}
+use Rattle.bus_semantics.specs.Actor.{follows_program}
+use Rattle.bus_semantics.specs.Legal.{Answers}
+use Rattle.bus_semantics.specs.Locality.{is_proper}
+use Rattle.bus_semantics.specs.Rest.{gathered}
+use Rattle.port_objects.specs.declared.object.Object.{Object}
+use Rattle.port_objects.specs.Benches.{IsFurther, StampAfter}
+use Rattle.task_machine.specs.declared.instr.TaskSet.{TaskSet}
+use Rattle.task_machine.specs.Frames.{Stands}
+use Rattle.core_turn.specs.declared.slot.Slot.{Slot}
+use Rattle.core_turn.specs.declared.look.Look.{Look}
+use Rattle.core_turn.specs.declared.look.Look.TheVariants as look
+use Rattle.core_turn.specs.declared.look.Passed.{Passed}
+use Rattle.core_turn.specs.declared.look.Passed.TheVariants as pass
+use Rattle.core_turn.specs.declared.turning.Turned.{Turned}
+use Rattle.core_turn.specs.declared.turning.Turned.TheVariants.{Stepped, NothingNow, Contended}
+use Rattle.core_turn.specs.Slots.{is_key_of, slot_tries, looks}
+use Rattle.core_turn.specs.Cores.{CoreState, slots_between, slots_before, looks_in}
+use Rattle.core_turn.specs.Ready.{IsReadySlot}
+use Rattle.core_turn.specs.Standing.{SlotStands, CoreStands}
+use Rattle.core_turn.specs.Looking.{AllHeld, FirstMade, Told, Looked}
+
+-- ---- a slot steps
+
+-- the entry follows its actor's program; where it touches no object it is what the bus answers; and the slot then stands for it too
+pub record StepFollows (p : Plan) (t : TaskSet) (g : History) (after : Slot) (e : Entry) : Type 0 where
+  pub rule : follows_program p g e.actor e.deed ≡ true
+  pub free : touched_by p (note g e) ≡ None → Answers p (noted g) (note g e)
+  pub stands : SlotStands p t (e ∷ g) after
+
+-- the entry is of an activation of the slot's task, fits, and follows each history for which the slot stands
+pub record SlotStep (p : Plan) (t : TaskSet) (slot after : Slot) (s : Stamped) : Type 0 where
+  pub key : ActKey
+  pub actor : s.entry.actor ≡ Act key
+  pub own : is_key_of p slot.events.items key ≡ true
+  pub proper : is_proper p (record { entry = s.entry; event = s.event }) ≡ true
+  pub events : after.events ≡ slot.events
+  pub ready : IsReadySlot p t after
+  pub follows : (g : History) → SlotStands p t g slot → StepFollows p t g after s.entry
+
+-- a slot whose running activation has heard an answer: it goes on, or is over with its end
+pub record Heard (t : TaskSet) (d : Deed) (old new : Slot) : Type 0 where
+  pub events : new.events ≡ old.events
+  pub running : new.running ≡ (if is_end d then None else old.running)
+  pub vars_room : new.frame.vars_room ≡ old.frame.vars_room
+  pub counters_room : new.frame.counters_room ≡ old.frame.counters_room
+  pub stands : is_end d ≡ false → (k : ActKey) (start : Deed) (answers : List Deed) → Stands t k start answers old.frame → Stands t k start (answers ++ d ∷ []) new.frame
+
+-- a slot in which the activation of an entry's actor has begun with its deed
+pub record BegunBy (t : TaskSet) (e : Entry) (old new : Slot) : Type 0 where
+  pub events : new.events ≡ old.events
+  pub running : (k : ActKey) → e.actor ≡ Act k → new.running ≡ Some k
+  pub vars_room : new.frame.vars_room ≡ old.frame.vars_room
+  pub counters_room : new.frame.counters_room ≡ old.frame.counters_room
+  pub stands : (k : ActKey) → e.actor ≡ Act k → Stands t k e.deed [] new.frame
+
+-- after a look: it stepped, or is as it was
+abbrev pub SlotLooked : Plan → TaskSet → (old new : Slot) → Look → Type 0
+SlotLooked p t old new (look.Made s) = SlotStep p t old new s
+SlotLooked p t old new l = new ≡ old
+
+-- ---- slots are passed
+
+-- nothing of the slots before this one may come, and of this one the first that may come was made
+pub record PassMade (p : Plan) (t : TaskSet) (old new : List Slot) (from : ℕ) (at : ℕ) (before after : Told) (s : Stamped) : Type 0 where
+  pub slot : Slot
+  pub stepped : Slot
+  pub behind : from ≤ at
+  pub there : slice_get old at ≡ Some slot
+  pub slots : new ≡ set old at stepped
+  pub step : SlotStep p t slot stepped s
+  pub middle : Told
+  pub passed : Looked p (gathered (slot_tries p t) (slots_between from at old)) (looks_in p (slots_between from at old)) before middle look.Nothing
+  pub looked : Looked p (slot_tries p t slot) (looks p slot) middle after (look.Made s)
+
+-- what came of looks at the slots from one place up to another
+abbrev pub IsPass : Plan → TaskSet → (old new : List Slot) → (from : ℕ) → (to : ℕ) → (before after : Told) → Passed → Type 0
+IsPass p t old new from to before after (pass.Made at s) = (at < to) × PassMade p t old new from at before after s
+IsPass p t old new from to before after pass.Nothing = (new ≡ old) × Looked p (gathered (slot_tries p t) (slots_between from to old)) (looks_in p (slots_between from to old)) before after look.Nothing
+IsPass p t old new from to before after (pass.Contended object) = (new ≡ old) × Looked p [] 0 before after (look.Contended object)
+
+-- ---- a core steps
+
+-- where the bench tells its objects: nothing of the slots that come before may come, and of this one the first that may come was made
+pub record FirstInOrder (p : Plan) (t : TaskSet) (c : CoreState) (at : ℕ) (slot : Slot) (objects : List Object) (after : Option (List Object)) (s : Stamped) : Type 0 where
+  pub passed : AllHeld p objects (gathered (slot_tries p t) (slots_before c.first at c.slots))
+  pub made : FirstMade p (slot_tries p t slot) objects after s
+
+abbrev pub OrderTold : Plan → TaskSet → CoreState → (at : ℕ) → Slot → (old new : Option (List Object)) → Stamped → Type 0
+OrderTold p t c at slot None after s = after ≡ None
+OrderTold p t c at slot (Some objects) after s = FirstInOrder p t c at slot objects after s
+
+-- one slot stepped: its entry is the last of the trace, the next turn begins behind it, and the core stands for the entry too
+pub record Steps (p : Plan) (t : TaskSet) (old new : CoreState) (before after : Told) (s : Stamped) : Type 0 where
+  pub at : ℕ
+  pub slot : Slot
+  pub stepped : Slot
+  pub there : slice_get old.slots at ≡ Some slot
+  pub slots : new.slots ≡ set old.slots at stepped
+  pub first : new.first ≡ suc at
+  pub number : new.number ≡ old.number
+  pub trace : new.trace ≡ old.trace ++ s ∷ []
+  pub room : old.room ≡ suc new.room
+  pub step : SlotStep p t slot stepped s
+  pub stands : (g : History) → CoreStands p t g old → CoreStands p t (s.entry ∷ g) new
+  pub bench_room : before.room ≡ suc after.room
+  pub next : StampAfter before.next after.next (Some s)
+  pub work : IsFurther before.work after.work (s ∷ []) 0 0
+  pub order : OrderTold p t old at slot before.objects after.objects s
+
+-- ---- nothing steps
+
+abbrev pub NoneTold : Plan → TaskSet → CoreState → (old new : Option (List Object)) → Type 0
+NoneTold p t c None after = after ≡ None
+NoneTold p t c (Some objects) after = AllHeld p objects (gathered (slot_tries p t) c.slots) × (after ≡ Some objects)
+
+-- nothing of any slot may come: where the bench tells its work, each look that it takes to see this answered NotYet
+pub record NothingComes (p : Plan) (t : TaskSet) (old new : CoreState) (before after : Told) : Type 0 where
+  pub same : new ≡ old
+  pub room : after.room ≡ before.room
+  pub next : StampAfter before.next after.next None
+  pub work : IsFurther before.work after.work [] (looks_in p old.slots) 0
+  pub objects : NoneTold p t old before.objects after.objects
+
+abbrev pub NeverTold : (old new : Option (List Object)) → Type 0
+NeverTold None after = after ≡ None
+NeverTold (Some objects) after = ⊥
+
+-- a look found its object held by another core, which a bench that tells its objects never answers
+pub record IsContended (old new : CoreState) (before after : Told) : Type 0 where
+  pub same : new ≡ old
+  pub room : after.room ≡ before.room
+  pub next : StampAfter before.next after.next None
+  pub work : IsFurther before.work after.work [] 0 1
+  pub objects : NeverTold before.objects after.objects
+
+abbrev pub IsTurn : Plan → TaskSet → (old new : CoreState) → (before after : Told) → Turned → Type 0
+IsTurn p t old new before after Stepped = (s : Stamped) × Steps p t old new before after s
+IsTurn p t old new before after NothingNow = NothingComes p t old new before after
+IsTurn p t old new before after (Contended object) = IsContended old new before after

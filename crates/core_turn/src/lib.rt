@@ -1,0 +1,21 @@
+//! The turn of a core: one entry of one of its tasks, in cyclic order, over any bench.
+#![tactic(auto)]
+
+mod cores;
+mod going;
+mod laws;
+mod look;
+mod looking;
+mod making;
+mod slot;
+mod starting;
+mod threads;
+mod trying;
+mod turning;
+
+pub use cores::Core;
+pub use laws::turns_keep_the_law;
+pub use turning::{Turned, turn};
+
+/// There was no memory for what a call makes.
+pub type Memory = std::alloc::AllocError;

@@ -1,0 +1,111 @@
+//! The start of a free task.
+
+ghost use Rattle.std.specs.Prelude.{◌≡◌, ◌<◌, ◌∷◌, [], true, length, nat_lt, Some, None};
+ghost use Rattle.std.specs.List.{list_all};
+ghost use Rattle.bus_semantics.specs.declared.script.Mapping.{Mapping};
+ghost use Rattle.bus_semantics.specs.Plan.{plan_of, runnable_of_event};
+ghost use Rattle.bus_semantics.specs.History.{count};
+ghost use Rattle.bus_semantics.specs.Rest.{gathered, start_try};
+ghost use Rattle.core_turn.specs.Plans.{IsBuilt};
+ghost use Rattle.task_machine.specs.Frames.{IsMadeFor};
+ghost use Rattle.task_generator.specs.Promise.{AsksAsPlanned};
+ghost use Rattle.core_turn.specs.Slots.{waits, slot_tries, looks};
+ghost use Rattle.core_turn.specs.Ready.{IsReadySlot};
+ghost use Rattle.core_turn.specs.Turning.{BegunBy, SlotLooked};
+ghost use Rattle.core_turn.specs.Looking.{StartBy, Looked};
+
+use crate::look::Look;
+use crate::slot::Slot;
+use crate::trying::try_wish;
+use bus_semantics::{Actor, BusPlan, Entry, Wish};
+use port_objects::{Bench, sound_plans_have_objects};
+use rte_value::ActKey;
+use task_machine::TaskSet;
+
+/// The runnable of an event.
+fn runnable_of(p: &BusPlan, event: u32) -> u32
+    requires { nat_lt event (length p.now.events) ≡ true }
+    ensures { runnable_of_event (plan_of p.now) event ≡ Some result }
+{
+    p.events.items()[event as usize].runnable
+}
+
+/// An event tries to start its runnable.
+fn try_event<B: Bench>(p: &BusPlan, event: u32, bench: &mut B) -> Look
+    requires room { 0 < B.room bench.old }
+    requires plan { B.plan bench.old ≡ plan_of p.now }
+    requires built { (m : Mapping) × IsBuilt (plan_of p.now) m }
+    requires there { nat_lt event (length p.now.events) ≡ true }
+    ensures home { B.home bench.new ≡ B.home bench.old }
+    ensures plan { B.plan bench.new ≡ B.plan bench.old }
+    ensures start { StartBy (plan_of p.now) (event ∷ []) result }
+    ensures looked { Looked (plan_of p.now) (start_try (plan_of p.now) event) 1
+        (record { room = B.room bench.old; next = B.next bench.old; objects = B.objects bench.old; work = B.work bench.old })
+        (record { room = B.room bench.new; next = B.next bench.new; objects = B.objects bench.new; work = B.work bench.new }) result }
+{
+    sound_plans_have_objects();
+    let key = ActKey {
+        runnable: runnable_of(p, event),
+        point: None,
+    };
+    try_wish(p, &Actor::Act(key), &Wish::Start { event }, bench)
+}
+
+/// The first of these events that may start its runnable does so.
+fn start_first<B: Bench>(p: &BusPlan, events: &[u32], bench: &mut B) -> Look
+    requires room { 0 < B.room bench.old }
+    requires plan { B.plan bench.old ≡ plan_of p.now }
+    requires built { (m : Mapping) × IsBuilt (plan_of p.now) m }
+    requires there { list_all (λ e. nat_lt e (length p.now.events)) events.now ≡ true }
+    ensures home { B.home bench.new ≡ B.home bench.old }
+    ensures plan { B.plan bench.new ≡ B.plan bench.old }
+    ensures start { StartBy (plan_of p.now) events.now result }
+    ensures looked { Looked (plan_of p.now) (gathered (start_try (plan_of p.now)) events.now) (count (waits (plan_of p.now)) events.now)
+        (record { room = B.room bench.old; next = B.next bench.old; objects = B.objects bench.old; work = B.work bench.old })
+        (record { room = B.room bench.new; next = B.next bench.new; objects = B.objects bench.new; work = B.work bench.new }) result }
+{
+    for event in events {
+        match try_event(p, *event, bench) {
+            Look::Made(stamped) => return Look::Made(stamped),
+            Look::Nothing => {}
+            Look::Contended(object) => return Look::Contended(object),
+        }
+    }
+    Look::Nothing
+}
+
+/// The activation that an entry starts begins in the slot.
+fn begin(t: &TaskSet, slot: &mut Slot, entry: &Entry)
+    requires { IsMadeFor t.now slot.old.frame }
+    ensures { BegunBy t.now entry.now slot.old slot.new }
+{
+    if let Actor::Act(key) = entry.actor {
+        slot.frame.begin(t, key, &entry.deed);
+        slot.running = Some(key);
+    }
+}
+
+/// A free task starts the first of its events, in order of position, that may.
+pub(crate) fn start_due<B: Bench>(p: &BusPlan, t: &TaskSet, slot: &mut Slot, bench: &mut B) -> Look
+    requires room { 0 < B.room bench.old }
+    requires plan { B.plan bench.old ≡ plan_of p.now }
+    requires bodies { AsksAsPlanned (plan_of p.now) t.now }
+    requires built { (m : Mapping) × IsBuilt (plan_of p.now) m }
+    requires ready { IsReadySlot (plan_of p.now) t.now slot.old }
+    requires free { slot.old.running ≡ None }
+    ensures home { B.home bench.new ≡ B.home bench.old }
+    ensures plan { B.plan bench.new ≡ B.plan bench.old }
+    ensures looked { Looked (plan_of p.now) (slot_tries (plan_of p.now) t.now slot.old) (looks (plan_of p.now) slot.old)
+        (record { room = B.room bench.old; next = B.next bench.old; objects = B.objects bench.old; work = B.work bench.old })
+        (record { room = B.room bench.new; next = B.next bench.new; objects = B.objects bench.new; work = B.work bench.new }) result }
+    ensures slot { SlotLooked (plan_of p.now) t.now slot.old slot.new result }
+{
+    match start_first(p, slot.events.as_slice(), bench) {
+        Look::Made(stamped) => {
+            begin(t, slot, &stamped.entry);
+            Look::Made(stamped)
+        }
+        Look::Nothing => Look::Nothing,
+        Look::Contended(object) => Look::Contended(object),
+    }
+}
