@@ -22,6 +22,7 @@ pub mod SameEnds
 pub mod SameKeys
 pub mod SameLinks
 pub mod SameNames
+pub mod Sorting
 pub mod Standing
 pub mod Starting
 pub mod Steps
