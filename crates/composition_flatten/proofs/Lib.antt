@@ -5,6 +5,7 @@ pub mod Counting
 pub mod Deepest
 pub mod FirstOnes
 pub mod Following
+pub mod Gating
 pub mod Grouping
 pub mod Growth
 pub mod InItself

@@ -4,6 +4,7 @@ pub mod Ends
 pub mod Firsts
 pub mod Flattening
 pub mod Fronts
+pub mod Gates
 pub mod Growing
 pub mod Instances
 pub mod Items

@@ -10,6 +10,7 @@ mod depth;
 mod ends;
 mod flat;
 mod flattening;
+mod gates;
 mod groups;
 mod interfaces;
 mod limits;
