@@ -23,6 +23,7 @@ pub mod SameEnds
 pub mod SameKeys
 pub mod SameLinks
 pub mod SameNames
+pub mod Seeking
 pub mod Sorting
 pub mod Standing
 pub mod Starting

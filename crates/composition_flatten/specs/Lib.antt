@@ -1,3 +1,4 @@
+pub mod Below
 pub mod Connectors
 pub mod Counts
 pub mod Ends

@@ -1,6 +1,7 @@
 //! A description made flat: its component instances, and which of their ports' items are joined.
 #![tactic(auto)]
 
+mod below;
 mod connectors;
 mod containing;
 mod counts;
