@@ -11,6 +11,7 @@ pub mod Growth
 pub mod InItself
 pub mod Joining
 pub mod Kept
+pub mod Keying
 pub mod Limiting
 pub mod Linking
 pub mod Lookups
@@ -20,6 +21,7 @@ pub mod Noding
 pub mod Placing
 pub mod Reaching
 pub mod SameEnds
+pub mod SameGates
 pub mod SameKeys
 pub mod SameLinks
 pub mod SameNames

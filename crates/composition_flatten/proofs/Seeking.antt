@@ -1,5 +1,5 @@
 -- A search for interfaces, step by step.
-use Rattle.std.proofs.Common.{◌≡◌, ℕ, zero, suc, ◌+◌, ◌<◌, ◌≤◌, List, [], ◌∷◌, ◌++◌, length, get_or, take, true, nat_eq, ◌&&◌, Option, Some, None, ◌⊎◌, inl, inr, ⊎_elim, ◌↔◌, refl, sym, ap, subst, ◌∙◌}
+use Rattle.std.proofs.Common.{◌≡◌, ℕ, zero, suc, ◌+◌, ◌<◌, List, [], ◌∷◌, ◌++◌, length, get_or, take, true, nat_eq, ◌&&◌, Option, Some, None, ◌⊎◌, inl, inr, ⊎_elim, ◌↔◌, refl, sym, ap, subst, ◌∙◌}
 use Rattle.std.proofs.lemmas.Bool.{eqb-true, and_parts, and_from}
 use Rattle.std.proofs.lemmas.List.{take_more, append-nil}
 use Rattle.indexmap.specs.IndexSet.{insert_key}
@@ -13,7 +13,6 @@ use Rattle.composition_flatten.specs.Below.{Stays, Goes, IsCovered, IsInnerCover
 use Rattle.composition_flatten.specs.Connectors.{interface_of}
 use Rattle.composition_flatten.specs.Ends.{ends, own_end, inner_ends, inner_ports, number_from, offset}
 use Rattle.composition_flatten.specs.Members.{Among}
-use Rattle.composition_flatten.specs.Paths.{type_in}
 use Rattle.composition_flatten.proofs.Following.{inner_cases}
 use Rattle.composition_flatten.proofs.Members.{left, right, cases, unflat, key_iff, itself_number}
 
@@ -89,10 +88,10 @@ module _ (d : Description) where
       searched : IsSearching d z
       searched k h = ⊎_elim
           (λ o. ⊎_elim
-              (λ w. ⊎_elim (λ l. inl (goes.waiting k l)) (λ r. ⊎_elim (λ e. inr (subst (IsFollowed d z) (sym e) followed)) (λ no. absurd no) r)
-                  (cases k popped.waiting.items (node ∷ []) (subst (Among k) waited w)))
-              (λ f. inr (followed_more s z stays k f))
-              (searching k (subst (λ m. Among k m.keys) seen_is o)))
+          (λ w. ⊎_elim (λ l. inl (goes.waiting k l)) (λ r. ⊎_elim (λ e. inr (subst (IsFollowed d z) (sym e) followed)) (λ no. absurd no) r)
+          (cases k popped.waiting.items (node ∷ []) (subst (Among k) waited w)))
+          (λ f. inr (followed_more s z stays k f))
+          (searching k (subst (λ m. Among k m.keys) seen_is o)))
           (λ w. inl w) (goes.new k h)
 
   -- none waits

@@ -1,7 +1,6 @@
 -- Ports from which delegations are followed down to ports of instances.
-use Rattle.std.specs.Prelude.{◌≤◌, ℕ, List, [], ◌∷◌}
+use Rattle.std.specs.Prelude.{◌≤◌, List, [], ◌∷◌}
 use Rattle.description_types.specs.declared.description.Description.{Description}
-use Rattle.description_types.specs.declared.description.PrototypeType.{PrototypeType}
 use Rattle.description_types.specs.declared.description.PrototypeType.TheVariants as type
 use Rattle.composition_flatten.specs.declared.gates.Gate.{Gate}
 use Rattle.composition_flatten.specs.declared.gates.Gate.TheVariants.{Outer, Component, Composition}

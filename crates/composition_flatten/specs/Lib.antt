@@ -20,6 +20,7 @@ pub mod Named
 pub mod Orders
 pub mod Paths
 pub mod Ranks
+pub mod Sharing
 pub mod Tables
 pub mod Trees
 pub mod Within

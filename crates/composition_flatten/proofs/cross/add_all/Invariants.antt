@@ -2,7 +2,7 @@ use Rattle.std.proofs.Common.{take, false}
 use Rattle.composition_flatten.specs.Growing.{AnyOf, Grown}
 use Rattle.composition_flatten.specs.Links.{IsPairLink}
 use Rattle.composition_flatten.specs.Matching.{IsAdding}
-use Rattle.composition_flatten.proofs.cross.cross.Given as goal
+use Rattle.composition_flatten.proofs.cross.add_all.Given as goal
 
 abbrev pub invariant-loop-end : goal.invariant-loop-end
 invariant-loop-end l = record {
