@@ -116,3 +116,13 @@ assembly_same d n c x p r before after is_full is lets g = subst (λ y. Grown (I
 -- a link past the end of a list
 abbrev pub no_link : Link
 no_link = record { provided = record { owner = Instance 0; port = 0; element = 0 }; required = record { owner = Instance 0; port = 0; element = 0 } }
+
+-- the links of equal lists of ports, and of none
+pub cross_at : (d : Description) (ps qs ps2 qs2 : List PortEnd) (before after : List Link) (is_full : Bool) → ps ≡ ps2 → qs ≡ qs2 → Grown (IsCrossLink d ps qs) before after is_full → Grown (IsCrossLink d ps2 qs2) before after is_full
+cross_at d ps qs ps2 qs2 before after is_full first second g = subst (λ l. Grown (IsCrossLink d ps2 l) before after is_full) second (subst (λ l. Grown (IsCrossLink d l qs) before after is_full) first g)
+
+pub no_providers : (d : Description) (ps qs : List PortEnd) (list : List Link) → [] ≡ ps → Grown (IsCrossLink d ps qs) list list false
+no_providers d ps qs list none = grown_none (IsCrossLink d ps qs) list (λ x a. subst (Among a.0) (sym none) a.1)
+
+pub no_requesters : (d : Description) (ps qs : List PortEnd) (list : List Link) → [] ≡ qs → Grown (IsCrossLink d ps qs) list list false
+no_requesters d ps qs list none = grown_none (IsCrossLink d ps qs) list (λ x a. subst (Among a.2.0) (sym none) a.2.1)

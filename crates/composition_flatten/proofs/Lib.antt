@@ -5,11 +5,13 @@ pub mod Counting
 pub mod Deepest
 pub mod FirstOnes
 pub mod Following
+pub mod Gating
 pub mod Grouping
 pub mod Growth
 pub mod InItself
 pub mod Joining
 pub mod Kept
+pub mod Keying
 pub mod Limiting
 pub mod Linking
 pub mod Lookups
@@ -19,9 +21,12 @@ pub mod Noding
 pub mod Placing
 pub mod Reaching
 pub mod SameEnds
+pub mod SameGates
 pub mod SameKeys
 pub mod SameLinks
 pub mod SameNames
+pub mod Seeking
+pub mod Sorting
 pub mod Standing
 pub mod Starting
 pub mod Steps

@@ -60,7 +60,7 @@ turned_there [] i j h = h
 turned_there (p ∷ ps) i j (inl e) = inl (λ t. ((e t).1, (e t).0))
 turned_there (p ∷ ps) i j (inr h) = inr (turned_there ps i j h)
 
-turned_back : (pairs : List (ℕ × ℕ)) (i j : ℕ) → Among (j, i) pairs → Among (i, j) (turned pairs)
+pub turned_back : (pairs : List (ℕ × ℕ)) (i j : ℕ) → Among (j, i) pairs → Among (i, j) (turned pairs)
 turned_back [] i j h = h
 turned_back (p ∷ ps) i j (inl e) = inl (λ t. ((e t).1, (e t).0))
 turned_back (p ∷ ps) i j (inr h) = inr (turned_back ps i j h)

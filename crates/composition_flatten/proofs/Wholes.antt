@@ -135,6 +135,16 @@ module _ (d : Description) where
       (subst (λ l. Grown (outer_link kind d l inner) before after is_full) (own_same ∙ own_is ∙ ap (λ o. outer_ends o port) interface_is)
       (subst (λ l. Grown (outer_link kind d own_slice l) before after is_full) inner_same g)))
 
+  -- a port without an interface has none
+  kind_none : (kind : Option PortKind) (port : ℕ) (inner : List PortEnd) (x : Link) → outer_link kind d (outer_ends None port) inner x → ⊥
+  kind_none None port inner x h = h
+  kind_none (Some Required) port inner x h = h.1
+  kind_none (Some Provided) port inner x h = h.2.1
+
+  pub outer_none : (port : ℕ) (x : Link) → interface_of d (Composition d.root) port ≡ None → IsOuterLink d port x → ⊥
+  outer_none port x none h = kind_none (kind_of d (Composition d.root) port) port (ends d 8 (Composition d.root) 0 port) x
+      (subst (λ o. outer_link (kind_of d (Composition d.root) port) d (outer_ends o port) (ends d 8 (Composition d.root) 0 port) x) none h)
+
   -- only a port of the root has links
   outer_within : (port : ℕ) (x : Link) → IsOuterLink d port x → port < length (ports_of d (Composition d.root))
   outer_within port x h = by (slice_get (ports_of d (Composition d.root)) port) refl

@@ -1,9 +1,11 @@
+pub mod Below
 pub mod Connectors
 pub mod Counts
 pub mod Ends
 pub mod Firsts
 pub mod Flattening
 pub mod Fronts
+pub mod Gates
 pub mod Growing
 pub mod Instances
 pub mod Items
@@ -18,6 +20,7 @@ pub mod Named
 pub mod Orders
 pub mod Paths
 pub mod Ranks
+pub mod Sharing
 pub mod Tables
 pub mod Trees
 pub mod Within

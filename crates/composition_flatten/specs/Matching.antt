@@ -2,16 +2,20 @@
 use Rattle.std.specs.Prelude.{◌≡◌, ◌↔◌, ◌&&◌, ℕ, List, map, Bool, nat_eq, Some, Vec}
 use Rattle.std.specs.Global.{Global}
 use Rattle.description_types.specs.declared.description.Description.{Description}
-use Rattle.indexmap.specs.IndexMap.{get}
+use Rattle.indexmap.specs.IndexMap.{IndexMap, get}
+use Rattle.composition_flatten.specs.contracts.gates.GatePartialEq.TheImpl.{eq-value}
+use Rattle.composition_flatten.specs.declared.gates.Gate.{Gate}
 use Rattle.composition_flatten.specs.declared.interfaces.Listed.{Listed}
 use Rattle.composition_flatten.specs.declared.links.Link.{Link}
 use Rattle.composition_flatten.specs.declared.matched.Matched.{Matched}
+use Rattle.composition_flatten.specs.declared.sides.Side.{Side}
 use Rattle.composition_flatten.specs.declared.tree.PortEnd.{PortEnd}
-use Rattle.composition_flatten.specs.Growing.{AnyOf}
+use Rattle.composition_flatten.specs.Gates.{gate_ends}
 use Rattle.composition_flatten.specs.Items.{interface_at, ItemsJoin}
-use Rattle.composition_flatten.specs.Links.{IsPairLink}
+use Rattle.composition_flatten.specs.Links.{IsPairLink, IsCrossLink}
 use Rattle.composition_flatten.specs.Members.{Among}
-use Rattle.composition_flatten.specs.Tables.{group_at}
+use Rattle.composition_flatten.specs.Sharing.{IsIndexed}
+use Rattle.composition_flatten.specs.Tables.{under}
 
 -- these are the interfaces of the description
 abbrev pub AreListed : Description → List Listed → Type 0
@@ -28,20 +32,38 @@ AreMatches d provided required pairs = (i j : ℕ) → Among (i, j) pairs ↔ It
 abbrev pub same_pair : ℕ × ℕ → ℕ × ℕ → Bool
 same_pair a b = nat_eq a.0 b.0 && nat_eq a.1 b.1
 
--- what is kept of pairs of interfaces is right
+-- the side has all interfaces of the ports below the gate, by their keys
+pub record IsSide (d : Description) (gate : Gate) (side : Side) : Type 0 where
+  pub covers : (x : PortEnd) → Among x (gate_ends d gate) → Among x.interface side.interfaces.keys
+  pub indexed : IsIndexed d side.interfaces.keys side.index
+
+abbrev pub same_gate : Gate → Gate → Bool
+same_gate a b = (eq-value).it a b
+
+-- what is kept of pairs of interfaces and of gates is right
 pub record IsMatched (d : Description) (m : Matched) : Type 0 where
   pub listed : AreListed d m.interfaces.items
   pub kept : (k : ℕ × ℕ) (pairs : Vec (ℕ × ℕ) Global) → get same_pair m.kept k ≡ Some pairs → AreMatches d k.0 k.1 pairs.items
+  pub sides : (g : Gate) (s : Side) → get same_gate m.sides g ≡ Some s → IsSide d g s
 
--- a link of the provided port with one of the group at this place, which is one of the ends
-abbrev pub IsGroupLink : Description → PortEnd → List PortEnd → List (ℕ × Vec PortEnd Global) → ℕ → Link → Type 0
-IsGroupLink d p ends groups place x = AnyOf (IsPairLink d p) (group_at groups place) x × AnyOf (IsPairLink d p) ends x
+-- wherever items of two of these ports are joined, their interfaces are one of the pairs
+abbrev pub HasPairs : Description → List PortEnd → List PortEnd → List (ℕ × ℕ) → Type 0
+HasPairs d provided required pairs = (p r : PortEnd) → Among p provided → Among r required → (i j : ℕ) → ItemsJoin (interface_at d p.interface) (interface_at d r.interface) i j → Among (p.interface, r.interface) pairs
+
+-- a link of a provided port of the one interface and a required one of the other
+abbrev pub IsBetween : {S T : Type 0} → Description → IndexMap ℕ (Vec PortEnd Global) S → IndexMap ℕ (Vec PortEnd Global) T → ℕ × ℕ → Link → Type 0
+IsBetween d provided required pair x = IsCrossLink d (under (get nat_eq provided pair.0)) (under (get nat_eq required pair.1)) x
 
 -- The pairs of ports that are done have all their links.
 abbrev pub AreDone : Description → List (PortEnd × PortEnd) → List Link → Type 0
 AreDone d pairs links = (k : PortEnd × PortEnd) → Among k pairs → (x : Link) → IsPairLink d k.0 k.1 x → Among x links
 
+-- The pairs of gates that are crossed have all their links.
+abbrev pub AreCrossed : Description → List (Gate × Gate) → List Link → Type 0
+AreCrossed d pairs links = (k : Gate × Gate) → Among k pairs → (x : Link) → IsCrossLink d (gate_ends d k.0) (gate_ends d k.1) x → Among x links
+
 -- what is kept while links are added is right
 pub record IsAdding (d : Description) (m : Matched) (links : List Link) : Type 0 where
   pub matched : IsMatched d m
   pub done : AreDone d m.done.keys links
+  pub crossed : AreCrossed d m.crossed.keys links

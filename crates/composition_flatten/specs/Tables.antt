@@ -34,6 +34,3 @@ item_names (ModeSwitch x) = []
 -- each interface has in the map the ends that have it
 abbrev pub AreGroups : {S : Type 0} → List PortEnd → IndexMap ℕ (Vec PortEnd Global) S → Type 0
 AreGroups ends groups = (q : ℕ) (x : PortEnd) → Among x (under (get nat_eq groups q)) ↔ (Among x ends × (x.interface ≡ q))
-
-abbrev pub group_at : List (ℕ × Vec PortEnd Global) → ℕ → List PortEnd
-group_at entries place = option_map_or (λ e. e.1.items) (slice_get entries place) []

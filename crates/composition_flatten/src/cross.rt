@@ -3,12 +3,10 @@
 ghost use Rattle.std.specs.Prelude.{◌≡◌, ℕ, IfOk, OnOk};
 ghost use Rattle.composition_flatten.specs.Growing.{AnyOf, Grown};
 ghost use Rattle.composition_flatten.specs.declared.tree.PortEnd.{PortEnd};
-ghost use Rattle.composition_flatten.specs.Members.{Among};
 ghost use Rattle.composition_flatten.specs.Links.{item_of, link_of, IsPairLink, IsCrossLink};
-ghost use Rattle.composition_flatten.specs.Matching.{IsAdding, IsGroupLink};
-ghost use Rattle.composition_flatten.specs.Tables.{AreGroups};
+ghost use Rattle.composition_flatten.specs.Matching.{HasPairs, IsAdding, IsBetween};
 
-use crate::groups::{Groups, group_at, groups_of};
+use crate::groups::{Groups, group_of, groups_of};
 use crate::links::{Item, Link, add_link};
 use crate::matched::Matched;
 use crate::tree::PortEnd;
@@ -111,79 +109,7 @@ fn add_ends(
     Ok(false)
 }
 
-/// Adds the links of a provided port with the required ones of one interface.
-fn add_group(
-    alloc: Global,
-    d: &Description,
-    provided: PortEnd,
-    interface: u32,
-    required: &[PortEnd],
-    matched: &mut Matched,
-    links: &mut BTreeSet<Link>,
-) -> Result<bool, Memory>
-    requires matched { IsAdding d.now matched.old links.old.keys }
-    requires group { (x : PortEnd) → Among x required.now → x.interface ≡ interface }
-    ensures matched { OnOk result (IsAdding d.now matched.new links.new.keys) }
-    ensures grown { IfOk result (λ is_full. Grown (AnyOf (IsPairLink d.now provided) required.now) links.old.keys links.new.keys is_full) }
-{
-    let pair = (provided.interface, interface);
-    matched.find(alloc, d, pair)?;
-    if matched.kept(pair).is_empty() {
-        return Ok(false);
-    }
-    let is_full = add_ends(alloc, d, provided, required, matched, links)?;
-    Ok(is_full)
-}
-
-fn add_group_at(
-    alloc: Global,
-    d: &Description,
-    provided: PortEnd,
-    required: &[PortEnd],
-    groups: &Groups,
-    place: usize,
-    matched: &mut Matched,
-    links: &mut BTreeSet<Link>,
-) -> Result<bool, Memory>
-    requires matched { IsAdding d.now matched.old links.old.keys }
-    requires grouped { AreGroups required.now groups.now }
-    ensures matched { OnOk result (IsAdding d.now matched.new links.new.keys) }
-    ensures grown { IfOk result (λ is_full. Grown (IsGroupLink d.now provided required.now groups.now.entries place) links.old.keys links.new.keys is_full) }
-{
-    match group_at(required, groups, place) {
-        Some((interface, group)) => {
-            let is_full = add_group(alloc, d, provided, interface, group, matched, links)?;
-            Ok(is_full)
-        }
-        None => Ok(false),
-    }
-}
-
-fn add_row(
-    alloc: Global,
-    d: &Description,
-    provided: PortEnd,
-    required: &[PortEnd],
-    groups: &Groups,
-    matched: &mut Matched,
-    links: &mut BTreeSet<Link>,
-) -> Result<bool, Memory>
-    requires matched { IsAdding d.now matched.old links.old.keys }
-    requires grouped { AreGroups required.now groups.now }
-    ensures matched { OnOk result (IsAdding d.now matched.new links.new.keys) }
-    ensures grown { IfOk result (λ is_full. Grown (AnyOf (IsPairLink d.now provided) required.now) links.old.keys links.new.keys is_full) }
-{
-    for place in 0..groups.len() {
-        if add_group_at(alloc, d, provided, required, groups, place, matched, links)? {
-            return Ok(true);
-        }
-    }
-    Ok(false)
-}
-
-/// Adds the links of each of the provided ports with each of the required ones. Of the required ones those of one interface
-/// are taken together, so that interfaces which share no item cost one look and not one for each pair of ports.
-pub fn cross(
+fn add_all(
     alloc: Global,
     d: &Description,
     provided: &[PortEnd],
@@ -195,11 +121,73 @@ pub fn cross(
     ensures matched { OnOk result (IsAdding d.now matched.new links.new.keys) }
     ensures grown { IfOk result (λ is_full. Grown (IsCrossLink d.now provided.now required.now) links.old.keys links.new.keys is_full) }
 {
-    let groups = groups_of(alloc, required)?;
     for end in provided {
-        if add_row(alloc, d, *end, required, &groups, matched, links)? {
+        if add_ends(alloc, d, *end, required, matched, links)? {
             return Ok(true);
         }
     }
     Ok(false)
+}
+
+/// Adds the links of the provided ports of one interface with the required ones of another.
+fn add_groups(
+    alloc: Global,
+    d: &Description,
+    pair: (u32, u32),
+    provided: &Groups,
+    required: &Groups,
+    matched: &mut Matched,
+    links: &mut BTreeSet<Link>,
+) -> Result<bool, Memory>
+    requires { IsAdding d.now matched.old links.old.keys }
+    ensures matched { OnOk result (IsAdding d.now matched.new links.new.keys) }
+    ensures grown { IfOk result (λ is_full. Grown (IsBetween d.now provided.now required.now pair) links.old.keys links.new.keys is_full) }
+{
+    let first = group_of(provided, pair.0);
+    let second = group_of(required, pair.1);
+    let is_full = add_all(alloc, d, first, second, matched, links)?;
+    Ok(is_full)
+}
+
+fn add_grouped(
+    alloc: Global,
+    d: &Description,
+    pairs: &[(u32, u32)],
+    provided: &Groups,
+    required: &Groups,
+    matched: &mut Matched,
+    links: &mut BTreeSet<Link>,
+) -> Result<bool, Memory>
+    requires { IsAdding d.now matched.old links.old.keys }
+    ensures matched { OnOk result (IsAdding d.now matched.new links.new.keys) }
+    ensures grown { IfOk result (λ is_full. Grown (AnyOf (IsBetween d.now provided.now required.now) pairs.now) links.old.keys links.new.keys is_full) }
+{
+    for pair in pairs {
+        if add_groups(alloc, d, *pair, provided, required, matched, links)? {
+            return Ok(true);
+        }
+    }
+    Ok(false)
+}
+
+/// Adds the links of each of the provided ports with each of the required ones, given which pairs of their interfaces share
+/// an item. Ports of interfaces that share none cost one look each and not one for each pair.
+pub fn cross(
+    alloc: Global,
+    d: &Description,
+    provided: &[PortEnd],
+    required: &[PortEnd],
+    pairs: &[(u32, u32)],
+    matched: &mut Matched,
+    links: &mut BTreeSet<Link>,
+) -> Result<bool, Memory>
+    requires matched { IsAdding d.now matched.old links.old.keys }
+    requires pairs { HasPairs d.now provided.now required.now pairs.now }
+    ensures matched { OnOk result (IsAdding d.now matched.new links.new.keys) }
+    ensures grown { IfOk result (λ is_full. Grown (IsCrossLink d.now provided.now required.now) links.old.keys links.new.keys is_full) }
+{
+    let first = groups_of(alloc, provided)?;
+    let second = groups_of(alloc, required)?;
+    let is_full = add_grouped(alloc, d, pairs, &first, &second, matched, links)?;
+    Ok(is_full)
 }

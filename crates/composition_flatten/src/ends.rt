@@ -59,7 +59,7 @@ fn ports_of_composition(table: &[Vec<Vec<InnerPort>>], composition: u32) -> &[Ve
 }
 
 /// The inner ports that a composition delegates its outer port to.
-fn inner_ports<'a>(tree: &'a Tree, composition: u32, port: u32) -> &'a [InnerPort]
+pub fn inner_ports<'a>(tree: &'a Tree, composition: u32, port: u32) -> &'a [InnerPort]
     requires { IsTree tree.now }
     ensures { result.now ≡ inner_ports tree.now.d.now composition port }
 {

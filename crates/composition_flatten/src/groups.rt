@@ -1,10 +1,8 @@
 //! Ends of one interface together.
 
-ghost use Rattle.std.specs.Prelude.{◌≡◌, [], IfOk, IfSome};
-ghost use Rattle.std.specs.Option.{option_map_or};
-ghost use Rattle.composition_flatten.specs.declared.tree.PortEnd.{PortEnd};
-ghost use Rattle.composition_flatten.specs.Members.{Among};
-ghost use Rattle.composition_flatten.specs.Tables.{group_at, AreGroups};
+ghost use Rattle.std.specs.Prelude.{◌≡◌, nat_eq, IfOk};
+ghost use Rattle.indexmap.specs.IndexMap.{get};
+ghost use Rattle.composition_flatten.specs.Tables.{under, AreGroups};
 
 use crate::multi::add_under;
 use crate::tree::PortEnd;
@@ -26,18 +24,12 @@ pub fn groups_of(alloc: Global, ends: &[PortEnd]) -> Result<Groups, Memory>
     Ok(groups)
 }
 
-/// One of the groups of some ends, with its interface.
-pub fn group_at<'a>(
-    ends: &[PortEnd],
-    groups: &'a Groups,
-    place: usize,
-) -> Option<(u32, &'a [PortEnd])>
-    requires { AreGroups ends.now groups.now }
-    ensures group { option_map_or (λ g. g.1.now) result [] ≡ group_at groups.now.entries place }
-    ensures sound { IfSome result (λ g. (x : PortEnd) → Among x g.1.now → Among x ends.now × (x.interface ≡ g.0)) }
+/// The ends of an interface.
+pub fn group_of<'a>(groups: &'a Groups, interface: u32) -> &'a [PortEnd]
+    ensures { result.now ≡ under (get nat_eq groups.now interface) }
 {
-    match groups.get_index(place) {
-        Some((interface, group)) => Some((*interface, group.as_slice())),
-        None => None,
+    match groups.get(&interface) {
+        Some(group) => group.as_slice(),
+        None => &[],
     }
 }

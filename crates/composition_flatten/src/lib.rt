@@ -1,15 +1,18 @@
 //! A description made flat: its component instances, and which of their ports' items are joined.
 #![tactic(auto)]
 
+mod below;
 mod connectors;
 mod containing;
 mod counts;
 mod cross;
+mod crossing;
 mod delegations;
 mod depth;
 mod ends;
 mod flat;
 mod flattening;
+mod gates;
 mod groups;
 mod interfaces;
 mod limits;
@@ -21,9 +24,11 @@ mod multi;
 mod names;
 mod nodes;
 mod own;
+mod partners;
 mod prototypes;
 mod ranks;
 mod reach;
+mod sides;
 mod starts;
 mod tree;
 mod whole;

@@ -1,17 +1,22 @@
 //! Which items of pairs of interfaces are joined, found once for each pair.
 
 ghost use Rattle.std.specs.Prelude.{◌≡◌, ◌↔◌, ◌⊎◌, List, IfOk, OnOk, IsTrue};
+ghost use Rattle.composition_flatten.specs.declared.gates.Gate.{Gate};
 ghost use Rattle.composition_flatten.specs.declared.links.Link.{Link};
 ghost use Rattle.composition_flatten.specs.declared.tree.PortEnd.{PortEnd};
 ghost use Rattle.composition_flatten.specs.Members.{Among};
 ghost use Rattle.indexmap.specs.IndexMap.{get};
-ghost use Rattle.composition_flatten.specs.Matching.{same_pair, AreMatches, IsAdding, IsMatched};
+ghost use Rattle.composition_flatten.specs.Gates.{gate_ends};
+ghost use Rattle.composition_flatten.specs.Matching.{same_pair, AreMatches, HasPairs, IsAdding, IsMatched, IsSide};
 ghost use Rattle.composition_flatten.specs.Tables.{under};
+ghost use Rattle.composition_flatten.specs.Trees.{IsTree};
 
+use crate::gates::Gate;
 use crate::interfaces::Listed;
 use crate::links::LINK_LIMIT;
 use crate::matches::{interfaces_of, matches};
-use crate::tree::PortEnd;
+use crate::sides::{Side, shared, side_of};
+use crate::tree::{PortEnd, Tree};
 use description_types::Description;
 use indexmap::{IndexMap, IndexSet};
 use rte_text::Memory;
@@ -23,15 +28,25 @@ pub struct Matched<'a> {
     interfaces: Vec<Listed<'a>>,
     /// The joined items of pairs of interfaces.
     kept: IndexMap<(u32, u32), Vec<(u32, u32)>>,
+    /// What is below gates.
+    sides: IndexMap<Gate, Side<'a>>,
+    /// How many interfaces the sides have.
+    weight: usize,
     /// The pairs of ports whose links were added.
     done: IndexSet<(PortEnd, PortEnd)>,
+    /// The pairs of gates whose links were added.
+    crossed: IndexSet<(Gate, Gate)>,
 }
+
+/// How many interfaces the sides that are kept have at most, but for the last one.
+const SIDE_LIMIT: usize = 524_288;
 
 /// Forgets what was found where it is of as many pairs as there may be links. So what is kept is bounded.
 fn make_room(matched: &mut Matched, d: &Description)
     requires { IsMatched d.now matched.old }
     ensures matched { IsMatched d.now matched.new }
     ensures done { matched.new.done ≡ matched.old.done }
+    ensures crossed { matched.new.crossed ≡ matched.old.crossed }
 {
     if matched.kept.len() >= LINK_LIMIT {
         matched.kept.clear();
@@ -50,6 +65,7 @@ fn keep(
     ensures matched { OnOk result (IsMatched d.now matched.new) }
     ensures kept { OnOk result (AreMatches d.now pair.0 pair.1 (under (get same_pair matched.new.kept pair))) }
     ensures done { OnOk result (matched.new.done ≡ matched.old.done) }
+    ensures crossed { OnOk result (matched.new.crossed ≡ matched.old.crossed) }
 {
     make_room(matched, d);
     matched.kept.insert(pair, items)?;
@@ -65,7 +81,10 @@ impl<'a> Matched<'a> {
         Ok(Matched {
             interfaces,
             kept: IndexMap::new(alloc),
+            sides: IndexMap::new(alloc),
+            weight: 0,
             done: IndexSet::new(alloc),
+            crossed: IndexSet::new(alloc),
         })
     }
 
@@ -75,6 +94,7 @@ impl<'a> Matched<'a> {
         ensures matched { OnOk result (IsMatched d.now self.new) }
         ensures kept { OnOk result (AreMatches d.now pair.0 pair.1 (under (get same_pair self.new.kept pair))) }
         ensures done { OnOk result (self.new.done ≡ self.old.done) }
+        ensures crossed { OnOk result (self.new.crossed ≡ self.old.crossed) }
     {
         if self.kept.contains_key(&pair) {
             return Ok(());
@@ -93,12 +113,13 @@ impl<'a> Matched<'a> {
         }
     }
 
-    /// Begins with another set of links: no pair of ports is done.
+    /// Begins with another set of links: no pair of ports or gates is done.
     pub fn begin(&mut self, alloc: Global, d: &Description)
         requires { IsMatched d.now self.old }
         ensures { (links : List Link) → IsAdding d.now self.new links }
     {
         self.done = IndexSet::new(alloc);
+        self.crossed = IndexSet::new(alloc);
     }
 
     /// Whether the links of two ports were added.
@@ -112,9 +133,101 @@ impl<'a> Matched<'a> {
     pub fn note_done(&mut self, provided: PortEnd, required: PortEnd) -> Result<(), Memory>
         ensures listed { self.new.interfaces ≡ self.old.interfaces }
         ensures kept { self.new.kept ≡ self.old.kept }
+        ensures sides { self.new.sides ≡ self.old.sides }
+        ensures crossed { self.new.crossed ≡ self.old.crossed }
         ensures done { OnOk result ((k : PortEnd × PortEnd) → Among k self.new.done.keys ↔ (Among k self.old.done.keys ⊎ (k ≡ (provided, required)))) }
     {
         self.done.insert((provided, required))?;
         Ok(())
+    }
+
+    /// Whether the links of two gates were added.
+    pub fn is_crossed(&self, provided: Gate, required: Gate) -> bool
+        ensures { IsTrue result ↔ Among (provided, required) self.now.crossed.keys }
+    {
+        self.crossed.contains(&(provided, required))
+    }
+
+    /// Notes that the links of two gates were added.
+    pub fn note_crossed(&mut self, provided: Gate, required: Gate) -> Result<(), Memory>
+        ensures listed { self.new.interfaces ≡ self.old.interfaces }
+        ensures kept { self.new.kept ≡ self.old.kept }
+        ensures sides { self.new.sides ≡ self.old.sides }
+        ensures done { self.new.done ≡ self.old.done }
+        ensures crossed { OnOk result ((k : Gate × Gate) → Among k self.new.crossed.keys ↔ (Among k self.old.crossed.keys ⊎ (k ≡ (provided, required)))) }
+    {
+        self.crossed.insert((provided, required))?;
+        Ok(())
+    }
+
+    /// What is below a gate, taken from what is kept or found now.
+    fn take_side(&mut self, alloc: Global, tree: &Tree, gate: Gate) -> Result<Side<'a>, Memory>
+        requires is_tree { IsTree tree.now }
+        requires matched { IsMatched tree.now.d.now self.old }
+        ensures matched { OnOk result (IsMatched tree.now.d.now self.new) }
+        ensures done { OnOk result (self.new.done ≡ self.old.done) }
+        ensures crossed { OnOk result (self.new.crossed ≡ self.old.crossed) }
+        ensures side { IfOk result (λ side. IsSide tree.now.d.now gate side) }
+    {
+        match self.sides.swap_remove(&gate) {
+            Some(side) => {
+                self.weight = self.weight.saturating_sub(side.interfaces.len());
+                Ok(side)
+            }
+            None => {
+                let side = side_of(alloc, tree, gate, self.interfaces.as_slice())?;
+                Ok(side)
+            }
+        }
+    }
+
+    /// Forgets what is below gates where it is much. So what is kept is bounded.
+    fn make_room_for(&mut self, d: &Description, more: usize)
+        requires { IsMatched d.now self.old }
+        ensures matched { IsMatched d.now self.new }
+        ensures done { self.new.done ≡ self.old.done }
+        ensures crossed { self.new.crossed ≡ self.old.crossed }
+    {
+        self.weight = self.weight.saturating_add(more);
+        if self.weight > SIDE_LIMIT {
+            self.sides.clear();
+            self.weight = more;
+        }
+    }
+
+    /// Keeps what is below a gate.
+    fn keep_side(&mut self, d: &Description, gate: Gate, side: Side<'a>) -> Result<(), Memory>
+        requires matched { IsMatched d.now self.old }
+        requires side { IsSide d.now gate side }
+        ensures matched { OnOk result (IsMatched d.now self.new) }
+        ensures done { OnOk result (self.new.done ≡ self.old.done) }
+        ensures crossed { OnOk result (self.new.crossed ≡ self.old.crossed) }
+    {
+        self.make_room_for(d, side.interfaces.len());
+        self.sides.insert(gate, side)?;
+        Ok(())
+    }
+
+    /// The pairs of interfaces of the ports below two gates that share an item.
+    pub fn shared(
+        &mut self,
+        alloc: Global,
+        tree: &Tree,
+        provided: Gate,
+        required: Gate,
+    ) -> Result<Vec<(u32, u32)>, Memory>
+        requires is_tree { IsTree tree.now }
+        requires matched { IsMatched tree.now.d.now self.old }
+        ensures matched { OnOk result (IsMatched tree.now.d.now self.new) }
+        ensures done { OnOk result (self.new.done ≡ self.old.done) }
+        ensures crossed { OnOk result (self.new.crossed ≡ self.old.crossed) }
+        ensures pairs { IfOk result (λ pairs. HasPairs tree.now.d.now (gate_ends tree.now.d.now provided) (gate_ends tree.now.d.now required) pairs.items) }
+    {
+        let first = self.take_side(alloc, tree, provided)?;
+        let second = self.take_side(alloc, tree, required)?;
+        let pairs = shared(alloc, tree.d, self.interfaces.as_slice(), &first, &second)?;
+        self.keep_side(tree.d, provided, first)?;
+        self.keep_side(tree.d, required, second)?;
+        Ok(pairs)
     }
 }

@@ -59,7 +59,8 @@ fn found_in(alloc: Global, names: &Names, others: &Names) -> Result<Vec<(u32, u3
     Ok(pairs)
 }
 
-fn turned(alloc: Global, pairs: &[(u32, u32)]) -> Result<Vec<(u32, u32)>, Memory>
+/// The pairs the other way round.
+pub fn turned(alloc: Global, pairs: &[(u32, u32)]) -> Result<Vec<(u32, u32)>, Memory>
     ensures { IfOk result (λ list. list.items ≡ turned pairs.now) }
 {
     let mut list = Vec::new(alloc);

@@ -18,7 +18,7 @@ use std::alloc::{AllocError, Global};
 
 /// A composition where it stands: `first` is the number of the first instance below it, and its prototypes have instances
 /// at most `depth` prototypes deep.
-#[derive(Clone, Copy, PartialEq, Eq)]
+#[derive(Clone, Copy, PartialEq, Eq, PartialOrd, Ord)]
 pub struct Node {
     pub depth: usize,
     pub composition: u32,
@@ -84,12 +84,13 @@ fn prototype_count(d: &Description, composition: u32) -> Result<u32, Memory>
     u32::try_from(prototypes_of(d, composition).len()).map_err(|_| AllocError)
 }
 
-/// The root and all compositions with instances that stand in a description.
+/// The root and all compositions with instances that stand in a description, those of one composition and depth together.
 pub fn nodes_of(alloc: Global, tree: &Tree) -> Result<Vec<Node>, Memory>
     requires { IsTree tree.now }
     ensures { IfOk result (λ nodes. (x : Node) → Among x nodes.items ↔ IsNode tree.now.d.now 8 tree.now.d.now.root 0 x) }
 {
     let mut nodes = Vec::new(alloc);
     list_nodes(tree, DEPTH_LIMIT, tree.d.root, 0, &mut nodes)?;
+    nodes.sort()?;
     Ok(nodes)
 }

@@ -4,21 +4,23 @@ ghost use Rattle.std.specs.Prelude.{◌≡◌, ◌≤◌, ◌<◌, ◌^◌, [], 
 ghost use Rattle.composition_flatten.specs.Connectors.{ports_of};
 ghost use Rattle.composition_flatten.specs.declared.links.Link.{Link};
 ghost use Rattle.composition_flatten.specs.declared.nodes.Node.{Node};
+ghost use Rattle.composition_flatten.specs.Ends.{ends};
+ghost use Rattle.composition_flatten.specs.Gates.{gate_ends, IsShallow};
 ghost use Rattle.composition_flatten.specs.Members.{Among};
 ghost use Rattle.composition_flatten.specs.Growing.{AnyOf, Grown};
-ghost use Rattle.composition_flatten.specs.Links.{IsOwn, IsNode, IsNodeLink, IsOuterLink, IsLink, link_from, item_from, owner_from, outer_ends, outer_link};
+ghost use Rattle.composition_flatten.specs.Links.{IsOwn, IsNode, IsNodeLink, IsOuterLink, IsLink, link_from, item_from, owner_from, outer_link};
 ghost use Rattle.composition_flatten.specs.Matching.{IsAdding, IsMatched};
 ghost use Rattle.composition_flatten.specs.Trees.{IsTree};
 
 use crate::connectors::{interface_of, kind_of, ports_of};
 use crate::counts::DEPTH_LIMIT;
-use crate::cross::cross;
-use crate::ends::ends_of;
+use crate::crossing::cross_gates;
+use crate::gates::{Gate, narrowed};
 use crate::links::{Item, Link, add_link};
 use crate::matched::Matched;
 use crate::nodes::{Node, nodes_of};
 use crate::own::add_own;
-use crate::tree::{Owner, PortEnd, Tree};
+use crate::tree::{Owner, Tree};
 use description_types::{PortKind, PrototypeType};
 use rte_text::Memory;
 use std::alloc::{AllocError, Global};
@@ -190,41 +192,29 @@ fn add_nodes(
     Ok(false)
 }
 
-fn outer_ends(alloc: Global, interface: Option<u32>, port: u32) -> Result<Vec<PortEnd>, Memory>
-    ensures { IfOk result (λ ends. ends.items ≡ outer_ends interface port) }
-{
-    let mut ends = Vec::new(alloc);
-    if let Some(interface) = interface {
-        let owner = Owner::Environment;
-        ends.push(PortEnd {
-            owner,
-            port,
-            interface,
-        })?;
-    }
-    Ok(ends)
-}
-
 fn add_by_kind(
     alloc: Global,
     tree: &Tree,
     kind: PortKind,
-    own: &[PortEnd],
-    inner: &[PortEnd],
+    own: Gate,
+    inner: Gate,
     matched: &mut Matched,
     links: &mut BTreeSet<Link>,
 ) -> Result<bool, Memory>
-    requires { IsAdding tree.now.d.now matched.old links.old.keys }
+    requires is_tree { IsTree tree.now }
+    requires own { IsShallow own }
+    requires inner { IsShallow inner }
+    requires matched { IsAdding tree.now.d.now matched.old links.old.keys }
     ensures matched { OnOk result (IsAdding tree.now.d.now matched.new links.new.keys) }
-    ensures grown { IfOk result (λ is_full. Grown (outer_link (Some kind) tree.now.d.now own.now inner.now) links.old.keys links.new.keys is_full) }
+    ensures grown { IfOk result (λ is_full. Grown (outer_link (Some kind) tree.now.d.now (gate_ends tree.now.d.now own) (gate_ends tree.now.d.now inner)) links.old.keys links.new.keys is_full) }
 {
     match kind {
         PortKind::Required => {
-            let is_full = cross(alloc, tree.d, own, inner, matched, links)?;
+            let is_full = cross_gates(alloc, tree, own, inner, matched, links)?;
             Ok(is_full)
         }
         PortKind::Provided => {
-            let is_full = cross(alloc, tree.d, inner, own, matched, links)?;
+            let is_full = cross_gates(alloc, tree, inner, own, matched, links)?;
             Ok(is_full)
         }
     }
@@ -234,14 +224,17 @@ fn add_between(
     alloc: Global,
     tree: &Tree,
     kind: Option<PortKind>,
-    own: &[PortEnd],
-    inner: &[PortEnd],
+    own: Gate,
+    inner: Gate,
     matched: &mut Matched,
     links: &mut BTreeSet<Link>,
 ) -> Result<bool, Memory>
-    requires { IsAdding tree.now.d.now matched.old links.old.keys }
+    requires is_tree { IsTree tree.now }
+    requires own { IsShallow own }
+    requires inner { IsShallow inner }
+    requires matched { IsAdding tree.now.d.now matched.old links.old.keys }
     ensures matched { OnOk result (IsAdding tree.now.d.now matched.new links.new.keys) }
-    ensures grown { IfOk result (λ is_full. Grown (outer_link kind tree.now.d.now own.now inner.now) links.old.keys links.new.keys is_full) }
+    ensures grown { IfOk result (λ is_full. Grown (outer_link kind tree.now.d.now (gate_ends tree.now.d.now own) (gate_ends tree.now.d.now inner)) links.old.keys links.new.keys is_full) }
 {
     match kind {
         Some(kind) => {
@@ -250,6 +243,15 @@ fn add_between(
         }
         None => Ok(false),
     }
+}
+
+/// The gate that a port of the root is, followed down.
+fn root_gate(tree: &Tree, port: u32) -> Gate
+    requires { IsTree tree.now }
+    ensures shallow { IsShallow result }
+    ensures ends { gate_ends tree.now.d.now result ≡ ends tree.now.d.now 8 (PrototypeType.Composition tree.now.d.now.root) 0 port }
+{
+    narrowed(tree, Gate::Composition(DEPTH_LIMIT, tree.d.root, 0, port))
 }
 
 /// Adds the links of a port of the root, the environment's.
@@ -266,20 +268,17 @@ fn add_outer(
     ensures grown { IfOk result (λ is_full. Grown (IsOuterLink tree.now.d.now port) links.old.keys links.new.keys is_full) }
 {
     let root = PrototypeType::Composition(tree.d.root);
-    let own = outer_ends(alloc, interface_of(tree.d, root, port), port)?;
-    let inner = ends_of(alloc, tree, DEPTH_LIMIT, root, 0, port)?;
-    let kind = kind_of(tree.d, root, port);
-    matched.begin(alloc, tree.d);
-    let is_full = add_between(
-        alloc,
-        tree,
-        kind,
-        own.as_slice(),
-        inner.as_slice(),
-        matched,
-        links,
-    )?;
-    Ok(is_full)
+    match interface_of(tree.d, root, port) {
+        Some(interface) => {
+            let inner = root_gate(tree, port);
+            let kind = kind_of(tree.d, root, port);
+            let own = Gate::Outer(port, interface);
+            matched.begin(alloc, tree.d);
+            let is_full = add_between(alloc, tree, kind, own, inner, matched, links)?;
+            Ok(is_full)
+        }
+        None => Ok(false),
+    }
 }
 
 fn outer_count(tree: &Tree) -> Result<u32, Memory>
