@@ -1,5 +1,5 @@
 -- A whole activation of such a plan: it asks for data and then for its end, and until that end it always asks something.
-use Rattle.std.proofs.Common.{◌≡◌, ℕ, Bool, true, false, not, if◌then◌else◌, refl, sym, ◌∙◌, ap, subst, List, [], ◌∷◌, ◌++◌, ◌⊎◌, inl, inr, ℤ, Option, Some, None}
+use Rattle.std.proofs.Common.{◌≡◌, ℕ, Bool, true, false, not, if◌then◌else◌, refl, sym, ◌∙◌, ap, subst, List, [], ◌∷◌, ◌++◌, ◌⊎◌, inl, inr, ℤ, Some, None}
 use Rattle.std.specs.List.{list_all, slice_get}
 use Rattle.std.proofs.lemmas.Bool.{false≢true}
 use Rattle.runnable_lang.specs.declared.program.AccessSig.{AccessSig}
@@ -8,7 +8,7 @@ use Rattle.bus_semantics.specs.declared.script.Mapping.{Mapping}
 use Rattle.bus_semantics.specs.Plan.{Plan, Runnable, disabling_of}
 use Rattle.bus_semantics.specs.Wanted.{Wanted, to_end}
 use Rattle.bus_semantics.specs.State.{State}
-use Rattle.bus_semantics.specs.Programs.{Outcome, Stop, Go, Running, goes_on, both, calling, takes_nothing, run_program}
+use Rattle.bus_semantics.specs.Programs.{Outcome, Stop, Go, Running, goes_on, both, run_program}
 use Rattle.bus_semantics.specs.Activations.{is_read_early, is_written_late, admitting, fetching, publishing, returning, ending, activity, state_at_start, wanted_next, next_of_activity}
 use Rattle.task_generator.specs.Promise.{is_explicit_access}
 use Rattle.core_turn.specs.Plans.{IsBuilt}

@@ -1,21 +1,16 @@
 -- A slot after a start by one of its events.
-use Rattle.std.proofs.Common.{◌≡◌, ℕ, ◌<◌, ◌≤◌, Bool, true, false, ◌&&◌, ◌||◌, not, ◌==◌, if◌then◌else◌, refl, sym, ◌∙◌, ap, subst, List, [], ◌∷◌, ◌++◌, length, Option, Some, None}
-use Rattle.std.specs.Prelude.{nat_lt, is_none, unwrap_or}
+use Rattle.std.proofs.Common.{◌≡◌, ℕ, ◌<◌, ◌≤◌, Bool, true, false, ◌||◌, ◌==◌, refl, sym, ◌∙◌, ap, subst, List, [], ◌∷◌, length, Some, None}
+use Rattle.std.specs.Prelude.{nat_lt}
 use Rattle.std.specs.List.{list_all, list_any, slice_get}
 use Rattle.std.proofs.lemmas.Bool.{false≢true}
-use Rattle.rte_value.specs.declared.value.Value.{Value}
-use Rattle.rte_value.specs.declared.kinds.ActKey.{ActKey}
 use Rattle.rte_value.specs.Values.{words_of, same_number}
 use Rattle.bus_semantics.specs.declared.entries.Actor.TheVariants.{Act}
-use Rattle.bus_semantics.specs.declared.entries.Deed.{Deed}
 use Rattle.bus_semantics.specs.declared.entries.Deed.TheVariants as deed
-use Rattle.bus_semantics.specs.declared.entries.Entry.{Entry}
 use Rattle.bus_semantics.specs.declared.entries.Stamped.{Stamped}
 use Rattle.bus_semantics.specs.declared.script.Mapping.{Mapping}
-use Rattle.bus_semantics.specs.Plan.{Plan, Runnable, kind_of, runnable_of_event}
+use Rattle.bus_semantics.specs.Plan.{Plan, runnable_of_event}
 use Rattle.bus_semantics.specs.Wanted.{to_start}
-use Rattle.bus_semantics.specs.History.{History, runs, note}
-use Rattle.bus_semantics.specs.Objects.{object_of_kind, touched_by}
+use Rattle.bus_semantics.specs.History.{History}
 use Rattle.bus_semantics.specs.Fitting.{wish_fits, answer_fits, fits}
 use Rattle.bus_semantics.specs.Locality.{is_proper}
 use Rattle.bus_semantics.specs.Rest.{plain_key}
@@ -24,12 +19,12 @@ use Rattle.task_machine.specs.declared.instr.TaskSet.{TaskSet}
 use Rattle.task_machine.specs.Frames.{Stands, most, IsMadeFor}
 use Rattle.core_turn.specs.declared.slot.Slot.{Slot}
 use Rattle.core_turn.specs.Plans.{IsBuilt}
-use Rattle.core_turn.specs.Slots.{starts, is_key_of, is_running}
-use Rattle.core_turn.specs.Ready.{IsBegun, IsBegunIn, IsReadyTask, IsReadySlot}
-use Rattle.core_turn.specs.Standing.{TaskStands, SlotStands}
-use Rattle.core_turn.specs.Looking.{IsEntryOf, IsStartBy}
+use Rattle.core_turn.specs.Slots.{starts, is_key_of}
+use Rattle.core_turn.specs.Ready.{IsBegunIn, IsReadySlot}
+use Rattle.core_turn.specs.Standing.{TaskStands}
+use Rattle.core_turn.specs.Looking.{IsStartBy}
 use Rattle.core_turn.specs.Turning.{StepFollows, SlotStep, BegunBy}
-use Rattle.core_turn.proofs.Basics.{clash, both, both_of, number_same, same_option}
+use Rattle.core_turn.proofs.Basics.{both_of, number_same, same_option}
 use Rattle.core_turn.proofs.Activities.{AsksOn, asks_first}
 use Rattle.core_turn.proofs.Facts.{Started, started, event_known, start_touches, start_fits, enabled, serves_none}
 use Rattle.core_turn.proofs.Histories.{entry_by, IsStartOf, start_is, start_follows, start_stands}

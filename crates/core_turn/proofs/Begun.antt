@@ -1,52 +1,39 @@
 -- The next call of a running activation: it may be tried, and its entry follows each history for which the task stands.
-use Rattle.std.proofs.Common.{◌≡◌, ℕ, ◌<◌, Bool, true, false, ◌&&◌, not, if◌then◌else◌, refl, sym, ◌∙◌, ap, subst, List, [], ◌∷◌, ◌++◌, length, map, ℤ, Option, Some, None}
-use Rattle.std.specs.Prelude.{nat_lt, is_none, option_and_then, unwrap_or, IfSome}
-use Rattle.std.specs.List.{list_all, list_any, slice_get}
+use Rattle.std.proofs.Common.{◌≡◌, ℕ, ◌<◌, true, refl, sym, ◌∙◌, ap, subst, List, [], ◌∷◌, length, map, Option, Some, None}
+use Rattle.std.specs.Prelude.{is_none, IfSome}
+use Rattle.std.specs.List.{list_all, slice_get}
 use Rattle.std.proofs.lemmas.Bool.{false≢true}
 use Rattle.std.proofs.lemmas.Option.{slice_get_within}
-use Rattle.rte_value.specs.declared.value.Value.{Value}
 use Rattle.rte_value.specs.declared.kinds.ActKey.{ActKey}
-use Rattle.rte_value.specs.Values.{words_of, same_number}
-use Rattle.runnable_lang.specs.declared.program.AccessSig.{AccessSig}
+use Rattle.rte_value.specs.Values.{words_of}
 use Rattle.bus_semantics.specs.declared.entries.Actor.{Actor}
 use Rattle.bus_semantics.specs.declared.entries.Actor.TheVariants.{Act}
 use Rattle.bus_semantics.specs.declared.entries.Deed.{Deed}
 use Rattle.bus_semantics.specs.declared.entries.Deed.TheVariants as deed
-use Rattle.bus_semantics.specs.declared.entries.Entry.{Entry}
-use Rattle.bus_semantics.specs.declared.entries.Stamped.{Stamped}
 use Rattle.bus_semantics.specs.declared.script.Mapping.{Mapping}
-use Rattle.bus_semantics.specs.Plan.{Plan, Runnable, look, runnable_of_event}
-use Rattle.bus_semantics.specs.Wanted.{Wanted, to_start, to_write, to_read, to_invalidate, to_see_updated, to_end, wanted_by}
-use Rattle.bus_semantics.specs.History.{History, Noted, runs, needs_event, note, noted, is_end}
-use Rattle.bus_semantics.specs.Objects.{object_of, touched_by}
-use Rattle.bus_semantics.specs.Fitting.{wish_fits, answer_fits, fits}
-use Rattle.bus_semantics.specs.Owners.{key_fits}
-use Rattle.bus_semantics.specs.Legal.{Answers}
-use Rattle.bus_semantics.specs.Locality.{is_proper, starts_its_own}
-use Rattle.bus_semantics.specs.Actor.{Activation, activation_of, wanted_in, next_wish, follows_program}
-use Rattle.bus_semantics.specs.Activations.{next_of_activity}
-use Rattle.bus_semantics.specs.Rest.{Try, plain_key, option_list}
+use Rattle.bus_semantics.specs.Plan.{Plan, Runnable}
+use Rattle.bus_semantics.specs.Wanted.{Wanted, to_write, to_read, to_invalidate, to_see_updated, to_end}
+use Rattle.bus_semantics.specs.Objects.{object_of}
+use Rattle.bus_semantics.specs.Fitting.{wish_fits}
+use Rattle.bus_semantics.specs.Rest.{plain_key, option_list}
 use Rattle.port_objects.specs.Coming.{asks_its_own}
 use Rattle.port_objects.specs.Objects.{IsObject}
 use Rattle.port_objects.specs.Answers.{event_of}
 use Rattle.task_machine.specs.declared.instr.TaskSet.{TaskSet}
 use Rattle.task_machine.specs.Standing.{Standing}
-use Rattle.task_machine.specs.Frames.{asks, Stands, IsMadeFor, code_of}
+use Rattle.task_machine.specs.Frames.{asks, Stands, code_of}
 use Rattle.task_machine.specs.Machine.{wanted_at}
 use Rattle.task_generator.specs.Promise.{is_explicit_access, is_explicit_body, IsPlain, AsksAsPlanned}
 use Rattle.core_turn.specs.declared.look.Look.{Look}
 use Rattle.core_turn.specs.declared.slot.Slot.{Slot}
 use Rattle.core_turn.specs.Plans.{IsBuilt}
-use Rattle.core_turn.specs.Slots.{is_key_of, is_running, asked_by, tries_of, slot_tries, looks_of, looks}
-use Rattle.core_turn.specs.Ready.{IsBegun, IsBegunIn, IsReadyTask, IsReadySlot}
-use Rattle.core_turn.specs.Standing.{StandsFor, TaskStands, SlotStands}
-use Rattle.core_turn.specs.Looking.{IsTried, IsFree, IsEntryOf, Told, Looked}
-use Rattle.core_turn.specs.Turning.{StepFollows, SlotStep, Heard}
-use Rattle.core_turn.proofs.Basics.{clash, both, both_of, all_at, looked, same_keys}
-use Rattle.core_turn.proofs.Wishes.{is_data, IsData}
-use Rattle.core_turn.proofs.Activities.{AsksOn, Asked, the_end, some_data, asked}
-use Rattle.core_turn.proofs.Facts.{event_known, data_touches, end_touches, enabled, serves_none, key_is, end_fits, data_fits}
-use Rattle.core_turn.proofs.Histories.{entry_by, IsDatum, datum, end_is, data_follows, end_follows, last_event, datum_stands, end_stands}
+use Rattle.core_turn.specs.Slots.{asked_by, tries_of, slot_tries, looks_of, looks}
+use Rattle.core_turn.specs.Ready.{IsBegun, IsBegunIn, IsReadySlot}
+use Rattle.core_turn.specs.Looking.{IsTried, IsFree, Told, Looked}
+use Rattle.core_turn.proofs.Basics.{both, all_at, looked}
+use Rattle.core_turn.proofs.Wishes.{IsData}
+use Rattle.core_turn.proofs.Activities.{Asked, the_end, some_data, asked}
+use Rattle.core_turn.proofs.Facts.{event_known, data_touches, end_touches, enabled, serves_none, end_fits, data_fits}
 
 -- what a frame asks is what its activation asks
 pub asked_asks : (t : TaskSet) (k : ActKey) (start : Deed) (answers : List Deed) (f : Standing) → Stands t k start answers f → asked_by t f ≡ asks t k start answers

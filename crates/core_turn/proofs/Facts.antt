@@ -1,12 +1,11 @@
 -- Facts of a sound plan without queues, calls, areas, modes and implicit access: each start and each datum touches an object, an end touches
 -- none, and what an activation of a task wants fits.
-use Rattle.std.proofs.Common.{◌≡◌, ℕ, zero, suc, ◌+◌, ◌<◌, Bool, true, false, ◌&&◌, ◌||◌, not, ◌==◌, refl, sym, ◌∙◌, ap, subst, arith, List, [], ◌∷◌, length, Option, Some, None}
-use Rattle.std.specs.Prelude.{nat_lt, nat_le, is_some, option_map}
+use Rattle.std.proofs.Common.{◌≡◌, ℕ, zero, suc, ◌+◌, ◌<◌, Bool, true, false, ◌&&◌, not, ◌==◌, refl, sym, ◌∙◌, ap, subst, arith, List, [], ◌∷◌, length, Option, Some, None}
+use Rattle.std.specs.Prelude.{nat_lt, nat_le, option_map}
 use Rattle.std.specs.List.{list_all, list_any, slice_get}
 use Rattle.std.specs.Option.{option_map_or}
 use Rattle.std.proofs.lemmas.Bool.{false≢true}
 use Rattle.std.proofs.lemmas.Bool.Decides.{nat_tests}
-use Rattle.rte_value.specs.declared.kinds.ActKey.{ActKey}
 use Rattle.rte_value.specs.Values.{same_number}
 use Rattle.bus_semantics.specs.declared.plan.ElemPlan.{ElemPlan}
 use Rattle.bus_semantics.specs.declared.plan.ServerPlan.{ServerPlan}
@@ -24,11 +23,10 @@ use Rattle.bus_semantics.specs.Objects.{clock, object_of_kind, disabler_of, mach
 use Rattle.bus_semantics.specs.Owners.{elem_fits, is_writable, is_readable, is_unqueued, holds, key_fits, event_fits, serves_directly}
 use Rattle.bus_semantics.specs.Fitting.{wish_fits}
 use Rattle.bus_semantics.specs.Rest.{plain_key}
-use Rattle.bus_semantics.specs.SoundEvents.{kind_sound, disabling_sound, is_invoked, event_sound, requires_machine, serves_back}
-use Rattle.bus_semantics.specs.Sound.{IsSound}
+use Rattle.bus_semantics.specs.SoundEvents.{kind_sound, disabling_sound, event_sound, requires_machine, serves_back}
 use Rattle.core_turn.specs.Plans.{IsBuilt}
-use Rattle.core_turn.proofs.Basics.{clash, both, both_of, option_same, same_option, Sought, sought, looked, no_look, all_at, at_place}
-use Rattle.core_turn.proofs.Wishes.{is_data, IsData}
+use Rattle.core_turn.proofs.Basics.{clash, both, both_of, same_option, sought, looked, no_look, at_place}
+use Rattle.core_turn.proofs.Wishes.{IsData}
 
 pub there_is : {X : Type 0} (xs : List X) (n : ℕ) → n < length xs → (x : X) × (slice_get xs n ≡ Some x)
 there_is [] n less = absurd (omega arith)

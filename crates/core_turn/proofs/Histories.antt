@@ -1,28 +1,27 @@
 -- What a further entry changes: who runs, the current activation of a key, and what a task stands for.
-use Rattle.std.proofs.Common.{◌≡◌, ℕ, Bool, true, false, ◌&&◌, not, if◌then◌else◌, refl, sym, ◌∙◌, ap, subst, List, [], ◌∷◌, ◌++◌, ℤ, Option, Some, None}
-use Rattle.std.specs.Prelude.{is_none, option_and_then, unwrap_or}
+use Rattle.std.proofs.Common.{◌≡◌, ℕ, Bool, true, false, not, if◌then◌else◌, refl, sym, ◌∙◌, ap, subst, List, [], ◌∷◌, ◌++◌, Option, Some, None}
+use Rattle.std.specs.Prelude.{option_and_then, unwrap_or}
 use Rattle.std.specs.List.{slice_get}
 use Rattle.std.proofs.lemmas.Bool.{false≢true}
 use Rattle.rte_value.specs.declared.value.Value.{Value}
 use Rattle.rte_value.specs.declared.kinds.ActKey.{ActKey}
 use Rattle.rte_value.specs.Values.{words_of, same_words, same_key, same_number}
 use Rattle.bus_semantics.specs.declared.plan.PointPlan.{PointPlan}
-use Rattle.bus_semantics.specs.declared.entries.Actor.{Actor}
 use Rattle.bus_semantics.specs.declared.entries.Actor.TheVariants.{Act}
 use Rattle.bus_semantics.specs.declared.entries.Deed.{Deed}
 use Rattle.bus_semantics.specs.declared.entries.Deed.TheVariants as deed
 use Rattle.bus_semantics.specs.declared.entries.Entry.{Entry}
 use Rattle.bus_semantics.specs.Plan.{Plan, server_of, runnable_of_event}
 use Rattle.bus_semantics.specs.Wanted.{Wanted, to_start, to_write, to_read, to_invalidate, to_see_updated, to_end, wanted_by, same_wanted}
-use Rattle.bus_semantics.specs.History.{History, is_over, is_end, is_of, made_by, event_started, needs_event, runs, last_started}
+use Rattle.bus_semantics.specs.History.{History, is_over, is_end, is_of, event_started, needs_event, runs, last_started}
 use Rattle.bus_semantics.specs.Actor.{Activation, with_deed, activation_of, next_wish, direct_key, asked_last, is_held_back, caller_has_asked, may_start, is_this, is_wanted_next, starts_or_goes_on, follows_program}
 use Rattle.bus_semantics.specs.Locality.{starts_its_own}
 use Rattle.task_machine.specs.declared.instr.TaskSet.{TaskSet}
 use Rattle.task_machine.specs.Standing.{Standing}
 use Rattle.task_machine.specs.Frames.{Stands}
-use Rattle.core_turn.specs.Slots.{is_key_of, is_running}
-use Rattle.core_turn.specs.Standing.{StandsFor, StandsForRunning, TaskStands}
-use Rattle.core_turn.proofs.Basics.{clash, both, both_of, same_option, key_same, same_keys, same_test, words_same, no_look}
+use Rattle.core_turn.specs.Slots.{is_key_of}
+use Rattle.core_turn.specs.Standing.{StandsForRunning, TaskStands}
+use Rattle.core_turn.proofs.Basics.{clash, both_of, same_option, key_same, same_keys, same_test, words_same, no_look}
 use Rattle.core_turn.proofs.Wishes.{is_data, IsData}
 
 abbrev pub entry_by : ActKey → Deed → Entry

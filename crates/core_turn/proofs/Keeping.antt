@@ -1,9 +1,8 @@
 -- The entry of a turn keeps cores and objects lawful.
-use Rattle.std.proofs.Common.{◌≡◌, ◌≢◌, ℕ, zero, suc, Bool, true, false, ◌&&◌, if◌then◌else◌, refl, sym, ◌∙◌, ap, subst, arith, List, [], ◌∷◌, ◌++◌, set, Option, Some, None}
-use Rattle.std.specs.Prelude.{is_none, unwrap_or, filter, option_map}
+use Rattle.std.proofs.Common.{◌≡◌, ◌≢◌, ℕ, Bool, true, false, ◌&&◌, if◌then◌else◌, refl, sym, ◌∙◌, ap, subst, List, ◌∷◌, set, Option, Some, None}
+use Rattle.std.specs.Prelude.{is_none, unwrap_or, option_map}
 use Rattle.std.specs.List.{slice_get}
 use Rattle.std.proofs.lemmas.Bool.{false≢true}
-use Rattle.rte_value.specs.declared.kinds.ActKey.{ActKey}
 use Rattle.rte_value.specs.Values.{same_number}
 use Rattle.bus_semantics.specs.declared.plan.Disabling.{Disabling}
 use Rattle.bus_semantics.specs.declared.entries.Actor.{Actor}
@@ -15,13 +14,11 @@ use Rattle.bus_semantics.specs.declared.entries.Stamped.{Stamped}
 use Rattle.bus_semantics.specs.declared.script.Mapping.{Mapping}
 use Rattle.bus_semantics.specs.Plan.{Plan}
 use Rattle.bus_semantics.specs.Wanted.{Wanted, wanted_by}
-use Rattle.bus_semantics.specs.History.{History, Noted, Past, needs_event, started_before, note, noted}
+use Rattle.bus_semantics.specs.History.{History, Past, needs_event, started_before, note, noted}
 use Rattle.bus_semantics.specs.Objects.{machine_object, object_of, touched_by, touches, entries_of}
 use Rattle.bus_semantics.specs.Fitting.{wish_fits, answer_fits, activation_fits, fits}
-use Rattle.bus_semantics.specs.Legal.{Answers, MayFollow, IsLegal}
+use Rattle.bus_semantics.specs.Legal.{Answers}
 use Rattle.bus_semantics.specs.Locality.{is_proper, starts_its_own}
-use Rattle.bus_semantics.specs.Rest.{Try}
-use Rattle.bus_semantics.specs.Sound.{IsSound}
 use Rattle.port_objects.specs.declared.object.Object.{Object}
 use Rattle.port_objects.specs.Objects.{kept_of, touched}
 use Rattle.port_objects.specs.Standing.{Follows, Stands}
@@ -29,16 +26,14 @@ use Rattle.port_objects.specs.Coming.{asks_its_own, MayAsk, IsTheOne}
 use Rattle.port_objects.specs.Answers.{event_of, noted_for, IsMade}
 use Rattle.port_objects.specs.Benches.{MadeOn}
 use Rattle.task_machine.specs.declared.instr.TaskSet.{TaskSet}
-use Rattle.core_turn.specs.declared.slot.Slot.{Slot}
 use Rattle.core_turn.specs.Plans.{IsBuilt}
-use Rattle.core_turn.specs.Slots.{is_key_of, slot_tries}
 use Rattle.core_turn.specs.Cores.{CoreState}
-use Rattle.core_turn.specs.Ready.{IsBegunIn, IsReadySlot, IsReady}
+use Rattle.core_turn.specs.Ready.{IsBegunIn, IsReady}
 use Rattle.core_turn.specs.Standing.{SlotStands, CoreStands}
-use Rattle.core_turn.specs.Looking.{IsEntryOf, MadeAt, FirstMade, Told}
-use Rattle.core_turn.specs.Turning.{SlotStep, StepFollows, FirstInOrder, OrderTold, Steps}
+use Rattle.core_turn.specs.Looking.{IsEntryOf, MadeAt, Told}
+use Rattle.core_turn.specs.Turning.{StepFollows, FirstInOrder, OrderTold, Steps}
 use Rattle.core_turn.specs.Lawful.{IsLawful}
-use Rattle.core_turn.proofs.Basics.{clash, both, same_test, differ_test}
+use Rattle.core_turn.proofs.Basics.{both, same_test, differ_test}
 use Rattle.core_turn.proofs.Facts.{enabled, end_touches}
 use Rattle.core_turn.proofs.Histories.{entry_by, other_stands}
 use Rattle.core_turn.proofs.Apart.{cores_apart}

@@ -1,5 +1,5 @@
 -- Looks one after the other.
-use Rattle.std.proofs.Common.{◌≡◌, ℕ, zero, suc, ◌+◌, ◌≤◌, Bool, true, false, ◌||◌, ◌==◌, if◌then◌else◌, refl, sym, ◌∙◌, ap, subst, arith, append_assoc, List, [], ◌∷◌, ◌++◌, length, Option, Some, None}
+use Rattle.std.proofs.Common.{◌≡◌, ℕ, suc, ◌+◌, ◌≤◌, Bool, true, false, ◌||◌, ◌==◌, if◌then◌else◌, refl, sym, ◌∙◌, ap, subst, arith, append_assoc, List, [], ◌∷◌, ◌++◌, Option, Some, None}
 use Rattle.std.specs.List.{list_any}
 use Rattle.std.proofs.lemmas.List.{append-nil}
 use Rattle.bus_semantics.specs.declared.entries.Stamped.{Stamped}
@@ -10,7 +10,7 @@ use Rattle.port_objects.specs.declared.object.Object.{Object}
 use Rattle.port_objects.specs.Benches.{Work, Further, IsFurther, StampAfter}
 use Rattle.core_turn.specs.declared.look.Look.{Look}
 use Rattle.core_turn.specs.declared.look.Look.TheVariants.{Made, Nothing, Contended}
-use Rattle.core_turn.specs.Looking.{AllHeld, FirstMade, ToldLooked, ObjectsLooked, RoomLooked, WorkLooked, made_in, IsStartBy, StartBy, Told, Looked}
+use Rattle.core_turn.specs.Looking.{AllHeld, FirstMade, ToldLooked, ObjectsLooked, RoomLooked, WorkLooked, made_in, Told, Looked}
 
 -- ---- a bench's work
 

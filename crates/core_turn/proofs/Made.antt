@@ -1,10 +1,9 @@
 -- A new core has its tasks, is ready for turns, and stands for no entry.
-use Rattle.std.proofs.Common.{◌≡◌, ℕ, zero, suc, ◌+◌, ◌<◌, Bool, true, false, ◌&&◌, ◌==◌, if◌then◌else◌, refl, sym, ◌∙◌, ap, subst, List, [], ◌∷◌, ◌++◌, length, map, take, get_or, Option, Some, None}
+use Rattle.std.proofs.Common.{◌≡◌, ℕ, zero, suc, ◌+◌, ◌<◌, Bool, true, false, ◌&&◌, ◌==◌, if◌then◌else◌, refl, sym, ◌∙◌, ap, subst, List, [], ◌∷◌, ◌++◌, length, map, take, get_or, Some}
 use Rattle.std.specs.Prelude.{filter, nat_lt}
 use Rattle.std.specs.List.{list_all, slice_get}
 use Rattle.std.proofs.lemmas.List.{take_more}
 use Rattle.std.proofs.lemmas.List.Elements.{filter-append}
-use Rattle.rte_value.specs.declared.kinds.ActKey.{ActKey}
 use Rattle.bus_semantics.specs.declared.script.Mapping.{Mapping}
 use Rattle.bus_semantics.specs.declared.script.Task.{Task}
 use Rattle.bus_semantics.specs.Plan.{Plan}
@@ -16,7 +15,7 @@ use Rattle.core_turn.specs.Slots.{is_running}
 use Rattle.core_turn.specs.Cores.{CoreState, events_of_slot, tasks_of_core, HasTasks}
 use Rattle.core_turn.specs.Made.{IsNew, AreNew}
 use Rattle.core_turn.specs.Ready.{IsBegunIn, IsReadySlot, IsReady}
-use Rattle.core_turn.specs.Standing.{StandsForRunning, SlotStands, CoreStands}
+use Rattle.core_turn.specs.Standing.{StandsForRunning, CoreStands}
 use Rattle.core_turn.proofs.Basics.{both}
 use Rattle.core_turn.proofs.Apart.{tasks_fit}
 

@@ -1,28 +1,26 @@
 -- The start of a free task: each of its events may be tried, and the entry follows each history for which the task stands.
-use Rattle.std.proofs.Common.{◌≡◌, ℕ, zero, suc, ◌+◌, ◌<◌, take, drop, get_or, Bool, true, false, ◌&&◌, ◌||◌, not, ◌==◌, if◌then◌else◌, refl, sym, ◌∙◌, ap, subst, List, [], ◌∷◌, ◌++◌, length, map, Option, Some, None}
-use Rattle.std.specs.Prelude.{nat_lt, is_none, is_some, unwrap_or, IfSome}
-use Rattle.std.specs.List.{list_all, list_any, slice_get}
-use Rattle.std.proofs.lemmas.Bool.{false≢true}
+use Rattle.std.proofs.Common.{◌≡◌, ℕ, ◌+◌, ◌<◌, take, drop, get_or, true, false, ◌||◌, if◌then◌else◌, refl, sym, ◌∙◌, ap, subst, List, [], ◌∷◌, ◌++◌, length, map, Some}
+use Rattle.std.specs.Prelude.{nat_lt, is_some, IfSome}
 use Rattle.std.proofs.lemmas.List.{take_more, take-append-drop}
 use Rattle.bus_semantics.specs.declared.entries.Actor.{Actor}
 use Rattle.bus_semantics.specs.declared.entries.Actor.TheVariants.{Act}
 use Rattle.bus_semantics.specs.declared.entries.Stamped.{Stamped}
 use Rattle.bus_semantics.specs.declared.script.Mapping.{Mapping}
-use Rattle.bus_semantics.specs.Plan.{Plan, kind_of, runnable_of_event}
+use Rattle.bus_semantics.specs.Plan.{Plan, runnable_of_event}
 use Rattle.bus_semantics.specs.Wanted.{Wanted, to_start}
 use Rattle.bus_semantics.specs.History.{count}
-use Rattle.bus_semantics.specs.Objects.{object_of, object_of_kind}
+use Rattle.bus_semantics.specs.Objects.{object_of}
 use Rattle.bus_semantics.specs.Fitting.{wish_fits}
-use Rattle.bus_semantics.specs.Rest.{Try, plain_key, option_list, gathered, start_try}
+use Rattle.bus_semantics.specs.Rest.{plain_key, option_list, gathered, start_try}
 use Rattle.port_objects.specs.Objects.{IsObject}
 use Rattle.core_turn.specs.declared.look.Look.{Look}
 use Rattle.core_turn.specs.declared.look.Look.TheVariants.{Made, Nothing, Contended}
 use Rattle.core_turn.specs.Plans.{IsBuilt}
 use Rattle.core_turn.specs.Slots.{waits}
-use Rattle.core_turn.specs.Looking.{IsTried, IsFree, IsEntryOf, EntryOf, IsStartBy, StartBy, Told, Looked}
+use Rattle.core_turn.specs.Looking.{IsTried, IsFree, EntryOf, StartBy, Told, Looked}
 use Rattle.core_turn.proofs.Basics.{same_option, same_test}
 use Rattle.core_turn.proofs.Looks.{looked_on, looked_as, made_more, gathered_on, gathered_one, count_on}
-use Rattle.core_turn.proofs.Facts.{Started, started, start_touches, start_fits}
+use Rattle.core_turn.proofs.Facts.{started, start_touches, start_fits}
 
 same_some : (a b : ℕ) → Some a ≡ Some b → a ≡ b
 same_some a b e = cc

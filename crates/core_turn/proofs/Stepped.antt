@@ -1,5 +1,5 @@
 -- A core after the step of one of its slots.
-use Rattle.std.proofs.Common.{◌≡◌, ◌≢◌, ℕ, zero, suc, ◌+◌, ◌-◌, ◌<◌, ◌≤◌, Bool, true, false, if◌then◌else◌, refl, sym, ◌∙◌, ap, subst, arith, List, [], ◌∷◌, ◌++◌, length, take, drop, set, get_or, map, add_comm, length-drop, Option, Some, None}
+use Rattle.std.proofs.Common.{◌≡◌, ◌≢◌, ℕ, zero, suc, ◌+◌, ◌-◌, ◌<◌, ◌≤◌, true, false, if◌then◌else◌, refl, sym, ◌∙◌, ap, subst, arith, List, [], ◌∷◌, ◌++◌, length, take, drop, set, map, add_comm, length-drop, Option, Some, None}
 use Rattle.std.specs.Prelude.{nat_le}
 use Rattle.std.specs.List.{slice_get}
 use Rattle.std.proofs.lemmas.Bool.Decides.{nat_tests}
@@ -7,8 +7,6 @@ use Rattle.std.proofs.lemmas.List.{take-append-drop, length-set}
 use Rattle.std.proofs.Math.Seq.{take-length}
 use Rattle.std.proofs.lemmas.Option.{slice_get_within}
 use Rattle.rte_value.specs.declared.kinds.ActKey.{ActKey}
-use Rattle.bus_semantics.specs.declared.entries.Actor.TheVariants.{Act}
-use Rattle.bus_semantics.specs.declared.entries.Entry.{Entry}
 use Rattle.bus_semantics.specs.declared.entries.Stamped.{Stamped}
 use Rattle.bus_semantics.specs.declared.script.Mapping.{Mapping}
 use Rattle.bus_semantics.specs.declared.script.Task.{Task}
@@ -16,18 +14,16 @@ use Rattle.bus_semantics.specs.Plan.{Plan}
 use Rattle.bus_semantics.specs.History.{History}
 use Rattle.bus_semantics.specs.Rest.{Try, gathered}
 use Rattle.port_objects.specs.declared.object.Object.{Object}
-use Rattle.port_objects.specs.Benches.{IsFurther, StampAfter}
+use Rattle.port_objects.specs.Benches.{IsFurther}
 use Rattle.task_machine.specs.declared.instr.TaskSet.{TaskSet}
-use Rattle.task_machine.specs.Standing.{Standing}
 use Rattle.core_turn.specs.declared.slot.Slot.{Slot}
 use Rattle.core_turn.specs.declared.look.Look.TheVariants.{Made, Nothing, Contended}
 use Rattle.core_turn.specs.Slots.{is_key_of, slot_tries, looks}
-use Rattle.core_turn.specs.Cores.{CoreState, events_of_slot, tasks_of_core, HasTasks, slots_between, slots_before, looks_in}
+use Rattle.core_turn.specs.Cores.{CoreState, events_of_slot, tasks_of_core, slots_between, slots_before, looks_in}
 use Rattle.core_turn.specs.Ready.{IsBegunIn, IsReadySlot, IsReady}
-use Rattle.core_turn.specs.Standing.{TaskStands, SlotStands, CoreStands}
-use Rattle.core_turn.specs.Looking.{AllHeld, FirstMade, ObjectsLooked, Told, Looked}
+use Rattle.core_turn.specs.Standing.{SlotStands, CoreStands}
+use Rattle.core_turn.specs.Looking.{AllHeld, ObjectsLooked, Told, Looked}
 use Rattle.core_turn.specs.Turning.{SlotStep, PassMade, OrderTold, Steps, NothingComes, NoneTold, IsContended, NeverTold}
-use Rattle.core_turn.proofs.Basics.{clash}
 use Rattle.core_turn.proofs.Looks.{looked_on, looked_as, gathered_on, all_on}
 use Rattle.core_turn.proofs.Passing.{looks_on}
 use Rattle.core_turn.proofs.Histories.{entry_by, other_stands}

@@ -1,41 +1,38 @@
 -- A slot after an entry of its running activation.
-use Rattle.std.proofs.Common.{◌≡◌, ℕ, ◌<◌, ◌≤◌, Bool, true, false, ◌&&◌, not, if◌then◌else◌, refl, sym, ◌∙◌, ap, subst, List, [], ◌∷◌, ◌++◌, length, map, ℤ, Option, Some, None}
-use Rattle.std.specs.Prelude.{nat_lt, is_none, option_and_then, unwrap_or, IfSome}
-use Rattle.std.specs.List.{list_all, list_any, slice_get}
-use Rattle.std.proofs.lemmas.Bool.{false≢true}
+use Rattle.std.proofs.Common.{◌≡◌, ℕ, ◌≤◌, true, ◌&&◌, if◌then◌else◌, refl, sym, ◌∙◌, ap, subst, List, [], ◌∷◌, ◌++◌, length, Option, Some, None}
+use Rattle.std.specs.Prelude.{nat_lt, is_none, option_and_then, unwrap_or}
+use Rattle.std.specs.List.{list_all, slice_get}
 use Rattle.rte_value.specs.declared.kinds.ActKey.{ActKey}
-use Rattle.rte_value.specs.Values.{words_of, same_key}
+use Rattle.rte_value.specs.Values.{words_of}
 use Rattle.bus_semantics.specs.declared.entries.Actor.TheVariants.{Act}
 use Rattle.bus_semantics.specs.declared.entries.Deed.{Deed}
 use Rattle.bus_semantics.specs.declared.entries.Deed.TheVariants as deed
 use Rattle.bus_semantics.specs.declared.entries.Entry.{Entry}
 use Rattle.bus_semantics.specs.declared.entries.Stamped.{Stamped}
 use Rattle.bus_semantics.specs.declared.script.Mapping.{Mapping}
-use Rattle.bus_semantics.specs.Plan.{Plan, Runnable, look}
-use Rattle.bus_semantics.specs.Wanted.{Wanted, to_end, wanted_by}
-use Rattle.bus_semantics.specs.History.{History, Noted, last_started, runs, needs_event, note, noted, is_end}
+use Rattle.bus_semantics.specs.Plan.{Plan, Runnable}
+use Rattle.bus_semantics.specs.Wanted.{to_end, wanted_by}
+use Rattle.bus_semantics.specs.History.{History, last_started, runs, needs_event, note, noted, is_end}
 use Rattle.bus_semantics.specs.Objects.{object_of, touched_by}
 use Rattle.bus_semantics.specs.Fitting.{wish_fits, answer_fits, fits}
 use Rattle.bus_semantics.specs.Owners.{key_fits}
 use Rattle.bus_semantics.specs.Legal.{Answers, admission_allows}
 use Rattle.bus_semantics.specs.Locality.{is_proper, starts_its_own}
-use Rattle.bus_semantics.specs.Actor.{Activation, activation_of, wanted_in, next_wish, follows_program}
+use Rattle.bus_semantics.specs.Actor.{Activation, activation_of, wanted_in, next_wish}
 use Rattle.bus_semantics.specs.Activations.{next_of_activity}
-use Rattle.bus_semantics.specs.Rest.{plain_key}
 use Rattle.port_objects.specs.Answers.{event_of}
 use Rattle.task_machine.specs.declared.instr.Body.{Body}
 use Rattle.task_machine.specs.declared.instr.TaskSet.{TaskSet}
-use Rattle.task_machine.specs.Standing.{Standing}
 use Rattle.task_machine.specs.Frames.{asks, Stands, most, IsMadeFor}
 use Rattle.task_generator.specs.Promise.{is_explicit_access, is_explicit_body, AsksAsPlanned}
 use Rattle.core_turn.specs.declared.slot.Slot.{Slot}
 use Rattle.core_turn.specs.Plans.{IsBuilt}
-use Rattle.core_turn.specs.Slots.{is_key_of, asked_by}
-use Rattle.core_turn.specs.Ready.{IsBegun, IsBegunIn, IsReadyTask, IsReadySlot}
-use Rattle.core_turn.specs.Standing.{StandsFor, TaskStands, SlotStands}
+use Rattle.core_turn.specs.Slots.{is_key_of}
+use Rattle.core_turn.specs.Ready.{IsBegun, IsBegunIn, IsReadySlot}
+use Rattle.core_turn.specs.Standing.{TaskStands, SlotStands}
 use Rattle.core_turn.specs.Looking.{IsEntryOf}
 use Rattle.core_turn.specs.Turning.{StepFollows, SlotStep, Heard}
-use Rattle.core_turn.proofs.Basics.{clash, both, both_of, looked, same_keys}
+use Rattle.core_turn.proofs.Basics.{both_of, looked, same_keys}
 use Rattle.core_turn.proofs.Wishes.{IsData}
 use Rattle.core_turn.proofs.Activities.{AsksOn, Asked, the_end, some_data}
 use Rattle.core_turn.proofs.Facts.{data_touches, key_is, data_fits}

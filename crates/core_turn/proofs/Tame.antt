@@ -3,7 +3,7 @@ use Rattle.std.proofs.Common.{◌≡◌, ℕ, zero, suc, Bool, true, false, if�
 use Rattle.bus_semantics.specs.declared.entries.Deed.{Deed}
 use Rattle.bus_semantics.specs.Wanted.{Wanted}
 use Rattle.bus_semantics.specs.State.{State}
-use Rattle.bus_semantics.specs.Programs.{Outcome, Stop, Go, Running, goes_on, both, nothing, changing, calling, times}
+use Rattle.bus_semantics.specs.Programs.{Outcome, Stop, Go, Running, goes_on, both, calling, times}
 
 -- what is left to run over answers
 abbrev pub Run : Type 0

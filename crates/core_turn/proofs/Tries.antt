@@ -1,22 +1,19 @@
 -- What comes of one wish, from what a bench answers.
-use Rattle.std.proofs.Common.{◌≡◌, ℕ, suc, refl, sym, ◌∙◌, ap, subst, true, List, [], ◌∷◌, ◌++◌, Option, Some, None}
+use Rattle.std.proofs.Common.{◌≡◌, ℕ, suc, refl, sym, ◌∙◌, ap, subst, List, [], ◌∷◌, Option, Some, None}
 use Rattle.std.specs.Prelude.{unwrap_or}
 use Rattle.bus_semantics.specs.declared.entries.Actor.{Actor}
-use Rattle.bus_semantics.specs.declared.entries.Deed.{Deed}
 use Rattle.bus_semantics.specs.declared.entries.Deed.TheVariants as deed
-use Rattle.bus_semantics.specs.declared.entries.Entry.{Entry}
 use Rattle.bus_semantics.specs.declared.entries.Stamped.{Stamped}
 use Rattle.bus_semantics.specs.Plan.{Plan}
-use Rattle.bus_semantics.specs.Wanted.{Wanted, to_end, wanted_by}
-use Rattle.bus_semantics.specs.Fitting.{answer_fits}
+use Rattle.bus_semantics.specs.Wanted.{Wanted, to_end}
 use Rattle.bus_semantics.specs.Objects.{object_of}
 use Rattle.port_objects.specs.declared.object.Object.{Object}
 use Rattle.port_objects.specs.declared.acting.Shown.{Shown}
-use Rattle.port_objects.specs.declared.bench.Benched.TheVariants.{Done, NotYet, Contended}
+use Rattle.port_objects.specs.declared.bench.Benched.TheVariants.{Done, NotYet}
 use Rattle.port_objects.specs.Answers.{event_of}
-use Rattle.port_objects.specs.Benches.{Work, IsFurther, StampAfter, IsStampedFor, ObjectsAfter, MadeOn, HeldOn, stamped_alone}
+use Rattle.port_objects.specs.Benches.{IsFurther, StampAfter, IsStampedFor, ObjectsAfter, stamped_alone}
 use Rattle.core_turn.specs.declared.look.Look.TheVariants as look
-use Rattle.core_turn.specs.Looking.{IsEnd, IsFree, event_for, IsEntryOf, IsHeld, IsHeldAt, MadeAt, FirstMade, ObjectsLooked, Told, Looked}
+use Rattle.core_turn.specs.Looking.{IsEnd, IsFree, event_for, IsEntryOf, IsHeldAt, MadeAt, ObjectsLooked, Told, Looked}
 
 module _ (p : Plan) (a : Actor) (w : Wanted) where
   pub entry_of : (object : ℕ) (s : Stamped) → object_of p a w ≡ Some object → IsStampedFor p a w s → IsEntryOf p a w s

@@ -1,9 +1,9 @@
 -- What the program of a sound plan without queues, calls, areas, modes and implicit access asks: it writes, reads, invalidates and looks
 -- whether there was an update, and each of these wishes fits.
-use Rattle.std.proofs.Common.{◌≡◌, ℕ, ◌+◌, ◌<◌, ℤ, pos, Bool, true, false, ◌&&◌, ◌||◌, not, ◌==◌, if◌then◌else◌, refl, sym, ◌∙◌, ap, subst, arith, List, [], ◌∷◌, length, map, replicate, Option, Some, None}
+use Rattle.std.proofs.Common.{◌≡◌, ℕ, ◌+◌, ◌<◌, ℤ, pos, Bool, true, false, ◌&&◌, not, ◌==◌, refl, sym, ◌∙◌, ap, subst, arith, List, [], ◌∷◌, length, map, replicate, Option, Some, None}
 use Rattle.std.specs.Prelude.{nat_lt}
 use Rattle.std.specs.Ordering.{int_eq}
-use Rattle.std.specs.List.{list_all, list_any, slice_get}
+use Rattle.std.specs.List.{list_any, slice_get}
 use Rattle.std.proofs.lemmas.Bool.{false≢true}
 use Rattle.std.proofs.lemmas.Bool.Decides.{nat_tests}
 use Rattle.std.proofs.lemmas.List.{length-map, length-replicate}
@@ -19,25 +19,19 @@ use Rattle.runnable_lang.specs.Expressions.{worth}
 use Rattle.bus_semantics.specs.declared.plan.ElemPlan.{ElemPlan}
 use Rattle.bus_semantics.specs.declared.plan.ElemKind.{ElemKind}
 use Rattle.bus_semantics.specs.declared.plan.ElemKind.TheVariants.{Unqueued, Queued, Variable}
-use Rattle.bus_semantics.specs.declared.plan.PointPlan.{PointPlan}
-use Rattle.bus_semantics.specs.declared.plan.AreaPlan.{AreaPlan}
-use Rattle.bus_semantics.specs.declared.plan.MachinePlan.{MachinePlan}
 use Rattle.bus_semantics.specs.declared.plan.ModePortPlan.{ModePortPlan}
-use Rattle.bus_semantics.specs.declared.entries.Deed.{Deed}
 use Rattle.bus_semantics.specs.declared.script.Mapping.{Mapping}
 use Rattle.bus_semantics.specs.Plan.{Plan, Runnable, look}
 use Rattle.bus_semantics.specs.Wanted.{Wanted, to_write, to_read, to_invalidate, to_see_updated}
-use Rattle.bus_semantics.specs.Owners.{elem_fits, is_writable, is_readable, is_unqueued, is_queued, holds, result_point, area_fits, switch_fits, mode_port_fits, modes_of}
-use Rattle.bus_semantics.specs.State.{State, Access, access, given, is_to, same_kind}
-use Rattle.bus_semantics.specs.Programs.{takes_nothing, takes_zero, takes_code, takes_number, takes_value, takes_words, running, running_body}
+use Rattle.bus_semantics.specs.Owners.{elem_fits, is_writable, is_readable, is_unqueued, is_queued, holds, result_point, switch_fits, mode_port_fits}
+use Rattle.bus_semantics.specs.State.{State, Access, access, given, same_kind}
+use Rattle.bus_semantics.specs.Programs.{takes_nothing, takes_zero, takes_number, takes_value, takes_words, running, running_body}
 use Rattle.bus_semantics.specs.SoundElements.{same_limits}
 use Rattle.bus_semantics.specs.SoundPlan.{is_variable}
 use Rattle.bus_semantics.specs.SoundAccesses as accesses
 use Rattle.bus_semantics.specs.SoundAccesses.{access_sound, each_access, accesses_distinct, point_takes, mode_count}
 use Rattle.bus_semantics.specs.SoundPrograms.{is_in_range, is_declared_after, calls_outside, each_in, each_of, body_sound, runnable_sound}
-use Rattle.bus_semantics.specs.Sound.{IsSound}
-use Rattle.port_objects.specs.Plans.{IsUnqueuedPlan}
-use Rattle.core_turn.specs.Plans.{IsPlainPlan, IsBuilt}
+use Rattle.core_turn.specs.Plans.{IsBuilt}
 use Rattle.core_turn.proofs.Basics.{clash, both, both_of, number_same, same_test, Sought, sought, no_look, all_at, at_place}
 use Rattle.core_turn.proofs.Tame.{Tame, going, calling_tame, both_tame, times_tame, either_tame}
 use Rattle.core_turn.proofs.Served.{Serving, served, sound_of_kind, of_serves, kind_same, some_sound}

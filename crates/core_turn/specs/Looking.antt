@@ -1,5 +1,5 @@
 -- What comes of looks at wishes over a bench, in their order: the entry of the first that may come, or that none may.
-use Rattle.std.specs.Prelude.{◌≡◌, ℕ, suc, List, [], ◌∷◌, ◌++◌, slice_get, true, ◌==◌, Option, Some, None, unwrap_or, is_some, IfSome}
+use Rattle.std.specs.Prelude.{◌≡◌, ℕ, suc, List, [], ◌∷◌, ◌++◌, slice_get, true, ◌==◌, Option, Some, None, unwrap_or, IfSome}
 use Rattle.std.specs.List.{list_any}
 use Rattle.bus_semantics.specs.declared.entries.Actor.{Actor}
 use Rattle.bus_semantics.specs.declared.entries.Actor.TheVariants.{Act}

@@ -1,5 +1,5 @@
 -- A slot of a core: a task with its events by position, and its running activation (OS: task; SWS_RTE: mapping of RTEEvents to tasks).
-use Rattle.std.specs.Prelude.{ℕ, List, [], ◌∷◌, map, Bool, false, ◌&&◌, is_none, is_some, Option, Some, None}
+use Rattle.std.specs.Prelude.{ℕ, List, map, Bool, false, ◌&&◌, is_none, is_some, Option, Some, None}
 use Rattle.std.specs.List.{list_any}
 use Rattle.rte_value.specs.declared.kinds.ActKey.{ActKey}
 use Rattle.rte_value.specs.Values.{same_number, same_key}

@@ -1,6 +1,6 @@
 -- What comes of a turn: one entry of one slot, and what its core stands for then; or nothing, and why (OS: scheduling; the order of slots is
 -- this project's own).
-use Rattle.std.specs.Prelude.{◌≡◌, ℕ, suc, ◌<◌, ◌≤◌, List, [], ◌∷◌, ◌++◌, set, slice_get, Bool, true, false, if◌then◌else◌, Option, Some, None}
+use Rattle.std.specs.Prelude.{◌≡◌, ℕ, suc, ◌<◌, ◌≤◌, List, [], ◌∷◌, ◌++◌, set, slice_get, true, false, if◌then◌else◌, Option, Some, None}
 use Rattle.rte_value.specs.declared.kinds.ActKey.{ActKey}
 use Rattle.bus_semantics.specs.declared.entries.Actor.TheVariants.{Act}
 use Rattle.bus_semantics.specs.declared.entries.Deed.{Deed}

@@ -1,14 +1,9 @@
-use Rattle.std.proofs.Common.{◌≡◌, sym, ◌∙◌, subst, [], ◌∷◌, Some, None}
-use Rattle.rte_value.specs.declared.kinds.ActKey.{ActKey}
+use Rattle.std.proofs.Common.{◌≡◌, sym, ◌∙◌, subst, Some}
 use Rattle.bus_semantics.specs.declared.entries.Actor.TheVariants.{Act}
 use Rattle.bus_semantics.specs.declared.entries.Deed.TheVariants as deed
-use Rattle.bus_semantics.specs.Plan.{Plan, plan_of}
+use Rattle.bus_semantics.specs.Plan.{plan_of}
 use Rattle.bus_semantics.specs.Wanted.{Wanted, wanted_of}
-use Rattle.task_machine.specs.declared.instr.TaskSet.{TaskSet}
-use Rattle.task_machine.specs.Frames.{asks}
-use Rattle.core_turn.specs.declared.look.Look.{Look}
-use Rattle.core_turn.specs.declared.slot.Slot.{Slot}
-use Rattle.core_turn.specs.Looking.{IsTried, IsEntryOf, Told, Looked}
+use Rattle.core_turn.specs.Looking.{IsTried, IsEntryOf}
 use Rattle.core_turn.proofs.Begun.{begun_of, asks_is, asked_is, tried, looked_running}
 use Rattle.core_turn.proofs.Stepping.{heard_step}
 use Rattle.core_turn.proofs.going.go_on.Goals as goal
