@@ -1,0 +1,16 @@
+pub mod Grouping
+pub mod Circles
+pub mod Numbering
+pub mod Sorted
+pub mod Named
+pub mod Events
+pub mod Listing
+pub mod Ends
+pub mod Invoked
+pub mod Firsts
+pub mod InTurn
+pub mod Sameness
+pub mod Adding
+pub mod Reached
+pub mod Placed
+pub mod Telling

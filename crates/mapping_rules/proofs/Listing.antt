@@ -1,0 +1,20 @@
+-- The turns of the loops that list.
+use Rattle.std.proofs.Common.{◌≡◌, ℕ, zero, suc, ◌+◌, ◌<◌, ◌≤◌, List, [], ◌∷◌, ◌++◌, length, get_or, drop, refl, sym, ap, ◌∙◌, arith, add-one, append_assoc}
+use Rattle.plan_numbers.specs.Lists.{from}
+
+module _ {X Y : Type 0} (f : ℕ → X → List Y) where
+  from_next : (xs : List X) (n i : ℕ) (x : X) → i < length xs → x ≡ get_or xs i x → from n f (drop i xs) ≡ f n x ++ from (n + 1) f (drop (suc i) xs)
+  from_next [] n i x within is = absurd (omega arith)
+  from_next (y ∷ xs) n zero x within is = ap (λ z. f n z ++ from (n + 1) f xs) (sym is)
+  from_next (y ∷ xs) n (suc i) x within is = from_next xs n i x (omega arith) is
+
+  pub from_none : (xs : List X) (n i : ℕ) → length xs ≤ i → from n f (drop i xs) ≡ []
+  from_none [] n zero past = refl
+  from_none [] n (suc i) past = refl
+  from_none (y ∷ xs) n zero past = absurd (omega arith)
+  from_none (y ∷ xs) n (suc i) past = from_none xs n i (omega arith)
+
+  pub from_more : (xs : List X) (whole old : List Y) (i : ℕ) (x : X) → i < length xs → x ≡ get_or xs i x → whole ≡ old ++ from i f (drop i xs)
+      → whole ≡ (old ++ f i x) ++ from (i + 1) f (drop (i + 1) xs)
+  from_more xs whole old i x within is so_far = so_far ∙ ap (λ ys. old ++ ys) (from_next xs i i x within is)
+      ∙ sym (append_assoc old (f i x) (from (i + 1) f (drop (suc i) xs))) ∙ (λ j. (old ++ f i x) ++ from (i + 1) f (drop (sym (add-one i) j) xs))

@@ -1,0 +1,44 @@
+-- What an answer tells.
+use Rattle.std.proofs.Common.{◌≡◌, ℕ, List, Option, Some, None, Result, Ok, Err, OnOk, refl, sym, subst}
+use Rattle.rte_text.specs.declared.refusal.Refused.{Refused}
+use Rattle.rte_text.specs.declared.refusal.Refused.TheVariants.{Rule, Memory}
+use Rattle.description_types.specs.declared.description.Description.{Description}
+use Rattle.composition_flatten.specs.declared.flat.Flat.{Flat}
+use Rattle.mapping_rules.specs.Refusals.{IsAfter, IsOfTasks, IsRefusal, Says, Tells, mapping_text, of_events}
+use Rattle.mapping_rules.specs.Rules.{ReachesItself}
+
+some_is : (a b : ℕ × List ℕ) → Some a ≡ Some b → a ≡ b
+some_is a b h = cc
+
+module _ (d : Description) (f : Flat) where
+  -- rule 29 is broken
+  pub tasks_refused : {U : Type 0} (r : Result U Refused) → ReachesItself d f → Says (Some (29, mapping_text)) r → Tells (IsOfTasks d f) r
+  tasks_refused (Ok u) circle says = cc
+  tasks_refused (Err (Rule x)) circle says = (is, circle)
+    where
+      is : ◌≡◌ {A = ℕ × List ℕ} (x.rule, x.place) (29, mapping_text)
+      is = some_is (x.rule, x.place) (29, mapping_text) (sym says)
+  tasks_refused (Err Memory) circle says = tt
+
+  -- nothing is broken before rule 29
+  pub passed_on : {U : Type 0} (r : Result U Refused) → of_events d f ≡ None → Tells (IsOfTasks d f) r → Tells (IsRefusal d f) r
+  passed_on (Ok u) none tells = subst (λ o. IsAfter o (IsOfTasks d f) None) (sym none) tells
+  passed_on (Err (Rule x)) none tells = subst (λ o. IsAfter o (IsOfTasks d f) (Some (x.rule, x.place))) (sym none) tells
+  passed_on (Err Memory) none tells = tt
+
+  -- something is
+  pub refused_before : (U : Type 0) (x : Refused) → Says {U = U} (of_events d f) (Err x) → Tells {U = U} (IsRefusal d f) (Err x)
+  refused_before U (Rule x) says = subst (λ o. IsAfter o (IsOfTasks d f) (Some (x.rule, x.place))) (sym says) refl
+  refused_before U Memory says = tt
+
+-- the same of another type of what is accepted
+pub still_refused : (U V : Type 0) (is_refusal : Option (ℕ × List ℕ) → Type 0) (x : Refused) → Tells {U = U} is_refusal (Err x) → Tells {U = V} is_refusal (Err x)
+still_refused U V is_refusal (Rule x) tells = tells
+still_refused U V is_refusal Memory tells = tells
+
+pub moved : (P : Description → Flat → Type 0) (d e : Description) (f g : Flat) → d ≡ e → f ≡ g → P d f → P e g
+moved P d e f g de fg p = subst (λ h. P e h) fg (subst (λ k. P k f) de p)
+
+pub never_ok : {U : Type 0} (P : Type 0) (r : Result U Refused) → OnOk r ⊥ → OnOk r P
+never_ok P (Ok u) h = absurd h
+never_ok P (Err x) h = tt

@@ -1,0 +1,8 @@
+use Rattle.std.proofs.Common.{◌≡◌, ℕ, drop}
+use Rattle.component_rules.specs.Firsts.{first_of, unless}
+use Rattle.mapping_rules.specs.Rules.{keeps_direct}
+use Rattle.mapping_rules.proofs.instances.not_direct_in.Given as goal
+
+abbrev pub invariant-loop-number : goal.invariant-loop-number
+invariant-loop-number l = first_of {Y = ℕ × ℕ} (λ m e. unless (keeps_direct l.servers.mapped.names.d.now l.servers.mapped.names.f.now l.instance l.component m e) (l.instance, m)) 0 l.component.behavior.events
+    ≡ first_of {Y = ℕ × ℕ} (λ m e. unless (keeps_direct l.servers.mapped.names.d.now l.servers.mapped.names.f.now l.instance l.component m e) (l.instance, m)) l.number (drop l.number l.component.behavior.events)

@@ -1,0 +1,191 @@
+//! The checks, and what they refuse.
+
+ghost use Rattle.std.specs.Prelude.{◌≡◌, IfOk, OnOk, Some, None, is_some};
+ghost use Rattle.component_rules.specs.Firsts.{first_of, unless};
+ghost use Rattle.mapping_rules.specs.InstanceRules.{number_of, of_rule, part_text};
+ghost use Rattle.mapping_rules.specs.Mapped.{named_by};
+ghost use Rattle.mapping_rules.specs.Refusals.{IsOfTasks, IsRefusal, Says, Tells, mapping_text, of_events, of_named};
+ghost use Rattle.mapping_rules.specs.Rules.{HaveOrder, TellsOrder};
+ghost use Rattle.mapping_rules.specs.Tasks.{are_mapped, mapping_of};
+
+use crate::instances::{InstanceRule, Part, first_broken};
+use crate::naming::Names;
+use crate::peeling::are_acyclic;
+use crate::places::{event_text, mapped_text, mapping_text, runnable_text};
+use crate::servers::Servers;
+use crate::tasks::{are_mapped, mapping_of};
+use crate::waits::waits;
+use bus_semantics::Mapping;
+use composition_flatten::Flat;
+use description_types::{Description, MappedEvent};
+use rte_text::{Memory, Refusal, Refused, Text};
+use std::alloc::Global;
+
+fn is_named<'a>(names: &Names<'a>, mapped: &'a MappedEvent) -> bool
+    ensures { result ≡ is_some (named_by names.now.d.now names.now.f.now mapped.now) }
+{
+    names.named_by(mapped).is_some()
+}
+
+#[tactic(auto, using(crate::proofs::Firsts::first_more, crate::proofs::Firsts::first_here, crate::proofs::Firsts::first_none))]
+fn unnamed<'a>(names: &Names<'a>, events: &'a [MappedEvent]) -> Option<usize>
+    ensures { result ≡ first_of (λ k x. unless (is_some (named_by names.now.d.now names.now.f.now x)) k) 0 events.now }
+{
+    for (number, mapped) in events.iter().enumerate() {
+        if !is_named(names, mapped) {
+            return Some(number);
+        }
+    }
+    None
+}
+
+fn refused(rule: u16, place: Text) -> Result<(), Refused>
+    ensures { Says (Some (rule, place)) result }
+{
+    Err(Refused::Rule(Refusal { rule, place }))
+}
+
+fn check_named(alloc: Global, names: &Names<'_>) -> Result<(), Refused>
+    ensures { Says (of_named names.now.d.now names.now.f.now) result }
+{
+    match unnamed(names, names.d.mapping.events.items()) {
+        None => Ok(()),
+        Some(number) => {
+            let place = mapped_text(alloc, number)?;
+            refused(25, place)
+        }
+    }
+}
+
+fn number_of(rule: InstanceRule) -> u16
+    ensures { result ≡ number_of rule }
+{
+    match rule {
+        InstanceRule::MappedOnce => 26,
+        InstanceRule::OneTask => 27,
+        InstanceRule::Direct => 28,
+    }
+}
+
+fn part_text(
+    alloc: Global,
+    names: &Names<'_>,
+    rule: InstanceRule,
+    part: Part,
+) -> Result<Text, Memory>
+    ensures { IfOk result (λ text. text ≡ part_text rule names.now.d.now names.now.f.now part) }
+{
+    match rule {
+        InstanceRule::MappedOnce | InstanceRule::Direct => event_text(alloc, names, part),
+        InstanceRule::OneTask => runnable_text(alloc, names, part),
+    }
+}
+
+fn check_rule(alloc: Global, servers: &Servers<'_>, rule: InstanceRule) -> Result<(), Refused>
+    ensures { Says (of_rule rule servers.now.mapped.names.d.now servers.now.mapped.names.f.now) result }
+{
+    match first_broken(alloc, servers, rule)? {
+        None => Ok(()),
+        Some(part) => {
+            let place = part_text(alloc, &servers.mapped.names, rule, part)?;
+            refused(number_of(rule), place)
+        }
+    }
+}
+
+fn check_events(alloc: Global, servers: &Servers<'_>) -> Result<(), Refused>
+    ensures { Says (of_events servers.now.mapped.names.d.now servers.now.mapped.names.f.now) result }
+{
+    check_named(alloc, &servers.mapped.names)?;
+    check_rule(alloc, servers, InstanceRule::MappedOnce)?;
+    check_rule(alloc, servers, InstanceRule::OneTask)?;
+    check_rule(alloc, servers, InstanceRule::Direct)
+}
+
+/// Whether the tasks can be put in an order in which each waits only for later ones.
+fn are_ordered(alloc: Global, servers: &Servers<'_>) -> Result<bool, Memory>
+    ensures { IfOk result (λ answer. TellsOrder answer servers.now.mapped.names.d.now servers.now.mapped.names.f.now) }
+{
+    let edges = waits(alloc, servers)?;
+    let answer = are_acyclic(alloc, edges)?;
+    Ok(answer)
+}
+
+fn refuse_tasks(alloc: Global) -> Result<(), Refused>
+    ensures says { Says (Some (29, mapping_text)) result }
+    ensures refused { OnOk result ⊥ }
+{
+    let place = mapping_text(alloc)?;
+    Err(Refused::Rule(Refusal { rule: 29, place }))
+}
+
+fn check_tasks(alloc: Global, servers: &Servers<'_>) -> Result<(), Refused>
+    ensures refusal { Tells (IsOfTasks servers.now.mapped.names.d.now servers.now.mapped.names.f.now) result }
+    ensures order { OnOk result (HaveOrder servers.now.mapped.names.d.now servers.now.mapped.names.f.now) }
+{
+    let ordered = are_ordered(alloc, servers)?;
+    if ordered {
+        return Ok(());
+    }
+    refuse_tasks(alloc)
+}
+
+fn check_rules(alloc: Global, servers: &Servers<'_>) -> Result<(), Refused>
+    ensures refusal { Tells (IsRefusal servers.now.mapped.names.d.now servers.now.mapped.names.f.now) result }
+    ensures order { OnOk result (HaveOrder servers.now.mapped.names.d.now servers.now.mapped.names.f.now) }
+{
+    match check_events(alloc, servers) {
+        Ok(()) => check_tasks(alloc, servers),
+        Err(refused) => Err(refused),
+    }
+}
+
+fn made(alloc: Global, servers: &Servers<'_>) -> Result<(Mapping, Vec<bool>), Memory>
+    ensures mapping { IfOk result (λ found. found.0 ≡ mapping_of servers.now.mapped.names.d.now servers.now.mapped.names.f.now) }
+    ensures mapped { IfOk result (λ found. found.1.items ≡ are_mapped servers.now.mapped.names.d.now servers.now.mapped.names.f.now) }
+{
+    let mapping = mapping_of(alloc, &servers.mapped)?;
+    let mapped = are_mapped(alloc, &servers.mapped)?;
+    Ok((mapping, mapped))
+}
+
+fn checked(alloc: Global, servers: &Servers<'_>) -> Result<(Mapping, Vec<bool>), Refused>
+    ensures refusal { Tells (IsRefusal servers.now.mapped.names.d.now servers.now.mapped.names.f.now) result }
+    ensures mapping { IfOk result (λ found. found.0 ≡ mapping_of servers.now.mapped.names.d.now servers.now.mapped.names.f.now) }
+    ensures mapped { IfOk result (λ found. found.1.items ≡ are_mapped servers.now.mapped.names.d.now servers.now.mapped.names.f.now) }
+    ensures order { OnOk result (HaveOrder servers.now.mapped.names.d.now servers.now.mapped.names.f.now) }
+{
+    match check_rules(alloc, servers) {
+        Ok(()) => {
+            let found = made(alloc, servers)?;
+            Ok(found)
+        }
+        Err(refused) => Err(refused),
+    }
+}
+
+/// Whether the mapping of a description, made flat, keeps its rules: each mapped event names an instance and an event of it (25,
+/// at the mapped event); each event of each instance is mapped once, an OperationInvokedEvent at most once (26, at the event);
+/// all events of a runnable of an instance are mapped to one task (27, at the runnable); an OperationInvokedEvent that is not
+/// mapped has a runnable that may be invoked concurrently and makes no call, and its operation is not joined to the environment
+/// (28, at the event); no task waits for itself, directly or through others, where a task waits for that of each queued server
+/// that a runnable in it calls by `call` (29, at the mapping). An error of `Rule` names the least of these that is broken and
+/// its first place: a JSON pointer, or a name as in a trace, in the order of instances and of their declarations.
+///
+/// Where they keep them: the tasks on their cores, each with the numbers of its events in a plan, in the order of their
+/// positions; and for each event of a plan, by its number, whether it is mapped. An error of `Memory` may come at any time.
+///
+/// SWS_RTE: RteEventToTaskMapping.
+pub fn check_mapping(
+    alloc: Global,
+    d: &Description,
+    f: &Flat,
+) -> Result<(Mapping, Vec<bool>), Refused>
+    ensures refusal { Tells (IsRefusal d.now f.now) result }
+    ensures mapping { IfOk result (λ found. found.0 ≡ mapping_of d.now f.now) }
+    ensures mapped { IfOk result (λ found. found.1.items ≡ are_mapped d.now f.now) }
+    ensures order { OnOk result (HaveOrder d.now f.now) }
+{
+    let servers = Servers::new(alloc, d, f)?;
+    checked(alloc, &servers)
+}

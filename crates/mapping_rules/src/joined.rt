@@ -1,0 +1,91 @@
+//! Who provides what is required, and what the environment requires.
+
+ghost use Rattle.std.specs.Prelude.{◌≡◌, ◌++◌, IfOk, OnOk, Some, map, is_none, ◌&&◌};
+ghost use Rattle.std.specs.List.{flat_map, list_any};
+ghost use Rattle.plan_numbers.specs.Joined.{provider_of, same_end};
+ghost use Rattle.mapping_rules.specs.Listed.{triple, provided_for, outside_at};
+
+use crate::positions::Positions;
+use composition_flatten::{End, Flat, Join};
+use plan_numbers::Table;
+use rte_text::Memory;
+use std::alloc::Global;
+
+/// The instance, the port and the item of an end.
+type EndKey = (Option<u32>, u32, u32);
+
+/// The joins of a description made flat, by their required ends, and by the provided ends that the environment is joined to.
+#[derive(Drop)]
+pub struct Joined<'a> {
+    pub f: &'a Flat,
+    providers: Table<EndKey, End>,
+    outside: Positions<EndKey>,
+    ghost are_providers: { providers.entries.items ≡ map provided_for f.now.joins },
+    ghost are_outside: { outside ≡ flat_map outside_at f.now.joins },
+}
+
+fn triple(end: End) -> EndKey
+    ensures { result ≡ triple end }
+{
+    (end.instance, end.port, end.element)
+}
+
+fn providers_of(alloc: Global, joins: &[Join]) -> Result<Vec<(EndKey, End)>, Memory>
+    ensures { IfOk result (λ list. list.items ≡ map provided_for joins.now) }
+{
+    let mut list = Vec::new(alloc);
+    for join in joins {
+        list.push((triple(join.required), join.provided))?;
+    }
+    Ok(list)
+}
+
+fn push_outside(list: &mut Vec<EndKey>, join: Join) -> Result<(), Memory>
+    ensures { OnOk result (list.new.items ≡ list.old.items ++ outside_at join) }
+{
+    if join.required.instance.is_none() {
+        list.push(triple(join.provided))?;
+    }
+    Ok(())
+}
+
+fn outside_of(alloc: Global, joins: &[Join]) -> Result<Vec<EndKey>, Memory>
+    ensures { IfOk result (λ list. list.items ≡ flat_map outside_at joins.now) }
+{
+    let mut list = Vec::new(alloc);
+    for join in joins {
+        push_outside(&mut list, *join)?;
+    }
+    Ok(list)
+}
+
+impl<'a> Joined<'a> {
+    /// The joins of a description made flat.
+    pub fn new(alloc: Global, f: &'a Flat) -> Result<Joined<'a>, Memory>
+        ensures { IfOk result (λ joined. joined.f.now ≡ f.now) }
+    {
+        let joins = f.joins.items();
+        let list = outside_of(alloc, joins)?;
+        let outside = Positions::of(alloc, list.as_slice())?;
+        let providers = Table::new(alloc, providers_of(alloc, joins)?)?;
+        Ok(Joined {
+            f,
+            providers,
+            outside,
+        })
+    }
+
+    /// The first provided end that is joined with a required one.
+    pub fn provider_of(&self, required: End) -> Option<End>
+        ensures { result ≡ provider_of self.now.f.now.joins required }
+    {
+        self.providers.find(triple(required))
+    }
+
+    /// Whether the environment is joined to a provided end.
+    pub fn serves_outside(&self, provided: End) -> bool
+        ensures { result ≡ list_any (λ j. same_end provided j.provided && is_none j.required.instance) self.now.f.now.joins }
+    {
+        self.outside.find(triple(provided)).is_some()
+    }
+}

@@ -1,0 +1,132 @@
+//! Which events are mapped, and to which tasks.
+
+ghost use Rattle.std.specs.Prelude.{◌≡◌, ℕ, ◌++◌, IfOk, OnOk, map, nat_eq};
+ghost use Rattle.std.specs.List.{flat_map};
+ghost use Rattle.plan_numbers.specs.Lists.{from};
+ghost use Rattle.mapping_rules.specs.Groups.{values_at};
+ghost use Rattle.mapping_rules.specs.Listed.{task_of, tasks_at};
+ghost use Rattle.mapping_rules.specs.Mapped.{is_mapped};
+ghost use Rattle.mapping_rules.specs.Rules.{tasks_of_event, tasks_from};
+
+use crate::groups::Groups;
+use crate::naming::Names;
+use crate::positions::position;
+use composition_flatten::Flat;
+use description_types::{Description, Event, MappedEvent};
+use rte_text::Memory;
+use std::alloc::Global;
+
+/// The events that are mapped, with their tasks.
+#[derive(Drop)]
+pub struct Mapped<'a> {
+    pub names: Names<'a>,
+    tasks: Groups<(u32, u32), u32>,
+    ghost are_tasks: { tasks.entries.items ≡ flat_map (task_of names.d.now names.f.now) names.d.now.mapping.events },
+}
+
+fn push_task<'a>(
+    list: &mut Vec<((u32, u32), u32)>,
+    names: &Names<'a>,
+    mapped: &'a MappedEvent,
+) -> Result<(), Memory>
+    ensures { OnOk result (list.new.items ≡ list.old.items ++ task_of names.now.d.now names.now.f.now mapped.now) }
+{
+    if let Some(event) = names.named_by(mapped) {
+        list.push((event, mapped.task))?;
+    }
+    Ok(())
+}
+
+fn tasks_of<'a>(
+    alloc: Global,
+    names: &Names<'a>,
+    events: &'a [MappedEvent],
+) -> Result<Vec<((u32, u32), u32)>, Memory>
+    ensures { IfOk result (λ list. list.items ≡ flat_map (task_of names.now.d.now names.now.f.now) events.now) }
+{
+    let mut list = Vec::new(alloc);
+    for mapped in events {
+        push_task(&mut list, names, mapped)?;
+    }
+    Ok(list)
+}
+
+fn push_tasks(list: &mut Vec<(u32, u32)>, runnable: u32, tasks: &[u32]) -> Result<(), Memory>
+    ensures { OnOk result (list.new.items ≡ list.old.items ++ map (λ t. (runnable, t)) tasks.now) }
+{
+    for task in tasks {
+        list.push((runnable, *task))?;
+    }
+    Ok(())
+}
+
+impl<'a> Mapped<'a> {
+    /// The mapped events of a description.
+    pub fn new(alloc: Global, d: &'a Description, f: &'a Flat) -> Result<Mapped<'a>, Memory>
+        ensures d { IfOk result (λ mapped. mapped.names.d.now ≡ d.now) }
+        ensures f { IfOk result (λ mapped. mapped.names.f.now ≡ f.now) }
+    {
+        let names = Names::new(alloc, d, f)?;
+        let list = tasks_of(alloc, &names, d.mapping.events.items())?;
+        let tasks = Groups::new(alloc, list)?;
+        Ok(Mapped { names, tasks })
+    }
+
+    /// The tasks that an event of an instance is mapped to, once for each time that it is mapped.
+    pub fn tasks_of_event(&self, event: (u32, u32)) -> &[u32]
+        ensures { result.now ≡ tasks_of_event self.now.names.d.now self.now.names.f.now event }
+    {
+        self.tasks.at(event)
+    }
+
+    /// Whether an event of an instance is mapped.
+    #[tactic(auto, using(crate::proofs::Events::mapped_where))]
+    pub fn is_mapped(&self, event: (u32, u32)) -> bool
+        ensures { result ≡ is_mapped self.now.names.d.now self.now.names.f.now event }
+    {
+        !self.tasks_of_event(event).is_empty()
+    }
+
+    fn push_event(
+        &self,
+        list: &mut Vec<(u32, u32)>,
+        instance: u32,
+        number: usize,
+        event: &Event,
+    ) -> Result<(), Memory>
+        ensures { OnOk result (list.new.items ≡ list.old.items ++ tasks_at self.now.names.d.now self.now.names.f.now instance number event.now) }
+    {
+        let tasks = self.tasks_of_event((instance, position(number)?));
+        push_tasks(list, event.runnable, tasks)
+    }
+
+    #[tactic(auto, using(crate::proofs::Listing::from_more, crate::proofs::Listing::from_none))]
+    fn list_tasks(
+        &self,
+        alloc: Global,
+        instance: u32,
+        events: &[Event],
+    ) -> Result<Vec<(u32, u32)>, Memory>
+        ensures { IfOk result (λ list. list.items ≡ from 0 (tasks_at self.now.names.d.now self.now.names.f.now instance) events.now) }
+    {
+        let mut list = Vec::new(alloc);
+        for (number, event) in events.iter().enumerate() {
+            self.push_event(&mut list, instance, number, event)?;
+        }
+        Ok(list)
+    }
+
+    /// The tasks of each runnable of an instance: those that the events are mapped to that start it.
+    pub fn tasks_of_runnables(
+        &self,
+        alloc: Global,
+        instance: u32,
+        events: &[Event],
+    ) -> Result<Groups<u32, u32>, Memory>
+        ensures { IfOk result (λ tasks. (r : ℕ) → values_at (nat_eq r) tasks.entries.items ≡ tasks_from self.now.names.d.now self.now.names.f.now instance r 0 events.now) }
+    {
+        let list = self.list_tasks(alloc, instance, events)?;
+        let tasks = Groups::new(alloc, list)?;
+        Ok(tasks)
+    }
+}

@@ -1,0 +1,176 @@
+//! Servers, and the tasks in which they run.
+
+ghost use Rattle.std.specs.Prelude.{◌≡◌, [], ◌++◌, IfOk, OnOk, map, option_and_then, option_copied, slice_get};
+ghost use Rattle.std.specs.List.{position_from};
+ghost use Rattle.std.specs.Option.{option_map_or};
+ghost use Rattle.plan_numbers.specs.Joined.{provider_of};
+ghost use Rattle.plan_numbers.specs.Lists.{from};
+ghost use Rattle.mapping_rules.specs.Listed.{invoked_at, invoked_in};
+ghost use Rattle.mapping_rules.specs.Mapped.{invokes, invocation_of};
+ghost use Rattle.mapping_rules.specs.Rules.{serves_outside, task_of_server, tasks_behind, waits_by};
+
+use crate::joined::Joined;
+use crate::mapped::Mapped;
+use crate::positions::position;
+use composition_flatten::{End, Flat};
+use description_types::{Access, Component, Description, Event, EventKind};
+use plan_numbers::Table;
+use rte_text::Memory;
+use runnable_lang::AccessKind;
+use std::alloc::Global;
+
+/// The events of a component by which its operations are invoked, by port and operation.
+type Invocations = Table<(u32, u32), u32>;
+
+/// Which event serves an operation of an instance, who calls it, and in which task it runs.
+#[derive(Drop)]
+pub struct Servers<'a> {
+    pub mapped: Mapped<'a>,
+    joined: Joined<'a>,
+    /// For each component.
+    invocations: Vec<Invocations>,
+    ghost same_flat: { joined.f.now ≡ mapped.names.f.now },
+    ghost are_invocations: { map (λ t. t.entries.items) invocations.items ≡ map invoked_in mapped.names.d.now.components },
+}
+
+fn push_invoked(
+    list: &mut Vec<((u32, u32), u32)>,
+    number: usize,
+    kind: EventKind,
+) -> Result<(), Memory>
+    ensures { OnOk result (list.new.items ≡ list.old.items ++ invoked_at number kind) }
+{
+    if let EventKind::OperationInvoked { port, operation } = kind {
+        list.push(((port, operation), position(number)?))?;
+    }
+    Ok(())
+}
+
+#[tactic(auto, using(crate::proofs::Listing::from_more, crate::proofs::Listing::from_none))]
+fn list_invoked(alloc: Global, events: &[Event]) -> Result<Vec<((u32, u32), u32)>, Memory>
+    ensures { IfOk result (λ list. list.items ≡ from 0 (λ m e. invoked_at m e.kind) events.now) }
+{
+    let mut list = Vec::new(alloc);
+    for (number, event) in events.iter().enumerate() {
+        push_invoked(&mut list, number, event.kind)?;
+    }
+    Ok(list)
+}
+
+fn invocations_in(alloc: Global, component: &Component) -> Result<Invocations, Memory>
+    ensures { IfOk result (λ table. table.entries.items ≡ invoked_in component.now) }
+{
+    let list = list_invoked(alloc, component.behavior.events.items())?;
+    let table = Table::new(alloc, list)?;
+    Ok(table)
+}
+
+fn invocations_of(alloc: Global, components: &[Component]) -> Result<Vec<Invocations>, Memory>
+    ensures { IfOk result (λ list. map (λ t. t.entries.items) list.items ≡ map invoked_in components.now) }
+{
+    let mut list = Vec::new(alloc);
+    for component in components {
+        list.push(invocations_in(alloc, component)?)?;
+    }
+    Ok(list)
+}
+
+fn invocations_at(list: &[Invocations], number: u32) -> Option<&Invocations>
+    ensures { option_copied result ≡ slice_get list.now number }
+{
+    list.get(number as usize)
+}
+
+impl<'a> Servers<'a> {
+    /// The servers of a description and of its flat form.
+    pub fn new(alloc: Global, d: &'a Description, f: &'a Flat) -> Result<Servers<'a>, Memory>
+        ensures d { IfOk result (λ servers. servers.mapped.names.d.now ≡ d.now) }
+        ensures f { IfOk result (λ servers. servers.mapped.names.f.now ≡ f.now) }
+    {
+        let mapped = Mapped::new(alloc, d, f)?;
+        let joined = Joined::new(alloc, f)?;
+        let invocations = invocations_of(alloc, d.components.items())?;
+        Ok(Servers {
+            mapped,
+            joined,
+            invocations,
+        })
+    }
+
+    fn invocation_in(&self, component: u32, port: u32, operation: u32) -> Option<u32>
+        ensures { result ≡ option_and_then (λ c. position_from (λ e. invokes port operation e.kind) 0 c.behavior.events) (slice_get self.now.mapped.names.d.now.components component) }
+    {
+        match invocations_at(self.invocations.as_slice(), component) {
+            Some(table) => table.find((port, operation)),
+            None => None,
+        }
+    }
+
+    /// The first event of an instance by which an operation is invoked, by its position in the component.
+    pub fn invocation_of(&self, instance: u32, port: u32, operation: u32) -> Option<u32>
+        ensures { result ≡ invocation_of self.now.mapped.names.d.now self.now.mapped.names.f.now instance port operation }
+    {
+        match self.mapped.names.f.instances.items().get(instance as usize) {
+            Some(found) => self.invocation_in(found.component, port, operation),
+            None => None,
+        }
+    }
+
+    fn provider_of(&self, required: End) -> Option<End>
+        ensures { result ≡ provider_of self.now.mapped.names.f.now.joins required }
+    {
+        self.joined.provider_of(required)
+    }
+
+    /// Whether an operation that an instance provides is joined to the environment.
+    pub fn serves_outside(&self, instance: u32, port: u32, operation: u32) -> bool
+        ensures { result ≡ serves_outside self.now.mapped.names.f.now instance port operation }
+    {
+        self.joined.serves_outside(End {
+            instance: Some(instance),
+            port,
+            element: operation,
+        })
+    }
+
+    fn task_of_server(&self, instance: u32, port: u32, operation: u32) -> &[u32]
+        ensures { result.now ≡ task_of_server self.now.mapped.names.d.now self.now.mapped.names.f.now instance port operation }
+    {
+        match self.invocation_of(instance, port, operation) {
+            Some(event) => self.mapped.tasks_of_event((instance, event)),
+            None => &[],
+        }
+    }
+
+    fn tasks_behind(&self, provided: End) -> &[u32]
+        ensures { result.now ≡ tasks_behind self.now.mapped.names.d.now self.now.mapped.names.f.now provided }
+    {
+        match provided.instance {
+            Some(instance) => self.task_of_server(instance, provided.port, provided.element),
+            None => &[],
+        }
+    }
+
+    fn tasks_joined(&self, required: End) -> &[u32]
+        ensures { result.now ≡ option_map_or (tasks_behind self.now.mapped.names.d.now self.now.mapped.names.f.now) (provider_of self.now.mapped.names.f.now.joins required) [] }
+    {
+        match self.provider_of(required) {
+            Some(provided) => self.tasks_behind(provided),
+            None => &[],
+        }
+    }
+
+    /// The tasks that a runnable of an instance waits for by an access: those of the queued server that it calls.
+    pub fn waits_by(&self, instance: u32, access: Access) -> &[u32]
+        ensures { result.now ≡ waits_by self.now.mapped.names.d.now self.now.mapped.names.f.now instance access }
+    {
+        match access.kind {
+            AccessKind::Call => self.tasks_joined(End {
+                instance: Some(instance),
+                port: access.port,
+                element: access.item,
+            }),
+            _ => &[],
+        }
+    }
+}

@@ -1,0 +1,168 @@
+//! The tasks with their events.
+
+ghost use Rattle.std.specs.Prelude.{◌≡◌, [], ◌∷◌, ◌++◌, IfOk, OnOk, map};
+ghost use Rattle.std.specs.List.{flat_map};
+ghost use Rattle.plan_numbers.specs.Keys.{pair_number};
+ghost use Rattle.plan_numbers.specs.Lists.{from};
+ghost use Rattle.plan_numbers.specs.Parts.{events_of};
+ghost use Rattle.mapping_rules.specs.Mapped.{is_mapped};
+ghost use Rattle.mapping_rules.specs.Placing.{in_task, numbers_of, placed_at, task_entry, task_with};
+ghost use Rattle.mapping_rules.specs.Tasks.{are_mapped, mapping_of};
+
+use crate::groups::Groups;
+use crate::mapped::Mapped;
+use crate::naming::Names;
+use crate::positions::{Positions, position};
+use crate::sorting::{Placed, sort_by_position};
+use bus_semantics::{Mapping, Task};
+use description_types::{MappedEvent, Task as DeclaredTask};
+use plan_numbers::numbered_events;
+use rte_text::{Memory, Seq, Text};
+use std::alloc::Global;
+
+/// The events of instances by their numbers in a plan.
+type Numbers = Positions<(u32, u32)>;
+
+fn number_of(numbers: &Numbers, event: (u32, u32)) -> u32
+    ensures { result ≡ pair_number numbers.now event }
+{
+    match numbers.find(event) {
+        Some(number) => number,
+        None => 0,
+    }
+}
+
+fn placed_at<'a>(names: &Names<'a>, numbers: &Numbers, mapped: &'a MappedEvent) -> Placed
+    requires { numbers.now ≡ events_of names.now.d.now names.now.f.now }
+    ensures { result ≡ placed_at names.now.d.now names.now.f.now mapped.now }
+{
+    match names.named_by(mapped) {
+        Some(event) => (mapped.position, Some(number_of(numbers, event))),
+        None => (mapped.position, None),
+    }
+}
+
+fn list_placed<'a>(
+    alloc: Global,
+    names: &Names<'a>,
+    numbers: &Numbers,
+    events: &'a [MappedEvent],
+) -> Result<Vec<(u32, Placed)>, Memory>
+    requires { numbers.now ≡ events_of names.now.d.now names.now.f.now }
+    ensures { IfOk result (λ list. list.items ≡ map (task_entry names.now.d.now names.now.f.now) events.now) }
+{
+    let mut list = Vec::new(alloc);
+    for mapped in events {
+        list.push((mapped.task, placed_at(names, numbers, mapped)))?;
+    }
+    Ok(list)
+}
+
+fn push_number(list: &mut Vec<u32>, placed: Placed) -> Result<(), Memory>
+    ensures { OnOk result (list.new.items ≡ list.old.items ++ numbers_of placed) }
+{
+    if let Some(number) = placed.1 {
+        list.push(number)?;
+    }
+    Ok(())
+}
+
+fn numbers_in(alloc: Global, placed: &[Placed]) -> Result<Vec<u32>, Memory>
+    ensures { IfOk result (λ list. list.items ≡ flat_map numbers_of placed.now) }
+{
+    let mut list = Vec::new(alloc);
+    for one in placed {
+        push_number(&mut list, *one)?;
+    }
+    Ok(list)
+}
+
+fn in_task(alloc: Global, placed: &[Placed]) -> Result<Vec<u32>, Memory>
+    ensures { IfOk result (λ list. list.items ≡ in_task placed.now) }
+{
+    let mut sorted = Vec::from_slice(alloc, placed)?;
+    sort_by_position(&mut sorted)?;
+    let list = numbers_in(alloc, sorted.as_slice())?;
+    Ok(list)
+}
+
+fn push_task(
+    alloc: Global,
+    list: &mut Vec<Task>,
+    groups: &Groups<u32, Placed>,
+    number: usize,
+    task: &DeclaredTask,
+) -> Result<(), Memory>
+    ensures { OnOk result (list.new.items ≡ list.old.items ++ task_with groups.now.entries.items number task.now ∷ []) }
+{
+    let events = in_task(alloc, groups.at(position(number)?))?;
+    let name = Text::new(alloc, task.short_name.bytes())?;
+    list.push(Task {
+        name,
+        core: task.core,
+        events: Seq::of(events),
+    })?;
+    Ok(())
+}
+
+#[tactic(auto, using(crate::proofs::Listing::from_more, crate::proofs::Listing::from_none))]
+fn list_tasks(
+    alloc: Global,
+    groups: &Groups<u32, Placed>,
+    tasks: &[DeclaredTask],
+) -> Result<Vec<Task>, Memory>
+    ensures { IfOk result (λ list. list.items ≡ from 0 (λ t task. task_with groups.now.entries.items t task ∷ []) tasks.now) }
+{
+    let mut list = Vec::new(alloc);
+    for (number, task) in tasks.iter().enumerate() {
+        push_task(alloc, &mut list, groups, number, task)?;
+    }
+    Ok(list)
+}
+
+fn tasks_of(alloc: Global, mapped: &Mapped<'_>, numbers: &Numbers) -> Result<Vec<Task>, Memory>
+    requires { numbers.now ≡ events_of mapped.now.names.d.now mapped.now.names.f.now }
+    ensures { IfOk result (λ list. list.items ≡ (mapping_of mapped.now.names.d.now mapped.now.names.f.now).tasks) }
+{
+    let d = mapped.names.d;
+    let list = list_placed(alloc, &mapped.names, numbers, d.mapping.events.items())?;
+    let groups = Groups::new(alloc, list)?;
+    let tasks = list_tasks(alloc, &groups, d.mapping.tasks.items())?;
+    Ok(tasks)
+}
+
+/// The tasks on their cores, each with the numbers of its events in the order of their positions.
+pub fn mapping_of(alloc: Global, mapped: &Mapped<'_>) -> Result<Mapping, Memory>
+    ensures { IfOk result (λ mapping. mapping ≡ mapping_of mapped.now.names.d.now mapped.now.names.f.now) }
+{
+    let pairs = numbered_events(alloc, mapped.names.d, mapped.names.f)?;
+    let numbers = Positions::of(alloc, pairs.as_slice())?;
+    let tasks = tasks_of(alloc, mapped, &numbers)?;
+    Ok(Mapping {
+        cores: mapped.names.d.mapping.cores,
+        tasks: Seq::of(tasks),
+    })
+}
+
+fn list_mapped(
+    alloc: Global,
+    mapped: &Mapped<'_>,
+    events: &[(u32, u32)],
+) -> Result<Vec<bool>, Memory>
+    ensures { IfOk result (λ list. list.items ≡ map (is_mapped mapped.now.names.d.now mapped.now.names.f.now) events.now) }
+{
+    let mut list = Vec::new(alloc);
+    for event in events {
+        list.push(mapped.is_mapped(*event))?;
+    }
+    Ok(list)
+}
+
+/// Whether each event of a plan is mapped, by its number.
+pub fn are_mapped(alloc: Global, mapped: &Mapped<'_>) -> Result<Vec<bool>, Memory>
+    ensures { IfOk result (λ list. list.items ≡ are_mapped mapped.now.names.d.now mapped.now.names.f.now) }
+{
+    let events = numbered_events(alloc, mapped.names.d, mapped.names.f)?;
+    let list = list_mapped(alloc, mapped, events.as_slice())?;
+    Ok(list)
+}
