@@ -16,3 +16,6 @@ mod tasks;
 mod waits;
 
 pub use check::check_mapping;
+
+#[cfg(test)]
+mod tests;
