@@ -48,7 +48,7 @@ impl<K: Eq + Hash + Copy> Model for Numbers<K> {
 }
 
 impl<K: Eq + Hash + Copy> Numbers<K> {
-    ghost use Rattle.std.specs.Prelude.{◌≡◌, IfOk};
+    ghost use Rattle.std.specs.Prelude.{◌≡◌, ◌==◌, IfOk, length};
     ghost use Rattle.std.specs.List.{position_from};
     ghost use Rattle.std.specs.Option.{unwrap_or};
 
@@ -75,5 +75,19 @@ impl<K: Eq + Hash + Copy> Numbers<K> {
         ensures { result ≡ unwrap_or (position_from (K.eq key) 0 self.now) 0 }
     {
         self.find(key).unwrap_or(0)
+    }
+
+    /// How many keys there are.
+    pub fn len(&self) -> usize
+        ensures { result ≡ length self.now }
+    {
+        self.table.entries.len()
+    }
+
+    /// Whether there is no key.
+    pub fn is_empty(&self) -> bool
+        ensures { result ≡ (length self.now == 0) }
+    {
+        self.table.entries.is_empty()
     }
 }

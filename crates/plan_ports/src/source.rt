@@ -2,12 +2,12 @@
 
 ghost use Rattle.std.specs.Prelude.{◌≡◌, Some, IfOk, option_copied};
 ghost use Rattle.plan_numbers.specs.Joined.{end_at, is_joined, provider_of};
-ghost use Rattle.plan_numbers.specs.Keys.{pair_number};
+ghost use Rattle.plan_numbers.specs.Keys.{keys_of, number_in, pair_number};
 ghost use Rattle.plan_numbers.specs.Parts.{areas_of, events_of, runnables_of};
 ghost use Rattle.plan_ports.specs.ComSpecs.{AreTables};
 ghost use Rattle.plan_ports.specs.Listed.{AreLists, AreNumbers, ArePairs};
 ghost use Rattle.plan_ports.specs.Ports.{com_spec_of, queue_length_of};
-ghost use Rattle.plan_ports.specs.Things.{element_number, machine_for, machine_number, mode_port_number, server_number};
+ghost use Rattle.plan_ports.specs.Things.{elements_of, machine_for, machine_number, mode_port_number, server_number};
 
 use crate::com_specs::{PortTables, com_spec_of, port_tables};
 use crate::joined::Joined;
@@ -92,11 +92,11 @@ impl Source<'_> {
         self.joined.is_joined(end)
     }
 
-    /// The number of an element of an instance, or of a variable, which has no port.
-    pub fn element_number(&self, instance: u32, port: Option<u32>, item: u32) -> u32
-        ensures { result ≡ element_number self.now.d.now self.now.f.now instance port item }
+    /// The number of an element of an owner, or of a variable, which has no port.
+    pub fn element_number(&self, owner: Option<u32>, port: Option<u32>, item: u32) -> u32
+        ensures { result ≡ number_in (keys_of (elements_of self.now.d.now self.now.f.now)) (owner, port, item) }
     {
-        self.sites.elements.number((Some(instance), port, item))
+        self.sites.elements.number((owner, port, item))
     }
 
     /// The number of a server of an instance.
