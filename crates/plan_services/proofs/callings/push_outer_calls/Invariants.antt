@@ -1,0 +1,8 @@
+use Rattle.std.proofs.Common.{◌≡◌, ◌++◌, ◌-◌, map}
+use Rattle.plan_numbers.specs.Lists.{positions}
+use Rattle.plan_services.specs.Callings.{outer_calling}
+use Rattle.plan_services.proofs.callings.push_outer_calls.Given as goal
+
+abbrev pub invariant-loop-item : goal.invariant-loop-item
+invariant-loop-item l = l.initial.list.items ++ map (outer_calling l.port) (positions 0 l.count)
+    ≡ l.list.items ++ map (outer_calling l.port) (positions l.item (l.count - l.item))

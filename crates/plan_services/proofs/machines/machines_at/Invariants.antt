@@ -1,0 +1,7 @@
+use Rattle.std.proofs.Common.{◌≡◌, map, take}
+use Rattle.std.specs.Option.{unwrap_or}
+use Rattle.plan_services.specs.Modes.{machine_at}
+use Rattle.plan_services.proofs.machines.machines_at.Given as goal
+
+abbrev pub invariant-loop-site : goal.invariant-loop-site
+invariant-loop-site l = l.list.items ≡ map (λ s. machine_at l.source.d.now l.source.f.now s.owner (unwrap_or s.port 0)) (take l.site-index l.sites)

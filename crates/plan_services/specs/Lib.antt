@@ -1,0 +1,4 @@
+pub mod Callings
+pub mod Invoked
+pub mod Modes
+pub mod Services

@@ -1,0 +1,38 @@
+-- Mode machines, and who requires them (Software Component Template: ModeDeclarationGroupPrototype).
+use Rattle.std.specs.Prelude.{ℕ, List, [], map, Option, None, option_and_then, slice_get}
+use Rattle.std.specs.Option.{option_map_or, unwrap_or}
+use Rattle.interface_types.specs.declared.interface.InterfaceKind.{InterfaceKind}
+use Rattle.interface_types.specs.declared.interface.InterfaceKind.TheVariants.{ModeSwitch}
+use Rattle.interface_types.specs.declared.interface.ModeGroup.{ModeGroup}
+use Rattle.description_types.specs.declared.description.Description.{Description}
+use Rattle.composition_flatten.specs.declared.flat.Flat.{Flat}
+use Rattle.plan_numbers.specs.declared.site.Site.{Site}
+use Rattle.bus_semantics.specs.declared.plan.MachinePlan.{MachinePlan}
+use Rattle.bus_semantics.specs.declared.plan.ModePortPlan.{ModePortPlan}
+use Rattle.plan_ports.specs.Ports.{interface_of, item_text, queue_length_of}
+use Rattle.plan_ports.specs.Things.{machine_for, machines_of, mode_ports_of}
+
+abbrev pub group_in : Description → InterfaceKind → Option ModeGroup
+group_in d (ModeSwitch element) = slice_get d.types.mode_groups element.of_type
+group_in d _ = None
+
+abbrev pub group_at : Description → Flat → Option ℕ → ℕ → Option ModeGroup
+group_at d f owner k = option_and_then (group_in d) (interface_of d f owner k)
+
+abbrev pub machine_at : Description → Flat → Option ℕ → ℕ → MachinePlan
+machine_at d f owner k = record {
+  instance = owner;
+  name = item_text d f owner k 0;
+  modes = option_map_or (λ g. g.modes) (group_at d f owner k) [];
+  initial = option_map_or (λ g. g.initial_mode) (group_at d f owner k) 0;
+  queue = queue_length_of d f owner k 0;
+}
+
+abbrev pub machines : Description → Flat → List MachinePlan
+machines d f = map (λ s. machine_at d f s.owner (unwrap_or s.port 0)) (machines_of d f)
+
+abbrev pub mode_port_at : Description → Flat → Option ℕ → ℕ → ModePortPlan
+mode_port_at d f owner k = record { instance = owner; name = item_text d f owner k 0; machine = machine_for d f owner k }
+
+abbrev pub mode_ports : Description → Flat → List ModePortPlan
+mode_ports d f = map (λ s. mode_port_at d f s.owner (unwrap_or s.port 0)) (mode_ports_of d f)
