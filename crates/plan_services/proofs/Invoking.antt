@@ -31,7 +31,7 @@ same_invocation : (k n : ℕ) (kind : EventKind) → option_eq same_pair (Some (
 same_invocation k n (Timing period) = refl
 same_invocation k n Init = refl
 same_invocation k n (DataReceived port element) = refl
-same_invocation k n (OperationInvoked port operation) = λ j. nat_eq_sym k port j && nat_eq_sym n operation j
+same_invocation k n (OperationInvoked port operation) = refl
 same_invocation k n (CallReturns port operation) = refl
 same_invocation k n (ModeSwitch port activation) = refl
 same_invocation k n (ModeSwitchedAck port) = refl
