@@ -12,7 +12,7 @@ use Rattle.description_types.specs.declared.component.EventKind.TheVariants.{Tim
 use Rattle.plan_numbers.specs.Keys.{same_pair}
 use Rattle.mapping_rules.specs.Mapped.{invocation_of, invokes}
 use Rattle.plan_services.specs.Invoked.{all_invoked, invoked_by, invoked_in}
-use Rattle.plan_services.proofs.Pointing.{nat_eq_sym, position_map}
+use Rattle.plan_services.proofs.Pointing.{position_map}
 
 pub slice_get_map : {X Y : Type 0} (f : X → Y) (xs : List X) (i : ℕ) → slice_get (map f xs) i ≡ option_map f (slice_get xs i)
 slice_get_map f [] i = refl
