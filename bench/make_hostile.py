@@ -1,0 +1,270 @@
+#!/usr/bin/env python3
+"""Writes a description that is hard to make flat to standard output.
+
+    make_hostile.py CASE [MEBIBYTES]
+
+It is of nearly the given number of MiB, 8 where none is given.
+The functions below that take one number are the cases; their first lines say what each description is.
+"""
+
+import json
+import sys
+
+DATA_TYPE = {"shortName": "T", "baseType": "sint16", "lower": 0, "upper": 1, "words": 1}
+
+
+def interface(name, *elements):
+    listed = [{"shortName": e, "type": "T", "swImplPolicy": "standard"} for e in elements]
+    return {"kind": "SenderReceiverInterface", "shortName": name, "dataElements": listed}
+
+
+def port(kind, name, of):
+    return {"kind": kind + "PortPrototype", "shortName": name, "interface": of}
+
+
+def ports(kind, letter, of, count):
+    return [port(kind, f"{letter}{n}", of) for n in range(count)]
+
+
+def component(name, *lists):
+    return {"shortName": name, "ports": [p for ports in lists for p in ports], "behavior": {}}
+
+
+def prototype(name, of):
+    return {"shortName": name, "type": of}
+
+
+def assembly(provider, requester):
+    return {"kind": "AssemblySwConnector", "provider": provider, "requester": requester}
+
+
+def delegation(inner, outer):
+    return {"kind": "DelegationSwConnector", "inner": inner, "outer": outer}
+
+
+def composition(name, ports, prototypes, connectors):
+    return {"shortName": name, "ports": ports, "prototypes": prototypes, "connectors": connectors}
+
+
+def fan(name, kind, of, component, letter, count, outer="q"):
+    """One outer port that is delegated to many of a component's."""
+    inner = [delegation(["w", f"{letter}{n}"], outer) for n in range(count)]
+    return composition(name, [port(kind, outer, of)], [prototype("w", component)], inner)
+
+
+def hubs(name, kind, of, held, count, inner="q"):
+    """Many outer ports that are all delegated to one."""
+    to = [delegation(["a", inner], f"h{n}") for n in range(count)]
+    return composition(name, ports(kind, "h", of, count), [prototype("a", held)], to)
+
+
+def whole(interfaces, components, compositions, root="Top"):
+    return {
+        "dataTypes": [DATA_TYPE],
+        "interfaces": interfaces,
+        "components": components,
+        "compositions": compositions,
+        "root": root,
+        "mapping": {"cores": 1},
+    }
+
+
+def top(prototypes, connectors, ports=()):
+    return composition("Top", list(ports), prototypes, connectors)
+
+
+AB = [interface("I", "x"), interface("J", "y")]
+SIDES = [prototype("p", "P"), prototype("r", "R")]
+
+
+def two_sides(width, count, required="I"):
+    """Sides P and R: many outer ports of each, all delegated to the same ports of a component."""
+    components = [component("W", ports("P", "o", "I", width)), component("V", ports("R", "i", required, width))]
+    compositions = [
+        hubs("P", "P", "I", "P2", count),
+        fan("P2", "P", "I", "W", "o", width),
+        hubs("R", "R", required, "R2", count),
+        fan("R2", "R", required, "V", "i", width),
+    ]
+    return components, compositions
+
+
+def across(n):
+    """An assembly from each outer port of the one side to one of the other."""
+    return top(SIDES, [assembly(["p", f"h{k}"], ["r", f"h{k}"]) for k in range(n)])
+
+
+def connectors(n):
+    """Many assemblies that all lead to the same 256 x 256 ports."""
+    components, below = two_sides(256, n)
+    return whole(AB, components, [across(n)] + below)
+
+
+def connectors_apart(n):
+    """Many assemblies that all lead to the same ports, which are as many, and share no item."""
+    components, below = two_sides(n, n, "J")
+    return whole(AB, components, [across(n)] + below)
+
+
+def near(n):
+    """Many assemblies that all lead to the same 200 x 200 ports and to two of their own, which join nothing else."""
+    interfaces = AB + [interface("A", "a"), interface("B", "b")]
+    components = [
+        component("W", ports("P", "o", "I", 200)),
+        component("V", ports("R", "i", "I", 200)),
+        component("W2", ports("P", "o", "A", n)),
+        component("V2", ports("R", "i", "B", n)),
+    ]
+    left = hubs("P", "P", "I", "P2", n)
+    left["prototypes"].append(prototype("b", "W2"))
+    left["connectors"] += [delegation(["b", f"o{k}"], f"h{k}") for k in range(n)]
+    right = hubs("R", "R", "I", "R2", n)
+    right["prototypes"].append(prototype("b", "V2"))
+    right["connectors"] += [delegation(["b", f"i{k}"], f"h{k}") for k in range(n)]
+    below = [left, fan("P2", "P", "I", "W", "o", 200), right, fan("R2", "R", "I", "V", "i", 200)]
+    return whole(interfaces, components, [across(n)] + below)
+
+
+def equal(n):
+    """One assembly written many times, between ports of 256 ports each."""
+    components, below = two_sides(256, 1)
+    return whole(AB, components, [top(SIDES, [assembly(["p", "h0"], ["r", "h0"]) for k in range(n)])] + below)
+
+
+def names(n):
+    """Many ports and many ports, each of an interface of its own, whose names are all different."""
+    interfaces = [interface(f"A{k}", f"a{k}") for k in range(n)] + [interface(f"B{k}", f"b{k}") for k in range(n)]
+    components = [
+        component("W", [port("P", f"o{k}", f"A{k}") for k in range(n)]),
+        component("V", [port("R", f"i{k}", f"B{k}") for k in range(n)]),
+    ]
+    below = [fan("P", "P", "A0", "W", "o", n), fan("R", "R", "B0", "V", "i", n)]
+    return whole(interfaces, components, [top(SIDES, [assembly(["p", "q"], ["r", "q"])])] + below)
+
+
+def names_own(n):
+    """Many ports and many ports, each joined to one."""
+    interfaces = [interface(f"A{k}", f"a{k}") for k in range(n)]
+    components = [
+        component("W", [port("P", f"o{k}", f"A{k}") for k in range(n)]),
+        component("V", [port("R", f"i{k}", f"A{k}") for k in range(n)]),
+    ]
+    below = [fan("P", "P", "A0", "W", "o", n), fan("R", "R", "A0", "V", "i", n)]
+    return whole(interfaces, components, [top(SIDES, [assembly(["p", "q"], ["r", "q"])])] + below)
+
+
+def names_split(n, letter="b"):
+    """Each provided port has its own assembly to a port that is delegated to all required ones; no names are shared."""
+    interfaces = [interface(f"A{k}", f"a{k}") for k in range(n)]
+    interfaces += [interface(f"B{k}", f"{letter}{k}") for k in range(n)]
+    components = [
+        component("W", [port("P", f"o{k}", f"A{k}") for k in range(n)]),
+        component("V", [port("R", f"i{k}", f"B{k}") for k in range(n)]),
+    ]
+    below = [fan("R", "R", "B0", "V", "i", n)]
+    sides = [prototype("p", "W"), prototype("r", "R")]
+    return whole(interfaces, components, [top(sides, [assembly(["p", f"o{k}"], ["r", "q"]) for k in range(n)])] + below)
+
+
+def names_split_own(n):
+    """The same, where each provided port is joined to one required one."""
+    return names_split(n, "a")
+
+
+def alternate(n):
+    """Two compositions of very many assemblies each, which stand in turn."""
+    side = int((n // 2) ** 0.5)
+    made = component("W", ports("P", "o", "I", side), ports("R", "i", "J", side))
+    inner = [assembly(["w", f"o{a}"], ["w", f"i{b}"]) for a in range(side) for b in range(side)]
+    below = [composition(name, [], [prototype("w", "W")], inner) for name in ("A", "B")]
+    return whole(AB, [made], [top([prototype(f"p{k}", "AB"[k % 2]) for k in range(1024)], [])] + below)
+
+
+def instances(n, required="J"):
+    """One provided port and very many required ones of each of 1,022 instances."""
+    components = [component("W", ports("P", "o", "I", 1)), component("V", ports("R", "i", required, n))]
+    stand = [f"a{k}" for k in range(1022)]
+    down = [delegation([s, "q"], "q") for s in stand]
+    many = composition("M", [port("R", "q", required)], [prototype(s, "R") for s in stand], down)
+    root = top([prototype("p", "W"), prototype("r", "M")], [assembly(["p", "o0"], ["r", "q"])])
+    return whole(AB, components, [root, many, fan("R", "R", required, "V", "i", n)])
+
+
+def instances_joined(n):
+    """The same, where all are joined, so that there are too many joins."""
+    return instances(n, "I")
+
+
+def inner(n):
+    """One port of each of 1,022 instances, each reached over very many ports of its composition."""
+    components = [component("W", ports("P", "o", "I", 1)), component("V", ports("R", "i", "I", 1))]
+    stand = [f"a{k}" for k in range(1022)]
+    down = [delegation([s, "q"], "q") for s in stand]
+    many = composition("M", [port("R", "q", "I")], [prototype(s, "L") for s in stand], down)
+    sides = [prototype("p", "W"), prototype("r", "M")]
+    below = [many, fan("L", "R", "I", "K", "h", n), hubs("K", "R", "I", "V", n, "i0")]
+    return whole(AB, components, [top(sides, [assembly(["p", "o0"], ["r", "q"])])] + below)
+
+
+def outers(n):
+    """Many ports of the root, all delegated to the same ports, whose items have other names."""
+    components = [component("V", ports("R", "i", "J", n))]
+    root = hubs("Top", "R", "I", "R", n)
+    return whole(AB, components, [root, fan("R", "R", "J", "V", "i", n)])
+
+
+def hub_joined(n):
+    """One provided port that many assemblies lead to the same required ports."""
+    components = [component("W", ports("P", "o", "I", 1)), component("V", ports("R", "i", "I", n))]
+    below = [hubs("R", "R", "I", "R2", n), fan("R2", "R", "I", "V", "i", n)]
+    sides = [prototype("p", "W"), prototype("r", "R")]
+    return whole(AB, components, [top(sides, [assembly(["p", "o0"], ["r", f"h{k}"]) for k in range(n)])] + below)
+
+
+def levels(n):
+    """Seven levels of ports, each delegated to all of the next, and as many assemblies."""
+    width = int((n / 8) ** 0.5)
+    components = [component("W", ports("P", "o", "I", width)), component("V", ports("R", "i0", "I", 1))]
+    below = []
+    for level in range(6):
+        held, letter, count = ("V", "i0", 1) if level == 5 else (f"L{level + 1}", "h", width)
+        to = [delegation(["a", f"{letter}{b}"], f"h{a}") for a in range(width) for b in range(count)]
+        below.append(composition(f"L{level}", ports("R", "h", "I", width), [prototype("a", held)], to))
+    sides = [prototype("p", "W"), prototype("r", "L0")]
+    across = [assembly(["p", f"o{a}"], ["r", f"h{b}"]) for a in range(width) for b in range(width)]
+    return whole(AB, components, [top(sides, across)] + below)
+
+
+def above_cycle(n):
+    """A long row of compositions, each of the next, of which the last contains itself."""
+    below = [{"shortName": f"C{k}", "prototypes": [prototype("p", f"C{min(k + 1, n - 1)}")]} for k in range(n)]
+    return whole(AB, [], below, "C0")
+
+
+def between_cycles(n):
+    """The same row from a composition that contains itself, which is declared last."""
+    last = {"shortName": "Top", "prototypes": [prototype("p", "Top"), prototype("q", "C0")]}
+    return whole(AB, [], above_cycle(n)["compositions"] + [last], "Top")
+
+
+CASES = [
+    connectors, connectors_apart, near, equal, names, names_own, names_split, names_split_own, alternate, instances,
+    instances_joined, inner, outers, hub_joined, levels, above_cycle, between_cycles,
+]
+
+
+def text(case, count):
+    return json.dumps(case(count), separators=(",", ":"))
+
+
+def main():
+    case = next(case for case in CASES if case.__name__ == sys.argv[1])
+    wanted = int(float(sys.argv[2] if len(sys.argv) > 2 else 8) * 1048576)
+    few, many = len(text(case, 1000)), len(text(case, 2000))
+    count = 1000 + (wanted - few) * 1000 // (many - few)
+    while len(text(case, count)) > wanted:
+        count -= max(1, count // 100)
+    sys.stdout.write(text(case, count))
+
+
+main()
