@@ -7,13 +7,14 @@ use Rattle.rte_value.specs.declared.value.Value.{Value}
 use Rattle.rte_value.specs.declared.kinds.ActKey.{ActKey}
 use Rattle.rte_value.specs.Values.{words_of, same_words, same_key, same_number}
 use Rattle.bus_semantics.specs.declared.plan.PointPlan.{PointPlan}
-use Rattle.bus_semantics.specs.declared.entries.Actor.TheVariants.{Act}
+use Rattle.bus_semantics.specs.declared.entries.Actor.{Actor}
+use Rattle.bus_semantics.specs.declared.entries.Actor.TheVariants.{Env, Machine, Act}
 use Rattle.bus_semantics.specs.declared.entries.Deed.{Deed}
 use Rattle.bus_semantics.specs.declared.entries.Deed.TheVariants as deed
 use Rattle.bus_semantics.specs.declared.entries.Entry.{Entry}
 use Rattle.bus_semantics.specs.Plan.{Plan, server_of, runnable_of_event}
 use Rattle.bus_semantics.specs.Wanted.{Wanted, to_start, to_write, to_read, to_invalidate, to_see_updated, to_end, wanted_by, same_wanted}
-use Rattle.bus_semantics.specs.History.{History, is_over, is_end, is_of, event_started, needs_event, runs, last_started}
+use Rattle.bus_semantics.specs.History.{History, is_environment, is_over, is_end, is_of, made_by, event_started, needs_event, runs, last_started}
 use Rattle.bus_semantics.specs.Actor.{Activation, with_deed, activation_of, next_wish, direct_key, asked_last, is_held_back, caller_has_asked, may_start, is_this, is_wanted_next, starts_or_goes_on, follows_program}
 use Rattle.bus_semantics.specs.Locality.{starts_its_own}
 use Rattle.task_machine.specs.declared.instr.TaskSet.{TaskSet}
@@ -252,3 +253,28 @@ module _ (p : Plan) (t : TaskSet) (g : History) (events : List ℕ) where
       of_test : (j : ActKey) → is_key_of p events j ≡ true → (b : Bool) → same_key j k ≡ b → runs j (entry_by k deed.End ∷ g) ≡ false
       of_test j mine true same = runs_no_more k j g same
       of_test j mine false other = runs_on k j deed.End g other ∙ stands.one j mine ∙ other
+
+-- ---- an entry of no activation
+
+-- nobody's key made it
+no_activation : (k : ActKey) (a : Actor) → is_environment a ≡ true → made_by k a ≡ false
+no_activation k Env env = refl
+no_activation k (Machine n) env = refl
+no_activation k (Act j) env = absurd (false≢true env)
+
+pub environment_stands : (p : Plan) (t : TaskSet) (g : History) (e : Entry) (events : List ℕ) (running : Option ActKey) (f : Standing) → is_environment e.actor ≡ true → TaskStands p t g events running f → TaskStands p t (e ∷ g) events running f
+environment_stands p t g e events running f env stands = record {
+  one = λ k mine. ap (λ b. if b then (if is_over e.deed then false else true) else runs k g) (no_activation k e.actor env) ∙ stands.one k mine;
+  frame = of_running running stands.frame;
+}
+  where
+    of_running : (running : Option ActKey) → StandsForRunning t g f running → StandsForRunning t (e ∷ g) f running
+    of_running None frame = tt
+    of_running (Some k) frame = record {
+      activation = frame.activation;
+      current = ap (λ b. if b then with_deed e.deed (activation_of k g) else activation_of k g) (no_activation k e.actor env) ∙ frame.current;
+      point = frame.point;
+      value = frame.value;
+      words = frame.words;
+      stands = frame.stands;
+    }

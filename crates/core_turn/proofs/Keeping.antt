@@ -1,5 +1,5 @@
 -- The entry of a turn keeps cores and objects lawful.
-use Rattle.std.proofs.Common.{◌≡◌, ◌≢◌, ℕ, Bool, true, false, ◌&&◌, if◌then◌else◌, refl, sym, ◌∙◌, ap, subst, List, ◌∷◌, set, Option, Some, None}
+use Rattle.std.proofs.Common.{zero, suc, [], ◌≡◌, ◌≢◌, ℕ, Bool, true, false, ◌&&◌, if◌then◌else◌, refl, sym, ◌∙◌, ap, subst, List, ◌∷◌, set, Option, Some, None}
 use Rattle.std.specs.Prelude.{is_none, unwrap_or, option_map}
 use Rattle.std.specs.List.{slice_get}
 use Rattle.std.proofs.lemmas.Bool.{false≢true}
@@ -31,7 +31,7 @@ use Rattle.core_turn.specs.Cores.{CoreState}
 use Rattle.core_turn.specs.Ready.{IsBegunIn, IsReady}
 use Rattle.core_turn.specs.Standing.{SlotStands, CoreStands}
 use Rattle.core_turn.specs.Looking.{IsEntryOf, MadeAt, Told}
-use Rattle.core_turn.specs.Turning.{StepFollows, FirstInOrder, OrderTold, Steps}
+use Rattle.core_turn.specs.Turning.{StepFollows, FirstInOrder, OrderTold, Steps, NoneTold, NothingComes}
 use Rattle.core_turn.specs.Lawful.{IsLawful}
 use Rattle.core_turn.proofs.Basics.{both, same_test, differ_test}
 use Rattle.core_turn.proofs.Facts.{enabled, end_touches}
@@ -278,3 +278,22 @@ module _ (p : Plan) (m : Mapping) (t : TaskSet) (cores : List CoreState) (i : �
         ready = λ j c found. cores_ready j c (placed cores i new j c found);
         stands = λ j c found. cores_stand j c (placed cores i new j c found);
       }
+
+-- ---- a turn without an entry
+
+set_found : {X : Type 0} (xs : List X) (i : ℕ) (x : X) → slice_get xs i ≡ Some x → set xs i x ≡ xs
+set_found [] i x e = refl
+set_found (y ∷ xs) zero x e = let same : y ≡ x = cc in ap (λ z. z ∷ xs) (sym same)
+set_found (y ∷ xs) (suc i) x e = ap (λ ys. y ∷ ys) (set_found xs i x e)
+
+pub still_lawful : (p : Plan) (m : Mapping) (t : TaskSet) (cores : List CoreState) (i : ℕ) (old new : CoreState) (objects after : List Object) (before now : Told) (h : History)
+    → IsLawful p m t cores objects h → slice_get cores i ≡ Some old → before.objects ≡ Some objects → now.objects ≡ Some after → NothingComes p t old new before now
+    → IsLawful p m t (set cores i new) after h
+still_lawful p m t cores i old new objects after before now h lawful is told tells none =
+    let kept = subst (λ o. NoneTold p t old o now.objects) told none.objects in
+    let same : after ≡ objects = both_some (sym tells ∙ kept.1) in
+    let all : set cores i new ≡ cores = ap (set cores i) none.same ∙ set_found cores i old is in
+    subst (λ cs. IsLawful p m t cs after h) (sym all) (subst (λ os. IsLawful p m t cores os h) (sym same) lawful)
+  where
+    both_some : {x y : List Object} → Some x ≡ Some y → x ≡ y
+    both_some e = cc

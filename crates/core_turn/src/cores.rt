@@ -39,8 +39,9 @@ impl Model for Core {
 }
 
 impl Core {
-    /// The core of this number of the mapping, with its tasks in the order of the description and frames for these bodies. No
-    /// activation runs, and the trace is empty and has no room. The only error is that there is no memory.
+    /// The core of this number of the mapping, with its tasks in the order of the description and frames for these
+    /// bodies (SWS_RTE: mapping of RTEEvents to tasks). No activation runs, and the trace is empty and has no room. The
+    /// only error is that there is no memory.
     pub fn new(alloc: Global, m: &Mapping, t: &TaskSet, number: u32) -> Result<Core, Memory>
         ensures number { IfOk result (λ c. c.number ≡ number) }
         ensures tasks { IfOk result (λ c. HasTasks m.now c) }
@@ -58,7 +59,8 @@ impl Core {
         })
     }
 
-    /// Room in the trace for so many more entries. Where there is no memory for it, the trace keeps its entries and its room.
+    /// Room in the trace for so many more entries. Where there is no memory for it, the trace keeps its entries and its
+    /// room.
     pub fn make_room(&mut self, _alloc: Global, n: u32) -> Result<(), Memory>
         ensures room { OnOk result (n ≤ self.new.room) }
         ensures kept { self.old.room ≤ self.new.room }
@@ -97,7 +99,7 @@ impl Core {
 }
 
 impl Core {
-    /// The slot at this place has made this entry: it is the last of the trace, and the next turn begins behind the slot.
+    /// The slot at this place has made this entry: it is the last of the trace, and the next turn begins behind it.
     pub(crate) fn note(&mut self, at: usize, stamped: Stamped)
         requires room { 0 < self.old.room }
         requires within { at < length self.old.slots }

@@ -14,7 +14,7 @@ mod trying;
 mod turning;
 
 pub use cores::Core;
-pub use laws::turns_keep_the_law;
+pub use laws::{cores_stand_beside_the_environment, turns_keep_the_law};
 pub use turning::{Turned, turn};
 
 /// There was no memory for what a call makes.

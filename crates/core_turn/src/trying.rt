@@ -10,8 +10,8 @@ use crate::look::Look;
 use bus_semantics::{Actor, BusPlan, Deed, Entry, Stamped, Wish};
 use port_objects::{Bench, Benched, object_of};
 
-/// Makes the entry of a wish, where one may come: on the object that it touches, else by a stamp. So far a wish that touches no
-/// object is an end.
+/// Makes the entry of a wish, where one may come: on the object that it touches, else by a stamp. So far a wish that
+/// touches no object is an end.
 pub(crate) fn try_wish<B: Bench>(p: &BusPlan, who: &Actor, wish: &Wish, bench: &mut B) -> Look
     requires room { 0 < B.room bench.old }
     requires plan { B.plan bench.old ≡ plan_of p.now }

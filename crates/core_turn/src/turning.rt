@@ -25,11 +25,12 @@ pub enum Turned {
     Contended(u32),
 }
 
-/// Makes a turn of a core over a bench: it looks at the core's tasks in cyclic order, beginning behind the one that stepped
-/// last, and makes the first entry that may come (OS: scheduling; SWS_RTE: runnable activation). It takes no memory.
+/// Makes a turn of a core over a bench: it looks at the core's tasks in cyclic order, beginning behind the one that
+/// stepped last, and makes the first entry that may come (OS: scheduling; SWS_RTE: runnable activation). It takes no
+/// memory.
 ///
-/// A task with a running activation tries that activation's next call; a free task tries its events in order of position. So
-/// far the plan is one of unqueued data without implicit access, and has no client-server ports.
+/// A task with a running activation tries that activation's next call; a free task tries its events in order of
+/// position. So far the plan is one of unqueued data without implicit access, and has no client-server ports.
 pub fn turn<B: Bench>(p: &BusPlan, t: &TaskSet, c: &mut Core, b: &mut B) -> Turned
     requires room { 0 < c.old.room }
     requires bench_room { 0 < B.room b.old }
