@@ -15,3 +15,6 @@ mod script_read;
 mod values;
 
 pub use script_read::{ScriptRead, read_script};
+
+#[cfg(test)]
+mod tests;
