@@ -1,6 +1,6 @@
 -- Numbers and words as `parse` reads them.
-use Rattle.std.proofs.Common.{◌≡◌, ℕ, zero, suc, ◌+◌, ◌^◌, ◌<◌, ◌≤◌, ◌==◌, Bool, true, false, not, ◌&&◌, cond, List, [], ◌∷◌, length, get_or, drop, Result, Ok, Err, inl, inr, ℤ, pos, negsuc, refl, sym, ap, ◌∙◌, subst, arith, w64, nat_le}
-use Rattle.std.proofs.lemmas.Bool.{leb-true, le-leb, cases_lt, false_from_ne_true, eqb-true, cases_Bool}
+use Rattle.std.proofs.Common.{◌≡◌, ℕ, zero, suc, ◌^◌, ◌<◌, ◌≤◌, ◌==◌, Bool, true, false, ◌&&◌, cond, List, [], ◌∷◌, length, get_or, drop, Result, Err, inl, inr, ℤ, pos, negsuc, refl, sym, subst, arith, w64, nat_le}
+use Rattle.std.proofs.lemmas.Bool.{leb-true, le-leb, cases_lt, false_from_ne_true, eqb-true}
 use Rattle.std.proofs.lemmas.Str.Parse.{IsDigitsTest, IsNumeralModel, numerals_by_value, without_leading_plus_none}
 use Rattle.std.proofs.lemmas.Fmt.{IsAscii-from_digits}
 use Rattle.std.proofs.lemmas.Str.{IsUtf8-from_ascii}
@@ -9,8 +9,8 @@ use Rattle.std.specs.Int.RustNames.{FitsSigned}
 use Rattle.std.specs.List.{list_all}
 use Rattle.std.specs.Result.{OkIff}
 use Rattle.std.specs.Str.{IsUtf8, IsAscii}
-use Rattle.std.specs.Str.Parse.{AllDigits, IsNumeral, ParsesSigned, ParsesUnsigned, digits_value, signed_digits_value, without_leading_plus, without_leading_sign}
-use Rattle.script_run.specs.Numbers.{is_digit, is_empty, is_held, is_negated, is_number, is_word}
+use Rattle.std.specs.Str.Parse.{IsNumeral, ParsesSigned, ParsesUnsigned, digits_value, signed_digits_value, without_leading_plus, without_leading_sign}
+use Rattle.script_run.specs.Numbers.{is_digit, is_held, is_negated, is_number, is_word}
 
 both : (a b : Bool) → (a && b) ≡ true → (a ≡ true) × (b ≡ true)
 both true true h = (refl, refl)

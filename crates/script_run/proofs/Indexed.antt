@@ -1,5 +1,5 @@
 -- One more element, before those that an index has.
-use Rattle.std.proofs.Common.{◌≡◌, ℕ, suc, ◌+◌, ◌<◌, ◌&&◌, cond, List, bytes_eq, drop, length, get_or, Option, Some, Bor, sym, ap, ◌∙◌}
+use Rattle.std.proofs.Common.{◌≡◌, ℕ, suc, ◌+◌, ◌<◌, ◌&&◌, cond, List, bytes_eq, drop, length, get_or, Some, Bor, sym, ap, ◌∙◌}
 use Rattle.std.proofs.lemmas.List.{at_drop_more}
 use Rattle.indexmap.specs.IndexMap.{IndexMap, get_by}
 use Rattle.bus_semantics.specs.declared.plan.ElemPlan.{ElemPlan}

@@ -1,12 +1,12 @@
 -- How far reading has come, and what each step of it shows.
-use Rattle.std.proofs.Common.{◌≡◌, ℕ, ◌+◌, ◌<◌, ◌≤◌, List, [], ◌∷◌, ◌++◌, length, map, Option, Some, None, refl, sym, ap, ◌∙◌, subst, append_assoc, length-append, arith}
+use Rattle.std.proofs.Common.{◌≡◌, ℕ, ◌+◌, List, [], ◌∷◌, ◌++◌, length, map, Some, None, refl, sym, ap, ◌∙◌, subst, append_assoc, length-append, arith}
 use Rattle.std.proofs.lemmas.List.{append-nil}
 use Rattle.bus_semantics.specs.declared.script.Line.{Line}
 use Rattle.bus_semantics.specs.Plan.{Plan}
 use Rattle.bus_semantics.specs.Spelling.{Letters}
 use Rattle.script_run.specs.declared.counts.Counts.{Counts}
 use Rattle.script_run.specs.Texts.{lines_of}
-use Rattle.script_run.specs.Meaning.{Asked, Saying, asked_of, saying}
+use Rattle.script_run.specs.Meaning.{Saying, asked_of, saying}
 use Rattle.script_run.specs.Limits.{ticks_said, runs_said, ticks_in, runs_in}
 use Rattle.script_run.specs.Pieces.{AreCountedWith, cause_after}
 use Rattle.script_run.specs.Reading.{IsScript, asked_by, asked_in, bad_or, cause_of, first_bad}

@@ -2,7 +2,7 @@
 use Rattle.std.specs.Prelude.{ℕ, ◌+◌, List, [], ◌∷◌, Bool, ◌||◌, nat_lt}
 use Rattle.bus_semantics.specs.Plan.{Plan}
 use Rattle.bus_semantics.specs.Spelling.{Letters}
-use Rattle.script_run.specs.Meaning.{Saying, nothing, asks, is_bad, ticks, a_run, a_call, saying}
+use Rattle.script_run.specs.Meaning.{Saying, asks, ticks, a_run, saying}
 
 abbrev pub ticks_said : Saying → ℕ
 ticks_said (asks (ticks n)) = n

@@ -1,6 +1,6 @@
 -- What a line of a script means over a plan. The script and its causes are this project's own; the calls are those of SWS_RTE,
 -- made by the environment at the outer ports of the root.
-use Rattle.std.specs.Prelude.{ℕ, suc, ℤ, List, [], ◌∷◌, length, Bool, true, false, not, ◌&&◌, ◌==◌, int_le, is_some, bytes_eq, codes, if◌then◌else◌, Option, Some, None}
+use Rattle.std.specs.Prelude.{ℕ, suc, ℤ, List, [], ◌∷◌, length, Bool, false, not, ◌&&◌, ◌==◌, int_le, is_some, bytes_eq, codes, if◌then◌else◌, Option, Some, None}
 use Rattle.std.specs.List.{list_all}
 use Rattle.rte_value.specs.declared.kinds.Limits.{Limits}
 use Rattle.bus_semantics.specs.declared.plan.ElemPlan.{ElemPlan}
