@@ -1,0 +1,5 @@
+pub mod Cutting
+pub mod Decimals
+pub mod Held
+pub mod Indexed
+pub mod Steps
