@@ -1,0 +1,41 @@
+-- The turns of the loops that list.
+use Rattle.std.proofs.Common.{◌≡◌, ℕ, zero, suc, ◌+◌, ◌<◌, ◌≤◌, List, [], ◌∷◌, ◌++◌, map, length, get_or, drop, ◌-◌, refl, sym, ap, ◌∙◌, arith, add-one, append_assoc}
+use Rattle.plan_numbers.specs.Lists.{positions, from}
+
+module _ {Y : Type 0} (f : ℕ → Y) where
+  pub one_more : (whole old new : List Y) (i n : ℕ) → i < n → new ≡ old ++ f i ∷ [] → whole ≡ old ++ map f (positions i (n - i)) → whole ≡ new ++ map f (positions (i + 1) (n - (i + 1)))
+  one_more whole old new i n within pushed so_far = so_far ∙ ap (λ k. old ++ map f (positions i k)) one_less ∙ sym (append_assoc old (f i ∷ []) rest) ∙ (λ j. sym pushed j ++ rest)
+    where
+      rest : List Y
+      rest = map f (positions (i + 1) (n - (i + 1)))
+
+      one_less : n - i ≡ suc (n - (i + 1))
+      one_less = omega arith
+
+  pub none_more : (i n : ℕ) → n ≤ i → map f (positions i (n - i)) ≡ []
+  none_more i n past = ap (λ k. map f (positions i k)) none
+    where
+      none : n - i ≡ 0
+      none = omega arith
+
+module _ {X Y : Type 0} (f : ℕ → X → List Y) where
+  from_next : (xs : List X) (n i : ℕ) (x : X) → i < length xs → x ≡ get_or xs i x → from n f (drop i xs) ≡ f n x ++ from (n + 1) f (drop (suc i) xs)
+  from_next [] n i x within is = absurd (omega arith)
+  from_next (y ∷ xs) n zero x within is = ap (λ z. f n z ++ from (n + 1) f xs) (sym is)
+  from_next (y ∷ xs) n (suc i) x within is = from_next xs n i x (omega arith) is
+
+  pub from_none : (xs : List X) (n i : ℕ) → length xs ≤ i → from n f (drop i xs) ≡ []
+  from_none [] n zero past = refl
+  from_none [] n (suc i) past = refl
+  from_none (y ∷ xs) n zero past = absurd (omega arith)
+  from_none (y ∷ xs) n (suc i) past = from_none xs n i (omega arith)
+
+  pub from_more : (xs : List X) (whole old : List Y) (i : ℕ) (x : X) → i < length xs → x ≡ get_or xs i x → whole ≡ old ++ from i f (drop i xs)
+      → whole ≡ (old ++ f i x) ++ from (i + 1) f (drop (i + 1) xs)
+  from_more xs whole old i x within is so_far = so_far ∙ ap (λ ys. old ++ ys) (from_next xs i i x within is)
+      ∙ sym (append_assoc old (f i x) (from (i + 1) f (drop (suc i) xs))) ∙ (λ j. (old ++ f i x) ++ from (i + 1) f (drop (sym (add-one i) j) xs))
+
+-- nothing is added
+pub nothing : {Y : Type 0} (ys zs : List Y) → zs ≡ [] → ys ≡ ys ++ zs
+nothing [] zs none = sym none
+nothing (y ∷ ys) zs none = ap (λ xs. y ∷ xs) (nothing ys zs none)

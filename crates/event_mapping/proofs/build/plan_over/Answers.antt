@@ -1,0 +1,20 @@
+use Rattle.std.proofs.Common.{◌≡◌, ◌∙◌, length}
+use Rattle.event_mapping.specs.Planned.{object_count}
+use Rattle.event_mapping.proofs.build.plan_over.Goals as goal
+
+pub returns : goal.returns
+returns c = λ j. record {
+  names = c.in_ok-items.ensures.names j;
+  elements = c.in_ok-items.ensures.elements j;
+  groups = c.in_ok-items.ensures.groups j;
+  points = c.in_ok-services.ensures.points j;
+  servers = c.in_ok-services.ensures.servers j;
+  areas = c.in_ok-services.ensures.areas j;
+  machines = c.in_ok-modes.ensures.machines j;
+  mode_ports = c.in_ok-modes.ensures.mode_ports j;
+  events = c.in_ok-behavior.ensures.events j;
+  runnables = c.in_ok-behavior.ensures.runnables j;
+  objects = (c.in_ok-objects.ensures
+      ∙ (λ t. object_count (c.len.ensures t) (c.len-2.ensures t) (c.len-3.ensures t) (c.len-4.ensures t))
+      ∙ (λ t. object_count (length (c.in_ok-items.ensures.groups t)) (length (c.in_ok-services.ensures.servers t)) (length (c.in_ok-services.ensures.areas t)) (length (c.in_ok-modes.ensures.machines t)))) j;
+}

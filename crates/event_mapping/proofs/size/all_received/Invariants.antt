@@ -1,0 +1,8 @@
+use Rattle.std.proofs.Common.{◌≡◌, map, take}
+use Rattle.std.specs.List.{sum_by}
+use Rattle.plan_elements.specs.Elements.{elem_seen}
+use Rattle.event_mapping.specs.Rules.{received}
+use Rattle.event_mapping.proofs.size.all_received.Given as goal
+
+abbrev pub invariant-loop-element : goal.invariant-loop-element
+invariant-loop-element l = l.sum ≡ sum_by (λ e. received (elem_seen e)) (take l.element-index l.elements)

@@ -1,0 +1,4 @@
+pub mod Planned
+pub mod Pieces
+pub mod Rules
+pub mod Refusals

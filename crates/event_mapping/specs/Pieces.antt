@@ -1,0 +1,33 @@
+-- The lists of a plan, piece by piece.
+use Rattle.std.specs.Prelude.{◌≡◌, map}
+use Rattle.bus_semantics.specs.Plan.{runnable_of}
+use Rattle.composition_flatten.specs.declared.flat.Flat.{Flat}
+use Rattle.description_types.specs.declared.description.Description.{Description}
+use Rattle.plan_elements.specs.Elements.{elem_seen, elements, leaders}
+use Rattle.plan_elements.specs.Groups.{groups}
+use Rattle.plan_runnables.specs.Started.{events, runnables}
+use Rattle.plan_services.specs.Modes.{machines, mode_ports}
+use Rattle.plan_services.specs.Services.{points, servers}
+use Rattle.event_mapping.specs.declared.pieces.Behavior.{Behavior}
+use Rattle.event_mapping.specs.declared.pieces.Items.{Items}
+use Rattle.event_mapping.specs.declared.pieces.Modes.{Modes}
+use Rattle.event_mapping.specs.declared.pieces.Services.{Services}
+use Rattle.event_mapping.specs.Planned.{areas}
+
+pub record AreItems (d : Description) (f : Flat) (x : Items) : Type 0 where
+  pub names : x.names ≡ map (λ i. i.path) f.instances
+  pub elements : map elem_seen x.elements ≡ elements d f
+  pub groups : x.groups ≡ groups (leaders d f)
+
+pub record AreServices (d : Description) (f : Flat) (x : Services) : Type 0 where
+  pub points : x.points ≡ points d f
+  pub servers : x.servers ≡ servers d f
+  pub areas : x.areas ≡ areas d f
+
+pub record AreModes (d : Description) (f : Flat) (x : Modes) : Type 0 where
+  pub machines : x.machines ≡ machines d f
+  pub mode_ports : x.mode_ports ≡ mode_ports d f
+
+pub record IsBehavior (d : Description) (f : Flat) (x : Behavior) : Type 0 where
+  pub events : x.events ≡ events d f
+  pub runnables : map runnable_of x.runnables ≡ runnables d f

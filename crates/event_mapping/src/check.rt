@@ -1,0 +1,108 @@
+//! The checks of a description made flat, and its plan and mapping where it keeps them.
+
+ghost use Rattle.std.specs.Prelude.{◌≡◌, IfOk, OnOk, Some};
+ghost use Rattle.mapping_rules.specs.Refusals.{Says, Tells, mapping_text};
+ghost use Rattle.mapping_rules.specs.Refusals as rules;
+ghost use Rattle.mapping_rules.specs.Rules.{HaveOrder};
+ghost use Rattle.mapping_rules.specs.Tasks.{are_mapped, mapping_of};
+ghost use Rattle.event_mapping.specs.Planned.{plan_of, seen};
+ghost use Rattle.event_mapping.specs.Refusals.{IsOfSize, IsRefusal, IsThen, of_size};
+
+use crate::build::build_plan;
+use crate::size::is_too_large;
+use bus_semantics::{BusPlan, Mapping};
+use component_rules::check_components;
+use composition_flatten::Flat;
+use description_types::Description;
+use mapping_rules::check_mapping;
+use rte_text::{Refusal, Refused, Text};
+use std::alloc::Global;
+
+fn refuse_size(alloc: Global) -> Result<(), Refused>
+    ensures { Says (Some (30, mapping_text)) result }
+{
+    let place = Text::new(alloc, "/mapping".as_bytes())?;
+    Err(Refused::Rule(Refusal { rule: 30, place }))
+}
+
+fn check_size(alloc: Global, plan: &BusPlan) -> Result<(), Refused>
+    ensures { Says (of_size (seen plan.now)) result }
+{
+    let large = is_too_large(plan)?;
+    if large {
+        return refuse_size(alloc);
+    }
+    Ok(())
+}
+
+fn sized_plan(alloc: Global, d: &Description, f: &Flat, mapped: &[bool]) -> Result<BusPlan, Refused>
+    requires { mapped.now ≡ are_mapped d.now f.now }
+    ensures size { Says (of_size (plan_of d.now f.now)) result }
+    ensures plan { IfOk result (λ plan. seen plan ≡ plan_of d.now f.now) }
+{
+    let plan = build_plan(alloc, d, f, mapped)?;
+    match check_size(alloc, &plan) {
+        Ok(()) => Ok(plan),
+        Err(refused) => Err(refused),
+    }
+}
+
+fn planned(
+    alloc: Global,
+    d: &Description,
+    f: &Flat,
+    mapping: Mapping,
+    mapped: &[bool],
+) -> Result<(BusPlan, Mapping), Refused>
+    requires { mapped.now ≡ are_mapped d.now f.now }
+    ensures size { Says (of_size (plan_of d.now f.now)) result }
+    ensures plan { IfOk result (λ found. seen found.0 ≡ plan_of d.now f.now) }
+    ensures mapping { IfOk result (λ found. found.1 ≡ mapping) }
+{
+    match sized_plan(alloc, d, f, mapped) {
+        Ok(plan) => Ok((plan, mapping)),
+        Err(refused) => Err(refused),
+    }
+}
+
+fn mapped_plan(alloc: Global, d: &Description, f: &Flat) -> Result<(BusPlan, Mapping), Refused>
+    ensures refusal { Tells (IsThen (rules.IsRefusal d.now f.now) (IsOfSize d.now f.now)) result }
+    ensures plan { IfOk result (λ found. seen found.0 ≡ plan_of d.now f.now) }
+    ensures mapping { IfOk result (λ found. found.1 ≡ mapping_of d.now f.now) }
+    ensures order { OnOk result (HaveOrder d.now f.now) }
+{
+    match check_mapping(alloc, d, f) {
+        Ok((mapping, mapped)) => planned(alloc, d, f, mapping, mapped.as_slice()),
+        Err(refused) => Err(refused),
+    }
+}
+
+/// The plan and the mapping of a description, made flat, or the least of the rules below that it breaks, with its first place.
+///
+/// - Each component, used or not, keeps the rules that `check_components` names: 16 at the access, 17 to 20 at the statement or
+///   the program, 21 at the event, 22 at the port or the event, 23 at the access or the event, 24 at the event; each place is a
+///   JSON pointer, the first in the order of the document.
+/// - The mapping and the instances keep those that `check_mapping` names: 25 at the mapped event, a JSON pointer; 26 and 28 at
+///   `INSTANCE.EVENT`; 27 at `INSTANCE:RUNNABLE`; 29 at `/mapping`.
+/// - The plan has at most 16,384 objects (groups of elements, servers, exclusive areas, mode machines, and the clock) and 16,384
+///   events, and the queue lengths of all receivers, queued servers and mode machines are together at most 65,536 (30, at
+///   `/mapping`). Every required queued element is a receiver, joined or not, the environment's too.
+///
+/// The plan lists everything by instance and in declared order, what belongs to the environment last; groups by their least
+/// element. The mapping has the tasks on their cores, each with the numbers of its events in the order of their positions. The
+/// tasks can be put in an order in which each waits by `call` only for later ones.
+///
+/// An error of `Memory` may come at any time.
+///
+/// SWS_RTE: RteEventToTaskMapping.
+pub fn map_events(alloc: Global, d: &Description, f: &Flat) -> Result<(BusPlan, Mapping), Refused>
+    ensures refusal { Tells (IsRefusal d.now f.now) result }
+    ensures plan { IfOk result (λ found. seen found.0 ≡ plan_of d.now f.now) }
+    ensures mapping { IfOk result (λ found. found.1 ≡ mapping_of d.now f.now) }
+    ensures order { OnOk result (HaveOrder d.now f.now) }
+{
+    match check_components(alloc, d) {
+        Ok(()) => mapped_plan(alloc, d, f),
+        Err(broken) => Err(broken),
+    }
+}

@@ -1,0 +1,13 @@
+//! The plan of a description made flat, and its mapping.
+#![tactic(auto)]
+
+mod areas;
+mod build;
+mod check;
+mod pieces;
+mod size;
+
+pub use check::map_events;
+
+#[cfg(test)]
+mod tests;
