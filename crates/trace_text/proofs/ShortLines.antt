@@ -27,16 +27,8 @@ use Rattle.bus_semantics.specs.Spelling.{Letters, actor_text, area_name, caller_
 use Rattle.trace_text.specs.Short.{IsShort, IsShortFrom, IsShortStep}
 use Rattle.trace_text.proofs.ShortNames.{look_short, name_short, pair_short, path_short}
 
--- ---- the names of a sound plan
+-- ---- the tests that a sound plan's names pass
 
-elem_short : (e : ElemPlan) → cond (is_variable e) (is_name e.name) (is_pair_name e.name) ≡ true → length e.name ≤ 65
-elem_short e h = by_kind (is_variable e) h
-  where
-    by_kind : (b : Bool) → cond b (is_name e.name) (is_pair_name e.name) ≡ true → length e.name ≤ 65
-    by_kind true h = let short = name_short e.name h in omega arith
-    by_kind false h = pair_short e.name h
-
--- the tests that a sound plan's names pass
 abbrev test_elem : ElemPlan → Bool
 test_elem e = cond (is_variable e) (is_name e.name) (is_pair_name e.name)
 
@@ -57,6 +49,13 @@ test_event v = is_name v.name
 
 abbrev test_runnable : Runnable → Bool
 test_runnable r = is_name r.name
+
+elem_short : (e : ElemPlan) → test_elem e ≡ true → length e.name ≤ 65
+elem_short e h = by_kind (is_variable e) h
+  where
+    by_kind : (b : Bool) → cond b (is_name e.name) (is_pair_name e.name) ≡ true → length e.name ≤ 65
+    by_kind true h = let short = name_short e.name h in omega arith
+    by_kind false h = pair_short e.name h
 
 record NamesPass (p : Plan) : Type 0 where
   paths : list_all is_path p.names ≡ true

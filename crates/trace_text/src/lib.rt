@@ -10,3 +10,6 @@ mod lines;
 mod names;
 
 pub use lines::{header, idle_line, run_line, unsettled_line, write_entry};
+
+#[cfg(test)]
+mod tests;
