@@ -19,6 +19,7 @@ pub fn instance_name(p: &BusPlan, instance: Option<u32>) -> &[u8]
     }
 }
 
+/// The name of the element: `PORT.ELEMENT`, and of a variable its name alone.
 pub fn elem_name(p: &BusPlan, elem: u32) -> &[u8]
     ensures { result.now ≡ elem_name (plan_of p.now) elem }
 {
@@ -28,6 +29,7 @@ pub fn elem_name(p: &BusPlan, elem: u32) -> &[u8]
     }
 }
 
+/// The name of what the point calls: `PORT.OPERATION`.
 pub fn point_name(p: &BusPlan, point: u32) -> &[u8]
     ensures { result.now ≡ point_name (plan_of p.now) point }
 {
@@ -37,6 +39,7 @@ pub fn point_name(p: &BusPlan, point: u32) -> &[u8]
     }
 }
 
+/// The name of the exclusive area.
 pub fn area_name(p: &BusPlan, area: u32) -> &[u8]
     ensures { result.now ≡ area_name (plan_of p.now) area }
 {
@@ -46,6 +49,7 @@ pub fn area_name(p: &BusPlan, area: u32) -> &[u8]
     }
 }
 
+/// The name of the provided mode element: `PORT.ELEMENT`.
 pub fn machine_name(p: &BusPlan, machine: u32) -> &[u8]
     ensures { result.now ≡ machine_name (plan_of p.now) machine }
 {
@@ -55,6 +59,7 @@ pub fn machine_name(p: &BusPlan, machine: u32) -> &[u8]
     }
 }
 
+/// The name of the required mode element: `PORT.ELEMENT`.
 pub fn mode_port_name(p: &BusPlan, port: u32) -> &[u8]
     ensures { result.now ≡ mode_port_name (plan_of p.now) port }
 {
@@ -64,6 +69,7 @@ pub fn mode_port_name(p: &BusPlan, port: u32) -> &[u8]
     }
 }
 
+/// The name of the event.
 pub fn event_name(p: &BusPlan, event: u32) -> &[u8]
     ensures { result.now ≡ event_name (plan_of p.now) event }
 {
