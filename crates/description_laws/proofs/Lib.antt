@@ -1,0 +1,17 @@
+pub mod Lists
+pub mod Kept
+pub mod Prefixes
+pub mod Reach
+pub mod Numerals
+pub mod Hits
+pub mod Shorts
+pub mod Listings
+pub mod Sections
+pub mod Positions
+pub mod Lookups
+pub mod Naming
+pub mod Readings
+pub mod Mappings
+pub mod Widths
+pub mod Beginning
+pub mod Fields

@@ -1,0 +1,6 @@
+//! What a description keeps that has been read: `IsWellFormed` of `sound_descriptions`.
+#![tactic(auto)]
+
+mod laws;
+
+pub use laws::mappings_are_well_formed;
