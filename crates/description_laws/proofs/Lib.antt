@@ -13,5 +13,9 @@ pub mod Naming
 pub mod Readings
 pub mod Mappings
 pub mod Widths
+pub mod Unbroken
+pub mod Words
+pub mod Roots
+pub mod Types
 pub mod Beginning
 pub mod Fields

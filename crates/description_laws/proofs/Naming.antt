@@ -74,7 +74,7 @@ none_same text t no_items h = refl
 none_same text t (item x ps) h =
     or_from _ _ (false_from_ne_true _ (λ e. h 0 x refl (numbers_same t (text x) e))) (none_same text t ps (λ i y is. h (suc i) y is))
 
-in_parts_of : (y : Declared) (kinds : ℕ → Kind) (spots : ℕ → Spot) (j : ℕ) (ps : Items) (i : ℕ) (x : Data) → get_item i ps ≡ Some x
+pub in_parts_of : (y : Declared) (kinds : ℕ → Kind) (spots : ℕ → Spot) (j : ℕ) (ps : Items) (i : ℕ) (x : Data) → get_item i ps ≡ Some x
     → IsIn y (declarations (visits x (kinds (j + i)) (spots (j + i)))) → IsIn y (declarations (in_parts kinds spots j (items_visits ps)))
 in_parts_of y kinds spots j no_items i x is h = absurd (none-some x is)
 in_parts_of y kinds spots j (item p ps) zero x is h =

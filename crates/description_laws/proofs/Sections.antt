@@ -101,7 +101,7 @@ composition_hit ds key d ps kept hit = from_holding (holding ds key ps Compositi
         by_case (inl h) = inl (begins_front (codes "/compositions/") (decimal f.0 ++ codes "/") key (subst (λ p. begins p key ≡ true) (append_assoc (codes "/compositions/") (decimal f.0) (codes "/")) h))
         by_case (inr own) = inr (f.0, f.1.value, f.1.there, own, (short_name ds f.1.value Composition (inside_part (composed d) Compositions (array ps) f.0) refl f.1.kept).fits_name)
 
-at_composition : (ds : List Declared) (key : List ℕ) (d : Data) (ms : Members) → At ds key compositions_key (inside top Description d) ms
+pub at_composition : (ds : List Declared) (key : List ℕ) (d : Data) (ms : Members) → At ds key compositions_key (inside top Description d) ms
     → (begins (codes "/compositions/") key ≡ true) ⊎ ((i : ℕ) × (x : Data) × (y : Items) × (get_member (codes "compositions") ms ≡ Some (array y)) × (get_item i y ≡ Some x) × (bytes_eq key (named (codes "/components") (text_at (codes "shortName") x)) ≡ true) × (is_name (text_at (codes "shortName") x) ≡ true))
 at_composition ds key d ms at =
     on_array (λ x. get_member (codes "compositions") ms ≡ Some x → Kept ds x Compositions (composed d) → Hit key (visits x Compositions (composed d))

@@ -3,4 +3,4 @@
 
 mod laws;
 
-pub use laws::mappings_are_well_formed;
+pub use laws::{mappings_are_well_formed, roots_are_well_formed, types_are_well_formed};
