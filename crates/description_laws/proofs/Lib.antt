@@ -17,5 +17,8 @@ pub mod Unbroken
 pub mod Words
 pub mod Roots
 pub mod Types
+pub mod InterfaceItems
+pub mod Ports
+pub mod Compositions
 pub mod Beginning
 pub mod Fields

@@ -1,7 +1,7 @@
 -- What is in a list, and lists whose items are apart.
 use Rattle.std.proofs.Common.{◌≡◌, ℕ, suc, ◌<◌, List, [], ◌∷◌, ◌++◌, length, Bool, true, refl, sym, subst, arith, ◌⊎◌, inl, inr}
 use Rattle.std.specs.List.{All, AllPairs, list_all}
-use Rattle.std.proofs.lemmas.Bool.{and_parts}
+use Rattle.std.proofs.lemmas.Bool.{and_parts, and_from}
 use Rattle.std.proofs.lemmas.List.Elements.{All-head, All-tail}
 
 abbrev pub IsIn : {X : Type 0} → X → List X → Type 0
@@ -51,3 +51,7 @@ pub list_all_in : {X : Type 0} (test : X → Bool) (xs : List X) (y : X) → lis
 list_all_in test [] y h is = absurd is
 list_all_in test (x ∷ xs) y h (inl e) = subst (λ z. test z ≡ true) (sym e) (and_parts _ _ h).0
 list_all_in test (x ∷ xs) y h (inr is) = list_all_in test xs y (and_parts _ _ h).1 is
+
+pub list_all_more : {X : Type 0} (test other : X → Bool) → ((x : X) → test x ≡ true → other x ≡ true) → (xs : List X) → list_all test xs ≡ true → list_all other xs ≡ true
+list_all_more test other more [] h = refl
+list_all_more test other more (x ∷ xs) h = and_from _ _ (more x (and_parts (test x) _ h).0) (list_all_more test other more xs (and_parts (test x) _ h).1)

@@ -26,7 +26,7 @@ use Rattle.description_laws.proofs.Reach.{reach, is_plain, begin_so, pick_fine}
 use Rattle.description_laws.proofs.Shorts.{has_short, short_name}
 
 -- a value whose declarations all lie within it, where the key does not
-closed_near : (p : List ℕ) (s : Spot) → begins p (s.place ++ codes "/") ≡ true → Reaches p 0 s
+pub closed_near : (p : List ℕ) (s : Spot) → begins p (s.place ++ codes "/") ≡ true → Reaches p 0 s
 closed_near p s h = λ n within. subst (λ m. begins p (level m s ++ codes "/") ≡ true) (zero_is n within) h
   where
     zero_is : (n : ℕ) → n ≤ 0 → 0 ≡ n

@@ -3,4 +3,7 @@
 
 mod laws;
 
-pub use laws::{mappings_are_well_formed, roots_are_well_formed, types_are_well_formed};
+pub use laws::{
+    compositions_are_well_formed, mappings_are_well_formed, roots_are_well_formed,
+    types_are_well_formed,
+};
