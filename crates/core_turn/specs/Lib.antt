@@ -7,3 +7,4 @@ pub mod Standing
 pub mod Looking
 pub mod Turning
 pub mod Lawful
+pub mod Resting
