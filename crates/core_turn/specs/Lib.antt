@@ -8,3 +8,4 @@ pub mod Looking
 pub mod Turning
 pub mod Lawful
 pub mod Resting
+pub mod Small

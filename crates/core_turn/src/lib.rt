@@ -9,6 +9,8 @@ mod looking;
 mod making;
 mod slot;
 mod starting;
+#[cfg(test)]
+mod tests;
 mod threads;
 mod trying;
 mod turning;
