@@ -148,14 +148,14 @@ arguments_at t ps k n = option_map_or (λ (p : Port). option_map_or (λ (i : Int
 -- several such events start one runnable its first counts; a later rule refuses that.)
 abbrev pub serves_fit : TypeTable → Component → List Event → (seen : List ℕ) → Bool
 serves_fit t c [] seen = true
-serves_fit t c (e ∷ es) seen = by_kind e.kind
+serves_fit t c (e ∷ es) seen = by_kind (λ now_seen. serves_fit t c es now_seen) e.kind
   where
     has_variables : ℕ → ℕ → Bool
     has_variables k n = option_map_or (λ (r : Runnable). nat_lt (arguments_at t c.ports k n) (program_tree r.program).vars) (slice_get c.behavior.runnables e.runnable) false
 
-    by_kind : EventKind → Bool
-    by_kind (OperationInvoked k n) = (list_any (λ r. r == e.runnable) seen || has_variables k n) && serves_fit t c es (e.runnable ∷ seen)
-    by_kind _ = serves_fit t c es seen
+    by_kind : (List ℕ → Bool) → EventKind → Bool
+    by_kind rest (OperationInvoked k n) = (list_any (λ r. r == e.runnable) seen || has_variables k n) && rest (e.runnable ∷ seen)
+    by_kind rest _ = rest seen
 
 abbrev pub component_fits : TypeTable → Component → Bool
 component_fits t c =
