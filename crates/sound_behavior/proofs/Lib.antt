@@ -1,0 +1,9 @@
+pub mod Lists
+pub mod Parts
+pub mod Rules
+pub mod Sites
+pub mod Items
+pub mod Serving
+pub mod Members
+pub mod Tasks
+pub mod Owed

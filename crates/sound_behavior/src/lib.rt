@@ -1,0 +1,8 @@
+//! A plan whose description breaks no rule is sound in what happens: its tasks, events, servers, calls, accesses and programs.
+//!
+//! Each law is a field of `IsSound` (`bus_semantics`), from `IsWhole` (`planned_descriptions`).
+#![tactic(auto)]
+
+mod laws;
+
+pub use laws::tasks_fit;
