@@ -7,3 +7,4 @@ pub mod Serving
 pub mod Members
 pub mod Tasks
 pub mod Owed
+pub mod Servers

@@ -1,16 +1,23 @@
 //! Laws of sound plans, each a field of `IsSound`.
 
-ghost use Rattle.std.specs.Prelude.{◌≡◌, true};
+ghost use Rattle.std.specs.Prelude.{◌≡◌, true, ◌&&◌};
 ghost use Rattle.description_types.specs.declared.description.Description.{Description};
 ghost use Rattle.composition_flatten.specs.declared.flat.Flat.{Flat};
 ghost use Rattle.bus_semantics.specs.declared.plan.BusPlan.{BusPlan};
 ghost use Rattle.bus_semantics.specs.declared.script.Mapping.{Mapping};
-ghost use Rattle.bus_semantics.specs.Plan.{plan_of};
+ghost use Rattle.bus_semantics.specs.Plan.{plan_of, every_from};
 ghost use Rattle.bus_semantics.specs.Sound.{mapping_fits};
+ghost use Rattle.bus_semantics.specs.SoundEvents.{server_served, serves_back};
 ghost use Rattle.planned_descriptions.specs.Whole.{IsWhole};
 
 /// The tasks fit the plan (SWS_RTE, RteEventToTaskMapping): cores, names and events are in range, each event is mapped
 /// as often as it is owed, a server's where it has a queue, and the events of a runnable are in one task.
 pub fn tasks_fit()
     ensures { (d : Description) (f : Flat) (p : BusPlan) (m : Mapping) → IsWhole d f p m → mapping_fits (plan_of p) m ≡ true }
+{}
+
+/// Servers are sound (Software Component Template, OperationInvokedEvent): their queues, arguments and error codes are in
+/// range; a server's event invokes it and starts its runnable, which serves it, and no other runnable does.
+pub fn servers_serve()
+    ensures { (d : Description) (f : Flat) (p : BusPlan) (m : Mapping) → IsWhole d f p m → (every_from 0 (server_served (plan_of p)) (plan_of p).servers && every_from 0 (serves_back (plan_of p)) (plan_of p).runnables) ≡ true }
 {}

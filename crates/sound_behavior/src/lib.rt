@@ -5,4 +5,4 @@
 
 mod laws;
 
-pub use laws::tasks_fit;
+pub use laws::{servers_serve, tasks_fit};
