@@ -8,3 +8,13 @@ pub mod Members
 pub mod Tasks
 pub mod Owed
 pub mod Servers
+pub mod Listed
+pub mod Passing
+pub mod Places
+pub mod Chains
+pub mod Joints
+pub mod Providers
+pub mod Points
+pub mod Elems
+pub mod Callers
+pub mod Events

@@ -1,19 +1,26 @@
 //! Laws of sound plans, each a field of `IsSound`.
 
-ghost use Rattle.std.specs.Prelude.{◌≡◌, true, ◌&&◌};
+ghost use Rattle.std.specs.Prelude.{◌≡◌, true, ◌&&◌, length, nat_le};
 ghost use Rattle.description_types.specs.declared.description.Description.{Description};
 ghost use Rattle.composition_flatten.specs.declared.flat.Flat.{Flat};
 ghost use Rattle.bus_semantics.specs.declared.plan.BusPlan.{BusPlan};
 ghost use Rattle.bus_semantics.specs.declared.script.Mapping.{Mapping};
 ghost use Rattle.bus_semantics.specs.Plan.{plan_of, every_from};
 ghost use Rattle.bus_semantics.specs.Sound.{mapping_fits};
-ghost use Rattle.bus_semantics.specs.SoundEvents.{server_served, serves_back};
+ghost use Rattle.bus_semantics.specs.SoundEvents.{event_sound, server_served, serves_back};
 ghost use Rattle.planned_descriptions.specs.Whole.{IsWhole};
 
 /// The tasks fit the plan (SWS_RTE, RteEventToTaskMapping): cores, names and events are in range, each event is mapped
 /// as often as it is owed, a server's where it has a queue, and the events of a runnable are in one task.
 pub fn tasks_fit()
     ensures { (d : Description) (f : Flat) (p : BusPlan) (m : Mapping) → IsWhole d f p m → mapping_fits (plan_of p) m ≡ true }
+{}
+
+/// Events are sound (Software Component Template, RTEEvent): each starts a runnable, and what it names, an element, a
+/// server, a point or a machine, is there and of its instance; the modes are of the machine's group; a runnable that is
+/// invoked has no other event. There are at most 16,384 of them.
+pub fn events_fit()
+    ensures { (d : Description) (f : Flat) (p : BusPlan) (m : Mapping) → IsWhole d f p m → (every_from 0 (event_sound (plan_of p)) (plan_of p).events && nat_le (length (plan_of p).events) 16384) ≡ true }
 {}
 
 /// Servers are sound (Software Component Template, OperationInvokedEvent): their queues, arguments and error codes are in

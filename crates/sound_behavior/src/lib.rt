@@ -5,4 +5,4 @@
 
 mod laws;
 
-pub use laws::{servers_serve, tasks_fit};
+pub use laws::{events_fit, servers_serve, tasks_fit};
