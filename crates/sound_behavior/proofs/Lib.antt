@@ -18,3 +18,6 @@ pub mod Points
 pub mod Elems
 pub mod Callers
 pub mod Events
+pub mod Direct
+pub mod Fits
+pub mod Waits

@@ -1,13 +1,13 @@
 //! Laws of sound plans, each a field of `IsSound`.
 
-ghost use Rattle.std.specs.Prelude.{◌≡◌, true, ◌&&◌, length, nat_le};
+ghost use Rattle.std.specs.Prelude.{◌≡◌, ℕ, suc, true, ◌&&◌, length, nat_le};
 ghost use Rattle.description_types.specs.declared.description.Description.{Description};
 ghost use Rattle.composition_flatten.specs.declared.flat.Flat.{Flat};
 ghost use Rattle.bus_semantics.specs.declared.plan.BusPlan.{BusPlan};
 ghost use Rattle.bus_semantics.specs.declared.script.Mapping.{Mapping};
 ghost use Rattle.bus_semantics.specs.Plan.{plan_of, every_from};
-ghost use Rattle.bus_semantics.specs.Sound.{mapping_fits};
-ghost use Rattle.bus_semantics.specs.SoundEvents.{event_sound, server_served, serves_back};
+ghost use Rattle.bus_semantics.specs.Sound.{Chain, mapping_fits};
+ghost use Rattle.bus_semantics.specs.SoundEvents.{direct_sound, event_sound, server_served, serves_back};
 ghost use Rattle.planned_descriptions.specs.Whole.{IsWhole};
 
 /// The tasks fit the plan (SWS_RTE, RteEventToTaskMapping): cores, names and events are in range, each event is mapped
@@ -27,4 +27,16 @@ pub fn events_fit()
 /// range; a server's event invokes it and starts its runnable, which serves it, and no other runnable does.
 pub fn servers_serve()
     ensures { (d : Description) (f : Flat) (p : BusPlan) (m : Mapping) → IsWhole d f p m → (every_from 0 (server_served (plan_of p)) (plan_of p).servers && every_from 0 (serves_back (plan_of p)) (plan_of p).runnables) ≡ true }
+{}
+
+/// A server without a queue runs with its caller (SWS_RTE, direct function call): its runnable calls nothing and takes no
+/// result, and the environment does not call it.
+pub fn direct_servers_fit()
+    ensures { (d : Description) (f : Flat) (p : BusPlan) (m : Mapping) → IsWhole d f p m → every_from 0 (direct_sound (plan_of p)) (plan_of p).servers ≡ true }
+{}
+
+/// No chain of waiting calls leads from a task back to it (SWS_RTE, synchronous calls): each call of a queued server by
+/// `call` goes from a task to one that stands later in an order of the tasks.
+pub fn waits_never_return()
+    ensures { (d : Description) (f : Flat) (p : BusPlan) (m : Mapping) → IsWhole d f p m → (t n : ℕ) → Chain (plan_of p) m (suc n) t t → ⊥ }
 {}

@@ -5,4 +5,4 @@
 
 mod laws;
 
-pub use laws::{events_fit, servers_serve, tasks_fit};
+pub use laws::{direct_servers_fit, events_fit, servers_serve, tasks_fit, waits_never_return};
