@@ -21,3 +21,5 @@ pub mod Events
 pub mod Direct
 pub mod Fits
 pub mod Waits
+pub mod Arranged
+pub mod Operations

@@ -7,6 +7,7 @@ ghost use Rattle.bus_semantics.specs.declared.plan.BusPlan.{BusPlan};
 ghost use Rattle.bus_semantics.specs.declared.script.Mapping.{Mapping};
 ghost use Rattle.bus_semantics.specs.Plan.{plan_of, every_from};
 ghost use Rattle.bus_semantics.specs.Sound.{Chain, mapping_fits};
+ghost use Rattle.bus_semantics.specs.SoundAccesses.{points_arranged, points_fit};
 ghost use Rattle.bus_semantics.specs.SoundEvents.{direct_sound, event_sound, server_served, serves_back};
 ghost use Rattle.planned_descriptions.specs.Whole.{IsWhole};
 
@@ -39,4 +40,16 @@ pub fn direct_servers_fit()
 /// `call` goes from a task to one that stands later in an order of the tasks.
 pub fn waits_never_return()
     ensures { (d : Description) (f : Flat) (p : BusPlan) (m : Mapping) → IsWhole d f p m → (t n : ℕ) → Chain (plan_of p) m (suc n) t t → ⊥ }
+{}
+
+/// Points stand by runnable and access (Software Component Template, ServerCallPoint), and those of the environment come
+/// last.
+pub fn points_stand_by_caller()
+    ensures { (d : Description) (f : Flat) (p : BusPlan) (m : Mapping) → IsWhole d f p m → points_arranged (plan_of p) ≡ true }
+{}
+
+/// An operation that an instance or the environment calls without waiting has no other point there (Software Component
+/// Template, AsynchronousServerCallPoint); a point that is joined to a server has its arguments, word for word.
+pub fn points_fit_their_servers()
+    ensures { (d : Description) (f : Flat) (p : BusPlan) (m : Mapping) → IsWhole d f p m → points_fit (plan_of p) ≡ true }
 {}
