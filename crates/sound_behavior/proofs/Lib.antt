@@ -23,3 +23,5 @@ pub mod Fits
 pub mod Waits
 pub mod Arranged
 pub mod Operations
+pub mod Uses
+pub mod Runnables

@@ -8,8 +8,11 @@ ghost use Rattle.bus_semantics.specs.declared.script.Mapping.{Mapping};
 ghost use Rattle.bus_semantics.specs.Plan.{plan_of, every_from};
 ghost use Rattle.bus_semantics.specs.Sound.{Chain, mapping_fits};
 ghost use Rattle.bus_semantics.specs.SoundAccesses.{points_arranged, points_fit};
+ghost use Rattle.bus_semantics.specs.SoundPrograms.{runnable_sound};
 ghost use Rattle.bus_semantics.specs.SoundEvents.{direct_sound, event_sound, server_served, serves_back};
 ghost use Rattle.planned_descriptions.specs.Whole.{IsWhole};
+
+use bus_semantics::accepted_programs_are_sound;
 
 /// The tasks fit the plan (SWS_RTE, RteEventToTaskMapping): cores, names and events are in range, each event is mapped
 /// as often as it is owed, a server's where it has a queue, and the events of a runnable are in one task.
@@ -53,3 +56,12 @@ pub fn points_stand_by_caller()
 pub fn points_fit_their_servers()
     ensures { (d : Description) (f : Flat) (p : BusPlan) (m : Mapping) → IsWhole d f p m → points_fit (plan_of p) ≡ true }
 {}
+
+/// Runnables are sound (Software Component Template, RunnableEntity): what an access names is there, of the instance, and
+/// takes its words; the accesses are distinct; each statement of the program has its access and stands where it may; the
+/// program costs at most 100,000 and has at most 256 variables, and a server's has one for each argument and one more.
+pub fn runnables_fit()
+    ensures { (d : Description) (f : Flat) (p : BusPlan) (m : Mapping) → IsWhole d f p m → every_from 0 (runnable_sound (plan_of p)) (plan_of p).runnables ≡ true }
+{
+    accepted_programs_are_sound();
+}

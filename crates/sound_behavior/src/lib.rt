@@ -7,5 +7,5 @@ mod laws;
 
 pub use laws::{
     direct_servers_fit, events_fit, points_fit_their_servers, points_stand_by_caller,
-    servers_serve, tasks_fit, waits_never_return,
+    runnables_fit, servers_serve, tasks_fit, waits_never_return,
 };
