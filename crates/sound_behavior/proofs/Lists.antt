@@ -1,10 +1,10 @@
 -- Lists by positions: tests at each position, lists joined end to end, first positions.
-use Rattle.std.proofs.Common.{◌≡◌, ℕ, zero, suc, ◌+◌, ◌<◌, ◌≤◌, Bool, true, false, cond, ◌&&◌, ◌||◌, not, ◌==◌, nat_eq, refl, sym, ◌∙◌, ap, subst, arith, length-append, List, [], ◌∷◌, ◌++◌, map, filter, length, Option, Some, None, option_map, option_and_then, ◌⊎◌, inl, inr}
+use Rattle.std.proofs.Common.{◌≡◌, ℕ, zero, suc, ◌+◌, ◌<◌, ◌≤◌, Bool, true, false, cond, ◌&&◌, ◌||◌, not, ◌==◌, refl, sym, ◌∙◌, ap, subst, arith, length-append, List, [], ◌∷◌, ◌++◌, map, filter, length, Option, Some, None, option_map, ◌⊎◌, inl, inr}
 use Rattle.std.specs.Cmp.{unsigned_Decides}
-use Rattle.std.specs.List.{list_all, list_any, slice_get, position_from, flat_map}
+use Rattle.std.specs.List.{list_all, list_any, slice_get, position_from}
 use Rattle.std.specs.Option.{option_map_or, option_or}
 use Rattle.std.proofs.lemmas.Bool.{false≢true}
-use Rattle.std.proofs.lemmas.Option.{slice_get-map, slice_get_within}
+use Rattle.std.proofs.lemmas.Option.{slice_get-map}
 use Rattle.rte_value.specs.Values.{same_number}
 use Rattle.bus_semantics.specs.Plan.{look, every_from}
 use Rattle.component_rules.specs.Firsts.{first_of, unless}

@@ -1,6 +1,6 @@
 -- What instances have: runnables, events and areas stand in the plan by instance and position, and have the numbers of their places.
-use Rattle.std.proofs.Common.{◌≡◌, ℕ, zero, suc, ◌+◌, ◌<◌, ◌≤◌, Bool, true, false, ◌&&◌, nat_eq, refl, sym, ◌∙◌, ap, subst, arith, List, [], ◌∷◌, map, length, Option, Some, None, option_map, option_and_then}
-use Rattle.std.specs.List.{slice_get, position_from}
+use Rattle.std.proofs.Common.{◌≡◌, ℕ, zero, suc, ◌+◌, ◌<◌, ◌≤◌, true, nat_eq, refl, sym, ◌∙◌, ap, subst, arith, List, [], ◌∷◌, map, length, Option, Some, None, option_and_then}
+use Rattle.std.specs.List.{slice_get}
 use Rattle.std.specs.Option.{option_map_or, unwrap_or}
 use Rattle.std.proofs.lemmas.Bool.{eqb-true, eq-eqb}
 use Rattle.std.proofs.lemmas.Option.{slice_get_within}
@@ -17,10 +17,10 @@ use Rattle.plan_numbers.specs.declared.parts.Part.{Part}
 use Rattle.plan_numbers.specs.declared.parts.Part.TheVariants.{Runnables, Events, Areas}
 use Rattle.plan_numbers.specs.Keys.{same_pair, pair_number}
 use Rattle.plan_numbers.specs.Lists.{from, positions}
-use Rattle.plan_numbers.specs.Parts.{component_of, of_instances, numbered, counted, counted_at, parts_of, runnables_of, events_of, areas_of}
+use Rattle.plan_numbers.specs.Parts.{component_of, of_instances, numbered, counted, parts_of, runnables_of, events_of, areas_of}
 use Rattle.plan_runnables.specs.Started.{event_of, events_of_component, events, runnable_of, runnables_of_component, runnables}
 use Rattle.event_mapping.specs.Planned.{area_of, areas}
-use Rattle.sound_behavior.proofs.Lists.{some_same, both, both_of, found, FoundAt, before, In, in_from, reach, before_same, from_length, within_before, position_is, length-positions, length-map, mapped, MapAt, map_at, append_at}
+use Rattle.sound_behavior.proofs.Lists.{some_same, both, both_of, found, before, In, in_from, reach, before_same, from_length, within_before, position_is, length-positions, length-map, mapped, map_at}
 
 -- ---- lists with one item for each
 

@@ -1,9 +1,8 @@
 -- What the rules say of a whole description, thing by thing.
-use Rattle.std.proofs.Common.{◌≡◌, ℕ, zero, suc, ◌+◌, ◌<◌, ◌≤◌, Bool, true, false, cond, ◌&&◌, ◌||◌, not, ◌==◌, refl, sym, ◌∙◌, ap, subst, arith, List, [], ◌∷◌, ◌++◌, map, length, Option, Some, None, option_map, option_and_then, ◌⊎◌}
-use Rattle.std.specs.Prelude.{is_some, nat_lt, nat_le}
+use Rattle.std.proofs.Common.{◌≡◌, ℕ, ◌+◌, Bool, true, false, cond, ◌&&◌, refl, sym, ◌∙◌, ap, arith, List, [], map, length, Option, Some, None, option_map, option_and_then}
+use Rattle.std.specs.Prelude.{is_some}
 use Rattle.std.specs.List.{slice_get, list_all}
-use Rattle.std.specs.Option.{option_map_or, option_or}
-use Rattle.std.proofs.lemmas.Bool.Decides.{nat_tests}
+use Rattle.std.specs.Option.{option_or}
 use Rattle.description_types.specs.declared.component.Access.{Access}
 use Rattle.description_types.specs.declared.component.Component.{Component}
 use Rattle.description_types.specs.declared.component.Event.{Event}
@@ -12,7 +11,6 @@ use Rattle.description_types.specs.declared.component.Runnable.{Runnable}
 use Rattle.description_types.specs.declared.component.Variable.{Variable}
 use Rattle.description_types.specs.declared.description.Description.{Description}
 use Rattle.description_types.specs.declared.description.MappedEvent.{MappedEvent}
-use Rattle.interface_types.specs.declared.interface.TypeTable.{TypeTable}
 use Rattle.composition_flatten.specs.declared.flat.Flat.{Flat}
 use Rattle.composition_flatten.specs.declared.flat.Instance.{Instance}
 use Rattle.bus_semantics.specs.declared.plan.BusPlan.{BusPlan}
@@ -21,7 +19,6 @@ use Rattle.bus_semantics.specs.declared.script.Mapping.{Mapping}
 use Rattle.bus_semantics.specs.Plan.{Plan, plan_of}
 use Rattle.component_rules.specs.declared.rule.Rule as rules
 use Rattle.component_rules.specs.declared.rule.Rule.TheVariants as rule
-use Rattle.component_rules.specs.declared.spots.Spot.{Spot}
 use Rattle.component_rules.specs.declared.spots.Spot.TheVariants as spot
 use Rattle.component_rules.specs.Accesses as reaches
 use Rattle.component_rules.specs.Calls as waiting
@@ -33,7 +30,7 @@ use Rattle.component_rules.specs.Refusals as components
 use Rattle.mapping_rules.specs.Mapped.{mapped_as, named_by}
 use Rattle.mapping_rules.specs.Refusals as mapping
 use Rattle.mapping_rules.specs.Rules as mapped
-use Rattle.plan_elements.specs.Elements.{elem_seen, elements, leaders}
+use Rattle.plan_elements.specs.Elements.{leaders}
 use Rattle.plan_elements.specs.Groups.{groups}
 use Rattle.plan_services.specs.Modes.{machines, mode_ports}
 use Rattle.plan_services.specs.Services.{points, servers}
@@ -45,7 +42,7 @@ use Rattle.event_mapping.specs.Rules.{is_too_large}
 use Rattle.sound_descriptions.specs.WellFormed.{IsWellFormed}
 use Rattle.sound_descriptions.specs.WellFormed as formed
 use Rattle.planned_descriptions.specs.Whole.{IsWhole}
-use Rattle.sound_behavior.proofs.Lists.{clash, both, or_false, some_same, not_some, all_at, none_or, none_map, none_of, unless_none}
+use Rattle.sound_behavior.proofs.Lists.{not_some, all_at, none_or, none_map, none_of, unless_none}
 use Rattle.sound_behavior.proofs.Parts.{Home}
 
 -- ---- the plan
