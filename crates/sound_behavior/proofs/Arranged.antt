@@ -1,5 +1,5 @@
 -- Points stand by runnable and access, and those of the environment come last.
-use Rattle.std.proofs.Common.{◌≡◌, ℕ, zero, suc, ◌+◌, ◌<◌, ◌≤◌, Bool, true, false, cond, ◌&&◌, ◌||◌, not, ◌==◌, nat_eq, refl, sym, ◌∙◌, ap, subst, arith, append_assoc, length-append, List, [], ◌∷◌, ◌++◌, map, length, Option, Some, None, option_map, ◌⊎◌, inl, inr}
+use Rattle.std.proofs.Common.{◌≡◌, ℕ, zero, suc, ◌+◌, ◌<◌, Bool, true, false, cond, ◌&&◌, ◌||◌, ◌==◌, refl, sym, ◌∙◌, ap, subst, arith, append_assoc, length-append, List, [], ◌∷◌, ◌++◌, map, length, Option, Some, None, ◌⊎◌, inl, inr}
 use Rattle.std.specs.Prelude.{nat_lt, is_none}
 use Rattle.std.specs.List.{slice_get, flat_map}
 use Rattle.std.specs.Option.{option_map_or}
@@ -30,11 +30,10 @@ use Rattle.plan_services.specs.declared.callings.Calling.{Calling}
 use Rattle.plan_services.specs.Callings.{calling_of, callings_in, callings_of_component, callings, is_calling, point_number}
 use Rattle.plan_services.specs.Services.{point_of, points}
 use Rattle.planned_descriptions.specs.Whole.{IsWhole}
-use Rattle.sound_behavior.proofs.Lists.{both_of, some_same, same_test, every_if, map_at, MapAt, length-map, append_at, Later, left_true, right_true}
-use Rattle.sound_behavior.proofs.Members.{position_at_plan}
+use Rattle.sound_behavior.proofs.Lists.{both_of, some_same, same_test, every_if, map_at, length-map, append_at, Later, left_true, right_true}
 use Rattle.sound_behavior.proofs.Rules.{planned, plan_is}
 use Rattle.sound_behavior.proofs.Tasks.{is_below}
-use Rattle.sound_behavior.proofs.Points.{inner, outer, InnerCall, inner_call, OuterCall, outer_call}
+use Rattle.sound_behavior.proofs.Points.{inner, outer, inner_call, outer_call}
 use Rattle.sound_behavior.proofs.Callers.{point_is}
 
 -- ---- lists joined end to end

@@ -1,9 +1,8 @@
 -- Points by the accesses that call: each has the number of its place; results come from points that go on.
-use Rattle.std.proofs.Common.{◌≡◌, ℕ, zero, suc, ◌+◌, ◌<◌, ◌≤◌, Bool, true, false, cond, ◌&&◌, ◌||◌, not, ◌==◌, nat_eq, refl, sym, ◌∙◌, ap, subst, arith, List, [], ◌∷◌, map, length, Option, Some, None, option_map, ◌⊎◌, inl, inr}
-use Rattle.std.specs.List.{slice_get, list_any, list_all, position_from}
+use Rattle.std.proofs.Common.{◌≡◌, ℕ, zero, suc, ◌+◌, Bool, true, false, ◌&&◌, not, ◌==◌, nat_eq, refl, sym, ◌∙◌, ap, subst, arith, List, [], ◌∷◌, Option, Some, None, option_map, ◌⊎◌, inl, inr}
+use Rattle.std.specs.List.{slice_get, list_any, list_all}
 use Rattle.std.specs.Option.{option_map_or, unwrap_or}
 use Rattle.std.proofs.lemmas.Bool.{false≢true, eqb-true, eq-eqb}
-use Rattle.std.proofs.lemmas.Option.{slice_get_within}
 use Rattle.runnable_lang.specs.declared.program.AccessKind.{AccessKind}
 use Rattle.runnable_lang.specs.declared.program.AccessKind.TheVariants as kind
 use Rattle.runnable_lang.specs.Trees.{program_tree}
@@ -28,9 +27,9 @@ use Rattle.plan_services.specs.Callings.{callings, is_calling, leaves, point_num
 use Rattle.plan_services.specs.Services.{point_of, points}
 use Rattle.sound_descriptions.specs.WellFormed as formed
 use Rattle.planned_descriptions.specs.Whole.{IsWhole}
-use Rattle.sound_behavior.proofs.Lists.{clash, both, both_of, not_true, some_same, not_some, found, FoundAt, append_at, Later, looked, mapped, any_if, same_option}
+use Rattle.sound_behavior.proofs.Lists.{clash, both, both_of, not_true, some_same, not_some, found, append_at, Later, looked, mapped, any_if, same_option}
 use Rattle.sound_behavior.proofs.Parts.{Home, same_home, runnable_there}
-use Rattle.sound_behavior.proofs.Points.{Calls, waits, goes_on, call, IsCall, inner, outer, InnerCall, inner_call, OuterCall, outer_call, call_place, call_there, called_once, LeftBy}
+use Rattle.sound_behavior.proofs.Points.{Calls, waits, goes_on, call, inner, outer, InnerCall, inner_call, outer_call, call_place, call_there, called_once, LeftBy}
 use Rattle.sound_behavior.proofs.Rules.{planned, runnable_formed}
 
 -- two accesses of a runnable that are the same stand at one place

@@ -1,5 +1,5 @@
 -- The two ends of a chain of connectors whose ports are all compatible: which way they face, and that the first serves the last.
-use Rattle.std.proofs.Common.{◌≡◌, ℕ, zero, suc, ◌+◌, List, [], ◌∷◌, map, Bool, true, false, ◌&&◌, if◌then◌else◌, Option, Some, None, option_map, option_and_then, ◌⊎◌, inl, inr, ⊎_elim, refl, sym, ap, subst, ◌∙◌, arith, slice_get}
+use Rattle.std.proofs.Common.{◌≡◌, ℕ, zero, suc, ◌+◌, List, [], ◌∷◌, Bool, true, false, ◌&&◌, if◌then◌else◌, Option, Some, None, option_map, option_and_then, ◌⊎◌, inl, inr, refl, sym, ap, subst, ◌∙◌, arith, slice_get}
 use Rattle.std.proofs.lemmas.Bool.{and_parts}
 use Rattle.std.specs.Option.{option_map_or, option_or}
 use Rattle.description_types.specs.declared.component.Port.{Port}
@@ -11,20 +11,18 @@ use Rattle.description_types.specs.declared.description.Connector.TheVariants.{A
 use Rattle.description_types.specs.declared.description.Description.{Description}
 use Rattle.description_types.specs.declared.description.InnerPort.{InnerPort}
 use Rattle.description_types.specs.declared.description.Prototype.{Prototype}
-use Rattle.description_types.specs.declared.description.PrototypeType.{PrototypeType}
-use Rattle.description_types.specs.declared.description.PrototypeType.TheVariants.{Component, Composition}
-use Rattle.interface_types.specs.declared.interface.InterfaceKind.{InterfaceKind}
-use Rattle.compatibility.specs.Connectors.{both, delegated, incompatible, incompatible_in, inner_interface, joins_compatible, sides}
+use Rattle.description_types.specs.declared.description.PrototypeType.TheVariants.{Composition}
+use Rattle.compatibility.specs.Connectors.{both, delegated, incompatible, incompatible_in, joins_compatible}
 use Rattle.compatibility.specs.Firsts.{first_of}
 use Rattle.compatibility.specs.Interfaces.{are_compatible}
-use Rattle.composition_flatten.specs.Connectors.{connectors_of, is_one_kind, is_provided, is_required, kind_in, kind_of, lets_join, ports_of}
+use Rattle.composition_flatten.specs.Connectors.{connectors_of, is_one_kind, is_provided, is_required, kind_in, kind_of, ports_of}
 use Rattle.composition_flatten.specs.Items.{interface_at}
-use Rattle.composition_flatten.specs.Joined.{Assembles, Delegates, IsBelow, IsChain, IsOutside, Stand, StandsJoin, as_inner, further, interface_below, itself}
+use Rattle.composition_flatten.specs.Joined.{Assembles, Delegates, IsBelow, Stand, StandsJoin, as_inner, further, itself}
 use Rattle.composition_flatten.specs.Members.{Among}
-use Rattle.composition_flatten.specs.Paths.{prototypes_of, type_at, type_in}
+use Rattle.composition_flatten.specs.Paths.{type_at, type_in}
 use Rattle.sound_behavior.proofs.Listed.{place}
 use Rattle.sound_behavior.proofs.Passing.{Passes, compatible_passes, passes_refl, passes_then}
-use Rattle.sound_behavior.proofs.Places.{interface_there, kind_below, port_below}
+use Rattle.sound_behavior.proofs.Places.{kind_below, port_below}
 
 -- ---- nothing is first
 

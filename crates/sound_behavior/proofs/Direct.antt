@@ -1,9 +1,9 @@
 -- Direct servers make no calls, and the environment does not call them.
-use Rattle.std.proofs.Common.{◌≡◌, ℕ, zero, suc, ◌+◌, ◌<◌, ◌≤◌, Bool, true, false, cond, ◌&&◌, ◌||◌, not, ◌==◌, nat_eq, refl, sym, ◌∙◌, ap, subst, arith, List, [], ◌∷◌, map, length, Option, Some, None, option_map, option_and_then, ◌⊎◌, inl, inr}
+use Rattle.std.proofs.Common.{◌≡◌, ℕ, ◌+◌, ◌<◌, Bool, true, false, cond, ◌&&◌, ◌||◌, not, nat_eq, refl, sym, ◌∙◌, ap, subst, arith, List, map, Option, Some, None, option_map, ◌⊎◌, inl, inr}
 use Rattle.std.specs.Prelude.{is_some, is_none}
-use Rattle.std.specs.List.{slice_get, list_any, list_all}
+use Rattle.std.specs.List.{slice_get, list_all}
 use Rattle.std.specs.Option.{option_map_or, option_eq}
-use Rattle.std.proofs.lemmas.Bool.{false≢true, eqb-true, eq-eqb}
+use Rattle.std.proofs.lemmas.Bool.{false≢true, eq-eqb}
 use Rattle.std.proofs.lemmas.Option.{slice_get_within}
 use Rattle.rte_value.specs.Values.{same_number}
 use Rattle.runnable_lang.specs.declared.program.AccessKind.{AccessKind}
@@ -14,8 +14,6 @@ use Rattle.interface_types.specs.declared.interface.InterfaceKind.{InterfaceKind
 use Rattle.interface_types.specs.declared.interface.InterfaceKind.TheVariants.{ClientServer, ModeSwitch, SenderReceiver}
 use Rattle.interface_types.specs.declared.interface.Operation.{Operation}
 use Rattle.description_types.specs.declared.component.Access.{Access}
-use Rattle.description_types.specs.declared.component.Component.{Component}
-use Rattle.description_types.specs.declared.component.Event.{Event}
 use Rattle.description_types.specs.declared.component.EventKind.TheVariants as declared_event
 use Rattle.description_types.specs.declared.component.Port.{Port}
 use Rattle.description_types.specs.declared.component.Runnable as declared_runnable
@@ -28,10 +26,10 @@ use Rattle.bus_semantics.specs.declared.plan.ElemPlan.{ElemPlan}
 use Rattle.bus_semantics.specs.declared.plan.PointPlan.{PointPlan}
 use Rattle.bus_semantics.specs.declared.plan.ServerPlan.{ServerPlan}
 use Rattle.bus_semantics.specs.declared.script.Mapping.{Mapping}
-use Rattle.bus_semantics.specs.Plan.{Plan, Runnable, plan_of, look, every_from}
+use Rattle.bus_semantics.specs.Plan.{Runnable, plan_of, look, every_from}
 use Rattle.bus_semantics.specs.SoundEvents.{direct_sound}
 use Rattle.bus_semantics.specs.State.{same_kind}
-use Rattle.component_rules.specs.Signatures.{access_sig, signature}
+use Rattle.component_rules.specs.Signatures.{access_sig}
 use Rattle.mapping_rules.specs.Mapped.{is_mapped}
 use Rattle.mapping_rules.specs.Rules.{is_call, may_be_direct, serves_outside, keeps_direct}
 use Rattle.plan_numbers.specs.declared.parts.Part.TheVariants.{Events}
@@ -45,19 +43,17 @@ use Rattle.plan_ports.specs.Ports.{interface_of, queue_length_of}
 use Rattle.plan_ports.specs.Things.{server_number, servers_of}
 use Rattle.plan_runnables.specs.Started.{runnable_of, runnables}
 use Rattle.plan_services.specs.declared.callings.Calling.{Calling}
-use Rattle.plan_services.specs.Callings.{callings, owner_of, operations_at, operation_count, outer_calling}
-use Rattle.plan_services.specs.Services.{is_numbered_mapped, point_of, points, server_at, servers, started_by}
-use Rattle.plan_services.specs.Services as services
+use Rattle.plan_services.specs.Callings.{callings, operations_at, operation_count, outer_calling}
+use Rattle.plan_services.specs.Services.{is_numbered_mapped, point_of, points, servers, started_by}
 use Rattle.planned_descriptions.specs.Whole.{IsWhole}
-use Rattle.sound_behavior.proofs.Lists.{clash, both, both_of, not_true, some_same, not_some, option_same, all_if, all_at, every_if, any_if, looked, there_at, map_at, MapAt, left_true, right_true, append_at, Later}
-use Rattle.sound_behavior.proofs.Members.{Has}
-use Rattle.sound_behavior.proofs.Parts.{Home, number_there, runnable_there}
+use Rattle.sound_behavior.proofs.Lists.{clash, both, both_of, not_true, some_same, not_some, option_same, all_if, all_at, every_if, any_if, looked, there_at, map_at, left_true, right_true, append_at, Later}
+use Rattle.sound_behavior.proofs.Parts.{number_there, runnable_there}
 use Rattle.sound_behavior.proofs.Rules.{planned, plan_is, direct_kept}
-use Rattle.sound_behavior.proofs.Serving.{Provides, InvokedBy, ServerAt, server_at_number, server_site}
+use Rattle.sound_behavior.proofs.Serving.{ServerAt, server_at_number, server_site}
 use Rattle.sound_behavior.proofs.Servers.{started_is, runnable_of_event}
-use Rattle.sound_behavior.proofs.Joints.{ProvidedBy, provided_by}
-use Rattle.sound_behavior.proofs.Providers.{interface_is, OperationBy, operation_by}
-use Rattle.sound_behavior.proofs.Points.{inner, outer, InnerCall, inner_call, OuterCall, outer_call}
+use Rattle.sound_behavior.proofs.Joints.{provided_by}
+use Rattle.sound_behavior.proofs.Providers.{interface_is, operation_by}
+use Rattle.sound_behavior.proofs.Points.{inner, outer, inner_call, OuterCall, outer_call}
 
 -- ---- ends
 

@@ -1,82 +1,63 @@
 -- Events are sound: what they name is there and is of their instance.
-use Rattle.std.proofs.Common.{◌≡◌, ℕ, zero, suc, ◌+◌, ◌<◌, ◌≤◌, Bool, true, false, cond, ◌&&◌, ◌||◌, not, ◌==◌, nat_eq, refl, sym, ◌∙◌, ap, subst, arith, List, [], ◌∷◌, map, length, Option, Some, None, option_map}
+use Rattle.std.proofs.Common.{◌≡◌, ℕ, ◌+◌, ◌≤◌, Bool, true, false, ◌&&◌, ◌||◌, not, ◌==◌, refl, sym, ◌∙◌, ap, subst, arith, List, map, length, Option, Some, None, option_map}
 use Rattle.std.specs.Prelude.{nat_lt, nat_le}
-use Rattle.std.specs.List.{slice_get, list_any, list_all}
-use Rattle.std.specs.Option.{option_map_or}
+use Rattle.std.specs.List.{slice_get, list_all}
 use Rattle.std.proofs.lemmas.Bool.{false≢true, eqb-true, eq-eqb}
 use Rattle.std.proofs.lemmas.Option.{slice_get_within}
 use Rattle.rte_value.specs.Values.{same_number}
 use Rattle.interface_types.specs.declared.interface.Interface.{Interface}
-use Rattle.interface_types.specs.declared.interface.InterfaceKind.TheVariants as interface
 use Rattle.interface_types.specs.declared.interface.SwImplPolicy.{SwImplPolicy}
 use Rattle.interface_types.specs.declared.interface.SwImplPolicy.TheVariants.{Standard, Queued}
 use Rattle.description_types.specs.declared.component.Component.{Component}
 use Rattle.description_types.specs.declared.component.DisabledInModes.{DisabledInModes}
-use Rattle.description_types.specs.declared.component.Event.{Event}
 use Rattle.description_types.specs.declared.component.EventKind as declared_kind
 use Rattle.description_types.specs.declared.component.EventKind.TheVariants as declared_event
 use Rattle.description_types.specs.declared.component.ModeActivation.{ModeActivation}
 use Rattle.description_types.specs.declared.component.ModeActivation.TheVariants as activation
-use Rattle.description_types.specs.declared.component.Port.{Port}
 use Rattle.description_types.specs.declared.component.PortKind.TheVariants.{Provided, Required}
 use Rattle.description_types.specs.declared.component.Runnable as declared_runnable
 use Rattle.description_types.specs.declared.description.Description.{Description}
 use Rattle.composition_flatten.specs.declared.flat.Flat.{Flat}
-use Rattle.composition_flatten.specs.Items.{interface_at}
 use Rattle.bus_semantics.specs.declared.plan.BusPlan.{BusPlan}
-use Rattle.bus_semantics.specs.declared.plan.ElemKind.{ElemKind}
-use Rattle.bus_semantics.specs.declared.plan.ElemKind.TheVariants as elem
 use Rattle.bus_semantics.specs.declared.plan.ElemPlan.{ElemPlan}
-use Rattle.bus_semantics.specs.declared.plan.EventKind as plan_kind
 use Rattle.bus_semantics.specs.declared.plan.EventPlan.{EventPlan}
 use Rattle.bus_semantics.specs.declared.plan.MachinePlan.{MachinePlan}
 use Rattle.bus_semantics.specs.declared.plan.ModePortPlan.{ModePortPlan}
 use Rattle.bus_semantics.specs.declared.plan.ServerPlan.{ServerPlan}
 use Rattle.bus_semantics.specs.declared.script.Mapping.{Mapping}
 use Rattle.bus_semantics.specs.Owners.{modes_of}
-use Rattle.bus_semantics.specs.Plan.{Plan, plan_of, look, every_from, instance_of}
+use Rattle.bus_semantics.specs.Plan.{plan_of, every_from, instance_of}
 use Rattle.bus_semantics.specs.SoundEvents.{moment_sound, requires_machine, kind_sound, may_be_disabled, disabling_sound, is_invoked, event_sound}
-use Rattle.bus_semantics.specs.SoundPlan.{is_in, is_variable}
-use Rattle.component_rules.specs.declared.items.Item.TheVariants.{Data, Operation, Modes}
+use Rattle.bus_semantics.specs.SoundPlan.{is_variable}
+use Rattle.component_rules.specs.declared.items.Item.TheVariants.{Data, Modes}
 use Rattle.component_rules.specs.Events as starting
 use Rattle.component_rules.specs.Items.{item_at}
-use Rattle.event_mapping.specs.Planned.{seen}
 use Rattle.event_mapping.specs.Planned.{plan_of as whole_plan}
-use Rattle.event_mapping.specs.Rules.{is_too_large, queue_lengths}
+use Rattle.event_mapping.specs.Rules.{queue_lengths}
 use Rattle.plan_elements.specs.Elements.{elem_seen, elements, policy_kind}
-use Rattle.plan_numbers.specs.declared.parts.Part.TheVariants.{Runnables, Events}
+use Rattle.plan_numbers.specs.declared.parts.Part.TheVariants.{Runnables}
 use Rattle.plan_numbers.specs.Keys.{pair_number}
 use Rattle.plan_numbers.specs.Parts.{events_of, runnables_of}
 use Rattle.plan_ports.specs.Things.{element_number, machine_for, machine_number, mode_port_number, server_number}
-use Rattle.plan_runnables.specs.Started.{moment_of, kind_of, disabling_of, event_of, events, runnables}
+use Rattle.plan_runnables.specs.Started.{moment_of, kind_of, disabling_of, events, runnables}
 use Rattle.plan_services.specs.Modes.{machines, mode_ports, mode_port_at}
 use Rattle.plan_services.specs.Services.{server_at, servers, started_by}
 use Rattle.sound_descriptions.specs.WellFormed as formed
 use Rattle.planned_descriptions.specs.Whole.{IsWhole}
-use Rattle.sound_behavior.proofs.Lists.{clash, both, both_of, or_false, some_same, not_some, number_same, same_test, same_option, all_if, all_at, every_if, any_if, looked, there_at, left_true, right_true}
-use Rattle.sound_behavior.proofs.Parts.{Home, same_home, EventAt, event_at, event_there, runnable_there, runnable_count, number_there, numbers_apart}
+use Rattle.sound_behavior.proofs.Lists.{both, both_of, or_false, number_same, same_test, same_option, every_if, any_if, looked, left_true, right_true}
+use Rattle.sound_behavior.proofs.Parts.{Home, same_home, EventAt, event_at, runnable_there, numbers_apart}
 use Rattle.sound_behavior.proofs.Rules.{planned, plan_is, kind_kept, disabling_kept, return_kept, event_formed, of_size}
 use Rattle.sound_behavior.proofs.Sites.{ports_at_home}
-use Rattle.sound_behavior.proofs.Items.{ItemAt, item_there, data_required, modes_provided, modes_required, ModesIn, modes_item}
+use Rattle.sound_behavior.proofs.Items.{item_there, data_required, modes_provided, modes_required, modes_item}
 use Rattle.sound_behavior.proofs.Serving.{server_there}
 use Rattle.sound_behavior.proofs.Servers.{started_is, alone, runnable_of_event}
-use Rattle.sound_behavior.proofs.Tasks.{below, is_below, at_most, most, starts_within}
-use Rattle.sound_behavior.proofs.Providers.{interface_is, machine_there, MachineBy, required_machine, required_modes, mode_port_there}
-use Rattle.sound_behavior.proofs.Elems.{ElemAt, data_elem}
+use Rattle.sound_behavior.proofs.Tasks.{is_below, at_most, starts_within}
+use Rattle.sound_behavior.proofs.Providers.{machine_there, required_machine, required_modes, mode_port_there}
+use Rattle.sound_behavior.proofs.Elems.{data_elem, queued, unqueued}
 use Rattle.sound_behavior.proofs.Points.{left_by_access}
 use Rattle.sound_behavior.proofs.Callers.{result_there, home_of}
 
 -- a data element is no variable
-abbrev queued : ElemKind → Bool
-queued elem.Unqueued = false
-queued elem.Queued = true
-queued elem.Variable = false
-
-abbrev unqueued : ElemKind → Bool
-unqueued elem.Unqueued = true
-unqueued elem.Queued = false
-unqueued elem.Variable = false
-
 no_variable : (policy : SwImplPolicy) → not (not (queued (policy_kind policy) || unqueued (policy_kind policy))) ≡ true
 no_variable Standard = refl
 no_variable Queued = refl

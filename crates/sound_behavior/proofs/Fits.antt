@@ -1,10 +1,9 @@
 -- Accesses fit: what the port of an access has, by its kind.
-use Rattle.std.proofs.Common.{◌≡◌, ℕ, Bool, true, false, cond, refl, sym, ap, subst, ◌∙◌, List, Option, Some, None}
+use Rattle.std.proofs.Common.{◌≡◌, ℕ, true, false, cond, refl, sym, ap, ◌∙◌, List, Option, Some, None}
 use Rattle.std.specs.Option.{option_map_or}
 use Rattle.std.proofs.lemmas.Bool.{false≢true}
 use Rattle.runnable_lang.specs.declared.program.AccessKind.{AccessKind}
 use Rattle.runnable_lang.specs.declared.program.AccessKind.TheVariants as kind
-use Rattle.interface_types.specs.declared.interface.SwImplPolicy.{SwImplPolicy}
 use Rattle.interface_types.specs.declared.interface.SwImplPolicy.TheVariants.{Standard, Queued}
 use Rattle.interface_types.specs.declared.interface.TypeTable.{TypeTable}
 use Rattle.description_types.specs.declared.component.Access.{Access}
@@ -15,7 +14,6 @@ use Rattle.component_rules.specs.declared.items.Item.{Item}
 use Rattle.component_rules.specs.declared.items.Item.TheVariants.{Data, Operation, Modes}
 use Rattle.component_rules.specs.Accesses.{names_port, fits, access_fits}
 use Rattle.component_rules.specs.Items.{item_at}
-use Rattle.sound_behavior.proofs.Lists.{not_some}
 
 -- what an access of a kind needs
 abbrev pub Needs : AccessKind → PortKind → Item → Type 0

@@ -1,5 +1,5 @@
 -- What ports have: data elements, operations and modes, from the rules on accesses and events.
-use Rattle.std.proofs.Common.{◌≡◌, ℕ, Bool, true, false, refl, sym, ◌∙◌, ap, subst, List, length, Option, Some, None, option_map, option_and_then}
+use Rattle.std.proofs.Common.{◌≡◌, ℕ, true, refl, ◌∙◌, ap, List, length, Option, Some, None, option_map, option_and_then}
 use Rattle.std.specs.List.{slice_get}
 use Rattle.std.proofs.lemmas.Bool.{false≢true}
 use Rattle.interface_types.specs.declared.interface.DataElement.{DataElement}

@@ -1,55 +1,36 @@
 -- Joined ends: each is a port of its owner, on its side; who is provided by an instance, and keeps arguments and modes.
-use Rattle.std.proofs.Common.{◌≡◌, ℕ, zero, suc, ◌+◌, ◌<◌, List, [], ◌∷◌, map, length, Bool, true, false, cond, ◌&&◌, not, nat_eq, Option, Some, None, option_map, option_and_then, ◌⊎◌, inl, inr, refl, sym, ap, subst, ◌∙◌, arith, slice_get}
+use Rattle.std.proofs.Common.{◌≡◌, suc, List, [], ◌∷◌, Bool, true, false, cond, ◌&&◌, nat_eq, Option, Some, None, option_map, option_and_then, inl, inr, refl, sym, subst, ◌∙◌}
 use Rattle.std.specs.Prelude.{is_some}
 use Rattle.std.specs.List.{find, list_all, list_any}
 use Rattle.std.specs.Option.{option_map_or, option_or, option_eq}
-use Rattle.std.proofs.lemmas.Bool.{false≢true, eqb-true, eq-eqb}
-use Rattle.std.proofs.lemmas.Option.{slice_get_within}
-use Rattle.description_types.specs.declared.component.Component.{Component}
+use Rattle.std.proofs.lemmas.Bool.{eqb-true}
 use Rattle.description_types.specs.declared.component.Port.{Port}
 use Rattle.description_types.specs.declared.component.PortKind.{PortKind}
 use Rattle.description_types.specs.declared.component.PortKind.TheVariants.{Provided, Required}
 use Rattle.description_types.specs.declared.description.Description.{Description}
-use Rattle.interface_types.specs.declared.interface.Interface.{Interface}
-use Rattle.interface_types.specs.declared.interface.InterfaceKind.{InterfaceKind}
-use Rattle.interface_types.specs.declared.interface.InterfaceKind.TheVariants.{ClientServer, ModeSwitch, SenderReceiver}
-use Rattle.interface_types.specs.declared.interface.ModeElement.{ModeElement}
-use Rattle.interface_types.specs.declared.interface.Operation.{Operation}
 use Rattle.composition_flatten.specs.declared.flat.End.{End}
 use Rattle.composition_flatten.specs.declared.flat.Flat.{Flat}
 use Rattle.composition_flatten.specs.declared.flat.Join.{Join}
-use Rattle.composition_flatten.specs.Items.{interface_at, ItemsJoin, operation_names}
+use Rattle.composition_flatten.specs.Items.{interface_at, ItemsJoin}
 use Rattle.composition_flatten.specs.Joined.{IsJoined, Stand, stand_in}
-use Rattle.composition_flatten.specs.Members.{Among}
-use Rattle.compatibility.specs.Connectors.{incompatible, root_client, requires_server}
+use Rattle.compatibility.specs.Connectors.{incompatible, root_client}
 use Rattle.compatibility.specs.Refusals as joins
-use Rattle.compatibility.specs.declared.rule.Rule as item_rules
 use Rattle.compatibility.specs.declared.rule.Rule.TheVariants.{Services, Groups}
 use Rattle.bus_semantics.specs.declared.plan.BusPlan.{BusPlan}
 use Rattle.bus_semantics.specs.declared.script.Mapping.{Mapping}
-use Rattle.plan_numbers.specs.Joined.{same_end, end_at, provider_of}
-use Rattle.plan_numbers.specs.Parts.{component_of}
-use Rattle.plan_numbers.specs.Sites.{provides_at, root_ports}
-use Rattle.plan_ports.specs.Ports.{ports_of, port_of, interface_of}
-use Rattle.sound_descriptions.specs.WellFormed as formed
+use Rattle.plan_numbers.specs.Joined.{same_end, provider_of}
+use Rattle.plan_numbers.specs.Sites.{provides_at}
+use Rattle.plan_ports.specs.Ports.{port_of}
 use Rattle.planned_descriptions.specs.Whole.{IsWhole}
-use Rattle.sound_behavior.proofs.Lists.{clash, both, both_of, some_same, not_some, all_at, map_at, MapAt, none_or, none_map, none_of}
+use Rattle.sound_behavior.proofs.Lists.{both, some_same, not_some, none_or, none_map}
 use Rattle.sound_behavior.proofs.Listed.{at}
-use Rattle.sound_behavior.proofs.Members.{Has, names_apart}
-use Rattle.sound_behavior.proofs.Parts.{Home, home_component, component_home}
-use Rattle.sound_behavior.proofs.Sites.{ports_at_home}
-use Rattle.sound_behavior.proofs.Serving.{Provides}
-use Rattle.sound_behavior.proofs.Passing.{Passes, ServesAs, FromServer, FromMachine, modes_of_group}
-use Rattle.sound_behavior.proofs.Places.{port_below, kind_below, interface_there, of_root, of_instance, port_there}
-use Rattle.sound_behavior.proofs.Chains.{AreJoined, are_joined, Faces}
+use Rattle.sound_behavior.proofs.Members.{Has}
+use Rattle.sound_behavior.proofs.Passing.{Passes}
+use Rattle.sound_behavior.proofs.Sites.{option_equal}
+use Rattle.sound_behavior.proofs.Places.{port_below, interface_there, of_root, of_instance, port_there}
+use Rattle.sound_behavior.proofs.Chains.{are_joined, Faces}
 
 -- ---- ends
-
-option_equal : (a b : Option ℕ) → option_eq nat_eq a b ≡ true → a ≡ b
-option_equal None None e = refl
-option_equal (Some a) (Some b) e = ap (λ n. Some n) (eqb-true a b e)
-option_equal None (Some b) e = absurd (false≢true e)
-option_equal (Some a) None e = absurd (false≢true e)
 
 pub end_equal : (a b : End) → same_end a b ≡ true → a ≡ b
 end_equal a b e =

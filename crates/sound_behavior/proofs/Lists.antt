@@ -1,10 +1,10 @@
 -- Lists by positions: tests at each position, lists joined end to end, first positions.
-use Rattle.std.proofs.Common.{◌≡◌, ℕ, zero, suc, ◌+◌, ◌<◌, ◌≤◌, Bool, true, false, cond, ◌&&◌, ◌||◌, not, ◌==◌, nat_eq, refl, sym, ◌∙◌, ap, subst, arith, length-append, List, [], ◌∷◌, ◌++◌, map, filter, length, Option, Some, None, option_map, option_and_then, ◌⊎◌, inl, inr}
+use Rattle.std.proofs.Common.{◌≡◌, ℕ, zero, suc, ◌+◌, ◌<◌, ◌≤◌, Bool, true, false, cond, ◌&&◌, ◌||◌, not, ◌==◌, refl, sym, ◌∙◌, ap, subst, arith, List, [], ◌∷◌, ◌++◌, map, filter, length, Option, Some, None, option_map, ◌⊎◌, inl, inr}
 use Rattle.std.specs.Cmp.{unsigned_Decides}
-use Rattle.std.specs.List.{list_all, list_any, slice_get, position_from, flat_map}
+use Rattle.std.specs.List.{list_all, list_any, slice_get, position_from}
 use Rattle.std.specs.Option.{option_map_or, option_or}
 use Rattle.std.proofs.lemmas.Bool.{false≢true}
-use Rattle.std.proofs.lemmas.Option.{slice_get-map, slice_get_within}
+use Rattle.std.proofs.lemmas.Option.{slice_get-map}
 use Rattle.rte_value.specs.Values.{same_number}
 use Rattle.bus_semantics.specs.Plan.{look, every_from}
 use Rattle.component_rules.specs.Firsts.{first_of, unless}
@@ -228,10 +228,6 @@ unfolding before
 before_same g h same n [] at = refl
 before_same g h same n (x ∷ xs) zero = refl
 before_same g h same n (x ∷ xs) (suc at) = λ j. same n x j + before_same g h same (n + 1) xs at j
-
-pub from_length : {X Y Z : Type 0} (g : ℕ → X → List Y) (h : ℕ → X → List Z) → ((m : ℕ) (x : X) → length (g m x) ≡ length (h m x)) → (n : ℕ) (xs : List X) → length (from n g xs) ≡ length (from n h xs)
-from_length g h same n [] = refl
-from_length g h same n (x ∷ xs) = length-append (g n x) (from (n + 1) g xs) ∙ (λ j. same n x j + from_length g h same (n + 1) xs j) ∙ sym (length-append (h n x) (from (n + 1) h xs))
 
 -- each position of the joined list stands after all that comes before
 pub within_before : {X Y : Type 0} (g : ℕ → X → List Y) (n : ℕ) (xs : List X) (a b : ℕ) (x : X) → slice_get xs a ≡ Some x → a < b → before g n xs a + length (g (n + a) x) ≤ before g n xs b

@@ -1,6 +1,6 @@
 -- What is in a list: of lists joined, in order, mapped and filtered; and how often.
 use Rattle.std.proofs.Common.{◌≡◌, ℕ, zero, suc, ◌+◌, ◌<◌, ◌≤◌, Bool, true, false, cond, ◌&&◌, ◌||◌, ◌==◌, nat_eq, nat_le, refl, sym, ◌∙◌, ap, subst, arith, List, [], ◌∷◌, ◌++◌, map, filter, length, Option, Some, None, ◌⊎◌, inl, inr}
-use Rattle.std.specs.List.{slice_get, flat_map, list_all, list_any}
+use Rattle.std.specs.List.{slice_get, flat_map, list_any}
 use Rattle.std.proofs.lemmas.Bool.{false≢true, eqb-true, eq-eqb}
 use Rattle.bus_semantics.specs.History.{count}
 use Rattle.bus_semantics.specs.Plan as plan
@@ -9,7 +9,7 @@ use Rattle.bus_semantics.specs.SoundPlan.{same_numbers}
 use Rattle.mapping_rules.specs.Rules.{are_same}
 use Rattle.mapping_rules.specs.Sorting.{put, in_order}
 use Rattle.sound_descriptions.specs.WellFormed.{distinct}
-use Rattle.sound_behavior.proofs.Lists.{clash, both, both_of, not_true, some_same, number_same, same_test, append_left, append_right, append_at, Later, kept_at, kept, mapped, map_at, all_at, any_if, Passes, any_at}
+use Rattle.sound_behavior.proofs.Lists.{clash, both, both_of, not_true, some_same, number_same, same_test, append_left, append_right, append_at, Later, kept_at, kept, mapped, all_at, any_if}
 
 pub record Has (X : Type 0) (xs : List X) (x : X) : Type 0 where
   pub place : ℕ

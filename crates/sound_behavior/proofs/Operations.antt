@@ -1,9 +1,9 @@
 -- Points fit: an operation that is called without waiting has no other caller in its instance; a joined point has its server's arguments.
-use Rattle.std.proofs.Common.{◌≡◌, ℕ, zero, suc, ◌+◌, ◌<◌, ◌≤◌, Bool, true, false, cond, ◌&&◌, ◌||◌, not, ◌==◌, nat_eq, refl, sym, ◌∙◌, ap, subst, arith, append_assoc, codes, List, [], ◌∷◌, ◌++◌, map, filter, length, Option, Some, None, option_map, option_and_then, ◌⊎◌, inl, inr}
-use Rattle.std.specs.Prelude.{nat_lt, nat_le}
+use Rattle.std.proofs.Common.{◌≡◌, ℕ, ◌+◌, Bool, true, false, cond, ◌&&◌, ◌||◌, not, ◌==◌, refl, sym, ◌∙◌, ap, subst, arith, append_assoc, codes, List, [], ◌∷◌, ◌++◌, map, filter, length, Option, Some, None, option_map, option_and_then, ◌⊎◌, inl, inr}
+use Rattle.std.specs.Prelude.{nat_le}
 use Rattle.std.specs.List.{slice_get, list_all}
 use Rattle.std.specs.Option.{option_map_or}
-use Rattle.std.proofs.lemmas.Bool.{false≢true, eq-eqb}
+use Rattle.std.proofs.lemmas.Bool.{false≢true}
 use Rattle.std.proofs.lemmas.Bool.Decides.{Decides-int_eq}
 use Rattle.rte_value.specs.declared.kinds.Limits.{Limits}
 use Rattle.rte_value.specs.Values.{same_number, same_words}
@@ -16,23 +16,19 @@ use Rattle.interface_types.specs.declared.interface.Interface.{Interface}
 use Rattle.interface_types.specs.declared.interface.InterfaceKind.{InterfaceKind}
 use Rattle.interface_types.specs.declared.interface.InterfaceKind.TheVariants.{ClientServer}
 use Rattle.interface_types.specs.declared.interface.Operation as declared_operation
-use Rattle.description_types.specs.declared.component.Access.{Access}
 use Rattle.description_types.specs.declared.component.Component.{Component}
 use Rattle.description_types.specs.declared.component.Port.{Port}
-use Rattle.description_types.specs.declared.component.PortKind.TheVariants.{Provided, Required}
-use Rattle.description_types.specs.declared.component.Runnable as declared_runnable
+use Rattle.description_types.specs.declared.component.PortKind.TheVariants.{Required}
 use Rattle.description_types.specs.declared.description.Composition.{Composition}
 use Rattle.description_types.specs.declared.description.Description.{Description}
 use Rattle.composition_flatten.specs.declared.flat.End.{End}
 use Rattle.composition_flatten.specs.declared.flat.Flat.{Flat}
-use Rattle.composition_flatten.specs.Items.{interface_at}
-use Rattle.bus_semantics.specs.declared.plan.ArgPlan.{ArgPlan}
 use Rattle.bus_semantics.specs.declared.plan.BusPlan.{BusPlan}
 use Rattle.bus_semantics.specs.declared.plan.ElemPlan.{ElemPlan}
 use Rattle.bus_semantics.specs.declared.plan.PointPlan.{PointPlan}
 use Rattle.bus_semantics.specs.declared.plan.ServerPlan.{ServerPlan}
 use Rattle.bus_semantics.specs.declared.script.Mapping.{Mapping}
-use Rattle.bus_semantics.specs.Plan.{Plan, plan_of, look, every_from, instance_of}
+use Rattle.bus_semantics.specs.Plan.{plan_of, look, every_from, instance_of}
 use Rattle.bus_semantics.specs.SoundAccesses.{same_operation, points_fit}
 use Rattle.bus_semantics.specs.SoundElements.{argument_limits, same_limits}
 use Rattle.bus_semantics.specs.SoundNames.{is_letter, is_name_part, is_name}
@@ -41,30 +37,28 @@ use Rattle.component_rules.specs.declared.items.Item.TheVariants.{Operation}
 use Rattle.component_rules.specs.Items.{item_at}
 use Rattle.component_rules.specs.Signatures.{arguments_of, goes, limits_of}
 use Rattle.plan_numbers.specs.Joined.{end_at, provider_of}
-use Rattle.plan_numbers.specs.Keys.{end_key, pair_number}
-use Rattle.plan_numbers.specs.Parts.{component_of, runnables_of}
+use Rattle.plan_numbers.specs.Keys.{end_key}
+use Rattle.plan_numbers.specs.Parts.{component_of}
 use Rattle.plan_numbers.specs.Sites.{root_ports}
-use Rattle.plan_ports.specs.Ports.{ports_of, port_of, interface_of, item_name, port_name, item_text}
+use Rattle.plan_ports.specs.Ports.{ports_of, port_of, interface_of, item_name, item_text}
 use Rattle.plan_ports.specs.Things.{server_number}
 use Rattle.plan_services.specs.declared.callings.Calling.{Calling}
 use Rattle.plan_services.specs.Callings.{callings, owner_of, outer_calling}
-use Rattle.plan_services.specs.Services.{argument_of, is_out, operation_in, operation_at, point_of, point_words, points, server_at, servers}
+use Rattle.plan_services.specs.Services.{argument_of, is_out, operation_in, point_of, point_words, points, server_at, servers}
 use Rattle.sound_descriptions.specs.WellFormed as formed
 use Rattle.planned_descriptions.specs.Whole.{IsWhole}
 use Rattle.sound_behavior.proofs.Lists.{clash, both, both_of, or_cases, not_true, some_same, not_some, option_same, same_test, all_if, all_at, every_if, looked, map_at, MapAt, mapped, append_at, Later, left_true, right_true}
 use Rattle.sound_behavior.proofs.Members.{numbers_equal, names_apart}
-use Rattle.sound_behavior.proofs.Parts.{Home, home_component, component_home, same_home}
+use Rattle.sound_behavior.proofs.Parts.{Home, component_home, same_home}
 use Rattle.sound_behavior.proofs.Rules.{planned, plan_is, ports_formed, access_kept}
-use Rattle.sound_behavior.proofs.Sites.{ports_at_home}
-use Rattle.sound_behavior.proofs.Serving.{Provides, invoked_by, server_there}
+use Rattle.sound_behavior.proofs.Serving.{invoked_by, server_there}
 use Rattle.sound_behavior.proofs.Servers.{operation_is}
-use Rattle.sound_behavior.proofs.Passing.{ServesAs}
-use Rattle.sound_behavior.proofs.Providers.{interface_is, OperationBy, operation_by}
+use Rattle.sound_behavior.proofs.Providers.{operation_by}
 use Rattle.sound_behavior.proofs.Points.{Calls, waits, goes_on, inner, outer, InnerCall, inner_call, OuterCall, outer_call, call_place, called_once}
 use Rattle.sound_behavior.proofs.Callers.{goes_is, home_of}
-use Rattle.sound_behavior.proofs.Direct.{Called, outer_operation}
-use Rattle.sound_behavior.proofs.Fits.{Needs, Finds, finds}
-use Rattle.sound_behavior.proofs.Waits.{RequiredAt, operation_required}
+use Rattle.sound_behavior.proofs.Direct.{outer_operation}
+use Rattle.sound_behavior.proofs.Fits.{Finds, finds}
+use Rattle.sound_behavior.proofs.Waits.{operation_required}
 
 -- ---- names before and after a dot
 

@@ -1,11 +1,10 @@
 -- Each event is mapped as often as it is owed; the whole mapping fits.
-use Rattle.std.proofs.Common.{◌≡◌, ℕ, zero, suc, ◌+◌, ◌<◌, ◌≤◌, Bool, true, false, cond, ◌&&◌, ◌||◌, not, ◌==◌, nat_eq, refl, sym, ◌∙◌, ap, subst, arith, List, [], ◌∷◌, ◌++◌, map, filter, length, Option, Some, None}
+use Rattle.std.proofs.Common.{◌≡◌, ℕ, ◌+◌, ◌<◌, ◌≤◌, Bool, true, false, cond, ◌&&◌, ◌||◌, not, ◌==◌, nat_eq, refl, sym, ◌∙◌, ap, subst, arith, List, [], ◌∷◌, map, filter, length, Option, Some, None}
 use Rattle.std.specs.Prelude.{nat_lt, nat_le, is_some}
 use Rattle.std.specs.List.{slice_get, list_all, list_any}
 use Rattle.std.specs.Option.{option_map_or}
-use Rattle.std.proofs.lemmas.Bool.{false≢true, eqb-true, eq-eqb}
+use Rattle.std.proofs.lemmas.Bool.{eq-eqb}
 use Rattle.std.proofs.lemmas.Option.{slice_get_within}
-use Rattle.description_types.specs.declared.component.Event.{Event}
 use Rattle.description_types.specs.declared.component.EventKind as declared_kind
 use Rattle.description_types.specs.declared.component.EventKind.TheVariants as declared_event
 use Rattle.description_types.specs.declared.description.Description.{Description}
@@ -40,12 +39,12 @@ use Rattle.plan_ports.specs.Ports.{queue_length_of}
 use Rattle.plan_ports.specs.Things.{server_number}
 use Rattle.sound_descriptions.specs.WellFormed as formed
 use Rattle.planned_descriptions.specs.Whole.{IsWhole}
-use Rattle.sound_behavior.proofs.Lists.{clash, both, both_of, some_same, not_some, number_same, same_test, all_if, all_at, every_if, looked, there_at, mapped, any_if, differ_test, left_true, right_true, length-map}
-use Rattle.sound_behavior.proofs.Members.{Has, position_at_plan, numbers_equal, names_apart, added, count_append, count_flat, added_same, added_kept, added_order, spread, spread_all}
-use Rattle.sound_behavior.proofs.Parts.{Home, one_at, OneAt, length-one_each, EventAt, event_at, event_there, event_count, numbers_apart, number_there, itself, same_pairs}
-use Rattle.sound_behavior.proofs.Rules.{planned, plan_is, mapped_kept, event_formed}
+use Rattle.sound_behavior.proofs.Lists.{both, both_of, number_same, same_test, all_if, all_at, every_if, looked, there_at, mapped, left_true, right_true}
+use Rattle.sound_behavior.proofs.Members.{position_at_plan, numbers_equal, names_apart, count_append, count_flat, added_same, added_kept, added_order, spread, spread_all}
+use Rattle.sound_behavior.proofs.Parts.{one_at, OneAt, length-one_each, EventAt, event_at, event_there, numbers_apart, number_there, same_pairs}
+use Rattle.sound_behavior.proofs.Rules.{planned, plan_is, mapped_kept}
 use Rattle.sound_behavior.proofs.Serving.{server_there}
-use Rattle.sound_behavior.proofs.Tasks.{below, is_below, at_most, most, NamedEvent, named_event, MappedIn, mapped_in, tasks, in_one_task}
+use Rattle.sound_behavior.proofs.Tasks.{below, is_below, at_most, most, NamedEvent, named_event, mapped_in, tasks, in_one_task}
 
 pub same_bool : (a b : Bool) → (a ≡ true → b ≡ true) → (b ≡ true → a ≡ true) → a ≡ b
 same_bool true b go back = sym (go refl)

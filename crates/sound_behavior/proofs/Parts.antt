@@ -1,6 +1,6 @@
 -- What instances have: runnables, events and areas stand in the plan by instance and position, and have the numbers of their places.
-use Rattle.std.proofs.Common.{◌≡◌, ℕ, zero, suc, ◌+◌, ◌<◌, ◌≤◌, Bool, true, false, ◌&&◌, nat_eq, refl, sym, ◌∙◌, ap, subst, arith, List, [], ◌∷◌, map, length, Option, Some, None, option_map, option_and_then}
-use Rattle.std.specs.List.{slice_get, position_from}
+use Rattle.std.proofs.Common.{◌≡◌, ℕ, zero, suc, ◌+◌, ◌<◌, true, nat_eq, refl, sym, ◌∙◌, ap, subst, arith, List, [], ◌∷◌, map, length, Option, Some, None, option_and_then}
+use Rattle.std.specs.List.{slice_get}
 use Rattle.std.specs.Option.{option_map_or, unwrap_or}
 use Rattle.std.proofs.lemmas.Bool.{eqb-true, eq-eqb}
 use Rattle.std.proofs.lemmas.Option.{slice_get_within}
@@ -17,10 +17,10 @@ use Rattle.plan_numbers.specs.declared.parts.Part.{Part}
 use Rattle.plan_numbers.specs.declared.parts.Part.TheVariants.{Runnables, Events, Areas}
 use Rattle.plan_numbers.specs.Keys.{same_pair, pair_number}
 use Rattle.plan_numbers.specs.Lists.{from, positions}
-use Rattle.plan_numbers.specs.Parts.{component_of, of_instances, numbered, counted, counted_at, parts_of, runnables_of, events_of, areas_of}
+use Rattle.plan_numbers.specs.Parts.{component_of, of_instances, numbered, counted, parts_of, runnables_of, events_of, areas_of}
 use Rattle.plan_runnables.specs.Started.{event_of, events_of_component, events, runnable_of, runnables_of_component, runnables}
 use Rattle.event_mapping.specs.Planned.{area_of, areas}
-use Rattle.sound_behavior.proofs.Lists.{some_same, both, both_of, found, FoundAt, before, In, in_from, reach, before_same, from_length, within_before, position_is, length-positions, length-map, mapped, MapAt, map_at, append_at}
+use Rattle.sound_behavior.proofs.Lists.{some_same, both, both_of, found, before, In, in_from, reach, before_same, position_is, length-positions, length-map, mapped, map_at}
 
 -- ---- lists with one item for each
 
@@ -103,25 +103,9 @@ module _ (d : Description) (f : Flat) where
         reach spread 0 f.instances i h.instance place y h.there
         (subst (λ m. slice_get (spread m h.instance) place ≡ Some y) none (subst (λ o. slice_get (option_map_or (g i) o []) place ≡ Some y) (sym h.has) e))
 
-    -- those of an instance come before those of a later one
-    pub starts_rise : (i : ℕ) (c : Component) → Home i c → (j : ℕ) → i < j → start i + length (g i c) ≤ start j
-    unfolding spread start
-    starts_rise i c h j l =
-        let none : 0 + i ≡ i = omega arith in
-        let here : length (spread (0 + i) h.instance) ≡ length (g i c) = ap (λ m. length (spread m h.instance)) none ∙ ap (λ o. length (option_map_or (g i) o [])) h.has in
-        let less = within_before spread 0 f.instances i j h.instance h.there l in
-        omega arith
-
   pub same_start : {X Y : Type 0} (g : ℕ → Component → List X) (h : ℕ → Component → List Y) → ((i : ℕ) (c : Component) → length (g i c) ≡ length (h i c)) → (i : ℕ) → start g i ≡ start h i
   unfolding start spread
   same_start {X} {Y} g h same i = before_same (spread g) (spread h) (λ m x. by m (slice_get d.components x.component)) 0 f.instances i
-    where
-      by : (m : ℕ) (o : Option Component) → length (option_map_or (g m) o []) ≡ length (option_map_or (h m) o [])
-      by m None = refl
-      by m (Some c) = same m c
-
-  pub same_length : {X Y : Type 0} (g : ℕ → Component → List X) (h : ℕ → Component → List Y) → ((i : ℕ) (c : Component) → length (g i c) ≡ length (h i c)) → length (of_instances g d f) ≡ length (of_instances h d f)
-  same_length {X} {Y} g h same = from_length (λ i x. option_map_or (g i) (slice_get d.components x.component) []) (λ i x. option_map_or (h i) (slice_get d.components x.component) []) (λ m x. by m (slice_get d.components x.component)) 0 f.instances
     where
       by : (m : ℕ) (o : Option Component) → length (option_map_or (g m) o []) ≡ length (option_map_or (h m) o [])
       by m None = refl
@@ -230,9 +214,6 @@ module _ (d : Description) (f : Flat) where
       let place : start (events_of_component d f) i + m ≡ pair_number (events_of d f) (i, m) = omega arith in
       subst (λ k. slice_get (events d f) k ≡ Some (event_of d f i e)) place (to_instance (events_of_component d f) i c h m (event_of d f i e) (mapped (event_of d f i) c.behavior.events m e at))
 
-  pub event_count : length (events_of d f) ≡ length (events d f)
-  event_count = ap length (parts_are Events) ∙ same_length (pairs_in Events) (events_of_component d f) same_events
-
   -- ---- runnables
 
   same_runnables : (i : ℕ) (c : Component) → length (pairs_in Runnables i c) ≡ length (runnables_of_component d f i c)
@@ -268,9 +249,6 @@ module _ (d : Description) (f : Flat) where
       let none : 0 + m ≡ m = omega arith in
       subst (λ k. slice_get (runnables d f) k ≡ Some (runnable_of d f i c m r)) place (to_instance (runnables_of_component d f) i c h m (runnable_of d f i c m r)
       (one_each (runnable_of d f i c) 0 c.behavior.runnables m r at ∙ ap (λ k. Some (runnable_of d f i c k r)) none))
-
-  pub runnable_count : length (runnables_of d f) ≡ length (runnables d f)
-  runnable_count = ap length (parts_are Runnables) ∙ same_length (pairs_in Runnables) (runnables_of_component d f) same_runnables
 
   -- ---- areas
 

@@ -1,5 +1,5 @@
 -- Interfaces that serve others: operations keep their arguments along a chain of compatible interfaces, and mode elements their modes.
-use Rattle.std.proofs.Common.{◌≡◌, ℕ, zero, suc, ◌+◌, List, [], ◌∷◌, map, filter, length, Bool, true, false, cond, ◌&&◌, ◌==◌, nat_eq, bytes_eq, Option, Some, None, option_map, zip, refl, sym, ap, subst, ◌∙◌, arith, slice_get}
+use Rattle.std.proofs.Common.{◌≡◌, ℕ, List, [], ◌∷◌, map, filter, length, Bool, true, false, cond, ◌&&◌, ◌==◌, nat_eq, bytes_eq, Option, Some, None, option_map, zip, refl, ap, subst, ◌∙◌, arith, slice_get}
 use Rattle.std.specs.Prelude.{pos}
 use Rattle.std.proofs.lemmas.Bool.{false≢true, eqb-true}
 use Rattle.std.proofs.lemmas.Bool.Decides.{Decides-int_eq}
@@ -7,10 +7,8 @@ use Rattle.std.specs.Cmp.Lexicographic.{pointwise}
 use Rattle.std.specs.List.{list_all, list_any}
 use Rattle.std.specs.Option.{option_map_or}
 use Rattle.std.specs.Ordering.{int_eq}
-use Rattle.rte_value.specs.declared.kinds.Limits.{Limits}
 use Rattle.interface_types.specs.declared.base_type.DataType.{DataType}
 use Rattle.interface_types.specs.declared.interface.Argument.{Argument}
-use Rattle.interface_types.specs.declared.interface.DataElement.{DataElement}
 use Rattle.interface_types.specs.declared.interface.Direction.{Direction}
 use Rattle.interface_types.specs.declared.interface.Direction.TheVariants.{In, Out}
 use Rattle.interface_types.specs.declared.interface.Interface.{Interface}
@@ -20,10 +18,10 @@ use Rattle.interface_types.specs.declared.interface.ModeElement.{ModeElement}
 use Rattle.interface_types.specs.declared.interface.ModeGroup.{ModeGroup}
 use Rattle.interface_types.specs.declared.interface.Operation.{Operation}
 use Rattle.interface_types.specs.declared.interface.TypeTable.{TypeTable}
-use Rattle.compatibility.specs.Interfaces.{are_compatible, same_argument, same_arguments, same_direction, same_modes, groups_agree, serve_operations, serves, serves_in, serves_operation}
+use Rattle.compatibility.specs.Interfaces.{same_argument, same_arguments, same_direction, same_modes, serves, serves_in, serves_operation}
 use Rattle.compatibility.specs.Types.{agree, are_compatible_types, base_number, types_agree}
 use Rattle.component_rules.specs.Signatures.{arguments_of, goes, limits_of}
-use Rattle.sound_behavior.proofs.Lists.{both, some_same, not_some, number_same, all_at, any_at}
+use Rattle.sound_behavior.proofs.Lists.{both, number_same, all_at, any_at}
 
 pub same_bytes : (a b : List ℕ) → bytes_eq a b ≡ true → a ≡ b
 same_bytes [] [] h = refl

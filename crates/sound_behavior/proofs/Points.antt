@@ -1,8 +1,6 @@
 -- Calls: each access that calls is a point, whose number is its place; those of the environment stand last.
-use Rattle.std.proofs.Common.{◌≡◌, ℕ, zero, suc, ◌+◌, ◌<◌, ◌≤◌, Bool, true, false, cond, ◌&&◌, ◌||◌, not, ◌==◌, nat_eq, refl, sym, ◌∙◌, ap, subst, arith, List, [], ◌∷◌, ◌++◌, map, length, Option, Some, None, option_map, ◌⊎◌, inl, inr}
-use Rattle.std.specs.Prelude.{nat_lt, is_none}
-use Rattle.std.specs.List.{slice_get, flat_map, list_any, position_from}
-use Rattle.std.specs.Option.{option_map_or, unwrap_or}
+use Rattle.std.proofs.Common.{◌≡◌, ℕ, zero, suc, ◌+◌, ◌<◌, ◌≤◌, Bool, true, false, ◌==◌, nat_eq, refl, sym, ◌∙◌, ap, subst, arith, List, [], ◌∷◌, ◌++◌, length, Some, ◌⊎◌, inl, inr}
+use Rattle.std.specs.List.{slice_get, flat_map}
 use Rattle.std.proofs.lemmas.Bool.{false≢true, eqb-true, eq-eqb}
 use Rattle.std.proofs.lemmas.Option.{slice_get_within}
 use Rattle.runnable_lang.specs.declared.program.AccessKind.{AccessKind}
@@ -17,21 +15,18 @@ use Rattle.description_types.specs.declared.description.Description.{Description
 use Rattle.composition_flatten.specs.declared.flat.Flat.{Flat}
 use Rattle.bus_semantics.specs.declared.plan.BusPlan.{BusPlan}
 use Rattle.bus_semantics.specs.declared.script.Mapping.{Mapping}
-use Rattle.bus_semantics.specs.State.{same_kind}
-use Rattle.component_rules.specs.Calls.{called_by, left_by, called, left, is_called_once, is_left, access_keeps}
+use Rattle.component_rules.specs.Calls.{called_by, left_by, called, left, is_left, access_keeps}
 use Rattle.component_rules.specs.Tallies.{count, same_operation}
-use Rattle.plan_numbers.specs.declared.parts.Part.TheVariants.{Runnables}
 use Rattle.plan_numbers.specs.Lists.{from, positions}
 use Rattle.plan_numbers.specs.Parts.{of_instances}
 use Rattle.plan_numbers.specs.Sites.{root_ports}
 use Rattle.plan_services.specs.declared.callings.Calling.{Calling}
-use Rattle.plan_services.specs.Callings.{calling_of, callings_in, callings_of_component, operations_at, outer_calling, outer_callings, callings, is_calling, leaves, first_calling, point_number}
-use Rattle.sound_descriptions.specs.WellFormed as formed
+use Rattle.plan_services.specs.Callings.{calling_of, callings_in, callings_of_component, operations_at, outer_calling, outer_callings, callings}
 use Rattle.planned_descriptions.specs.Whole.{IsWhole}
-use Rattle.sound_behavior.proofs.Lists.{clash, both, both_of, or_cases, not_true, some_same, not_some, number_same, found, FoundAt, before, In, in_from, reach, within_before, append_left, append_right, append_at, Later, mapped, map_at, counted_at, Passes, once, any_if, position_is, length-positions}
-use Rattle.sound_behavior.proofs.Members.{Has, HasIn, has_flat}
-use Rattle.sound_behavior.proofs.Parts.{Home, same_home, start, OfInstance, of_instance, to_instance}
-use Rattle.sound_behavior.proofs.Rules.{call_kept, runnable_formed}
+use Rattle.sound_behavior.proofs.Lists.{both, both_of, some_same, number_same, before, in_from, reach, within_before, append_left, Later, map_at, counted_at, once, position_is, length-positions}
+use Rattle.sound_behavior.proofs.Members.{Has, has_flat}
+use Rattle.sound_behavior.proofs.Parts.{Home, start, of_instance, to_instance}
+use Rattle.sound_behavior.proofs.Rules.{call_kept}
 
 -- ---- lists joined end to end
 

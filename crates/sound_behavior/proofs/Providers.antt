@@ -1,5 +1,5 @@
 -- Who provides: a required operation that is joined is served by an instance, with its arguments; required modes have a machine.
-use Rattle.std.proofs.Common.{◌≡◌, ℕ, zero, suc, ◌+◌, ◌<◌, List, [], ◌∷◌, map, filter, length, Bool, true, false, cond, ◌&&◌, ◌||◌, not, nat_eq, Option, Some, None, option_map, option_and_then, refl, sym, ap, subst, ◌∙◌, arith, slice_get}
+use Rattle.std.proofs.Common.{◌≡◌, ℕ, ◌+◌, List, [], ◌∷◌, map, filter, length, Bool, true, false, cond, Option, Some, None, option_map, option_and_then, refl, sym, ap, subst, ◌∙◌, arith, slice_get}
 use Rattle.std.specs.Prelude.{is_some}
 use Rattle.std.specs.List.{find, list_all}
 use Rattle.std.specs.Option.{option_map_or, unwrap_or}
@@ -12,7 +12,7 @@ use Rattle.description_types.specs.declared.description.Description.{Description
 use Rattle.description_types.specs.declared.description.PrototypeType.TheVariants as of_type
 use Rattle.interface_types.specs.declared.interface.Interface.{Interface}
 use Rattle.interface_types.specs.declared.interface.InterfaceKind.{InterfaceKind}
-use Rattle.interface_types.specs.declared.interface.InterfaceKind.TheVariants.{ClientServer, ModeSwitch, SenderReceiver}
+use Rattle.interface_types.specs.declared.interface.InterfaceKind.TheVariants.{ClientServer, ModeSwitch}
 use Rattle.interface_types.specs.declared.interface.ModeElement.{ModeElement}
 use Rattle.interface_types.specs.declared.interface.ModeGroup.{ModeGroup}
 use Rattle.interface_types.specs.declared.interface.Operation.{Operation}
@@ -25,33 +25,31 @@ use Rattle.compatibility.specs.Connectors as connectors
 use Rattle.compatibility.specs.Connectors.{requires_server, root_client}
 use Rattle.compatibility.specs.Items as items
 use Rattle.compatibility.specs.Joins as sides
-use Rattle.compatibility.specs.declared.rule.Rule.TheVariants.{Services, Groups}
+use Rattle.compatibility.specs.declared.rule.Rule.TheVariants.{Services}
 use Rattle.bus_semantics.specs.declared.plan.BusPlan.{BusPlan}
 use Rattle.bus_semantics.specs.declared.plan.MachinePlan.{MachinePlan}
 use Rattle.bus_semantics.specs.declared.script.Mapping.{Mapping}
 use Rattle.component_rules.specs.declared.items.Item.TheVariants.{Modes}
-use Rattle.component_rules.specs.Items.{item_at}
 use Rattle.plan_numbers.specs.declared.site.Site.{Site}
-use Rattle.plan_numbers.specs.declared.site.SiteKind.{SiteKind}
 use Rattle.plan_numbers.specs.declared.site.SiteKind.TheVariants.{Machine, ModePort}
 use Rattle.plan_numbers.specs.Joined.{same_end, end_at, provider_of}
 use Rattle.plan_numbers.specs.Keys.{key_of, end_key, is_machine, is_mode_port, keys_of, of_kind, number_in}
 use Rattle.plan_numbers.specs.Parts.{component_of}
 use Rattle.plan_numbers.specs.Sites.{kind_at, count_at, shape_at, provides_at, root_ports, site}
-use Rattle.plan_ports.specs.Ports.{ports_of, port_of, interface_of}
+use Rattle.plan_ports.specs.Ports.{port_of, interface_of}
 use Rattle.plan_ports.specs.Things.{machine_for, machine_number, machines_of, mode_port_number, mode_ports_of, has_machine}
-use Rattle.plan_services.specs.Modes.{group_in, group_at, machine_at, machines, mode_port_at, mode_ports}
+use Rattle.plan_services.specs.Modes.{group_in, machine_at, machines, mode_port_at, mode_ports}
 use Rattle.sound_descriptions.specs.WellFormed as formed
 use Rattle.planned_descriptions.specs.Whole.{IsWhole}
-use Rattle.sound_behavior.proofs.Lists.{clash, both, both_of, or_false, not_true, some_same, not_some, all_at, map_at, MapAt, mapped, none_or, none_map, kept, right_true}
-use Rattle.sound_behavior.proofs.Members.{Has, names_apart}
-use Rattle.sound_behavior.proofs.Parts.{Home, home_component, component_home}
+use Rattle.sound_behavior.proofs.Lists.{both, or_false, some_same, not_some, all_at, map_at, mapped, none_or, kept}
+use Rattle.sound_behavior.proofs.Members.{names_apart}
+use Rattle.sound_behavior.proofs.Parts.{Home, component_home}
 use Rattle.sound_behavior.proofs.Sites.{ports_at_home, site_there, numbered_kind, place_of, kept_apart, kind_apart, number_at}
-use Rattle.sound_behavior.proofs.Items.{ItemAt, item_there, ModesIn, modes_item}
+use Rattle.sound_behavior.proofs.Items.{ItemAt, ModesIn, modes_item}
 use Rattle.sound_behavior.proofs.Serving.{Provides}
-use Rattle.sound_behavior.proofs.Passing.{Passes, ServesAs, FromServer, FromMachine, Served, modes_of_group}
+use Rattle.sound_behavior.proofs.Passing.{ServesAs, FromServer, FromMachine, Served, modes_of_group}
 use Rattle.sound_behavior.proofs.Chains.{first_none}
-use Rattle.sound_behavior.proofs.Joints.{ProvidedBy, provided_by, EndAt, Joint, joint, all_compatible, no_root_client, services_kept}
+use Rattle.sound_behavior.proofs.Joints.{ProvidedBy, provided_by, Joint, joint, no_root_client, services_kept}
 
 -- something is found where something is kept
 kept_found : {X : Type 0} (test : X → Bool) (f : X → End) (xs : List X) → sides.is_none (map f (filter test xs)) ≡ false → is_some (option_map f (find test xs)) ≡ true
@@ -101,55 +99,55 @@ module _ (d : Description) (f : Flat) (p : BusPlan) (m : Mapping) (w : IsWhole d
       not_some (0 + k) (sym none ∙ ap (λ b. cond b (Some (0 + k)) None) needs)
 
   module _ (o : Option ℕ) (k n : ℕ) (ys : List Operation) (r : Operation) (required : interface_of d f o k ≡ Some (ClientServer ys)) (at : slice_get ys n ≡ Some r) (q : End) (by_end : provider_of f.joins (end_at o k n) ≡ Some q) where
-    b : ProvidedBy f.joins (end_at o k n) q
-    b = provided_by f.joins (end_at o k n) q by_end
+    by_join : ProvidedBy f.joins (end_at o k n) q
+    by_join = provided_by f.joins (end_at o k n) q by_end
 
-    j : Joint d f p m w b.join
-    j = joint d f p m w b.join b.has
+    at_joint : Joint d f p m w by_join.join
+    at_joint = joint d f p m w by_join.join by_join.has
 
-    requires_here : interface_at d j.required.port.interface ≡ Some (ClientServer ys)
-    requires_here = sym (interface_is b.join.required.instance b.join.required.port j.required.port j.required.there) ∙ ap (λ (e : End). interface_of d f e.instance e.port) b.required ∙ required
+    requires_here : interface_at d at_joint.required.port.interface ≡ Some (ClientServer ys)
+    requires_here = sym (interface_is by_join.join.required.instance by_join.join.required.port at_joint.required.port at_joint.required.there) ∙ ap (λ (e : End). interface_of d f e.instance e.port) by_join.required ∙ required
 
-    from_server : FromServer d.types (interface_at d j.provided.port.interface) ys
-    from_server = j.passes.operations ys requires_here
+    from_server : FromServer d.types (interface_at d at_joint.provided.port.interface) ys
+    from_server = at_joint.passes.operations ys requires_here
 
-    names : IsSameName (operation_names from_server.all) (operation_names ys) b.join.provided.element b.join.required.element
-    names = subst (λ x. ItemsJoin x (Some (ClientServer ys)) b.join.provided.element b.join.required.element) from_server.is
-        (subst (λ y. ItemsJoin (interface_at d j.provided.port.interface) y b.join.provided.element b.join.required.element) requires_here j.items)
+    names : IsSameName (operation_names from_server.all) (operation_names ys) by_join.join.provided.element by_join.join.required.element
+    names = subst (λ x. ItemsJoin x (Some (ClientServer ys)) by_join.join.provided.element by_join.join.required.element) from_server.is
+        (subst (λ y. ItemsJoin (interface_at d at_joint.provided.port.interface) y by_join.join.provided.element by_join.join.required.element) requires_here at_joint.items)
 
-    here : InterfaceIs j.provided.port.interface (ClientServer from_server.all)
-    here = interface_there j.provided.port.interface (ClientServer from_server.all) from_server.is
+    here : InterfaceIs at_joint.provided.port.interface (ClientServer from_server.all)
+    here = interface_there at_joint.provided.port.interface (ClientServer from_server.all) from_server.is
 
     distinct_names : formed.distinct (operation_names from_server.all) ≡ true
     distinct_names =
         let kinds = (both (list_all formed.group_fits d.types.mode_groups) (list_all (λ (i : Interface). formed.kind_fits d.types i.kind) d.types.interfaces) (both (list_all formed.type_fits d.types.data_types) _ w.well_formed.types).1).1 in
-        let kept : formed.kind_fits d.types (ClientServer from_server.all) ≡ true = subst (λ k. formed.kind_fits d.types k ≡ true) here.is (all_at (λ (i : Interface). formed.kind_fits d.types i.kind) d.types.interfaces j.provided.port.interface here.interface kinds here.has) in
+        let kept : formed.kind_fits d.types (ClientServer from_server.all) ≡ true = subst (λ k. formed.kind_fits d.types k ≡ true) here.is (all_at (λ (i : Interface). formed.kind_fits d.types i.kind) d.types.interfaces at_joint.provided.port.interface here.interface kinds here.has) in
         (both _ (formed.distinct (operation_names from_server.all)) (both (formed.names_fit (operation_names from_server.all)) (list_all (formed.operation_fits d.types.data_types) from_server.all) kept).0).1
 
     serving : Served d.types from_server.all r
     serving = from_server.serve n r at
 
     -- the operation at the provided end serves
-    serves_at : slice_get from_server.all b.join.provided.element ≡ Some serving.operation
+    serves_at : slice_get from_server.all by_join.join.provided.element ≡ Some serving.operation
     serves_at =
-        let x = map_at (λ (z : Operation). z.short_name) from_server.all b.join.provided.element names.0 names.1 in
-        let y = map_at (λ (z : Operation). z.short_name) ys b.join.required.element names.0 names.2 in
-        let number : b.join.required.element ≡ n = ap (λ (e : End). e.element) b.required in
+        let x = map_at (λ (z : Operation). z.short_name) from_server.all by_join.join.provided.element names.0 names.1 in
+        let y = map_at (λ (z : Operation). z.short_name) ys by_join.join.required.element names.0 names.2 in
+        let number : by_join.join.required.element ≡ n = ap (λ (e : End). e.element) by_join.required in
         let same : y.item ≡ r = some_same y.item r (sym y.there ∙ ap (slice_get ys) number ∙ at) in
         let name : names.0 ≡ serving.operation.short_name = y.is ∙ ap (λ (z : Operation). z.short_name) same ∙ sym serving.serves.name in
-        let place : b.join.provided.element ≡ serving.place =
-        names_apart (operation_names from_server.all) b.join.provided.element serving.place names.0 distinct_names names.1 (mapped (λ (z : Operation). z.short_name) from_server.all serving.place serving.operation serving.there ∙ ap (λ z. Some z) (sym name)) in
+        let place : by_join.join.provided.element ≡ serving.place =
+        names_apart (operation_names from_server.all) by_join.join.provided.element serving.place names.0 distinct_names names.1 (mapped (λ (z : Operation). z.short_name) from_server.all serving.place serving.operation serving.there ∙ ap (λ z. Some z) (sym name)) in
         ap (slice_get from_server.all) place ∙ serving.there
 
-    at_home : (i : ℕ) (c : Component) → b.join.provided.instance ≡ Some i → Home d f i c → j.provided.port.kind ≡ Provided → OperationBy b.join.provided r
+    at_home : (i : ℕ) (c : Component) → by_join.join.provided.instance ≡ Some i → Home d f i c → at_joint.provided.port.kind ≡ Provided → OperationBy by_join.join.provided r
     at_home i c owner home side = record {
       i = i;
       c = c;
       home = home;
       owner = owner;
       provides = record {
-        port = j.provided.port;
-        there = ap (λ ps. slice_get ps b.join.provided.port) (sym (ports_at_home d f i c home)) ∙ ap (λ x. port_of d f x b.join.provided.port) (sym owner) ∙ j.provided.there;
+        port = at_joint.provided.port;
+        there = ap (λ ps. slice_get ps by_join.join.provided.port) (sym (ports_at_home d f i c home)) ∙ ap (λ x. port_of d f x by_join.join.provided.port) (sym owner) ∙ at_joint.provided.there;
         kind = side;
         interface = here.interface;
         has = here.has;
@@ -161,18 +159,18 @@ module _ (d : Description) (f : Flat) (p : BusPlan) (m : Mapping) (w : IsWhole d
       serves = serving.serves;
     }
 
-    by_owner : (x : Option ℕ) → b.join.provided.instance ≡ x → (side : PortKind) → j.provided.port.kind ≡ side → provides_at x side ≡ true → OperationBy b.join.provided r
+    by_owner : (x : Option ℕ) → by_join.join.provided.instance ≡ x → (side : PortKind) → at_joint.provided.port.kind ≡ side → provides_at x side ≡ true → OperationBy by_join.join.provided r
     by_owner (Some i) owner Provided side e = by_component (component_of d f i) refl
       where
-        by_component : (z : Option Component) → component_of d f i ≡ z → OperationBy b.join.provided r
-        by_component None none = not_some j.provided.port (ap (λ z. slice_get (option_map_or (λ (y : Component). y.ports) z []) b.join.provided.port) (sym none) ∙ ap (λ x. port_of d f x b.join.provided.port) (sym owner) ∙ j.provided.there)
+        by_component : (z : Option Component) → component_of d f i ≡ z → OperationBy by_join.join.provided r
+        by_component None none = not_some at_joint.provided.port (ap (λ z. slice_get (option_map_or (λ (y : Component). y.ports) z []) by_join.join.provided.port) (sym none) ∙ ap (λ x. port_of d f x by_join.join.provided.port) (sym owner) ∙ at_joint.provided.there)
         by_component (Some c) is = at_home i c owner (component_home d f i c is) side
     by_owner (Some i) owner Required side e = absurd (false≢true e)
     by_owner None owner Provided side e = absurd (false≢true e)
-    by_owner None owner Required side e = absurd (no_server_outside b.join.provided.port j.provided.port from_server.all (ap (λ x. port_of d f x b.join.provided.port) (sym owner) ∙ j.provided.there) side here)
+    by_owner None owner Required side e = absurd (no_server_outside by_join.join.provided.port at_joint.provided.port from_server.all (ap (λ x. port_of d f x by_join.join.provided.port) (sym owner) ∙ at_joint.provided.there) side here)
 
     pub operation_by : OperationBy q r
-    operation_by = subst (λ e. OperationBy e r) b.provided (by_owner b.join.provided.instance refl j.provided.port.kind refl j.provided.side)
+    operation_by = subst (λ e. OperationBy e r) by_join.provided (by_owner by_join.join.provided.instance refl at_joint.provided.port.kind refl at_joint.provided.side)
 
   -- ---- modes
 
@@ -200,31 +198,31 @@ module _ (d : Description) (f : Flat) (p : BusPlan) (m : Mapping) (w : IsWhole d
       by (Some y) e = some_same y.modes g e
 
   module _ (o : Option ℕ) (k : ℕ) (y : ModeElement) (g : ModeGroup) (required : interface_of d f o k ≡ Some (ModeSwitch y)) (group : slice_get d.types.mode_groups y.of_type ≡ Some g) (q : End) (by_end : provider_of f.joins (end_at o k 0) ≡ Some q) where
-    b2 : ProvidedBy f.joins (end_at o k 0) q
-    b2 = provided_by f.joins (end_at o k 0) q by_end
+    mode_join : ProvidedBy f.joins (end_at o k 0) q
+    mode_join = provided_by f.joins (end_at o k 0) q by_end
 
-    j2 : Joint d f p m w b2.join
-    j2 = joint d f p m w b2.join b2.has
+    mode_joint : Joint d f p m w mode_join.join
+    mode_joint = joint d f p m w mode_join.join mode_join.has
 
-    requires_modes : interface_at d j2.required.port.interface ≡ Some (ModeSwitch y)
-    requires_modes = sym (interface_is b2.join.required.instance b2.join.required.port j2.required.port j2.required.there) ∙ ap (λ (e : End). interface_of d f e.instance e.port) b2.required ∙ required
+    requires_modes : interface_at d mode_joint.required.port.interface ≡ Some (ModeSwitch y)
+    requires_modes = sym (interface_is mode_join.join.required.instance mode_join.join.required.port mode_joint.required.port mode_joint.required.there) ∙ ap (λ (e : End). interface_of d f e.instance e.port) mode_join.required ∙ required
 
-    from_machine : FromMachine d.types (interface_at d j2.provided.port.interface) y
-    from_machine = j2.passes.modes y requires_modes
+    from_machine : FromMachine d.types (interface_at d mode_joint.provided.port.interface) y
+    from_machine = mode_joint.passes.modes y requires_modes
 
-    first_item : (b2.join.provided.element ≡ 0) × (b2.join.required.element ≡ 0)
-    first_item = subst (λ x. ItemsJoin x (Some (ModeSwitch y)) b2.join.provided.element b2.join.required.element) from_machine.is
-        (subst (λ z. ItemsJoin (interface_at d j2.provided.port.interface) z b2.join.provided.element b2.join.required.element) requires_modes j2.items)
+    first_item : (mode_join.join.provided.element ≡ 0) × (mode_join.join.required.element ≡ 0)
+    first_item = subst (λ x. ItemsJoin x (Some (ModeSwitch y)) mode_join.join.provided.element mode_join.join.required.element) from_machine.is
+        (subst (λ z. ItemsJoin (interface_at d mode_joint.provided.port.interface) z mode_join.join.provided.element mode_join.join.required.element) requires_modes mode_joint.items)
 
     pub machine_by : MachineBy o k y
     machine_by =
-        let e = b2.join.provided in
+        let e = mode_join.join.provided in
         let number : machine_for d f o k ≡ machine_number d f (e.instance, Some e.port, 0) =
-        ap (λ x. option_map_or (λ (z : End). machine_number d f (end_key z)) x 0) (by_end ∙ ap (λ z. Some z) (sym b2.provided)) ∙ ap (λ n. machine_number d f (e.instance, Some e.port, n)) first_item.0 in
+        ap (λ x. option_map_or (λ (z : End). machine_number d f (end_key z)) x 0) (by_end ∙ ap (λ z. Some z) (sym mode_join.provided)) ∙ ap (λ n. machine_number d f (e.instance, Some e.port, n)) first_item.0 in
         record {
           machine = machine_at d f e.instance e.port;
-          there = ap (slice_get (machines d f)) number ∙ machine_there e.instance e.port j2.provided.port from_machine.element j2.provided.there j2.provided.side from_machine.is;
-          modes = ap (λ z. Some z) (machine_modes e.instance e.port from_machine.element g.modes (interface_is e.instance e.port j2.provided.port j2.provided.there ∙ from_machine.is) (from_machine.modes ∙ ap modes_of_group group ∙ refl)) ∙ sym (ap modes_of_group group);
+          there = ap (slice_get (machines d f)) number ∙ machine_there e.instance e.port mode_joint.provided.port from_machine.element mode_joint.provided.there mode_joint.provided.side from_machine.is;
+          modes = ap (λ z. Some z) (machine_modes e.instance e.port from_machine.element g.modes (interface_is e.instance e.port mode_joint.provided.port mode_joint.provided.there ∙ from_machine.is) (from_machine.modes ∙ ap modes_of_group group ∙ refl)) ∙ sym (ap modes_of_group group);
         }
 
   -- ---- required modes of an instance

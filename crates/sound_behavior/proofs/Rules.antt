@@ -1,9 +1,7 @@
 -- What the rules say of a whole description, thing by thing.
-use Rattle.std.proofs.Common.{◌≡◌, ℕ, zero, suc, ◌+◌, ◌<◌, ◌≤◌, Bool, true, false, cond, ◌&&◌, ◌||◌, not, ◌==◌, refl, sym, ◌∙◌, ap, subst, arith, List, [], ◌∷◌, ◌++◌, map, length, Option, Some, None, option_map, option_and_then, ◌⊎◌}
-use Rattle.std.specs.Prelude.{is_some, nat_lt, nat_le}
+use Rattle.std.proofs.Common.{◌≡◌, ℕ, ◌+◌, Bool, true, false, cond, ◌&&◌, refl, sym, ◌∙◌, ap, arith, List, [], map, length, Option, Some, None, option_map, option_and_then}
 use Rattle.std.specs.List.{slice_get, list_all}
-use Rattle.std.specs.Option.{option_map_or, option_or}
-use Rattle.std.proofs.lemmas.Bool.Decides.{nat_tests}
+use Rattle.std.specs.Option.{option_or}
 use Rattle.description_types.specs.declared.component.Access.{Access}
 use Rattle.description_types.specs.declared.component.Component.{Component}
 use Rattle.description_types.specs.declared.component.Event.{Event}
@@ -11,8 +9,6 @@ use Rattle.description_types.specs.declared.component.Port.{Port}
 use Rattle.description_types.specs.declared.component.Runnable.{Runnable}
 use Rattle.description_types.specs.declared.component.Variable.{Variable}
 use Rattle.description_types.specs.declared.description.Description.{Description}
-use Rattle.description_types.specs.declared.description.MappedEvent.{MappedEvent}
-use Rattle.interface_types.specs.declared.interface.TypeTable.{TypeTable}
 use Rattle.composition_flatten.specs.declared.flat.Flat.{Flat}
 use Rattle.composition_flatten.specs.declared.flat.Instance.{Instance}
 use Rattle.bus_semantics.specs.declared.plan.BusPlan.{BusPlan}
@@ -21,7 +17,6 @@ use Rattle.bus_semantics.specs.declared.script.Mapping.{Mapping}
 use Rattle.bus_semantics.specs.Plan.{Plan, plan_of}
 use Rattle.component_rules.specs.declared.rule.Rule as rules
 use Rattle.component_rules.specs.declared.rule.Rule.TheVariants as rule
-use Rattle.component_rules.specs.declared.spots.Spot.{Spot}
 use Rattle.component_rules.specs.declared.spots.Spot.TheVariants as spot
 use Rattle.component_rules.specs.Accesses as reaches
 use Rattle.component_rules.specs.Calls as waiting
@@ -30,10 +25,10 @@ use Rattle.component_rules.specs.Firsts.{first_of, unless}
 use Rattle.component_rules.specs.Invocations as serving
 use Rattle.component_rules.specs.Programs as programs
 use Rattle.component_rules.specs.Refusals as components
-use Rattle.mapping_rules.specs.Mapped.{mapped_as, named_by}
+use Rattle.mapping_rules.specs.Mapped.{mapped_as}
 use Rattle.mapping_rules.specs.Refusals as mapping
 use Rattle.mapping_rules.specs.Rules as mapped
-use Rattle.plan_elements.specs.Elements.{elem_seen, elements, leaders}
+use Rattle.plan_elements.specs.Elements.{leaders}
 use Rattle.plan_elements.specs.Groups.{groups}
 use Rattle.plan_services.specs.Modes.{machines, mode_ports}
 use Rattle.plan_services.specs.Services.{points, servers}
@@ -45,7 +40,7 @@ use Rattle.event_mapping.specs.Rules.{is_too_large}
 use Rattle.sound_descriptions.specs.WellFormed.{IsWellFormed}
 use Rattle.sound_descriptions.specs.WellFormed as formed
 use Rattle.planned_descriptions.specs.Whole.{IsWhole}
-use Rattle.sound_behavior.proofs.Lists.{clash, both, or_false, some_same, not_some, all_at, none_or, none_map, none_of, unless_none}
+use Rattle.sound_behavior.proofs.Lists.{not_some, all_at, none_or, none_map, none_of, unless_none}
 use Rattle.sound_behavior.proofs.Parts.{Home}
 
 -- ---- the plan
@@ -199,10 +194,6 @@ module _ (d : Description) (f : Flat) (p : BusPlan) (m : Mapping) (w : IsWhole d
   instance_rules : (mapping.of_named d f ≡ None) × (mapping.of_mapped d f ≡ None) × (mapping.of_spread d f ≡ None) × (mapping.of_direct d f ≡ None)
   instance_rules = four_none (mapping.of_named d f) (mapping.of_mapped d f) (mapping.of_spread d f) (mapping.of_direct d f) of_mapped_events
 
-  -- rule 25
-  pub named_kept : (k : ℕ) (x : MappedEvent) → slice_get d.mapping.events k ≡ Some x → is_some (named_by d f x) ≡ true
-  named_kept k x at = rule_kept (λ i y. is_some (named_by d f y)) (λ i y. i) d.mapping.events k x (none_map (λ i. (25, mapping.mapped_text i)) (mapped.unnamed d f) instance_rules.0) at
-
   module _ (i : ℕ) (c : Component) (home : Home d f i c) where
     -- rule 26
     pub mapped_kept : (k : ℕ) (e : Event) → slice_get c.behavior.events k ≡ Some e → mapped.is_mapped_well e.kind (length (mapped_as d f (i, k))) ≡ true
@@ -241,9 +232,6 @@ module _ (d : Description) (f : Flat) (p : BusPlan) (m : Mapping) (w : IsWhole d
 
     pub runnable_formed : (k : ℕ) (r : Runnable) → slice_get c.behavior.runnables k ≡ Some r → formed.runnable_fits d.types c r ≡ true
     runnable_formed k r at = all_at (formed.runnable_fits d.types c) c.behavior.runnables k r parts.5 at
-
-    pub event_names_formed : formed.names_fit (map (λ (e : Event). e.short_name) c.behavior.events) ≡ true
-    event_names_formed = parts.6
 
     pub event_formed : (k : ℕ) (e : Event) → slice_get c.behavior.events k ≡ Some e → formed.event_fits d.types c e ≡ true
     event_formed k e at = all_at (formed.event_fits d.types c) c.behavior.events k e parts.7 at

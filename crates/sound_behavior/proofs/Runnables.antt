@@ -1,9 +1,8 @@
 -- Runnables are sound: their accesses, their programs, and the arguments of what they serve.
-use Rattle.std.proofs.Common.{◌≡◌, ℕ, zero, suc, ◌+◌, ◌<◌, ◌≤◌, Bool, true, false, cond, ◌&&◌, ◌||◌, not, ◌==◌, refl, sym, ◌∙◌, ap, subst, arith, List, [], ◌∷◌, ◌++◌, map, length, Option, Some, None, option_map, option_and_then}
+use Rattle.std.proofs.Common.{◌≡◌, ℕ, zero, suc, ◌+◌, Bool, true, false, cond, ◌&&◌, ◌||◌, not, ◌==◌, refl, sym, ◌∙◌, ap, subst, arith, List, [], ◌∷◌, ◌++◌, map, length, Option, Some, None, option_map, option_and_then}
 use Rattle.std.specs.Prelude.{nat_lt, nat_le, is_none}
 use Rattle.std.specs.List.{slice_get, list_any, list_all}
 use Rattle.std.specs.Option.{option_map_or}
-use Rattle.std.proofs.lemmas.Bool.{false≢true}
 use Rattle.runnable_lang.specs.declared.program.AccessSig.{AccessSig}
 use Rattle.runnable_lang.specs.Costs.{body_cost}
 use Rattle.runnable_lang.specs.Places.{first}
@@ -26,25 +25,23 @@ use Rattle.bus_semantics.specs.declared.plan.BusPlan.{BusPlan}
 use Rattle.bus_semantics.specs.declared.plan.ElemPlan.{ElemPlan}
 use Rattle.bus_semantics.specs.declared.plan.ServerPlan.{ServerPlan}
 use Rattle.bus_semantics.specs.declared.script.Mapping.{Mapping}
-use Rattle.bus_semantics.specs.Plan.{Plan, Runnable, plan_of, look, every_from}
+use Rattle.bus_semantics.specs.Plan.{Runnable, plan_of, look, every_from}
 use Rattle.bus_semantics.specs.SoundAccesses as sound
 use Rattle.bus_semantics.specs.SoundAccesses.{access_sound, each_access}
 use Rattle.bus_semantics.specs.SoundPrograms.{is_well_formed, body_sound, has_arguments, runnable_sound}
 use Rattle.component_rules.specs.Programs.{program_refusal, path_of}
 use Rattle.component_rules.specs.Signatures.{access_sig, signature}
 use Rattle.plan_elements.specs.Elements.{elem_seen, elements}
-use Rattle.plan_numbers.specs.Keys.{pair_number}
-use Rattle.plan_numbers.specs.Parts.{runnables_of}
 use Rattle.plan_ports.specs.Things.{server_number}
 use Rattle.plan_runnables.specs.Started.{target_of, served_by, served_number, runnable_of, runnables}
 use Rattle.plan_services.specs.Services.{argument_of, server_at, servers}
 use Rattle.sound_descriptions.specs.WellFormed as formed
 use Rattle.planned_descriptions.specs.Whole.{IsWhole}
-use Rattle.sound_behavior.proofs.Lists.{clash, differ_test, both, both_of, some_same, not_some, number_same, same_test, every_if, looked, length-map}
-use Rattle.sound_behavior.proofs.Parts.{Home, RunnableAt, runnable_at}
+use Rattle.sound_behavior.proofs.Lists.{differ_test, both, both_of, some_same, not_some, same_test, every_if, looked, length-map}
+use Rattle.sound_behavior.proofs.Parts.{RunnableAt, runnable_at}
 use Rattle.sound_behavior.proofs.Rules.{planned, plan_is, program_kept, runnable_formed, serves_formed}
 use Rattle.sound_behavior.proofs.Serving.{Provides, provided_by, server_there}
-use Rattle.sound_behavior.proofs.Servers.{ServedBy, served_is, alone, operation_is}
+use Rattle.sound_behavior.proofs.Servers.{served_is, alone, operation_is}
 use Rattle.sound_behavior.proofs.Events.{elements_seen}
 use Rattle.sound_behavior.proofs.Uses.{use_sound}
 

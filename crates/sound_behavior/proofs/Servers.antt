@@ -1,11 +1,9 @@
 -- Servers are sound, and serve the runnables that their events start.
-use Rattle.std.proofs.Common.{◌≡◌, ℕ, zero, suc, ◌+◌, ◌<◌, ◌≤◌, ℤ, Bool, true, false, cond, ◌&&◌, ◌||◌, not, ◌==◌, nat_eq, refl, sym, ◌∙◌, ap, subst, arith, List, [], ◌∷◌, map, length, Option, Some, None, option_map, option_and_then}
-use Rattle.std.specs.Prelude.{nat_lt, nat_le, is_some, pos, negsuc, int_le}
+use Rattle.std.proofs.Common.{◌≡◌, ℕ, zero, suc, ◌+◌, ℤ, Bool, true, false, cond, ◌&&◌, ◌||◌, not, ◌==◌, nat_eq, refl, sym, ◌∙◌, ap, subst, arith, List, [], ◌∷◌, map, length, Option, Some, None, option_map, option_and_then}
+use Rattle.std.specs.Prelude.{nat_lt, nat_le, pos, negsuc, int_le}
 use Rattle.std.specs.List.{slice_get, list_all, list_any, find}
 use Rattle.std.specs.Option.{option_map_or}
 use Rattle.std.proofs.lemmas.Bool.{false≢true, eqb-true, eq-eqb}
-use Rattle.std.proofs.lemmas.Option.{slice_get_within}
-use Rattle.rte_value.specs.declared.kinds.Limits.{Limits}
 use Rattle.rte_value.specs.Values.{same_number}
 use Rattle.interface_types.specs.declared.base_type.BaseType.{BaseType}
 use Rattle.interface_types.specs.declared.base_type.BaseType.TheVariants.{Boolean, Uint8, Uint16, Uint32, Sint8, Sint16, Sint32}
@@ -14,7 +12,6 @@ use Rattle.interface_types.specs.declared.interface.ApplicationError.{Applicatio
 use Rattle.interface_types.specs.declared.interface.Argument.{Argument}
 use Rattle.interface_types.specs.declared.interface.ComSpec.{ComSpec}
 use Rattle.interface_types.specs.declared.interface.Interface.{Interface}
-use Rattle.interface_types.specs.declared.interface.InterfaceKind.{InterfaceKind}
 use Rattle.interface_types.specs.declared.interface.InterfaceKind.TheVariants.{ClientServer}
 use Rattle.interface_types.specs.declared.interface.Operation.{Operation}
 use Rattle.interface_types.specs.Ranges.{keeps_range, range_of}
@@ -35,7 +32,7 @@ use Rattle.bus_semantics.specs.declared.plan.EventKind.TheVariants.{Invoked}
 use Rattle.bus_semantics.specs.declared.plan.EventPlan.{EventPlan}
 use Rattle.bus_semantics.specs.declared.plan.ServerPlan.{ServerPlan}
 use Rattle.bus_semantics.specs.declared.script.Mapping.{Mapping}
-use Rattle.bus_semantics.specs.Plan.{Plan, Runnable, plan_of, look, every_from}
+use Rattle.bus_semantics.specs.Plan.{Runnable, plan_of, look, every_from}
 use Rattle.bus_semantics.specs.SoundElements.{limits_fit, code_list_fits, queue_fits, server_sound}
 use Rattle.bus_semantics.specs.SoundEvents.{server_served, serves_back}
 use Rattle.bus_semantics.specs.SoundPlan.{is_in, is_distinct}
@@ -43,8 +40,8 @@ use Rattle.component_rules.specs.Invocations.{started, is_alone}
 use Rattle.component_rules.specs.Signatures.{limits_of}
 use Rattle.component_rules.specs.Tallies.{count}
 use Rattle.plan_numbers.specs.Keys.{pair_number}
-use Rattle.plan_numbers.specs.Parts.{component_of, events_of, runnables_of}
-use Rattle.plan_ports.specs.Ports.{port_of, interface_of, com_spec_of, queue_length_of}
+use Rattle.plan_numbers.specs.Parts.{events_of, runnables_of}
+use Rattle.plan_ports.specs.Ports.{com_spec_of, queue_length_of}
 use Rattle.plan_ports.specs.Things.{server_number}
 use Rattle.plan_runnables.specs.Started.{event_of, kind_of, events, serves, served_by, served_number, runnable_of, runnables}
 use Rattle.plan_services.specs.Invoked.{invoked_by}
@@ -52,11 +49,11 @@ use Rattle.plan_services.specs.Services.{operation_in, operation_at, started_by,
 use Rattle.plan_services.specs.Services as services
 use Rattle.sound_descriptions.specs.WellFormed as formed
 use Rattle.planned_descriptions.specs.Whole.{IsWhole}
-use Rattle.sound_behavior.proofs.Lists.{clash, both, both_of, some_same, not_some, number_same, same_test, same_option, all_if, all_at, every_if, looked, there_at, mapped, map_at, MapAt, length-map, once, left_true, right_true}
+use Rattle.sound_behavior.proofs.Lists.{both, both_of, some_same, not_some, number_same, same_test, same_option, all_if, all_at, every_if, looked, there_at, mapped, map_at, length-map, once, left_true, right_true}
 use Rattle.sound_behavior.proofs.Members.{Has}
 use Rattle.sound_behavior.proofs.Parts.{Home, home_component, RunnableAt, runnable_at, runnable_there, event_there}
 use Rattle.sound_behavior.proofs.Rules.{planned, plan_is, alone_kept, ports_formed}
-use Rattle.sound_behavior.proofs.Serving.{Provides, InvokedBy, ServerAt, server_at_number, server_there}
+use Rattle.sound_behavior.proofs.Serving.{Provides, ServerAt, server_at_number, server_there}
 use Rattle.sound_behavior.proofs.Sites.{ports_at_home}
 use Rattle.sound_behavior.proofs.Tasks.{most, at_most, starts_within}
 

@@ -1,7 +1,6 @@
 -- Servers: an operation that an instance provides has one event, and its server has the number of its site.
-use Rattle.std.proofs.Common.{◌≡◌, ℕ, zero, suc, ◌+◌, ◌<◌, ◌≤◌, Bool, true, false, cond, ◌&&◌, ◌||◌, ◌==◌, nat_eq, refl, sym, ◌∙◌, ap, subst, arith, List, [], ◌∷◌, ◌++◌, map, length, Option, Some, None, option_map, option_and_then, ◌⊎◌, inl, inr}
-use Rattle.std.specs.Prelude.{is_some}
-use Rattle.std.specs.List.{slice_get, position_from, flat_map}
+use Rattle.std.proofs.Common.{◌≡◌, ℕ, zero, suc, ◌+◌, ◌<◌, Bool, true, cond, ◌==◌, nat_eq, refl, sym, ◌∙◌, ap, subst, arith, List, [], ◌∷◌, ◌++◌, length, Option, Some, None, option_map, option_and_then, inl, inr}
+use Rattle.std.specs.List.{slice_get, position_from}
 use Rattle.std.specs.Option.{option_map_or, unwrap_or}
 use Rattle.std.proofs.lemmas.Bool.{false≢true, eqb-true, eq-eqb}
 use Rattle.std.proofs.lemmas.Option.{slice_get_within}
@@ -31,7 +30,7 @@ use Rattle.mapping_rules.specs.Mapped.{invokes, invocation_of}
 use Rattle.plan_numbers.specs.declared.site.Site.{Site}
 use Rattle.plan_numbers.specs.declared.site.SiteKind.{SiteKind}
 use Rattle.plan_numbers.specs.declared.site.SiteKind.TheVariants.{Element, Variable, Server, Machine, ModePort}
-use Rattle.plan_numbers.specs.Keys.{key_of, is_server, keys_of, number_in, of_kind}
+use Rattle.plan_numbers.specs.Keys.{key_of, is_server}
 use Rattle.plan_numbers.specs.Parts.{component_of}
 use Rattle.plan_numbers.specs.Sites.{kind_at, count_at, shape_at, site}
 use Rattle.plan_ports.specs.Ports.{ports_of, port_of}
@@ -41,8 +40,8 @@ use Rattle.planned_descriptions.specs.Whole.{IsWhole}
 use Rattle.sound_behavior.proofs.Lists.{clash, both, both_of, some_same, not_some, found, position_at, number_same, Passes, counted_at, once, counts_some, mapped, map_at, MapAt}
 use Rattle.sound_behavior.proofs.Parts.{Home, home_component, component_home}
 use Rattle.sound_behavior.proofs.Rules.{kind_kept, served_kept}
-use Rattle.sound_behavior.proofs.Sites.{PortSite, VariableSite, IsSite, ports_at_home, site_there, numbered_kind, of_kind_at, kind_apart, number_at, place_of}
-use Rattle.sound_behavior.proofs.Items.{ItemAt, item_there, OperationIn, operation_item, operation_provided}
+use Rattle.sound_behavior.proofs.Sites.{PortSite, IsSite, ports_at_home, site_there, numbered_kind, of_kind_at, kind_apart, number_at, place_of}
+use Rattle.sound_behavior.proofs.Items.{item_there, operation_item, operation_provided}
 
 -- ---- invocations
 

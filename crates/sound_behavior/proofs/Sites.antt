@@ -1,6 +1,6 @@
 -- Sites: what stands at a port or is a variable is a site once, and has the number of its place.
-use Rattle.std.proofs.Common.{◌≡◌, ℕ, zero, suc, ◌+◌, ◌<◌, ◌≤◌, Bool, true, false, cond, ◌&&◌, nat_eq, refl, sym, ◌∙◌, ap, subst, arith, List, [], ◌∷◌, ◌++◌, map, filter, length, Option, Some, None, option_map, option_and_then, ◌⊎◌, inl, inr}
-use Rattle.std.specs.List.{slice_get, position_from}
+use Rattle.std.proofs.Common.{◌≡◌, ℕ, zero, suc, ◌+◌, ◌<◌, Bool, true, false, cond, ◌&&◌, nat_eq, refl, sym, ◌∙◌, ap, subst, arith, List, [], ◌∷◌, filter, length, Option, Some, None, ◌⊎◌, inl, inr}
+use Rattle.std.specs.List.{slice_get}
 use Rattle.std.specs.Option.{option_map_or, option_eq, unwrap_or}
 use Rattle.std.proofs.lemmas.Bool.{eqb-true, eq-eqb, false≢true}
 use Rattle.std.proofs.lemmas.Option.{slice_get_within}
@@ -11,18 +11,18 @@ use Rattle.description_types.specs.declared.description.Description.{Description
 use Rattle.composition_flatten.specs.declared.flat.Flat.{Flat}
 use Rattle.plan_numbers.specs.declared.site.Site.{Site}
 use Rattle.plan_numbers.specs.declared.site.SiteKind.{SiteKind}
-use Rattle.plan_numbers.specs.declared.site.SiteKind.TheVariants.{Element, Variable, Server, Machine, ModePort}
+use Rattle.plan_numbers.specs.declared.site.SiteKind.TheVariants.{Variable}
 use Rattle.plan_numbers.specs.Keys.{Key, key_of, same_key, number_in, keys_of, of_kind}
-use Rattle.plan_numbers.specs.Lists.{from, positions}
+use Rattle.plan_numbers.specs.Lists.{positions}
 use Rattle.plan_numbers.specs.Parts.{component_of, of_instances}
 use Rattle.plan_numbers.specs.Sites.{site, sites_with, shape_at, sites_at, sites_of_ports, variables_of, sites_of_component, root_ports, sites}
 use Rattle.plan_ports.specs.Ports.{ports_of, port_of}
-use Rattle.sound_behavior.proofs.Lists.{some_same, not_some, both, both_of, found, before, In, in_from, reach, position_is, length-positions, length-map, mapped, map_at, MapAt, append_left, append_right, append_at, Later, kept, kept_at}
+use Rattle.sound_behavior.proofs.Lists.{some_same, not_some, both, both_of, found, before, In, in_from, reach, position_is, length-positions, mapped, map_at, append_left, append_right, append_at, Later, kept, kept_at}
 use Rattle.sound_behavior.proofs.Parts.{Home, home_component, component_home, start, OfInstance, of_instance, to_instance}
 
 -- ---- keys that are apart
 
-option_equal : (a b : Option ℕ) → option_eq nat_eq a b ≡ true → a ≡ b
+pub option_equal : (a b : Option ℕ) → option_eq nat_eq a b ≡ true → a ≡ b
 option_equal None None e = refl
 option_equal (Some a) (Some b) e = ap (λ n. Some n) (eqb-true a b e)
 option_equal None (Some b) e = absurd (false≢true e)

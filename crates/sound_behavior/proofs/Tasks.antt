@@ -1,17 +1,14 @@
 -- The tasks of the mapping fit the plan: what is mapped is there, as often as it is owed, and a runnable's events are in one task.
-use Rattle.std.proofs.Common.{◌≡◌, ℕ, zero, suc, ◌+◌, ◌<◌, ◌≤◌, Bool, true, false, cond, ◌&&◌, ◌||◌, not, ◌==◌, nat_eq, bytes_eq, refl, sym, ◌∙◌, ap, subst, arith, List, [], ◌∷◌, ◌++◌, map, filter, length, Option, Some, None, option_map, option_and_then}
-use Rattle.std.specs.Prelude.{nat_lt, nat_le, is_some}
-use Rattle.std.specs.List.{slice_get, position_from, flat_map, list_all, list_any}
+use Rattle.std.proofs.Common.{◌≡◌, ℕ, zero, suc, ◌+◌, ◌<◌, ◌≤◌, Bool, true, false, cond, nat_eq, bytes_eq, refl, sym, ◌∙◌, ap, subst, arith, List, [], ◌∷◌, filter, length, Option, Some, None, option_map, option_and_then}
+use Rattle.std.specs.Prelude.{nat_lt, nat_le}
+use Rattle.std.specs.List.{slice_get, position_from, list_any}
 use Rattle.std.specs.Option.{option_map_or}
-use Rattle.std.proofs.lemmas.Bool.{false≢true, eqb-true, eq-eqb}
+use Rattle.std.proofs.lemmas.Bool.{eqb-true, eq-eqb}
 use Rattle.std.proofs.lemmas.Bool.Decides.{nat_tests}
 use Rattle.std.proofs.lemmas.Option.{slice_get_within}
 use Rattle.rte_value.specs.Values.{same_number}
 use Rattle.description_types.specs.declared.component.Component.{Component}
 use Rattle.description_types.specs.declared.component.Event.{Event}
-use Rattle.description_types.specs.declared.component.EventKind as declared_kind
-use Rattle.description_types.specs.declared.component.EventKind.TheVariants as declared_event
-use Rattle.description_types.specs.declared.component.Runnable as declared_runnable
 use Rattle.description_types.specs.declared.description.Description.{Description}
 use Rattle.description_types.specs.declared.description.MappedEvent.{MappedEvent}
 use Rattle.description_types.specs.declared.description.Task as declared_task
@@ -19,18 +16,13 @@ use Rattle.composition_flatten.specs.declared.flat.Flat.{Flat}
 use Rattle.bus_semantics.specs.declared.plan.BusPlan.{BusPlan}
 use Rattle.bus_semantics.specs.declared.plan.ElemPlan.{ElemPlan}
 use Rattle.bus_semantics.specs.declared.plan.EventPlan.{EventPlan}
-use Rattle.bus_semantics.specs.declared.plan.ServerPlan.{ServerPlan}
 use Rattle.bus_semantics.specs.declared.script.Mapping.{Mapping}
 use Rattle.bus_semantics.specs.declared.script.Task.{Task}
-use Rattle.bus_semantics.specs.History.{count}
 use Rattle.bus_semantics.specs.Plan as plan
 use Rattle.bus_semantics.specs.Plan.{plan_of, look, every_from, runnable_of_event}
-use Rattle.bus_semantics.specs.Rest.{gathered}
 use Rattle.bus_semantics.specs.Sound as sound
 use Rattle.bus_semantics.specs.Sound.{mapped_events, times_mapped}
-use Rattle.bus_semantics.specs.SoundNames.{is_name}
-use Rattle.bus_semantics.specs.SoundPlan.{is_in, same_numbers}
-use Rattle.mapping_rules.specs.Mapped.{instance_named, event_named, named_by, names, mapped_as, is_mapped}
+use Rattle.mapping_rules.specs.Mapped.{instance_named, event_named, named_by, names, mapped_as}
 use Rattle.mapping_rules.specs.Rules.{is_mapped_well, tasks_of_event, tasks_from}
 use Rattle.mapping_rules.specs.Rules as mapped_rules
 use Rattle.mapping_rules.specs.Tasks.{by_position, number_of, events_in, task_at, mapping_of}
@@ -38,15 +30,12 @@ use Rattle.plan_numbers.specs.declared.parts.Part.TheVariants.{Runnables, Events
 use Rattle.plan_numbers.specs.Keys.{same_pair, pair_number}
 use Rattle.plan_numbers.specs.Lists.{from}
 use Rattle.plan_numbers.specs.Parts.{component_of, events_of, runnables_of}
-use Rattle.plan_runnables.specs.Started.{event_of, kind_of, events, runnables}
-use Rattle.plan_services.specs.Services.{server_at, servers, is_numbered_mapped, queue_of}
-use Rattle.sound_descriptions.specs.WellFormed as formed
+use Rattle.plan_runnables.specs.Started.{event_of, events, runnables}
 use Rattle.planned_descriptions.specs.Whole.{IsWhole}
-use Rattle.sound_behavior.proofs.Lists.{clash, both, both_of, not_true, some_same, not_some, number_same, same_test, option_same, all_if, all_at, every_if, Passes, any_at, FoundAt, position_at, looked, there_at, mapped, map_at, any_if}
-use Rattle.sound_behavior.proofs.Members.{Has, HasIn, has_flat, has_gathered, to_flat, has_map, has_kept, kept_has, order_has, has_first, has_last, position_at_plan, numbers_equal, names_apart, tasks_one, added, count_append, count_flat, added_same, added_kept, added_order, spread, spread_all, gathered_few}
-use Rattle.sound_behavior.proofs.Parts.{Home, home_component, component_home, same_home, one_at, OneAt, one_each, length-one_each, EventAt, event_at, event_there, event_count, RunnableAt, runnable_at, runnable_there, numbers_apart, number_there, itself, same_pairs}
-use Rattle.sound_behavior.proofs.Rules.{planned, plan_is, named_kept, mapped_kept, spread_kept, event_formed}
-use Rattle.sound_behavior.proofs.Serving.{server_there}
+use Rattle.sound_behavior.proofs.Lists.{both, some_same, not_some, option_same, any_at, position_at, looked}
+use Rattle.sound_behavior.proofs.Members.{Has, has_flat, has_map, has_kept, kept_has, order_has, has_first, has_last, tasks_one, gathered_few}
+use Rattle.sound_behavior.proofs.Parts.{Home, home_component, component_home, one_at, event_there, RunnableAt, runnable_at, numbers_apart, itself}
+use Rattle.sound_behavior.proofs.Rules.{planned, spread_kept, event_formed}
 
 pub below : (a b : ℕ) → nat_lt a b ≡ true → a < b
 below a b e = grind (arith, nat_tests)

@@ -1,9 +1,8 @@
 -- Accesses are sound: what each names is there, of the runnable's instance, and takes its words.
-use Rattle.std.proofs.Common.{◌≡◌, ℕ, zero, suc, ◌+◌, ◌<◌, ◌≤◌, Bool, true, false, cond, ◌&&◌, ◌||◌, not, ◌==◌, nat_eq, refl, sym, ◌∙◌, ap, subst, arith, List, [], ◌∷◌, map, length, Option, Some, None, option_map, option_and_then}
-use Rattle.std.specs.Prelude.{nat_lt, nat_le, replicate, pos}
+use Rattle.std.proofs.Common.{◌≡◌, ℕ, Bool, true, false, cond, ◌&&◌, ◌||◌, not, ◌==◌, refl, sym, ◌∙◌, ap, arith, List, [], map, length, Option, Some, None, option_map, option_and_then}
+use Rattle.std.specs.Prelude.{nat_lt, nat_le, replicate}
 use Rattle.std.specs.List.{slice_get, list_all}
 use Rattle.std.specs.Option.{option_map_or}
-use Rattle.std.proofs.lemmas.Bool.{false≢true}
 use Rattle.rte_value.specs.declared.kinds.Limits.{Limits}
 use Rattle.rte_value.specs.Values.{same_number}
 use Rattle.runnable_lang.specs.declared.program.AccessKind.{AccessKind}
@@ -13,7 +12,6 @@ use Rattle.interface_types.specs.declared.interface.DataElement.{DataElement}
 use Rattle.interface_types.specs.declared.interface.Direction.{Direction}
 use Rattle.interface_types.specs.declared.interface.Direction.TheVariants.{In, Out}
 use Rattle.interface_types.specs.declared.interface.Interface.{Interface}
-use Rattle.interface_types.specs.declared.interface.InterfaceKind.{InterfaceKind}
 use Rattle.interface_types.specs.declared.interface.ModeGroup.{ModeGroup}
 use Rattle.interface_types.specs.declared.interface.Operation as declared_operation
 use Rattle.interface_types.specs.declared.interface.SwImplPolicy.{SwImplPolicy}
@@ -36,15 +34,13 @@ use Rattle.bus_semantics.specs.declared.plan.MachinePlan.{MachinePlan}
 use Rattle.bus_semantics.specs.declared.plan.ModePortPlan.{ModePortPlan}
 use Rattle.bus_semantics.specs.declared.plan.PointPlan.{PointPlan}
 use Rattle.bus_semantics.specs.declared.script.Mapping.{Mapping}
-use Rattle.bus_semantics.specs.Owners.{is_queued, is_unqueued, modes_of, elem_fits, result_point, area_fits, switch_fits, mode_port_fits}
-use Rattle.bus_semantics.specs.Plan.{Plan, look}
+use Rattle.bus_semantics.specs.Owners.{is_queued, is_unqueued, modes_of, elem_fits, result_point, switch_fits, mode_port_fits}
 use Rattle.bus_semantics.specs.SoundAccesses.{takes_words, point_takes, mode_count, access_sound}
 use Rattle.bus_semantics.specs.SoundElements.{same_limits}
 use Rattle.bus_semantics.specs.SoundPlan.{is_in, is_variable}
 use Rattle.component_rules.specs.declared.items.Item.{Item}
 use Rattle.component_rules.specs.declared.items.Item.TheVariants.{Data, Operation, Modes}
 use Rattle.component_rules.specs.Accesses as reaches
-use Rattle.component_rules.specs.Calls.{access_keeps}
 use Rattle.component_rules.specs.Items.{item_at}
 use Rattle.component_rules.specs.Signatures.{arguments_of, words_of, words_of_item, words_at, words_of_variable, access_sig}
 use Rattle.component_rules.specs.Signatures as signatures
@@ -56,11 +52,10 @@ use Rattle.plan_numbers.specs.declared.site.SiteKind.TheVariants as site_kind
 use Rattle.plan_numbers.specs.Keys.{pair_number}
 use Rattle.plan_numbers.specs.Parts.{areas_of, runnables_of}
 use Rattle.plan_numbers.specs.Sites.{provides_at, site}
-use Rattle.plan_ports.specs.Ports.{interface_of}
 use Rattle.plan_ports.specs.Things.{element_number, machine_for, machine_number, mode_port_number}
 use Rattle.plan_runnables.specs.Started.{target_of}
 use Rattle.plan_services.specs.declared.callings.Calling.{Calling}
-use Rattle.plan_services.specs.Callings.{callings, owner_of, is_calling, leaves, point_number}
+use Rattle.plan_services.specs.Callings.{owner_of, is_calling, leaves, point_number}
 use Rattle.plan_services.specs.Modes.{machine_at, machines, mode_port_at, mode_ports}
 use Rattle.plan_services.specs.Services.{point_of, point_words, points}
 use Rattle.sound_descriptions.specs.WellFormed as formed
@@ -69,24 +64,14 @@ use Rattle.sound_behavior.proofs.Lists.{both, both_of, some_same, same_test, sam
 use Rattle.sound_behavior.proofs.Parts.{Home, area_there}
 use Rattle.sound_behavior.proofs.Rules.{planned, access_kept, call_kept, runnable_formed}
 use Rattle.sound_behavior.proofs.Sites.{ports_at_home}
-use Rattle.sound_behavior.proofs.Items.{ItemAt, item_there, OperationIn, operation_item, ModesIn, modes_item}
-use Rattle.sound_behavior.proofs.Elems.{ElemAt, data_in, data_elem, variable_elem}
+use Rattle.sound_behavior.proofs.Items.{ItemAt, item_there, operation_item, modes_item}
+use Rattle.sound_behavior.proofs.Elems.{ElemAt, data_in, data_elem, variable_elem, queued, unqueued}
 use Rattle.sound_behavior.proofs.Tasks.{below, is_below, most}
-use Rattle.sound_behavior.proofs.Providers.{interface_is, machine_there, machine_modes, MachineBy, required_machine, required_modes, mode_port_there}
-use Rattle.sound_behavior.proofs.Points.{Calls, waits, goes_on, call, call_there, left_by_access, LeftBy}
-use Rattle.sound_behavior.proofs.Callers.{point_is, point_there, ResultAt, result_at, result_there}
+use Rattle.sound_behavior.proofs.Providers.{interface_is, machine_there, machine_modes, required_machine, required_modes, mode_port_there}
+use Rattle.sound_behavior.proofs.Points.{Calls, waits, goes_on, call, call_there, left_by_access}
+use Rattle.sound_behavior.proofs.Callers.{point_is, point_there, result_at, result_there}
 use Rattle.sound_behavior.proofs.Operations.{limits_same, OperationAt, words_are}
-use Rattle.sound_behavior.proofs.Fits.{Needs, Finds, finds}
-
-abbrev queued : ElemKind → Bool
-queued elem.Unqueued = false
-queued elem.Queued = true
-queued elem.Variable = false
-
-abbrev unqueued : ElemKind → Bool
-unqueued elem.Unqueued = true
-unqueued elem.Queued = false
-unqueued elem.Variable = false
+use Rattle.sound_behavior.proofs.Fits.{Finds, finds}
 
 -- the words of a type
 type_words : (o : Option DataType) → option_map_or (λ (t : DataType). replicate t.words t.limits) o [] ≡ replicate (seen.words_of o) (seen.limits_of o)

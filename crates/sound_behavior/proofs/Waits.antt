@@ -1,5 +1,5 @@
 -- No chain of waiting calls comes back: a wait in the plan is one in the description, whose tasks have an order.
-use Rattle.std.proofs.Common.{◌≡◌, ℕ, zero, suc, ◌+◌, ◌<◌, ◌≤◌, Bool, true, false, cond, ◌&&◌, ◌||◌, not, ◌==◌, nat_eq, refl, sym, ◌∙◌, ap, subst, arith, List, [], ◌∷◌, map, length, Option, Some, None, option_map, option_and_then, ◌⊎◌, inl, inr}
+use Rattle.std.proofs.Common.{◌≡◌, ℕ, zero, suc, ◌+◌, ◌≤◌, Bool, true, false, cond, ◌&&◌, not, ◌==◌, nat_eq, refl, sym, ◌∙◌, ap, subst, arith, List, [], ◌∷◌, length, Option, Some, None, option_map, option_and_then, ◌⊎◌, inl, inr}
 use Rattle.std.specs.Prelude.{is_some}
 use Rattle.std.specs.List.{slice_get, list_any, flat_map}
 use Rattle.std.specs.Option.{option_map_or}
@@ -9,7 +9,6 @@ use Rattle.runnable_lang.specs.declared.program.AccessKind.{AccessKind}
 use Rattle.runnable_lang.specs.declared.program.AccessKind.TheVariants as kind
 use Rattle.interface_types.specs.declared.interface.Interface.{Interface}
 use Rattle.interface_types.specs.declared.interface.InterfaceKind.TheVariants.{ClientServer}
-use Rattle.description_types.specs.declared.component.Access.{Access}
 use Rattle.description_types.specs.declared.component.Component.{Component}
 use Rattle.description_types.specs.declared.component.Event.{Event}
 use Rattle.description_types.specs.declared.component.Runnable as declared_runnable
@@ -26,31 +25,30 @@ use Rattle.bus_semantics.specs.Plan.{Plan, Runnable, plan_of, look, positions, r
 use Rattle.bus_semantics.specs.Sound as sound
 use Rattle.component_rules.specs.declared.items.Item.TheVariants.{Operation}
 use Rattle.component_rules.specs.Items.{item_at}
-use Rattle.mapping_rules.specs.Mapped.{invocation_of}
 use Rattle.mapping_rules.specs.Rules.{tasks_of_event, tasks_from, task_of_server, tasks_behind, waits_by, waits_for, Waits}
 use Rattle.mapping_rules.specs.Rules as mapped_rules
 use Rattle.mapping_rules.specs.Tasks.{mapping_of}
 use Rattle.plan_numbers.specs.Joined.{end_at, provider_of}
 use Rattle.plan_numbers.specs.Keys.{end_key, pair_number}
-use Rattle.plan_numbers.specs.Parts.{component_of, runnables_of}
+use Rattle.plan_numbers.specs.Parts.{runnables_of}
 use Rattle.plan_ports.specs.Ports.{interface_of}
 use Rattle.plan_ports.specs.Things.{server_number}
-use Rattle.plan_runnables.specs.Started.{runnable_of, runnables}
+use Rattle.plan_runnables.specs.Started.{runnable_of}
 use Rattle.plan_services.specs.declared.callings.Calling.{Calling}
 use Rattle.plan_services.specs.Callings.{callings}
-use Rattle.plan_services.specs.Services.{point_of, points, server_at, servers, started_by}
+use Rattle.plan_services.specs.Services.{point_of, points, server_at, servers}
 use Rattle.planned_descriptions.specs.Whole.{IsWhole}
-use Rattle.sound_behavior.proofs.Lists.{clash, both, both_of, not_true, some_same, not_some, number_same, any_if, Passes, any_at, looked, there_at, map_at, MapAt, append_at, Later}
-use Rattle.sound_behavior.proofs.Members.{Has, HasIn, has_either, has_gathered, to_flat}
-use Rattle.sound_behavior.proofs.Parts.{Home, home_component, RunnableAt, runnable_there}
+use Rattle.sound_behavior.proofs.Lists.{both, not_true, some_same, number_same, any_if, any_at, looked, map_at, append_at, Later}
+use Rattle.sound_behavior.proofs.Members.{Has, has_either, has_gathered, to_flat}
+use Rattle.sound_behavior.proofs.Parts.{Home, home_component, RunnableAt}
 use Rattle.sound_behavior.proofs.Rules.{planned, plan_is, access_kept}
 use Rattle.sound_behavior.proofs.Sites.{ports_at_home}
-use Rattle.sound_behavior.proofs.Items.{ItemAt, item_there, OperationIn, operation_item}
-use Rattle.sound_behavior.proofs.Serving.{Provides, InvokedBy, invoked_by, invocation_is, server_there}
+use Rattle.sound_behavior.proofs.Items.{item_there, operation_item}
+use Rattle.sound_behavior.proofs.Serving.{InvokedBy, invoked_by, invocation_is, server_there}
 use Rattle.sound_behavior.proofs.Servers.{started_is, alone, runnable_of_event as started_runnable}
 use Rattle.sound_behavior.proofs.Tasks.{tasks, holds_event}
 use Rattle.sound_behavior.proofs.Providers.{interface_is, OperationBy, operation_by}
-use Rattle.sound_behavior.proofs.Points.{Calls, waits, goes_on, inner, outer, InnerCall, inner_call, OuterCall, outer_call}
+use Rattle.sound_behavior.proofs.Points.{Calls, inner, outer, InnerCall, inner_call, outer_call}
 use Rattle.sound_behavior.proofs.Callers.{waits_is}
 use Rattle.sound_behavior.proofs.Fits.{Needs, Finds, finds}
 

@@ -39,12 +39,6 @@ pub fn direct_servers_fit()
     ensures { (d : Description) (f : Flat) (p : BusPlan) (m : Mapping) → IsWhole d f p m → every_from 0 (direct_sound (plan_of p)) (plan_of p).servers ≡ true }
 {}
 
-/// No chain of waiting calls leads from a task back to it (SWS_RTE, synchronous calls): each call of a queued server by
-/// `call` goes from a task to one that stands later in an order of the tasks.
-pub fn waits_never_return()
-    ensures { (d : Description) (f : Flat) (p : BusPlan) (m : Mapping) → IsWhole d f p m → (t n : ℕ) → Chain (plan_of p) m (suc n) t t → ⊥ }
-{}
-
 /// Points stand by runnable and access (Software Component Template, ServerCallPoint), and those of the environment come
 /// last.
 pub fn points_stand_by_caller()
@@ -65,3 +59,9 @@ pub fn runnables_fit()
 {
     accepted_programs_are_sound();
 }
+
+/// No chain of waiting calls leads from a task back to it (SWS_RTE, synchronous calls): each call of a queued server by
+/// `call` goes from a task to one that stands later in an order of the tasks.
+pub fn waits_never_return()
+    ensures { (d : Description) (f : Flat) (p : BusPlan) (m : Mapping) → IsWhole d f p m → (t n : ℕ) → Chain (plan_of p) m (suc n) t t → ⊥ }
+{}
