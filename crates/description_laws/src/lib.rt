@@ -4,6 +4,6 @@
 mod laws;
 
 pub use laws::{
-    compositions_are_well_formed, mappings_are_well_formed, roots_are_well_formed,
-    types_are_well_formed,
+    compositions_are_well_formed, mappings_are_well_formed, read_descriptions_are_well_formed,
+    roots_are_well_formed, types_are_well_formed,
 };
