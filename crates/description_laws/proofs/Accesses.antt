@@ -41,7 +41,7 @@ use Rattle.description_laws.proofs.Lists.{IsIn, in_left, Apart, apart_across}
 use Rattle.description_laws.proofs.Naming.{all_listed, in_parts_of, on_list, Owns}
 use Rattle.description_laws.proofs.PortItems.{item_low, item_text, item_text_at, port_low}
 use Rattle.description_laws.proofs.Positions.{below, nth_in}
-use Rattle.description_laws.proofs.Rowed.{never_nothing, part_refers, Part_at, PartRefers, row_part, Spoken, spoken}
+use Rattle.description_laws.proofs.Rowed.{never_nothing, part_refers, PartAt, PartRefers, row_part, Spoken, spoken}
 use Rattle.description_laws.proofs.Words.{kept_as, same_visits}
 
 -- ---- the text of an access, by its parts
@@ -217,7 +217,7 @@ module _ (d : Data) (kept : Kept (declarations (visits d Description top)) d Des
     kept_other : (other : Kind) → resolved of_kind.Access x ≡ other → resolved other x ≡ other → Kept ds x other s
     kept_other other found still = kept_as ds x of_kind.Access other s (same_visits x of_kind.Access other s found still) kept_x
 
-    port_part : (kind : Kind) → (around : List Level) → Home around → (v : Part_at ds x kind of_kind.ComponentPort s 1) → (record { place = s.place; kind = resolved kind x; value = x } ∷ s.around) ≡ around
+    port_part : (kind : Kind) → (around : List Level) → Home around → (v : PartAt ds x kind of_kind.ComponentPort s 1) → (record { place = s.place; kind = resolved kind x; value = x } ∷ s.around) ≡ around
         → PartRefers x 1 (λ t. is_declared ds (named (place ++ codes "/ports") t) ≡ true)
     port_part kind around home v e =
         part_refers ds x kind of_kind.ComponentPort s 1 v refl (λ y. is_declared ds (named (place ++ codes "/ports") (text_in y)) ≡ true)

@@ -1,5 +1,5 @@
 -- What the components of a description keep.
-use Rattle.std.proofs.Common.{◌≡◌, ℕ, suc, List, [], ◌∷◌, map, length, Bool, true, false, ◌&&◌, ◌||◌, eqb, ltb, codes, Some, refl, sym, ap, subst, ◌∙◌, inl}
+use Rattle.std.proofs.Common.{◌≡◌, ℕ, suc, List, [], ◌∷◌, map, length, Bool, true, false, ◌&&◌, ◌||◌, eqb, ltb, codes, Some, refl, sym, ap, subst, ◌∙◌, inl, Option}
 use Rattle.std.specs.List.{list_all, list_any, slice_get}
 use Rattle.std.specs.Option.{option_map_or, unwrap_or}
 use Rattle.std.proofs.lemmas.Bool.{and_parts, and_from}
@@ -22,6 +22,7 @@ use Rattle.interface_types.specs.declared.interface.Interface.{Interface}
 use Rattle.interface_types.specs.declared.interface.TypeTable.{TypeTable}
 use Rattle.interface_types.specs.Refusals.{is_sound, operations_in}
 use Rattle.description_types.specs.declared.component.Component.{Component}
+use Rattle.description_types.specs.declared.component.DisabledInModes.{DisabledInModes}
 use Rattle.description_types.specs.declared.component.Event.{Event}
 use Rattle.description_types.specs.declared.component.EventKind.{EventKind}
 use Rattle.description_types.specs.declared.component.EventKind.TheVariants.{Timing, Init, DataReceived, OperationInvoked, CallReturns, ModeSwitch, ModeSwitchedAck}
@@ -40,7 +41,7 @@ use Rattle.component_model.specs.Ports.{port_reading}
 use Rattle.component_model.specs.Programs.{behavior_in, behavior_reading, component_reading, component_tree, ComponentTree, first_names, invoked_events, runnable_names, runnable_reading, runnable_tree, RunnableTree}
 use Rattle.component_model.specs.Types.{types_reading}
 use Rattle.bus_semantics.specs.SoundPrograms.{is_well_formed}
-use Rattle.sound_descriptions.specs.WellFormed.{access_fits, accesses_distinct, arguments_at, component_fits, event_fits, event_kind_fits, names_fit, ports_fit, runnable_fits, serves_fit, serves_well, variable_fits, with_served}
+use Rattle.sound_descriptions.specs.WellFormed.{access_fits, accesses_distinct, arguments_at, component_fits, event_fits, event_kind_fits, names_fit, ports_fit, runnable_fits, serves_fit, variable_fits}
 use Rattle.description_laws.proofs.Accesses.{access_low, accesses_law}
 use Rattle.description_laws.proofs.ComponentLists.{runnables_list, variables_list}
 use Rattle.description_laws.proofs.Events.{event_low, events_law, kind_low, disabled_low}
@@ -51,7 +52,7 @@ use Rattle.description_laws.proofs.Ports.{ports_law}
 use Rattle.description_laws.proofs.Programs.{program_law}
 use Rattle.description_laws.proofs.Readings.{map_long, maps}
 use Rattle.description_laws.proofs.Servers.{servers_law, serves_in, map_or_map}
-use Rattle.description_laws.proofs.Serving.{all_well, well}
+use Rattle.description_laws.proofs.Serving.{all_well, well, with_served}
 use Rattle.description_laws.proofs.Shorts.{Name, name_value, needed_value, Value}
 use Rattle.description_laws.proofs.Types.{typed}
 use Rattle.description_laws.proofs.Unbroken.{all_at, ports_keep, variables_keep}
@@ -109,23 +110,24 @@ module _ (t : TypeTable) (c : Component) where
       let more = and_parts (kind_low t c.ports e.kind) (disabled_low c.ports e.disabled_in_modes) parts.1 in
       and_from _ _ (sym (ap (ltb e.runnable) (map_long runnable_tree c.behavior.runnables)) ∙ parts.0) (and_from _ _ (sym (kind_so e.kind) ∙ more.0) more.1)
 
-  well_so : (seen : List ℕ) (x : ℕ) (k : EventKind) → well (serves_in t c.ports runnables) seen x k ≡ serves_well t c seen x k
-  well_so seen x (Timing period) = refl
-  well_so seen x Init = refl
-  well_so seen x (DataReceived k n) = refl
-  well_so seen x (OperationInvoked k n) =
-      ap (λ b. list_any (λ r. eqb r x) seen || b)
+  serves_step : (name : List ℕ) (x : ℕ) (k : EventKind) (o : Option DisabledInModes) (es : List Event) (seen : List ℕ)
+      → (well (serves_in t c.ports runnables) seen x k && serves_fit t c es (with_served k x seen)) ≡ serves_fit t c (record { short_name = name; runnable = x; kind = k; disabled_in_modes = o } ∷ es) seen
+  serves_step name x (Timing period) o es seen = refl
+  serves_step name x Init o es seen = refl
+  serves_step name x (DataReceived k n) o es seen = refl
+  serves_step name x (OperationInvoked k n) o es seen =
+      ap (λ b. (list_any (λ r. eqb r x) seen || b) && serves_fit t c es (x ∷ seen))
       (ap (λ o. option_map_or (λ (r : RunnableTree). ltb (arguments_at t c.ports k n) r.program.vars) o false) (slice_get-map runnable_tree c.behavior.runnables x)
       ∙ map_or_map (λ (r : RunnableTree). ltb (arguments_at t c.ports k n) r.program.vars) runnable_tree (slice_get c.behavior.runnables x) false)
-  well_so seen x (CallReturns k n) = refl
-  well_so seen x (ModeSwitch k activation) = refl
-  well_so seen x (ModeSwitchedAck k) = refl
+  serves_step name x (CallReturns k n) o es seen = refl
+  serves_step name x (ModeSwitch k activation) o es seen = refl
+  serves_step name x (ModeSwitchedAck k) o es seen = refl
 
   serves_so : (es : List Event) (seen : List ℕ) → all_well (serves_in t c.ports runnables) es seen ≡ true → serves_fit t c es seen ≡ true
   serves_so [] seen h = refl
   serves_so (e ∷ es) seen h =
       let parts = and_parts (well (serves_in t c.ports runnables) seen e.runnable e.kind) (all_well (serves_in t c.ports runnables) es (with_served e.kind e.runnable seen)) h in
-      and_from _ _ (sym (well_so seen e.runnable e.kind) ∙ parts.0) (serves_so es (with_served e.kind e.runnable seen) parts.1)
+      sym (serves_step e.short_name e.runnable e.kind e.disabled_in_modes es seen) ∙ and_from _ _ parts.0 (serves_so es (with_served e.kind e.runnable seen) parts.1)
 
   pub component_from : TreeFits t (component_tree c) → component_fits t c ≡ true
   component_from h =

@@ -73,7 +73,7 @@ holding ds key ps list kind s o kept hit =
       },
     )
 
-same_name : (list name other : List ℕ) → bytes_eq (named list name) (named list other) ≡ true → other ≡ name
+pub same_name : (list name other : List ℕ) → bytes_eq (named list name) (named list other) ≡ true → other ≡ name
 same_name list name other e = sym (append_cancel_left (list ++ codes "/") name other ((bytes_eq-Decides _ _).0 e))
 
 -- the key of a name in the list itself is that of an item

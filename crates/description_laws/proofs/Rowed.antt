@@ -75,7 +75,7 @@ never_nothing ds x kind s kept other nothing e =
 
 -- ---- parts of a row
 
-pub record Part_at (ds : List Declared) (x : Data) (kind part : Kind) (s : Spot) (n : ℕ) : Type 0 where
+pub record PartAt (ds : List Declared) (x : Data) (kind part : Kind) (s : Spot) (n : ℕ) : Type 0 where
   pub value : Data
   pub there : at n x ≡ Some value
   pub kept : Kept ds value part (inside_part s (resolved kind x) x n)
@@ -89,11 +89,11 @@ row_form : (f : Form) (kind : Kind) (x : Data) → f ≡ form.Row → fits f kin
 row_form f kind x e h = subst (λ f. fits f kind x ≡ true) e h
 
 pub row_part : (ds : List Declared) (x : Data) (kind : Kind) (s : Spot) (n : ℕ) → form_of (resolved kind x) ≡ form.Row → ltb n (length (row_of (resolved kind x))) ≡ true → Kept ds x kind s
-    → Part_at ds x kind (slice_index_or (row_of (resolved kind x)) n of_kind.Anything) s n
+    → PartAt ds x kind (slice_index_or (row_of (resolved kind x)) n of_kind.Anything) s n
 row_part ds x kind s n is_row low kept = by_value x is_row low kept (row_form (form_of (resolved kind x)) (resolved kind x) x is_row (shape_here ds x kind s kept))
   where
     by_value : (x : Data) → form_of (resolved kind x) ≡ form.Row → ltb n (length (row_of (resolved kind x))) ≡ true → Kept ds x kind s → holds (λ n. eqb n (length (row_of (resolved kind x)))) (part_count x) ≡ true
-        → Part_at ds x kind (slice_index_or (row_of (resolved kind x)) n of_kind.Anything) s n
+        → PartAt ds x kind (slice_index_or (row_of (resolved kind x)) n of_kind.Anything) s n
     by_value null r l k h = absurd (false≢true h)
     by_value (boolean b) r l k h = absurd (false≢true h)
     by_value (number m) r l k h = absurd (false≢true h)
@@ -118,7 +118,7 @@ pub record PartRefers (x : Data) (n : ℕ) (finds : List ℕ → Type 0) : Type 
   pub fits_name : is_name text ≡ true
   pub found : finds text
 
-pub part_refers : (ds : List Declared) (x : Data) (kind part : Kind) (s : Spot) (n : ℕ) (v : Part_at ds x kind part s n) → is_name_form (form_of (resolved part v.value)) ≡ true → (finds : Data → Type 0) → finds v.value → PartRefers x n (λ t. finds (string t))
+pub part_refers : (ds : List Declared) (x : Data) (kind part : Kind) (s : Spot) (n : ℕ) (v : PartAt ds x kind part s n) → is_name_form (form_of (resolved part v.value)) ≡ true → (finds : Data → Type 0) → finds v.value → PartRefers x n (λ t. finds (string t))
 part_refers ds x kind part_kind s n v form finds found =
     let name = name_value ds v.value part_kind (inside_part s (resolved kind x) x n) form v.kept in
     record {

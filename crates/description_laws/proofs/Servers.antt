@@ -33,7 +33,7 @@ use Rattle.component_model.specs.Components.{event_kind_reading, event_reading, 
 use Rattle.component_model.specs.Ports.{port_reading}
 use Rattle.component_model.specs.Programs.{arguments_among, arguments_of, first_names, invoked_events, is_invoked, runnable_names, runnable_reading, runnables_in, RunnableTree}
 use Rattle.component_model.specs.Types.{argument_reading, interface_kind_reading, interface_reading, operation_reading, types_reading}
-use Rattle.sound_descriptions.specs.WellFormed.{argument_count, arguments_at, distinct, names_fit, with_served}
+use Rattle.sound_descriptions.specs.WellFormed.{argument_count, arguments_at, distinct, names_fit}
 use Rattle.description_laws.proofs.ComponentLists.{found_runnable}
 use Rattle.description_laws.proofs.Events.{port_here, runnable_refers}
 use Rattle.description_laws.proofs.Kept.{Kept, kept_part, shape_here}
@@ -43,7 +43,7 @@ use Rattle.description_laws.proofs.PortItems.{port_at, PortAt, slot_interface, s
 use Rattle.description_laws.proofs.Ports.{InterfaceAt, interface_at, Refers, slot}
 use Rattle.description_laws.proofs.Positions.{InList, items_there, listed_at, placed}
 use Rattle.description_laws.proofs.Readings.{map_long}
-use Rattle.description_laws.proofs.Serving.{all_well, Aside, enough_names, served, some_name, Starts, well}
+use Rattle.description_laws.proofs.Serving.{all_well, Aside, enough_names, served, some_name, Starts, well, with_served}
 use Rattle.description_laws.proofs.Hits.{on_array}
 use Rattle.description_laws.proofs.Shorts.{needed_value, optional_value, Value}
 use Rattle.description_laws.proofs.Unbroken.{all_at}

@@ -15,7 +15,7 @@ use Rattle.declared_names.specs.Values.{listed}
 use Rattle.program_reading.specs.Variables.{added, all_added}
 use Rattle.component_model.specs.Programs.{is_invoked, runnable_names}
 use Rattle.bus_semantics.specs.SoundPlan.{same_numbers}
-use Rattle.sound_descriptions.specs.WellFormed.{distinct, with_served}
+use Rattle.sound_descriptions.specs.WellFormed.{distinct}
 use Rattle.description_laws.proofs.Programs.{has}
 
 -- ---- names that are added
@@ -71,13 +71,13 @@ not_among n (x ∷ ns) m h k = by_case (or_cases (bytes_eq x m) (list_any (λ k.
     by_case (inr later) more = more later
 
 -- distinct names, and one more that is none of them
-abbrev Apart_from : Names → Names → Type 0
-Apart_from vars ns = (m : List ℕ) → list_any (λ k. bytes_eq k m) ns ≡ true → list_any (bytes_eq m) vars ≡ false
+abbrev ApartFrom : Names → Names → Type 0
+ApartFrom vars ns = (m : List ℕ) → list_any (λ k. bytes_eq k m) ns ≡ true → list_any (bytes_eq m) vars ≡ false
 
 grown_any : (m : List ℕ) (vars : Names) (n : List ℕ) → list_any (bytes_eq m) vars ≡ false → bytes_eq m n ≡ false → list_any (bytes_eq m) (vars ++ n ∷ []) ≡ false
 grown_any m vars n h k = list_any-append (bytes_eq m) vars (n ∷ []) ∙ or_from _ _ h (or_from _ _ k refl)
 
-new_names : (vars ns : Names) (last : List ℕ) → distinct ns ≡ true → Apart_from vars ns → list_any (bytes_eq last) vars ≡ false → list_any (bytes_eq last) ns ≡ false → New vars (ns ++ last ∷ [])
+new_names : (vars ns : Names) (last : List ℕ) → distinct ns ≡ true → ApartFrom vars ns → list_any (bytes_eq last) vars ≡ false → list_any (bytes_eq last) ns ≡ false → New vars (ns ++ last ∷ [])
 new_names vars [] last d apart out fresh = (out, tt)
 new_names vars (n ∷ ns) last d apart out fresh =
     let parts = and_parts (not (list_any (same_numbers n) ns)) (distinct ns) d in
@@ -115,7 +115,12 @@ first_at (y ∷ done) x rest t h e =
     ap (λ b. slice_get (y ∷ (done ++ x ∷ rest)) (cond b 0 (1 + position_in (runnable_names (done ++ x ∷ rest)) t))) parts.0
     ∙ ap (slice_get (y ∷ (done ++ x ∷ rest))) next ∙ first_at done x rest t parts.1 e
 
--- what is wanted of an event, as `serves_well` says it
+-- the runnables that calls start, by an event of the kind too
+abbrev pub with_served : EventKind → (runnable : ℕ) → (seen : List ℕ) → List ℕ
+with_served (OperationInvoked k n) x seen = x ∷ seen
+with_served _ x seen = seen
+
+-- what is wanted of an event, as `serves_fit` says it
 abbrev pub well : (serves : ℕ → ℕ → ℕ → Bool) → (seen : List ℕ) → (runnable : ℕ) → EventKind → Bool
 well serves seen x (OperationInvoked k n) = list_any (λ r. eqb r x) seen || serves x k n
 well serves seen x _ = true

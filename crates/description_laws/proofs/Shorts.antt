@@ -169,7 +169,7 @@ short_from ds x kind s v =
       end_is = refl;
     }
 
-same_key : (k : Key) (name : List ℕ) (kind : Kind) → k.is_needed ≡ true → k.name ≡ name → k.kind ≡ kind → k ≡ record { name = name; is_needed = true; kind = kind }
+pub same_key : (k : Key) (name : List ℕ) (kind : Kind) → k.is_needed ≡ true → k.name ≡ name → k.kind ≡ kind → k ≡ record { name = name; is_needed = true; kind = kind }
 same_key k name kind a b c = λ i. record { name = b i; is_needed = a i; kind = c i }
 
 pub short_name : (ds : List Declared) (x : Data) (kind : Kind) (s : Spot) → has_short (resolved kind x) ≡ true → Kept ds x kind s → Short ds x kind s

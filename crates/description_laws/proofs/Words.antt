@@ -21,7 +21,7 @@ use Rattle.description_laws.proofs.Hits.{is_object}
 use Rattle.description_laws.proofs.Kept.{Part, Kept, shape_here}
 use Rattle.description_laws.proofs.Lists.{IsIn}
 use Rattle.description_laws.proofs.Reach.{activation_fine, pick_fine}
-use Rattle.description_laws.proofs.Shorts.{Value, needed_value}
+use Rattle.description_laws.proofs.Shorts.{Value, needed_value, same_key}
 
 pub same_visits : (d : Data) (kind other : Kind) (s : Spot) → resolved kind d ≡ other → resolved other d ≡ other → visits d kind s ≡ visits d other s
 same_visits null kind other s e f = ap (λ r. visit_at s r null ∷ []) (e ∙ sym f)
@@ -68,9 +68,6 @@ is_kind_key test (Some k) = k.is_needed && (bytes_eq k.name (codes "kind") && te
 
 abbrev pub begins_with_kind : (Kind → Bool) → Kind → Bool
 begins_with_kind test kind = is_object (form_of kind) && is_kind_key test (slice_get (keys_of kind) 0)
-
-same_key : (k : Key) (name : List ℕ) (kind : Kind) → k.is_needed ≡ true → k.name ≡ name → k.kind ≡ kind → k ≡ record { name = name; is_needed = true; kind = kind }
-same_key k name kind a b c = λ i. record { name = b i; is_needed = a i; kind = c i }
 
 kind_value : (ds : List Declared) (x : Data) (kind : Kind) (s : Spot) (test : Kind → Bool) (word : Kind) → ((k : Kind) → test k ≡ true → k ≡ word) → begins_with_kind test (resolved kind x) ≡ true → Kept ds x kind s
     → Value ds x kind s (needed "kind" word)
