@@ -1,5 +1,5 @@
 -- The whole of a description that is read keeps what its parts do.
-use Rattle.std.proofs.Common.{◌≡◌, ◌≢◌, ℕ, zero, suc, ◌+◌, ◌≤◌, ◌<◌, ◌^◌, List, [], ◌∷◌, ◌++◌, map, length, Bool, true, false, not, ◌&&◌, cond, leb, ltb, bytes_eq, Option, Some, None, refl, sym, ap, subst, arith, ◌∙◌}
+use Rattle.std.proofs.Common.{◌≡◌, ◌≢◌, ℕ, ◌+◌, ◌≤◌, ◌<◌, ◌^◌, List, [], ◌∷◌, length, Bool, true, false, not, leb, bytes_eq, Option, Some, None, refl, ap, arith, ◌∙◌}
 use Rattle.std.specs.List.{All, AllPairs, list_all}
 use Rattle.std.specs.Option.{option_or}
 use Rattle.std.proofs.lemmas.Bool.{and_parts, and_from, cond_both, leb-true, lt-ltb}
@@ -26,7 +26,7 @@ use Rattle.component_model.specs.Descriptions.{DescriptionTree, reading}
 use Rattle.component_model.specs.Initials.{broken_initials, initial_place}
 use Rattle.component_model.specs.Refusals.{IsRead, typed_refusal}
 use Rattle.description_laws.proofs.Kept.{Kept, Differ, is_narrow, passes}
-use Rattle.description_laws.proofs.Lists.{IsIn, Apart, apart_from}
+use Rattle.description_laws.proofs.Lists.{apart_from}
 use Rattle.description_laws.proofs.Widths.{narrow, narrow_items, narrow_members, bytes_narrow}
 
 -- what `unbroken_descriptions` says

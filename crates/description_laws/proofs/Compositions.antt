@@ -1,15 +1,13 @@
 -- What the compositions of a description keep.
-use Rattle.std.proofs.Common.{◌≡◌, ℕ, List, [], ◌∷◌, map, length, Bool, true, false, ◌&&◌, ltb, cond, codes, Option, Some, refl, sym, ap, subst, ◌∙◌, ◌⊎◌, inl, inr}
+use Rattle.std.proofs.Common.{◌≡◌, ℕ, List, map, length, Bool, true, false, ◌&&◌, ltb, codes, refl, sym, ap, ◌∙◌, inl, inr}
 use Rattle.std.specs.List.{list_all}
 use Rattle.std.proofs.lemmas.Bool.{and_from, cond_both, true≢false}
-use Rattle.serde_json.specs.Data.{Data, array, Items, string}
-use Rattle.serde_json.specs.Find.{get, get_item}
+use Rattle.serde_json.specs.Data.{Data, array}
 use Rattle.description_places.specs.declared.kind.Kind.TheVariants as of_kind
 use Rattle.description_places.specs.declared.kind.Kind.TheVariants.{Description}
 use Rattle.description_places.specs.Around.{named, text_at, text_in}
 use Rattle.description_places.specs.Declarations.{Declared, declarations}
 use Rattle.description_places.specs.Keys.{needed, optional}
-use Rattle.description_places.specs.Names.{is_name}
 use Rattle.description_places.specs.References.{is_declared}
 use Rattle.description_places.specs.Spots.{Spot, top, inside, inside_part}
 use Rattle.description_places.specs.Visits.{visits}
@@ -19,7 +17,6 @@ use Rattle.description_types.specs.declared.description.Prototype.{Prototype}
 use Rattle.description_types.specs.declared.description.PrototypeType.{PrototypeType}
 use Rattle.description_types.specs.declared.description.PrototypeType.TheVariants as of
 use Rattle.declared_names.specs.declared.scopes.InterfaceNames.{InterfaceNames}
-use Rattle.declared_names.specs.declared.scopes.PrototypeNames.{PrototypeNames}
 use Rattle.declared_names.specs.Names.{position_in, short_names}
 use Rattle.declared_names.specs.Scopes.{interface_names, prototype_names, type_names}
 use Rattle.declared_names.specs.Values.{items_at, listed}
@@ -29,7 +26,7 @@ use Rattle.sound_descriptions.specs.WellFormed.{names_fit, ports_fit}
 use Rattle.description_laws.proofs.Kept.{Kept, kept_part, found_here}
 use Rattle.description_laws.proofs.Listings.{Objects}
 use Rattle.description_laws.proofs.Naming.{all_listed, on_list, short_names_fit}
-use Rattle.description_laws.proofs.Ports.{ports_law, refers, Refers}
+use Rattle.description_laws.proofs.Ports.{ports_law, refers}
 use Rattle.description_laws.proofs.Positions.{below}
 use Rattle.description_laws.proofs.Readings.{map_long, maps}
 use Rattle.description_laws.proofs.Roots.{found_type, TypeItem}

@@ -1,8 +1,8 @@
 -- What a description that is read keeps, field by field.
-use Rattle.std.proofs.Common.{◌≡◌, List, map, length, Bool, true, ltb, bytes_eq, codes, [], ◌&&◌, ℕ, Option, Some, sym, ap, subst, refl, ◌∙◌}
+use Rattle.std.proofs.Common.{◌≡◌, map, length, true, ltb, codes, [], Some, sym, ap, subst, refl, ◌∙◌}
 use Rattle.std.specs.Option.{option_and_then, unwrap_or}
 use Rattle.serde_json.specs.Data.{Data}
-use Rattle.serde_json.specs.Find.{as_str, get}
+use Rattle.serde_json.specs.Find.{as_str}
 use Rattle.description_places.specs.declared.kind.Kind.TheVariants as of_kind
 use Rattle.description_places.specs.declared.kind.Kind.TheVariants.{Description as Whole_kind}
 use Rattle.description_places.specs.Around.{named, text_at, text_in}
@@ -15,7 +15,7 @@ use Rattle.description_types.specs.declared.description.Description.{Description
 use Rattle.declared_names.specs.Names.{position_in, short_names}
 use Rattle.declared_names.specs.Values.{items_at}
 use Rattle.component_model.specs.Descriptions.{description_of, reading, DescriptionTree}
-use Rattle.sound_descriptions.specs.WellFormed.{composition_fits, mapping_fits, prototype_fits, types_fit}
+use Rattle.sound_descriptions.specs.WellFormed.{component_fits, composition_fits, IsWellFormed, mapping_fits, prototype_fits, types_fit}
 use Rattle.description_laws.proofs.Beginning.{Whole}
 use Rattle.description_laws.proofs.Kept.{Kept, found_here}
 use Rattle.description_laws.proofs.Mappings.{fits_mapping, mapping_law}
@@ -24,8 +24,9 @@ use Rattle.description_laws.proofs.Readings.{map_long}
 use Rattle.description_laws.proofs.Roots.{found_root}
 use Rattle.description_laws.proofs.Shorts.{name_value, needed_value}
 use Rattle.description_laws.proofs.Types.{types_law}
+use Rattle.description_laws.proofs.Components.{components_from, components_law, EachFits}
 use Rattle.description_laws.proofs.Compositions.{compositions_law, fits_composition, type_low}
-use Rattle.description_laws.proofs.Unbroken.{initials_kept, ports_keep}
+use Rattle.description_laws.proofs.Unbroken.{initials_kept, ports_keep, types_kept}
 use Rattle.description_laws.proofs.Lists.{list_all_more}
 use Rattle.std.specs.List.{list_all}
 use Rattle.std.proofs.lemmas.Bool.{and_parts, and_from}
@@ -34,7 +35,6 @@ use Rattle.description_types.specs.declared.description.Prototype.{Prototype}
 use Rattle.description_types.specs.declared.description.PrototypeType.{PrototypeType}
 use Rattle.description_types.specs.declared.description.PrototypeType.TheVariants as of
 use Rattle.component_model.specs.Programs.{component_reading, component_tree}
-use Rattle.interface_types.specs.declared.interface.TypeTable.{TypeTable}
 use Rattle.declared_names.specs.Scopes.{scope_of}
 use Rattle.sound_descriptions.specs.WellFormed.{names_fit, ports_fit}
 
@@ -84,3 +84,12 @@ compositions d w =
     let of_tree : tree_fits (description_of d) = subst tree_fits (sym w.is_reading) (read_compositions w.value w.kept (initials_kept (reading w.value) w.initials).1) in
     list_all_more (fits_composition d.types (length d.components) (length d.compositions)) (composition_fits d) (fits_so d) d.compositions
     (subst (λ n. list_all (fits_composition d.types n (length d.compositions)) d.compositions ≡ true) (map_long component_tree d.components) of_tree)
+
+pub components : (d : Description) → Whole (description_of d) → list_all (component_fits d.types) d.components ≡ true
+components d w =
+    let rules = (types_kept (reading w.value).types w.types).1 in
+    let each : EachFits (reading w.value).types (reading w.value).components = components_law w.value w.kept rules (initials_kept (reading w.value) w.initials).0 in
+    components_from d.types d.components (subst (λ (t : DescriptionTree). EachFits t.types t.components) (sym w.is_reading) each)
+
+pub whole : (d : Description) → Whole (description_of d) → IsWellFormed d
+whole d w = record { types = types d w; components = components d w; compositions = compositions d w; root = root d w; mapping = mapping d w }

@@ -1,9 +1,9 @@
 -- Where a declaration stands: at which key or in which part, and under its own name or deeper.
-use Rattle.std.proofs.Common.{◌≡◌, ℕ, zero, suc, ◌+◌, ◌≤◌, List, [], ◌∷◌, ◌++◌, Bool, true, false, not, ◌&&◌, ◌||◌, leb, bytes_eq, codes, Option, Some, None, is_some, refl, sym, ap, subst, arith, ◌∙◌, ◌⊎◌, inl, inr}
+use Rattle.std.proofs.Common.{◌≡◌, ℕ, suc, ◌+◌, ◌≤◌, List, [], ◌∷◌, ◌++◌, Bool, true, false, ◌&&◌, ◌||◌, leb, bytes_eq, codes, Option, Some, None, is_some, refl, sym, ap, subst, arith, ◌∙◌, ◌⊎◌, inl, inr}
 use Rattle.std.specs.List.{list_all, list_any}
 use Rattle.std.specs.Option.{option_and_then, unwrap_or}
 use Rattle.std.proofs.lemmas.Slice.Eq.{bytes_eq-Decides}
-use Rattle.std.proofs.lemmas.Bool.{and_parts, and_from, or_cases, false≢true, true≢false, leb-true, cases_Bool, or_from}
+use Rattle.std.proofs.lemmas.Bool.{and_parts, or_cases, false≢true, leb-true, cases_Bool}
 use Rattle.std.proofs.lemmas.Grind.{flat_map-append}
 use Rattle.std.proofs.lemmas.List.Folds.{list_any-append}
 use Rattle.serde_json.specs.Data.{Data, null, boolean, number, string, array, object, Items, no_items, item, Members}
@@ -13,12 +13,12 @@ use Rattle.description_places.specs.declared.form.Form.TheVariants as form
 use Rattle.description_places.specs.declared.kind.Kind.{Kind}
 use Rattle.description_places.specs.declared.kind.Kind.TheVariants.{DeclaredName, DeclaredMode, DeclaredArea, ComSpecItem, Position, ItemAccess, VariableAccess, PortAccess, AreaAccess}
 use Rattle.description_places.specs.Alternatives.{resolved}
-use Rattle.description_places.specs.Around.{named, text_at, owner_of}
+use Rattle.description_places.specs.Around.{named, text_at}
 use Rattle.description_places.specs.Declarations.{Declared, declarations, declared_by, has_key, list_of_object}
 use Rattle.description_places.specs.Forms.{form_of}
 use Rattle.description_places.specs.Keys.{Key, keys_of}
-use Rattle.description_places.specs.Shape.{fits, has_shape}
-use Rattle.description_places.specs.Spots.{Spot, Level, inside, inside_part}
+use Rattle.description_places.specs.Shape.{fits}
+use Rattle.description_places.specs.Spots.{Spot, inside, inside_part}
 use Rattle.description_places.specs.Visits.{Visit, visit_at, visits, items_visits, members_visits, part_of, in_parts, at_key, under_keys}
 use Rattle.description_laws.proofs.Kept.{Part, Kept, left_part, right_part, visits_at, at_key_found, parts_kept, shape_here}
 use Rattle.description_laws.proofs.Prefixes.{begins, begins_self, level, Reaches, reaches_inside, none_with}

@@ -1,36 +1,32 @@
 -- What is declared under the place of an interface and a name is an item of the interface.
-use Rattle.std.proofs.Common.{◌≡◌, ℕ, zero, suc, ◌+◌, ◌<◌, ◌^◌, List, [], ◌∷◌, ◌++◌, map, length, Bool, true, false, not, ◌&&◌, ◌||◌, leb, ltb, decimal, bytes_eq, codes, Option, Some, None, is_some, cond, refl, sym, ap, subst, append_assoc, arith, ◌∙◌, ◌⊎◌, inl, inr}
-use Rattle.std.specs.List.{list_all, list_any, slice_get}
+use Rattle.std.proofs.Common.{◌≡◌, ℕ, ◌+◌, ◌<◌, ◌^◌, List, [], ◌∷◌, ◌++◌, length, true, false, ltb, decimal, bytes_eq, codes, Some, cond, refl, sym, ap, subst, append_assoc, ◌∙◌, ◌⊎◌, inl, inr}
 use Rattle.std.specs.Option.{option_and_then, unwrap_or}
-use Rattle.std.proofs.lemmas.Bool.{and_parts, or_cases, false≢true, true≢false, cases_Bool}
-use Rattle.std.proofs.lemmas.List.{append_cancel_left}
+use Rattle.std.proofs.lemmas.Bool.{false≢true, cases_Bool}
 use Rattle.std.proofs.lemmas.Option.{same_Some}
 use Rattle.std.proofs.lemmas.Slice.Eq.{bytes_eq-Decides}
-use Rattle.serde_json.specs.Data.{Data, string, array, object, Items, Members}
-use Rattle.serde_json.specs.Find.{as_array, as_object, as_str, get, get_item, get_member}
+use Rattle.serde_json.specs.Data.{Data, array, object, Items, Members}
+use Rattle.serde_json.specs.Find.{as_str, get, get_item, get_member}
 use Rattle.description_places.specs.declared.kind.Kind.{Kind}
 use Rattle.description_places.specs.declared.kind.Kind.TheVariants as of_kind
 use Rattle.description_places.specs.declared.kind.Kind.TheVariants.{Description}
 use Rattle.description_places.specs.Alternatives.{resolved}
-use Rattle.description_places.specs.Around.{named, place_at, text_at, text_in}
+use Rattle.description_places.specs.Around.{named, place_at, text_at}
 use Rattle.description_places.specs.Declarations.{Declared, declarations}
 use Rattle.description_places.specs.Forms.{form_of}
 use Rattle.description_places.specs.Keys.{Key, keys_of, needed, optional}
-use Rattle.description_places.specs.Laws.{has_no}
 use Rattle.description_places.specs.Names.{is_name}
 use Rattle.description_places.specs.References.{is_declared}
-use Rattle.description_places.specs.Shape.{has_shape}
 use Rattle.description_places.specs.Spots.{Spot, top, inside, inside_part}
 use Rattle.description_places.specs.Visits.{visits}
 use Rattle.declared_names.specs.Names.{position_in, short_names}
 use Rattle.declared_names.specs.Scopes.{item_names}
-use Rattle.declared_names.specs.Values.{items_at, listed, text_at_in}
-use Rattle.description_laws.proofs.Hits.{Hit, At, Among, object_hit, on_object, on_array, is_object, is_short_name, named_hit, OwnOrInner, own_key, own_at, object_from_shape}
+use Rattle.declared_names.specs.Values.{items_at, text_at_in}
+use Rattle.description_laws.proofs.Hits.{Hit, At, Among, object_hit, on_object, on_array, named_hit, OwnOrInner, own_key, own_at, object_from_shape}
 use Rattle.description_laws.proofs.Kept.{Kept, part_within, shape_here}
-use Rattle.description_laws.proofs.Listings.{Item, Objects, Holding, holding, item_held, lists_beside}
+use Rattle.description_laws.proofs.Listings.{Item, Objects, Holding, holding, item_held, same_name}
 use Rattle.description_laws.proofs.Lookups.{hit_of}
 use Rattle.description_laws.proofs.Numerals.{name_no, own_apart, slash_apart}
-use Rattle.description_laws.proofs.Positions.{InList, below, items_there, Placed, placed}
+use Rattle.description_laws.proofs.Positions.{InList, below}
 use Rattle.description_laws.proofs.Prefixes.{begins, begins_after, begins_self, none_with, Reaches}
 use Rattle.description_laws.proofs.Readings.{map_long}
 use Rattle.description_laws.proofs.Reach.{reach, is_plain, begin_so}
@@ -56,9 +52,6 @@ inside_away ds kind x s ms name k fits plain low at = by_case (cases_Bool (begin
         (begin_so (((s.place ++ codes "/") ++ k.name) ++ codes "/") at.value k.kind (inside s kind x k.name) plain
         (subst (λ r. Reaches (((s.place ++ codes "/") ++ k.name) ++ codes "/") r (inside s kind x k.name)) (sym low) (closed_near (((s.place ++ codes "/") ++ k.name) ++ codes "/") (inside s kind x k.name) (begins_self (((s.place ++ codes "/") ++ k.name) ++ codes "/"))))) out) ∙ at.hit)
 
-same_own : (list name other : List ℕ) → bytes_eq (named list name) (named list other) ≡ true → other ≡ name
-same_own list name other e = sym (append_cancel_left (list ++ codes "/") name other ((bytes_eq-Decides _ _).0 e))
-
 -- an item of a list within the interface declares the name
 listed_item : (ds : List Declared) (kind list part : Kind) (x : Data) (s : Spot) (step name : List ℕ) (ps : Items) → Objects list part → is_name name ≡ true
     → ((y : Data) (t : Spot) → own_key (resolved part y) y t ≡ named (place_at 1 t.around) (text_at (codes "shortName") y))
@@ -77,7 +70,7 @@ listed_item ds kind list part_kind x s step name ps o fits outer kept hit = from
           index = f.0;
           value = f.1.value;
           there = f.1.there;
-          same = same_own s.place name (text_at (codes "shortName") f.1.value)
+          same = same_name s.place name (text_at (codes "shortName") f.1.value)
               (subst (λ k. bytes_eq (named s.place name) k ≡ true) (outer f.1.value (inside_part (inside s kind x step) (resolved list (array ps)) (array ps) f.0)) own);
         }
 
@@ -153,7 +146,7 @@ module _ (ds : List Declared) (s : Spot) (name : List ℕ) (fits : is_name name 
           by_own : (begins (((s.place ++ codes "/") ++ codes "modeGroup") ++ codes "/") (named s.place name) ≡ true) ⊎ (bytes_eq (named s.place name) (named s.place (text_at (codes "shortName") at.value)) ≡ true)
               → text_at_in (codes "modeGroup") (codes "shortName") (object ms) ≡ name
           by_own (inl h) = absurd (deeper_apart s.place (codes "modeGroup") [] name fits h)
-          by_own (inr own) = ap (λ o. unwrap_or (option_and_then as_str (option_and_then (get (codes "shortName")) o)) []) at.there ∙ same_own s.place name (text_at (codes "shortName") at.value) own
+          by_own (inr own) = ap (λ o. unwrap_or (option_and_then as_str (option_and_then (get (codes "shortName")) o)) []) at.there ∙ same_name s.place name (text_at (codes "shortName") at.value) own
 
       by_case : (ms : Members) → Kept ds (object ms) of_kind.ModeSwitchInterface s → Among ds (named s.place name) (keys_of of_kind.ModeSwitchInterface) (inside s of_kind.ModeSwitchInterface (object ms)) ms
           → text_at_in (codes "modeGroup") (codes "shortName") (object ms) ≡ name

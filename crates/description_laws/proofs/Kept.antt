@@ -1,6 +1,6 @@
 -- What a part of a description keeps: each of its values passes the rules, and what it declares is apart and among what the
 -- whole declares.
-use Rattle.std.proofs.Common.{◌≡◌, ◌≢◌, ℕ, zero, suc, ◌+◌, ◌<◌, ◌^◌, ltb, List, [], ◌∷◌, ◌++◌, Bool, true, false, not, ◌&&◌, cond, bytes_eq, Option, Some, None, is_eq, nat_cmp, Ordering, Less, Equal, Greater, refl, sym, ap, subst, arith, ◌∙◌}
+use Rattle.std.proofs.Common.{◌≡◌, ◌≢◌, ℕ, zero, suc, ◌+◌, ◌<◌, ◌^◌, ltb, List, [], ◌∷◌, ◌++◌, Bool, true, false, not, ◌&&◌, cond, Option, Some, None, is_eq, nat_cmp, Ordering, Less, Equal, Greater, refl, sym, ap, subst, arith, ◌∙◌}
 use Rattle.std.specs.Cmp.Lexicographic.{slice_cmp}
 use Rattle.std.specs.List.{list_all, slice_get}
 use Rattle.std.specs.Ordering.{match_ordering}
@@ -21,7 +21,7 @@ use Rattle.description_places.specs.References.{breaks_references, is_found}
 use Rattle.description_places.specs.Rules.{breaks_shape, breaks_names}
 use Rattle.description_places.specs.Shape.{has_shape}
 use Rattle.description_places.specs.Spots.{Spot, inside, inside_part}
-use Rattle.description_places.specs.Visits.{Visit, visit_at, visits, items_visits, members_visits, part_of, in_parts, at_key, under_keys, Member}
+use Rattle.description_places.specs.Visits.{Visit, visit_at, visits, items_visits, members_visits, part_of, in_parts, at_key, under_keys}
 use Rattle.description_laws.proofs.Lists.{IsIn, in_left, in_right, Apart, apart_left, apart_right}
 
 -- an array has fewer parts than a place tells apart

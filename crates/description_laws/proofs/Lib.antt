@@ -20,5 +20,14 @@ pub mod Types
 pub mod InterfaceItems
 pub mod Ports
 pub mod Compositions
+pub mod ComponentLists
+pub mod PortItems
+pub mod Events
+pub mod Rowed
+pub mod Accesses
+pub mod Programs
+pub mod Serving
+pub mod Servers
+pub mod Components
 pub mod Beginning
 pub mod Fields

@@ -1,11 +1,11 @@
 -- Where in a list a key leads: to an item of its name, or into an item.
-use Rattle.std.proofs.Common.{◌≡◌, ℕ, zero, suc, ◌+◌, ◌<◌, ◌^◌, List, [], ◌∷◌, ◌++◌, Bool, true, false, not, ◌&&◌, ◌||◌, decimal, bytes_eq, codes, Option, Some, None, refl, sym, ap, subst, append_assoc, arith, ◌∙◌, ◌⊎◌, inl, inr}
-use Rattle.std.specs.List.{list_all, list_any, slice_get}
+use Rattle.std.proofs.Common.{◌≡◌, ℕ, zero, suc, ◌+◌, ◌<◌, ◌^◌, List, [], ◌∷◌, ◌++◌, Bool, true, false, ◌&&◌, decimal, bytes_eq, codes, Some, refl, sym, subst, arith, ◌∙◌, ◌⊎◌, inl, inr}
+use Rattle.std.specs.List.{list_all, slice_get}
 use Rattle.std.proofs.lemmas.Bool.{and_parts, or_cases, false≢true, true≢false}
 use Rattle.std.proofs.lemmas.List.{append_cancel_left}
-use Rattle.std.proofs.lemmas.Option.{none-some, same_Some}
+use Rattle.std.proofs.lemmas.Option.{same_Some}
 use Rattle.std.proofs.lemmas.Slice.Eq.{bytes_eq-Decides}
-use Rattle.serde_json.specs.Data.{Data, string, array, Items, Members}
+use Rattle.serde_json.specs.Data.{Data, array, Items, Members}
 use Rattle.serde_json.specs.Find.{get_item}
 use Rattle.description_places.specs.declared.kind.Kind.{Kind}
 use Rattle.description_places.specs.declared.kind.Kind.TheVariants.{Composition, DataElement, Operation, DeclaredMode, DeclaredArea}
@@ -14,15 +14,13 @@ use Rattle.description_places.specs.Around.{named, place_at, text_at, text_in}
 use Rattle.description_places.specs.Declarations.{Declared, list_of_object}
 use Rattle.description_places.specs.Forms.{form_of}
 use Rattle.description_places.specs.Keys.{Key}
-use Rattle.description_places.specs.Laws.{has_no}
 use Rattle.description_places.specs.Names.{is_name}
-use Rattle.description_places.specs.Spots.{Spot, Level, inside, inside_part}
+use Rattle.description_places.specs.Spots.{Spot, Level, inside_part}
 use Rattle.description_places.specs.Visits.{visits, part_of}
 use Rattle.description_laws.proofs.Kept.{Kept, part_within}
-use Rattle.description_laws.proofs.Hits.{Hit, At, Among, InPart, array_hit, holds_others, is_named, named_hit, OwnOrInner, own_key}
-use Rattle.description_laws.proofs.Numerals.{name_apart, own_apart, item_apart, slash_apart, name_no}
-use Rattle.description_laws.proofs.Prefixes.{begins, begins_after}
-use Rattle.description_laws.proofs.Shorts.{has_short, short_name, Name, name_value}
+use Rattle.description_laws.proofs.Hits.{Hit, At, Among, array_hit, holds_others, is_named, named_hit, OwnOrInner}
+use Rattle.description_laws.proofs.Numerals.{name_apart, own_apart, item_apart}
+use Rattle.description_laws.proofs.Shorts.{has_short, short_name, name_value}
 
 -- an item of a list has this text
 pub record Item (text : Data → List ℕ) (ps : Items) (name : List ℕ) : Type 0 where
@@ -75,7 +73,7 @@ holding ds key ps list kind s o kept hit =
       },
     )
 
-same_name : (list name other : List ℕ) → bytes_eq (named list name) (named list other) ≡ true → other ≡ name
+pub same_name : (list name other : List ℕ) → bytes_eq (named list name) (named list other) ≡ true → other ≡ name
 same_name list name other e = sym (append_cancel_left (list ++ codes "/") name other ((bytes_eq-Decides _ _).0 e))
 
 -- the key of a name in the list itself is that of an item

@@ -1,12 +1,11 @@
 -- What is declared under the key of a list and a name is an item of that list.
-use Rattle.std.proofs.Common.{◌≡◌, ℕ, zero, suc, ◌+◌, ◌<◌, ◌^◌, List, [], ◌∷◌, ◌++◌, Bool, true, false, not, ◌&&◌, ◌||◌, decimal, bytes_eq, codes, Option, Some, None, is_some, cond, refl, sym, ap, subst, append_assoc, ◌∙◌, ◌⊎◌, inl, inr}
-use Rattle.std.specs.List.{find, list_any, list_all, slice_get}
-use Rattle.std.proofs.lemmas.Bool.{and_parts, or_cases, false≢true, true≢false}
+use Rattle.std.proofs.Common.{◌≡◌, ℕ, ◌<◌, ◌^◌, List, [], ◌∷◌, ◌++◌, Bool, true, false, ◌&&◌, ◌||◌, decimal, bytes_eq, codes, Option, Some, is_some, cond, refl, sym, ap, subst, append_assoc, ◌∙◌, ◌⊎◌, inl, inr}
+use Rattle.std.specs.List.{find, list_any, slice_get}
+use Rattle.std.proofs.lemmas.Bool.{and_parts, or_cases, false≢true}
 use Rattle.std.proofs.lemmas.Option.{same_Some}
 use Rattle.std.proofs.lemmas.Slice.Eq.{bytes_eq-Decides}
-use Rattle.std.proofs.lemmas.List.{append_cancel_left}
-use Rattle.serde_json.specs.Data.{Data, null, boolean, number, string, array, object, Items, Members}
-use Rattle.serde_json.specs.Find.{as_array, as_object, as_str, get, get_item, get_member}
+use Rattle.serde_json.specs.Data.{Data, array, object, Items, Members}
+use Rattle.serde_json.specs.Find.{as_array, get, get_item, get_member}
 use Rattle.description_places.specs.declared.form.Form.{Form}
 use Rattle.description_places.specs.declared.form.Form.TheVariants as form
 use Rattle.description_places.specs.declared.kind.Kind.{Kind}
@@ -18,17 +17,16 @@ use Rattle.description_places.specs.Declarations.{Declared, declarations, has_ke
 use Rattle.description_places.specs.Forms.{form_of}
 use Rattle.description_places.specs.Keys.{Key, keys_of, needed, optional}
 use Rattle.description_places.specs.Names.{is_name}
-use Rattle.description_places.specs.References.{is_declared, declaration_of}
-use Rattle.description_places.specs.Shape.{has_shape, holds, is_within, part_count}
+use Rattle.description_places.specs.References.{is_declared}
 use Rattle.description_places.specs.Spots.{Spot, top, inside, inside_part}
 use Rattle.description_places.specs.Visits.{Visit, visits}
 use Rattle.description_laws.proofs.Hits.{Hit, At, Among, object_hit, on_object, on_array, is_object, holds_others, is_short_name, short_kind, own_key, own_at, object_from_shape}
 use Rattle.description_laws.proofs.Kept.{Kept, part_within, shape_here}
-use Rattle.description_laws.proofs.Listings.{Item, Objects, Texts, Holding, item_named, item_held, text_named, lists_beside, only_at, others}
+use Rattle.description_laws.proofs.Listings.{Objects, Texts, Holding, item_named, item_held, text_named, lists_beside, only_at, others}
 use Rattle.description_laws.proofs.Numerals.{own_apart}
+use Rattle.description_laws.proofs.Readings.{counted_array}
 use Rattle.description_laws.proofs.Positions.{InList}
-use Rattle.description_laws.proofs.Prefixes.{begins}
-use Rattle.description_laws.proofs.Sections.{Section, section, NotOwn, is_closed, closed_away, data_types_list, mode_groups_list, interfaces_list, interface_beside, components_list}
+use Rattle.description_laws.proofs.Sections.{Section, section, is_closed, closed_away, data_types_list, mode_groups_list, interfaces_list, interface_beside}
 use Rattle.description_laws.proofs.Shorts.{short_name}
 
 -- what is found is there
@@ -117,14 +115,6 @@ pub in_texts : (ds : List Declared) (name key : List ℕ) (x y : Data) (list par
 in_texts ds name key x y list kind s o form =
     on_array (λ y. get key x ≡ Some y → Kept ds y list s → Hit (named s.place name) (visits y list s) → InList text_in key x name)
     (λ ps there kept hit. record { items = ps; there = there; found = text_named ds name ps list kind s o kept hit }) y form
-
-counted_array : (least most : ℕ) (x : Data) → holds (is_within least most) (part_count x) ≡ true → is_some (as_array x) ≡ true
-counted_array least most null h = absurd (false≢true h)
-counted_array least most (boolean b) h = absurd (false≢true h)
-counted_array least most (number n) h = absurd (false≢true h)
-counted_array least most (string t) h = absurd (false≢true h)
-counted_array least most (array ps) h = refl
-counted_array least most (object ms) h = absurd (false≢true h)
 
 pub tasks_list : Objects of_kind.Tasks of_kind.Task
 tasks_list = record { holds = λ ps. refl; parts = λ ps i. refl; named = λ x. refl; short = λ x. refl }

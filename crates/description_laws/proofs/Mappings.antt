@@ -1,18 +1,18 @@
 -- What the mapping of a description keeps.
-use Rattle.std.proofs.Common.{◌≡◌, ℕ, ◌≤◌, ◌<◌, ◌^◌, List, [], map, length, Bool, true, false, ◌&&◌, leb, ltb, bytes_eq, codes, Option, Some, None, is_some, refl, sym, ap, subst, arith, ◌∙◌}
+use Rattle.std.proofs.Common.{◌≡◌, ℕ, ◌≤◌, ◌<◌, ◌^◌, [], map, length, Bool, true, ◌&&◌, leb, ltb, codes, Option, Some, None, refl, sym, ap, subst, arith, ◌∙◌}
 use Rattle.std.specs.List.{list_all}
 use Rattle.std.specs.Option.{option_and_then, unwrap_or}
-use Rattle.std.proofs.lemmas.Bool.{and_parts, and_from, false≢true, leb-true, le-leb, ltb-true, lt-ltb}
-use Rattle.serde_json.specs.Data.{Data, null, array, Items, string}
+use Rattle.std.proofs.lemmas.Bool.{and_parts, and_from, false≢true, leb-true, ltb-true}
+use Rattle.serde_json.specs.Data.{Data, null, array, Items}
 use Rattle.serde_json.specs.Events.{items_len}
-use Rattle.serde_json.specs.Find.{as_array, as_number, as_str, as_u64, get, get_item}
+use Rattle.serde_json.specs.Find.{as_number, as_str, as_u64, get}
 use Rattle.description_places.specs.declared.kind.Kind.TheVariants as of_kind
 use Rattle.description_places.specs.declared.kind.Kind.TheVariants.{Description}
 use Rattle.description_places.specs.Around.{named, text_at, text_in}
 use Rattle.description_places.specs.Declarations.{declarations}
 use Rattle.description_places.specs.Keys.{needed, optional}
 use Rattle.description_places.specs.References.{is_declared}
-use Rattle.description_places.specs.Shape.{holds, is_within, part_count}
+use Rattle.description_places.specs.Shape.{holds, is_within}
 use Rattle.description_places.specs.Spots.{Spot, top, inside, inside_part}
 use Rattle.description_places.specs.Visits.{visits}
 use Rattle.description_types.specs.declared.description.MappedEvent.{MappedEvent}
@@ -26,9 +26,9 @@ use Rattle.sound_descriptions.specs.WellFormed.{names_fit}
 use Rattle.description_laws.proofs.Kept.{Kept, kept_part, shape_here, found_here}
 use Rattle.description_laws.proofs.Lookups.{found_task, tasks_list}
 use Rattle.description_laws.proofs.Naming.{all_listed, on_list, short_names_fit}
-use Rattle.description_laws.proofs.Positions.{InList, below}
+use Rattle.description_laws.proofs.Positions.{below}
 use Rattle.description_laws.proofs.Readings.{below_is, counted_array, items_counted, map_long, maps, number_fits}
-use Rattle.description_laws.proofs.Shorts.{Name, name_value, needed_value, Value}
+use Rattle.description_laws.proofs.Shorts.{name_value, needed_value, Value}
 
 -- the fields of a mapping, as `mapping_fits` has them
 abbrev pub fits_mapping : TaskMapping → Bool

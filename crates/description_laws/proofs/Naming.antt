@@ -1,8 +1,8 @@
 -- The names of a list are names, and distinct.
-use Rattle.std.proofs.Common.{◌≡◌, ◌≢◌, ℕ, zero, suc, ◌+◌, ◌≤◌, List, [], ◌∷◌, ◌++◌, map, length, Bool, true, false, not, ◌&&◌, ◌||◌, leb, eqb, bytes_eq, codes, Option, Some, None, is_some, refl, sym, ap, subst, arith, ◌∙◌, ◌⊎◌, inl, inr}
-use Rattle.std.specs.List.{list_all, list_any, slice_index, slice_get}
+use Rattle.std.proofs.Common.{◌≡◌, ℕ, zero, suc, ◌+◌, ◌≤◌, List, [], ◌∷◌, map, length, Bool, true, false, not, ◌&&◌, ◌||◌, leb, eqb, codes, Some, None, is_some, refl, sym, ap, subst, arith, ◌∙◌, ◌⊎◌, inl, inr}
+use Rattle.std.specs.List.{list_all, list_any, slice_get}
 use Rattle.std.specs.Option.{option_and_then}
-use Rattle.std.proofs.lemmas.Bool.{and_parts, and_from, or_cases, or_from, or_left, or_right, false≢true, true≢false, eqb-true, false_from_ne_true, leb-true, le-leb}
+use Rattle.std.proofs.lemmas.Bool.{and_parts, and_from, or_cases, or_from, or_left, or_right, false≢true, eqb-true, false_from_ne_true, leb-true, le-leb}
 use Rattle.std.proofs.lemmas.Grind.{flat_map-append}
 use Rattle.std.proofs.lemmas.Option.{none-some, same_Some}
 use Rattle.serde_json.specs.Data.{Data, array, Items, no_items, item}
@@ -10,24 +10,24 @@ use Rattle.serde_json.specs.Find.{as_array, get, get_item}
 use Rattle.declared_names.specs.Values.{items_at, items_of, listed}
 use Rattle.description_places.specs.declared.kind.Kind.{Kind}
 use Rattle.description_places.specs.Alternatives.{resolved}
-use Rattle.description_places.specs.Around.{named, place_at, text_at, text_in}
-use Rattle.description_places.specs.Declarations.{Declared, declarations, declared_by, list_of_object}
+use Rattle.description_places.specs.Around.{named, text_at}
+use Rattle.description_places.specs.Declarations.{Declared, declarations, declared_by}
 use Rattle.description_places.specs.Forms.{form_of}
 use Rattle.description_places.specs.Keys.{Key, keys_of}
 use Rattle.description_places.specs.Names as places
 use Rattle.description_places.specs.Shape as shape
 use Rattle.description_places.specs.Shape.{has_shape}
-use Rattle.description_places.specs.Spots.{Spot, Level, inside, inside_part}
-use Rattle.description_places.specs.Visits.{Visit, visits, items_visits, part_of, in_parts}
+use Rattle.description_places.specs.Spots.{Spot, inside, inside_part}
+use Rattle.description_places.specs.Visits.{visits, items_visits, part_of, in_parts}
 use Rattle.bus_semantics.specs.SoundNames as bus
 use Rattle.bus_semantics.specs.SoundPlan.{is_in, same_numbers}
 use Rattle.sound_descriptions.specs.WellFormed.{distinct, names_fit}
 use Rattle.description_laws.proofs.Hits.{is_object}
-use Rattle.description_laws.proofs.Kept.{Part, Kept, Differ, left_part, right_part, parts_kept, kept_part, shape_here}
+use Rattle.description_laws.proofs.Kept.{Part, Kept, Differ, right_part, parts_kept, kept_part, shape_here}
 use Rattle.description_laws.proofs.Lists.{IsIn, in_left, in_right, Apart, apart_across}
-use Rattle.description_laws.proofs.Listings.{Objects, Texts, is_text, lists_beside, beside}
+use Rattle.description_laws.proofs.Listings.{Objects, lists_beside, beside}
 use Rattle.description_laws.proofs.Hits.{on_array}
-use Rattle.description_laws.proofs.Shorts.{Short, short_name, Name, name_value, Value, optional_value}
+use Rattle.description_laws.proofs.Shorts.{short_name, Value, optional_value}
 
 -- ---- a name is one of the plan's
 

@@ -1,7 +1,7 @@
 -- Numbers in places: a name is none, and they tell places apart.
-use Rattle.std.proofs.Common.{◌≡◌, ℕ, ◌+◌, ◌%◌, ◌^◌, ◌<◌, ◌≤◌, List, [], ◌∷◌, ◌++◌, Bool, true, false, not, ◌&&◌, ltb, eqb, decimal, length, slice_index, bytes_eq, codes, refl, sym, ap, subst, append_assoc, arith, ◌∙◌, ◌⊎◌, inl, inr}
+use Rattle.std.proofs.Common.{◌≡◌, ℕ, ◌+◌, ◌%◌, ◌^◌, ◌<◌, ◌≤◌, List, [], ◌∷◌, ◌++◌, Bool, true, false, not, ◌&&◌, ltb, eqb, decimal, length, slice_index, bytes_eq, codes, refl, sym, ap, append_assoc, arith, ◌∙◌, ◌⊎◌, inl, inr}
 use Rattle.std.specs.List.{list_all}
-use Rattle.std.proofs.lemmas.Bool.{and_parts, and_from, and_left, false≢true, true≢false, eqb-true, eq-eqb, ne_eqb, leb-true, ltb-true, lt-ltb, le-ltb, or_cases}
+use Rattle.std.proofs.lemmas.Bool.{and_parts, and_from, and_left, false≢true, true≢false, eqb-true, eq-eqb, ne_eqb, leb-true, lt-ltb, le-ltb, or_cases}
 use Rattle.std.proofs.lemmas.Fmt.{decimal_by_steps, decimal_injective}
 use Rattle.std.proofs.lemmas.List.{append_cancel_left}
 use Rattle.std.proofs.lemmas.List.Folds.{list_all-append}

@@ -1,11 +1,11 @@
 -- What the ports of components and compositions keep.
-use Rattle.std.proofs.Common.{◌≡◌, ℕ, ◌+◌, ◌≤◌, ◌<◌, ◌^◌, List, [], ◌∷◌, ◌++◌, map, length, Bool, true, false, ◌&&◌, leb, ltb, cond, decimal, bytes_eq, codes, Option, Some, None, is_some, refl, sym, ap, subst, arith, ◌∙◌, ◌⊎◌, inl, inr}
+use Rattle.std.proofs.Common.{◌≡◌, ℕ, ◌+◌, ◌^◌, List, [], ◌∷◌, ◌++◌, map, length, Bool, true, false, ltb, cond, decimal, bytes_eq, codes, Some, None, refl, sym, ap, subst, arith, ◌∙◌, ◌⊎◌, inl, inr}
 use Rattle.std.specs.List.{list_all, slice_get}
 use Rattle.std.specs.Option.{option_and_then, option_map, option_map_or, unwrap_or}
-use Rattle.std.proofs.lemmas.Bool.{and_parts, and_from, false≢true}
+use Rattle.std.proofs.lemmas.Bool.{and_from, false≢true}
 use Rattle.std.proofs.lemmas.Option.{none-some, same_Some, slice_get-map}
 use Rattle.serde_json.specs.Data.{Data, array, Items, string}
-use Rattle.serde_json.specs.Find.{as_array, as_number, as_str, as_u64, get, get_item}
+use Rattle.serde_json.specs.Find.{as_number, as_str, as_u64, get, get_item}
 use Rattle.description_places.specs.declared.kind.Kind.{Kind}
 use Rattle.description_places.specs.declared.kind.Kind.TheVariants as of_kind
 use Rattle.description_places.specs.declared.kind.Kind.TheVariants.{Description}
@@ -15,11 +15,10 @@ use Rattle.description_places.specs.Declarations.{Declared, declarations, end_of
 use Rattle.description_places.specs.Forms.{form_of}
 use Rattle.description_places.specs.Keys.{Key, keys_of, needed, optional}
 use Rattle.description_places.specs.Names.{is_name}
-use Rattle.description_places.specs.References.{declaration_of, interface_has, is_declared, led_to}
+use Rattle.description_places.specs.References.{interface_has, is_declared, led_to}
 use Rattle.description_places.specs.Shape.{holds, is_within}
 use Rattle.description_places.specs.Spots.{Spot, top, inside, inside_part}
 use Rattle.description_places.specs.Visits.{visits}
-use Rattle.interface_types.specs.declared.interface.ComSpec.{ComSpec}
 use Rattle.interface_types.specs.declared.interface.Interface.{Interface}
 use Rattle.interface_types.specs.declared.interface.InterfaceKind.TheVariants.{SenderReceiver, ClientServer, ModeSwitch}
 use Rattle.interface_types.specs.declared.interface.TypeTable.{TypeTable}
@@ -27,28 +26,27 @@ use Rattle.description_types.specs.declared.component.Port.{Port}
 use Rattle.declared_names.specs.declared.scopes.InterfaceNames.{InterfaceNames}
 use Rattle.declared_names.specs.declared.scopes.TypeNames.{TypeNames}
 use Rattle.declared_names.specs.Components.{interface_of_port}
-use Rattle.declared_names.specs.Names.{Names, position_among, position_at, position_in, short_names}
+use Rattle.declared_names.specs.Names.{position_among, position_at, position_in, short_names}
 use Rattle.declared_names.specs.Scopes.{interface_names, item_names, type_names}
 use Rattle.declared_names.specs.Values.{below as under, items_at, listed, number_at, text_at_in}
 use Rattle.component_model.specs.Initials.{keeps_element}
 use Rattle.component_model.specs.Ports.{com_spec_reading, port_reading}
-use Rattle.component_model.specs.Types.{data_element_reading, interface_kind_reading, interface_reading, mode_element_reading, operation_reading, types_reading}
+use Rattle.component_model.specs.Types.{data_element_reading, interface_reading, mode_element_reading, operation_reading, types_reading}
 use Rattle.bus_semantics.specs.SoundPlan.{is_in}
 use Rattle.sound_descriptions.specs.WellFormed.{com_spec_fits, item_count, items_at as item_number, names_fit, port_fits, ports_fit}
-use Rattle.description_laws.proofs.Hits.{is_object, own_key}
-use Rattle.description_laws.proofs.InterfaceItems.{found_item, names_by}
-use Rattle.description_laws.proofs.Kept.{Kept, Differ, kept_part, shape_here, found_here}
-use Rattle.description_laws.proofs.Listings.{Item, Objects, lists_beside, beside}
+use Rattle.description_laws.proofs.Hits.{is_object}
+use Rattle.description_laws.proofs.InterfaceItems.{found_item}
+use Rattle.description_laws.proofs.Kept.{Kept, kept_part, shape_here, found_here}
+use Rattle.description_laws.proofs.Listings.{Objects, beside}
 use Rattle.description_laws.proofs.Lists.{IsIn}
 use Rattle.description_laws.proofs.Lookups.{found_interface}
 use Rattle.description_laws.proofs.Naming.{all_listed, in_parts_of, on_list, short_names_fit}
-use Rattle.description_laws.proofs.Positions.{InList, below, items_there, listed_at, placed, Placed}
+use Rattle.description_laws.proofs.Positions.{below, items_there, listed_at, placed}
 use Rattle.description_laws.proofs.Readings.{map_long, maps, number_fits}
 use Rattle.description_laws.proofs.Reach.{pick_fine}
 use Rattle.description_laws.proofs.Roots.{declared_one}
 use Rattle.description_laws.proofs.Sections.{interface_beside, interfaces_list}
-use Rattle.description_laws.proofs.Shorts.{has_short, Name, name_value, needed_value, optional_value, Short, short_name, Value}
-use Rattle.description_laws.proofs.Types.{name_at, NameAt}
+use Rattle.description_laws.proofs.Shorts.{Name, name_value, needed_value, optional_value, short_name, Value}
 use Rattle.description_laws.proofs.Unbroken.{all_at, ports_keep}
 
 -- ---- the items of an interface as the typed reading has them
@@ -159,7 +157,7 @@ module _ (d : Data) (kept : Kept (declarations (visits d Description top)) d Des
       (sym (ap (holds (λ place. is_declared ds (named place item))) (sym (ap (λ t. led_to ds (named (codes "/interfaces") t)) f.same) ∙ interface_leads f.all f.them (position_in (short_names interfaces) name) f.value f.there)) ∙ h)
 
   -- the same by the positions that the reading has
-  slot : (name : List ℕ) (f : InterfaceAt name) → slice_get interfaces (position_in (short_names interfaces) name) ≡ Some f.value
+  pub slot : (name : List ℕ) (f : InterfaceAt name) → slice_get interfaces (position_in (short_names interfaces) name) ≡ Some f.value
   slot name f = ap (λ xs. slice_get xs (position_in (short_names interfaces) name)) (items_there (codes "interfaces") d f.all f.them) ∙ listed_at f.all (position_in (short_names interfaces) name) ∙ f.there
 
   pub item_below : (name item : List ℕ) (f : InterfaceAt name) → ltb (position_in (item_names f.value) item) (length (item_names f.value)) ≡ true

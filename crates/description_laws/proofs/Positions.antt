@@ -1,8 +1,8 @@
 -- Positions of names: below the length of the list that has the name, which stands there.
-use Rattle.std.proofs.Common.{◌≡◌, ℕ, zero, suc, ◌+◌, ◌<◌, List, [], ◌∷◌, map, length, Bool, true, false, cond, ltb, bytes_eq, codes, Option, Some, None, refl, sym, ap, subst, arith, ◌∙◌}
-use Rattle.std.specs.List.{slice_get}
+use Rattle.std.proofs.Common.{◌≡◌, ℕ, zero, suc, ◌+◌, ◌<◌, List, [], ◌∷◌, map, length, Bool, true, false, cond, ltb, bytes_eq, Some, refl, sym, ap, subst, arith, ◌∙◌}
+use Rattle.std.specs.List.{slice_get, slice_index_or}
 use Rattle.std.specs.Option.{option_and_then}
-use Rattle.std.proofs.lemmas.Bool.{cond_both, cond-true, cond-false, lt-ltb}
+use Rattle.std.proofs.lemmas.Bool.{false≢true, lt-ltb, ltb-true}
 use Rattle.std.proofs.lemmas.Option.{none-some, same_Some}
 use Rattle.std.proofs.lemmas.Slice.Eq.{bytes_eq-Decides}
 use Rattle.serde_json.specs.Data.{Data, array, Items, no_items, item}
@@ -76,3 +76,20 @@ below text key x name o =
     let n : position_in (map text (listed o.items)) name < length (listed o.items) =
     within (listed o.items) (position_in (map text (listed o.items)) name) place.value (listed_at o.items (position_in (map text (listed o.items)) name) ∙ place.there) in
     subst (λ xs. ltb (position_in (map text xs) name) (length xs) ≡ true) (sym (items_there key x o.items o.there)) (lt-ltb _ _ n)
+
+-- what stands at the position of a name
+pub nth_position : (ns : List (List ℕ)) (name : List ℕ) → ltb (position_in ns name) (length ns) ≡ true → slice_index_or ns (position_in ns name) [] ≡ name
+nth_position [] name h = absurd (false≢true h)
+nth_position (n ∷ ns) name h = by_first (bytes_eq n name) refl (nth_position ns name)
+  where
+    by_first : (b : Bool) → bytes_eq n name ≡ b → (ltb (position_in ns name) (length ns) ≡ true → slice_index_or ns (position_in ns name) [] ≡ name) → slice_index_or (n ∷ ns) (position_in (n ∷ ns) name) [] ≡ name
+    by_first true e more = ap (λ b. slice_index_or (n ∷ ns) (cond b 0 (1 + position_in ns name)) []) e ∙ (bytes_eq-Decides n name).0 e
+    by_first false e more =
+        let next : 1 + position_in ns name ≡ suc (position_in ns name) = omega arith in
+        let wide : ltb (1 + position_in ns name) (suc (length ns)) ≡ true = sym (ap (λ b. ltb (cond b 0 (1 + position_in ns name)) (suc (length ns))) e) ∙ h in
+        let low : 1 + position_in ns name < suc (length ns) = ltb-true (1 + position_in ns name) (suc (length ns)) wide in
+        let down : position_in ns name < length ns = omega arith in
+        ap (λ b. slice_index_or (n ∷ ns) (cond b 0 (1 + position_in ns name)) []) e ∙ ap (λ m. slice_index_or (n ∷ ns) m []) next ∙ more (lt-ltb (position_in ns name) (length ns) down)
+
+pub nth_in : (text : Data → List ℕ) (key : List ℕ) (x : Data) (name : List ℕ) → InList text key x name → slice_index_or (map text (items_at key x)) (position_in (map text (items_at key x)) name) [] ≡ name
+nth_in text key x name o = nth_position (map text (items_at key x)) name (ap (ltb (position_in (map text (items_at key x)) name)) (map_length text (items_at key x)) ∙ below text key x name o)

@@ -1,12 +1,12 @@
 -- The keys of what a value declares begin with a place near it.
-use Rattle.std.proofs.Common.{◌≡◌, ℕ, zero, suc, ◌+◌, ◌≤◌, List, [], ◌∷◌, ◌++◌, Bool, true, false, ◌&&◌, cond, leb, bytes_eq, codes, Option, Some, None, refl, sym, ap, subst, arith, ◌∙◌, inl, inr}
+use Rattle.std.proofs.Common.{◌≡◌, ℕ, zero, suc, ◌+◌, List, [], ◌∷◌, ◌++◌, Bool, true, false, ◌&&◌, leb, bytes_eq, codes, Option, Some, None, refl, sym, ap, subst, arith, ◌∙◌, inl, inr}
 use Rattle.std.specs.List.{list_all, find, slice_index_or}
 use Rattle.std.proofs.lemmas.Bool.{and_parts, and_from, false≢true, leb-true, le-leb, cond_both}
 use Rattle.std.proofs.lemmas.Grind.{flat_map-append}
 use Rattle.std.proofs.lemmas.List.Folds.{list_all-append}
 use Rattle.serde_json.specs.Data.{Data, null, boolean, number, string, array, object, Items, no_items, item, Members, no_members, member}
 use Rattle.description_places.specs.declared.kind.Kind.{Kind}
-use Rattle.description_places.specs.declared.kind.Kind.TheVariants.{Anything, Description, DataType, ModeGroup, SenderReceiverInterface, ClientServerInterface, ModeSwitchInterface, UnknownInterface, DataElement, Operation, Argument, OperationError, ModeElement, Component, Port, ComSpec, Variable, Runnable, TimingEvent, InitEvent, DataReceivedEvent, OperationInvokedEvent, CallReturnsEvent, ModeSwitchEvent, ModeTransitionEvent, ModeSwitchAckEvent, UnknownEvent, Composition, Prototype, Task, MappedEvent, Interface, Event, Connector, Access, Statement, Expression, DataElements, Operations, Compositions, PortOfPrototype, ItemAccess, VariableAccess, PortAccess, AreaAccess, SetStatement, IfStatement, RepeatStatement, AreaStatement, GivingStatement, TakingStatement, ItemStatement, LateWrite, EarlyRead, VariableWrite, VariableRead, CallStatement, SwitchStatement, ModeStatement, Operator, DeclaredName, DeclaredMode, DeclaredArea, ComSpecItem, Position, UnknownAccess, UnknownStatement, UnknownExpression, UnknownConnector, Constant, LocalName}
+use Rattle.description_places.specs.declared.kind.Kind.TheVariants.{Anything, Description, DataType, ModeGroup, SenderReceiverInterface, ClientServerInterface, ModeSwitchInterface, UnknownInterface, DataElement, Operation, Argument, OperationError, ModeElement, Component, Port, ComSpec, Variable, Runnable, TimingEvent, InitEvent, DataReceivedEvent, OperationInvokedEvent, CallReturnsEvent, ModeSwitchEvent, ModeTransitionEvent, ModeSwitchAckEvent, UnknownEvent, Composition, Prototype, Task, MappedEvent, Interface, Event, Connector, Access, Statement, Expression, DataElements, Operations, Compositions, PortOfPrototype, ItemAccess, VariableAccess, PortAccess, AreaAccess, SetStatement, IfStatement, RepeatStatement, AreaStatement, GivingStatement, TakingStatement, ItemStatement, LateWrite, EarlyRead, VariableWrite, VariableRead, CallStatement, SwitchStatement, ModeStatement, Operator, DeclaredName, DeclaredMode, DeclaredArea, ComSpecItem, Position, UnknownAccess, UnknownStatement, UnknownExpression, UnknownConnector}
 use Rattle.description_places.specs.Alternatives.{Choice, choices_of, kind_of, pick_if, word_at, first_word, by_activation, resolved}
 use Rattle.description_places.specs.Around.{owner_of}
 use Rattle.description_places.specs.Declarations.{Declared, declarations, declared_by, list_of_object}
@@ -129,7 +129,7 @@ pub pick_fine : (test : Kind → Bool) (cs : List Choice) (other : Kind) (word :
 pick_fine test cs other None fine h = fine
 pick_fine test cs other (Some word) fine h = kind_fine test other (find (λ c. bytes_eq c.word word) cs) cs word refl fine h
 
-activation_fine : (test : Kind → Bool) (kind : Kind) (d : Data) → test ModeTransitionEvent ≡ true → test kind ≡ true → test (by_activation kind d) ≡ true
+pub activation_fine : (test : Kind → Bool) (kind : Kind) (d : Data) → test ModeTransitionEvent ≡ true → test kind ≡ true → test (by_activation kind d) ≡ true
 activation_fine test ModeSwitchEvent d other fine = pick_fine test (choices_of ModeSwitchEvent) ModeSwitchEvent (word_at (codes "activation") d) fine (and_from _ _ other refl)
 activation_fine test _ d other fine = fine
 

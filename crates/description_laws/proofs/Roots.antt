@@ -1,34 +1,31 @@
 -- What the name of a component or composition leads to.
-use Rattle.std.proofs.Common.{◌≡◌, ℕ, ◌+◌, ◌<◌, ◌^◌, List, [], ◌∷◌, ◌++◌, map, length, Bool, true, false, ◌&&◌, ltb, cond, bytes_eq, codes, Option, Some, None, is_some, decimal, refl, sym, ap, subst, ◌∙◌, ◌⊎◌, inl, inr, arith}
-use Rattle.std.specs.List.{find, list_any, slice_get}
-use Rattle.std.specs.Option.{option_and_then, unwrap_or}
+use Rattle.std.proofs.Common.{◌≡◌, ℕ, ◌+◌, List, [], ◌∷◌, ◌++◌, Bool, true, false, cond, bytes_eq, codes, Option, Some, None, is_some, refl, sym, ap, subst, ◌∙◌, ◌⊎◌, inl, inr, arith}
+use Rattle.std.specs.List.{find}
 use Rattle.std.proofs.lemmas.Bool.{false≢true, true≢false}
 use Rattle.std.proofs.lemmas.List.{append_cancel_left}
 use Rattle.std.proofs.lemmas.Option.{none-some, same_Some}
 use Rattle.std.proofs.lemmas.Slice.Eq.{bytes_eq-Decides}
-use Rattle.serde_json.specs.Data.{Data, string, array, object, Items, Members}
-use Rattle.serde_json.specs.Find.{as_array, as_object, as_str, get, get_item, get_member}
-use Rattle.description_places.specs.declared.kind.Kind.{Kind}
+use Rattle.serde_json.specs.Data.{Data, array, object, Items, Members}
+use Rattle.serde_json.specs.Find.{get, get_item, get_member}
 use Rattle.description_places.specs.declared.kind.Kind.TheVariants as of_kind
 use Rattle.description_places.specs.declared.kind.Kind.TheVariants.{Description}
-use Rattle.description_places.specs.Around.{named, text_at, text_in}
+use Rattle.description_places.specs.Around.{named, text_at}
 use Rattle.description_places.specs.Declarations.{Declared, declarations, has_key}
 use Rattle.description_places.specs.Forms.{form_of}
 use Rattle.description_places.specs.Keys.{Key, keys_of, needed, optional}
 use Rattle.description_places.specs.Names.{is_name}
 use Rattle.description_places.specs.References.{declaration_of, is_composition, is_declared, is_declared_composition}
-use Rattle.description_places.specs.Shape.{holds, has_shape}
+use Rattle.description_places.specs.Shape.{holds}
 use Rattle.description_places.specs.Spots.{Spot, top, inside, inside_part}
 use Rattle.description_places.specs.Visits.{visits}
 use Rattle.description_laws.proofs.Hits.{Hit, At, Among, object_hit, on_object, object_from_shape}
 use Rattle.description_laws.proofs.Kept.{Kept, Differ, kept_part, shape_here}
-use Rattle.description_laws.proofs.Listings.{Item}
 use Rattle.description_laws.proofs.Lists.{IsIn, Apart}
 use Rattle.description_laws.proofs.Lookups.{hit_of, in_objects}
 use Rattle.description_laws.proofs.Naming.{in_parts_of}
 use Rattle.description_laws.proofs.Positions.{InList}
 use Rattle.description_laws.proofs.Sections.{at_composition, closed_away, components_list, compositions_key, is_closed}
-use Rattle.description_laws.proofs.Shorts.{Short, short_name, in_object_of, Value, optional_value}
+use Rattle.description_laws.proofs.Shorts.{short_name, Value, optional_value}
 
 -- ---- the one declaration of a key
 

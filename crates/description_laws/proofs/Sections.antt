@@ -1,26 +1,25 @@
 -- Which part of a description declares under a key.
-use Rattle.std.proofs.Common.{◌≡◌, ℕ, zero, suc, ◌+◌, ◌≤◌, ◌<◌, ◌^◌, List, [], ◌∷◌, ◌++◌, Bool, true, false, not, ◌&&◌, ◌||◌, leb, decimal, bytes_eq, codes, Option, Some, None, is_some, refl, sym, ap, subst, append_assoc, arith, ◌∙◌, ◌⊎◌, inl, inr}
-use Rattle.std.specs.List.{list_all, list_any, slice_get}
-use Rattle.std.proofs.lemmas.Bool.{and_parts, and_from, or_cases, false≢true, true≢false, leb-true, cases_Bool, not-true}
+use Rattle.std.proofs.Common.{◌≡◌, ℕ, ◌≤◌, List, ◌++◌, Bool, true, false, not, ◌&&◌, ◌||◌, leb, decimal, bytes_eq, codes, Some, is_some, refl, sym, ap, subst, append_assoc, arith, ◌∙◌, ◌⊎◌, inl, inr}
+use Rattle.std.specs.List.{slice_get}
+use Rattle.std.proofs.lemmas.Bool.{and_parts, or_cases, false≢true, true≢false, leb-true, not-true}
 use Rattle.std.proofs.lemmas.Slice.Eq.{bytes_eq-Decides}
-use Rattle.serde_json.specs.Data.{Data, string, array, object, Items, Members}
-use Rattle.serde_json.specs.Find.{as_array, as_object, as_str, get, get_item, get_member}
+use Rattle.serde_json.specs.Data.{Data, array, object, Items, Members}
+use Rattle.serde_json.specs.Find.{as_object, get, get_item, get_member}
 use Rattle.description_places.specs.declared.kind.Kind.{Kind}
 use Rattle.description_places.specs.declared.kind.Kind.TheVariants.{Description, DataTypes, ModeGroups, Interfaces, Components, Compositions, Composition, Mapping, DeclaredName, RootName, DataType, ModeGroup, Interface, Component}
-use Rattle.description_places.specs.Alternatives.{Choice, choices_of, pick_if, resolved, word_at}
+use Rattle.description_places.specs.Alternatives.{choices_of, resolved, word_at}
 use Rattle.description_places.specs.declared.kind.Kind.TheVariants as kind
-use Rattle.description_places.specs.Around.{named, text_at, text_in}
+use Rattle.description_places.specs.Around.{named, text_at}
 use Rattle.description_places.specs.Declarations.{Declared, declarations}
 use Rattle.description_places.specs.Forms.{form_of}
-use Rattle.description_places.specs.Keys.{Key, keys_of, needed, optional}
+use Rattle.description_places.specs.Keys.{Key, keys_of, optional}
 use Rattle.description_places.specs.Names.{is_name}
 use Rattle.description_places.specs.Shape.{has_shape}
 use Rattle.description_places.specs.Spots.{Spot, top, inside, inside_part}
 use Rattle.description_places.specs.Visits.{visits}
-use Rattle.description_laws.proofs.Hits.{Hit, At, Among, object_hit, on_object, on_array, named_hit, is_named, is_short_name, short_kind, own_key, own_at, object_from_shape}
-use Rattle.description_laws.proofs.Kept.{Kept, part_within, shape_here}
-use Rattle.description_laws.proofs.Listings.{Item, Objects, Holding, holding, lists_beside, only_at, others}
-use Rattle.description_laws.proofs.Numerals.{name_apart, own_apart}
+use Rattle.description_laws.proofs.Hits.{Hit, At, object_hit, on_object, on_array, named_hit, is_named, object_from_shape}
+use Rattle.description_laws.proofs.Kept.{Kept, shape_here}
+use Rattle.description_laws.proofs.Listings.{Objects, Holding, holding, lists_beside, only_at, others}
 use Rattle.description_laws.proofs.Prefixes.{begins, begins_self, begins_after, begins_front, level, none_with, Reaches}
 use Rattle.description_laws.proofs.Reach.{reach, is_plain, begin_so, pick_fine}
 use Rattle.description_laws.proofs.Shorts.{has_short, short_name}

@@ -1,29 +1,29 @@
 -- The short name of an object: it is a name, and declared.
 use Rattle.std.proofs.Common.{◌≡◌, ℕ, zero, suc, List, [], ◌∷◌, ◌++◌, Bool, true, false, not, ◌&&◌, ◌||◌, bytes_eq, codes, Option, Some, None, is_some, refl, sym, ap, subst, ◌∙◌, ◌⊎◌, inl, inr}
-use Rattle.std.specs.List.{list_all, slice_get}
+use Rattle.std.specs.List.{slice_get}
 use Rattle.std.specs.Option.{option_and_then, unwrap_or}
-use Rattle.std.proofs.lemmas.Bool.{and_parts, and_from, or_cases, false≢true, true≢false, not-false}
+use Rattle.std.proofs.lemmas.Bool.{and_parts, or_cases, false≢true, not-false}
 use Rattle.std.proofs.lemmas.Grind.{flat_map-append}
 use Rattle.std.proofs.lemmas.Option.{none-some, same_Some}
 use Rattle.std.proofs.lemmas.Slice.Eq.{bytes_eq-Decides}
-use Rattle.serde_json.specs.Data.{Data, null, boolean, number, string, array, object, Items, no_items, item, Members}
-use Rattle.serde_json.specs.Find.{as_object, as_str, get, get_item, get_member}
+use Rattle.serde_json.specs.Data.{Data, null, boolean, number, string, array, object, Members}
+use Rattle.serde_json.specs.Find.{as_str, get, get_member}
 use Rattle.description_places.specs.declared.form.Form.{Form}
 use Rattle.description_places.specs.declared.form.Form.TheVariants as form
 use Rattle.description_places.specs.declared.kind.Kind.{Kind}
 use Rattle.description_places.specs.declared.kind.Kind.TheVariants.{DeclaredName}
 use Rattle.description_places.specs.Alternatives.{resolved}
-use Rattle.description_places.specs.Around.{named, text_at, text_in}
+use Rattle.description_places.specs.Around.{named, text_at}
 use Rattle.description_places.specs.Declarations.{Declared, declarations, declared_by, list_of_object, end_of_object}
 use Rattle.description_places.specs.Forms.{form_of}
 use Rattle.description_places.specs.Keys.{Key, keys_of, needed}
 use Rattle.description_places.specs.Names.{is_name, is_name_form}
-use Rattle.description_places.specs.Shape.{fits, has_shape, holds, has_needed, has_only}
-use Rattle.description_places.specs.Spots.{Spot, inside, inside_part}
-use Rattle.description_places.specs.Visits.{Visit, visit_at, visits, items_visits, members_visits, part_of, in_parts, at_key, under_keys}
+use Rattle.description_places.specs.Shape.{fits, holds, has_needed, has_only}
+use Rattle.description_places.specs.Spots.{Spot, inside}
+use Rattle.description_places.specs.Visits.{Visit, visit_at, visits, members_visits, at_key, under_keys}
 use Rattle.description_laws.proofs.Lists.{IsIn, in_left, in_right, list_all_in}
-use Rattle.description_laws.proofs.Kept.{Part, Kept, kept_key, visits_at, at_key_found, shape_here, name_here}
-use Rattle.description_laws.proofs.Hits.{is_object, is_short_name, short_kind, object_from_shape, on_object, on_string, own_key}
+use Rattle.description_laws.proofs.Kept.{Kept, kept_key, visits_at, at_key_found, shape_here, name_here}
+use Rattle.description_laws.proofs.Hits.{is_object, is_short_name, short_kind, object_from_shape, on_object, own_key}
 
 -- what is declared within is declared
 in_joined : (y : Declared) (vs ws : List Visit) → IsIn y (declarations vs) ⊎ IsIn y (declarations ws) → IsIn y (declarations (vs ++ ws))
@@ -169,7 +169,7 @@ short_from ds x kind s v =
       end_is = refl;
     }
 
-same_key : (k : Key) (name : List ℕ) (kind : Kind) → k.is_needed ≡ true → k.name ≡ name → k.kind ≡ kind → k ≡ record { name = name; is_needed = true; kind = kind }
+pub same_key : (k : Key) (name : List ℕ) (kind : Kind) → k.is_needed ≡ true → k.name ≡ name → k.kind ≡ kind → k ≡ record { name = name; is_needed = true; kind = kind }
 same_key k name kind a b c = λ i. record { name = b i; is_needed = a i; kind = c i }
 
 pub short_name : (ds : List Declared) (x : Data) (kind : Kind) (s : Spot) → has_short (resolved kind x) ≡ true → Kept ds x kind s → Short ds x kind s

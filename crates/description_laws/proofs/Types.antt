@@ -1,11 +1,10 @@
 -- What the types of a description keep.
-use Rattle.std.proofs.Common.{◌≡◌, ℕ, ◌+◌, ◌≤◌, ◌<◌, ◌^◌, List, [], ◌∷◌, ◌++◌, map, length, Bool, true, false, ◌&&◌, leb, ltb, cond, decimal, bytes_eq, codes, Option, Some, None, is_some, refl, sym, ap, subst, arith, ◌∙◌, ◌⊎◌, inl, inr}
+use Rattle.std.proofs.Common.{◌≡◌, ℕ, ◌<◌, ◌^◌, List, [], ◌++◌, map, length, true, ◌&&◌, ltb, decimal, codes, Some, None, refl, sym, ap, subst, arith, ◌∙◌, ◌⊎◌, inl, inr}
 use Rattle.std.specs.List.{list_all}
 use Rattle.std.specs.Option.{option_and_then, unwrap_or}
-use Rattle.std.proofs.lemmas.Bool.{and_parts, and_from, false≢true}
+use Rattle.std.proofs.lemmas.Bool.{and_from, false≢true}
 use Rattle.serde_json.specs.Data.{Data, null, boolean, number, string, array, object, Items}
-use Rattle.serde_json.specs.Events.{items_len}
-use Rattle.serde_json.specs.Find.{as_array, as_number, as_str, as_u64, get, get_item}
+use Rattle.serde_json.specs.Find.{as_number, as_str, as_u64, get, get_item}
 use Rattle.description_places.specs.declared.kind.Kind.{Kind}
 use Rattle.description_places.specs.declared.kind.Kind.TheVariants as of_kind
 use Rattle.description_places.specs.declared.kind.Kind.TheVariants.{Description}
@@ -16,32 +15,28 @@ use Rattle.description_places.specs.Names.{is_name}
 use Rattle.description_places.specs.References.{is_declared}
 use Rattle.description_places.specs.Shape.{holds, is_within, part_count}
 use Rattle.description_places.specs.Spots.{Spot, top, inside, inside_part}
-use Rattle.description_places.specs.Visits.{visits, part_of}
+use Rattle.description_places.specs.Visits.{visits}
 use Rattle.interface_types.specs.declared.base_type.DataType.{DataType}
 use Rattle.interface_types.specs.declared.interface.ApplicationError.{ApplicationError}
 use Rattle.interface_types.specs.declared.interface.DataElement.{DataElement}
 use Rattle.interface_types.specs.declared.interface.Interface.{Interface}
-use Rattle.interface_types.specs.declared.interface.ModeGroup.{ModeGroup}
 use Rattle.interface_types.specs.declared.interface.Operation.{Operation}
 use Rattle.interface_types.specs.declared.interface.TypeTable.{TypeTable}
 use Rattle.interface_types.specs.Ranges.{keeps_range}
 use Rattle.interface_types.specs.Refusals.{is_sound, operations_in, type_refusal}
-use Rattle.declared_names.specs.declared.scopes.TypeNames.{TypeNames}
-use Rattle.declared_names.specs.Names.{position_in, short_names, texts}
+use Rattle.declared_names.specs.Names.{position_in, texts}
 use Rattle.declared_names.specs.Scopes.{type_names}
-use Rattle.declared_names.specs.Values.{below as under, items_at, items_of, listed, number_at}
+use Rattle.declared_names.specs.Values.{items_at, listed, number_at}
 use Rattle.component_model.specs.Types.{data_element_reading, data_type_reading, error_reading, interface_kind_reading, interface_reading, mode_element_reading, mode_group_reading, operation_reading, types_reading}
 use Rattle.bus_semantics.specs.SoundNames as bus
 use Rattle.bus_semantics.specs.SoundPlan.{is_in}
 use Rattle.sound_descriptions.specs.WellFormed.{group_fits, kind_fits, names_fit, operation_fits, type_fits, types_fit}
 use Rattle.description_laws.proofs.Kept.{Kept, kept_part, shape_here, found_here}
-use Rattle.description_laws.proofs.Listings.{Objects, Texts}
-use Rattle.description_laws.proofs.Lists.{IsIn}
-use Rattle.description_laws.proofs.Lookups.{found_data_type, found_group, found_mode, modes_list}
+use Rattle.description_laws.proofs.Lookups.{found_data_type, found_group, found_mode}
 use Rattle.description_laws.proofs.Naming.{all_listed, name_fits, names_owned, on_list, Owns}
-use Rattle.description_laws.proofs.Positions.{InList, below, items_there}
+use Rattle.description_laws.proofs.Positions.{below, items_there}
 use Rattle.description_laws.proofs.Readings.{counted_array, items_counted, map_long, maps, number_fits}
-use Rattle.description_laws.proofs.Shorts.{Name, name_value, needed_value, Short, short_name, Value}
+use Rattle.description_laws.proofs.Shorts.{Name, name_value, needed_value, short_name, Value}
 use Rattle.description_laws.proofs.Unbroken.{all_at, types_kept}
 use Rattle.description_laws.proofs.Words.{Found, interface_found, kept_as}
 

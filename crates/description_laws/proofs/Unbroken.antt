@@ -1,7 +1,7 @@
 -- Where the rules of types and of initial values are unbroken, each type, operation and initial value keeps them.
-use Rattle.std.proofs.Common.{◌≡◌, ℕ, zero, suc, ◌+◌, List, [], ◌∷◌, ◌++◌, map, Bool, true, false, ◌&&◌, cond, Option, Some, None, refl, sym, ap, subst, ◌∙◌}
+use Rattle.std.proofs.Common.{◌≡◌, ℕ, zero, suc, ◌+◌, List, [], ◌∷◌, ◌++◌, map, Bool, true, false, ◌&&◌, Some, None, refl, sym, subst}
 use Rattle.std.specs.List.{list_all}
-use Rattle.std.proofs.lemmas.Bool.{and_parts, and_from, false≢true}
+use Rattle.std.proofs.lemmas.Bool.{and_parts, and_from}
 use Rattle.std.proofs.lemmas.Option.{none-some, same_Some}
 use Rattle.serde_json.specs.Data.{Data, Items, no_items, item}
 use Rattle.serde_json.specs.Find.{get_item}
@@ -9,15 +9,11 @@ use Rattle.declared_names.specs.Values.{listed}
 use Rattle.interface_types.specs.Lists.{first, from, unless}
 use Rattle.interface_types.specs.Refusals.{broken, broken_types, broken_operations, broken_among, is_sound, of_rule, operation_place, operations_in, type_place, type_refusal}
 use Rattle.interface_types.specs.Ranges.{keeps_range}
-use Rattle.interface_types.specs.declared.base_type.DataType.{DataType}
-use Rattle.interface_types.specs.declared.interface.ComSpec.{ComSpec}
 use Rattle.interface_types.specs.declared.interface.Interface.{Interface}
-use Rattle.interface_types.specs.declared.interface.Operation.{Operation}
 use Rattle.interface_types.specs.declared.interface.TypeTable.{TypeTable}
 use Rattle.description_types.specs.declared.component.Port.{Port}
 use Rattle.description_types.specs.declared.component.Variable.{Variable}
 use Rattle.description_types.specs.declared.description.Composition.{Composition}
-use Rattle.component_model.specs.declared.initials.Initial.{Initial}
 use Rattle.component_model.specs.declared.initials.Initial.TheVariants.{OfPort, OfVariable}
 use Rattle.component_model.specs.declared.initials.Owner.{Owner}
 use Rattle.component_model.specs.declared.initials.Owner.TheVariants as owner

@@ -1,9 +1,9 @@
 -- A value that bytes are has no array with more items than there are bytes.
-use Rattle.std.proofs.Common.{◌≡◌, ℕ, zero, suc, ◌+◌, ◌≤◌, ◌<◌, ◌^◌, List, [], ◌∷◌, length, Bool, true, false, ◌&&◌, cond, leb, ltb, Option, Some, None, nat_cmp, Ordering, Less, Equal, Greater, refl, sym, ap, subst, arith, ◌∙◌}
+use Rattle.std.proofs.Common.{◌≡◌, ℕ, zero, suc, ◌≤◌, List, [], ◌∷◌, length, Bool, true, false, ◌&&◌, leb, Option, Some, None, nat_cmp, Ordering, Less, Equal, Greater, refl, ap, subst, arith, ◌∙◌}
 use Rattle.std.specs.Cmp.Lexicographic.{slice_cmp}
 use Rattle.std.specs.Option.{option_map, option_and_then}
 use Rattle.std.specs.Ordering.{match_ordering}
-use Rattle.std.proofs.lemmas.Bool.{and_parts, and_from, false≢true, leb-true, le-leb, lt-ltb}
+use Rattle.std.proofs.lemmas.Bool.{and_parts, and_from, le-leb}
 use Rattle.json.specs.Json as json
 use Rattle.json.specs.Json.{items, members, value, items_step, members_step, after_end_array, read_key, value_with, parse_map, if_last, Parse}
 use Rattle.json.specs.Lex.{Lexeme, token, comma, colon, Class, quote, backslash, operator, space, other, class, Mode, between, in_word, in_string, in_escape, lex_byte, lex, Place, fresh, after_value, after_comma, after_key, punctuate, place_token, if_allowed, begins_colon, may_begin, may_close, tokens}

@@ -1,8 +1,5 @@
-use Rattle.description_laws.proofs.Beginning.{whole_of, Unbroken}
+use Rattle.description_laws.proofs.Beginning.{whole_of}
 use Rattle.description_laws.proofs.Fields as by
-use Rattle.description_laws.proofs.Compositions as compositions
-use Rattle.description_laws.proofs.Unbroken as unbroken
-use Rattle.description_laws.proofs.Words as words
 use Rattle.component_model.specs.Descriptions.{description_of}
 use Rattle.description_laws.proofs.laws.roots_are_well_formed.Goals as goal
 

@@ -1,4 +1,4 @@
-use Rattle.description_laws.proofs.Beginning.{whole_of, Unbroken}
+use Rattle.description_laws.proofs.Beginning.{whole_of}
 use Rattle.description_laws.proofs.Fields as by
 use Rattle.component_model.specs.Descriptions.{description_of}
 use Rattle.description_laws.proofs.laws.types_are_well_formed.Goals as goal
