@@ -1,0 +1,5 @@
+pub mod Places
+pub mod Going
+pub mod Stepping
+pub mod Turning
+pub mod NewNodes

@@ -1,0 +1,3 @@
+pub mod After
+pub mod Nodes
+pub mod Turns

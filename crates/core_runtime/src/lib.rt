@@ -1,0 +1,12 @@
+//! The node: a plan with its mapping, its cores and its objects, run by one thread.
+#![tactic(auto)]
+
+mod making;
+mod node;
+mod pass;
+mod step;
+
+pub use node::Node;
+
+/// There was no memory for what a call makes.
+pub type Memory = std::alloc::AllocError;
