@@ -28,7 +28,7 @@ use Rattle.core_turn.proofs.Facts.{there_is, started, event_known}
 
 -- ---- counts
 
-some_counts : {X : Type 0} (has : X → Bool) (xs : List X) (i : ℕ) (x : X) → slice_get xs i ≡ Some x → has x ≡ true → 1 ≤ count has xs
+pub some_counts : {X : Type 0} (has : X → Bool) (xs : List X) (i : ℕ) (x : X) → slice_get xs i ≡ Some x → has x ≡ true → 1 ≤ count has xs
 some_counts has [] i x e is = absurd (cc e)
 some_counts has (y ∷ xs) zero x e is = let same : y ≡ x = cc in let here : has y ≡ true = ap has same ∙ is in
     let n : count has (y ∷ xs) ≡ suc (count has xs) = ap (λ b. if b then suc (count has xs) else count has xs) here in omega arith
@@ -39,7 +39,7 @@ some_counts has (y ∷ xs) (suc i) x e is = by_test (has y) (some_counts has xs 
     by_test false less = less
 
 -- where at most one passes, it stands at one place
-one_place : {X : Type 0} (has : X → Bool) (xs : List X) (i j : ℕ) (x y : X) → count has xs ≤ 1 → slice_get xs i ≡ Some x → has x ≡ true → slice_get xs j ≡ Some y → has y ≡ true → i ≡ j
+pub one_place : {X : Type 0} (has : X → Bool) (xs : List X) (i j : ℕ) (x y : X) → count has xs ≤ 1 → slice_get xs i ≡ Some x → has x ≡ true → slice_get xs j ≡ Some y → has y ≡ true → i ≡ j
 one_place has [] i j x y few e is f as_well = absurd (cc e)
 one_place has (z ∷ xs) zero zero x y few e is f also = refl
 one_place has (z ∷ xs) zero (suc j) x y few e is f also =
@@ -106,7 +106,7 @@ count_parts has a b (x ∷ xs) apart = by_test (a x) refl (b x) refl (count_part
 -- ---- the tasks of a runnable
 
 module _ (p : Plan) (r : ℕ) where
-  abbrev in_task : Task → Bool
+  abbrev pub in_task : Task → Bool
   in_task t = starts p r t.events
 
   abbrev numbered : List Task → ℕ → List ℕ
@@ -169,7 +169,7 @@ same_some : (a b : ℕ) → Some a ≡ Some b → a ≡ b
 same_some a b e = cc
 
 module _ (p : Plan) (m : Mapping) (built : IsBuilt p m) where
-  runnable_inside : (r : ℕ) (events : List ℕ) → starts p r events ≡ true → r < length p.runnables
+  pub runnable_inside : (r : ℕ) (events : List ℕ) → starts p r events ≡ true → r < length p.runnables
   runnable_inside r events is =
       let e = starts_one p r events is in
       let s = started p m built e.0 (event_known p e.0 r e.1) in
@@ -200,10 +200,16 @@ module _ (p : Plan) (m : Mapping) (built : IsBuilt p m) where
   pub tasks_fit : list_all (λ (t : Task). nat_lt t.core m.cores && (is_name t.name && list_all (λ e. nat_lt e (length p.events)) t.events)) m.tasks ≡ true
   tasks_fit = (both each_task (names && (mapped && alone)) after_two).0
 
-  one_task : list_all (λ r. nat_le (length (tasks_of p m r)) 1) (positions (length p.runnables)) ≡ true
-  one_task = (both mapped alone (both names (mapped && alone) (both each_task (names && (mapped && alone)) after_two).1).1).1
+  after_four : (mapped && alone) ≡ true
+  after_four = (both names (mapped && alone) (both each_task (names && (mapped && alone)) after_two).1).1
 
-  few : (r : ℕ) → r < length p.runnables → count (in_task p r) m.tasks ≤ 1
+  pub each_mapped : every_from 0 (λ e (v : EventPlan). count (λ d. d == e) (mapped_events m) == times_mapped p v.kind) p.events ≡ true
+  each_mapped = (both mapped alone after_four).0
+
+  one_task : list_all (λ r. nat_le (length (tasks_of p m r)) 1) (positions (length p.runnables)) ≡ true
+  one_task = (both mapped alone after_four).1
+
+  pub few : (r : ℕ) → r < length p.runnables → count (in_task p r) m.tasks ≤ 1
   few r inside =
       let test = all_below (λ r. nat_le (length (tasks_of p m r)) 1) (length p.runnables) r one_task inside in
       let less : length (tasks_of p m r) ≤ 1 = grind (arith, nat_tests) in

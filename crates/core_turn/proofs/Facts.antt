@@ -60,7 +60,7 @@ module _ (p : Plan) (m : Mapping) (built : IsBuilt p m) where
       let n : 0 + e ≡ e = omega arith in
       subst (λ k. event_sound p k v ≡ true) n (at_place (event_sound p) p.events e 0 v (both (every_from 0 (event_sound p) p.events) (nat_le (length p.events) 16384) built.sound.events).0 there)
 
-  kind_is_sound : (e : ℕ) (v : EventPlan) → slice_get p.events e ≡ Some v → kind_sound p e v.runnable (instance_of p v.runnable) v.kind ≡ true
+  pub kind_is_sound : (e : ℕ) (v : EventPlan) → slice_get p.events e ≡ Some v → kind_sound p e v.runnable (instance_of p v.runnable) v.kind ≡ true
   kind_is_sound e v there =
       (both (kind_sound p e v.runnable (instance_of p v.runnable) v.kind) _ (both (nat_lt v.runnable (length p.runnables)) _ (event_is e v there)).1).0
 

@@ -114,6 +114,10 @@ own_asked p (Act k) (deed.Mode port mode) by free own = refl
 own_asked p (Act k) (deed.Phase step) by free own = refl
 own_asked p (Act k) (deed.Publish x value) by free own = refl
 
+pub same_event : (b : Bool) (o : Option ℕ) → (if b then o else None) ≡ (if b then (if b then o else None) else None)
+same_event true o = refl
+same_event false o = refl
+
 module _ (p : Plan) (m : Mapping) (built : IsBuilt p m) where
   -- an Admit and an End touch nothing
   bound_touches : (a : Actor) (d : Deed) (by : ℕ) → needs_event d ≡ true → object_of p a (wanted_by by d) ≡ None
@@ -121,17 +125,13 @@ module _ (p : Plan) (m : Mapping) (built : IsBuilt p m) where
   bound_touches a deed.End by bound = end_touches p m built a by
   bound_touches a d by bound = absurd (false≢true bound)
 
-  note_touches : (a : Actor) (d : Deed) (o : Option ℕ) (by : ℕ) → (b : Bool) → needs_event d ≡ b → o ≡ (if b then o else None)
+  pub note_touches : (a : Actor) (d : Deed) (o : Option ℕ) (by : ℕ) → (b : Bool) → needs_event d ≡ b → o ≡ (if b then o else None)
       → (if b && is_none o then None else object_of p a (wanted_by (unwrap_or o 0) d)) ≡ object_of p a (wanted_by by d)
   note_touches a d o by false is event = ap (object_of p a) (free_same d (unwrap_or o 0) by is)
   note_touches a d None by true is event = sym (bound_touches a d by is)
   note_touches a d (Some e) by true is event = bound_touches a d e is ∙ sym (bound_touches a d by is)
 
   module _ (h : History) (s : Stamped) (a : Actor) (w : Wanted) (entry : IsEntryOf p a w s) where
-    same_event : (b : Bool) (o : Option ℕ) → (if b then o else None) ≡ (if b then (if b then o else None) else None)
-    same_event true o = refl
-    same_event false o = refl
-
     touched_note : touched_by p (note h s.entry) ≡ object_of p a w
     touched_note =
         note_touches s.entry.actor s.entry.deed (note h s.entry).event (unwrap_or (event_of w) 0) (needs_event s.entry.deed) refl (same_event (needs_event s.entry.deed) (started_before s.entry.actor h))

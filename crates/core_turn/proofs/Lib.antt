@@ -16,3 +16,9 @@ pub mod Apart
 pub mod Stepped
 pub mod Made
 pub mod Keeping
+pub mod Places
+pub mod Started
+pub mod Mapped
+pub mod Resting
+pub mod AtRest
+pub mod Freeing

@@ -51,11 +51,11 @@ module _ (p : Plan) (m : Mapping) (built : IsBuilt p m) (t : TaskSet) (bodies : 
     (explicit : (i : ℕ) (r : Runnable) → slice_get p.runnables i ≡ Some r → list_all is_explicit_access r.accesses ≡ true → is_explicit_body r.program.body ≡ true)
     (old : Slot) (k : ActKey) (b : IsBegun p t old.events.items old.frame k) where
   -- the actor rule wants what the activation asks
-  record Wants (g : History) (a : Activation) : Type 0 where
-    next : next_wish p g k ≡ Some b.wish
-    event : a.event ≡ b.event
+  pub record Wants (g : History) (a : Activation) : Type 0 where
+    pub next : next_wish p g k ≡ Some b.wish
+    pub event : a.event ≡ b.event
 
-  wants : (g : History) (s : TaskStands p t g old.events.items (Some k) old.frame) → Wants g s.frame.activation
+  pub wants : (g : History) (s : TaskStands p t g old.events.items (Some k) old.frame) → Wants g s.frame.activation
   wants g s =
       let a = s.frame.activation in
       let fed = s.frame.stands in

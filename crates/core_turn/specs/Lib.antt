@@ -7,3 +7,5 @@ pub mod Standing
 pub mod Looking
 pub mod Turning
 pub mod Lawful
+pub mod Resting
+pub mod Small

@@ -9,12 +9,17 @@ mod looking;
 mod making;
 mod slot;
 mod starting;
+#[cfg(test)]
+mod tests;
 mod threads;
 mod trying;
 mod turning;
 
 pub use cores::Core;
-pub use laws::{cores_stand_beside_the_environment, turns_keep_the_law};
+pub use laws::{
+    cores_stand_beside_the_environment, nothing_now_frees_the_core,
+    nothing_now_is_rest_of_the_core, resting_cores_are_at_rest, turns_keep_the_law,
+};
 pub use turning::{Turned, turn};
 
 /// There was no memory for what a call makes.

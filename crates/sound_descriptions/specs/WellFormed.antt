@@ -1,7 +1,7 @@
 -- What a description keeps that breaks none of the first eight rules: names are names, and distinct in the list that declares
 -- them; numbers lie in their ranges; what refers to something has a position in the list that declares it; types and initial
 -- values fit.
-use Rattle.std.specs.Prelude.{◌≡◌, ℕ, List, [], ◌∷◌, map, length, Bool, true, false, not, ◌&&◌, ◌||◌, ◌==◌, nat_lt, nat_le, slice_get, Option, Some, None}
+use Rattle.std.specs.Prelude.{◌≡◌, ℕ, List, [], ◌∷◌, map, length, Bool, true, false, not, ◌&&◌, ◌||◌, ◌==◌, nat_lt, nat_le, slice_get}
 use Rattle.std.specs.List.{list_all, list_any}
 use Rattle.std.specs.Option.{option_map_or}
 use Rattle.runnable_lang.specs.declared.program.AccessKind.{AccessKind}
@@ -13,7 +13,6 @@ use Rattle.interface_types.specs.declared.interface.DataElement.{DataElement}
 use Rattle.interface_types.specs.declared.interface.Interface.{Interface}
 use Rattle.interface_types.specs.declared.interface.InterfaceKind.{InterfaceKind}
 use Rattle.interface_types.specs.declared.interface.InterfaceKind.TheVariants.{SenderReceiver, ClientServer, ModeSwitch}
-use Rattle.interface_types.specs.declared.interface.ModeElement.{ModeElement}
 use Rattle.interface_types.specs.declared.interface.ModeGroup.{ModeGroup}
 use Rattle.interface_types.specs.declared.interface.Operation.{Operation}
 use Rattle.interface_types.specs.declared.interface.TypeTable.{TypeTable}
@@ -146,16 +145,21 @@ arguments_at t ps k n = option_map_or (λ (p : Port). option_map_or (λ (i : Int
 
 -- The program of a server, which an OperationInvokedEvent starts, has a variable for each argument and one for `error`. (Where
 -- several such events start one runnable its first counts; a later rule refuses that.)
+abbrev pub has_variables : TypeTable → Component → (runnable : ℕ) → (port : ℕ) → (operation : ℕ) → Bool
+has_variables t c x k n = option_map_or (λ (r : Runnable). nat_lt (arguments_at t c.ports k n) (program_tree r.program).vars) (slice_get c.behavior.runnables x) false
+
+abbrev pub serves_well : TypeTable → Component → (seen : List ℕ) → (runnable : ℕ) → EventKind → Bool
+serves_well t c seen x (OperationInvoked k n) = list_any (λ r. r == x) seen || has_variables t c x k n
+serves_well t c seen x _ = true
+
+-- the runnables that calls start, by an event of the kind too
+abbrev pub with_served : EventKind → (runnable : ℕ) → (seen : List ℕ) → List ℕ
+with_served (OperationInvoked k n) x seen = x ∷ seen
+with_served _ x seen = seen
+
 abbrev pub serves_fit : TypeTable → Component → List Event → (seen : List ℕ) → Bool
 serves_fit t c [] seen = true
-serves_fit t c (e ∷ es) seen = by_kind e.kind
-  where
-    has_variables : ℕ → ℕ → Bool
-    has_variables k n = option_map_or (λ (r : Runnable). nat_lt (arguments_at t c.ports k n) (program_tree r.program).vars) (slice_get c.behavior.runnables e.runnable) false
-
-    by_kind : EventKind → Bool
-    by_kind (OperationInvoked k n) = (list_any (λ r. r == e.runnable) seen || has_variables k n) && serves_fit t c es (e.runnable ∷ seen)
-    by_kind _ = serves_fit t c es seen
+serves_fit t c (e ∷ es) seen = serves_well t c seen e.runnable e.kind && serves_fit t c es (with_served e.kind e.runnable seen)
 
 abbrev pub component_fits : TypeTable → Component → Bool
 component_fits t c =

@@ -1,0 +1,15 @@
+use Rattle.std.proofs.Common.{subst}
+use Rattle.core_turn.specs.Turning.{NoneTold}
+use Rattle.core_turn.specs.Resting.{CoreRests}
+use Rattle.core_turn.proofs.Resting.{all_stuck, core_rests}
+use Rattle.core_turn.proofs.laws.nothing_now_is_rest_of_the_core.Goals as goal
+
+pub returns : goal.returns
+returns c = λ p m t cores i old new objects before now h bodies lawful is told none.
+    let ready = lawful.ready i old is in
+    let held = subst (λ o. NoneTold p t old o now.objects) told none.objects in
+    let stuck = all_stuck p m ready.built h lawful.legal objects lawful.stand
+    (λ g object legal. c.legal_histories_part_into_objects.ensures.parts p m g object ready.built.sound ready.built.plain.unqueued legal)
+    (λ object before l n stands follows. c.leads_miss_nothing.ensures p m object before l n ready.built.sound ready.built.plain.unqueued stands follows) _ held.0 in
+    subst (CoreRests p m h) (lawful.number i old is)
+    (core_rests p m t bodies (λ k r there plain. c.sound_programs_are_explicit.ensures p m k r ready.built.sound there plain) h old ready (lawful.stands i old is) stuck)

@@ -1,0 +1,38 @@
+//! Laws of descriptions that are read.
+
+ghost use Rattle.std.specs.Prelude.{◌≡◌, ℕ, ◌^◌, ◌<◌, List, length, nat_lt, true};
+ghost use Rattle.std.specs.List.{list_all};
+ghost use Rattle.description_types.specs.declared.description.Description.{Description};
+ghost use Rattle.component_model.specs.Descriptions.{description_of};
+ghost use Rattle.component_model.specs.Refusals.{IsRead};
+ghost use Rattle.sound_descriptions.specs.WellFormed.{composition_fits, mapping_fits, types_fit};
+
+use description_places::unbroken_descriptions;
+
+/// The types of a description that is read keep what `IsWellFormed` asks of them.
+pub fn types_are_well_formed()
+    ensures { (bytes : List ℕ) (d : Description) → length bytes < 2 ^ 64 → IsRead bytes (description_of d) → types_fit d.types ≡ true }
+{
+    unbroken_descriptions();
+}
+
+/// The compositions of a description that is read keep what `IsWellFormed` asks of them.
+pub fn compositions_are_well_formed()
+    ensures { (bytes : List ℕ) (d : Description) → length bytes < 2 ^ 64 → IsRead bytes (description_of d) → list_all (composition_fits d) d.compositions ≡ true }
+{
+    unbroken_descriptions();
+}
+
+/// The mapping of a description that is read keeps what `IsWellFormed` asks of it.
+pub fn mappings_are_well_formed()
+    ensures { (bytes : List ℕ) (d : Description) → length bytes < 2 ^ 64 → IsRead bytes (description_of d) → mapping_fits d ≡ true }
+{
+    unbroken_descriptions();
+}
+
+/// The root of a description that is read is one of its compositions.
+pub fn roots_are_well_formed()
+    ensures { (bytes : List ℕ) (d : Description) → length bytes < 2 ^ 64 → IsRead bytes (description_of d) → nat_lt d.root (length d.compositions) ≡ true }
+{
+    unbroken_descriptions();
+}

@@ -1,0 +1,11 @@
+//! A plan whose description breaks no rule is sound in what happens: its tasks, events, servers, calls, accesses and programs.
+//!
+//! Each law is a field of `IsSound` (`bus_semantics`), from `IsWhole` (`planned_descriptions`).
+#![tactic(auto)]
+
+mod laws;
+
+pub use laws::{
+    direct_servers_fit, events_fit, points_fit_their_servers, points_stand_by_caller,
+    runnables_fit, servers_serve, tasks_fit, waits_never_return,
+};

@@ -1,0 +1,13 @@
+//! The plan of a description that breaks no rule is sound, in its objects, data elements, groups and mode machines: each law says
+//! one field of `IsSound` of bus_semantics.
+#![tactic(auto)]
+
+mod elements;
+mod sizes;
+
+pub use elements::{
+    elements_of_plans_are_sound, groups_of_plans_fit, joined_elements_of_plans_agree,
+};
+pub use sizes::{
+    machines_of_plans_are_sound, objects_of_plans_are_counted, queues_of_plans_are_bounded,
+};

@@ -1,0 +1,28 @@
+//! Laws of the objects, the queues and the mode machines of plans.
+
+ghost use Rattle.std.specs.Prelude.{◌≡◌, true, nat_le};
+ghost use Rattle.std.specs.List.{list_all};
+ghost use Rattle.description_types.specs.declared.description.Description.{Description};
+ghost use Rattle.composition_flatten.specs.declared.flat.Flat.{Flat};
+ghost use Rattle.bus_semantics.specs.declared.plan.BusPlan.{BusPlan};
+ghost use Rattle.bus_semantics.specs.declared.script.Mapping.{Mapping};
+ghost use Rattle.bus_semantics.specs.Plan.{plan_of};
+ghost use Rattle.bus_semantics.specs.Sound.{queue_lengths};
+ghost use Rattle.bus_semantics.specs.SoundPlan.{objects_counted};
+ghost use Rattle.bus_semantics.specs.SoundElements.{machine_sound};
+ghost use Rattle.planned_descriptions.specs.Whole.{IsWhole};
+
+/// The objects of a plan are its groups, servers, areas and mode machines, and the clock; there are at most 16,384 of them.
+pub fn objects_of_plans_are_counted()
+    ensures { (d : Description) (f : Flat) (p : BusPlan) (m : Mapping) → IsWhole d f p m → objects_counted (plan_of p) ≡ true }
+{}
+
+/// The queue lengths of all receivers, queued servers and mode machines are together at most 65,536.
+pub fn queues_of_plans_are_bounded()
+    ensures { (d : Description) (f : Flat) (p : BusPlan) (m : Mapping) → IsWhole d f p m → nat_le (queue_lengths (plan_of p)) 65536 ≡ true }
+{}
+
+/// A mode machine has 1 to 32 modes, begins in one of them, and holds 1 to 1,024 switches.
+pub fn machines_of_plans_are_sound()
+    ensures { (d : Description) (f : Flat) (p : BusPlan) (m : Mapping) → IsWhole d f p m → list_all machine_sound p.machines ≡ true }
+{}

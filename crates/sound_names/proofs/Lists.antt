@@ -1,0 +1,224 @@
+-- What is in lists that are made of others.
+use Rattle.std.proofs.Common.{◌≡◌, ℕ, zero, suc, ◌+◌, ◌<◌, ◌≤◌, List, [], ◌∷◌, ◌++◌, length, map, filter, slice_get, Bool, true, false, cond, ◌&&◌, Option, Some, None, option_map, option_and_then, ◌⊎◌, inl, inr, ⊎_elim, refl, sym, ap, subst, ◌∙◌, arith, true≢false}
+use Rattle.std.proofs.lemmas.Bool.{and_parts, and_from, or_from, or_left, or_right, cases_eq}
+use Rattle.std.proofs.lemmas.List.{map-append}
+use Rattle.std.specs.List.{list_all, list_any, flat_map, find, position_from}
+use Rattle.composition_flatten.specs.Members.{Among}
+use Rattle.plan_numbers.specs.Lists.{from, positions}
+
+-- ---- joined lists
+
+module _ {X : Type 0} where
+  pub left : (x : X) (xs ys : List X) → Among x xs → Among x (xs ++ ys)
+  left x [] ys h = absurd h
+  left x (y ∷ xs) ys (inl e) = inl e
+  left x (y ∷ xs) ys (inr h) = inr (left x xs ys h)
+
+  pub right : (x : X) (xs ys : List X) → Among x ys → Among x (xs ++ ys)
+  right x [] ys h = h
+  right x (y ∷ xs) ys h = inr (right x xs ys h)
+
+  pub cases : (x : X) (xs ys : List X) → Among x (xs ++ ys) → Among x xs ⊎ Among x ys
+  cases x [] ys h = inr h
+  cases x (y ∷ xs) ys (inl e) = inl (inl e)
+  cases x (y ∷ xs) ys (inr h) = ⊎_elim (λ l. inl (inr l)) (λ r. inr r) (cases x xs ys h)
+
+  -- ---- positions
+
+  pub get_among : (xs : List X) (k : ℕ) (x : X) → slice_get xs k ≡ Some x → Among x xs
+  get_among [] k x h = cc
+  get_among (y ∷ xs) zero x h = inl cc
+  get_among (y ∷ xs) (suc k) x h = inr (get_among xs k x h)
+
+  pub get_below : (xs : List X) (k : ℕ) (x : X) → slice_get xs k ≡ Some x → k < length xs
+  get_below [] k x h = cc
+  get_below (y ∷ xs) zero x h = omega arith
+  get_below (y ∷ xs) (suc k) x h = omega (arith, get_below xs k x h)
+
+  pub get_some : (xs : List X) (k : ℕ) → k < length xs → (x : X) × (slice_get xs k ≡ Some x)
+  get_some [] k h = absurd (omega arith)
+  get_some (y ∷ xs) zero h = (y, refl)
+  get_some (y ∷ xs) (suc k) h = get_some xs k (omega arith)
+
+  pub among_get : (x : X) (xs : List X) → Among x xs → (k : ℕ) × (slice_get xs k ≡ Some x)
+  among_get x [] h = absurd h
+  among_get x (y ∷ xs) (inl e) = (0, ap (λ z. Some z) (sym e))
+  among_get x (y ∷ xs) (inr h) = let r = among_get x xs h in (suc r.0, r.1)
+
+-- ---- images
+
+module _ {X Y : Type 0} (f : X → Y) where
+  pub mapped : (y : Y) (xs : List X) → Among y (map f xs) → (x : X) × Among x xs × (y ≡ f x)
+  mapped y [] h = absurd h
+  mapped y (x ∷ xs) (inl e) = (x, inl refl, e)
+  mapped y (x ∷ xs) (inr h) = let r = mapped y xs h in (r.0, inr r.1, r.2)
+
+  pub map_has : (x : X) (xs : List X) → Among x xs → Among (f x) (map f xs)
+  map_has x [] h = absurd h
+  map_has x (y ∷ xs) (inl e) = inl (ap f e)
+  map_has x (y ∷ xs) (inr h) = inr (map_has x xs h)
+
+  pub get_map : (xs : List X) (k : ℕ) → slice_get (map f xs) k ≡ option_map f (slice_get xs k)
+  get_map [] k = refl
+  get_map (x ∷ xs) zero = refl
+  get_map (x ∷ xs) (suc k) = get_map xs k
+
+  pub unmap : (xs : List X) (k : ℕ) (y : Y) → slice_get (map f xs) k ≡ Some y → (x : X) × (slice_get xs k ≡ Some x) × (f x ≡ y)
+  unmap [] k y h = cc
+  unmap (x ∷ xs) zero y h = (x, refl, cc)
+  unmap (x ∷ xs) (suc k) y h = unmap xs k y h
+
+pub map_map : {X Y Z : Type 0} (g : Y → Z) (f : X → Y) (xs : List X) → map g (map f xs) ≡ map (λ x. g (f x)) xs
+map_map g f [] = refl
+map_map g f (x ∷ xs) = ap (λ l. g (f x) ∷ l) (map_map g f xs)
+
+pub map_same : {X Y : Type 0} (f g : X → Y) (xs : List X) → ((x : X) → Among x xs → f x ≡ g x) → map f xs ≡ map g xs
+map_same f g [] same = refl
+map_same {X = X} f g (x ∷ xs) same =
+    let here : f x ≡ g x = same x (inl refl) in
+    let rest : map f xs ≡ map g xs = map_same f g xs (λ y h. same y (inr h)) in
+    cc
+
+-- ---- what passes a test
+
+module _ {X : Type 0} (test : X → Bool) where
+  pub all_from : (xs : List X) → ((x : X) → Among x xs → test x ≡ true) → list_all test xs ≡ true
+  all_from [] each = refl
+  all_from (x ∷ xs) each = and_from (test x) (list_all test xs) (each x (inl refl)) (all_from xs (λ y h. each y (inr h)))
+
+  pub all_at : (x : X) (xs : List X) → list_all test xs ≡ true → Among x xs → test x ≡ true
+  all_at x [] h among = absurd among
+  all_at x (y ∷ xs) h (inl is) = ap test is ∙ (and_parts (test y) (list_all test xs) h).0
+  all_at x (y ∷ xs) h (inr later) = all_at x xs (and_parts (test y) (list_all test xs) h).1 later
+
+  pub none_from : (xs : List X) → ((x : X) → Among x xs → test x ≡ false) → list_any test xs ≡ false
+  none_from [] each = refl
+  none_from (x ∷ xs) each = or_from (test x) (list_any test xs) (each x (inl refl)) (none_from xs (λ y h. each y (inr h)))
+
+  pub any_has : (x : X) (xs : List X) → Among x xs → test x ≡ true → list_any test xs ≡ true
+  any_has x [] h e = absurd h
+  any_has x (y ∷ xs) (inl is) e = or_left (test y) (list_any test xs) (sym (ap test is) ∙ e)
+  any_has x (y ∷ xs) (inr h) e = or_right (test y) (list_any test xs) (any_has x xs h e)
+
+  kept : (b : Bool) (x y : X) (xs : List X) → test y ≡ b → Among x (cond b (y ∷ filter test xs) (filter test xs)) → ((x ≡ y) × (test x ≡ true)) ⊎ Among x (filter test xs)
+  kept true x y xs is (inl e) = inl (e, ap test e ∙ is)
+  kept true x y xs is (inr h) = inr h
+  kept false x y xs is h = inr h
+
+  pub filtered : (x : X) (xs : List X) → Among x (filter test xs) → Among x xs × (test x ≡ true)
+  filtered x [] h = absurd h
+  filtered x (y ∷ xs) h = ⊎_elim (λ (l : (x ≡ y) × (test x ≡ true)). (inl l.0, l.1)) (λ r. let p = filtered x xs r in (inr p.0, p.1)) (kept (test y) x y xs refl h)
+
+  keeps : (b : Bool) (x y : X) (xs : List X) → test y ≡ b → ((x ≡ y) × (test x ≡ true)) ⊎ Among x (filter test xs) → Among x (cond b (y ∷ filter test xs) (filter test xs))
+  keeps true x y xs is (inl e) = inl e.0
+  keeps true x y xs is (inr h) = inr h
+  keeps false x y xs is (inl e) = absurd (true≢false (sym e.1 ∙ ap test e.0 ∙ is))
+  keeps false x y xs is (inr h) = h
+
+  pub filter_has : (x : X) (xs : List X) → Among x xs → test x ≡ true → Among x (filter test xs)
+  filter_has x [] h passes = absurd h
+  filter_has x (y ∷ xs) (inl e) passes = keeps (test y) x y xs refl (inl (e, passes))
+  filter_has x (y ∷ xs) (inr h) passes = keeps (test y) x y xs refl (inr (filter_has x xs h passes))
+
+  first : (b : Bool) (x y : X) (xs : List X) → test y ≡ b → cond b (Some y) (find test xs) ≡ Some x → ((x ≡ y) × (test x ≡ true)) ⊎ (find test xs ≡ Some x)
+  first true x y xs is h = let e : y ≡ x = cc in inl (sym e, ap test (sym e) ∙ is)
+  first false x y xs is h = inr h
+
+  pub found : (x : X) (xs : List X) → find test xs ≡ Some x → Among x xs × (test x ≡ true)
+  found x [] h = cc
+  found x (y ∷ xs) h = ⊎_elim (λ (l : (x ≡ y) × (test x ≡ true)). (inl l.0, l.1)) (λ r. let p = found x xs r in (inr p.0, p.1)) (first (test y) x y xs refl h)
+
+pub all_map : {X Y : Type 0} (test : Y → Bool) (f : X → Y) (xs : List X) → list_all test (map f xs) ≡ list_all (λ x. test (f x)) xs
+all_map test f [] = refl
+all_map test f (x ∷ xs) = ap (λ b. test (f x) && b) (all_map test f xs)
+
+-- ---- pieces
+
+module _ {X Y : Type 0} (f : X → List Y) where
+  pub unflat : (xs : List X) (y : Y) → Among y (flat_map f xs) → (x : X) × Among x xs × Among y (f x)
+  unflat [] y h = absurd h
+  unflat (z ∷ xs) y h = ⊎_elim (λ here. (z, inl refl, here)) (λ later. let p = unflat xs y later in (p.0, inr p.1, p.2)) (cases y (f z) (flat_map f xs) h)
+
+-- the piece in which an item stands
+pub record Piece {X Y : Type 0} (f : ℕ → X → List Y) (xs : List X) (n : ℕ) (y : Y) : Type 0 where
+  pub place : ℕ
+  pub item : X
+  pub at : slice_get xs place ≡ Some item
+  pub among : Among y (f (n + place) item)
+
+module _ {X Y : Type 0} (f : ℕ → X → List Y) where
+  pub piece : (n : ℕ) (xs : List X) (y : Y) → Among y (from n f xs) → Piece f xs n y
+  piece n [] y h = absurd h
+  piece n (x ∷ xs) y h = ⊎_elim
+      (λ here. let e : n ≡ n + 0 = omega arith in record { place = 0; item = x; at = refl; among = subst (λ m. Among y (f m x)) e here })
+      (λ later. let p = piece (n + 1) xs y later in let e : n + 1 + p.place ≡ n + suc p.place = omega arith in record { place = suc p.place; item = p.item; at = p.at; among = subst (λ m. Among y (f m p.item)) e p.among })
+      (cases y (f n x) (from (n + 1) f xs) h)
+
+  pub in_piece : (n : ℕ) (xs : List X) (k : ℕ) (x : X) (y : Y) → slice_get xs k ≡ Some x → Among y (f (n + k) x) → Among y (from n f xs)
+  in_piece n [] k x y at h = cc
+  in_piece n (z ∷ xs) zero x y at h =
+      let is : x ≡ z = cc in
+      let e : n + 0 ≡ n = omega arith in
+      left y (f n z) (from (n + 1) f xs) (subst (λ w. Among y (f n w)) is (subst (λ m. Among y (f m x)) e h))
+  in_piece n (z ∷ xs) (suc k) x y at h =
+      let e : n + suc k ≡ n + 1 + k = omega arith in
+      right y (f n z) (from (n + 1) f xs) (in_piece (n + 1) xs k x y at (subst (λ m. Among y (f m x)) e h))
+
+  -- those from the first position on
+  pub pieces : (xs : List X) (y : Y) → Among y (from 0 f xs) → (k : ℕ) × (x : X) × (slice_get xs k ≡ Some x) × Among y (f k x)
+  pieces xs y h =
+      let p = piece 0 xs y h in
+      let e : 0 + p.place ≡ p.place = omega arith in
+      (p.place, p.item, p.at, subst (λ m. Among y (f m p.item)) e p.among)
+
+  pub in_pieces : (xs : List X) (k : ℕ) (x : X) (y : Y) → slice_get xs k ≡ Some x → Among y (f k x) → Among y (from 0 f xs)
+  in_pieces xs k x y at h =
+      let e : k ≡ 0 + k = omega arith in
+      in_piece 0 xs k x y at (subst (λ m. Among y (f m x)) e h)
+
+pub map_from : {X Y Z : Type 0} (g : Y → Z) (f : ℕ → X → List Y) (n : ℕ) (xs : List X) → map g (from n f xs) ≡ from n (λ i x. map g (f i x)) xs
+map_from g f n [] = refl
+map_from g f n (x ∷ xs) = map-append g (f n x) (from (n + 1) f xs) ∙ ap (λ l. map g (f n x) ++ l) (map_from g f (n + 1) xs)
+
+pub from_same : {X Y : Type 0} (f g : ℕ → X → List Y) (n : ℕ) (xs : List X) → ((i : ℕ) (x : X) → f i x ≡ g i x) → from n f xs ≡ from n g xs
+from_same f g n [] same = refl
+from_same f g n (x ∷ xs) same =
+    let here : f n x ≡ g n x = same n x in
+    let rest : from (n + 1) f xs ≡ from (n + 1) g xs = from_same f g (n + 1) xs same in
+    (λ i. here i ++ rest i)
+
+-- ---- numbers
+
+pub position_in : (k i n : ℕ) → Among k (positions i n) → (i ≤ k) × (k < i + n)
+position_in k i zero h = absurd h
+position_in k i (suc n) (inl e) = (omega arith, omega arith)
+position_in k i (suc n) (inr h) = let r = position_in k (i + 1) n h in let low = r.0 in let high = r.1 in (omega arith, omega arith)
+
+pub in_positions : (k i n : ℕ) → i ≤ k → k < i + n → Among k (positions i n)
+in_positions k i zero low high = absurd (omega arith)
+in_positions k i (suc n) low high = ⊎_elim (λ e. inl e) (λ (other : k ≡ i → ⊥). inr (in_positions k (i + 1) n (omega arith) (omega arith))) (cases_eq k i)
+
+-- the position of what a test finds
+module _ {X : Type 0} (test : X → Bool) where
+  found_first : (b : Bool) (n : ℕ) (x y : X) (xs : List X) → test y ≡ b → (Among x xs → (k : ℕ) × (z : X) × (position_from test (n + 1) xs ≡ Some (n + 1 + k)) × (slice_get xs k ≡ Some z) × (test z ≡ true)) → (x ≡ y) ⊎ Among x xs → test x ≡ true
+      → (k : ℕ) × (z : X) × (cond b (Some n) (position_from test (n + 1) xs) ≡ Some (n + k)) × (slice_get (y ∷ xs) k ≡ Some z) × (test z ≡ true)
+  found_first true n x y xs is later h passes = (0, y, ap (λ k. Some k) (omega arith), refl, is)
+  found_first false n x y xs is later (inl e) passes = absurd (true≢false (sym passes ∙ ap test e ∙ is))
+  found_first false n x y xs is later (inr h) passes =
+      let r = later h in
+      let e : n + 1 + r.0 ≡ n + suc r.0 = omega arith in
+      (suc r.0, r.1, r.2 ∙ ap (λ k. Some k) e, r.3, r.4)
+
+  pub position_found : (n : ℕ) (x : X) (xs : List X) → Among x xs → test x ≡ true → (k : ℕ) × (z : X) × (position_from test n xs ≡ Some (n + k)) × (slice_get xs k ≡ Some z) × (test z ≡ true)
+  position_found n x [] h passes = absurd h
+  position_found n x (y ∷ xs) h passes = found_first (test y) n x y xs refl (λ later. position_found (n + 1) x xs later passes) h passes
+
+-- ---- optional values
+
+pub and_then_some : {X Y : Type 0} (g : X → Option Y) (o : Option X) (y : Y) → option_and_then g o ≡ Some y → (x : X) × (o ≡ Some x) × (g x ≡ Some y)
+and_then_some g None y h = cc
+and_then_some g (Some x) y h = (x, refl, h)
+
+pub map_some : {X Y : Type 0} (g : X → Y) (o : Option X) (y : Y) → option_map g o ≡ Some y → (x : X) × (o ≡ Some x) × (g x ≡ y)
+map_some g None y h = cc
+map_some g (Some x) y h = (x, refl, cc)

@@ -1,0 +1,4 @@
+pub mod Appending
+pub mod Words
+pub mod ShortLines
+pub mod ShortNames

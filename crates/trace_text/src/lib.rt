@@ -1,0 +1,15 @@
+//! Traces: the line of each entry, and the lines that stand between entries.
+//!
+//! A line is written into a `LineBuf` of 2,048 bytes. No line of a sound plan is longer, so it always fits.
+#![tactic(auto)]
+
+mod actors;
+mod deeds;
+mod fields;
+mod lines;
+mod names;
+
+pub use lines::{header, idle_line, run_line, unsettled_line, write_entry};
+
+#[cfg(test)]
+mod tests;

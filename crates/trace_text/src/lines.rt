@@ -1,0 +1,64 @@
+//! The lines of a trace.
+
+ghost use Rattle.std.specs.Prelude.{◌≡◌, []};
+ghost use Rattle.bus_semantics.specs.declared.script.Mapping.{Mapping};
+ghost use Rattle.bus_semantics.specs.Plan.{Plan, plan_of};
+ghost use Rattle.bus_semantics.specs.Run.{idle, run_begins, unsettled};
+ghost use Rattle.bus_semantics.specs.Sound.{IsSound};
+ghost use Rattle.bus_semantics.specs.Spelling.{closing_text, entry_text, header, item_text};
+ghost use Rattle.trace_text.specs.Appending.{Appends};
+ghost use Rattle.trace_text.specs.Short.{IsShort};
+
+use crate::actors::write_actor;
+use crate::deeds::write_deed;
+use crate::fields::write_text;
+use bus_semantics::{BusPlan, Entry};
+use rte_text::LineBuf;
+
+/// The first line of a trace of version 1.
+pub fn header() -> &'static [u8]
+    ensures { result.now ≡ header }
+{
+    b"rte-trace 1\n"
+}
+
+/// The line with which a run line begins.
+pub fn run_line() -> &'static [u8]
+    ensures { (p : Plan) → result.now ≡ item_text p run_begins }
+{
+    b"run\n"
+}
+
+/// The line that closes a run line at rest, with no activation running.
+pub fn idle_line() -> &'static [u8]
+    ensures { result.now ≡ closing_text idle }
+{
+    b"idle\n"
+}
+
+/// The line that closes a run line within which the entries that may be made were made.
+pub fn unsettled_line() -> &'static [u8]
+    ensures { result.now ≡ closing_text unsettled }
+{
+    b"unsettled\n"
+}
+
+/// Writes the line of the entry.
+pub fn write_line(p: &BusPlan, e: &Entry, out: &mut LineBuf)
+    ensures text { Appends out.old out.new (entry_text (plan_of p.now) e.now) }
+    ensures short { IsShort e.now.deed }
+{
+    write_actor(p, e.actor, out);
+    write_text(b" ", out);
+    write_deed(p, &e.deed, out);
+    write_text(b"\n", out);
+}
+
+/// Writes the line of the entry, its newline included, into an empty line. It takes no memory.
+pub fn write_entry(p: &BusPlan, e: &Entry, out: &mut LineBuf)
+    requires sound { (m : Mapping) × IsSound (plan_of p.now) m }
+    requires empty { out.old ≡ [] }
+    ensures { out.new ≡ entry_text (plan_of p.now) e.now }
+{
+    write_line(p, e, out);
+}
