@@ -3,3 +3,4 @@ pub mod Going
 pub mod Stepping
 pub mod Turning
 pub mod NewNodes
+pub mod Ending

@@ -7,6 +7,7 @@ mod pass;
 mod step;
 
 pub use node::Node;
+pub use pass::serial_pass;
 
 /// There was no memory for what a call makes.
 pub type Memory = std::alloc::AllocError;
