@@ -6,6 +6,7 @@ use Rattle.std.proofs.lemmas.Bool.Decides.{Decides-ltb}
 use Rattle.std.specs.Cmp.{unsigned_Decides}
 use Rattle.std.specs.List.{slice_get, list_all}
 use Rattle.std.proofs.lemmas.List.{length-set}
+use Rattle.std.proofs.lemmas.Option.{slice_get_within}
 use Rattle.std.proofs.lemmas.List.Folds.{list_all-append}
 use Rattle.bus_semantics.specs.declared.entries.Stamped.{Stamped}
 use Rattle.bus_semantics.specs.declared.script.Mapping.{Mapping}
@@ -18,7 +19,7 @@ use Rattle.core_turn.specs.Cores.{CoreState}
 use Rattle.core_turn.specs.Ready.{IsReady}
 use Rattle.core_runtime.specs.After.{is_within, are_within}
 use Rattle.core_runtime.specs.Nodes.{HasRoom, HaveRoom}
-use Rattle.core_runtime.specs.Turns.{GoesOn, AreReady, NothingOf, Makes, Rests, IsStep, Made, Nothing}
+use Rattle.core_runtime.specs.Turns.{GoesOn, AreReady, NothingOf, NothingMayCome, Makes, Rests, IsStep, Made}
 use Rattle.core_runtime.proofs.Going.{goes_then}
 use Rattle.core_runtime.proofs.Places.{Placed, here, there, placed}
 
@@ -41,7 +42,7 @@ stamps_on entries s counted stamp = let place : s.stamp ≡ 0 + length entries =
 within_on : (entries : List Stamped) (s : Stamped) → are_within entries ≡ true → is_within s ≡ true → are_within (entries ++ s ∷ []) ≡ true
 within_on entries s all one = list_all-append is_within entries (s ∷ []) ∙ ap (λ b. b && (is_within s && true)) all ∙ ap (λ b. b && true) one
 
-set_found : {X : Type 0} (xs : List X) (i : ℕ) (x : X) → slice_get xs i ≡ Some x → set xs i x ≡ xs
+pub set_found : {X : Type 0} (xs : List X) (i : ℕ) (x : X) → slice_get xs i ≡ Some x → set xs i x ≡ xs
 set_found [] i x e = refl
 set_found (y ∷ xs) zero x e = let same : y ≡ x = cc in ap (λ z. z ∷ xs) (sym same)
 set_found (y ∷ xs) (suc i) x e = ap (λ ys. y ∷ ys) (set_found xs i x e)
@@ -156,3 +157,27 @@ module _ (p : Plan) (t : TaskSet) (number : ℕ) (cores now : List CoreState) (o
         where
           some_same : {x y : CoreState} → Some x ≡ Some y → x ≡ y
           some_same e = cc
+
+-- ---- a core alone
+
+-- one core, of which nothing may come
+pub alone_rests : (p : Plan) (t : TaskSet) (now : List CoreState) (old new : CoreState) (before after : Plain) (entries all : List Stamped) → length now ≡ 1 → slice_get now 0 ≡ Some old → Rests p t old new before after entries all
+    → NothingMayCome p t (set now 0 new) after.objects
+alone_rests p t now old new before after entries all one is rests = λ i c found. of_place i c (placed now 0 new i c found)
+  where
+    here_is : NothingOf p t after.objects new
+    here_is = subst (NothingOf p t after.objects) (sym rests.core) (subst (λ os. NothingOf p t os old) (sym rests.objects) rests.none)
+
+    of_place : (i : ℕ) (c : CoreState) → Placed CoreState now 0 new i c → NothingOf p t after.objects c
+    of_place i c (here place same) = subst (NothingOf p t after.objects) (sym same) here_is
+    of_place i c (there other found) =
+        let within : i < length now = slice_get_within now i c found in
+        let only : i ≡ 0 = omega (arith, one) in
+        absurd (other only)
+
+pub longer_by_one : (entries all : List Stamped) (s : Stamped) (n : ℕ) → length entries ≡ n → all ≡ entries ++ s ∷ [] → length all ≡ n + 1
+longer_by_one entries all s n count added = omega (arith, count, ap length added, longer_list entries s)
+  where
+    longer_list : (es : List Stamped) (x : Stamped) → length (es ++ x ∷ []) ≡ length es + 1
+    longer_list [] x = refl
+    longer_list (e ∷ es) x = omega (arith, longer_list es x)

@@ -83,3 +83,11 @@ pub record Nothing (p : Plan) (t : TaskSet) (cores now : List CoreState) (object
 pub record TurnsGiven (p : Plan) (t : TaskSet) (cores now : List CoreState) (objects later : List Object) (entries : List Stamped) : Type 0 where
   pub made : Made p t cores now objects later entries
   pub rest : entries ≡ [] → Nothing p t cores now objects later
+
+-- they made the entries since some cores and objects, which were ready for a mapping
+pub record IsUnderWay (p : Plan) (t : TaskSet) (now : List CoreState) (later : List Object) (entries : List Stamped) : Type 0 where
+  pub cores : List CoreState
+  pub objects : List Object
+  pub mapping : Mapping
+  pub ready : AreReady p mapping t cores
+  pub made : Made p t cores now objects later entries

@@ -1,9 +1,12 @@
 //! The node: a plan with its mapping, its cores and its objects, run by one thread.
 #![tactic(auto)]
 
+mod alone;
+mod lap;
 mod making;
 mod node;
 mod pass;
+mod stay;
 mod step;
 
 pub use node::Node;
