@@ -5,3 +5,4 @@ pub mod Turning
 pub mod NewNodes
 pub mod Ending
 pub mod Staying
+pub mod SameNodes

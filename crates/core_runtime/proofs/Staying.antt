@@ -1,5 +1,5 @@
 -- How many entries the cores of a round may still make.
-use Rattle.std.proofs.Common.{◌≡◌, ◌≤◌, ◌+◌, ◌*◌, ℕ, zero, suc, refl, sym, ◌∙◌, ap, subst, arith, List, [], ◌∷◌, length, set, Some}
+use Rattle.std.proofs.Common.{◌≡◌, ◌≤◌, ◌+◌, ◌*◌, ℕ, zero, suc, refl, sym, ◌∙◌, ap, subst, arith, List, [], ◌∷◌, ◌++◌, length, set, Some}
 use Rattle.std.specs.List.{slice_get}
 use Rattle.core_runtime.specs.declared.stay.Stay.{Stay}
 use Rattle.core_runtime.specs.Stays.{total, AreBounded}
@@ -35,3 +35,13 @@ set_bounded stays i new bounded one = λ j s found. of_place j s (placed stays i
     of_place : (j : ℕ) (s : Stay) → Placed Stay stays i new j s → s.made ≤ 1024
     of_place j s (here place same) = subst (λ (x : Stay). x.made ≤ 1024) (sym same) one
     of_place j s (there other found) = bounded j s found
+
+pub total_more : (stays : List Stay) (s : Stay) → total (stays ++ s ∷ []) ≡ total stays + s.made
+total_more [] s = omega arith
+total_more (x ∷ stays) s = let more : total (stays ++ s ∷ []) ≡ total stays + s.made = total_more stays s in omega (arith, more)
+
+pub more_bounded : (stays : List Stay) (s : Stay) → AreBounded stays → s.made ≤ 1024 → AreBounded (stays ++ s ∷ [])
+more_bounded [] s bounded one zero x found = let same : s ≡ x = cc in subst (λ (y : Stay). y.made ≤ 1024) same one
+more_bounded [] s bounded one (suc i) x found = absurd (cc found)
+more_bounded (y ∷ stays) s bounded one zero x found = bounded 0 x found
+more_bounded (y ∷ stays) s bounded one (suc i) x found = more_bounded stays s (λ j z at. bounded (suc j) z at) one i x found

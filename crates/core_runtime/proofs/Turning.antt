@@ -181,3 +181,14 @@ longer_by_one entries all s n count added = omega (arith, count, ap length added
     longer_list : (es : List Stamped) (x : Stamped) → length (es ++ x ∷ []) ≡ length es + 1
     longer_list [] x = refl
     longer_list (e ∷ es) x = omega (arith, longer_list es x)
+
+-- ---- the same of equal things
+
+pub made_nothing : (p : Plan) (t : TaskSet) (cores : List CoreState) (objects : List Object) → HaveRoom cores → Made p t cores cores objects objects []
+made_nothing p t cores objects room = record { count = refl; room = room; ready = λ m ready. ready; goes = λ m ready h lawful. lawful; within = refl; stamps = refl }
+
+pub made_as : (p : Plan) (t : TaskSet) (cores now now_is : List CoreState) (objects objects_are later later_is : List Object) (entries entries_are : List Stamped) → now_is ≡ now → objects_are ≡ objects → later_is ≡ later → entries_are ≡ entries
+    → Made p t cores now objects later entries → Made p t cores now_is objects_are later_is entries_are
+made_as p t cores now now_is objects objects_are later later_is entries entries_are a b c d made =
+    subst (λ es. Made p t cores now_is objects_are later_is es) (sym d)
+    (subst (λ os. Made p t cores now_is objects_are os entries) (sym c) (subst (λ os. Made p t cores now_is os later entries) (sym b) (subst (λ cs. Made p t cores cs objects later entries) (sym a) made)))

@@ -61,3 +61,12 @@ pub record IsNewCore (m : Mapping) (t : TaskSet) (number : ℕ) (c : CoreState) 
 -- such cores, each at its number
 abbrev pub AreNewCores : Mapping → TaskSet → List CoreState → Type 0
 AreNewCores m t cores = (i : ℕ) (c : CoreState) → slice_get cores i ≡ Some c → IsNewCore m t i c
+
+-- the same node, but for how many entries it has room for
+pub record IsSameNode (old new : NodeState) : Type 0 where
+  pub plan : new.plan ≡ old.plan
+  pub mapping : new.mapping ≡ old.mapping
+  pub bodies : new.bodies ≡ old.bodies
+  pub cores : new.cores ≡ old.cores
+  pub objects : new.objects ≡ old.objects
+  pub entries : new.entries ≡ old.entries

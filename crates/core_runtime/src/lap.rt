@@ -99,3 +99,37 @@ pub(crate) fn lap<G: Gate>(
         );
     }
 }
+
+/// Cores make turns, lap by lap, until a lap makes no entry: then each core has left, or nothing may come.
+pub(crate) fn go_together<G: Gate>(
+    p: &BusPlan,
+    t: &TaskSet,
+    cores: &mut Vec<Core>,
+    stays: &mut Vec<Stay>,
+    b: &mut PlainBench,
+    entries: &mut Vec<Stamped>,
+    gate: &G,
+)
+    requires cores { length cores.old.items ≤ 8 }
+    requires so_far { IsUnderWay (plan_of p.now) t.now cores.old.items b.old.objects entries.old.items }
+    requires stays { length stays.old.items ≡ length cores.old.items }
+    requires bounded { AreBounded stays.old.items }
+    requires made { length entries.old.items ≡ total stays.old.items }
+    requires bench_room { 1024 * length cores.old.items ≤ b.old.room + length entries.old.items }
+    requires room { 1024 * length cores.old.items ≤ vec_capacity entries.old }
+    requires next { b.old.next ≡ length entries.old.items }
+    requires plan { plan_of b.old.plan ≡ plan_of p.now }
+    requires bodies { AsksAsPlanned (plan_of p.now) t.now }
+    ensures capacity { vec_capacity entries.new ≡ vec_capacity entries.old }
+    ensures plan { plan_of b.new.plan ≡ plan_of b.old.plan }
+    ensures all { (start : List CoreState) (objects : List Object) → Made (plan_of p.now) t.now start cores.old.items objects b.old.objects entries.old.items → Made (plan_of p.now) t.now start cores.new.items objects b.new.objects entries.new.items }
+{
+    // A round has at most 8,192 entries, so at most so many laps make one.
+    for laps in 0..=8192u32 {
+        let before = entries.len();
+        lap(p, t, cores, stays, b, entries, gate);
+        if entries.len() == before {
+            return;
+        }
+    }
+}
