@@ -4,3 +4,4 @@ pub mod Stepping
 pub mod Turning
 pub mod NewNodes
 pub mod Ending
+pub mod Outside

@@ -1,6 +1,7 @@
 //! The node: a plan with its mapping, its cores and its objects, run by one thread.
 #![tactic(auto)]
 
+mod environment;
 mod making;
 mod node;
 mod pass;
