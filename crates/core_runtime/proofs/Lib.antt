@@ -6,3 +6,4 @@ pub mod NewNodes
 pub mod Ending
 pub mod Staying
 pub mod SameNodes
+pub mod Outside

@@ -2,6 +2,7 @@
 #![tactic(auto)]
 
 mod alone;
+mod environment;
 mod lap;
 mod making;
 mod node;
