@@ -1,5 +1,5 @@
 -- A node after turns, and one of which nothing may come.
-use Rattle.std.proofs.Common.{◌≡◌, ◌<◌, ℕ, zero, suc, refl, sym, ◌∙◌, ap, subst, arith, List, [], ◌∷◌, length, Some}
+use Rattle.std.proofs.Common.{◌≡◌, ◌<◌, ℕ, zero, suc, refl, ◌∙◌, arith, List, [], ◌∷◌, length, Some}
 use Rattle.std.specs.List.{slice_get}
 use Rattle.bus_semantics.specs.declared.entries.Stamped.{Stamped}
 use Rattle.bus_semantics.specs.declared.script.Mapping.{Mapping}
@@ -19,7 +19,7 @@ use Rattle.core_turn.specs.Resting.{CoreRests, CoreIsFree}
 use Rattle.core_turn.specs.Turning.{NothingComes}
 use Rattle.core_runtime.specs.After.{after}
 use Rattle.core_runtime.specs.Nodes.{IsNode}
-use Rattle.core_runtime.specs.Turns.{NothingOf, NothingMayCome, Made}
+use Rattle.core_runtime.specs.Turns.{NothingMayCome, Made}
 
 pub one_there : {X : Type 0} (xs : List X) (n : ℕ) → n < length xs → (x : X) × (slice_get xs n ≡ Some x)
 one_there [] n below = absurd (omega arith)

@@ -1,8 +1,5 @@
 -- The same node, but for its room.
-use Rattle.std.proofs.Common.{◌≡◌, ◌⊎◌, inl, inr, sym, ◌∙◌, ap, subst, length, List}
-use Rattle.bus_semantics.specs.declared.entries.Stamped.{Stamped}
-use Rattle.bus_semantics.specs.declared.script.Mapping.{Mapping}
-use Rattle.bus_semantics.specs.Plan.{Plan}
+use Rattle.std.proofs.Common.{◌≡◌, sym, subst}
 use Rattle.bus_semantics.specs.History.{History}
 use Rattle.core_runtime.specs.Nodes.{NodeState, IsLawfulNode, IsSameNode}
 

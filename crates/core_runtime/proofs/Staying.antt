@@ -1,5 +1,5 @@
 -- How many entries the cores of a round may still make.
-use Rattle.std.proofs.Common.{◌≡◌, ◌≤◌, ◌+◌, ◌*◌, ℕ, zero, suc, refl, sym, ◌∙◌, ap, subst, arith, List, [], ◌∷◌, ◌++◌, length, set, Some}
+use Rattle.std.proofs.Common.{◌≡◌, ◌≤◌, ◌+◌, ◌*◌, ℕ, zero, suc, refl, sym, ap, subst, arith, List, [], ◌∷◌, ◌++◌, length, set, Some}
 use Rattle.std.specs.List.{slice_get}
 use Rattle.core_runtime.specs.declared.stay.Stay.{Stay}
 use Rattle.core_runtime.specs.Stays.{total, AreBounded}

@@ -1,5 +1,5 @@
 -- A turn over a plain bench, and then the core's trace cleared.
-use Rattle.std.proofs.Common.{◌≡◌, ◌<◌, ℕ, suc, refl, sym, ◌∙◌, ap, subst, ◌-◌, length, List, [], ◌∷◌, ◌++◌, set, Option, Some, None, true}
+use Rattle.std.proofs.Common.{◌≡◌, ℕ, refl, ◌∙◌, ap, ◌-◌, length, List, [], ◌∷◌, ◌++◌, set, Option, Some, None, true}
 use Rattle.std.specs.Prelude.{not}
 use Rattle.std.specs.List.{slice_get}
 use Rattle.bus_semantics.specs.declared.entries.Stamped.{Stamped}
@@ -8,7 +8,6 @@ use Rattle.bus_semantics.specs.declared.entries.Actor.TheVariants.{Act}
 use Rattle.bus_semantics.specs.declared.script.Mapping.{Mapping}
 use Rattle.bus_semantics.specs.Plan.{Plan}
 use Rattle.bus_semantics.specs.History.{History, is_environment}
-use Rattle.port_objects.specs.declared.object.Object.{Object}
 use Rattle.port_objects.specs.Benches.{Plain}
 use Rattle.task_machine.specs.declared.instr.TaskSet.{TaskSet}
 use Rattle.core_turn.specs.Cores.{CoreState}
@@ -16,8 +15,7 @@ use Rattle.core_turn.specs.Lawful.{IsLawful}
 use Rattle.core_turn.specs.Looking.{Told}
 use Rattle.core_turn.specs.Ready.{IsReady}
 use Rattle.core_turn.specs.Turning.{Steps, NothingComes}
-use Rattle.core_runtime.specs.After.{is_within}
-use Rattle.core_runtime.specs.Turns.{GoesOn, Makes, Rests}
+use Rattle.core_runtime.specs.Turns.{Makes, Rests}
 use Rattle.core_runtime.proofs.Going.{SameCore, same_ready, same_lawful}
 
 -- what a plain bench tells

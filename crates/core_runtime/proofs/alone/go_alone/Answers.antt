@@ -1,5 +1,4 @@
-use Rattle.std.proofs.Common.{◌≡◌, ◌<◌, ◌+◌, inr, true, length, sym, ◌∙◌, ap, arith}
-
+use Rattle.std.proofs.Common.{◌≡◌, ◌<◌, inr, true, length, ◌∙◌, arith}
 use Rattle.bus_semantics.specs.Plan.{plan_of}
 use Rattle.core_runtime.proofs.Places.{found_at}
 use Rattle.core_runtime.proofs.Turning.{made_on, step_next, step_room, alone_rests, longer_by_one}

@@ -1,4 +1,4 @@
-use Rattle.std.proofs.Common.{[], sym, ◌∙◌, arith}
+use Rattle.std.proofs.Common.{[], ◌∙◌, arith}
 use Rattle.core_runtime.proofs.Going.{SameCore, same_ready, same_stands}
 use Rattle.core_runtime.proofs.making.core_of.Goals as goal
 

@@ -1,4 +1,4 @@
-use Rattle.std.proofs.Common.{◌≡◌, ◌+◌, [], ◌∷◌, ◌++◌, length, sym, ◌∙◌, ap, subst, arith}
+use Rattle.std.proofs.Common.{sym, subst, arith}
 use Rattle.core_runtime.specs.Nodes.{AreNewCores}
 use Rattle.core_runtime.proofs.NewNodes.{one_more}
 use Rattle.core_runtime.proofs.making.cores_of.Goals as goal

@@ -1,8 +1,6 @@
-use Rattle.std.proofs.Common.{◌≡◌, ◌<◌, ◌≤◌, ◌+◌, length, get_or, sym, ◌∙◌, ap, arith, Some}
-use Rattle.std.specs.List.{slice_get}
-use Rattle.std.proofs.lemmas.Option.{slice_get-get_or, slice_get_within}
+use Rattle.std.proofs.Common.{◌<◌, length, ◌∙◌, arith}
+use Rattle.std.proofs.lemmas.Option.{slice_get_within}
 use Rattle.bus_semantics.specs.Plan.{plan_of}
-use Rattle.core_turn.specs.Cores.{CoreState}
 use Rattle.core_runtime.proofs.Places.{found_at}
 use Rattle.core_runtime.proofs.Turning.{step_on, step_next, step_few, step_room, quiet_on}
 use Rattle.core_runtime.proofs.pass.give_turns.Goals as goal

@@ -1,4 +1,4 @@
-use Rattle.std.proofs.Common.{◌≤◌, sym, ◌∙◌, ap, subst, arith}
+use Rattle.std.proofs.Common.{◌≤◌, sym, ap, subst, arith}
 use Rattle.core_runtime.specs.declared.stay.Stay.{Stay}
 use Rattle.core_runtime.specs.Stays.{AreBounded, total}
 use Rattle.core_runtime.proofs.Staying.{total_more, more_bounded}

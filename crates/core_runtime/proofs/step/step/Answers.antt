@@ -1,4 +1,4 @@
-use Rattle.std.proofs.Common.{◌≡◌, refl, sym, ◌∙◌, ap, subst, [], ◌∷◌, ◌++◌, Some}
+use Rattle.std.proofs.Common.{◌≡◌, refl, sym, ◌∙◌, ap, subst, [], ◌∷◌, ◌++◌}
 use Rattle.bus_semantics.specs.Plan.{plan_of}
 use Rattle.core_runtime.specs.Nodes.{HasRoom}
 use Rattle.core_runtime.proofs.Stepping.{makes, rests, last_is, both_some}

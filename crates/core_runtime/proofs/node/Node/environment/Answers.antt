@@ -28,8 +28,8 @@ pub unreachable-requires : goal.unreachable-requires
 unreachable-requires c =
     let fit = subst (λ (n : NodeState). wish_fits (plan_of n.plan) Env (wanted_of c.args.wish.now) ≡ true) (sym c.self.view_is) c.requires.fits in
     let ask =
-        may_ask (wanted_of c.args.wish.now) c.self.invariant fit c.in-Some.ensures
-        c.sound_plans_have_objects.ensures.touched c.index_mut.result.now c.index_mut.ensures.value c.self.invariant.history c.self.invariant.lawful in
+    may_ask (wanted_of c.args.wish.now) c.self.invariant fit c.in-Some.ensures
+    c.sound_plans_have_objects.ensures.touched c.index_mut.result.now c.index_mut.ensures.value c.self.invariant.history c.self.invariant.lawful in
     no_start (plan_of c.self.inside.plan) (wanted_of c.args.wish.now) fit
     (c.only_starts_wait.ensures (plan_of c.self.inside.plan) c.self.inside.mapping Env c.args.wish.now c.index_mut.result.now c.act.new.object _ _
     (touches_one (wanted_of c.args.wish.now) c.self.invariant fit c.in-Some.ensures) ask c.in-NotYet.ensures.lead)
