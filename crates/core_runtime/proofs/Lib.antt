@@ -1,0 +1,9 @@
+pub mod Places
+pub mod Going
+pub mod Stepping
+pub mod Turning
+pub mod NewNodes
+pub mod Ending
+pub mod Staying
+pub mod SameNodes
+pub mod Outside

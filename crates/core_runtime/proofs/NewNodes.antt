@@ -1,0 +1,48 @@
+-- New cores and new nodes.
+use Rattle.std.proofs.Common.{◌≡◌, ℕ, zero, suc, refl, sym, ◌∙◌, ap, subst, List, [], ◌∷◌, ◌++◌, length, Some}
+use Rattle.std.specs.List.{slice_get}
+use Rattle.bus_semantics.specs.declared.script.Mapping.{Mapping}
+use Rattle.bus_semantics.specs.Plan.{Plan}
+use Rattle.port_objects.specs.declared.object.Object.{Object}
+use Rattle.port_objects.specs.Objects.{kept_of}
+use Rattle.port_objects.specs.Standing.{Stands}
+use Rattle.task_machine.specs.declared.instr.TaskSet.{TaskSet}
+use Rattle.core_turn.specs.Cores.{CoreState}
+use Rattle.core_turn.specs.Lawful.{IsLawful}
+use Rattle.core_turn.specs.Plans.{IsBuilt}
+use Rattle.core_runtime.specs.Nodes.{AreNewCores, IsNewCore, HaveRoom}
+
+data Last (X : Type 0) (xs : List X) (y : X) (i : ℕ) (x : X) : Type 0 where
+  earlier : slice_get xs i ≡ Some x → Last X xs y i x
+  last : i ≡ length xs → x ≡ y → Last X xs y i x
+
+last_or : {X : Type 0} (xs : List X) (y : X) (i : ℕ) (x : X) → slice_get (xs ++ y ∷ []) i ≡ Some x → Last X xs y i x
+last_or [] y zero x e = last refl cc
+last_or [] y (suc i) x e = absurd (cc e)
+last_or (z ∷ xs) y zero x e = earlier e
+last_or (z ∷ xs) y (suc i) x e = deeper (last_or xs y i x e)
+  where
+    deeper : Last _ xs y i x → Last _ (z ∷ xs) y (suc i) x
+    deeper (earlier found) = earlier found
+    deeper (last at same) = last (ap suc at) same
+
+pub one_more : (m : Mapping) (t : TaskSet) (cores : List CoreState) (number : ℕ) (c : CoreState) → length cores ≡ number → AreNewCores m t cores → IsNewCore m t number c → AreNewCores m t (cores ++ c ∷ [])
+one_more m t cores number c count are new = λ i x found. of_place i x (last_or cores c i x found)
+  where
+    of_place : (i : ℕ) (x : CoreState) → Last CoreState cores c i x → IsNewCore m t i x
+    of_place i x (earlier found) = are i x found
+    of_place i x (last at same) = subst (λ n. IsNewCore m t n x) (sym (at ∙ count)) (subst (IsNewCore m t number) (sym same) new)
+
+module _ (p : Plan) (m : Mapping) (t : TaskSet) (cores : List CoreState) (objects : List Object) (built : IsBuilt p m) (are : AreNewCores m t cores)
+    (standing : (i : ℕ) (o : Object) → slice_get objects i ≡ Some o → Stands p i (kept_of o) []) where
+  pub new_lawful : IsLawful p m t cores objects []
+  new_lawful = record {
+    legal = tt;
+    stand = standing;
+    number = λ i c found. (are i c found).is_number;
+    ready = λ i c found. (are i c found).is_ready p built;
+    stands = λ i c found. (are i c found).stands p;
+  }
+
+  pub new_room : HaveRoom cores
+  new_room = λ i c found. (are i c found).has_room

@@ -1,0 +1,62 @@
+-- A turn over a plain bench, and then the core's trace cleared.
+use Rattle.std.proofs.Common.{◌≡◌, ℕ, refl, ◌∙◌, ap, ◌-◌, length, List, [], ◌∷◌, ◌++◌, set, Option, Some, None, true}
+use Rattle.std.specs.Prelude.{not}
+use Rattle.std.specs.List.{slice_get}
+use Rattle.bus_semantics.specs.declared.entries.Stamped.{Stamped}
+use Rattle.bus_semantics.specs.declared.entries.Actor.{Actor}
+use Rattle.bus_semantics.specs.declared.entries.Actor.TheVariants.{Act}
+use Rattle.bus_semantics.specs.declared.script.Mapping.{Mapping}
+use Rattle.bus_semantics.specs.Plan.{Plan}
+use Rattle.bus_semantics.specs.History.{History, is_environment}
+use Rattle.port_objects.specs.Benches.{Plain}
+use Rattle.task_machine.specs.declared.instr.TaskSet.{TaskSet}
+use Rattle.core_turn.specs.Cores.{CoreState}
+use Rattle.core_turn.specs.Lawful.{IsLawful}
+use Rattle.core_turn.specs.Looking.{Told}
+use Rattle.core_turn.specs.Ready.{IsReady}
+use Rattle.core_turn.specs.Turning.{Steps, NothingComes}
+use Rattle.core_runtime.specs.Turns.{Makes, Rests}
+use Rattle.core_runtime.proofs.Going.{SameCore, same_ready, same_lawful}
+
+-- what a plain bench tells
+abbrev pub told_by : Plain → Told
+told_by b = record { room = b.room; next = Some b.next; objects = Some b.objects; work = None }
+
+-- the last entry of a trace that was empty
+pub last_is : (xs old : List Stamped) (s : Stamped) (o : Option Stamped) → old ≡ [] → xs ≡ old ++ s ∷ [] → o ≡ slice_get xs (length xs - 1) → o ≡ Some s
+last_is xs old s o none is last = last ∙ ap (λ ys. slice_get ys (length ys - 1)) (is ∙ ap (λ ys. ys ++ s ∷ []) none)
+
+pub both_some : {X : Type 0} {x y : X} → Some x ≡ Some y → x ≡ y
+both_some e = cc
+
+module _ (p : Plan) (t : TaskSet) (old : CoreState) (before now : Plain) (entries : List Stamped) where
+  -- the law of turns, at these
+  abbrev pub KeepsLaw : (turned : CoreState) → Stamped → Type 0
+  KeepsLaw turned s = (m : Mapping) (cores : List CoreState) (i : ℕ) (h : History) → IsLawful p m t cores before.objects h → slice_get cores i ≡ Some old → IsReady p m t turned
+      → IsLawful p m t (set cores i turned) now.objects (s.entry ∷ h)
+
+  pub makes : (turned new : CoreState) (s : Stamped) (all : List Stamped) → Steps p t old turned (told_by before) (told_by now) s → SameCore turned new → all ≡ entries ++ s ∷ []
+      → ((m : Mapping) → IsReady p m t old → IsReady p m t turned) → KeepsLaw turned s → Makes p t old new before now entries all
+  makes turned new s all steps same added ready law = record {
+    made = s;
+    added = added;
+    within = within s.entry.actor steps.step.actor;
+    stamp = steps.next.0;
+    next = both_some steps.next.1;
+    room = steps.bench_room;
+    ready = λ m is. same_ready p m t turned new same (ready m is);
+    goes = λ m cores i found is h lawful. same_lawful p m t turned new same cores i old found now.objects (s.entry ∷ h) (law m cores i h lawful found (ready m is));
+  }
+    where
+      within : (a : Actor) → a ≡ Act steps.step.key → not (is_environment a) ≡ true
+      within a is = ap (λ x. not (is_environment x)) is
+
+  pub rests : (new : CoreState) → NothingComes p t old new (told_by before) (told_by now) → Rests p t old new before now entries entries
+  rests new nothing = record {
+    none = record { same = new; before = told_by before; now = told_by now; told = refl; nothing = nothing };
+    same = refl;
+    core = nothing.same;
+    objects = both_some nothing.objects.1;
+    next = both_some nothing.next;
+    room = nothing.room;
+  }

@@ -1,0 +1,19 @@
+use Rattle.std.proofs.Common.{[]}
+use Rattle.bus_semantics.specs.Plan.{plan_of}
+use Rattle.core_runtime.proofs.NewNodes.{new_lawful, new_room}
+use Rattle.core_runtime.proofs.node.Node.new.Goals as goal
+
+pub returns-clause-lawful : goal.returns-clause-lawful
+returns-clause-lawful c = new_lawful (plan_of c.args.p) c.args.m c.args.t c.in_ok-cores.cores.items c.in_ok-objects.objects.items c.requires.built c.in_ok-cores.ensures.cores c.in_ok-objects.ensures.standing
+
+pub invariant_of-result : goal.invariant_of-result
+invariant_of-result c = record {
+  built = c.requires.built;
+  bodies = c.requires.bodies;
+  counted = c.sound_plans_have_objects.ensures.asked (plan_of c.args.p) c.args.m c.requires.built.sound;
+  planned = c.in_ok-objects.ensures.planned;
+  cores_are = c.in_ok-cores.ensures.count;
+  room = new_room (plan_of c.args.p) c.args.m c.args.t c.in_ok-cores.cores.items c.in_ok-objects.objects.items c.requires.built c.in_ok-cores.ensures.cores c.in_ok-objects.ensures.standing;
+  history = [];
+  lawful = new_lawful (plan_of c.args.p) c.args.m c.args.t c.in_ok-cores.cores.items c.in_ok-objects.objects.items c.requires.built c.in_ok-cores.ensures.cores c.in_ok-objects.ensures.standing;
+}

@@ -1,0 +1,17 @@
+use Rattle.std.proofs.Common.{◌≡◌, ◌≤◌, [], length, ◌+◌}
+use Rattle.std.specs.Vec.{vec_capacity}
+use Rattle.bus_semantics.specs.Plan.{plan_of}
+use Rattle.core_runtime.specs.Turns.{Made}
+use Rattle.core_runtime.proofs.Turning.{SoFar}
+use Rattle.core_runtime.proofs.pass.give_turns.Given as goal
+
+abbrev pub invariant-loop-number : goal.invariant-loop-number
+invariant-loop-number l = record {
+  plan : plan_of l.b.plan ≡ plan_of l.initial.b.plan;
+  capacity : vec_capacity l.entries ≡ vec_capacity l.initial.entries;
+  few : length l.entries.items ≤ l.number;
+  room : l.b.room + length l.entries.items ≡ l.initial.b.room;
+  next : l.b.next ≡ length l.entries.items;
+  made : Made (plan_of l.p) l.t l.initial.cores.items l.cores.items l.initial.b.objects l.b.objects l.entries.items;
+  rest : l.entries.items ≡ [] → SoFar (plan_of l.p) l.t l.number l.initial.cores.items l.cores.items l.initial.b.objects l.b.objects;
+}

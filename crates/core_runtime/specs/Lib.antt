@@ -1,0 +1,4 @@
+pub mod After
+pub mod Nodes
+pub mod Turns
+pub mod Stays

@@ -1,0 +1,93 @@
+-- What turns of cores over all objects make, one after the other.
+use Rattle.std.specs.Prelude.{◌≡◌, ℕ, suc, List, [], ◌∷◌, ◌++◌, length, set, slice_get, Bool, true, false, Some}
+use Rattle.bus_semantics.specs.declared.entries.Stamped.{Stamped}
+use Rattle.bus_semantics.specs.declared.script.Mapping.{Mapping}
+use Rattle.bus_semantics.specs.Interleaving.{stamps_count}
+use Rattle.bus_semantics.specs.Plan.{Plan}
+use Rattle.bus_semantics.specs.History.{History}
+use Rattle.port_objects.specs.declared.object.Object.{Object}
+use Rattle.port_objects.specs.Benches.{Plain}
+use Rattle.task_machine.specs.declared.instr.TaskSet.{TaskSet}
+use Rattle.core_turn.specs.Cores.{CoreState}
+use Rattle.core_turn.specs.Lawful.{IsLawful}
+use Rattle.core_turn.specs.Looking.{Told}
+use Rattle.core_turn.specs.Ready.{IsReady}
+use Rattle.core_turn.specs.Turning.{NothingComes}
+use Rattle.core_runtime.specs.After.{after, is_within, are_within}
+use Rattle.core_runtime.specs.Nodes.{HaveRoom}
+
+-- The cores and the objects after further entries: for each history for which they were lawful they are lawful for it and these
+-- entries.
+abbrev pub GoesOn : Plan → Mapping → TaskSet → (cores now : List CoreState) → (objects later : List Object) → List Stamped → Type 0
+GoesOn p m t cores now objects later added = (h : History) → IsLawful p m t cores objects h → IsLawful p m t now later (after added h)
+
+abbrev pub AreReady : Plan → Mapping → TaskSet → List CoreState → Type 0
+AreReady p m t cores = (i : ℕ) (c : CoreState) → slice_get cores i ≡ Some c → IsReady p m t c
+
+-- a turn of the core over these objects makes nothing
+pub record NothingOf (p : Plan) (t : TaskSet) (objects : List Object) (c : CoreState) : Type 0 where
+  pub same : CoreState
+  pub before : Told
+  pub now : Told
+  pub told : before.objects ≡ Some objects
+  pub nothing : NothingComes p t c same before now
+
+-- so it is of each core
+
+abbrev pub NothingMayCome : Plan → TaskSet → List CoreState → List Object → Type 0
+NothingMayCome p t cores objects = (i : ℕ) (c : CoreState) → slice_get cores i ≡ Some c → NothingOf p t objects c
+
+-- ---- one turn
+
+-- a core made an entry, the last of all
+pub record Makes (p : Plan) (t : TaskSet) (old new : CoreState) (before now : Plain) (entries all : List Stamped) : Type 0 where
+  pub made : Stamped
+  pub added : all ≡ entries ++ made ∷ []
+  pub within : is_within made ≡ true
+  pub stamp : made.stamp ≡ before.next
+  pub next : now.next ≡ suc before.next
+  pub room : before.room ≡ suc now.room
+  pub ready : (m : Mapping) → IsReady p m t old → IsReady p m t new
+  pub goes : (m : Mapping) (cores : List CoreState) (i : ℕ) → slice_get cores i ≡ Some old → IsReady p m t old → GoesOn p m t cores (set cores i new) before.objects now.objects (made ∷ [])
+
+-- a core made nothing, since nothing of it may come
+pub record Rests (p : Plan) (t : TaskSet) (old new : CoreState) (before now : Plain) (entries all : List Stamped) : Type 0 where
+  pub none : NothingOf p t before.objects old
+  pub same : all ≡ entries
+  pub core : new ≡ old
+  pub objects : now.objects ≡ before.objects
+  pub next : now.next ≡ before.next
+  pub room : now.room ≡ before.room
+
+abbrev pub IsStep : Plan → TaskSet → (old new : CoreState) → (before now : Plain) → (entries all : List Stamped) → (made : Bool) → Type 0
+IsStep p t old new before now entries all true = Makes p t old new before now entries all
+IsStep p t old new before now entries all false = Rests p t old new before now entries all
+
+-- ---- turns one after the other
+
+-- what cores made from the first of these entries on, which stand in the order of stamps
+pub record Made (p : Plan) (t : TaskSet) (cores now : List CoreState) (objects later : List Object) (entries : List Stamped) : Type 0 where
+  pub count : length now ≡ length cores
+  pub room : HaveRoom now
+  pub ready : (m : Mapping) → AreReady p m t cores → AreReady p m t now
+  pub goes : (m : Mapping) → AreReady p m t cores → GoesOn p m t cores now objects later entries
+  pub within : are_within entries ≡ true
+  pub stamps : stamps_count entries ≡ true
+
+-- where there is no entry, nothing changed, and nothing may come
+pub record Nothing (p : Plan) (t : TaskSet) (cores now : List CoreState) (objects later : List Object) : Type 0 where
+  pub cores_same : now ≡ cores
+  pub objects_same : later ≡ objects
+  pub none : NothingMayCome p t cores objects
+
+pub record TurnsGiven (p : Plan) (t : TaskSet) (cores now : List CoreState) (objects later : List Object) (entries : List Stamped) : Type 0 where
+  pub made : Made p t cores now objects later entries
+  pub rest : entries ≡ [] → Nothing p t cores now objects later
+
+-- they made the entries since some cores and objects, which were ready for a mapping
+pub record IsUnderWay (p : Plan) (t : TaskSet) (now : List CoreState) (later : List Object) (entries : List Stamped) : Type 0 where
+  pub cores : List CoreState
+  pub objects : List Object
+  pub mapping : Mapping
+  pub ready : AreReady p mapping t cores
+  pub made : Made p t cores now objects later entries

@@ -1,0 +1,19 @@
+//! The node: a plan with its mapping, its cores and its objects, run by one thread.
+#![tactic(auto)]
+
+mod alone;
+mod environment;
+mod lap;
+mod making;
+mod node;
+mod pass;
+mod round;
+mod stay;
+mod step;
+
+pub use node::Node;
+pub use pass::serial_pass;
+pub use round::{RoundRun, run_round};
+
+/// There was no memory for what a call makes.
+pub type Memory = std::alloc::AllocError;
