@@ -32,7 +32,6 @@ use Rattle.bus_semantics.specs.State.{same_kind}
 use Rattle.component_rules.specs.Signatures.{access_sig}
 use Rattle.mapping_rules.specs.Mapped.{is_mapped}
 use Rattle.mapping_rules.specs.Rules.{is_call, may_be_direct, serves_outside, keeps_direct}
-use Rattle.plan_numbers.specs.declared.parts.Part.TheVariants.{Events}
 use Rattle.plan_numbers.specs.declared.site.Site.{Site}
 use Rattle.plan_numbers.specs.declared.site.SiteKind.TheVariants.{Server}
 use Rattle.plan_numbers.specs.Joined.{end_at, provider_of, same_end}
@@ -47,7 +46,7 @@ use Rattle.plan_services.specs.Callings.{callings, operations_at, operation_coun
 use Rattle.plan_services.specs.Services.{is_numbered_mapped, point_of, points, servers, started_by}
 use Rattle.planned_descriptions.specs.Whole.{IsWhole}
 use Rattle.sound_behavior.proofs.Lists.{clash, both, both_of, not_true, some_same, not_some, option_same, all_if, all_at, every_if, any_if, looked, there_at, map_at, left_true, right_true, append_at, Later}
-use Rattle.sound_behavior.proofs.Parts.{number_there, runnable_there}
+use Rattle.sound_behavior.proofs.Parts.{number_there, runnable_there, event_count}
 use Rattle.sound_behavior.proofs.Rules.{planned, plan_is, direct_kept}
 use Rattle.sound_behavior.proofs.Serving.{ServerAt, server_at_number, server_site}
 use Rattle.sound_behavior.proofs.Servers.{started_is, runnable_of_event}
@@ -92,7 +91,7 @@ module _ (d : Description) (f : Flat) (p : BusPlan) (m : Mapping) (w : IsWhole d
 
   module _ (es : List ElemPlan) (s : ℕ) (v : ServerPlan) (x : ServerAt d f p m w s v) where
     unmapped : is_numbered_mapped d f (pair_number (events_of d f) (x.i, x.by.place)) ≡ false → is_mapped d f (x.i, x.by.place) ≡ false
-    unmapped e = sym (ap (λ o. option_map_or (is_mapped d f) o false) (number_there d f Events x.i x.c x.home x.by.place (slice_get_within x.c.behavior.events x.by.place x.by.event x.by.there))) ∙ e
+    unmapped e = sym (ap (λ o. option_map_or (is_mapped d f) o false) (number_there d f event_count x.i x.c x.home x.by.place (slice_get_within x.c.behavior.events x.by.place x.by.event x.by.there))) ∙ e
 
     kept : is_mapped d f (x.i, x.by.place) ≡ false → (option_map_or may_be_direct (slice_get x.c.behavior.runnables x.by.event.runnable) false && not (serves_outside f x.i x.k x.n)) ≡ true
     kept e =

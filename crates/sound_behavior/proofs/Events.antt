@@ -35,7 +35,6 @@ use Rattle.component_rules.specs.Items.{item_at}
 use Rattle.event_mapping.specs.Planned.{plan_of as whole_plan}
 use Rattle.event_mapping.specs.Rules.{queue_lengths}
 use Rattle.plan_elements.specs.Elements.{elem_seen, elements, policy_kind}
-use Rattle.plan_numbers.specs.declared.parts.Part.TheVariants.{Runnables}
 use Rattle.plan_numbers.specs.Keys.{pair_number}
 use Rattle.plan_numbers.specs.Parts.{events_of, runnables_of}
 use Rattle.plan_ports.specs.Things.{element_number, machine_for, machine_number, mode_port_number, server_number}
@@ -45,7 +44,7 @@ use Rattle.plan_services.specs.Services.{server_at, servers, started_by}
 use Rattle.sound_descriptions.specs.WellFormed as formed
 use Rattle.planned_descriptions.specs.Whole.{IsWhole}
 use Rattle.sound_behavior.proofs.Lists.{both, both_of, or_false, number_same, same_test, same_option, every_if, any_if, looked, left_true, right_true}
-use Rattle.sound_behavior.proofs.Parts.{Home, same_home, EventAt, event_at, runnable_there, numbers_apart}
+use Rattle.sound_behavior.proofs.Parts.{Home, same_home, EventAt, event_at, runnable_there, numbers_apart, runnable_count}
 use Rattle.sound_behavior.proofs.Rules.{planned, plan_is, kind_kept, disabling_kept, return_kept, event_formed, of_size}
 use Rattle.sound_behavior.proofs.Sites.{ports_at_home}
 use Rattle.sound_behavior.proofs.Items.{item_there, data_required, modes_provided, modes_required, modes_item}
@@ -186,7 +185,7 @@ module _ (d : Description) (f : Flat) (p : BusPlan) (m : Mapping) (w : IsWhole d
         by false differs = right_true (a == e) true refl
         by true same =
             let number : pair_number (runnables_of d f) (y.i, y.event.runnable) ≡ pair_number (runnables_of d f) (x.i, x.event.runnable) = ap (λ (t : EventPlan). t.runnable) (sym y.is) ∙ number_same u.runnable started same in
-            let apart = numbers_apart d f Runnables y.i x.i y.c x.c y.home x.home y.event.runnable x.event.runnable (starts_within d f p m w es y.i y.c y.home y.m y.event y.there) (starts_within d f p m w es x.i x.c x.home x.m x.event x.there) number in
+            let apart = numbers_apart d f runnable_count y.i x.i y.c x.c y.home x.home y.event.runnable x.event.runnable (starts_within d f p m w es y.i y.c y.home y.m y.event y.there) (starts_within d f p m w es x.i x.c x.home x.m x.event x.there) number in
             let comp : y.c ≡ x.c = same_home d f x.i y.c x.c (subst (λ j. Home d f j y.c) apart.0 y.home) x.home in
             let there : slice_get x.c.behavior.events y.m ≡ Some y.event = subst (λ (z : Component). slice_get z.behavior.events y.m ≡ Some y.event) comp y.there in
             let place : y.m ≡ x.m = alone d f p m w x.i x.c x.home x.m x.event k n x.there is y.m y.event there apart.1 in

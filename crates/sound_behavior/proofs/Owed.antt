@@ -28,7 +28,6 @@ use Rattle.bus_semantics.specs.SoundPlan.{is_in, same_numbers}
 use Rattle.mapping_rules.specs.Mapped.{named_by, names, mapped_as, is_mapped}
 use Rattle.mapping_rules.specs.Rules.{is_mapped_well}
 use Rattle.mapping_rules.specs.Tasks.{by_position, number_of, events_in, task_at, mapping_of}
-use Rattle.plan_numbers.specs.declared.parts.Part.TheVariants.{Events}
 use Rattle.plan_numbers.specs.Keys.{same_pair, pair_number}
 use Rattle.plan_numbers.specs.Lists.{from}
 use Rattle.plan_numbers.specs.Parts.{events_of}
@@ -41,7 +40,7 @@ use Rattle.sound_descriptions.specs.WellFormed as formed
 use Rattle.planned_descriptions.specs.Whole.{IsWhole}
 use Rattle.sound_behavior.proofs.Lists.{both, both_of, number_same, same_test, all_if, all_at, every_if, looked, there_at, mapped, left_true, right_true}
 use Rattle.sound_behavior.proofs.Members.{position_at_plan, numbers_equal, names_apart, count_append, count_flat, added_same, added_kept, added_order, spread, spread_all}
-use Rattle.sound_behavior.proofs.Parts.{one_at, OneAt, length-one_each, EventAt, event_at, event_there, numbers_apart, number_there, same_pairs}
+use Rattle.sound_behavior.proofs.Parts.{one_at, OneAt, length-one_each, EventAt, event_at, event_there, numbers_apart, number_there, same_pairs, event_count}
 use Rattle.sound_behavior.proofs.Rules.{planned, plan_is, mapped_kept}
 use Rattle.sound_behavior.proofs.Serving.{server_there}
 use Rattle.sound_behavior.proofs.Tasks.{below, is_below, at_most, most, NamedEvent, named_event, mapped_in, tasks, in_one_task}
@@ -95,9 +94,9 @@ module _ (d : Description) (f : Flat) (p : BusPlan) (m : Mapping) (w : IsWhole d
     same_number_as : (z : ℕ × ℕ) → NamedEvent d f z → (pair_number (events_of d f) z == e) ≡ same_pair mine z
     unfolding mine
     same_number_as z h = same_bool (pair_number (events_of d f) z == e) (same_pair (x.i, x.m) z)
-        (λ is. let same = numbers_apart d f Events z.0 x.i h.c x.c h.home x.home z.1 x.m (slice_get_within h.c.behavior.events z.1 h.event h.there) within (number_same (pair_number (events_of d f) z) e is ∙ sym x.number) in
+        (λ is. let same = numbers_apart d f event_count z.0 x.i h.c x.c h.home x.home z.1 x.m (slice_get_within h.c.behavior.events z.1 h.event h.there) within (number_same (pair_number (events_of d f) z) e is ∙ sym x.number) in
         both_of (nat_eq x.i z.0) (nat_eq x.m z.1) (eq-eqb x.i z.0 (sym same.0)) (eq-eqb x.m z.1 (sym same.1)))
-        (λ is. let same = same_pairs d f Events (x.i, x.m) z is in
+        (λ is. let same = same_pairs d f event_count (x.i, x.m) z is in
         same_test (pair_number (events_of d f) z) e ((λ j. pair_number (events_of d f) (sym same.0 j, sym same.1 j)) ∙ x.number))
 
     one_number : (y : MappedEvent) → count (λ k. k == e) (number_of d f y) ≡ cond (names d f mine y) 1 0
@@ -126,7 +125,7 @@ module _ (d : Description) (f : Flat) (p : BusPlan) (m : Mapping) (w : IsWhole d
     -- ---- how often it is owed
 
     numbered : is_numbered_mapped d f (pair_number (events_of d f) (x.i, x.m)) ≡ is_mapped d f (x.i, x.m)
-    numbered = ap (λ o. option_map_or (is_mapped d f) o false) (number_there d f Events x.i x.c x.home x.m within)
+    numbered = ap (λ o. option_map_or (is_mapped d f) o false) (number_there d f event_count x.i x.c x.home x.m within)
 
     owed_kind : (kind : declared_kind.EventKind) → x.event.kind ≡ kind → is_mapped_well kind (length (mapped_as d f (x.i, x.m))) ≡ true → times_mapped (planned d f es) (kind_of d f x.i kind) ≡ length (mapped_as d f (x.i, x.m))
     owed_kind (declared_event.Timing period) is well = sym (number_same (length (mapped_as d f (x.i, x.m))) 1 well)

@@ -13,11 +13,9 @@ use Rattle.composition_flatten.specs.declared.flat.Instance.{Instance}
 use Rattle.bus_semantics.specs.declared.plan.AreaPlan.{AreaPlan}
 use Rattle.bus_semantics.specs.declared.plan.EventPlan.{EventPlan}
 use Rattle.bus_semantics.specs.Plan.{Runnable}
-use Rattle.plan_numbers.specs.declared.parts.Part.{Part}
-use Rattle.plan_numbers.specs.declared.parts.Part.TheVariants.{Runnables, Events, Areas}
 use Rattle.plan_numbers.specs.Keys.{same_pair, pair_number}
 use Rattle.plan_numbers.specs.Lists.{from, positions}
-use Rattle.plan_numbers.specs.Parts.{component_of, of_instances, numbered, counted, parts_of, runnables_of, events_of, areas_of}
+use Rattle.plan_numbers.specs.Parts.{component_of, of_instances, numbered, runnables_of, events_of, areas_of}
 use Rattle.plan_runnables.specs.Started.{event_of, events_of_component, events, runnable_of, runnables_of_component, runnables}
 use Rattle.event_mapping.specs.Planned.{area_of, areas}
 use Rattle.sound_behavior.proofs.Lists.{some_same, both, both_of, found, before, In, in_from, reach, before_same, position_is, length-positions, length-map, mapped, map_at}
@@ -46,6 +44,20 @@ module _ {X Y : Type 0} (h : ℕ → X → Y) where
   pub length-one_each : (n : ℕ) (xs : List X) → length (from n (λ m y. h m y ∷ []) xs) ≡ length xs
   length-one_each n [] = refl
   length-one_each n (x ∷ xs) = ap (λ m. suc m) (length-one_each (n + 1) xs)
+
+-- ---- what is counted of a component, and the pairs of instances with it
+
+abbrev pub runnable_count : Component → ℕ
+runnable_count c = length c.behavior.runnables
+
+abbrev pub event_count : Component → ℕ
+event_count c = length c.behavior.events
+
+abbrev pub area_count : Component → ℕ
+area_count c = length c.behavior.exclusive_areas
+
+abbrev pub pairs_of : (Component → ℕ) → Description → Flat → List (ℕ × ℕ)
+pairs_of count d f = from 0 (λ i x. numbered i (option_map_or count (slice_get d.components x.component) 0)) f.instances
 
 module _ (d : Description) (f : Flat) where
   -- ---- instances
@@ -113,14 +125,14 @@ module _ (d : Description) (f : Flat) where
 
   -- ---- pairs
 
-  pub pairs_in : Part → ℕ → Component → List (ℕ × ℕ)
-  pairs_in part i c = numbered i (counted part c)
+  pub pairs_in : (Component → ℕ) → ℕ → Component → List (ℕ × ℕ)
+  pairs_in count i c = numbered i (count c)
 
-  pub parts_are : (part : Part) → parts_of part d f ≡ of_instances (pairs_in part) d f
+  pub pairs_are : (count : Component → ℕ) → pairs_of count d f ≡ of_instances (pairs_in count) d f
   unfolding pairs_in
-  parts_are part = λ j. from 0 (λ i x. by i (slice_get d.components x.component) j) f.instances
+  pairs_are count = λ j. from 0 (λ i x. by i (slice_get d.components x.component) j) f.instances
     where
-      by : (i : ℕ) (o : Option Component) → numbered i (option_map_or (counted part) o 0) ≡ option_map_or (λ c. numbered i (counted part c)) o []
+      by : (i : ℕ) (o : Option Component) → numbered i (option_map_or (count) o 0) ≡ option_map_or (λ c. numbered i (count c)) o []
       by i None = refl
       by i (Some c) = refl
 
@@ -134,25 +146,25 @@ module _ (d : Description) (f : Flat) where
       let less : m < n = omega arith in
       (less, some_same y (i, m) (sym e ∙ numbered_at i n m less))
 
-  module _ (part : Part) where
-    pub pair_there : (i : ℕ) (c : Component) → Home i c → (m : ℕ) → m < counted part c → slice_get (parts_of part d f) (start (pairs_in part) i + m) ≡ Some (i, m)
+  module _ (count : Component → ℕ) where
+    pub pair_there : (i : ℕ) (c : Component) → Home i c → (m : ℕ) → m < count c → slice_get (pairs_of count d f) (start (pairs_in count) i + m) ≡ Some (i, m)
     unfolding pairs_in
-    pair_there i c h m l = ap (λ ps. slice_get ps (start (pairs_in part) i + m)) (parts_are part) ∙ to_instance (pairs_in part) i c h m (i, m) (numbered_at i (counted part c) m l)
+    pair_there i c h m l = ap (λ ps. slice_get ps (start (pairs_in count) i + m)) (pairs_are count) ∙ to_instance (pairs_in count) i c h m (i, m) (numbered_at i (count c) m l)
 
     pub record PairAt (k : ℕ) (y : ℕ × ℕ) : Type 0 where
       pub c : Component
       pub home : Home y.0 c
-      pub within : y.1 < counted part c
-      pub sum : k ≡ start (pairs_in part) y.0 + y.1
+      pub within : y.1 < count c
+      pub sum : k ≡ start (pairs_in count) y.0 + y.1
 
-    pub pair_at : (k : ℕ) (y : ℕ × ℕ) → slice_get (parts_of part d f) k ≡ Some y → PairAt k y
+    pub pair_at : (k : ℕ) (y : ℕ × ℕ) → slice_get (pairs_of count d f) k ≡ Some y → PairAt k y
     unfolding pairs_in
     pair_at k y e =
-        let w = of_instance (pairs_in part) k y (ap (λ ps. slice_get ps k) (sym (parts_are part)) ∙ e) in
-        let at = at_numbered w.i (counted part w.c) w.place y w.inside in
+        let w = of_instance (pairs_in count) k y (ap (λ ps. slice_get ps k) (sym (pairs_are count)) ∙ e) in
+        let at = at_numbered w.i (count w.c) w.place y w.inside in
         let first : w.i ≡ y.0 = ap (λ (z : ℕ × ℕ). z.0) (sym at.1) in
         let second : w.place ≡ y.1 = ap (λ (z : ℕ × ℕ). z.1) (sym at.1) in
-        record { c = w.c; home = subst (λ n. Home n w.c) first w.home; within = subst (λ n. n < counted part w.c) second at.0; sum = w.sum ∙ (λ j. start (pairs_in part) (first j) + second j) }
+        record { c = w.c; home = subst (λ n. Home n w.c) first w.home; within = subst (λ n. n < count w.c) second at.0; sum = w.sum ∙ (λ j. start (pairs_in count) (first j) + second j) }
 
     pub same_pairs : (a b : ℕ × ℕ) → same_pair a b ≡ true → (a.0 ≡ b.0) × (a.1 ≡ b.1)
     same_pairs a b e = let two = both (nat_eq a.0 b.0) (nat_eq a.1 b.1) e in (eqb-true a.0 b.0 two.0, eqb-true a.1 b.1 two.1)
@@ -161,30 +173,30 @@ module _ (d : Description) (f : Flat) where
     itself a = both_of (nat_eq a.0 a.0) (nat_eq a.1 a.1) (eq-eqb a.0 a.0 refl) (eq-eqb a.1 a.1 refl)
 
     -- the number of what an instance has is its place
-    pub number_is : (i : ℕ) (c : Component) → Home i c → (m : ℕ) → m < counted part c → pair_number (parts_of part d f) (i, m) ≡ start (pairs_in part) i + m
+    pub number_is : (i : ℕ) (c : Component) → Home i c → (m : ℕ) → m < count c → pair_number (pairs_of count d f) (i, m) ≡ start (pairs_in count) i + m
     number_is i c h m l =
-        let w = found (same_pair (i, m)) 0 (parts_of part d f) (start (pairs_in part) i + m) (i, m) (pair_there i c h m l) (itself (i, m)) in
+        let w = found (same_pair (i, m)) 0 (pairs_of count d f) (start (pairs_in count) i + m) (i, m) (pair_there i c h m l) (itself (i, m)) in
         let at = pair_at w.place w.item w.there in
         let same = same_pairs (i, m) w.item w.passes in
         let s = at.sum in
-        let first : start (pairs_in part) i ≡ start (pairs_in part) w.item.0 = ap (start (pairs_in part)) same.0 in
+        let first : start (pairs_in count) i ≡ start (pairs_in count) w.item.0 = ap (start (pairs_in count)) same.0 in
         let second : m ≡ w.item.1 = same.1 in
-        let none : 0 + w.place ≡ start (pairs_in part) i + m = omega arith in
+        let none : 0 + w.place ≡ start (pairs_in count) i + m = omega arith in
         ap (λ o. unwrap_or o 0) w.is ∙ none
 
-    pub number_there : (i : ℕ) (c : Component) → Home i c → (m : ℕ) → m < counted part c → slice_get (parts_of part d f) (pair_number (parts_of part d f) (i, m)) ≡ Some (i, m)
-    number_there i c h m l = ap (slice_get (parts_of part d f)) (number_is i c h m l) ∙ pair_there i c h m l
+    pub number_there : (i : ℕ) (c : Component) → Home i c → (m : ℕ) → m < count c → slice_get (pairs_of count d f) (pair_number (pairs_of count d f) (i, m)) ≡ Some (i, m)
+    number_there i c h m l = ap (slice_get (pairs_of count d f)) (number_is i c h m l) ∙ pair_there i c h m l
 
     -- no two have one number
-    pub numbers_apart : (i j : ℕ) (a c : Component) → Home i a → Home j c → (m n : ℕ) → m < counted part a → n < counted part c
-        → pair_number (parts_of part d f) (i, m) ≡ pair_number (parts_of part d f) (j, n) → (i ≡ j) × (m ≡ n)
+    pub numbers_apart : (i j : ℕ) (a c : Component) → Home i a → Home j c → (m n : ℕ) → m < count a → n < count c
+        → pair_number (pairs_of count d f) (i, m) ≡ pair_number (pairs_of count d f) (j, n) → (i ≡ j) × (m ≡ n)
     numbers_apart i j a c g h m n l k e =
-        let same : (i, m) ≡ (j, n) = some_same (i, m) (j, n) (sym (number_there i a g m l) ∙ ap (slice_get (parts_of part d f)) e ∙ number_there j c h n k) in
+        let same : (i, m) ≡ (j, n) = some_same (i, m) (j, n) (sym (number_there i a g m l) ∙ ap (slice_get (pairs_of count d f)) e ∙ number_there j c h n k) in
         (ap (λ (z : ℕ × ℕ). z.0) same, ap (λ (z : ℕ × ℕ). z.1) same)
 
   -- ---- events
 
-  same_events : (i : ℕ) (c : Component) → length (pairs_in Events i c) ≡ length (events_of_component d f i c)
+  same_events : (i : ℕ) (c : Component) → length (pairs_in event_count i c) ≡ length (events_of_component d f i c)
   unfolding pairs_in
   same_events i c = length-map (λ (m : ℕ). (i, m)) (positions 0 (length c.behavior.events)) ∙ length-positions 0 (length c.behavior.events) ∙ sym (length-map (event_of d f i) c.behavior.events)
 
@@ -203,20 +215,20 @@ module _ (d : Description) (f : Flat) where
       let w = of_instance (events_of_component d f) k v e in
       let at = map_at (event_of d f w.i) w.c.behavior.events w.place v w.inside in
       let within = slice_get_within w.c.behavior.events w.place at.item at.there in
-      let s = w.sum in let begins = same_start (pairs_in Events) (events_of_component d f) same_events w.i in
-      let n = number_is Events w.i w.c w.home w.place within in
+      let s = w.sum in let begins = same_start (pairs_in event_count) (events_of_component d f) same_events w.i in
+      let n = number_is event_count w.i w.c w.home w.place within in
       record { i = w.i; c = w.c; home = w.home; m = w.place; event = at.item; there = at.there; is = at.is; number = omega arith }
 
   pub event_there : (i : ℕ) (c : Component) → Home i c → (m : ℕ) (e : Event) → slice_get c.behavior.events m ≡ Some e → slice_get (events d f) (pair_number (events_of d f) (i, m)) ≡ Some (event_of d f i e)
   event_there i c h m e at =
-      let n = number_is Events i c h m (slice_get_within c.behavior.events m e at) in
-      let begins = same_start (pairs_in Events) (events_of_component d f) same_events i in
+      let n = number_is event_count i c h m (slice_get_within c.behavior.events m e at) in
+      let begins = same_start (pairs_in event_count) (events_of_component d f) same_events i in
       let place : start (events_of_component d f) i + m ≡ pair_number (events_of d f) (i, m) = omega arith in
       subst (λ k. slice_get (events d f) k ≡ Some (event_of d f i e)) place (to_instance (events_of_component d f) i c h m (event_of d f i e) (mapped (event_of d f i) c.behavior.events m e at))
 
   -- ---- runnables
 
-  same_runnables : (i : ℕ) (c : Component) → length (pairs_in Runnables i c) ≡ length (runnables_of_component d f i c)
+  same_runnables : (i : ℕ) (c : Component) → length (pairs_in runnable_count i c) ≡ length (runnables_of_component d f i c)
   unfolding pairs_in
   same_runnables i c = length-map (λ (m : ℕ). (i, m)) (positions 0 (length c.behavior.runnables)) ∙ length-positions 0 (length c.behavior.runnables) ∙ sym (length-one_each (runnable_of d f i c) 0 c.behavior.runnables)
 
@@ -235,16 +247,16 @@ module _ (d : Description) (f : Flat) where
       let w = of_instance (runnables_of_component d f) k v e in
       let at = one_at (runnable_of d f w.i w.c) 0 w.c.behavior.runnables w.place v w.inside in
       let within = slice_get_within w.c.behavior.runnables w.place at.item at.there in
-      let s = w.sum in let begins = same_start (pairs_in Runnables) (runnables_of_component d f) same_runnables w.i in
-      let n = number_is Runnables w.i w.c w.home w.place within in
+      let s = w.sum in let begins = same_start (pairs_in runnable_count) (runnables_of_component d f) same_runnables w.i in
+      let n = number_is runnable_count w.i w.c w.home w.place within in
       let place : 0 + w.place ≡ w.place = omega arith in
       record { i = w.i; c = w.c; home = w.home; m = w.place; runnable = at.item; there = at.there; is = at.is ∙ ap (λ m. runnable_of d f w.i w.c m at.item) place; number = omega arith }
 
   pub runnable_there : (i : ℕ) (c : Component) → Home i c → (m : ℕ) (r : declared_runnable.Runnable) → slice_get c.behavior.runnables m ≡ Some r
       → slice_get (runnables d f) (pair_number (runnables_of d f) (i, m)) ≡ Some (runnable_of d f i c m r)
   runnable_there i c h m r at =
-      let n = number_is Runnables i c h m (slice_get_within c.behavior.runnables m r at) in
-      let begins = same_start (pairs_in Runnables) (runnables_of_component d f) same_runnables i in
+      let n = number_is runnable_count i c h m (slice_get_within c.behavior.runnables m r at) in
+      let begins = same_start (pairs_in runnable_count) (runnables_of_component d f) same_runnables i in
       let place : start (runnables_of_component d f) i + m ≡ pair_number (runnables_of d f) (i, m) = omega arith in
       let none : 0 + m ≡ m = omega arith in
       subst (λ k. slice_get (runnables d f) k ≡ Some (runnable_of d f i c m r)) place (to_instance (runnables_of_component d f) i c h m (runnable_of d f i c m r)
@@ -255,7 +267,7 @@ module _ (d : Description) (f : Flat) where
   areas_in : ℕ → Component → List AreaPlan
   areas_in i c = map (area_of i) c.behavior.exclusive_areas
 
-  same_areas : (i : ℕ) (c : Component) → length (pairs_in Areas i c) ≡ length (areas_in i c)
+  same_areas : (i : ℕ) (c : Component) → length (pairs_in area_count i c) ≡ length (areas_in i c)
   unfolding pairs_in areas_in
   same_areas i c = length-map (λ (m : ℕ). (i, m)) (positions 0 (length c.behavior.exclusive_areas)) ∙ length-positions 0 (length c.behavior.exclusive_areas) ∙ sym (length-map (area_of i) c.behavior.exclusive_areas)
 
@@ -270,7 +282,7 @@ module _ (d : Description) (f : Flat) where
   pub area_there : (i : ℕ) (c : Component) → Home i c → (m : ℕ) (name : List ℕ) → slice_get c.behavior.exclusive_areas m ≡ Some name → slice_get (areas d f) (pair_number (areas_of d f) (i, m)) ≡ Some (area_of i name)
   unfolding areas_in
   area_there i c h m name at =
-      let n = number_is Areas i c h m (slice_get_within c.behavior.exclusive_areas m name at) in
-      let begins = same_start (pairs_in Areas) areas_in same_areas i in
+      let n = number_is area_count i c h m (slice_get_within c.behavior.exclusive_areas m name at) in
+      let begins = same_start (pairs_in area_count) areas_in same_areas i in
       let place : start areas_in i + m ≡ pair_number (areas_of d f) (i, m) = omega arith in
       subst (λ k. slice_get (areas d f) k ≡ Some (area_of i name)) place (ap (λ ps. slice_get ps (start areas_in i + m)) areas_are ∙ to_instance areas_in i c h m (area_of i name) (mapped (area_of i) c.behavior.exclusive_areas m name at))

@@ -26,7 +26,6 @@ use Rattle.mapping_rules.specs.Mapped.{instance_named, event_named, named_by, na
 use Rattle.mapping_rules.specs.Rules.{is_mapped_well, tasks_of_event, tasks_from}
 use Rattle.mapping_rules.specs.Rules as mapped_rules
 use Rattle.mapping_rules.specs.Tasks.{by_position, number_of, events_in, task_at, mapping_of}
-use Rattle.plan_numbers.specs.declared.parts.Part.TheVariants.{Runnables, Events}
 use Rattle.plan_numbers.specs.Keys.{same_pair, pair_number}
 use Rattle.plan_numbers.specs.Lists.{from}
 use Rattle.plan_numbers.specs.Parts.{component_of, events_of, runnables_of}
@@ -34,7 +33,7 @@ use Rattle.plan_runnables.specs.Started.{event_of, events, runnables}
 use Rattle.planned_descriptions.specs.Whole.{IsWhole}
 use Rattle.sound_behavior.proofs.Lists.{both, some_same, not_some, option_same, any_at, position_at, looked}
 use Rattle.sound_behavior.proofs.Members.{Has, has_flat, has_map, has_kept, kept_has, order_has, has_first, has_last, tasks_one, gathered_few}
-use Rattle.sound_behavior.proofs.Parts.{Home, home_component, component_home, one_at, event_there, RunnableAt, runnable_at, numbers_apart, itself}
+use Rattle.sound_behavior.proofs.Parts.{Home, home_component, component_home, one_at, event_there, RunnableAt, runnable_at, numbers_apart, itself, event_count, runnable_count}
 use Rattle.sound_behavior.proofs.Rules.{planned, spread_kept, event_formed}
 
 pub below : (a b : ℕ) → nat_lt a b ≡ true → a < b
@@ -115,7 +114,7 @@ module _ (d : Description) (f : Flat) where
   pub task_of_event : (v : MappedEvent) (y : ℕ × ℕ) → Has MappedEvent d.mapping.events v → named_by d f v ≡ Some y → Has ℕ (tasks_of_event d f y) v.task
   task_of_event v y has named =
       has_map (λ (x : MappedEvent). x.task) (mapped_as d f y) v
-      (has_kept (names d f y) d.mapping.events v has (ap (λ o. option_map_or (same_pair y) o false) named ∙ itself d f Events y))
+      (has_kept (names d f y) d.mapping.events v has (ap (λ o. option_map_or (same_pair y) o false) named ∙ itself d f event_count y))
 
   pub task_of_runnable : (i : ℕ) (c : Component) → Home d f i c → (m : ℕ) (e : Event) (r t : ℕ) → slice_get c.behavior.events m ≡ Some e → e.runnable ≡ r → Has ℕ (tasks_of_event d f (i, m)) t → Has ℕ (mapped_rules.tasks_of d f (i, r)) t
   task_of_runnable i c home m e r t at is h =
@@ -147,7 +146,7 @@ module _ (d : Description) (f : Flat) (p : BusPlan) (m : Mapping) (w : IsWhole d
       let same : pair_number (runnables_of d f) (y.names.0, z.event.runnable) ≡ pair_number (runnables_of d f) (x.i, x.m) =
       some_same (pair_number (runnables_of d f) (y.names.0, z.event.runnable)) (pair_number (runnables_of d f) (x.i, x.m))
       (sym (started_runnable y.names z) ∙ ap (runnable_of_event (planned d f es)) y.number ∙ option_same (runnable_of_event (planned d f es) e.item) (Some r) e.passes ∙ ap (λ k. Some k) (sym x.number)) in
-      let apart = numbers_apart d f Runnables y.names.0 x.i z.c x.c z.home x.home z.event.runnable x.m (starts_within y.names.0 z.c z.home y.names.1 z.event z.there) (slice_get_within x.c.behavior.runnables x.m x.runnable x.there) same in
+      let apart = numbers_apart d f runnable_count y.names.0 x.i z.c x.c z.home x.home z.event.runnable x.m (starts_within y.names.0 z.c z.home y.names.1 z.event z.there) (slice_get_within x.c.behavior.runnables x.m x.runnable x.there) same in
       subst (λ i. Has ℕ (mapped_rules.tasks_of d f (i, x.m)) n) apart.0
       (task_of_runnable d f y.names.0 z.c z.home y.names.1 z.event x.m n z.there apart.1
       (subst (λ k. Has ℕ (tasks_of_event d f y.names) k) y.task (task_of_event d f y.mapped y.names y.has y.named)))
