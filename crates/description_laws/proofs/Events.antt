@@ -154,9 +154,6 @@ module _ (d : Data) (kept : Kept (declarations (visits d Description top)) d Des
   event_fits : (es : Items) (j : ℕ) (x : Data) → Kept ds x of_kind.Event (spot_of b es j) → event_low table ports (length (items_at (codes "runnables") b)) (event_reading scope names x) ≡ true
   event_fits es j x kept_x = by_case (event_found ds x (spot_of b es j) kept_x)
     where
-      s : Spot
-      s = spot_of b es j
-
       port_of : (kind : Kind) → Home (record { place = (spot_of b es j).place; kind = resolved kind x; value = x } ∷ (spot_of b es j).around) → is_object (form_of (resolved kind x)) ≡ true
           → slice_get (keys_of (resolved kind x)) 3 ≡ Some (needed "port" of_kind.ComponentPort) → Kept ds x kind (spot_of b es j) → Refers ds x (codes "port") (λ t. is_declared ds (named (place ++ codes "/ports") t) ≡ true)
       port_of kind home form is kept_k = port_here x kind (spot_of b es j) home (needed_value ds x kind (spot_of b es j) 3 (needed "port" of_kind.ComponentPort) form is refl kept_k)

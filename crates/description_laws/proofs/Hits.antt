@@ -201,9 +201,6 @@ own_at ds key kind ms s x there kept =
     by_text : (t : List ℕ) → get_member (codes "shortName") ms ≡ Some (string t) → Hit key (visits (string t) DeclaredName (inside s kind (object ms) (codes "shortName"))) → bytes_eq key (own_key kind (object ms) s) ≡ true
     by_text t there hit = by_case (or_cases _ _ hit)
       where
-        list : List ℕ
-        list = list_of_object kind (record { place = s.place; kind = kind; value = object ms } ∷ s.around)
-
         by_case : (bytes_eq key (named (list_of_object kind (record { place = s.place; kind = kind; value = object ms } ∷ s.around)) t) ≡ true) ⊎ (false ≡ true) → bytes_eq key (own_key kind (object ms) s) ≡ true
         by_case (inl e) = subst (λ o. bytes_eq key (named (list_of_object kind (record { place = s.place; kind = kind; value = object ms } ∷ s.around)) (unwrap_or (option_and_then as_str o) [])) ≡ true) (sym there) e
         by_case (inr e) = absurd (false≢true e)
@@ -230,9 +227,6 @@ among_own ds key kind ms s [] h hit = absurd hit
 among_own ds key kind ms s (k ∷ ks) h (inr more) = among_own ds key kind ms s ks (and_parts _ _ h).1 more
 among_own ds key kind ms s (k ∷ ks) h (inl at) = by_case (or_cases _ _ (and_parts _ _ h).0)
   where
-    spots : List ℕ → Spot
-    spots = inside s kind (object ms)
-
     named_so : (name : List ℕ) (part : Kind) → name ≡ codes "shortName" → part ≡ DeclaredName → get_member name ms ≡ Some at.value
         → Kept ds at.value part (inside s kind (object ms) name) → Hit key (visits at.value part (inside s kind (object ms) name)) → bytes_eq key (own_key kind (object ms) s) ≡ true
     named_so name q name_is part_is there kept hit =

@@ -181,9 +181,6 @@ module _ (d : Data) (kept : Kept (declarations (visits d Description top)) d Des
   found_item name fits h = from_section (section (declarations (visits d Description top)) ((codes "interfaces/" ++ decimal i) ++ (codes "/" ++ name)) d 2 (optional "interfaces" of_kind.Interfaces) refl refl refl (λ n f e. false≢true e) kept
       (subst (λ k. Hit k (visits d Description top)) (append_assoc (codes "/interfaces/" ++ decimal i) (codes "/") name) (hit_of (named ((codes "/interfaces/") ++ decimal i) name) (visits d Description top) h)))
     where
-      spot : Spot
-      spot = inside top Description d (codes "interfaces")
-
       from_array : (y : Data) → y ≡ array xs → Kept (declarations (visits d Description top)) y of_kind.Interfaces (inside top Description d (codes "interfaces"))
           → Hit (named ((codes "/interfaces/") ++ decimal i) name) (visits y of_kind.Interfaces (inside top Description d (codes "interfaces"))) → ltb (position_in (item_names x) name) (length (item_names x)) ≡ true
       from_array y e kept hit =

@@ -104,9 +104,6 @@ pub item_held : (ds : List Declared) (i : ℕ) (rest : List ℕ) (ps : Items) (l
     → Holding ds ((((s.place ++ codes "/") ++ decimal i) ++ codes "/") ++ rest) ps list part s i
 item_held ds i rest ps list kind s o near fits kept hit = from_holding (holding ds ((((s.place ++ codes "/") ++ decimal i) ++ codes "/") ++ rest) ps list kind s o kept hit)
   where
-    key : List ℕ
-    key = (((s.place ++ codes "/") ++ decimal i) ++ codes "/") ++ rest
-
     from_holding : (j : ℕ) × Holding ds ((((s.place ++ codes "/") ++ decimal i) ++ codes "/") ++ rest) ps list kind s j → Holding ds ((((s.place ++ codes "/") ++ decimal i) ++ codes "/") ++ rest) ps list kind s i
     from_holding f = by_case (named_hit ds ((((s.place ++ codes "/") ++ decimal i) ++ codes "/") ++ rest) f.1.value kind (inside_part s (resolved list (array ps)) (array ps) f.0) (o.named f.1.value) f.1.kept f.1.hit)
       where

@@ -130,9 +130,6 @@ pub key_two : (p w name : List ℕ) → (p ++ codes "/") ++ (w ++ (codes "/" ++ 
 key_two p w name = simp append_assoc
 
 module _ (d : Data) (kept : Kept (declarations (visits d Description top)) d Description top) where
-  ds : List Declared
-  ds = declarations (visits d Description top)
-
   pub found_data_type : (name : List ℕ) → is_name name ≡ true → is_declared (declarations (visits d Description top)) (named (codes "/dataTypes") name) ≡ true → InList (text_at (codes "shortName")) (codes "dataTypes") d name
   found_data_type name fits h = from_section (section (declarations (visits d Description top)) (codes "dataTypes/" ++ name) d 0 (optional "dataTypes" of_kind.DataTypes) refl refl refl (λ n f e. false≢true e) kept (hit_of (named (codes "/dataTypes") name) (visits d Description top) h))
     where
@@ -159,9 +156,6 @@ module _ (d : Data) (kept : Kept (declarations (visits d Description top)) d Des
   found_task m name there fits h =
       from_section (section (declarations (visits d Description top)) (codes "mapping/tasks/" ++ name) d 6 (needed "mapping" of_kind.Mapping) refl refl refl (λ n f e. false≢true e) kept (hit_of (named (codes "/mapping/tasks") name) (visits d Description top) h))
     where
-      spot : Spot
-      spot = inside top Description d (codes "mapping")
-
       from_below : (x : Data) → Below (declarations (visits d Description top)) (named (codes "/mapping/tasks") name) x of_kind.Mapping (inside top Description d (codes "mapping")) (optional "tasks" of_kind.Tasks)
           → InList (text_at (codes "shortName")) (codes "tasks") x name
       from_below x b = in_objects (declarations (visits d Description top)) name (codes "tasks") x b.value of_kind.Tasks of_kind.Task (inside (inside top Description d (codes "mapping")) of_kind.Mapping x (codes "tasks")) tasks_list (λ z. refl)
@@ -181,9 +175,6 @@ module _ (d : Data) (kept : Kept (declarations (visits d Description top)) d Des
         from_section (section (declarations (visits d Description top)) (((codes "modeGroups/" ++ decimal i) ++ codes "/") ++ (codes "modes/" ++ name)) d 1 (optional "modeGroups" of_kind.ModeGroups) refl refl refl (λ n f e. false≢true e) kept
         (subst (λ k. Hit k (visits d Description top)) (key_one (codes "/modeGroups/" ++ decimal i) (codes "modes") name) (hit_of (named ((codes "/modeGroups/" ++ decimal i) ++ codes "/modes") name) (visits d Description top) h)))
       where
-        key : List ℕ
-        key = ((codes "/modeGroups/" ++ decimal i) ++ codes "/") ++ (codes "modes/" ++ name)
-
         from_below : (y : Data) (gs : Items) → Below (declarations (visits d Description top)) (((codes "/modeGroups/" ++ decimal i) ++ codes "/") ++ (codes "modes/" ++ name)) y of_kind.ModeGroup
             (inside_part (inside top Description d (codes "modeGroups")) of_kind.ModeGroups (array gs) i) (needed "modes" of_kind.DeclaredModes)
             → InList text_in (codes "modes") y name

@@ -63,9 +63,6 @@ module _ (d : Data) (kept : Kept (declarations (visits d Description top)) d Des
   pub port_at : (name : List ℕ) → is_name name ≡ true → is_declared ds (named (((codes "/components/") ++ decimal i) ++ codes "/ports") name) ≡ true → PortAt name
   port_at name fits h = from_list (found_port d kept i c cs here components name fits h)
     where
-      list : Spot
-      list = inside spot of_kind.Component c (codes "ports")
-
       from_kept : (ps : Items) → get (codes "ports") c ≡ Some (array ps) → Placed (text_at (codes "shortName")) ps name → Kept ds (array ps) of_kind.Ports (inside spot of_kind.Component c (codes "ports")) → PortAt name
       from_kept ps at p kept_ps =
           let list = inside spot of_kind.Component c (codes "ports") in

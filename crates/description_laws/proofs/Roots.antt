@@ -16,7 +16,7 @@ use Rattle.description_places.specs.Keys.{Key, keys_of, needed, optional}
 use Rattle.description_places.specs.Names.{is_name}
 use Rattle.description_places.specs.References.{declaration_of, is_composition, is_declared, is_declared_composition}
 use Rattle.description_places.specs.Shape.{holds}
-use Rattle.description_places.specs.Spots.{Spot, top, inside, inside_part}
+use Rattle.description_places.specs.Spots.{top, inside, inside_part}
 use Rattle.description_places.specs.Visits.{visits}
 use Rattle.description_laws.proofs.Hits.{Hit, At, Among, object_hit, on_object, object_from_shape}
 use Rattle.description_laws.proofs.Kept.{Kept, Differ, kept_part, shape_here}
@@ -89,9 +89,6 @@ module _ (d : Data) (kept : Kept (declarations (visits d Description top)) d Des
       → is_declared_composition (declarations (visits d Description top)) (named (codes "/components") (text_at (codes "shortName") x)) ≡ false
   component_declared ps there i x is = from_value (optional_value (declarations (visits d Description top)) d Description top 3 (optional "components" of_kind.Components) refl refl kept)
     where
-      spot : Spot
-      spot = inside top Description d (codes "components")
-
       from_array : Kept (declarations (visits d Description top)) (array ps) of_kind.Components (inside top Description d (codes "components"))
           → ((y : Declared) → IsIn y (declarations (visits (array ps) of_kind.Components (inside top Description d (codes "components")))) → IsIn y (declarations (visits d Description top)))
           → is_declared_composition (declarations (visits d Description top)) (named (codes "/components") (text_at (codes "shortName") x)) ≡ false
