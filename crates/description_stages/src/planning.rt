@@ -1,0 +1,55 @@
+//! From the bytes of a description to its plan and its mapping.
+
+ghost use Rattle.std.specs.Prelude.{IfErr, IfOk};
+ghost use Rattle.event_mapping.specs.Refusals.{IsRefusal};
+ghost use Rattle.description_stages.specs.Plans.{IsPlanRefusalOf, IsPlannedFrom, IsPlannedOf, IsToldBy};
+
+use crate::joining::{JoinedDescription, join_description};
+use bus_semantics::{BusPlan, Mapping};
+use component_model::Description;
+use composition_flatten::Flat;
+use description_laws::read_descriptions_are_well_formed;
+use event_mapping::map_events;
+use plan_soundness::plans_are_sound;
+use rte_text::Refused;
+use std::alloc::Global;
+
+/// A description that breaks none of the thirty rules, made flat, with its plan and its mapping, which are sound.
+#[derive(Drop)]
+pub struct PlannedDescription {
+    pub description: Description,
+    pub flat: Flat,
+    pub plan: BusPlan,
+    pub mapping: Mapping,
+}
+
+/// The plan and the mapping of a description that breaks none of rules 1 to 15.
+fn planned(alloc: Global, joined: JoinedDescription) -> Result<PlannedDescription, Refused>
+    ensures planned { IfOk result (IsPlannedFrom joined) }
+    ensures refused { IfErr result (IsToldBy (IsRefusal joined.description joined.flat)) }
+{
+    match map_events(alloc, &joined.description, &joined.flat) {
+        Ok((plan, mapping)) => Ok(PlannedDescription {
+            description: joined.description,
+            flat: joined.flat,
+            plan,
+            mapping,
+        }),
+        Err(Refused::Rule(refusal)) => Err(Refused::Rule(refusal)),
+        Err(Refused::Memory) => Err(Refused::Memory),
+    }
+}
+
+/// The description that the bytes are, made flat, with its plan and its mapping, where it breaks none of rules 1 to 30: those
+/// of `join_description`, and those of `map_events` of `event_mapping`. The plan is sound with the mapping. `Rule` names the
+/// least rule that is broken, with its first place; `Memory` is answered where memory ran out, and never tells anything of
+/// the bytes.
+pub fn plan_description(alloc: Global, bytes: &[u8]) -> Result<PlannedDescription, Refused>
+    ensures planned { IfOk result (IsPlannedOf bytes.now) }
+    ensures refused { IfErr result (IsPlanRefusalOf bytes.now) }
+{
+    read_descriptions_are_well_formed();
+    plans_are_sound();
+    let joined = join_description(alloc, bytes)?;
+    planned(alloc, joined)
+}
