@@ -9,10 +9,9 @@ use Rattle.composition_flatten.specs.declared.flat.Flat.{Flat}
 use Rattle.composition_flatten.specs.declared.flat.Instance.{Instance}
 use Rattle.composition_flatten.specs.Members.{Among}
 use Rattle.bus_semantics.specs.Plan.{Runnable}
-use Rattle.plan_numbers.specs.declared.parts.Part.TheVariants.{Runnables}
 use Rattle.plan_numbers.specs.Keys.{Key, same_key, number_in, same_pair, pair_number}
 use Rattle.plan_numbers.specs.Lists.{positions, from}
-use Rattle.plan_numbers.specs.Parts.{of_instances, numbered, counted, counted_at, runnables_of}
+use Rattle.plan_numbers.specs.Parts.{of_instances, numbered, runnables_of}
 use Rattle.plan_runnables.specs.Started.{runnable_of, runnables_of_component, runnables}
 use Rattle.sound_names.proofs.Lists.{position_found, get_below, pieces, in_pieces, map_has, in_positions, map_from, from_same, get_map, unmap}
 use Rattle.sound_names.proofs.Sites.{ComponentAt}
@@ -47,6 +46,12 @@ key_below keys k h =
 
 -- ---- what instances have
 
+abbrev runnable_count : Component → ℕ
+runnable_count c = length c.behavior.runnables
+
+abbrev runnables_at : Description → Instance → ℕ
+runnables_at d x = option_map_or runnable_count (slice_get d.components x.component) 0
+
 module _ (d : Description) (f : Flat) where
   pub in_component : {X : Type 0} (g : ℕ → Component → List X) (i : ℕ) (x : Instance) (y : X) (o : Option Component) → slice_get f.instances i ≡ Some x → slice_get d.components x.component ≡ o → Among y (option_map_or (g i) o [])
       → (at : ComponentAt d f i) × Among y (g i at.component)
@@ -61,8 +66,8 @@ module _ (d : Description) (f : Flat) where
 
   pub in_runnables : (i m : ℕ) (at : ComponentAt d f i) → m < length at.component.behavior.runnables → Among (i, m) (runnables_of d f)
   in_runnables i m at below =
-      in_pieces (λ i (x : Instance). numbered i (counted_at Runnables d x)) f.instances i at.instance (i, m) at.at_instance
-      (subst (λ o. Among (i, m) (numbered i (option_map_or (counted Runnables) o 0))) (sym at.at_component)
+      in_pieces (λ i (x : Instance). numbered i (runnables_at d x)) f.instances i at.instance (i, m) at.at_instance
+      (subst (λ o. Among (i, m) (numbered i (option_map_or (runnable_count) o 0))) (sym at.at_component)
       (map_has (λ n. (i, n)) m (positions 0 (length at.component.behavior.runnables)) (in_positions m 0 (length at.component.behavior.runnables) (omega arith) (omega arith))))
 
   -- the runnables of the plan stand as their pairs
@@ -70,16 +75,16 @@ module _ (d : Description) (f : Flat) where
   same_instances i c n [] = refl
   same_instances i c n (r ∷ rs) = ap (λ l. i ∷ l) (same_instances i c (n + 1) rs)
 
-  same_component : (i : ℕ) (o : Option Component) → map (λ (r : Runnable). r.instance) (option_map_or (runnables_of_component d f i) o []) ≡ map (λ (x : ℕ × ℕ). x.0) (numbered i (option_map_or (counted Runnables) o 0))
+  same_component : (i : ℕ) (o : Option Component) → map (λ (r : Runnable). r.instance) (option_map_or (runnables_of_component d f i) o []) ≡ map (λ (x : ℕ × ℕ). x.0) (numbered i (option_map_or (runnable_count) o 0))
   same_component i None = refl
   same_component i (Some c) = same_instances i c 0 c.behavior.runnables
 
   pub instances_of_runnables : map (λ (r : Runnable). r.instance) (runnables d f) ≡ map (λ (x : ℕ × ℕ). x.0) (runnables_of d f)
   instances_of_runnables =
       map_from (λ (r : Runnable). r.instance) (λ i (x : Instance). option_map_or (runnables_of_component d f i) (slice_get d.components x.component) []) 0 f.instances
-      ∙ from_same (λ i (x : Instance). map (λ (r : Runnable). r.instance) (option_map_or (runnables_of_component d f i) (slice_get d.components x.component) [])) (λ i (x : Instance). map (λ (x : ℕ × ℕ). x.0) (numbered i (counted_at Runnables d x))) 0 f.instances
+      ∙ from_same (λ i (x : Instance). map (λ (r : Runnable). r.instance) (option_map_or (runnables_of_component d f i) (slice_get d.components x.component) [])) (λ i (x : Instance). map (λ (x : ℕ × ℕ). x.0) (numbered i (runnables_at d x))) 0 f.instances
       (λ i (x : Instance). same_component i (slice_get d.components x.component))
-      ∙ sym (map_from (λ (x : ℕ × ℕ). x.0) (λ i (x : Instance). numbered i (counted_at Runnables d x)) 0 f.instances)
+      ∙ sym (map_from (λ (x : ℕ × ℕ). x.0) (λ i (x : Instance). numbered i (runnables_at d x)) 0 f.instances)
 
   -- at the number of a runnable of an instance stands one of this instance
   pub runnable_at : (i m : ℕ) (at : ComponentAt d f i) → m < length at.component.behavior.runnables → (r : Runnable) × (slice_get (runnables d f) (pair_number (runnables_of d f) (i, m)) ≡ Some r) × (r.instance ≡ i)
