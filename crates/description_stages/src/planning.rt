@@ -51,5 +51,8 @@ pub fn plan_description(alloc: Global, bytes: &[u8]) -> Result<PlannedDescriptio
     read_descriptions_are_well_formed();
     plans_are_sound();
     let joined = join_description(alloc, bytes)?;
-    planned(alloc, joined)
+    match planned(alloc, joined) {
+        Ok(found) => Ok(found),
+        Err(refused) => Err(refused),
+    }
 }
