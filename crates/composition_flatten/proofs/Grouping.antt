@@ -1,6 +1,5 @@
 -- Links of ports, by groups of ends.
-use Rattle.std.proofs.Common.{◌≡◌, ℕ, List, [], ◌∷◌, length, Bool, true, false, nat_eq, Vec, ◌⊎◌, inl, ◌↔◌, ⊎_elim, true≢false, refl, sym, ap, subst, ◌∙◌, arith}
-use Rattle.std.proofs.lemmas.Bool.{eqb-true}
+use Rattle.std.proofs.Common.{◌≡◌, ℕ, List, Bool, false, Vec, ◌⊎◌, inl, ◌↔◌, ⊎_elim, true≢false, refl, sym, ap, subst, ◌∙◌}
 use Rattle.std.specs.Global.{Global}
 use Rattle.std.specs.HashMap.{HashMap, get}
 use Rattle.description_types.specs.declared.description.Description.{Description}
@@ -14,11 +13,7 @@ use Rattle.composition_flatten.specs.Links.{link_of, IsPairLink, IsCrossLink}
 use Rattle.composition_flatten.specs.Matching.{same_gate, same_pair, AreListed, AreMatches, HasPairs, IsAdding, IsBetween, IsMatched}
 use Rattle.composition_flatten.specs.Members.{Among}
 use Rattle.composition_flatten.specs.Tables.{AreGroups}
-use Rattle.composition_flatten.proofs.Growth.{grown_same, grown_none}
-
-no_pairs : (pairs : List (ℕ × ℕ)) → nat_eq (length pairs) 0 ≡ true → pairs ≡ []
-no_pairs [] h = refl
-no_pairs (p ∷ ps) h = absurd (let e = eqb-true (length (p ∷ ps)) 0 h in omega (arith, e))
+use Rattle.composition_flatten.proofs.Growth.{grown_same}
 
 -- the links of two ports, by the pairs of their items
 pub pair_links : (d : Description) (p r : PortEnd) (pairs kept : List (ℕ × ℕ)) → AreMatches d p.interface r.interface kept → pairs ≡ kept → (before after : List Link) (is_full : Bool)
@@ -92,11 +87,3 @@ module _ (d : Description) (provided required : List PortEnd) (pairs : List (ℕ
       (λ x a. let c = a.2 in (c.0, ((left a.0.0 c.0).0 c.1).0, (c.2.0, ((right a.0.1 c.2.0).0 c.2.1).0, c.2.2)))
       (λ x c. let l = c.2.2 in
       ((c.0.interface, c.2.0.interface), has c.0 c.2.0 c.1 c.2.1 l.0 l.1 l.2, (c.0, (left c.0.interface c.0).1 (c.1, refl), (c.2.0, (right c.2.0.interface c.2.0).1 (c.2.1, refl), l)))) g
-
-  pub unpaired : (before : List Link) → HasPairs d provided required pairs → nat_eq (length pairs) 0 ≡ true → Grown (IsCrossLink d provided required) before before false
-  unpaired before has none = grown_none (IsCrossLink d provided required) before
-      (λ x c. let l = c.2.2 in subst (Among (c.0.interface, c.2.0.interface)) (no_pairs pairs none) (has c.0 c.2.0 c.1 c.2.1 l.0 l.1 l.2))
-
-  pub pairs_for : (first second ps qs : List PortEnd) → first ≡ ps → second ≡ qs → ((x : PortEnd) → Among x ps ↔ Among x provided) → ((x : PortEnd) → Among x qs ↔ Among x required)
-      → HasPairs d provided required pairs → HasPairs d first second pairs
-  pairs_for first second ps qs first_is second_is left right has p r a b = has p r ((left p).0 (subst (Among p) first_is a)) ((right r).0 (subst (Among r) second_is b))

@@ -18,6 +18,7 @@ pub mod Lookups
 pub mod Members
 pub mod Naming
 pub mod Noding
+pub mod Parting
 pub mod Placing
 pub mod Reaching
 pub mod SameEnds
@@ -31,3 +32,4 @@ pub mod Standing
 pub mod Starting
 pub mod Steps
 pub mod Wholes
+pub mod Wishing

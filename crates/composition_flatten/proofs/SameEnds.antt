@@ -1,22 +1,11 @@
--- Equal spots and equal ends are the same.
+-- Equal ends are the same.
 use Rattle.std.proofs.Common.{◌≡◌, true, ap, ◌&&◌, refl, sym, true≢false, eqb}
 use Rattle.std.proofs.lemmas.Bool.{eqb-true, eq-eqb, and_parts, and_from}
-use Rattle.composition_flatten.specs.declared.ends.Spot.{Spot}
 use Rattle.composition_flatten.specs.declared.tree.Owner.{Owner}
 use Rattle.composition_flatten.specs.declared.tree.Owner.TheVariants.{Instance, Environment}
 use Rattle.composition_flatten.specs.declared.tree.PortEnd.{PortEnd}
-use Rattle.composition_flatten.specs.contracts.ends.SpotPartialEq.TheImpl as spot
 use Rattle.composition_flatten.specs.contracts.tree.OwnerPartialEq.TheImpl as owner
 use Rattle.composition_flatten.specs.contracts.tree.PortEndPartialEq.TheImpl as port_end
-use Rattle.composition_flatten.proofs.SameKeys.{three, three_from}
-
-pub same_spot : (x y : Spot) → (spot.eq-value).it x y ≡ true → x ≡ y
-same_spot x y h =
-    let p = three x.composition x.first x.port y.composition y.first y.port h in
-    (λ i. record { composition = p.0 i; first = p.1 i; port = p.2 i })
-
-pub itself_spot : (x : Spot) → (spot.eq-value).it x x ≡ true
-itself_spot x = three_from x.composition x.first x.port
 
 same_owner : (x y : Owner) → (owner.eq-value).it x y ≡ true → x ≡ y
 same_owner (Instance a) (Instance b) h = ap (λ n. Instance n) (eqb-true a b h)

@@ -4,7 +4,6 @@ pub mod Counts
 pub mod Ends
 pub mod Firsts
 pub mod Flattening
-pub mod Fronts
 pub mod Gates
 pub mod Growing
 pub mod Instances
@@ -23,4 +22,5 @@ pub mod Ranks
 pub mod Sharing
 pub mod Tables
 pub mod Trees
+pub mod Wishes
 pub mod Within

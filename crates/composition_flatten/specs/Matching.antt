@@ -1,5 +1,5 @@
 -- How the joined items of two interfaces are found, and what is kept of them.
-use Rattle.std.specs.Prelude.{◌≡◌, ◌↔◌, ◌&&◌, ℕ, List, map, Bool, nat_eq, Some, Vec}
+use Rattle.std.specs.Prelude.{◌≡◌, ◌↔◌, ◌⊎◌, ◌&&◌, ℕ, List, map, Bool, false, nat_eq, Some, Vec}
 use Rattle.std.specs.Global.{Global}
 use Rattle.description_types.specs.declared.description.Description.{Description}
 use Rattle.indexmap.specs.IndexMap.{IndexMap, get}
@@ -32,10 +32,12 @@ AreMatches d provided required pairs = (i j : ℕ) → Among (i, j) pairs ↔ It
 abbrev pub same_pair : ℕ × ℕ → ℕ × ℕ → Bool
 same_pair a b = nat_eq a.0 b.0 && nat_eq a.1 b.1
 
--- the side has all interfaces of the ports below the gate, by their keys
+-- the side has all interfaces of the ports below the gate, by their keys, and the ends there, all of them unless their search was cut short
 pub record IsSide (d : Description) (gate : Gate) (side : Side) : Type 0 where
   pub covers : (x : PortEnd) → Among x (gate_ends d gate) → Among x.interface side.interfaces.keys
   pub indexed : IsIndexed d side.interfaces.keys side.index
+  pub sound : (q : ℕ) (x : PortEnd) → Among x (under (get nat_eq side.groups q)) → Among x (gate_ends d gate) × (x.interface ≡ q)
+  pub whole : side.is_cut ≡ false → (x : PortEnd) → Among x (gate_ends d gate) → Among x (under (get nat_eq side.groups x.interface))
 
 abbrev pub same_gate : Gate → Gate → Bool
 same_gate a b = (eq-value).it a b
@@ -53,6 +55,10 @@ HasPairs d provided required pairs = (p r : PortEnd) → Among p provided → Am
 -- a link of a provided port of the one interface and a required one of the other
 abbrev pub IsBetween : {S T : Type 0} → Description → IndexMap ℕ (Vec PortEnd Global) S → IndexMap ℕ (Vec PortEnd Global) T → ℕ × ℕ → Link → Type 0
 IsBetween d provided required pair x = IsCrossLink d (under (get nat_eq provided pair.0)) (under (get nat_eq required pair.1)) x
+
+-- what is in the list now was there before, or has P, and all that was there stays
+abbrev pub IsPart : (Link → Type 0) → List Link → List Link → Type 0
+IsPart P before after = ((x : Link) → Among x after → Among x before ⊎ P x) × ((x : Link) → Among x before → Among x after)
 
 -- The pairs of ports that are done have all their links.
 abbrev pub AreDone : Description → List (PortEnd × PortEnd) → List Link → Type 0

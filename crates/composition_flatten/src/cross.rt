@@ -149,7 +149,8 @@ fn add_groups(
     Ok(is_full)
 }
 
-fn add_grouped(
+/// Adds the links of groups of ports, given which pairs of their interfaces share an item.
+pub fn add_grouped(
     alloc: Global,
     d: &Description,
     pairs: &[(u32, u32)],

@@ -1,44 +1,13 @@
-//! The ends below a port.
+//! What the tables of a description say.
 
-ghost use Rattle.std.specs.Prelude.{◌≡◌, ◌≤◌, ◌<◌, ◌↔◌, ◌⊎◌, [], suc, IfOk, OnOk, length, min, slice_get};
-ghost use Rattle.composition_flatten.specs.declared.ends.Spot.{Spot};
-ghost use Rattle.composition_flatten.specs.declared.tree.PortEnd.{PortEnd};
-ghost use Rattle.composition_flatten.specs.Ends.{ends, inner_ends, inner_ports, number_from, offset};
-ghost use Rattle.composition_flatten.specs.Fronts.{spot_ends, IsFound};
-ghost use Rattle.composition_flatten.specs.Members.{Among};
+ghost use Rattle.std.specs.Prelude.{◌≡◌, ◌≤◌, ◌<◌, [], length, min, slice_get};
+ghost use Rattle.composition_flatten.specs.Ends.{inner_ports, number_from, offset};
 ghost use Rattle.composition_flatten.specs.Paths.{prototypes_of};
 ghost use Rattle.composition_flatten.specs.Trees.{IsTree, items_of, ports_at, start_in};
 ghost use Rattle.std.specs.Option.{option_map_or};
 
-use crate::connectors::{interface_of, type_in};
-use crate::counts::count_below;
-use crate::tree::{Owner, PortEnd, Tree};
-use description_types::{InnerPort, PrototypeType};
-use indexmap::IndexSet;
-use rte_text::Memory;
-use std::alloc::Global;
-
-/// A port of a composition that stands somewhere; `first` is the number of the first instance below it.
-#[derive(Clone, Copy, PartialEq, Eq, Hash)]
-pub struct Spot {
-    pub composition: u32,
-    pub first: u32,
-    pub port: u32,
-}
-
-fn note_spot(spots: &mut IndexSet<Spot>, spot: Spot) -> Result<(), Memory>
-    ensures { OnOk result ((other : Spot) → Among other spots.new.keys ↔ (Among other spots.old.keys ⊎ (other ≡ spot))) }
-{
-    spots.insert(spot)?;
-    Ok(())
-}
-
-fn note_end(found: &mut IndexSet<PortEnd>, end: PortEnd) -> Result<(), Memory>
-    ensures { OnOk result ((other : PortEnd) → Among other found.new.keys ↔ (Among other found.old.keys ⊎ (other ≡ end))) }
-{
-    found.insert(end)?;
-    Ok(())
-}
+use crate::tree::Tree;
+use description_types::InnerPort;
 
 fn ports_at(by_port: &[Vec<InnerPort>], port: u32) -> &[InnerPort]
     ensures { result.now ≡ ports_at by_port.now port }
@@ -105,139 +74,4 @@ pub fn number_from(first: u32, further: u32) -> u32
     ensures { result ≡ number_from first further }
 {
     first.saturating_add(further)
-}
-
-/// Goes on at a port of a component or composition: an end is found, or a spot is to be followed. A composition without
-/// instances is left out.
-fn enter(
-    tree: &Tree,
-    depth: usize,
-    of_type: PrototypeType,
-    first: u32,
-    port: u32,
-    spots: &mut IndexSet<Spot>,
-    found: &mut IndexSet<PortEnd>,
-) -> Result<(), Memory>
-    requires is_tree { IsTree tree.now }
-    requires within { depth ≤ 8 }
-    ensures { OnOk result ((x : PortEnd) → IsFound tree.now.d.now depth spots.new.keys found.new.keys x
-        ↔ (IsFound tree.now.d.now depth spots.old.keys found.old.keys x ⊎ Among x (ends tree.now.d.now depth of_type first port))) }
-{
-    match of_type {
-        PrototypeType::Component(_) => {
-            if let Some(interface) = interface_of(tree.d, of_type, port) {
-                let owner = Owner::Instance(first);
-                note_end(
-                    found,
-                    PortEnd {
-                        owner,
-                        port,
-                        interface,
-                    },
-                )?;
-            }
-            Ok(())
-        }
-        PrototypeType::Composition(composition) => {
-            if count_below(tree.levels.as_slice(), depth, composition) == 0 {
-                return Ok(());
-            }
-            note_spot(
-                spots,
-                Spot {
-                    composition,
-                    first,
-                    port,
-                },
-            )?;
-            Ok(())
-        }
-    }
-}
-
-fn enter_inner(
-    tree: &Tree,
-    depth: usize,
-    spot: Spot,
-    inner: InnerPort,
-    spots: &mut IndexSet<Spot>,
-    found: &mut IndexSet<PortEnd>,
-) -> Result<(), Memory>
-    requires is_tree { IsTree tree.now }
-    requires within { depth ≤ 8 }
-    ensures { OnOk result ((x : PortEnd) → IsFound tree.now.d.now depth spots.new.keys found.new.keys x
-        ↔ (IsFound tree.now.d.now depth spots.old.keys found.old.keys x ⊎ Among x (inner_ends tree.now.d.now depth (ends tree.now.d.now depth) spot.composition spot.first inner))) }
-{
-    match type_in(tree.d, spot.composition, inner.prototype) {
-        Some(of_type) => {
-            let start = start_of(tree, depth, spot.composition, inner.prototype);
-            let first = number_from(spot.first, start);
-            enter(tree, depth, of_type, first, inner.port, spots, found)?;
-            Ok(())
-        }
-        None => Ok(()),
-    }
-}
-
-/// Follows the delegations of a port of a composition one prototype down.
-fn descend(
-    tree: &Tree,
-    depth: usize,
-    spot: Spot,
-    spots: &mut IndexSet<Spot>,
-    found: &mut IndexSet<PortEnd>,
-) -> Result<(), Memory>
-    requires is_tree { IsTree tree.now }
-    requires within { depth ≤ 8 }
-    ensures { OnOk result ((x : PortEnd) → IsFound tree.now.d.now depth spots.new.keys found.new.keys x
-        ↔ (IsFound tree.now.d.now depth spots.old.keys found.old.keys x ⊎ Among x (spot_ends tree.now.d.now (suc depth) spot))) }
-{
-    for inner in inner_ports(tree, spot.composition, spot.port) {
-        enter_inner(tree, depth, spot, *inner, spots, found)?;
-    }
-    Ok(())
-}
-
-/// Follows all delegations from some spots one prototype down.
-fn follow(
-    alloc: Global,
-    tree: &Tree,
-    depth: usize,
-    spots: &[Spot],
-    found: &mut IndexSet<PortEnd>,
-) -> Result<IndexSet<Spot>, Memory>
-    requires is_tree { IsTree tree.now }
-    requires within { depth ≤ 8 }
-    ensures { IfOk result (λ deeper. (x : PortEnd) → IsFound tree.now.d.now depth deeper.keys found.new.keys x ↔ IsFound tree.now.d.now (suc depth) spots.now found.old.keys x) }
-{
-    let mut deeper = IndexSet::new(alloc);
-    for spot in spots {
-        descend(tree, depth, *spot, &mut deeper, found)?;
-    }
-    Ok(deeper)
-}
-
-/// All ends at or below a port of a component or composition, each once. Where many chains lead to one port, it is followed
-/// once.
-pub fn ends_of(
-    alloc: Global,
-    tree: &Tree,
-    depth: usize,
-    of_type: PrototypeType,
-    first: u32,
-    port: u32,
-) -> Result<IndexSet<PortEnd>, Memory>
-    requires is_tree { IsTree tree.now }
-    requires within { depth ≤ 8 }
-    ensures { IfOk result (λ found. (x : PortEnd) → Among x found.keys ↔ Among x (ends tree.now.d.now depth of_type first port)) }
-{
-    let mut found = IndexSet::new(alloc);
-    let mut spots = IndexSet::new(alloc);
-    enter(tree, depth, of_type, first, port, &mut spots, &mut found)?;
-    let mut left = depth;
-    while left > 0 {
-        left -= 1;
-        spots = follow(alloc, tree, left, spots.as_slice(), &mut found)?;
-    }
-    Ok(found)
 }

@@ -2,17 +2,18 @@
 
 ghost use Rattle.std.specs.Prelude.{◌≡◌, ◌≤◌, ◌↔◌, [], ◌∷◌, IfOk, IfSome, Some};
 ghost use Rattle.std.specs.Option.{option_map_or};
-ghost use Rattle.composition_flatten.specs.declared.tree.PortEnd.{PortEnd};
+ghost use Rattle.composition_flatten.specs.declared.seek.Wanted.{Wanted};
 ghost use Rattle.composition_flatten.specs.Ends.{ends, inner_ends};
+ghost use Rattle.composition_flatten.specs.Wishes.{AreFound};
 ghost use Rattle.composition_flatten.specs.Gates.{gate_ends, IsShallow};
 ghost use Rattle.composition_flatten.specs.Links.{outer_ends};
-ghost use Rattle.composition_flatten.specs.Members.{Among};
 ghost use Rattle.composition_flatten.specs.Trees.{IsTree};
 ghost use Rattle.description_types.specs.declared.description.Description.{Description};
 
 use crate::connectors::type_in;
 use crate::counts::DEPTH_LIMIT;
-use crate::ends::{ends_of, inner_ports, number_from, start_of};
+use crate::ends::{inner_ports, number_from, start_of};
+use crate::seek::{Found, Wish, ends_below, ends_of_instance};
 use crate::tree::{Owner, PortEnd, Tree};
 use description_types::{InnerPort, PrototypeType};
 use indexmap::IndexSet;
@@ -113,11 +114,11 @@ pub fn narrowed(tree: &Tree, gate: Gate) -> Gate
     last
 }
 
-/// All ends at or below a gate, each once.
-pub fn ends_at(alloc: Global, tree: &Tree, gate: Gate) -> Result<IndexSet<PortEnd>, Memory>
+/// The ends at or below a gate that are wished for, each once.
+pub fn ends_at(alloc: Global, tree: &Tree, gate: Gate, wish: &Wish) -> Result<Found, Memory>
     requires is_tree { IsTree tree.now }
     requires shallow { IsShallow gate }
-    ensures { IfOk result (λ found. (x : PortEnd) → Among x found.keys ↔ Among x (gate_ends tree.now.d.now gate)) }
+    ensures { IfOk result (AreFound wish.now.wanted (gate_ends tree.now.d.now gate)) }
 {
     match gate {
         Gate::Outer(port, interface) => {
@@ -125,27 +126,28 @@ pub fn ends_at(alloc: Global, tree: &Tree, gate: Gate) -> Result<IndexSet<PortEn
             Ok(found)
         }
         Gate::Component(component, first, port) => {
-            let of_type = PrototypeType::Component(component);
-            let found = ends_of(alloc, tree, 0, of_type, first, port)?;
+            let found = ends_of_instance(alloc, tree, component, first, port, wish)?;
             Ok(found)
         }
         Gate::Composition(depth, composition, first, port) => {
-            let of_type = PrototypeType::Composition(composition);
-            let found = ends_of(alloc, tree, depth, of_type, first, port)?;
+            let found = ends_below(alloc, tree, depth, composition, first, port, wish)?;
             Ok(found)
         }
     }
 }
 
-fn one_end(alloc: Global, port: u32, interface: u32) -> Result<IndexSet<PortEnd>, Memory>
-    ensures { IfOk result (λ found. (x : PortEnd) → Among x found.keys ↔ Among x (outer_ends (Some interface) port)) }
+fn one_end(alloc: Global, port: u32, interface: u32) -> Result<Found, Memory>
+    ensures { IfOk result (λ found. (w : Wanted) → AreFound w (outer_ends (Some interface) port) found) }
 {
-    let mut found = IndexSet::new(alloc);
+    let mut ends = IndexSet::new(alloc);
     let owner = Owner::Environment;
-    found.insert(PortEnd {
+    ends.insert(PortEnd {
         owner,
         port,
         interface,
     })?;
-    Ok(found)
+    Ok(Found {
+        ends,
+        is_cut: false,
+    })
 }

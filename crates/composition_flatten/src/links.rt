@@ -2,6 +2,7 @@
 
 ghost use Rattle.std.specs.Prelude.{◌≡◌, IfOk};
 ghost use Rattle.composition_flatten.specs.Growing.{Grown};
+ghost use Rattle.composition_flatten.specs.Links.{owner_from};
 
 use crate::tree::Owner;
 use rte_text::Memory;
@@ -32,4 +33,14 @@ pub fn add_link(links: &mut BTreeSet<Link>, link: Link) -> Result<bool, Memory>
 {
     links.insert(link)?;
     Ok(links.len() > LINK_LIMIT)
+}
+
+/// An owner, with instances numbered from another first one on.
+pub fn owner_from(first: u32, owner: Owner) -> Owner
+    ensures { result ≡ owner_from first owner }
+{
+    match owner {
+        Owner::Instance(number) => Owner::Instance(first.saturating_add(number)),
+        Owner::Environment => Owner::Environment,
+    }
 }

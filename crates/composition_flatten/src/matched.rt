@@ -6,8 +6,9 @@ ghost use Rattle.composition_flatten.specs.declared.links.Link.{Link};
 ghost use Rattle.composition_flatten.specs.declared.tree.PortEnd.{PortEnd};
 ghost use Rattle.composition_flatten.specs.Members.{Among};
 ghost use Rattle.indexmap.specs.IndexMap.{get};
-ghost use Rattle.composition_flatten.specs.Gates.{gate_ends};
-ghost use Rattle.composition_flatten.specs.Matching.{same_pair, AreMatches, HasPairs, IsAdding, IsMatched, IsSide};
+ghost use Rattle.composition_flatten.specs.Gates.{IsShallow};
+ghost use Rattle.composition_flatten.specs.Matching.{same_pair, AreMatches, IsAdding, IsMatched, IsSide};
+ghost use Rattle.composition_flatten.specs.Sharing.{AreShared, IsIndexed};
 ghost use Rattle.composition_flatten.specs.Tables.{under};
 ghost use Rattle.composition_flatten.specs.Trees.{IsTree};
 
@@ -15,7 +16,7 @@ use crate::gates::Gate;
 use crate::interfaces::Listed;
 use crate::links::LINK_LIMIT;
 use crate::matches::{interfaces_of, matches};
-use crate::sides::{Side, shared, side_of};
+use crate::sides::{Side, shared, side_of, weight};
 use crate::tree::{PortEnd, Tree};
 use description_types::Description;
 use indexmap::{IndexMap, IndexSet};
@@ -30,7 +31,7 @@ pub struct Matched<'a> {
     kept: IndexMap<(u32, u32), Vec<(u32, u32)>>,
     /// What is below gates.
     sides: IndexMap<Gate, Side<'a>>,
-    /// How many interfaces the sides have.
+    /// How many interfaces and ends the sides have.
     weight: usize,
     /// The pairs of ports whose links were added.
     done: IndexSet<(PortEnd, PortEnd)>,
@@ -38,7 +39,7 @@ pub struct Matched<'a> {
     crossed: IndexSet<(Gate, Gate)>,
 }
 
-/// How many interfaces the sides that are kept have at most, but for the last one.
+/// How many interfaces and ends the sides that are kept have at most, but for the last one.
 const SIDE_LIMIT: usize = 524_288;
 
 /// Forgets what was found where it is of as many pairs as there may be links. So what is kept is bounded.
@@ -161,8 +162,9 @@ impl<'a> Matched<'a> {
     }
 
     /// What is below a gate, taken from what is kept or found now.
-    fn take_side(&mut self, alloc: Global, tree: &Tree, gate: Gate) -> Result<Side<'a>, Memory>
+    pub fn take_side(&mut self, alloc: Global, tree: &Tree, gate: Gate) -> Result<Side<'a>, Memory>
         requires is_tree { IsTree tree.now }
+        requires shallow { IsShallow gate }
         requires matched { IsMatched tree.now.d.now self.old }
         ensures matched { OnOk result (IsMatched tree.now.d.now self.new) }
         ensures done { OnOk result (self.new.done ≡ self.old.done) }
@@ -171,7 +173,7 @@ impl<'a> Matched<'a> {
     {
         match self.sides.swap_remove(&gate) {
             Some(side) => {
-                self.weight = self.weight.saturating_sub(side.interfaces.len());
+                self.weight = self.weight.saturating_sub(weight(&side));
                 Ok(side)
             }
             None => {
@@ -196,38 +198,32 @@ impl<'a> Matched<'a> {
     }
 
     /// Keeps what is below a gate.
-    fn keep_side(&mut self, d: &Description, gate: Gate, side: Side<'a>) -> Result<(), Memory>
+    pub fn keep_side(&mut self, d: &Description, gate: Gate, side: Side<'a>) -> Result<(), Memory>
         requires matched { IsMatched d.now self.old }
         requires side { IsSide d.now gate side }
         ensures matched { OnOk result (IsMatched d.now self.new) }
         ensures done { OnOk result (self.new.done ≡ self.old.done) }
         ensures crossed { OnOk result (self.new.crossed ≡ self.old.crossed) }
     {
-        self.make_room_for(d, side.interfaces.len());
+        self.make_room_for(d, weight(&side));
         self.sides.insert(gate, side)?;
         Ok(())
     }
 
-    /// The pairs of interfaces of the ports below two gates that share an item.
-    pub fn shared(
-        &mut self,
+    /// The pairs of an interface of a provided side and one of a required side that share an item.
+    pub fn pairs(
+        &self,
         alloc: Global,
-        tree: &Tree,
-        provided: Gate,
-        required: Gate,
+        d: &Description,
+        provided: &Side,
+        required: &Side,
     ) -> Result<Vec<(u32, u32)>, Memory>
-        requires is_tree { IsTree tree.now }
-        requires matched { IsMatched tree.now.d.now self.old }
-        ensures matched { OnOk result (IsMatched tree.now.d.now self.new) }
-        ensures done { OnOk result (self.new.done ≡ self.old.done) }
-        ensures crossed { OnOk result (self.new.crossed ≡ self.old.crossed) }
-        ensures pairs { IfOk result (λ pairs. HasPairs tree.now.d.now (gate_ends tree.now.d.now provided) (gate_ends tree.now.d.now required) pairs.items) }
+        requires matched { IsMatched d.now self.now }
+        requires provided { IsIndexed d.now provided.now.interfaces.keys provided.now.index }
+        requires required { IsIndexed d.now required.now.interfaces.keys required.now.index }
+        ensures { IfOk result (λ pairs. AreShared d.now provided.now.interfaces.keys required.now.interfaces.keys pairs.items) }
     {
-        let first = self.take_side(alloc, tree, provided)?;
-        let second = self.take_side(alloc, tree, required)?;
-        let pairs = shared(alloc, tree.d, self.interfaces.as_slice(), &first, &second)?;
-        self.keep_side(tree.d, provided, first)?;
-        self.keep_side(tree.d, required, second)?;
+        let pairs = shared(alloc, d, self.interfaces.as_slice(), provided, required)?;
         Ok(pairs)
     }
 }

@@ -1,30 +1,46 @@
-//! The interfaces of the ports below gates, and which of them share an item.
+//! What is below gates: ends and their interfaces, and which of these share an item.
 
 ghost use Rattle.std.specs.Prelude.{◌≡◌, IfOk};
+ghost use Rattle.composition_flatten.specs.Gates.{IsShallow};
 ghost use Rattle.composition_flatten.specs.Matching.{AreListed, IsSide};
 ghost use Rattle.composition_flatten.specs.Sharing.{IsIndexed, AreShared};
 ghost use Rattle.composition_flatten.specs.Trees.{IsTree};
 
 use crate::below::interfaces_below;
-use crate::gates::Gate;
+use crate::gates::{Gate, ends_at};
+use crate::groups::{Groups, groups_of};
 use crate::interfaces::Listed;
+use crate::links::LINK_LIMIT;
 use crate::matches::turned;
 use crate::partners::{Index, index_of, partners};
+use crate::seek::{Wanted, Wish};
 use crate::tree::Tree;
 use description_types::Description;
 use indexmap::IndexSet;
 use rte_text::Memory;
 use std::alloc::Global;
 
-/// The interfaces of the ports below a gate.
+/// What is below a gate.
 #[derive(Drop)]
 pub struct Side<'a> {
+    /// The interfaces of the ports.
     pub interfaces: IndexSet<u32>,
     /// For each key of their items those that have it.
     pub index: Index<'a>,
+    /// The ends, for each interface.
+    pub groups: Groups,
+    /// How many ends there are in the groups.
+    pub count: usize,
+    /// Whether there are more ends. Then the groups have more than there may be links.
+    pub is_cut: bool,
 }
 
-/// The interfaces of the ports below a gate.
+/// How many interfaces and ends a side has.
+pub fn weight(side: &Side) -> usize {
+    side.interfaces.len().saturating_add(side.count)
+}
+
+/// What is below a gate.
 pub fn side_of<'a>(
     alloc: Global,
     tree: &Tree,
@@ -32,12 +48,25 @@ pub fn side_of<'a>(
     listed: &[Listed<'a>],
 ) -> Result<Side<'a>, Memory>
     requires is_tree { IsTree tree.now }
+    requires shallow { IsShallow gate }
     requires listed { AreListed tree.now.d.now listed.now }
     ensures { IfOk result (λ side. IsSide tree.now.d.now gate side) }
 {
     let interfaces = interfaces_below(alloc, tree, gate)?;
     let index = index_of(alloc, tree.d, listed, interfaces.as_slice())?;
-    Ok(Side { interfaces, index })
+    let wish = Wish {
+        wanted: Wanted::Anything,
+        limit: LINK_LIMIT,
+    };
+    let found = ends_at(alloc, tree, gate, &wish)?;
+    let groups = groups_of(alloc, found.ends.as_slice())?;
+    Ok(Side {
+        interfaces,
+        index,
+        groups,
+        count: found.ends.len(),
+        is_cut: found.is_cut,
+    })
 }
 
 /// The pairs of an interface of a provided side and one of a required side that share an item. The side with less interfaces

@@ -8,7 +8,7 @@ ghost use Rattle.composition_flatten.specs.Ends.{ends};
 ghost use Rattle.composition_flatten.specs.Gates.{gate_ends, IsShallow};
 ghost use Rattle.composition_flatten.specs.Members.{Among};
 ghost use Rattle.composition_flatten.specs.Growing.{AnyOf, Grown};
-ghost use Rattle.composition_flatten.specs.Links.{IsOwn, IsNode, IsNodeLink, IsOuterLink, IsLink, link_from, item_from, owner_from, outer_link};
+ghost use Rattle.composition_flatten.specs.Links.{IsOwn, IsNode, IsNodeLink, IsOuterLink, IsLink, link_from, item_from, outer_link};
 ghost use Rattle.composition_flatten.specs.Matching.{IsAdding, IsMatched};
 ghost use Rattle.composition_flatten.specs.Trees.{IsTree};
 
@@ -16,11 +16,11 @@ use crate::connectors::{interface_of, kind_of, ports_of};
 use crate::counts::DEPTH_LIMIT;
 use crate::crossing::cross_gates;
 use crate::gates::{Gate, narrowed};
-use crate::links::{Item, Link, add_link};
+use crate::links::{Item, Link, add_link, owner_from};
 use crate::matched::Matched;
 use crate::nodes::{Node, nodes_of};
 use crate::own::add_own;
-use crate::tree::{Owner, Tree};
+use crate::tree::Tree;
 use description_types::{PortKind, PrototypeType};
 use rte_text::Memory;
 use std::alloc::{AllocError, Global};
@@ -45,15 +45,6 @@ pub fn listed(alloc: Global, links: &BTreeSet<Link>) -> Result<Vec<Link>, Memory
         list.push(*link)?;
     }
     Ok(list)
-}
-
-fn owner_from(first: u32, owner: Owner) -> Owner
-    ensures { result ≡ owner_from first owner }
-{
-    match owner {
-        Owner::Instance(number) => Owner::Instance(first.saturating_add(number)),
-        Owner::Environment => Owner::Environment,
-    }
 }
 
 fn item_from(first: u32, item: Item) -> Item
