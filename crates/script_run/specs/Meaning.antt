@@ -49,10 +49,11 @@ not_of_type = 3
 
 -- ---- what the environment has: the elements of the root's outer ports
 
--- it writes the unqueued ones of R-ports (Rte_Write) and reads those of P-ports (Rte_Read)
+-- It writes the unqueued ones of R-ports, which it provides to the instances (Rte_Write), and reads those of P-ports, which they
+-- provide to it (Rte_Read).
 abbrev pub has_role : Role → ElemPlan → Bool
-has_role Written e = not (is_some e.instance) && (is_unqueued e && not e.provided)
-has_role Read e = not (is_some e.instance) && (is_unqueued e && e.provided)
+has_role Written e = not (is_some e.instance) && (is_unqueued e && e.provided)
+has_role Read e = not (is_some e.instance) && (is_unqueued e && not e.provided)
 
 -- the number of the first that has this name, PORT.ELEMENT, where the elements are numbered from this number on
 abbrev pub element_from : Role → ℕ → List ElemPlan → Letters → Option ℕ

@@ -13,9 +13,9 @@ use std::alloc::{AllocError, Global};
 /// What the environment does with an element of an outer port.
 #[derive(Clone, Copy)]
 pub enum Role {
-    /// It writes an unqueued element of an R-port (SWS_RTE: Rte_Write).
+    /// It writes an unqueued element of an R-port, which it provides to the instances (SWS_RTE: Rte_Write).
     Written,
-    /// It reads an unqueued element of a P-port (SWS_RTE: Rte_Read).
+    /// It reads an unqueued element of a P-port, which the instances provide to it (SWS_RTE: Rte_Read).
     Read,
 }
 
@@ -37,8 +37,8 @@ fn has_role(role: Role, element: &ElemPlan) -> bool
         return false;
     }
     match (role, element.kind) {
-        (Role::Written, ElemKind::Unqueued) => !element.provided,
-        (Role::Read, ElemKind::Unqueued) => element.provided,
+        (Role::Written, ElemKind::Unqueued) => element.provided,
+        (Role::Read, ElemKind::Unqueued) => !element.provided,
         _ => false,
     }
 }

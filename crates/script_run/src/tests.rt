@@ -33,14 +33,15 @@ fn element(
     })
 }
 
-// An instance's element, and of the environment one of one word, one of two words, a queued one, and a provided one.
+// An instance's element, and of the environment, which it provides, one of one word, one of two words and a queued one, and one
+// that the instances provide to it.
 fn elements(alloc: Global) -> Result<Vec<ElemPlan>, AllocError> {
     let inner = element(alloc, Some(0), b"inner.v", ElemKind::Unqueued, false, 1)?;
-    let one = element(alloc, None, b"in.v", ElemKind::Unqueued, false, 1)?;
-    let two = element(alloc, None, b"in.w", ElemKind::Unqueued, false, 2)?;
-    let queued = element(alloc, None, b"in.q", ElemKind::Queued, false, 1)?;
-    let provided = element(alloc, None, b"out.v", ElemKind::Unqueued, true, 1)?;
-    Ok(vec![in alloc; inner, one, two, queued, provided]?)
+    let one = element(alloc, None, b"in.v", ElemKind::Unqueued, true, 1)?;
+    let two = element(alloc, None, b"in.w", ElemKind::Unqueued, true, 2)?;
+    let queued = element(alloc, None, b"in.q", ElemKind::Queued, true, 1)?;
+    let required = element(alloc, None, b"out.v", ElemKind::Unqueued, false, 1)?;
+    Ok(vec![in alloc; inner, one, two, queued, required]?)
 }
 
 fn plan(alloc: Global) -> Result<BusPlan, AllocError> {
