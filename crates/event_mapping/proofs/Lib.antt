@@ -1,3 +1,7 @@
 pub mod Listing
 pub mod Telling
 pub mod Summing
+pub mod Apart
+pub mod Alone
+pub mod Totals
+pub mod Foretelling

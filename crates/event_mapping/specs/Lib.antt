@@ -1,4 +1,6 @@
 pub mod Planned
 pub mod Pieces
 pub mod Rules
+pub mod Guard
+pub mod Foretold
 pub mod Refusals

@@ -1,6 +1,6 @@
 //! The checks of a description made flat, and its plan and mapping where it keeps them.
 
-ghost use Rattle.std.specs.Prelude.{◌≡◌, IfOk, OnOk, Some};
+ghost use Rattle.std.specs.Prelude.{◌≡◌, Err, IfOk, OnOk, Some};
 ghost use Rattle.mapping_rules.specs.Refusals.{Says, Tells, mapping_text};
 ghost use Rattle.mapping_rules.specs.Refusals as rules;
 ghost use Rattle.mapping_rules.specs.Rules.{HaveOrder};
@@ -9,6 +9,7 @@ ghost use Rattle.event_mapping.specs.Planned.{plan_of, seen};
 ghost use Rattle.event_mapping.specs.Refusals.{IsOfSize, IsRefusal, IsThen, of_size};
 
 use crate::build::build_plan;
+use crate::guard::is_foretold;
 use crate::size::is_too_large;
 use bus_semantics::{BusPlan, Mapping};
 use component_rules::check_components;
@@ -18,11 +19,13 @@ use mapping_rules::check_mapping;
 use rte_text::{Refusal, Refused, Text};
 use std::alloc::Global;
 
-fn refuse_size(alloc: Global) -> Result<(), Refused>
-    ensures { Says (Some (30, mapping_text)) result }
+fn size_refusal(alloc: Global) -> Refused
+    ensures { Says {U = Unit} (Some (30, mapping_text)) (Err result) }
 {
-    let place = Text::new(alloc, "/mapping".as_bytes())?;
-    Err(Refused::Rule(Refusal { rule: 30, place }))
+    match Text::new(alloc, "/mapping".as_bytes()) {
+        Ok(place) => Refused::Rule(Refusal { rule: 30, place }),
+        Err(_) => Refused::Memory,
+    }
 }
 
 fn check_size(alloc: Global, plan: &BusPlan) -> Result<(), Refused>
@@ -30,7 +33,7 @@ fn check_size(alloc: Global, plan: &BusPlan) -> Result<(), Refused>
 {
     let large = is_too_large(plan)?;
     if large {
-        return refuse_size(alloc);
+        return Err(size_refusal(alloc));
     }
     Ok(())
 }
@@ -47,6 +50,24 @@ fn sized_plan(alloc: Global, d: &Description, f: &Flat, mapped: &[bool]) -> Resu
     }
 }
 
+/// The plan, listed only where the counts do not tell that it is too large.
+fn bounded_plan(
+    alloc: Global,
+    d: &Description,
+    f: &Flat,
+    mapped: &[bool],
+) -> Result<BusPlan, Refused>
+    requires { mapped.now ≡ are_mapped d.now f.now }
+    ensures size { Says (of_size (plan_of d.now f.now)) result }
+    ensures plan { IfOk result (λ plan. seen plan ≡ plan_of d.now f.now) }
+{
+    let foretold = is_foretold(alloc, d, f)?;
+    if foretold {
+        return Err(size_refusal(alloc));
+    }
+    sized_plan(alloc, d, f, mapped)
+}
+
 fn planned(
     alloc: Global,
     d: &Description,
@@ -59,7 +80,7 @@ fn planned(
     ensures plan { IfOk result (λ found. seen found.0 ≡ plan_of d.now f.now) }
     ensures mapping { IfOk result (λ found. found.1 ≡ mapping) }
 {
-    match sized_plan(alloc, d, f, mapped) {
+    match bounded_plan(alloc, d, f, mapped) {
         Ok(plan) => Ok((plan, mapping)),
         Err(refused) => Err(refused),
     }

@@ -4,6 +4,7 @@
 mod areas;
 mod build;
 mod check;
+mod guard;
 mod pieces;
 mod size;
 

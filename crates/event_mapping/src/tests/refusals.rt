@@ -51,7 +51,7 @@ fn described(alloc: Global, case: &Case) -> Result<String, Memory> {
 }
 
 // How many objects the plan has, or the rule that is broken, with its place.
-fn shown(alloc: Global, text: &str) -> Result<String, Refused> {
+pub fn shown(alloc: Global, text: &str) -> Result<String, Refused> {
     let d = read_description(alloc, text.as_bytes())?;
     let f = flatten(alloc, &d)?;
     match map_events(alloc, &d, &f) {

@@ -1,0 +1,91 @@
+-- What the counts tell of a plan.
+use Rattle.std.proofs.Common.{◌≡◌, ℕ, ◌+◌, ◌<◌, ◌≤◌, [], filter, length, Bool, true, false, ◌||◌, nat_le, nat_lt, Option, Some, None, ⊎_elim, refl, sym, ◌∙◌, arith, slice_get}
+use Rattle.std.proofs.lemmas.Bool.{leb-false, leb-true, lt-ltb, ltb-false, ltb-true, or_cases, or_left, or_parts, or_right}
+use Rattle.std.specs.List.{sum_by}
+use Rattle.std.specs.Option.{option_map_or, unwrap_or}
+use Rattle.description_types.specs.declared.component.Component.{Component}
+use Rattle.description_types.specs.declared.description.Description.{Description}
+use Rattle.composition_flatten.specs.declared.flat.Flat.{Flat}
+use Rattle.composition_flatten.specs.declared.flat.Instance.{Instance}
+use Rattle.plan_numbers.specs.declared.site.Site.{Site}
+use Rattle.plan_numbers.specs.Keys.{is_element, key_of}
+use Rattle.plan_numbers.specs.Sites.{sites}
+use Rattle.plan_ports.specs.Things.{elements_of, machines_of, servers_of}
+use Rattle.plan_elements.specs.Elements.{element_of, elements, group_of, leaders}
+use Rattle.plan_elements.specs.Groups.{groups}
+use Rattle.plan_runnables.specs.Started.{event_of, events, events_of_component}
+use Rattle.plan_services.specs.Modes.{machine_at, machines}
+use Rattle.plan_services.specs.Services.{server_of, servers}
+use Rattle.event_mapping.specs.Foretold.{IsForetold, listed}
+use Rattle.event_mapping.specs.Guard.{event_count, events_of_instance, is_counted, item_count}
+use Rattle.event_mapping.specs.Planned.{area_of, areas, areas_at, named_areas, plan_of}
+use Rattle.event_mapping.specs.Rules.{is_too_large, queue_lengths}
+use Rattle.event_mapping.proofs.Alone.{groups_most}
+use Rattle.event_mapping.proofs.Apart.{apart_filter, sites_apart}
+use Rattle.event_mapping.proofs.Totals.{areas_in, by_kind, length_from, length_map, sites_counted}
+
+module _ (d : Description) (f : Flat) where
+  events_listed : length (events d f) ≡ event_count d f
+  events_listed = length_from (λ i (x : Instance). option_map_or (events_of_component d f i) (slice_get d.components x.component) []) (events_of_instance d) each 0 f.instances
+    where
+      each : (i : ℕ) (x : Instance) → length (option_map_or (events_of_component d f i) (slice_get d.components x.component) []) ≡ events_of_instance d x
+      each i x = by (slice_get d.components x.component)
+        where
+          by : (o : Option Component) → length (option_map_or (events_of_component d f i) o []) ≡ option_map_or (λ (c : Component). length c.behavior.events) o 0
+          by None = refl
+          by (Some c) = length_map (event_of d f i) c.behavior.events
+
+  areas_listed : length (areas d f) ≡ sum_by (areas_in d) f.instances
+  areas_listed = length_from (λ i x. named_areas i (areas_at d x)) (areas_in d) each 0 f.instances
+    where
+      each : (i : ℕ) (x : Instance) → length (named_areas i (areas_at d x)) ≡ areas_in d x
+      each i x = length_map (area_of i) (areas_at d x) ∙ by (slice_get d.components x.component)
+        where
+          by : (o : Option Component) → length (option_map_or (λ (c : Component). c.behavior.exclusive_areas) o []) ≡ option_map_or (λ (c : Component). length c.behavior.exclusive_areas) o 0
+          by None = refl
+          by (Some c) = refl
+
+  elements_listed : length (elements d f) ≡ length (elements_of d f)
+  elements_listed = length_map (λ s. element_of d f (group_of d f s) s) (elements_of d f)
+
+  servers_listed : length (servers d f) ≡ length (servers_of d f)
+  servers_listed = length_map (server_of d f) (servers_of d f)
+
+  machines_listed : length (machines d f) ≡ length (machines_of d f)
+  machines_listed = length_map (λ s. machine_at d f s.owner (unwrap_or s.port 0)) (machines_of d f)
+
+  all_listed : listed (plan_of d f) ≡ item_count d f
+  all_listed =
+      let counted = sites_counted d f in
+      let kinds : length (elements_of d f) + (length (servers_of d f) + length (machines_of d f)) ≡ length (filter (λ s. is_counted s.kind) (sites d f)) = by_kind (sites d f) in
+      omega (arith, counted, kinds, elements_listed, servers_listed, machines_listed, areas_listed)
+
+  -- all but what the ends of joins name are objects, with the clock
+  objects_most : item_count d f < (plan_of d f).objects + (length f.joins + length f.joins)
+  objects_most =
+      let most : length (elements_of d f) ≤ length (groups (leaders d f)) + (length f.joins + length f.joins)
+      = groups_most f.joins (elements_of d f) (apart_filter key_of (λ (s : Site). is_element s.kind) (sites d f) (sites_apart d f)) in
+      omega (arith, all_listed, most, elements_listed)
+
+  pub foretold : (answer : Bool) (count items least : ℕ) → answer ≡ (nat_lt 16384 count || nat_le least items) → count ≡ event_count d f → items ≡ item_count d f → least ≡ 16384 + (length f.joins + length f.joins) → IsForetold answer d f
+  foretold true count items least is events_are items_are least_is = ⊎_elim many_events many_objects (or_cases (nat_lt 16384 count) (nat_le least items) (sym is))
+    where
+      objects_over : Bool
+      objects_over = nat_lt 16384 (plan_of d f).objects
+
+      events_over : Bool
+      events_over = nat_lt 16384 (length (events d f))
+
+      lengths_over : Bool
+      lengths_over = nat_lt 65536 (queue_lengths (plan_of d f))
+
+      many_events : nat_lt 16384 count ≡ true → is_too_large (plan_of d f) ≡ true
+      many_events over = let lt = ltb-true 16384 count over in or_left (objects_over || events_over) lengths_over (or_right objects_over events_over (lt-ltb 16384 (length (events d f)) (omega (arith, lt, events_listed, events_are))))
+
+      many_objects : nat_le least items ≡ true → is_too_large (plan_of d f) ≡ true
+      many_objects over = let le = leb-true least items over in or_left (objects_over || events_over) lengths_over (or_left objects_over events_over (lt-ltb 16384 (plan_of d f).objects (omega (arith, le, objects_most, items_are, least_is))))
+  foretold false count items least is events_are items_are least_is =
+      let parts = or_parts (nat_lt 16384 count) (nat_le least items) (sym is) in
+      let few = ltb-false 16384 count parts.0 in
+      let short = leb-false least items parts.1 in
+      (omega (arith, all_listed, short, items_are, least_is), omega (arith, few, events_listed, events_are))

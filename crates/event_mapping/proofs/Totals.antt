@@ -1,0 +1,176 @@
+-- As much is listed as was counted.
+use Rattle.std.proofs.Common.{◌≡◌, ℕ, zero, suc, ◌+◌, List, [], ◌∷◌, length, map, filter, Bool, true, false, cond, Option, Some, None, option_map, unwrap_or, refl, sym, ap, ◌∙◌, arith, slice_get}
+use Rattle.std.proofs.lemmas.List.{length-append}
+use Rattle.std.proofs.lemmas.List.Elements.{filter-append}
+use Rattle.std.proofs.lemmas.List.Sums.{sum_by-cons}
+use Rattle.std.specs.List.{sum_by}
+use Rattle.std.specs.Option.{option_map_or}
+use Rattle.interface_types.specs.declared.interface.Interface.{Interface}
+use Rattle.interface_types.specs.declared.interface.InterfaceKind.{InterfaceKind}
+use Rattle.interface_types.specs.declared.interface.InterfaceKind.TheVariants.{SenderReceiver, ClientServer, ModeSwitch}
+use Rattle.interface_types.specs.declared.interface.TypeTable.{TypeTable}
+use Rattle.description_types.specs.declared.component.Component.{Component}
+use Rattle.description_types.specs.declared.component.Port.{Port}
+use Rattle.description_types.specs.declared.component.PortKind.{PortKind}
+use Rattle.description_types.specs.declared.component.PortKind.TheVariants.{Provided, Required}
+use Rattle.description_types.specs.declared.description.Description.{Description}
+use Rattle.composition_flatten.specs.declared.flat.Flat.{Flat}
+use Rattle.composition_flatten.specs.declared.flat.Instance.{Instance}
+use Rattle.plan_numbers.specs.declared.site.Site.{Site}
+use Rattle.plan_numbers.specs.declared.site.SiteKind.{SiteKind}
+use Rattle.plan_numbers.specs.declared.site.SiteKind.TheVariants.{Element, Variable, Server, Machine, ModePort}
+use Rattle.plan_numbers.specs.Keys.{is_element, is_machine, is_server}
+use Rattle.plan_numbers.specs.Lists.{from, positions}
+use Rattle.plan_numbers.specs.Sites.{count_at, kind_at, root_ports, shape_at, site, sites, sites_at, sites_of_component, sites_of_instance, sites_of_ports, sites_with, variables_of}
+use Rattle.event_mapping.specs.Guard.{counted_with, is_counted, items_at, items_in, items_of_instance, items_of_ports, item_count}
+
+-- ---- lists that are made of others
+
+pub length_map : {X Y : Type 0} (f : X → Y) (xs : List X) → length (map f xs) ≡ length xs
+length_map f [] = refl
+length_map f (x ∷ xs) = ap (λ n. suc n) (length_map f xs)
+
+module _ {X Y : Type 0} (g : ℕ → X → List Y) (h : X → ℕ) where
+  pub length_from : ((i : ℕ) (x : X) → length (g i x) ≡ h x) → (i : ℕ) (xs : List X) → length (from i g xs) ≡ sum_by h xs
+  length_from each i [] = refl
+  length_from each i (x ∷ xs) = length-append (g i x) (from (i + 1) g xs) ∙ (λ j. each i x j + length_from each (i + 1) xs j) ∙ sym (sum_by-cons h x xs)
+
+  kept_from : (test : Y → Bool) → ((i : ℕ) (x : X) → length (filter test (g i x)) ≡ h x) → (i : ℕ) (xs : List X) → length (filter test (from i g xs)) ≡ sum_by h xs
+  kept_from test each i [] = refl
+  kept_from test each i (x ∷ xs) = ap length (filter-append test (g i x) (from (i + 1) g xs)) ∙ length-append (filter test (g i x)) (filter test (from (i + 1) g xs))
+      ∙ (λ j. each i x j + kept_from test each (i + 1) xs j) ∙ sym (sum_by-cons h x xs)
+
+sum_both : {X : Type 0} (a b c : X → ℕ) → ((x : X) → a x + b x ≡ c x) → (xs : List X) → sum_by a xs + sum_by b xs ≡ sum_by c xs
+sum_both a b c each [] = refl
+sum_both a b c each (x ∷ xs) =
+    let first = sum_by-cons a x xs in
+    let second = sum_by-cons b x xs in
+    let whole = sum_by-cons c x xs in
+    let here = each x in
+    let rest = sum_both a b c each xs in
+    omega (arith, first, second, whole, here, rest)
+
+-- ---- sites
+
+abbrev counts : Site → Bool
+counts s = is_counted s.kind
+
+passing : {X : Type 0} (test : X → Bool) (F : ℕ → X) → ((n : ℕ) → test (F n) ≡ true) → (i n : ℕ) → length (filter test (map F (positions i n))) ≡ n
+passing test F each i zero = refl
+passing test F each i (suc n) = by (test (F i)) (each i) (passing test F each (i + 1) n)
+  where
+    by : (b : Bool) → b ≡ true → length (filter test (map F (positions (i + 1) n))) ≡ n
+        → length (cond b (F i ∷ filter test (map F (positions (i + 1) n))) (filter test (map F (positions (i + 1) n)))) ≡ suc n
+    by true is rest = ap (λ m. suc m) rest
+    by false is rest = cc
+
+failing : {X : Type 0} (test : X → Bool) (F : ℕ → X) → ((n : ℕ) → test (F n) ≡ false) → (i n : ℕ) → length (filter test (map F (positions i n))) ≡ 0
+failing test F each i zero = refl
+failing test F each i (suc n) = by (test (F i)) (each i) (failing test F each (i + 1) n)
+  where
+    by : (b : Bool) → b ≡ false → length (filter test (map F (positions (i + 1) n))) ≡ 0
+        → length (cond b (F i ∷ filter test (map F (positions (i + 1) n))) (filter test (map F (positions (i + 1) n)))) ≡ 0
+    by true is rest = cc
+    by false is rest = rest
+
+with_kind : (owner : Option ℕ) (k : ℕ) (kind : SiteKind) (count : ℕ) → length (filter counts (sites_with owner k kind count)) ≡ counted_with (kind, count)
+with_kind owner k kind count = by (is_counted kind) refl
+  where
+    by : (b : Bool) → is_counted kind ≡ b → length (filter counts (sites_with owner k kind count)) ≡ cond b count 0
+    by true is = passing counts (λ n. site owner (Some k) n kind) (λ n. is) 0 count
+    by false is = failing counts (λ n. site owner (Some k) n kind) (λ n. is) 0 count
+
+module _ (types : TypeTable) where
+  at_port : (owner : Option ℕ) (k : ℕ) (port : Port) → length (filter counts (sites_at types owner k port)) ≡ items_at types owner port
+  at_port owner k port = by (shape_at types owner port)
+    where
+      by : (o : Option (SiteKind × ℕ)) → length (filter counts (option_map_or (λ (x : SiteKind × ℕ). sites_with owner k x.0 x.1) o [])) ≡ option_map_or counted_with o 0
+      by None = refl
+      by (Some x) = with_kind owner k x.0 x.1
+
+  at_ports : (owner : Option ℕ) (ports : List Port) → length (filter counts (sites_of_ports types owner ports)) ≡ items_of_ports types owner ports
+  at_ports owner ports = kept_from (sites_at types owner) (items_at types owner) counts (at_port owner) 0 ports
+
+  -- as many for each instance
+  same_items : (i : ℕ) (side : PortKind) (kind : InterfaceKind) → counted_with (kind_at (Some i) side kind, count_at (Some i) side kind) ≡ counted_with (kind_at (Some 0) side kind, count_at (Some 0) side kind)
+  same_items i Provided (SenderReceiver elements) = refl
+  same_items i Provided (ClientServer operations) = refl
+  same_items i Provided (ModeSwitch element) = refl
+  same_items i Required (SenderReceiver elements) = refl
+  same_items i Required (ClientServer operations) = refl
+  same_items i Required (ModeSwitch element) = refl
+
+  same_at : (i : ℕ) (port : Port) → items_at types (Some i) port ≡ items_at types (Some 0) port
+  same_at i port = by (slice_get types.interfaces port.interface)
+    where
+      by : (o : Option Interface) → option_map_or counted_with (option_map (λ (x : Interface). (kind_at (Some i) port.kind x.kind, count_at (Some i) port.kind x.kind)) o) 0
+          ≡ option_map_or counted_with (option_map (λ (x : Interface). (kind_at (Some 0) port.kind x.kind, count_at (Some 0) port.kind x.kind)) o) 0
+      by None = refl
+      by (Some x) = same_items i port.kind x.kind
+
+  at_component : (i : ℕ) (c : Component) → length (filter counts (sites_of_component types i c)) ≡ items_of_ports types (Some 0) c.ports + length c.behavior.variables
+  at_component i c = ap length (filter-append counts (sites_of_ports types (Some i) c.ports) (variables_of i (length c.behavior.variables)))
+      ∙ length-append (filter counts (sites_of_ports types (Some i) c.ports)) (filter counts (variables_of i (length c.behavior.variables)))
+      ∙ (λ j. (at_ports (Some i) c.ports ∙ (λ t. sum_by (λ port. same_at i port t) c.ports)) j
+      + passing counts (λ n. site (Some i) None n Variable) (λ n. refl) 0 (length c.behavior.variables) j)
+
+abbrev pub areas_in : Description → Instance → ℕ
+areas_in d x = option_map_or (λ c. length c.behavior.exclusive_areas) (slice_get d.components x.component) 0
+
+module _ (d : Description) where
+  abbrev sites_in : Instance → ℕ
+  sites_in x = option_map_or (λ c. items_of_ports d.types (Some 0) c.ports + length c.behavior.variables) (slice_get d.components x.component) 0
+
+  at_instance : (i : ℕ) (x : Instance) → length (filter counts (sites_of_instance d i x)) ≡ sites_in x
+  at_instance i x = by (slice_get d.components x.component)
+    where
+      by : (o : Option Component) → length (filter counts (option_map_or (sites_of_component d.types i) o [])) ≡ option_map_or (λ (c : Component). items_of_ports d.types (Some 0) c.ports + length c.behavior.variables) o 0
+      by None = refl
+      by (Some c) = at_component d.types i c
+
+  with_areas : (x : Instance) → sites_in x + areas_in d x ≡ items_of_instance d x
+  with_areas x = by (slice_get d.components x.component)
+    where
+      by : (o : Option Component) → option_map_or (λ (c : Component). items_of_ports d.types (Some 0) c.ports + length c.behavior.variables) o 0 + option_map_or (λ (c : Component). length c.behavior.exclusive_areas) o 0
+          ≡ option_map_or (items_in d.types) o 0
+      by None = refl
+      by (Some c) = omega arith
+
+  pub sites_counted : (f : Flat) → length (filter counts (sites d f)) + sum_by (areas_in d) f.instances ≡ item_count d f
+  sites_counted f =
+      let parts : length (filter counts (sites d f)) ≡ length (filter counts inner) + length (filter counts outer)
+      = ap length (filter-append counts inner outer) ∙ length-append (filter counts inner) (filter counts outer) in
+      let first : length (filter counts inner) ≡ sum_by sites_in f.instances = kept_from (sites_of_instance d) sites_in counts at_instance 0 f.instances in
+      let second : length (filter counts outer) ≡ items_of_ports d.types None (root_ports d) = at_ports d.types None (root_ports d) in
+      let both : sum_by sites_in f.instances + sum_by (areas_in d) f.instances ≡ sum_by (items_of_instance d) f.instances = sum_both sites_in (areas_in d) (items_of_instance d) with_areas f.instances in
+      omega (arith, parts, first, second, both)
+    where
+      inner : List Site
+      inner = from 0 (sites_of_instance d) f.instances
+
+      outer : List Site
+      outer = sites_of_ports d.types None (root_ports d)
+
+-- elements, servers and machines are all that counts
+pub by_kind : (xs : List Site) → length (filter (λ s. is_element s.kind) xs) + (length (filter (λ s. is_server s.kind) xs) + length (filter (λ s. is_machine s.kind) xs)) ≡ length (filter (λ s. is_counted s.kind) xs)
+by_kind [] = refl
+by_kind (x ∷ xs) = by x.kind (by_kind xs)
+  where
+    by : (k : SiteKind) → length (filter (λ s. is_element s.kind) xs) + (length (filter (λ s. is_server s.kind) xs) + length (filter (λ s. is_machine s.kind) xs)) ≡ length (filter (λ s. is_counted s.kind) xs)
+        → length (cond (is_element k) (x ∷ filter (λ s. is_element s.kind) xs) (filter (λ s. is_element s.kind) xs))
+        + (length (cond (is_server k) (x ∷ filter (λ s. is_server s.kind) xs) (filter (λ s. is_server s.kind) xs)) + length (cond (is_machine k) (x ∷ filter (λ s. is_machine s.kind) xs) (filter (λ s. is_machine s.kind) xs)))
+        ≡ length (cond (is_counted k) (x ∷ filter (λ s. is_counted s.kind) xs) (filter (λ s. is_counted s.kind) xs))
+    by (Element provided) rest = omega (arith, rest)
+    by Variable rest = omega (arith, rest)
+    by Server rest = omega (arith, rest)
+    by Machine rest = omega (arith, rest)
+    by ModePort rest = rest
+
+-- the same by a list of counts
+looked_up : {X : Type 0} (g : X → ℕ) (xs : List X) (n : ℕ) → unwrap_or (slice_get (map g xs) n) 0 ≡ option_map_or g (slice_get xs n) 0
+looked_up g [] n = refl
+looked_up g (x ∷ xs) zero = refl
+looked_up g (x ∷ xs) (suc n) = looked_up g xs n
+
+pub instances_counted : (d : Description) (counts : List ℕ) (xs : List Instance) → counts ≡ map (items_in d.types) d.components → sum_by (λ x. unwrap_or (slice_get counts x.component) 0) xs ≡ sum_by (items_of_instance d) xs
+instances_counted d counts xs are = (λ j. sum_by (λ x. unwrap_or (slice_get (are j) x.component) 0) xs) ∙ (λ j. sum_by (λ x. looked_up (items_in d.types) d.components x.component j) xs)

@@ -1,0 +1,44 @@
+-- How much a plan would list, counted before anything is listed.
+use Rattle.std.specs.Prelude.{ℕ, ◌+◌, List, length, sum_by, Bool, true, false, slice_get, Option, Some, None, if◌then◌else◌}
+use Rattle.std.specs.Option.{option_map_or}
+use Rattle.interface_types.specs.declared.interface.TypeTable.{TypeTable}
+use Rattle.description_types.specs.declared.component.Component.{Component}
+use Rattle.description_types.specs.declared.component.Port.{Port}
+use Rattle.description_types.specs.declared.description.Description.{Description}
+use Rattle.composition_flatten.specs.declared.flat.Flat.{Flat}
+use Rattle.composition_flatten.specs.declared.flat.Instance.{Instance}
+use Rattle.plan_numbers.specs.declared.site.SiteKind.{SiteKind}
+use Rattle.plan_numbers.specs.declared.site.SiteKind.TheVariants.{ModePort}
+use Rattle.plan_numbers.specs.Sites.{root_ports, shape_at}
+
+-- data elements, variables, servers and mode machines; a required mode element has its machine elsewhere
+abbrev pub is_counted : SiteKind → Bool
+is_counted ModePort = false
+is_counted _ = true
+
+-- how many of them stand at a port, and at some ports
+abbrev pub counted_with : SiteKind × ℕ → ℕ
+counted_with x = if is_counted x.0 then x.1 else 0
+
+abbrev pub items_at : TypeTable → Option ℕ → Port → ℕ
+items_at types owner port = option_map_or counted_with (shape_at types owner port) 0
+
+abbrev pub items_of_ports : TypeTable → Option ℕ → List Port → ℕ
+items_of_ports types owner ports = sum_by (items_at types owner) ports
+
+-- those of an instance, with its variables and its exclusive areas: as many for each instance of a component
+abbrev pub items_in : TypeTable → Component → ℕ
+items_in types c = items_of_ports types (Some 0) c.ports + (length c.behavior.variables + length c.behavior.exclusive_areas)
+
+abbrev pub items_of_instance : Description → Instance → ℕ
+items_of_instance d x = option_map_or (items_in d.types) (slice_get d.components x.component) 0
+
+abbrev pub events_of_instance : Description → Instance → ℕ
+events_of_instance d x = option_map_or (λ c. length c.behavior.events) (slice_get d.components x.component) 0
+
+-- those of all instances and of the environment
+abbrev pub item_count : Description → Flat → ℕ
+item_count d f = sum_by (items_of_instance d) f.instances + items_of_ports d.types None (root_ports d)
+
+abbrev pub event_count : Description → Flat → ℕ
+event_count d f = sum_by (events_of_instance d) f.instances
