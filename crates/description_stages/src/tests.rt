@@ -4,6 +4,8 @@ use std::alloc::{AllocError, Global};
 use std::process::Abort;
 use std::test::Fail;
 
+mod plans;
+
 // Two data types, and two interfaces of one data element, of the first type and of the second.
 const TYPES: &str =
     r#""dataTypes":[{"shortName":"T","baseType":"uint16","lower":0,"upper":1000,"words":1},
