@@ -3,7 +3,7 @@
 
     make_description.py MEBIBYTES [BREAK]
 
-It breaks none of the rules that are judged today (1 to 15), and has every kind of object, access and statement. At most
+It breaks none of the rules 1 to 30, and has every kind of object, access and statement. At most
 1,000 instances of its components stand below the root, since a description may have 1,024. With BREAK the last name of the
 file refers to nothing, so that each rule of names is looked at to the end of the file.
 """
@@ -108,22 +108,34 @@ STATEMENTS = [
 ]
 
 
-def program():
-    nested = STATEMENTS
+# An operation that is called without waiting is called by one runnable only.
+ONCE = ["acall", "result"]
+
+# What no area may hold.
+CALLS = ["call", "acall"]
+
+
+def program(statements):
+    nested = [one for one in statements if one[0] not in CALLS]
     for depth in range(3):
         nested = [["if", ["lt", "x", depth], nested[:9], nested[9:]], ["set", "y", ["div", "x", 2]]]
-    return [["set", "x", 1], ["area", "guard", [["repeat", 10, nested]]]] + STATEMENTS
+    return [["set", "x", 1], ["area", "guard", [["repeat", 10, nested]]]] + statements
+
+
+def runnable(n):
+    accesses = [one for one in ACCESSES if n == 0 or one[0] not in ONCE]
+    statements = [one for one in STATEMENTS if n == 0 or one[0] not in ONCE]
+    return {"shortName": f"Run{n}", "accesses": accesses, "program": program(statements)}
 
 
 def component(n):
-    runnables = [{"shortName": f"Run{i}", "accesses": ACCESSES, "program": program()} for i in range(2)]
-    runnables.append({"shortName": "Serve", "canBeInvokedConcurrently": True})
+    runnables = [runnable(i) for i in range(2)]
+    runnables += [{"shortName": f"Serve{i}", "canBeInvokedConcurrently": True} for i in range(2)]
     off = {"port": "modes", "modes": ["Off"]}
     events = [
         {"kind": "TimingEvent", "shortName": "Tick", "runnable": "Run0", "period": 10, "disabledInModes": off},
         {"kind": "InitEvent", "shortName": "Start", "runnable": "Run0"},
         {"kind": "DataReceivedEvent", "shortName": "Got", "runnable": "Run1", "port": "in", "element": "element1"},
-        {"kind": "OperationInvokedEvent", "shortName": "Asked", "runnable": "Serve", "port": "serves", "operation": "operation0"},
         {
             "kind": "AsynchronousServerCallReturnsEvent",
             "shortName": "Back",
@@ -140,6 +152,16 @@ def component(n):
             "modes": ["Off", "On"],
         },
         {"kind": "ModeSwitchedAckEvent", "shortName": "Shifted", "runnable": "Run1", "port": "switches"},
+    ]
+    events += [
+        {
+            "kind": "OperationInvokedEvent",
+            "shortName": f"Asked{i}",
+            "runnable": f"Serve{i}",
+            "port": "serves",
+            "operation": f"operation{i}",
+        }
+        for i in range(2)
     ]
     return {
         "shortName": f"Component{n}",
@@ -168,8 +190,21 @@ def composition(n):
     }
 
 
+# The events that are mapped; the servers are direct.
+MAPPED = ["Tick", "Start", "Got", "Back", "Shift", "Shifted"]
+
+
 def mapped(n):
-    return {"instance": f"c{n}/first", "event": "Tick", "task": f"Task{n % 256}", "position": n // 256}
+    return [
+        {
+            "instance": f"c{n}/{name}",
+            "event": event,
+            "task": f"Task{n % 256}",
+            "position": (n // 256 * 2 + number) * len(MAPPED) + place,
+        }
+        for number, name in enumerate(["first", "second"])
+        for place, event in enumerate(MAPPED)
+    ]
 
 
 def description(count):
@@ -186,7 +221,7 @@ def description(count):
         "mapping": {
             "cores": 4,
             "tasks": [{"shortName": f"Task{n}", "core": n % 4} for n in range(256)],
-            "events": [mapped(n) for n in used],
+            "events": [one for n in used for one in mapped(n)],
         },
     }
 
