@@ -107,7 +107,8 @@ fn mapped_plan(alloc: Global, d: &Description, f: &Flat) -> Result<(BusPlan, Map
 ///   `INSTANCE.EVENT`; 27 at `INSTANCE:RUNNABLE`; 29 at `/mapping`.
 /// - The plan has at most 16,384 objects (groups of elements, servers, exclusive areas, mode machines, and the clock) and 16,384
 ///   events, and the queue lengths of all receivers, queued servers and mode machines are together at most 65,536 (30, at
-///   `/mapping`). Every required queued element is a receiver, joined or not, the environment's too.
+///   `/mapping`). Every required queued element is a receiver, joined or not, the environment's too. Too many objects or events
+///   are told from counts, before the plan is listed, unless joins may put enough elements into common groups.
 ///
 /// The plan lists everything by instance and in declared order, what belongs to the environment last; groups by their least
 /// element. The mapping has the tasks on their cores, each with the numbers of its events in the order of their positions. The

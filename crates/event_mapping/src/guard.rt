@@ -6,17 +6,12 @@ ghost use Rattle.plan_numbers.specs.Sites.{count_at, kind_at, provides_at, root_
 ghost use Rattle.event_mapping.specs.Foretold.{IsForetold};
 ghost use Rattle.event_mapping.specs.Guard.{counted_with, event_count, events_of_instance, item_count, items_at, items_in, items_of_instance, items_of_ports};
 
+use crate::size::{EVENTS, OBJECTS};
 use composition_flatten::{Flat, Instance};
 use description_types::{Component, Description, Port, PortKind};
 use interface_types::{InterfaceKind, TypeTable};
 use rte_text::Memory;
 use std::alloc::{AllocError, Global};
-
-/// How many objects a plan may have.
-const OBJECTS: usize = 16_384;
-
-/// How many events a plan may have.
-const EVENTS: usize = 16_384;
 
 fn sum_of(sum: usize, more: usize) -> Result<usize, Memory>
     ensures { IfOk result (λ whole. whole ≡ sum + more) }
@@ -165,7 +160,7 @@ fn least_beyond(joins: usize) -> Result<usize, Memory>
     ensures { IfOk result (λ least. least ≡ 16384 + (joins + joins)) }
 {
     let ends = sum_of(joins, joins)?;
-    let least = sum_of(OBJECTS, ends)?;
+    let least = sum_of(OBJECTS as usize, ends)?;
     Ok(least)
 }
 

@@ -10,10 +10,10 @@ use rte_text::Memory;
 use std::alloc::AllocError;
 
 /// How many objects a plan may have.
-const OBJECTS: u32 = 16_384;
+pub const OBJECTS: u32 = 16_384;
 
 /// How many events a plan may have.
-const EVENTS: usize = 16_384;
+pub const EVENTS: usize = 16_384;
 
 /// How long all queues may be together.
 const QUEUES: u64 = 65_536;
