@@ -5,3 +5,4 @@ pub mod Limits
 pub mod Reading
 pub mod Pieces
 pub mod Index
+pub mod Carried

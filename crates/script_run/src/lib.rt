@@ -7,6 +7,7 @@
 mod counts;
 mod environment;
 mod fields;
+mod laws;
 mod limits;
 mod line;
 mod names;
@@ -14,6 +15,7 @@ mod numbers;
 mod script_read;
 mod values;
 
+pub use laws::scripts_are_carriable;
 pub use script_read::{ScriptRead, read_script};
 
 #[cfg(test)]
