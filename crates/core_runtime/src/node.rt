@@ -2,6 +2,7 @@
 
 ghost use Rattle.std.specs.Prelude.{◌≡◌, [], IfOk, min};
 ghost use Rattle.bus_semantics.specs.Plan.{plan_of};
+ghost use Rattle.bus_semantics.specs.Sound.{IsSound};
 ghost use Rattle.task_generator.specs.Promise.{AsksAsPlanned};
 ghost use Rattle.core_turn.specs.Plans.{IsBuilt};
 ghost use Rattle.core_runtime.specs.Nodes.{IsLawfulNode};
@@ -69,9 +70,10 @@ impl Node {
         })
     }
 
-    /// What it was made with.
+    /// What it was made with: a plan that is sound with the node's mapping.
     pub fn plan(&self) -> &BusPlan
-        ensures { result.now ≡ self.now.plan }
+        ensures plan { result.now ≡ self.now.plan }
+        ensures sound { IsSound (plan_of result.now) self.now.mapping }
     {
         &self.plan
     }
