@@ -1,0 +1,5 @@
+pub mod Lists
+pub mod Interfaces
+pub mod Numbered
+pub mod Kept
+pub mod Plain

@@ -1,0 +1,5 @@
+use Rattle.stage_rule.proofs.Plain.{plan_plain}
+use Rattle.stage_rule.proofs.laws.plans_of_the_stage_are_plain.Goals as goal
+
+pub returns : goal.returns
+returns c = plan_plain
