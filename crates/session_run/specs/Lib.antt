@@ -1,0 +1,4 @@
+pub mod Legal
+pub mod Texts
+pub mod Running
+pub mod Standing
