@@ -1,43 +1,103 @@
 -- When each answer of the top call comes.
-use Rattle.std.proofs.Common.{◌≡◌, ℕ, ◌<◌, List, length, arith, sym, ◌∙◌, subst, inl, inr, Option, Some}
-use Rattle.std.specs.Prelude.{◌⊎◌, codes, IsSomeAnd}
+use Rattle.std.proofs.Common.{◌≡◌, ℕ, ◌<◌, List, [], length, arith, sym, ◌∙◌, subst, inl, inr, Option, Some, None}
+use Rattle.std.specs.Prelude.{◌⊎◌, IsSomeAnd}
 use Rattle.rte_text.specs.Counts.{Rose}
 use Rattle.rte_text.specs.declared.shelf.TheConstants.{FILE_LIMIT}
 use Rattle.rte_text.specs.declared.sink.Put.{Put}
 use Rattle.rte_text.specs.declared.sink.Put.TheVariants as put
-use Rattle.rte_text.specs.Sinks.{AppendsWhereTold, ToldAfter, SinkFaultsAfter}
-use Rattle.rte_program.specs.Description.{Describes}
-use Rattle.rte_program.specs.ScriptText.{IsScript}
+use Rattle.rte_text.specs.Sinks.{ToldAfter, SinkFaultsAfter}
 use Rattle.rte_text.specs.Shelves.{ToldFiles, HeldWhereTold, LongWhereTold, ShelfCounts}
 use Rattle.bus_semantics.specs.declared.script.Line.{Line}
-use Rattle.rte_program.specs.declared.description.one_writer.OneWriter.{OneWriter}
+use Rattle.bus_semantics.specs.Plan.{plan_of}
+use Rattle.description_stages.specs.declared.planning.PlannedDescription.{PlannedDescription}
+use Rattle.script_run.specs.Reading.{IsScript, first_bad}
+use Rattle.script_run.specs.Texts.{lines_of}
 use Rattle.rte_program.specs.declared.status.Status.{Status}
 use Rattle.rte_program.specs.declared.status.Status.TheVariants as status
 use Rattle.rte_program.specs.declared.stop.Stop.{Stop}
 use Rattle.rte_program.specs.declared.stop.Stop.TheVariants as stop
-use Rattle.rte_program.specs.Stops.{Says, stop_status, status_after, stop_text, refusal_text}
-use Rattle.rte_program.specs.Inputs.{Texts, run_words, IsNoForm, IsNoDescription, Names, AreInputs, HaveBadLine, NamesInputs, IsUnread, IsStopped}
-use Rattle.rte_program.specs.Answers.{RefusesWhatIsNamed, IsHeld, AreHeld, NoFault, AnswersOrMemory}
-use Rattle.rte_program.proofs.OneReading.{script_or_bad}
+use Rattle.rte_program.specs.Stops.{IsSaid, IsUnsaid, Says, answer_after, stop_status, status_after, stop_text, script_refusal_text}
+use Rattle.rte_program.specs.Inputs.{Texts, run_words, IsNoForm, NamesBadLine, IsTaken, IsNoDescription, IsRefusedBy, BreaksNoRule, IsScriptOver, IsNoScriptOver, Names, HaveBadLine, NamesInputs, IsUnread, IsStopped}
+use Rattle.rte_program.specs.Running.{PrintsBeginning}
+use Rattle.rte_program.specs.Answers.{CutsRefusal, CutsRun, EndsForMemory, RefusesScript, RefusesWhatIsNamed, IsHeld, AreHeld, NoFault, AnswersOrMemory}
 
 -- ---- a refusal
 
 refused_by : (words : Texts) (files : ToldFiles) (b a : ShelfCounts) (before after : Option (List ℕ)) (answer : Status) (why : Stop) (p : Put)
     → IsStopped words files b a why → answer ≡ status_after why p → ToldAfter p before after (stop_text why) → answer ≡ status.Refused → RefusesWhatIsNamed words files before after
-refused_by words files b a before after answer (stop.Refused refusal) put.Done stopped e told is = (
-  stopped.2,
-  subst (λ rule. AppendsWhereTold before after (refusal_text rule (codes "/"))) stopped.0
-      (subst (λ place. AppendsWhereTold before after (refusal_text refusal.rule place)) stopped.1 told),
-)
+refused_by words files b a before after answer (stop.Refused refusal) put.Done stopped e told is = record { refusal = refusal; named = stopped.0; told = told }
 refused_by words files b a before after answer stop.Words put.Done stopped e told is = absurd cc
 refused_by words files b a before after answer (stop.NotRead word) put.Done stopped e told is = absurd cc
 refused_by words files b a before after answer (stop.Script line cause) put.Done stopped e told is = absurd cc
 refused_by words files b a before after answer stop.Memory put.Done stopped e told is = absurd cc
 refused_by words files b a before after answer why put.Failed stopped e told is = absurd cc
 
+-- what is said, where something is said
+said_by : (before after : Option (List ℕ)) (f g : ℕ) (answer : Status) (why : Stop) → Says why answer before after f g → IsSaid why answer before after f g ⊎ IsUnsaid answer before after f g
+said_by before after f g answer (stop.Refused refusal) says = says
+said_by before after f g answer stop.Memory says = inr says
+said_by before after f g answer stop.Words says = inl says
+said_by before after f g answer (stop.NotRead word) says = inl says
+said_by before after f g answer (stop.Script line cause) says = inl says
+
 pub refusal_said : (words : Texts) (files : ToldFiles) (b a : ShelfCounts) (before after : Option (List ℕ)) (f g : ℕ) (answer : Status) (why : Stop)
     → IsStopped words files b a why → Says why answer before after f g → answer ≡ status.Refused → RefusesWhatIsNamed words files before after
-refusal_said words files b a before after f g answer why stopped says is = refused_by words files b a before after answer why says.answered stopped says.status_is says.told is
+refusal_said words files b a before after f g answer why stopped says is = by (said_by before after f g answer why says)
+  where
+    by : IsSaid why answer before after f g ⊎ IsUnsaid answer before after f g → RefusesWhatIsNamed words files before after
+    by (inl said) = refused_by words files b a before after answer why said.answered stopped said.status_is said.told is
+    by (inr unsaid) = let other : status.Memory ≡ status.Refused = sym unsaid.status_is ∙ is in absurd cc
+
+-- ---- a refused script
+
+script_by : (words : Texts) (files : ToldFiles) (b a : ShelfCounts) (before after : Option (List ℕ)) (answer : Status) (line cause : ℕ) (p : Put)
+    → NamesBadLine words files line cause → answer ≡ answer_after p status.Script → ToldAfter p before after (script_refusal_text line cause) → answer ≡ status.Script → RefusesScript words files before after
+script_by words files b a before after answer line cause put.Done named e told is = record { line = line; cause = cause; named = named; told = told }
+script_by words files b a before after answer line cause put.Failed named e told is = let other : status.NotWritten ≡ status.Script = sym e ∙ is in absurd cc
+
+-- the status of another stop
+other_answer : (answer wanted : Status) (p : Put) (other : Status) → (other ≡ wanted → ⊥) → (status.NotWritten ≡ wanted → ⊥) → answer ≡ answer_after p other → answer ≡ wanted → ⊥
+other_answer answer wanted put.Done other none never e is = none (sym e ∙ is)
+other_answer answer wanted put.Failed other none never e is = never (sym e ∙ is)
+
+pub script_said : (words : Texts) (files : ToldFiles) (b a : ShelfCounts) (before after : Option (List ℕ)) (f g : ℕ) (answer : Status) (why : Stop)
+    → IsStopped words files b a why → Says why answer before after f g → answer ≡ status.Script → RefusesScript words files before after
+script_said words files b a before after f g answer (stop.Script line cause) stopped says is = script_by words files b a before after answer line cause says.answered stopped.0 says.status_is says.told is
+script_said words files b a before after f g answer stop.Words stopped says is = absurd (other_answer answer status.Script says.answered status.Words (λ e. cc) (λ e. cc) says.status_is is)
+script_said words files b a before after f g answer (stop.NotRead word) stopped says is = absurd (other_answer answer status.Script says.answered status.NotRead (λ e. cc) (λ e. cc) says.status_is is)
+script_said words files b a before after f g answer (stop.Refused refusal) stopped (inl says) is = absurd (other_answer answer status.Script says.answered status.Refused (λ e. cc) (λ e. cc) says.status_is is)
+script_said words files b a before after f g answer (stop.Refused refusal) stopped (inr unsaid) is = let other : status.Memory ≡ status.Script = sym unsaid.status_is ∙ is in absurd cc
+script_said words files b a before after f g answer stop.Memory stopped says is = let other : status.Memory ≡ status.Script = sym says.status_is ∙ is in absurd cc
+
+-- ---- a text that was cut, and want of memory
+
+written : (why : Stop) → stop_status why ≡ status.NotWritten → ⊥
+written stop.Words e = cc
+written (stop.NotRead word) e = cc
+written (stop.Refused refusal) e = cc
+written (stop.Script line cause) e = cc
+written stop.Memory e = cc
+
+cut_by : (words : Texts) (files : ToldFiles) (b a : ShelfCounts) (before after : Option (List ℕ)) (answer : Status) (why : Stop) (p : Put)
+    → IsStopped words files b a why → answer ≡ status_after why p → ToldAfter p before after (stop_text why) → answer ≡ status.NotWritten → CutsRefusal words files b a before after
+cut_by words files b a before after answer why put.Done stopped e told is = absurd (written why (sym e ∙ is))
+cut_by words files b a before after answer why put.Failed stopped e told is = record { why = why; stopped = stopped; told = told }
+
+pub cut_said : (words : Texts) (files : ToldFiles) (b a : ShelfCounts) (before after : Option (List ℕ)) (f g : ℕ) (answer : Status) (why : Stop)
+    → IsStopped words files b a why → Says why answer before after f g → answer ≡ status.NotWritten → CutsRefusal words files b a before after
+cut_said words files b a before after f g answer why stopped says is = by (said_by before after f g answer why says)
+  where
+    by : IsSaid why answer before after f g ⊎ IsUnsaid answer before after f g → CutsRefusal words files b a before after
+    by (inl said) = cut_by words files b a before after answer why said.answered stopped said.status_is said.told is
+    by (inr unsaid) = let other : status.Memory ≡ status.NotWritten = sym unsaid.status_is ∙ is in absurd cc
+
+pub memory_said : (before after : Option (List ℕ)) (f g : ℕ) (answer : Status) (why : Stop) → Says why answer before after f g → answer ≡ status.Memory → after ≡ before
+memory_said before after f g answer stop.Memory says is = says.told
+memory_said before after f g answer (stop.Refused refusal) (inr unsaid) is = unsaid.told
+memory_said before after f g answer (stop.Refused refusal) (inl says) is = absurd (other_answer answer status.Memory says.answered status.Refused (λ e. cc) (λ e. cc) says.status_is is)
+memory_said before after f g answer stop.Words says is = absurd (other_answer answer status.Memory says.answered status.Words (λ e. cc) (λ e. cc) says.status_is is)
+memory_said before after f g answer (stop.NotRead word) says is = absurd (other_answer answer status.Memory says.answered status.NotRead (λ e. cc) (λ e. cc) says.status_is is)
+memory_said before after f g answer (stop.Script line cause) says is = absurd (other_answer answer status.Memory says.answered status.Script (λ e. cc) (λ e. cc) says.status_is is)
 
 -- ---- the status where no put failed
 
@@ -45,21 +105,22 @@ status_by : (answer : Status) (why : Stop) (p : Put) (f g : ℕ) → answer ≡ 
 status_by answer why put.Done f g e faults none = e
 status_by answer why put.Failed f g e faults none = absurd (none faults)
 
-said : (before after : Option (List ℕ)) (f g : ℕ) (answer : Status) (why : Stop) → Says why answer before after f g → ¬ Rose f g → answer ≡ stop_status why
-said before after f g answer why says none = status_by answer why says.answered f g says.status_is says.faults none
+said : (before after : Option (List ℕ)) (f g : ℕ) (answer : Status) (why : Stop) → Says why answer before after f g → ¬ Rose f g → AnswersOrMemory answer (stop_status why)
+said before after f g answer why says none = by (said_by before after f g answer why says)
+  where
+    by : IsSaid why answer before after f g ⊎ IsUnsaid answer before after f g → AnswersOrMemory answer (stop_status why)
+    by (inl s) = inl (status_by answer why s.answered f g s.status_is s.faults none)
+    by (inr unsaid) = inr unsaid.status_is
 
 -- ---- words of no form
 
-no_form_by : (words : Texts) (files : ToldFiles) (b a : ShelfCounts) (answer : Status) (why : Stop) → IsNoForm words → IsStopped words files b a why → answer ≡ stop_status why → answer ≡ status.Words
-no_form_by words files b a answer stop.Words none stopped e = e
-no_form_by words files b a answer (stop.NotRead word) none stopped e = absurd (none stopped.description_name stopped.script_name stopped.words_are)
-no_form_by words files b a answer (stop.Refused refusal) none stopped e = absurd (none stopped.2.names.description_name stopped.2.names.script_name stopped.2.names.words_are)
-no_form_by words files b a answer (stop.Script line cause) none stopped e = absurd (none stopped.0.names.description_name stopped.0.names.script_name stopped.0.names.words_are)
-no_form_by words files b a answer stop.Memory none stopped e = absurd (none stopped.0.0 stopped.0.1 stopped.0.2)
-
 pub words_come : (words : Texts) (files : ToldFiles) (b a : ShelfCounts) (before after : Option (List ℕ)) (f g : ℕ) (answer : Status) (why : Stop)
     → IsStopped words files b a why → Says why answer before after f g → IsNoForm words → ¬ Rose f g → answer ≡ status.Words
-words_come words files b a before after f g answer why stopped says none quiet = no_form_by words files b a answer why none stopped (said before after f g answer why says quiet)
+words_come words files b a before after f g answer stop.Words stopped says none quiet = status_by answer stop.Words says.answered f g says.status_is says.faults quiet
+words_come words files b a before after f g answer (stop.NotRead word) stopped says none quiet = absurd (none stopped.description_name stopped.script_name stopped.words_are)
+words_come words files b a before after f g answer (stop.Refused refusal) stopped says none quiet = let n = stopped.0.names in absurd (none n.description_name n.script_name n.words_are)
+words_come words files b a before after f g answer (stop.Script line cause) stopped says none quiet = let n = stopped.0.names in absurd (none n.description_name n.script_name n.words_are)
+words_come words files b a before after f g answer stop.Memory stopped says none quiet = absurd (none stopped.0.0 stopped.0.1 stopped.0.2)
 
 -- ---- the files that are held are those that were read
 
@@ -92,7 +153,7 @@ same_files words files d s d' s' held names = let e : run_words names.descriptio
 abbrev Judged : (d s : List ℕ) → Stop → Type 0
 Judged d s stop.Words = ⊥
 Judged d s (stop.NotRead word) = ⊥
-Judged d s (stop.Refused refusal) = IsNoDescription d
+Judged d s (stop.Refused refusal) = IsRefusedBy d refusal
 Judged d s (stop.Script line cause) = HaveBadLine d s line cause
 Judged d s stop.Memory = Unit {0}
 
@@ -105,56 +166,76 @@ judged words files b a d s (stop.NotRead word) held quiet stopped =
     unread_by : {n m : List ℕ} → ((word ≡ 1) × IsUnread files n b a) ⊎ ((word ≡ 2) × IsUnread files m b a) → n ≡ held.description_name → m ≡ held.script_name → ⊥
     unread_by {n} {m} (inl u) p q = readable files held.description_name d b a held.description_held quiet (subst (λ name. IsUnread files name b a) p u.1)
     unread_by {n} {m} (inr u) p q = readable files held.script_name s b a held.script_held quiet (subst (λ name. IsUnread files name b a) q u.1)
-judged words files b a d s (stop.Refused refusal) held quiet stopped = let n = stopped.2 in
-    subst IsNoDescription (same_files words files d s n.description_bytes n.script_bytes held n.names).0 n.refused
+judged words files b a d s (stop.Refused refusal) held quiet stopped = let n = stopped.0 in
+    subst (λ t. IsRefusedBy t refusal) (same_files words files d s n.description_bytes n.script_bytes held n.names).0 n.refused
 judged words files b a d s (stop.Script line cause) held quiet stopped = let n = stopped.0 in let same = same_files words files d s n.description_bytes n.script_bytes held n.names in
     subst (λ t. HaveBadLine d t line cause) same.1 (subst (λ t. HaveBadLine t n.script_bytes line cause) same.0 n.bad)
 judged words files b a d s stop.Memory held quiet stopped = tt
 
 -- ---- the answers
 
-refused_by_judging : (d s : List ℕ) (answer : Status) (why : Stop) → Judged d s why → answer ≡ stop_status why → IsNoDescription d → AnswersOrMemory answer status.Refused
+for_memory : (answer wanted : Status) → AnswersOrMemory answer status.Memory → AnswersOrMemory answer wanted
+for_memory answer wanted (inl e) = inr e
+for_memory answer wanted (inr e) = inr e
+
+-- a line that is bad is one of no script
+not_both : (d s : List ℕ) (line cause : ℕ) → HaveBadLine d s line cause → IsScriptOver d s → ⊥
+not_both d s line cause bad over = let good = over bad.found bad.described in
+    let none : first_bad (plan_of bad.found.plan) [] (lines_of s) ≡ None = good.1.good in absurd cc
+
+refused_by_judging : (d s : List ℕ) (answer : Status) (why : Stop) → Judged d s why → AnswersOrMemory answer (stop_status why) → IsNoDescription d → AnswersOrMemory answer status.Refused
 refused_by_judging d s answer stop.Words j e none = absurd j
 refused_by_judging d s answer (stop.NotRead word) j e none = absurd j
-refused_by_judging d s answer (stop.Refused refusal) j e none = inl e
-refused_by_judging d s answer (stop.Script line cause) j e none = absurd (none j.description j.described)
-refused_by_judging d s answer stop.Memory j e none = inr e
+refused_by_judging d s answer (stop.Refused refusal) j e none = e
+refused_by_judging d s answer (stop.Script line cause) j e none = absurd (none j.found j.described)
+refused_by_judging d s answer stop.Memory j e none = for_memory answer status.Refused e
 
 pub refused_comes : (words : Texts) (files : ToldFiles) (b a : ShelfCounts) (before after : Option (List ℕ)) (f g : ℕ) (answer : Status) (why : Stop) (d s : List ℕ)
     → IsStopped words files b a why → Says why answer before after f g → AreHeld words files d s → IsNoDescription d → NoFault b.faults a.faults f g → AnswersOrMemory answer status.Refused
 refused_comes words files b a before after f g answer why d s stopped says held none quiet =
     refused_by_judging d s answer why (judged words files b a d s why held quiet.shelf stopped) (said before after f g answer why says quiet.sink) none
 
-script_by_judging : (d s : List ℕ) (line cause : ℕ) (answer : Status) (why : Stop) → Judged d s why → answer ≡ stop_status why → HaveBadLine d s line cause → AnswersOrMemory answer status.Script
-script_by_judging d s line cause answer stop.Words j e bad = absurd j
-script_by_judging d s line cause answer (stop.NotRead word) j e bad = absurd j
-script_by_judging d s line cause answer (stop.Refused refusal) j e bad = absurd (j bad.description bad.described)
-script_by_judging d s line cause answer (stop.Script n k) j e bad = inl e
-script_by_judging d s line cause answer stop.Memory j e bad = inr e
+script_by_judging : (d s : List ℕ) (answer : Status) (why : Stop) → Judged d s why → AnswersOrMemory answer (stop_status why) → BreaksNoRule d → AnswersOrMemory answer status.Script
+script_by_judging d s answer stop.Words j e keeps = absurd j
+script_by_judging d s answer (stop.NotRead word) j e keeps = absurd j
+script_by_judging d s answer (stop.Refused refusal) j e keeps = absurd (keeps refusal j)
+script_by_judging d s answer (stop.Script line cause) j e keeps = e
+script_by_judging d s answer stop.Memory j e keeps = for_memory answer status.Script e
 
-pub script_comes : (words : Texts) (files : ToldFiles) (b a : ShelfCounts) (before after : Option (List ℕ)) (f g : ℕ) (answer : Status) (why : Stop) (d s : List ℕ) (line cause : ℕ)
-    → IsStopped words files b a why → Says why answer before after f g → AreHeld words files d s → HaveBadLine d s line cause → NoFault b.faults a.faults f g → AnswersOrMemory answer status.Script
-script_comes words files b a before after f g answer why d s line cause stopped says held bad quiet =
-    script_by_judging d s line cause answer why (judged words files b a d s why held quiet.shelf stopped) (said before after f g answer why says quiet.sink) bad
+pub script_comes : (words : Texts) (files : ToldFiles) (b a : ShelfCounts) (before after : Option (List ℕ)) (f g : ℕ) (answer : Status) (why : Stop) (d s : List ℕ)
+    → IsStopped words files b a why → Says why answer before after f g → AreHeld words files d s → BreaksNoRule d → NoFault b.faults a.faults f g → AnswersOrMemory answer status.Script
+script_comes words files b a before after f g answer why d s stopped says held keeps quiet =
+    script_by_judging d s answer why (judged words files b a d s why held quiet.shelf stopped) (said before after f g answer why says quiet.sink) keeps
 
-done_by_judging : (d s : List ℕ) (w : OneWriter) (lines : List Line) (answer : Status) (why : Stop) → Judged d s why → answer ≡ stop_status why → AreInputs d s w lines → AnswersOrMemory answer status.Done
-done_by_judging d s w lines answer stop.Words j e inputs = absurd j
-done_by_judging d s w lines answer (stop.NotRead word) j e inputs = absurd j
-done_by_judging d s w lines answer (stop.Refused refusal) j e inputs = absurd (j w inputs.described)
-done_by_judging d s w lines answer (stop.Script line cause) j e inputs = absurd (script_or_bad s lines line inputs.scripted j.bad)
-done_by_judging d s w lines answer stop.Memory j e inputs = inr e
+done_by_judging : (d s : List ℕ) (answer : Status) (why : Stop) → Judged d s why → AnswersOrMemory answer (stop_status why) → BreaksNoRule d → IsScriptOver d s → AnswersOrMemory answer status.Done
+done_by_judging d s answer stop.Words j e keeps over = absurd j
+done_by_judging d s answer (stop.NotRead word) j e keeps over = absurd j
+done_by_judging d s answer (stop.Refused refusal) j e keeps over = absurd (keeps refusal j)
+done_by_judging d s answer (stop.Script line cause) j e keeps over = absurd (not_both d s line cause j over)
+done_by_judging d s answer stop.Memory j e keeps over = for_memory answer status.Done e
 
-pub done_comes : (words : Texts) (files : ToldFiles) (b a : ShelfCounts) (before after : Option (List ℕ)) (f g : ℕ) (answer : Status) (why : Stop) (d s : List ℕ) (w : OneWriter) (lines : List Line)
-    → IsStopped words files b a why → Says why answer before after f g → AreHeld words files d s → AreInputs d s w lines → NoFault b.faults a.faults f g → AnswersOrMemory answer status.Done
-done_comes words files b a before after f g answer why d s w lines stopped says held inputs quiet =
-    done_by_judging d s w lines answer why (judged words files b a d s why held quiet.shelf stopped) (said before after f g answer why says quiet.sink) inputs
+pub done_comes : (words : Texts) (files : ToldFiles) (b a : ShelfCounts) (before after : Option (List ℕ)) (f g : ℕ) (answer : Status) (why : Stop) (d s : List ℕ)
+    → IsStopped words files b a why → Says why answer before after f g → AreHeld words files d s → BreaksNoRule d → IsScriptOver d s → NoFault b.faults a.faults f g → AnswersOrMemory answer status.Done
+done_comes words files b a before after f g answer why d s stopped says held keeps over quiet =
+    done_by_judging d s answer why (judged words files b a d s why held quiet.shelf stopped) (said before after f g answer why says quiet.sink) keeps over
 
 -- ---- where a description and a script were read, neither is refused
 
-pub described_again : (words : Texts) (files : ToldFiles) (d s : List ℕ) (w : OneWriter) (lines : List Line) → NamesInputs words files w lines → AreHeld words files d s → IsNoDescription d → ⊥
-described_again words files d s w lines n held none = let same = same_files words files d s n.description_bytes n.script_bytes held n.names in
-    none w (subst (λ t. Describes t w) same.0 n.inputs.described)
+pub described_again : (words : Texts) (files : ToldFiles) (d s : List ℕ) (found : PlannedDescription) (lines : List Line) → NamesInputs words files found lines → AreHeld words files d s → IsNoDescription d → ⊥
+described_again words files d s found lines n held none = let same = same_files words files d s n.description_bytes n.script_bytes held n.names in
+    none found (subst (λ t. IsTaken t found) same.0 n.inputs.described)
 
-pub scripted_again : (words : Texts) (files : ToldFiles) (d s : List ℕ) (w : OneWriter) (lines : List Line) (line cause : ℕ) → NamesInputs words files w lines → AreHeld words files d s → HaveBadLine d s line cause → ⊥
-scripted_again words files d s w lines line cause n held bad = let same = same_files words files d s n.description_bytes n.script_bytes held n.names in
-    script_or_bad s lines line (subst (λ t. IsScript t lines) same.1 n.inputs.scripted) bad.bad
+pub scripted_again : (words : Texts) (files : ToldFiles) (d s : List ℕ) (found : PlannedDescription) (lines : List Line) → NamesInputs words files found lines → AreHeld words files d s → IsNoScriptOver d s → ⊥
+scripted_again words files d s found lines n held none = let same = same_files words files d s n.description_bytes n.script_bytes held n.names in
+    none found lines (subst (λ t. IsTaken t found) same.0 n.inputs.described) (subst (λ t. IsScript (plan_of found.plan) t lines) same.1 n.inputs.scripted)
+
+-- ---- where a run was cut
+
+pub run_cut : (words : Texts) (files : ToldFiles) (before after : Option (List ℕ)) (found : PlannedDescription) (lines : List Line) → NamesInputs words files found lines
+    → PrintsBeginning (plan_of found.plan) found.mapping lines before after → CutsRun words files before after
+run_cut words files before after found lines named printed = record { found = found; script = lines; named = named; printed = printed }
+
+pub memory_cut : (words : Texts) (files : ToldFiles) (before after : Option (List ℕ)) (found : PlannedDescription) (lines : List Line) → NamesInputs words files found lines
+    → (after ≡ before) ⊎ PrintsBeginning (plan_of found.plan) found.mapping lines before after → EndsForMemory words files before after
+memory_cut words files before after found lines named (inl same) = inl same
+memory_cut words files before after found lines named (inr printed) = inr (run_cut words files before after found lines named printed)

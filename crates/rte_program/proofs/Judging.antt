@@ -1,18 +1,22 @@
 -- What judging two files says, of the words that name them.
-use Rattle.std.proofs.Common.{◌≡◌, ℕ, ◌≤◌, ◌<◌, ◌^◌, List, [], ◌∷◌, ◌++◌, length, length-append, arith, ap, Ok, Err, Result}
-use Rattle.std.specs.Prelude.{IfErr, codes}
+use Rattle.std.proofs.Common.{◌≡◌, ℕ, ◌+◌, ◌≤◌, List, [], ◌∷◌, ◌++◌, length, length-append, arith, refl, ap, inl, Option, Some, None, Ok, Err, Result, Bool, true, false, ◌==◌}
+use Rattle.std.specs.Prelude.{IfErr}
+use Rattle.rte_text.specs.declared.refusal.Refused.{Refused}
+use Rattle.rte_text.specs.declared.refusal.Refused.TheVariants as refused
 use Rattle.rte_text.specs.declared.shelf.TheConstants.{FILE_LIMIT}
 use Rattle.rte_text.specs.Shelves.{ToldFiles, ShelfCounts}
-use Rattle.bus_semantics.specs.declared.script.Line.{Line}
+use Rattle.bus_semantics.specs.Plan.{Plan, plan_of}
+use Rattle.bus_semantics.specs.Spelling.{Letters}
+use Rattle.script_run.specs.Reading.{bad_or, cause_of, first_bad}
+use Rattle.script_run.specs.Texts.{lines_of, onto_first}
 use Rattle.rte_program.specs.declared.stop.Stop.{Stop}
 use Rattle.rte_program.specs.declared.stop.Stop.TheVariants as stop
-use Rattle.rte_program.specs.ScriptText.{script_text, line_text, IsBadLine}
-use Rattle.rte_program.specs.Inputs.{Texts, Names, IsJudged, IsStopped}
-use Rattle.rte_program.specs.Stops.{IsShort}
+use Rattle.description_stages.specs.Plans.{IsPlanRefusalOf}
+use Rattle.rte_program.specs.Inputs.{Texts, Names, IsJudged, IsNotTaken, IsStopped}
+use Rattle.rte_program.specs.Stops.{IsShort, stop_of}
 
 stopped_by : (words : Texts) (files : ToldFiles) (before after : ShelfCounts) (d s : List ℕ) → Names words files d s → after ≡ before → (why : Stop) → IsJudged d s why → IsStopped words files before after why
-stopped_by words files before after d s names same (stop.Refused refusal) judged =
-    (judged.0, judged.1, record { description_bytes = d; script_bytes = s; names = names; refused = judged.2 }, same)
+stopped_by words files before after d s names same (stop.Refused refusal) judged = (record { description_bytes = d; script_bytes = s; names = names; refused = judged }, same)
 stopped_by words files before after d s names same (stop.Script line cause) judged = (record { description_bytes = d; script_bytes = s; names = names; bad = judged }, same)
 stopped_by words files before after d s names same stop.Memory judged = ((names.description_name, names.script_name, names.words_are), same)
 stopped_by words files before after d s names same stop.Words judged = absurd judged
@@ -23,17 +27,36 @@ pub judge_stopped : {X : Type 0} → (words : Texts) (files : ToldFiles) (before
 judge_stopped words files before after d s names same (Ok x) judged = tt
 judge_stopped words files before after d s names same (Err why) judged = stopped_by words files before after d s names same why judged
 
--- each line has a newline
-lines_fit : (lines : List Line) → length lines ≤ length (script_text lines)
-lines_fit [] = omega arith
-lines_fit (l ∷ lines) = omega (arith, lines_fit lines, length-append (line_text l) (codes "\n" ++ script_text lines))
+-- ---- the number of a bad line
 
-bad_line_below : (s : List ℕ) (n : ℕ) → length s ≤ FILE_LIMIT → IsBadLine s n → n < 2 ^ 63
-bad_line_below s n fits bad = omega (arith, bad.counted, lines_fit bad.before, ap length bad.parts, length-append (script_text bad.before) bad.rest)
+onto_one : (c : ℕ) (ls : List Letters) (n : ℕ) → length ls ≤ n → length (onto_first c ls) ≤ n + 1
+onto_one c [] n h = omega arith
+onto_one c (l ∷ ls) n h = omega (arith, h)
+
+-- each line has a letter or its newline
+lines_fit : (s : List ℕ) → length (lines_of s) ≤ length s
+lines_fit [] = omega arith
+lines_fit (c ∷ cs) = by (c == 10) refl (lines_fit cs)
+  where
+    by : (b : Bool) → (c == 10) ≡ b → length (lines_of cs) ≤ length cs → length (lines_of (c ∷ cs)) ≤ length (c ∷ cs)
+    by true e less = rw e (omega (arith, less))
+    by false e less = rw e (omega (arith, onto_one c (lines_of cs) (length cs) less))
+
+number_of : (x y : ℕ × ℕ) → Some x ≡ Some y → x.0 ≡ y.0
+number_of x y e = let same : x ≡ y = cc in ap (λ (z : ℕ × ℕ). z.0) same
+
+bad_within : (p : Plan) (before ts : List Letters) (n cause : ℕ) → first_bad p before ts ≡ Some (n, cause) → n ≤ length before + length ts
+bad_within p before [] n cause e = absurd cc
+bad_within p before (t ∷ ts) n cause e = by (cause_of p before t) e (λ later. bad_within p (before ++ t ∷ []) ts n cause later)
+  where
+    by : (o : Option ℕ) → bad_or (length before + 1) o (first_bad p (before ++ t ∷ []) ts) ≡ Some (n, cause)
+        → (first_bad p (before ++ t ∷ []) ts ≡ Some (n, cause) → n ≤ length (before ++ t ∷ []) + length ts) → n ≤ length before + length (t ∷ ts)
+    by None later more = omega (arith, more later, length-append before (t ∷ []))
+    by (Some k) now more = omega (arith, number_of (length before + 1, k) (n, cause) now)
 
 short_by : (d s : List ℕ) → length s ≤ FILE_LIMIT → (why : Stop) → IsJudged d s why → IsShort why
-short_by d s fits (stop.Refused refusal) judged = omega (arith, ap length judged.1)
-short_by d s fits (stop.Script line cause) judged = bad_line_below s line fits judged.bad
+short_by d s fits (stop.Script line cause) judged = omega (arith, bad_within (plan_of judged.found.plan) [] (lines_of s) line cause judged.bad, lines_fit s, fits)
+short_by d s fits (stop.Refused refusal) judged = tt
 short_by d s fits stop.Memory judged = tt
 short_by d s fits stop.Words judged = tt
 short_by d s fits (stop.NotRead word) judged = tt
@@ -41,3 +64,9 @@ short_by d s fits (stop.NotRead word) judged = tt
 pub judge_short : {X : Type 0} → (d s : List ℕ) → length s ≤ FILE_LIMIT → (r : Result X Stop) → IfErr r (IsJudged d s) → IfErr r IsShort
 judge_short d s fits (Ok x) judged = tt
 judge_short d s fits (Err why) judged = short_by d s fits why judged
+
+-- ---- a description that is refused
+
+pub refused_by : (bytes : List ℕ) (r : Refused) → IsPlanRefusalOf bytes r → IsNotTaken bytes (stop_of r)
+refused_by bytes (refused.Rule refusal) right = inl right
+refused_by bytes refused.Memory right = tt

@@ -1,14 +1,4 @@
 pub mod Answering
-pub mod Counts
-pub mod EntryTexts
-pub mod FirstLine
 pub mod Judging
-pub mod LineTexts
-pub mod NodeSteps
-pub mod Numbers
-pub mod OneReading
-pub mod Readings
-pub mod Sessions
-pub mod SomeReading
-pub mod SoundPlan
+pub mod Ran
 pub mod Words

@@ -1,31 +1,34 @@
 -- What each answer of the top call says of the words, of the files, and of what was put.
 use Rattle.std.specs.Prelude.{◌≡◌, ℕ, List, ◌++◌, codes, decimal, Option, Some, ◌⊎◌, ◌≤◌, length}
 use Rattle.rte_text.specs.Counts.{Rose}
+use Rattle.rte_text.specs.declared.refusal.Refusal.{Refusal}
 use Rattle.rte_text.specs.declared.shelf.TheConstants.{FILE_LIMIT}
 use Rattle.rte_text.specs.Shelves.{ToldFiles, ShelfCounts}
 use Rattle.rte_text.specs.Sinks.{AppendsWhereTold, AppendsPrefixWhereTold}
 use Rattle.bus_semantics.specs.declared.script.Line.{Line}
-use Rattle.rte_program.specs.declared.description.one_writer.OneWriter.{OneWriter}
+use Rattle.bus_semantics.specs.Plan.{plan_of}
+use Rattle.description_stages.specs.declared.planning.PlannedDescription.{PlannedDescription}
 use Rattle.rte_program.specs.declared.stop.Stop.{Stop}
 use Rattle.rte_program.specs.declared.status.Status.{Status}
 use Rattle.rte_program.specs.declared.status.Status.TheVariants.{Memory}
-use Rattle.rte_program.specs.Planned.{plan_of, mapping_of}
 use Rattle.rte_program.specs.Stops.{stop_text, refusal_text, script_refusal_text}
-use Rattle.rte_program.specs.Inputs.{Texts, run_words, IsNoForm, NamesInputs, NamesNoDescription, NamesBadLine, NamesUnread, IsStopped}
+use Rattle.rte_program.specs.Inputs.{Texts, run_words, IsNoForm, NamesInputs, NamesRefused, NamesBadLine, NamesUnread, IsStopped}
 use Rattle.rte_program.specs.Running.{PrintsRun, PrintsBeginning}
 
 -- ---- what each answer says
 
 -- the headline: the words name a description and a script, and the bytes put spell a run of that script over its plan
 pub record RunsWhatIsNamed (words : Texts) (files : ToldFiles) (before after : Option (List ℕ)) : Type 0 where
-  pub description : OneWriter
+  pub found : PlannedDescription
   pub script : List Line
-  pub named : NamesInputs words files description script
-  pub printed : PrintsRun (plan_of description) (mapping_of description) script before after
+  pub named : NamesInputs words files found script
+  pub printed : PrintsRun (plan_of found.plan) found.mapping script before after
 
--- rule 0 at the whole is the one refusal so far
-abbrev pub RefusesWhatIsNamed : Texts → ToldFiles → Option (List ℕ) → Option (List ℕ) → Type 0
-RefusesWhatIsNamed words files before after = NamesNoDescription words files × AppendsWhereTold before after (refusal_text 0 (codes "/"))
+-- the rule that is broken and its place
+pub record RefusesWhatIsNamed (words : Texts) (files : ToldFiles) (before after : Option (List ℕ)) : Type 0 where
+  pub refusal : Refusal
+  pub named : NamesRefused words files refusal
+  pub told : AppendsWhereTold before after (refusal_text refusal.rule refusal.place)
 
 abbrev pub RefusesWords : Texts → Option (List ℕ) → Option (List ℕ) → Type 0
 RefusesWords words before after = IsNoForm words × AppendsWhereTold before after (codes "words refused\n")
@@ -41,20 +44,24 @@ pub record SaysUnread (words : Texts) (files : ToldFiles) (shelf_before shelf_af
   pub named : NamesUnread words files shelf_before shelf_after word
   pub told : AppendsWhereTold before after (codes "not read " ++ decimal word ++ codes "\n")
 
--- a fault cut the text of a refusal, or that of a run
+-- the text of a refusal was cut, or that of a run
 pub record CutsRefusal (words : Texts) (files : ToldFiles) (shelf_before shelf_after : ShelfCounts) (before after : Option (List ℕ)) : Type 0 where
   pub why : Stop
   pub stopped : IsStopped words files shelf_before shelf_after why
   pub told : AppendsPrefixWhereTold before after (stop_text why)
 
 pub record CutsRun (words : Texts) (files : ToldFiles) (before after : Option (List ℕ)) : Type 0 where
-  pub description : OneWriter
+  pub found : PlannedDescription
   pub script : List Line
-  pub named : NamesInputs words files description script
-  pub printed : PrintsBeginning (plan_of description) (mapping_of description) script before after
+  pub named : NamesInputs words files found script
+  pub printed : PrintsBeginning (plan_of found.plan) found.mapping script before after
 
 abbrev pub CutsWhatIsPut : Texts → ToldFiles → ShelfCounts → ShelfCounts → Option (List ℕ) → Option (List ℕ) → Type 0
 CutsWhatIsPut words files shelf_before shelf_after before after = CutsRefusal words files shelf_before shelf_after before after ⊎ CutsRun words files before after
+
+-- for want of memory nothing was put, or a run was cut
+abbrev pub EndsForMemory : Texts → ToldFiles → Option (List ℕ) → Option (List ℕ) → Type 0
+EndsForMemory words files before after = (after ≡ before) ⊎ CutsRun words files before after
 
 -- ---- when an answer comes: over files that are told, held and within the limit, where no fault came
 

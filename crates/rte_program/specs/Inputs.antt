@@ -1,13 +1,18 @@
 -- What the words of a command name, and what the files that they name hold.
-use Rattle.std.specs.Prelude.{◌≡◌, ℕ, List, [], ◌∷◌, codes, ◌⊎◌}
+use Rattle.std.specs.Prelude.{◌≡◌, ℕ, List, [], ◌∷◌, codes, true, false, Some, ◌⊎◌}
 use Rattle.rte_text.specs.Counts.{Rose}
 use Rattle.rte_text.specs.Shelves.{ToldFiles, HeldWhereTold, LongWhereTold, ShelfCounts}
+use Rattle.rte_text.specs.declared.refusal.Refusal.{Refusal}
+use Rattle.rte_text.specs.declared.refusal.Refused.TheVariants.{Rule}
 use Rattle.bus_semantics.specs.declared.script.Line.{Line}
-use Rattle.rte_program.specs.declared.description.one_writer.OneWriter.{OneWriter}
+use Rattle.bus_semantics.specs.Plan.{plan_of}
+use Rattle.description_stages.specs.declared.planning.PlannedDescription.{PlannedDescription}
+use Rattle.description_stages.specs.Plans.{IsPlannedOf, IsPlanRefusalOf}
+use Rattle.stage_rule.specs.Stage.{is_in_stage}
+use Rattle.script_run.specs.Reading.{IsScript, first_bad}
+use Rattle.script_run.specs.Texts.{lines_of}
 use Rattle.rte_program.specs.declared.stop.Stop.{Stop}
 use Rattle.rte_program.specs.declared.stop.Stop.TheVariants as stop
-use Rattle.rte_program.specs.Description.{Describes}
-use Rattle.rte_program.specs.ScriptText.{IsScript, IsBadLine, has_no_form}
 
 abbrev pub Texts : Type 0
 Texts = List (List ℕ)
@@ -30,26 +35,61 @@ pub record Names (words : Texts) (files : ToldFiles) (description script : List 
   pub description_held : HeldWhereTold files description_name description
   pub script_held : HeldWhereTold files script_name script
 
--- ---- what two files are
+-- ---- what a file of a description is
 
--- a description and a script
-pub record AreInputs (description_bytes script_bytes : List ℕ) (description : OneWriter) (script : List Line) : Type 0 where
-  pub described : Describes description_bytes description
-  pub scripted : IsScript script_bytes script
+-- the bytes are a description that breaks none of rules 1 to 30, with its plan and its mapping, and nothing of it is out of this stage
+pub record IsTaken (bytes : List ℕ) (found : PlannedDescription) : Type 0 where
+  pub planned : IsPlannedOf bytes found
+  pub in_stage : is_in_stage found.description ≡ true
 
 abbrev pub IsNoDescription : List ℕ → Type 0
-IsNoDescription bytes = (w : OneWriter) → ¬ Describes bytes w
+IsNoDescription bytes = (found : PlannedDescription) → ¬ IsTaken bytes found
 
--- a description, and a script whose line of this number is bad
+-- the bytes are a description that breaks none of rules 1 to 30, and something of it is out of this stage
+pub record IsPastStage (bytes : List ℕ) : Type 0 where
+  pub found : PlannedDescription
+  pub planned : IsPlannedOf bytes found
+  pub past : is_in_stage found.description ≡ false
+
+-- the refusal is right: the least of rules 1 to 30 that is broken, with its first place, or else rule 0 at the whole
+abbrev pub IsRefusedBy : List ℕ → Refusal → Type 0
+IsRefusedBy bytes r = IsPlanRefusalOf bytes (Rule r) ⊎ ((r.rule ≡ 0) × (r.place ≡ codes "/") × IsPastStage bytes)
+
+-- no refusal is right
+abbrev pub BreaksNoRule : List ℕ → Type 0
+BreaksNoRule bytes = (r : Refusal) → ¬ IsRefusedBy bytes r
+
+-- ---- what two files are
+
+-- a description and a script over its plan
+pub record AreInputs (description_bytes script_bytes : List ℕ) (found : PlannedDescription) (script : List Line) : Type 0 where
+  pub described : IsTaken description_bytes found
+  pub scripted : IsScript (plan_of found.plan) script_bytes script
+
+-- a description, and a script of which this is the first bad line over its plan, with its least cause
 pub record HaveBadLine (description_bytes script_bytes : List ℕ) (line cause : ℕ) : Type 0 where
-  pub description : OneWriter
-  pub described : Describes description_bytes description
-  pub bad : IsBadLine script_bytes line
-  pub cause_is : cause ≡ has_no_form
+  pub found : PlannedDescription
+  pub described : IsTaken description_bytes found
+  pub bad : first_bad (plan_of found.plan) [] (lines_of script_bytes) ≡ Some (line, cause)
 
--- why the bytes of the two files are not run: the description first. Rule 0 at the whole is the one refusal so far
+-- over each plan of the description the bytes are a script, or none
+abbrev pub IsScriptOver : (description_bytes : List ℕ) → (script_bytes : List ℕ) → Type 0
+IsScriptOver d s = (found : PlannedDescription) → IsTaken d found → (script : List Line) × IsScript (plan_of found.plan) s script
+
+abbrev pub IsNoScriptOver : (description_bytes : List ℕ) → (script_bytes : List ℕ) → Type 0
+IsNoScriptOver d s = (found : PlannedDescription) (script : List Line) → IsTaken d found → ¬ IsScript (plan_of found.plan) s script
+
+-- why the bytes of a description are not run
+abbrev pub IsNotTaken : (description_bytes : List ℕ) → Stop → Type 0
+IsNotTaken d (stop.Refused refusal) = IsRefusedBy d refusal
+IsNotTaken d stop.Memory = Unit {0}
+IsNotTaken d (stop.Script line cause) = ⊥
+IsNotTaken d stop.Words = ⊥
+IsNotTaken d (stop.NotRead word) = ⊥
+
+-- why the bytes of the two files are not run: the description first
 abbrev pub IsJudged : (description_bytes : List ℕ) → (script_bytes : List ℕ) → Stop → Type 0
-IsJudged d s (stop.Refused refusal) = (refusal.rule ≡ 0) × (refusal.place ≡ codes "/") × IsNoDescription d
+IsJudged d s (stop.Refused refusal) = IsRefusedBy d refusal
 IsJudged d s (stop.Script line cause) = HaveBadLine d s line cause
 IsJudged d s stop.Memory = Unit {0}
 IsJudged d s stop.Words = ⊥
@@ -57,17 +97,17 @@ IsJudged d s (stop.NotRead word) = ⊥
 
 -- ---- the same of the files that the words name
 
-pub record NamesInputs (words : Texts) (files : ToldFiles) (description : OneWriter) (script : List Line) : Type 0 where
+pub record NamesInputs (words : Texts) (files : ToldFiles) (found : PlannedDescription) (script : List Line) : Type 0 where
   pub description_bytes : List ℕ
   pub script_bytes : List ℕ
   pub names : Names words files description_bytes script_bytes
-  pub inputs : AreInputs description_bytes script_bytes description script
+  pub inputs : AreInputs description_bytes script_bytes found script
 
-pub record NamesNoDescription (words : Texts) (files : ToldFiles) : Type 0 where
+pub record NamesRefused (words : Texts) (files : ToldFiles) (refusal : Refusal) : Type 0 where
   pub description_bytes : List ℕ
   pub script_bytes : List ℕ
   pub names : Names words files description_bytes script_bytes
-  pub refused : IsNoDescription description_bytes
+  pub refused : IsRefusedBy description_bytes refusal
 
 pub record NamesBadLine (words : Texts) (files : ToldFiles) (line cause : ℕ) : Type 0 where
   pub description_bytes : List ℕ
@@ -94,7 +134,7 @@ pub record NamesUnread (words : Texts) (files : ToldFiles) (before after : Shelf
 abbrev pub IsStopped : Texts → ToldFiles → ShelfCounts → ShelfCounts → Stop → Type 0
 IsStopped words files before after stop.Words = IsNoForm words × (after ≡ before)
 IsStopped words files before after (stop.NotRead word) = NamesUnread words files before after word
-IsStopped words files before after (stop.Refused refusal) = (refusal.rule ≡ 0) × (refusal.place ≡ codes "/") × NamesNoDescription words files × (after ≡ before)
+IsStopped words files before after (stop.Refused refusal) = NamesRefused words files refusal × (after ≡ before)
 IsStopped words files before after (stop.Script line cause) = NamesBadLine words files line cause × (after ≡ before)
 IsStopped words files before after stop.Memory = IsForm words × (after ≡ before)
 

@@ -1,10 +1,3 @@
-pub mod Json
-pub mod Description
-pub mod Planned
-pub mod ScriptText
-pub mod Entries
-pub mod Lawful
-pub mod Steps
 pub mod Running
 pub mod Stops
 pub mod Inputs

@@ -1,5 +1,7 @@
 -- What is said where nothing is run.
-use Rattle.std.specs.Prelude.{◌≡◌, ℕ, ◌<◌, ◌≤◌, ◌^◌, List, ◌++◌, length, codes, decimal, Option}
+use Rattle.std.specs.Prelude.{◌≡◌, ℕ, ◌<◌, ◌^◌, List, ◌++◌, codes, decimal, Option, ◌⊎◌}
+use Rattle.rte_text.specs.declared.refusal.Refused.{Refused}
+use Rattle.rte_text.specs.declared.refusal.Refused.TheVariants as refused
 use Rattle.rte_text.specs.declared.sink.Put.{Put}
 use Rattle.rte_text.specs.declared.sink.Put.TheVariants as put
 use Rattle.rte_text.specs.Sinks.{ToldAfter, SinkFaultsAfter}
@@ -13,6 +15,11 @@ refusal_text rule place = codes "refused rule " ++ decimal rule ++ codes " at " 
 
 abbrev pub script_refusal_text : ℕ → ℕ → List ℕ
 script_refusal_text line cause = codes "script refused line " ++ decimal line ++ codes " cause " ++ decimal cause ++ codes "\n"
+
+-- why nothing is run where a description is refused
+abbrev pub stop_of : Refused → Stop
+stop_of (refused.Rule refusal) = stop.Refused refusal
+stop_of refused.Memory = stop.Memory
 
 -- what is put; nothing for want of memory
 abbrev pub stop_text : Stop → List ℕ
@@ -30,22 +37,39 @@ stop_status (stop.Refused refusal) = status.Refused
 stop_status (stop.Script line cause) = status.Script
 stop_status stop.Memory = status.Memory
 
--- the status after the put of that text
+-- the status after the put of a text that has this one
+abbrev pub answer_after : Put → Status → Status
+answer_after put.Done answer = answer
+answer_after put.Failed answer = status.NotWritten
+
 abbrev pub status_after : Stop → Put → Status
-status_after s put.Done = stop_status s
-status_after s put.Failed = status.NotWritten
+status_after s p = answer_after p (stop_status s)
 
 -- the text was put or cut by a fault, and this is the status
-pub record Says (s : Stop) (answer : Status) (before after : Option (List ℕ)) (faults_before faults_after : ℕ) : Type 0 where
+pub record IsSaid (s : Stop) (answer : Status) (before after : Option (List ℕ)) (faults_before faults_after : ℕ) : Type 0 where
   pub answered : Put
   pub status_is : answer ≡ status_after s answered
   pub told : ToldAfter answered before after (stop_text s)
   pub faults : SinkFaultsAfter answered faults_before faults_after
 
--- its text fits a line
+-- there was no memory, and nothing was put
+pub record IsUnsaid (answer : Status) (before after : Option (List ℕ)) (faults_before faults_after : ℕ) : Type 0 where
+  pub status_is : answer ≡ status.Memory
+  pub told : after ≡ before
+  pub faults : faults_after ≡ faults_before
+
+-- the text of a refusal takes memory, since its place may be long
+abbrev pub Says : Stop → Status → (before : Option (List ℕ)) → (after : Option (List ℕ)) → (faults_before : ℕ) → (faults_after : ℕ) → Type 0
+Says (stop.Refused refusal) answer before after f g = IsSaid (stop.Refused refusal) answer before after f g ⊎ IsUnsaid answer before after f g
+Says stop.Memory answer before after f g = IsUnsaid answer before after f g
+Says stop.Words answer before after f g = IsSaid stop.Words answer before after f g
+Says (stop.NotRead word) answer before after f g = IsSaid (stop.NotRead word) answer before after f g
+Says (stop.Script line cause) answer before after f g = IsSaid (stop.Script line cause) answer before after f g
+
+-- the number of a line is one that a line of text takes
 abbrev pub IsShort : Stop → Type 0
+IsShort (stop.Script line cause) = line < 2 ^ 63
 IsShort stop.Words = Unit {0}
 IsShort (stop.NotRead word) = Unit {0}
-IsShort (stop.Refused refusal) = length refusal.place ≤ 1024
-IsShort (stop.Script line cause) = line < 2 ^ 63
+IsShort (stop.Refused refusal) = Unit {0}
 IsShort stop.Memory = Unit {0}

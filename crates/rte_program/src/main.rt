@@ -1,21 +1,14 @@
 //! The program: it reads a description and a script, runs them on the bus and prints the trace.
 #![tactic(auto)]
 
-mod description;
-mod lines;
-mod node;
-mod planned;
 mod prepare;
 mod report;
 mod run;
-mod script;
 mod status;
 mod stop;
 #[cfg(test)]
 mod tests;
-mod timer;
 mod top;
-mod turns;
 
 use rte_text::{FileShelf, OpenGate, StdSink};
 use status::Status;

@@ -3,20 +3,21 @@
 ghost use Rattle.std.specs.Prelude.{◌≡◌, ◌≤◌, ℕ, List, map, string_bytes, length, codes, IfOk, IfErr, OnOk, IfSome, IfNone};
 ghost use Rattle.rte_text.specs.declared.shelf.TheConstants.{FILE_LIMIT};
 ghost use Rattle.rte_text.specs.Shelves.{HeldWhereTold};
-ghost use Rattle.rte_program.specs.Inputs.{counts_of, run_words, AreInputs, IsJudged, NamesInputs, IsStopped, IsFetchStopped, IsNoForm};
-ghost use Rattle.rte_program.specs.Stops.{IsShort};
+ghost use Rattle.rte_program.specs.Inputs.{counts_of, run_words, AreInputs, IsJudged, IsTaken, IsNotTaken, NamesInputs, IsStopped, IsFetchStopped, IsNoForm};
+ghost use Rattle.rte_program.specs.Stops.{IsShort, stop_of};
 
-use crate::description::{OneWriter, read_description};
-use crate::script::{ScriptRead, read_script};
 use crate::stop::Stop;
 use bus_semantics::Script;
-use rte_text::{FILE_LIMIT, Fetched, Refused, Shelf};
+use description_stages::{PlannedDescription, plan_description};
+use rte_text::{FILE_LIMIT, Fetched, Refusal, Refused, Shelf, Text};
+use script_run::{ScriptRead, read_script};
+use stage_rule::is_in_stage;
 use std::alloc::Global;
 
-/// A description and a script that were read.
+/// A description with its plan, and a script over it.
 #[derive(Drop)]
 pub struct Prepared {
-    pub description: OneWriter,
+    pub found: PlannedDescription,
     pub script: Script,
 }
 
@@ -53,22 +54,46 @@ fn fetch_word<S: Shelf>(alloc: Global, shelf: &mut S, name: &str, word: u8) -> R
     }
 }
 
+fn stop_of(refused: Refused) -> Stop
+    ensures { result ≡ stop_of refused }
+{
+    match refused {
+        Refused::Rule(refusal) => Stop::Refused(refusal),
+        Refused::Memory => Stop::Memory,
+    }
+}
+
+/// The plan that the bytes of a description stand for: it breaks none of rules 1 to 30, and after them not rule 0.
+fn take_description(alloc: Global, bytes: &[u8]) -> Result<PlannedDescription, Stop>
+    ensures taken { IfOk result (IsTaken bytes.now) }
+    ensures stopped { IfErr result (IsNotTaken bytes.now) }
+{
+    let found = match plan_description(alloc, bytes) {
+        Ok(found) => found,
+        Err(refused) => return Err(stop_of(refused)),
+    };
+    if is_in_stage(&found.description) {
+        return Ok(found);
+    }
+    match Text::new(alloc, b"/") {
+        Ok(place) => Err(Stop::Refused(Refusal { rule: 0, place })),
+        Err(_) => Err(Stop::Memory),
+    }
+}
+
 /// Reads the description and then the script.
 fn judge(alloc: Global, description: &[u8], script: &[u8]) -> Result<Prepared, Stop>
-    ensures ready { IfOk result (λ x. AreInputs description.now script.now x.description x.script.lines) }
+    ensures ready { IfOk result (λ x. AreInputs description.now script.now x.found x.script.lines) }
     ensures stopped { IfErr result (IsJudged description.now script.now) }
 {
-    match read_description(alloc, description) {
-        Err(Refused::Rule(refusal)) => Err(Stop::Refused(refusal)),
-        Err(Refused::Memory) => Err(Stop::Memory),
-        Ok(description) => match read_script(alloc, script) {
-            ScriptRead::Read(script) => Ok(Prepared {
-                description,
-                script,
-            }),
-            ScriptRead::BadLine { line, cause } => Err(Stop::Script { line, cause }),
-            ScriptRead::Memory => Err(Stop::Memory),
-        },
+    let found = match take_description(alloc, description) {
+        Ok(found) => found,
+        Err(stop) => return Err(stop),
+    };
+    match read_script(alloc, &found.plan, script) {
+        ScriptRead::Read(script) => Ok(Prepared { found, script }),
+        ScriptRead::BadLine { line, cause } => Err(Stop::Script { line, cause }),
+        ScriptRead::Memory => Err(Stop::Memory),
     }
 }
 
@@ -77,7 +102,7 @@ fn judge(alloc: Global, description: &[u8], script: &[u8]) -> Result<Prepared, S
 /// Ends with the first of these that cannot be had.
 pub fn prepare<S: Shelf>(alloc: Global, words: &[String], shelf: &mut S) -> Result<Prepared, Stop>
     ensures files_stay { S.files shelf.new ≡ S.files shelf.old }
-    ensures ready { IfOk result (λ x. NamesInputs (map string_bytes words.now) (S.files shelf.old) x.description x.script.lines) }
+    ensures ready { IfOk result (λ x. NamesInputs (map string_bytes words.now) (S.files shelf.old) x.found x.script.lines) }
     ensures counts { OnOk result ((S.faults shelf.new ≡ S.faults shelf.old) × (S.long_files shelf.new ≡ S.long_files shelf.old)) }
     ensures stopped { IfErr result (IsStopped (map string_bytes words.now) (S.files shelf.old)
         (counts_of (S.faults shelf.old) (S.long_files shelf.old))

@@ -7,7 +7,11 @@ mod samples;
 use crate::status::Status;
 use crate::top::rte_top;
 use rte_text::{FILE_LIMIT, MemoryShelf, MemorySink, OpenGate};
-use samples::{END, IN_ANOTHER_ORDER, described, joined};
+use samples::{
+    BY_ZERO, IN_ITSELF, INVALIDATES, LOWER_ABOVE_UPPER, MANY_TO_MANY, ONE_WRITER, OTHER_LIMITS,
+    OUTER_PORTS, PAST_THE_LIMIT, PING_PONG, QUEUED, READS_FIRST, Sample, THREE_CORES, TWO_CORES,
+    UNCONNECTED, described, joined,
+};
 use std::alloc::{AllocError, Global};
 use std::process::Abort;
 use std::sync::Wait;
@@ -37,8 +41,6 @@ r:Look read i.v 0 7
 r:Look end
 idle
 ";
-
-const REFUSED: &str = "refused rule 0 at /\n";
 
 /// The words that name the description's file and the script's.
 const RUN: &[&str] = &["run", "c", "s"];
@@ -88,7 +90,7 @@ impl<'a> Given<'a> {
     }
 
     fn sink(&self, alloc: Global) -> Result<MemorySink, AllocError> {
-        MemorySink::new(alloc, 4_096, Vec::from_slice(alloc, self.failing_puts)?)
+        MemorySink::new(alloc, 4_194_304, Vec::from_slice(alloc, self.failing_puts)?)
     }
 }
 
@@ -110,60 +112,94 @@ fn compare<R: Abort + Threads + Wait + Sync + AllocGlobal>(
     Ok(())
 }
 
+/// Runs the script on the description, and compares all bytes of the trace but its first line.
+fn trace<R: Abort + Threads + Wait + Sync + AllocGlobal>(
+    rt: &R,
+    sample: &Sample,
+    script: &str,
+    told: &[&str],
+) -> Result<(), AllocError> {
+    let description = described(rt.alloc(), sample)?;
+    let given = Given::run(description.as_bytes(), script.as_bytes());
+    let told = joined(rt.alloc(), told)?;
+    compare(rt, script, &given, Status::Done, &[HEADER, told.as_str()])
+}
+
 #[test]
-fn runs_scripts(rt: HostRuntime) -> Result<(), Fail> {
-    let sevens = ("7", "10", "10");
-    let cases: [((&str, &str, &str), &str, &[&str]); 12] = [
-        (
-            sevens,
-            "tick 10\nrun\n",
-            &[HEADER, TEN_TICKS, WRITE_THEN_READ],
-        ),
+fn runs_one_writer(rt: HostRuntime) -> Result<(), Fail> {
+    let cases: [(&str, &[&str]); 6] = [
+        ("tick 10\nrun\n", &[TEN_TICKS, WRITE_THEN_READ]),
         // Nothing is due.
         (
-            sevens,
             "tick 9\nrun\n",
             &[
-                HEADER,
                 "env tick\nenv tick\nenv tick\nenv tick\nenv tick\nenv tick\nenv tick\nenv tick\nenv tick\nrun\nidle\n",
             ],
         ),
         // A pending start is a flag.
         (
-            sevens,
             "tick 30\nrun\n",
-            &[HEADER, TEN_TICKS, TEN_TICKS, TEN_TICKS, WRITE_THEN_READ],
+            &[TEN_TICKS, TEN_TICKS, TEN_TICKS, WRITE_THEN_READ],
         ),
-        (sevens, "", &[HEADER]),
-        (sevens, "run\nrun", &[HEADER, "run\nidle\nrun\nidle\n"]),
-        (
-            sevens,
-            "tick 10\nrun\nrun",
-            &[HEADER, TEN_TICKS, WRITE_THEN_READ, "run\nidle\n"],
-        ),
+        ("", &[]),
+        ("# nothing\n\nrun\nrun", &["run\nidle\nrun\nidle\n"]),
         // Ticks count from the beginning, over the lines of the script.
         (
-            sevens,
             "tick 7\ntick 2\nrun\ntick 1\nrun",
             &[
-                HEADER,
                 "env tick\nenv tick\nenv tick\nenv tick\nenv tick\nenv tick\nenv tick\nenv tick\nenv tick\nrun\nidle\n",
                 "env tick\n",
                 WRITE_THEN_READ,
             ],
         ),
-        (
-            ("0", "2", "3"),
-            "tick 6\nrun\n",
-            &[
-                "rte-trace 1
-env tick
-env tick
-env tick
-env tick
-env tick
-env tick
-run
+    ];
+    for (script, told) in cases {
+        trace(&rt, &ONE_WRITER, script, told)?;
+    }
+    Ok(())
+}
+
+/// What is told after ten ticks and a run line.
+const AFTER_TEN_TICKS: &[(&Sample, &str)] = &[
+    (
+        &READS_FIRST,
+        "run
+r:Look start E
+r:Look read i.v 133 5
+r:Look end
+w:Step start E
+w:Step write o.v 7 0
+w:Step end
+idle
+",
+    ),
+    (
+        &UNCONNECTED,
+        "run
+w:Step start E
+w:Step write o.v 7 0
+w:Step end
+r:Look start E
+r:Look read i.v 134 5
+r:Look end
+idle
+",
+    ),
+    (
+        &PAST_THE_LIMIT,
+        "run
+w:Step start E
+w:Step write o.v 1000 0
+w:Step end
+r:Look start E
+r:Look read i.v 0 1000
+r:Look end
+idle
+",
+    ),
+    (
+        &BY_ZERO,
+        "run
 w:Step start E
 w:Step write o.v 0 0
 w:Step end
@@ -172,98 +208,112 @@ r:Look read i.v 0 0
 r:Look end
 idle
 ",
-            ],
-        ),
-        // The reader reads what was written in an earlier run line.
-        (
-            ("1000", "2", "3"),
-            "tick 2\nrun\ntick 1\nrun\n",
-            &[
-                "rte-trace 1
-env tick
-env tick
-run
+    ),
+    (
+        &INVALIDATES,
+        "run
 w:Step start E
-w:Step write o.v 1000 0
+w:Step write o.v 7 0
+w:Step invalidate o.v 0
 w:Step end
-idle
-env tick
-run
 r:Look start E
-r:Look read i.v 0 1000
+r:Look isUpdated i.v 1
+r:Look read i.v 1 7
+r:Look isUpdated i.v 0
 r:Look end
 idle
 ",
-            ],
-        ),
-        // The reader alone first, and later what was written between.
-        (
-            ("41", "3", "2"),
-            "tick 2\nrun\ntick 1\nrun\ntick 1\nrun\n",
-            &[
-                "rte-trace 1
-env tick
-env tick
-run
+    ),
+    (
+        &TWO_CORES,
+        "run
+w:Step start E
 r:Look start E
+w:Step write o.v 7 0
+r:Look read i.v 0 7
+w:Step end
+r:Look end
+idle
+",
+    ),
+    (
+        &THREE_CORES,
+        "run
+r:Look start E
+q:Look start E
+w:Step start E
 r:Look read i.v 0 0
+q:Look read i.v 0 0
+w:Step write o.v 7 0
 r:Look end
-idle
-env tick
-run
-w:Step start E
-w:Step write o.v 41 0
-w:Step end
-idle
-env tick
-run
-r:Look start E
-r:Look read i.v 0 41
-r:Look end
-idle
-",
-            ],
-        ),
-        (
-            ("999", "1", "1000000"),
-            "tick 1\nrun\ntick 1\nrun\n",
-            &[
-                "rte-trace 1
-env tick
-run
-w:Step start E
-w:Step write o.v 999 0
-w:Step end
-idle
-env tick
-run
-w:Step start E
-w:Step write o.v 999 0
+q:Look end
 w:Step end
 idle
 ",
-            ],
-        ),
-        (
-            ("1", "1000000", "1"),
-            "tick 1\nrun",
-            &[
-                "rte-trace 1
-env tick
-run
-r:Look start E
-r:Look read i.v 0 0
-r:Look end
-idle
-",
-            ],
-        ),
-    ];
-    for (numbers, script, told) in cases {
-        let description = described(rt.alloc(), numbers, "", END)?;
-        let given = Given::run(description.as_bytes(), script.as_bytes());
-        compare(&rt, script, &given, Status::Done, told)?;
+    ),
+];
+
+#[test]
+fn runs_other_descriptions(rt: HostRuntime) -> Result<(), Fail> {
+    for (sample, told) in AFTER_TEN_TICKS {
+        trace(&rt, sample, "tick 10\nrun\n", &[TEN_TICKS, told])?;
     }
+    Ok(())
+}
+
+#[test]
+fn serves_the_environment(rt: HostRuntime) -> Result<(), Fail> {
+    let told = "env read out.v 0 0
+env write in.v 7 0
+env write in.v 8 0
+run
+c:Pass start D
+c:Pass read i.v 0 8
+c:Pass write o.v 8 0
+c:Pass end
+idle
+env read out.v 0 8
+";
+    let script = "read out.v\nwrite in.v 7\nwrite in.v 8\nrun\nread out.v\n";
+    trace(&rt, &OUTER_PORTS, script, &[told])?;
+    Ok(())
+}
+
+/// How many newlines there are.
+fn lines_in(bytes: &[u8]) -> usize {
+    bytes.iter().filter(|byte| **byte == b'\n').count()
+}
+
+#[test]
+fn gives_up_after_many_entries(rt: HostRuntime) -> Result<(), Fail> {
+    let alloc = rt.alloc();
+    let description = described(alloc, &PING_PONG)?;
+    let given = Given::run(description.as_bytes(), b"run");
+    let words = given.words(alloc)?;
+    let mut shelf = given.shelf(alloc)?;
+    let mut out = given.sink(alloc)?;
+    let answer = rte_top(
+        &rt,
+        alloc,
+        words.as_slice(),
+        &mut shelf,
+        &mut out,
+        &OpenGate,
+    );
+    assert_eq!(rt; answer, Status::Done);
+    assert_eq!(rt; lines_in(out.told()), 100_453);
+    let start = b"rte-trace 1
+run
+a:Go start S
+a:Go write o.v 1 0
+a:Go end
+b:Go start S
+b:Go write o.v 1 0
+b:Go end
+a:Go start D
+";
+    assert!(rt; out.told().starts_with(start));
+    assert!(rt; out.told().ends_with(b"\nunsettled\n"));
     Ok(())
 }
 
@@ -279,7 +329,7 @@ fn refuses_words(rt: HostRuntime) -> Result<(), Fail> {
         &["Run", "c", "s"],
         &["c", "s", "run"],
     ];
-    let description = described(rt.alloc(), ("7", "10", "10"), "", END)?;
+    let description = described(rt.alloc(), &ONE_WRITER)?;
     for words in cases {
         let given = Given {
             words,
@@ -293,7 +343,7 @@ fn refuses_words(rt: HostRuntime) -> Result<(), Fail> {
 
 #[test]
 fn says_what_was_not_read(rt: HostRuntime) -> Result<(), Fail> {
-    let text = described(rt.alloc(), ("7", "10", "10"), "", END)?;
+    let text = described(rt.alloc(), &ONE_WRITER)?;
     let description = Some(text.as_bytes());
     let script: Option<&[u8]> = Some(b"run");
     let too_long = vec![in rt.alloc(); 0u8; FILE_LIMIT + 1]?;
@@ -322,7 +372,7 @@ fn says_what_was_not_read(rt: HostRuntime) -> Result<(), Fail> {
 
 #[test]
 fn ends_where_a_put_fails(rt: HostRuntime) -> Result<(), Fail> {
-    let description = described(rt.alloc(), ("7", "10", "10"), "", END)?;
+    let description = described(rt.alloc(), &ONE_WRITER)?;
     let cases: [(
         &'static [&'static str],
         &[u8],
@@ -371,107 +421,56 @@ idle",
 }
 
 #[test]
-fn takes_descriptions_of_one_form(rt: HostRuntime) -> Result<(), Fail> {
-    let sevens = ("7", "10", "10");
-    let taken = (Status::Done, HEADER);
-    let refused = (Status::Refused, REFUSED);
-    let cases = [
-        (("0", "1", "1000000"), "", END, taken),
-        (("1000", "1000000", "1"), "", END, taken),
-        (sevens, ",\"ports\":[]", END, taken),
-        // Of a doubled key the last one stands.
-        (sevens, "", ",\"root\":\"Bottom\",\"root\":\"Top\"}", taken),
-        (("1001", "10", "10"), "", END, refused),
-        (("7.0", "10", "10"), "", END, refused),
-        (("-1", "10", "10"), "", END, refused),
-        (("7", "0", "10"), "", END, refused),
-        (("7", "1000001", "10"), "", END, refused),
-        (("7", "10", "0"), "", END, refused),
-        (("7", "10", "1000001"), "", END, refused),
-        (("7", "10", "\"10\""), "", END, refused),
-        (sevens, ",\"ports\":[1]", END, refused),
-        (sevens, ",\"ports\":{}", END, refused),
-        (sevens, "", ",\"root\":\"Bottom\"}", refused),
-        (sevens, "", ",\"Root\":\"Top\"}", refused),
-        (sevens, "", ",\"root\":\"Top\",\"modeGroups\":[]}", refused),
-        (sevens, "", "}", refused),
-        (sevens, "", ",\"root\":\"Top\"", refused),
-        (sevens, "", ",\"root\":\"Top\"} {}", refused),
+fn refuses_descriptions(rt: HostRuntime) -> Result<(), Fail> {
+    let cases: [(&Sample, &str); 5] = [
+        (&LOWER_ABOVE_UPPER, "refused rule 6 at /dataTypes/0\n"),
+        (&IN_ITSELF, "refused rule 9 at /compositions/0\n"),
+        (
+            &OTHER_LIMITS,
+            "refused rule 12 at /compositions/0/connectors/0\n",
+        ),
+        (&MANY_TO_MANY, "refused rule 15 at r.i.v\n"),
+        (&QUEUED, "refused rule 0 at /\n"),
     ];
-    for (numbers, outer_ports, end, (status, told)) in cases {
-        let description = described(rt.alloc(), numbers, outer_ports, end)?;
-        let given = Given::run(description.as_bytes(), b"");
-        compare(&rt, description.as_str(), &given, status, &[told])?;
+    for (sample, told) in cases {
+        let description = described(rt.alloc(), sample)?;
+        // A description that is refused decides before a script that is.
+        let given = Given::run(description.as_bytes(), b"walk");
+        compare(&rt, told, &given, Status::Refused, &[told])?;
     }
     Ok(())
 }
 
 #[test]
-fn reads_whole_files(rt: HostRuntime) -> Result<(), Fail> {
-    let longest = vec![in rt.alloc(); 0u8; FILE_LIMIT]?;
-    let cases: [(&[u8], &[u8], Status, &[&str]); 7] = [
-        (
-            IN_ANOTHER_ORDER.as_bytes(),
-            b"tick 20\nrun\n",
-            Status::Done,
-            &[
-                HEADER,
-                TEN_TICKS,
-                TEN_TICKS,
-                "run
-w:Step start E
-w:Step write o.v 5 0
-w:Step end
-idle
-",
-            ],
-        ),
-        (b"", b"run", Status::Refused, &[REFUSED]),
-        (b"{}", b"run", Status::Refused, &[REFUSED]),
-        (b"\xff{\0", b"run", Status::Refused, &[REFUSED]),
-        (longest.as_slice(), b"run", Status::Refused, &[REFUSED]),
-        // A description that is refused decides before a script that is.
-        (b"{}", b"walk", Status::Refused, &[REFUSED]),
-        (
-            IN_ANOTHER_ORDER.as_bytes(),
-            longest.as_slice(),
-            Status::Script,
-            &["script refused line 1 cause 1\n"],
-        ),
+fn refuses_what_is_no_description(rt: HostRuntime) -> Result<(), Fail> {
+    let cases: [(&[u8], &str); 4] = [
+        (b"", "refused rule 1 at /\n"),
+        (b"{", "refused rule 1 at /\n"),
+        (b"\xff{\0", "refused rule 1 at /\n"),
+        (b"{}", "refused rule 2 at /\n"),
     ];
-    for (description, script, status, told) in cases {
-        let given = Given::run(description, script);
-        compare(&rt, "a whole file", &given, status, told)?;
+    for (description, told) in cases {
+        let given = Given::run(description, b"run");
+        compare(&rt, told, &given, Status::Refused, &[told])?;
     }
     Ok(())
 }
 
 #[test]
 fn names_the_first_bad_line(rt: HostRuntime) -> Result<(), Fail> {
-    let description = described(rt.alloc(), ("7", "10", "10"), "", END)?;
-    let first = "script refused line 1 cause 1\n";
-    let second = "script refused line 2 cause 1\n";
-    let third = "script refused line 3 cause 1\n";
-    let cases: [(&[u8], &str); 19] = [
-        (b"walk\n", first),
-        (b"\n", first),
-        (b"# x", first),
-        (b"tick 0", first),
-        (b"tick 01", first),
-        (b"tick 100001", first),
-        (b"tick +1", first),
-        (b"tick -1", first),
-        (b"tick ", first),
-        (b"tick", first),
-        (b"tick  1", first),
-        (b" run", first),
-        (b"run ", first),
-        (b"Run", first),
-        (b"tick 10\r\nrun\n", first),
-        (b"run\n\n", second),
-        (b"tick 10\ntick 0\nwalk\n", second),
-        (b"run\ntick 99999999999999999999\n# x\n", second),
-        (b"run\ntick 5\n\xff\xfe\nrun\n", third),
+    let description = described(rt.alloc(), &OUTER_PORTS)?;
+    let longest = vec![in rt.alloc(); 0u8; FILE_LIMIT]?;
+    let thousand = joined(rt.alloc(), &["run\n"; 1_001])?;
+    let cases: [(&[u8], &str); 6] = [
+        (b"# x\nrun\nwalk\n", "script refused line 3 cause 1\n"),
+        (b"read in.v", "script refused line 1 cause 2\n"),
+        (b"write out.v 1", "script refused line 1 cause 2\n"),
+        (
+            b"write in.v 1000\nwrite in.v 1001",
+            "script refused line 2 cause 3\n",
+        ),
+        (thousand.as_bytes(), "script refused line 1001 cause 4\n"),
+        (longest.as_slice(), "script refused line 1 cause 1\n"),
     ];
     for (script, told) in cases {
         let given = Given::run(description.as_bytes(), script);

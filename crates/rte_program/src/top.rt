@@ -2,16 +2,14 @@
 
 ghost use Rattle.std.specs.Prelude.{◌≡◌, ◌≢◌, ◌⊎◌, ℕ, List, map, string_bytes};
 ghost use Rattle.rte_text.specs.Counts.{Rose};
-ghost use Rattle.bus_semantics.specs.declared.script.Line.{Line};
-ghost use Rattle.rte_program.specs.declared.description.one_writer.OneWriter.{OneWriter};
-ghost use Rattle.rte_program.specs.Inputs.{counts_of, IsNoForm, IsNoDescription, AreInputs, HaveBadLine};
-ghost use Rattle.rte_program.specs.Answers.{RunsWhatIsNamed, RefusesWhatIsNamed, RefusesWords, RefusesScript, SaysUnread, CutsWhatIsPut, AreHeld, NoFault, AnswersOrMemory};
+ghost use Rattle.rte_program.specs.Inputs.{counts_of, IsNoForm, IsNoDescription, BreaksNoRule, IsScriptOver, IsNoScriptOver};
+ghost use Rattle.rte_program.specs.Answers.{RunsWhatIsNamed, RefusesWhatIsNamed, RefusesWords, RefusesScript, SaysUnread, CutsWhatIsPut, EndsForMemory, AreHeld, NoFault, AnswersOrMemory};
 
 use crate::prepare::prepare;
 use crate::report::report;
-use crate::run::run_script;
+use crate::run::run_prepared;
 use crate::status::Status;
-use rte_text::{Gate, Put, Shelf, Sink};
+use rte_text::{Gate, Shelf, Sink};
 use std::alloc::Global;
 use std::sync::Wait;
 use std::thread::Threads;
@@ -19,8 +17,8 @@ use std::thread::Threads;
 /// Carries out the command that the words give: `run C S` reads the description C and the script S from the shelf,
 /// runs the script on the bus of the description, and puts the trace.
 ///
-/// Refusals come in this order: the words, the files in the order of the words, the description, the script. Before
-/// the run nothing is put but a refusal's text. Each line is one put.
+/// Refusals come in this order: the words, the files in the order of the words, the description, by rules 1 to 30 and then
+/// by rule 0, the script. Before the run nothing is put but a refusal's text. Each line is one put.
 pub fn rte_top<R: Threads + Wait + Sync, S: Shelf, K: Sink, G: Gate>(
     rt: &R,
     alloc: Global,
@@ -46,7 +44,8 @@ pub fn rte_top<R: Threads + Wait + Sync, S: Shelf, K: Sink, G: Gate>(
     ensures cut { result ≡ Status.NotWritten
         → CutsWhatIsPut (map string_bytes words.now) (S.files shelf.old) (counts_of (S.faults shelf.old) (S.long_files shelf.old))
         (counts_of (S.faults shelf.new) (S.long_files shelf.new)) (K.told out.old) (K.told out.new) }
-    ensures memory { result ≡ Status.Memory → K.told out.new ≡ K.told out.old }
+    ensures memory { result ≡ Status.Memory
+        → EndsForMemory (map string_bytes words.now) (S.files shelf.old) (K.told out.old) (K.told out.new) }
     ensures no_trace { result ≢ Status.Trace }
 
     // Faults have their answers.
@@ -59,16 +58,13 @@ pub fn rte_top<R: Threads + Wait + Sync, S: Shelf, K: Sink, G: Gate>(
     ensures always_words { IsNoForm (map string_bytes words.now) → ¬ Rose (K.faults out.old) (K.faults out.new) → result ≡ Status.Words }
     ensures always_refused { (d s : List ℕ) → AreHeld (map string_bytes words.now) (S.files shelf.old) d s → IsNoDescription d
         → NoFault (S.faults shelf.old) (S.faults shelf.new) (K.faults out.old) (K.faults out.new) → AnswersOrMemory result Status.Refused }
-    ensures always_script { (d s : List ℕ) (line cause : ℕ) → AreHeld (map string_bytes words.now) (S.files shelf.old) d s → HaveBadLine d s line cause
+    ensures always_script { (d s : List ℕ) → AreHeld (map string_bytes words.now) (S.files shelf.old) d s → BreaksNoRule d → IsNoScriptOver d s
         → NoFault (S.faults shelf.old) (S.faults shelf.new) (K.faults out.old) (K.faults out.new) → AnswersOrMemory result Status.Script }
-    ensures complete { (d s : List ℕ) (w : OneWriter) (lines : List Line) → AreHeld (map string_bytes words.now) (S.files shelf.old) d s → AreInputs d s w lines
+    ensures complete { (d s : List ℕ) → AreHeld (map string_bytes words.now) (S.files shelf.old) d s → BreaksNoRule d → IsScriptOver d s
         → NoFault (S.faults shelf.old) (S.faults shelf.new) (K.faults out.old) (K.faults out.new) → AnswersOrMemory result Status.Done }
 {
     match prepare(alloc, words, shelf) {
-        Ok(prepared) => match run_script(&prepared.description, &prepared.script, out) {
-            Put::Done => Status::Done,
-            Put::Failed => Status::NotWritten,
-        },
-        Err(stop) => report(&stop, out),
+        Ok(prepared) => run_prepared(rt, alloc, prepared, out, gate),
+        Err(stop) => report(alloc, &stop, out),
     }
 }

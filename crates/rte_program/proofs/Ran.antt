@@ -1,0 +1,31 @@
+-- What running a script on a new node says of the whole run.
+use Rattle.std.proofs.Common.{ℕ, List, [], Option}
+use Rattle.bus_semantics.specs.declared.script.Line.{Line}
+use Rattle.bus_semantics.specs.declared.script.Mapping.{Mapping}
+use Rattle.bus_semantics.specs.Plan.{Plan}
+use Rattle.bus_semantics.specs.Run.{Session, IsLegalRun}
+use Rattle.core_runtime.specs.Nodes.{NodeState}
+use Rattle.session_run.specs.Legal.{IsLegalFrom}
+use Rattle.session_run.specs.Running as session
+use Rattle.rte_program.specs.Running.{PrintsRun, PrintsBeginning}
+
+abbrev AreRuns : Type 0
+AreRuns = (p : Plan) (m : Mapping) (s : Session) → IsLegalFrom p m [] s → IsLegalRun p m s
+
+pub ran : AreRuns → (p : Plan) (m : Mapping) (script : List Line) (n : NodeState) (before after : Option (List ℕ)) → session.PrintsRun p m [] script n before after → PrintsRun p m script before after
+ran are p m script n before after r = record {
+  session = r.session;
+  bytes = r.bytes;
+  run = record { session = r.of_script; legal = are p m r.session r.legal };
+  spelled = r.spelled;
+  put = r.put;
+}
+
+pub began : AreRuns → (p : Plan) (m : Mapping) (script : List Line) (before after : Option (List ℕ)) → session.PrintsBeginning p m [] script before after → PrintsBeginning p m script before after
+began are p m script before after r = record {
+  session = r.session;
+  bytes = r.bytes;
+  run = record { session = r.of_script; legal = are p m r.session r.legal };
+  spelled = r.spelled;
+  put = r.put;
+}
