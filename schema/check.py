@@ -1,16 +1,22 @@
 #!/usr/bin/env python3
-"""Checks the schema of descriptions: it accepts whole.json and each example's description, and refuses each case of broken.json.
+"""Checks the schema of descriptions: what it has to accept, and what it has to refuse.
 
-A case says what to change in whole.json: `at` a JSON pointer the `value`, or `without` what a pointer names.
+It has to accept whole.json, each case of accepted.json, the description of each example, and the parts of the
+descriptions that the tests of the program run; and to refuse each case of broken.json. A case says what to change in
+whole.json: `at` a JSON pointer the `value`, or `without` what a pointer names.
+
 Nothing is checked, and that is said, where the validator (Python's `jsonschema`) is not installed.
 """
 
 import copy
 import json
 import pathlib
+import re
 import sys
 
 HERE = pathlib.Path(__file__).resolve().parent
+TOP = HERE.parent
+SAMPLES = TOP / "crates/rte_program/src/tests/samples.rt"
 
 
 def read(path):
@@ -32,6 +38,29 @@ def changed(description, case):
     return description
 
 
+def whole(part):
+    """A description around a part: a component, a mapping, some keys of the whole, or some of a composition."""
+    part = part.strip(" \n,")
+    if part.startswith('{"shortName"'):
+        part = f'"components":[{part}]'
+    if part.startswith('{"cores"'):
+        return json.loads(f'{{"root":"Top","mapping":{part}}}')
+    if not part.startswith(('"dataTypes"', '"components"')):
+        part = f'"compositions":[{{"shortName":"Top",{part}}}]'
+    return json.loads(f'{{{part},"root":"Top","mapping":{{"cores":1}}}}')
+
+
+def descriptions():
+    """Each description that the schema has to accept, with what to call it."""
+    yield "whole.json", read(HERE / "whole.json")
+    for case in read(HERE / "accepted.json"):
+        yield case["why"], changed(read(HERE / "whole.json"), case)
+    for path in sorted(TOP.glob("examples/*/description.json")):
+        yield str(path.relative_to(TOP)), read(path)
+    for part in re.findall('r#"(.*?)"#', SAMPLES.read_text(encoding="utf-8"), re.DOTALL):
+        yield f"a part of the tests, {part}", whole(part)
+
+
 def main():
     try:
         from jsonschema import Draft202012Validator
@@ -41,10 +70,10 @@ def main():
     schema = read(HERE / "description.schema.json")
     Draft202012Validator.check_schema(schema)
     accepts = Draft202012Validator(schema).is_valid
-    whole, cases = read(HERE / "whole.json"), read(HERE / "broken.json")
-    good = [HERE / "whole.json", *sorted(HERE.parent.glob("examples/*/description.json"))]
-    wrong = [f"refuses {path.relative_to(HERE.parent)}" for path in good if not accepts(read(path))]
-    wrong += [f"accepts {case}" for case in cases if accepts(changed(whole, case))]
+    good = list(descriptions())
+    cases = read(HERE / "broken.json")
+    wrong = [f"refuses {name}" for name, description in good if not accepts(description)]
+    wrong += [f"accepts {case}" for case in cases if accepts(changed(read(HERE / "whole.json"), case))]
     for line in wrong:
         print(line)
     print(f"{len(good)} descriptions accepted, {len(cases)} broken ones refused" if not wrong else f"{len(wrong)} wrong")
