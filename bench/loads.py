@@ -1,0 +1,140 @@
+#!/usr/bin/env python3
+"""Times whole runs of the program on descriptions and scripts that it makes.
+
+    loads.py [CASE [SIZE]]
+
+Without a case each one is run at its size and at twice that. The functions below that take one number are the cases, and
+their first lines say what each is. The program is `./rte` at the top of the repository. For each run one line is printed:
+the case, its size, the lines of the trace, the seconds of the processor, the lines in one of these, and the peak of memory in
+MiB.
+"""
+
+import json
+import os
+import pathlib
+import subprocess
+import sys
+import tempfile
+
+TOP = pathlib.Path(__file__).resolve().parent.parent
+
+
+def port(kind, name):
+    return {"kind": kind + "PortPrototype", "shortName": name, "interface": "I"}
+
+
+def runnable(name, accesses, program):
+    return {"shortName": name, "accesses": accesses, "program": program}
+
+
+def timing(name, of, period):
+    return {"kind": "TimingEvent", "shortName": name, "runnable": of, "period": period}
+
+
+def received(name, of, at):
+    return {"kind": "DataReceivedEvent", "shortName": name, "runnable": of, "port": at, "element": "v"}
+
+
+def component(name, ports, runnables, events):
+    return {"shortName": name, "ports": ports, "behavior": {"runnables": runnables, "events": events}}
+
+
+def assembly(provider, requester):
+    return {"kind": "AssemblySwConnector", "provider": provider, "requester": requester}
+
+
+def described(components, prototypes, connectors, cores, tasks, events):
+    return {
+        "dataTypes": [{"shortName": "T", "baseType": "sint32", "lower": 0, "upper": 1000, "words": 1}],
+        "interfaces": [
+            {
+                "kind": "SenderReceiverInterface",
+                "shortName": "I",
+                "dataElements": [{"shortName": "v", "type": "T", "swImplPolicy": "standard"}],
+            }
+        ],
+        "components": components,
+        "compositions": [{"shortName": "Top", "prototypes": prototypes, "connectors": connectors}],
+        "root": "Top",
+        "mapping": {"cores": cores, "tasks": tasks, "events": events},
+    }
+
+
+def writer(times, period):
+    program = [["repeat", times, [["set", "x", ["add", "x", 1]], ["write", "o", "v", ["x"], "s"]]]]
+    return component("W", [port("P", "o")], [runnable("Step", [["write", "o", "v"]], program)], [timing("E", "Step", period)])
+
+
+def reader(times):
+    program = [["repeat", times, [["read", "i", "v", ["x"], "s"]]]]
+    return component("R", [port("R", "i")], [runnable("Look", [["read", "i", "v"]], program)], [received("D", "Look", "i")])
+
+
+def prototypes(count):
+    """A writer and so many readers."""
+    return [{"shortName": "w", "type": "W"}] + [{"shortName": f"r{n}", "type": "R"} for n in range(count)]
+
+
+def mapped(instance, event, task, position):
+    return {"instance": instance, "event": event, "task": task, "position": position}
+
+
+def chatter(size):
+    """Two runnables for 1,000 run lines: one writes so many times, and the other then reads as often."""
+    events = [mapped("w", "E", "T", 0), mapped("r0", "D", "T", 1)]
+    tasks = [{"shortName": "T", "core": 0}]
+    joined = [assembly(["w", "o"], ["r0", "i"])]
+    return described([writer(size, 1), reader(size)], prototypes(1), joined, 1, tasks, events), "tick 1\nrun\n" * 1000
+
+
+def fan(size):
+    """One writer and so many readers, each started by what it receives, for 100 run lines."""
+    events = [mapped("w", "E", "T", 0)] + [mapped(f"r{n}", "D", "T", n + 1) for n in range(size)]
+    tasks = [{"shortName": "T", "core": 0}]
+    joined = [assembly(["w", "o"], [f"r{n}", "i"]) for n in range(size)]
+    return described([writer(1, 1), reader(1)], prototypes(size), joined, 1, tasks, events), "tick 1\nrun\n" * 100
+
+
+def instances(size):
+    """So many instances on 8 cores, in pairs of a writer and its reader on the next core, for 100 run lines."""
+    pairs = size // 2
+    held = [{"shortName": f"w{n}", "type": "W"} for n in range(pairs)] + [{"shortName": f"r{n}", "type": "R"} for n in range(pairs)]
+    joined = [assembly([f"w{n}", "o"], [f"r{n}", "i"]) for n in range(pairs)]
+    tasks = [{"shortName": f"T{n}", "core": n} for n in range(8)]
+    events = [mapped(f"w{n}", "E", f"T{n % 8}", n) for n in range(pairs)]
+    events += [mapped(f"r{n}", "D", f"T{(n + 1) % 8}", pairs + n) for n in range(pairs)]
+    return described([writer(1, 1), reader(1)], held, joined, 8, tasks, events), "tick 1\nrun\n" * 100
+
+
+CASES = {chatter: 250, fan: 500, instances: 500}
+
+
+def run(case, size):
+    description, script = case(size)
+    with tempfile.TemporaryDirectory() as folder:
+        words = [pathlib.Path(folder) / "description.json", pathlib.Path(folder) / "script.txt", pathlib.Path(folder) / "trace.txt"]
+        words[0].write_text(json.dumps(description))
+        words[1].write_text(script)
+        with open(words[2], "wb") as trace:
+            child = subprocess.Popen([TOP / "rte", "run", words[0], words[1]], stdout=trace)
+            _, status, used = os.wait4(child.pid, 0)
+        told = words[2].read_bytes()
+    seconds = used.ru_utime + used.ru_stime
+    if status != 0:
+        sys.exit(f"{case.__name__} {size} ended with {os.waitstatus_to_exitcode(status)}: {told[:200]!r}")
+    lines = told.count(b"\n")
+    print(f"{case.__name__:10} {size:6} {lines:9} {seconds:8.2f} s {lines / seconds:12.0f} a second {used.ru_maxrss / 1024:8.1f} MiB")
+
+
+def main():
+    if len(sys.argv) > 1:
+        case = {c.__name__: c for c in CASES}[sys.argv[1]]
+        run(case, int(sys.argv[2]) if len(sys.argv) > 2 else CASES[case])
+        return
+    for case, size in CASES.items():
+        run(case, size)
+        run(case, 2 * size)
+
+
+if __name__ == "__main__":
+    main()
