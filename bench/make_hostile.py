@@ -8,6 +8,7 @@ The functions below that take one number are the cases; their first lines say wh
 """
 
 import json
+import random
 import sys
 
 DATA_TYPE = {"shortName": "T", "baseType": "sint16", "lower": 0, "upper": 1, "words": 1}
@@ -123,6 +124,85 @@ def near(n):
     right["connectors"] += [delegation(["b", f"i{k}"], f"h{k}") for k in range(n)]
     below = [left, fan("P2", "P", "I", "W", "o", 200), right, fan("R2", "R", "I", "V", "i", 200)]
     return whole(interfaces, components, [across(n)] + below)
+
+
+def hubs_own(n):
+    """Very many provided ports that very many outer ports all lead to, each of these to one of its own besides."""
+    interfaces = AB + [interface("A", "a")]
+    components = [
+        component("W", ports("P", "o", "I", n)),
+        component("W2", ports("P", "o", "A", n)),
+        component("V", ports("R", "i", "I", 1)),
+    ]
+    left = hubs("P", "P", "I", "P2", n)
+    left["prototypes"].append(prototype("b", "W2"))
+    left["connectors"] += [delegation(["b", f"o{k}"], f"h{k}") for k in range(n)]
+    to = [assembly(["p", f"h{k}"], ["r", "i0"]) for k in range(n)]
+    sides = [prototype("p", "P"), prototype("r", "V")]
+    return whole(interfaces, components, [top(sides, to), left, fan("P2", "P", "I", "W", "o", n)])
+
+
+def both_hubs(n):
+    """The same on both sides, where each of the ports is joined to one."""
+    interfaces = [interface(f"A{k}", f"a{k}") for k in range(n)] + [interface("B", "b"), interface("C", "c")]
+    components = [
+        component("W", [port("P", f"o{k}", f"A{k}") for k in range(n)]),
+        component("V", [port("R", f"o{k}", f"A{k}") for k in range(n)]),
+        component("W2", ports("P", "o", "B", n)),
+        component("V2", ports("R", "o", "C", n)),
+    ]
+    below = []
+    for name, kind, held, own in (("P", "P", "W", "W2"), ("R", "R", "V", "V2")):
+        outer = hubs(name, kind, "A0", f"{name}2", n)
+        outer["prototypes"].append(prototype("b", own))
+        outer["connectors"] += [delegation(["b", f"o{k}"], f"h{k}") for k in range(n)]
+        below += [outer, fan(f"{name}2", kind, "A0", held, "o", n)]
+    return whole(interfaces, components, [across(n)] + below)
+
+
+def overlaps(n):
+    """Outer ports that are delegated to half of 256 ports, other ones each, and an assembly between each two of them."""
+    count = int(n ** 0.5)
+    chance = random.Random(1)
+    components = [component("W", ports("P", "o", "I", 256)), component("V", ports("R", "o", "I", 256))]
+    below = []
+    for name, kind, held in (("P", "P", "W"), ("R", "R", "V")):
+        to = [delegation(["w", f"o{k}"], f"h{a}") for a in range(count) for k in chance.sample(range(256), 128)]
+        below.append(composition(name, ports(kind, "h", "I", count), [prototype("w", held)], to))
+    return whole(AB, components, [top(SIDES, [assembly(["p", f"h{a}"], ["r", f"h{b}"]) for a in range(count) for b in range(count)])] + below)
+
+
+def ways(n):
+    """Seven levels on each side, each of very many ports that are delegated to four of the next: very many ways, few joins."""
+    chance = random.Random(1)
+    width = n // 14
+    components = [component("W", ports("P", "h", "I", 16)), component("V", ports("R", "h", "I", 16))]
+    below = []
+    for side, kind, held in (("P", "P", "W"), ("R", "R", "V")):
+        for level in range(7):
+            of, count = (held, 16) if level == 6 else (f"{side}{level + 1}", width)
+            to = [delegation(["a", f"h{b}"], f"h{a}") for a in range(width) for b in chance.sample(range(count), 4)]
+            below.append(composition(f"{side}{level}", ports(kind, "h", "I", width), [prototype("a", of)], to))
+    sides = [prototype("p", "P0"), prototype("r", "R0")]
+    return whole(AB, components, [top(sides, [assembly(["p", f"h{k}"], ["r", f"h{k}"]) for k in range(width)])] + below)
+
+
+def instances_apart(n):
+    """One port of each of 1,000 instances that is joined among very many that are not, and very many ports that lead to it."""
+    components = [
+        component("W", ports("P", "j", "J", n), ports("P", "o", "I", 1)),
+        component("V", ports("R", "i", "I", 1), ports("R", "x", "B", n // 5)),
+    ]
+    stand = [f"a{k}" for k in range(1000)]
+    held = [delegation(["w", f"j{k}"], "q") for k in range(n)] + [delegation(["w", "o0"], "q")]
+    to = [delegation(["v", p], f"h{k}") for k in range(n // 5) for p in ("i0", f"x{k}")]
+    below = [
+        composition("M", [port("P", "q", "I")], [prototype(s, "L") for s in stand], [delegation([s, "q"], "q") for s in stand]),
+        composition("L", [port("P", "q", "I")], [prototype("w", "W")], held),
+        composition("R", ports("R", "h", "I", n // 5), [prototype("v", "V")], to),
+    ]
+    sides = [prototype("p", "M"), prototype("r", "R")]
+    return whole(AB + [interface("B", "b")], components, [top(sides, [assembly(["p", "q"], ["r", f"h{k}"]) for k in range(n // 5)])] + below)
 
 
 def equal(n):
@@ -248,8 +328,9 @@ def between_cycles(n):
 
 
 CASES = [
-    connectors, connectors_apart, near, equal, names, names_own, names_split, names_split_own, alternate, instances,
-    instances_joined, inner, outers, hub_joined, levels, above_cycle, between_cycles,
+    connectors, connectors_apart, near, hubs_own, both_hubs, overlaps, ways, instances_apart, equal, names, names_own,
+    names_split, names_split_own, alternate, instances, instances_joined, inner, outers, hub_joined, levels, above_cycle,
+    between_cycles,
 ]
 
 

@@ -3,14 +3,13 @@ use Rattle.std.proofs.Common.{◌≡◌, ℕ, List, Bool, false, Vec, ◌⊎◌,
 use Rattle.std.specs.Global.{Global}
 use Rattle.std.specs.HashMap.{HashMap, get}
 use Rattle.description_types.specs.declared.description.Description.{Description}
-use Rattle.composition_flatten.specs.declared.gates.Gate.{Gate}
+use Rattle.composition_flatten.specs.declared.crossings.Crossing.{Crossing}
 use Rattle.composition_flatten.specs.declared.links.Link.{Link}
 use Rattle.composition_flatten.specs.declared.matched.Matched.{Matched}
 use Rattle.composition_flatten.specs.declared.tree.PortEnd.{PortEnd}
-use Rattle.composition_flatten.specs.Gates.{gate_ends}
 use Rattle.composition_flatten.specs.Growing.{AnyOf, Grown}
 use Rattle.composition_flatten.specs.Links.{link_of, IsPairLink, IsCrossLink}
-use Rattle.composition_flatten.specs.Matching.{same_gate, same_pair, AreListed, AreMatches, HasPairs, IsAdding, IsBetween, IsMatched}
+use Rattle.composition_flatten.specs.Matching.{same_gate, same_pair, AreListed, AreMatches, HasPairs, IsAdding, IsBetween, IsCrossingLink, IsMatched}
 use Rattle.composition_flatten.specs.Members.{Among}
 use Rattle.composition_flatten.specs.Tables.{AreGroups}
 use Rattle.composition_flatten.proofs.Growth.{grown_same}
@@ -63,20 +62,20 @@ module _ (d : Description) (m : Matched) (before : List Link) (adding : IsAdding
     crossed = λ k a x h. adding.crossed k (subst (λ s. Among k s.keys) crossed a) x h;
   }
 
-  pub crossed_before : (p r : Gate) → Among (p, r) m.crossed.keys → Grown (IsCrossLink d (gate_ends d p) (gate_ends d r)) before before false
-  crossed_before p r a = record {
+  pub crossed_before : (c : Crossing) → Among c m.crossed.keys → Grown (IsCrossingLink d c) before before false
+  crossed_before c a = record {
     sound = λ x h. inl h;
     stays = λ x h. h;
-    has = λ _ x h. adding.crossed (p, r) a x h;
+    has = λ _ x h. adding.crossed c a x h;
     past = λ full. absurd (true≢false (sym full));
   }
 
-  pub crossed_now : (p r : Gate) (n : Matched) → n.interfaces ≡ m.interfaces → n.kept ≡ m.kept → n.sides ≡ m.sides → n.done ≡ m.done
-      → ((k : Gate × Gate) → Among k n.crossed.keys ↔ (Among k m.crossed.keys ⊎ (k ≡ (p, r)))) → ((x : Link) → IsCrossLink d (gate_ends d p) (gate_ends d r) x → Among x before) → IsAdding d n before
-  crossed_now p r n listed kept sides done noted all = record {
+  pub crossed_now : (c : Crossing) (n : Matched) → n.interfaces ≡ m.interfaces → n.kept ≡ m.kept → n.sides ≡ m.sides → n.done ≡ m.done
+      → ((k : Crossing) → Among k n.crossed.keys ↔ (Among k m.crossed.keys ⊎ (k ≡ c))) → ((x : Link) → IsCrossingLink d c x → Among x before) → IsAdding d n before
+  crossed_now c n listed kept sides done noted all = record {
     matched = noted_matched n listed kept sides;
     done = λ k a x h. adding.done k (subst (λ s. Among k s.keys) done a) x h;
-    crossed = λ k a x h. ⊎_elim (λ o. adding.crossed k o x h) (λ (e : k ≡ (p, r)). all x (subst (λ (l : Gate × Gate). IsCrossLink d (gate_ends d l.0) (gate_ends d l.1) x) e h)) ((noted k).0 a);
+    crossed = λ k a x h. ⊎_elim (λ o. adding.crossed k o x h) (λ (e : k ≡ c). all x (subst (λ l. IsCrossingLink d l x) e h)) ((noted k).0 a);
   }
 
 -- the links of ports, by pairs of their interfaces

@@ -1,5 +1,6 @@
 pub mod Adding
 pub mod Broken
+pub mod ByParts
 pub mod Chains
 pub mod Counting
 pub mod Deepest
@@ -11,6 +12,7 @@ pub mod Growth
 pub mod InItself
 pub mod Joining
 pub mod Kept
+pub mod KnownEnds
 pub mod Keying
 pub mod Limiting
 pub mod Linking
@@ -21,6 +23,7 @@ pub mod Noding
 pub mod Parting
 pub mod Placing
 pub mod Reaching
+pub mod SameCrossings
 pub mod SameEnds
 pub mod SameGates
 pub mod SameKeys

@@ -81,8 +81,9 @@ module _ (d : Description) (provided required : List PortEnd) (pairs : List (ℕ
       → Grown (IsCrossLink d provided required) before after is_full
   known_rest before middle after some is_full g h = grown_after (AnyOf (IsBetween d first second) pairs) (IsCrossLink d provided required) before middle after some is_full between g h
 
-  pub known_all : ((x : PortEnd) → Among x provided → Among x (under (get nat_eq first x.interface))) → ((x : PortEnd) → Among x required → Among x (under (get nat_eq second x.interface)))
-      → HasPairs d provided required pairs → (before after : List Link) (is_full : Bool) → is_full ≡ false → Grown (AnyOf (IsBetween d first second) pairs) before after is_full → Grown (IsCrossLink d provided required) before after false
-  known_all firsts seconds has before after is_full room g = grown_same (AnyOf (IsBetween d first second) pairs) (IsCrossLink d provided required) before after false between
-      (λ x c. let l = c.2.2 in ((c.0.interface, c.2.0.interface), has c.0 c.2.0 c.1 c.2.1 l.0 l.1 l.2, (c.0, firsts c.0 c.1, (c.2.0, seconds c.2.0 c.2.1, l))))
-      (subst (Grown (AnyOf (IsBetween d first second) pairs) before after) room g)
+  pub known_all : ((k : ℕ × ℕ) → Among k pairs → (x : PortEnd) → Among x provided → x.interface ≡ k.0 → Among x (under (get nat_eq first k.0)))
+      → ((k : ℕ × ℕ) → Among k pairs → (x : PortEnd) → Among x required → x.interface ≡ k.1 → Among x (under (get nat_eq second k.1)))
+      → HasPairs d provided required pairs → (before after : List Link) (is_full : Bool) → Grown (AnyOf (IsBetween d first second) pairs) before after is_full → Grown (IsCrossLink d provided required) before after is_full
+  known_all firsts seconds has before after is_full g = grown_same (AnyOf (IsBetween d first second) pairs) (IsCrossLink d provided required) before after is_full between
+      (λ x c. let l = c.2.2 in let pair = has c.0 c.2.0 c.1 c.2.1 l.0 l.1 l.2 in
+      ((c.0.interface, c.2.0.interface), pair, (c.0, firsts (c.0.interface, c.2.0.interface) pair c.0 c.1 refl, (c.2.0, seconds (c.0.interface, c.2.0.interface) pair c.2.0 c.2.1 refl, l)))) g

@@ -39,16 +39,6 @@ itself_gate (Outer a b) = and_from (eqb a a) (eqb b b) (eq-eqb a a refl) (eq-eqb
 itself_gate (Component a b c) = three_from a b c
 itself_gate (Composition n a b c) = and_from (eqb n n) (eqb a a && (eqb b b && eqb c c)) (eq-eqb n n refl) (three_from a b c)
 
-pub gates_are : (x y : Gate × Gate) → (same_gate x.0 y.0 && same_gate x.1 y.1) ≡ true → x ≡ y
-gates_are x y h =
-    let p = and_parts (same_gate x.0 y.0) (same_gate x.1 y.1) h in
-    let a = gate_is x.0 y.0 p.0 in
-    let b = gate_is x.1 y.1 p.1 in
-    (λ i. (a i, b i))
-
-pub itself_gates : (x : Gate × Gate) → (same_gate x.0 x.0 && same_gate x.1 x.1) ≡ true
-itself_gates x = and_from (same_gate x.0 x.0) (same_gate x.1 x.1) (itself_gate x.0) (itself_gate x.1)
-
 -- sides are taken and kept
 module _ {S : Type 0} (d : Description) (old new : HashMap Gate Side S) (gate : Gate) (sides : (g : Gate) (s : Side) → get same_gate old g ≡ Some s → IsSide d g s) where
   pub sides_less : UpdatesBy same_gate (same_gate gate) old new None → (g : Gate) (s : Side) → get same_gate new g ≡ Some s → IsSide d g s

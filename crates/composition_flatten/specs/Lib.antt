@@ -18,6 +18,7 @@ pub mod Members
 pub mod Named
 pub mod Orders
 pub mod Paths
+pub mod Parts
 pub mod Ranks
 pub mod Sharing
 pub mod Tables

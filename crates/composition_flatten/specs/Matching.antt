@@ -4,6 +4,8 @@ use Rattle.std.specs.Global.{Global}
 use Rattle.description_types.specs.declared.description.Description.{Description}
 use Rattle.indexmap.specs.IndexMap.{IndexMap, get}
 use Rattle.composition_flatten.specs.contracts.gates.GatePartialEq.TheImpl.{eq-value}
+use Rattle.composition_flatten.specs.declared.crossings.Crossing.{Crossing}
+use Rattle.composition_flatten.specs.declared.crossings.Crossing.TheVariants.{Gates, Row, Column}
 use Rattle.composition_flatten.specs.declared.gates.Gate.{Gate}
 use Rattle.composition_flatten.specs.declared.interfaces.Listed.{Listed}
 use Rattle.composition_flatten.specs.declared.links.Link.{Link}
@@ -32,12 +34,22 @@ AreMatches d provided required pairs = (i j : ℕ) → Among (i, j) pairs ↔ It
 abbrev pub same_pair : ℕ × ℕ → ℕ × ℕ → Bool
 same_pair a b = nat_eq a.0 b.0 && nat_eq a.1 b.1
 
--- the side has all interfaces of the ports below the gate, by their keys, and the ends there, all of them unless their search was cut short
+-- these are the ends of an interface below a gate
+abbrev pub AreOf : Description → Gate → ℕ → List PortEnd → Type 0
+AreOf d gate interface list = (x : PortEnd) → Among x list ↔ (Among x (gate_ends d gate) × (x.interface ≡ interface))
+
+-- The side has all interfaces of the ports below the gate, by their keys, and the ends there: all of them unless their search was cut
+-- short, and then still all of the interfaces that are known.
 pub record IsSide (d : Description) (gate : Gate) (side : Side) : Type 0 where
   pub covers : (x : PortEnd) → Among x (gate_ends d gate) → Among x.interface side.interfaces.keys
   pub indexed : IsIndexed d side.interfaces.keys side.index
   pub sound : (q : ℕ) (x : PortEnd) → Among x (under (get nat_eq side.groups q)) → Among x (gate_ends d gate) × (x.interface ≡ q)
   pub whole : side.is_cut ≡ false → (x : PortEnd) → Among x (gate_ends d gate) → Among x (under (get nat_eq side.groups x.interface))
+  pub known : (q : ℕ) → Among q side.known.keys → AreOf d gate q (under (get nat_eq side.groups q))
+
+-- a side has all ends of an interface
+abbrev pub HasInterface : Side → ℕ → Type 0
+HasInterface side interface = (side.is_cut ≡ false) ⊎ Among interface side.known.keys
 
 abbrev pub same_gate : Gate → Gate → Bool
 same_gate a b = (eq-value).it a b
@@ -64,9 +76,22 @@ IsPart P before after = ((x : Link) → Among x after → Among x before ⊎ P x
 abbrev pub AreDone : Description → List (PortEnd × PortEnd) → List Link → Type 0
 AreDone d pairs links = (k : PortEnd × PortEnd) → Among k pairs → (x : Link) → IsPairLink d k.0 k.1 x → Among x links
 
--- The pairs of gates that are crossed have all their links.
-abbrev pub AreCrossed : Description → List (Gate × Gate) → List Link → Type 0
-AreCrossed d pairs links = (k : Gate × Gate) → Among k pairs → (x : Link) → IsCrossLink d (gate_ends d k.0) (gate_ends d k.1) x → Among x links
+-- a link of a crossing: of the ends below two gates, or of an end and those of an interface below a gate
+abbrev pub IsCrossingLink : Description → Crossing → Link → Type 0
+IsCrossingLink d (Gates p r) x = IsCrossLink d (gate_ends d p) (gate_ends d r) x
+IsCrossingLink d (Row p gate interface) x = (r : PortEnd) × (Among r (gate_ends d gate) × (r.interface ≡ interface)) × IsPairLink d p r x
+IsCrossingLink d (Column gate interface r) x = (p : PortEnd) × (Among p (gate_ends d gate) × (p.interface ≡ interface)) × IsPairLink d p r x
+
+-- these are, for each of the pairs, the ends below a gate of the interface that it has first, or second
+abbrev pub HaveFirsts : {S : Type 0} → Description → Gate → List (ℕ × ℕ) → IndexMap ℕ (Vec PortEnd Global) S → Type 0
+HaveFirsts d gate pairs groups = (k : ℕ × ℕ) → Among k pairs → AreOf d gate k.0 (under (get nat_eq groups k.0))
+
+abbrev pub HaveSeconds : {S : Type 0} → Description → Gate → List (ℕ × ℕ) → IndexMap ℕ (Vec PortEnd Global) S → Type 0
+HaveSeconds d gate pairs groups = (k : ℕ × ℕ) → Among k pairs → AreOf d gate k.1 (under (get nat_eq groups k.1))
+
+-- The crossings that are done have all their links.
+abbrev pub AreCrossed : Description → List Crossing → List Link → Type 0
+AreCrossed d crossings links = (k : Crossing) → Among k crossings → (x : Link) → IsCrossingLink d k x → Among x links
 
 -- what is kept while links are added is right
 pub record IsAdding (d : Description) (m : Matched) (links : List Link) : Type 0 where

@@ -65,7 +65,7 @@ fn add_items(
 }
 
 /// Adds the links of two ports, unless they were added before.
-fn add_pair(
+pub fn add_pair(
     alloc: Global,
     d: &Description,
     provided: PortEnd,
@@ -89,7 +89,8 @@ fn add_pair(
     Ok(false)
 }
 
-fn add_ends(
+/// Adds the links of a provided port with each of the required ones.
+pub fn add_ends(
     alloc: Global,
     d: &Description,
     provided: PortEnd,

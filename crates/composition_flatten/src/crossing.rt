@@ -8,10 +8,12 @@ ghost use Rattle.composition_flatten.specs.Matching.{HasPairs, IsAdding, IsPart,
 ghost use Rattle.composition_flatten.specs.Members.{Among};
 ghost use Rattle.composition_flatten.specs.Trees.{IsTree};
 
+use crate::completing::complete_all;
 use crate::cross::{add_grouped, cross};
 use crate::gates::{Gate, ends_at};
 use crate::links::{LINK_LIMIT, Link};
 use crate::matched::Matched;
+use crate::rows::add_known;
 use crate::seek::{Wanted, Wish};
 use crate::sides::Side;
 use crate::tree::Tree;
@@ -167,9 +169,9 @@ fn add_rest(
     }
 }
 
-/// Adds the links of the ports below two gates, given which pairs of their interfaces share an item. The ports at hand are
-/// joined first: where there are more of them, there are mostly too many links.
-fn add_shared(
+/// The same where not all ports are at hand. Those at hand are joined first: where there are more of them, there are mostly
+/// too many links.
+fn add_cut(
     alloc: Global,
     tree: &Tree,
     provided: Gate,
@@ -201,15 +203,60 @@ fn add_shared(
     )? {
         return Ok(true);
     }
-    if first.is_cut || second.is_cut {
-        let is_full = add_rest(alloc, tree, provided, required, pairs, matched, links)?;
-        return Ok(is_full);
-    }
-    Ok(false)
+    let is_full = add_rest(alloc, tree, provided, required, pairs, matched, links)?;
+    Ok(is_full)
 }
 
-/// Adds the links of the ports below two gates.
-fn add_sides(
+/// Adds the links of the ports below two gates, given which pairs of their interfaces share an item.
+fn add_shared(
+    alloc: Global,
+    tree: &Tree,
+    provided: Gate,
+    required: Gate,
+    first: &mut Side,
+    second: &mut Side,
+    pairs: &[(u32, u32)],
+    matched: &mut Matched,
+    links: &mut BTreeSet<Link>,
+) -> Result<bool, Memory>
+    requires is_tree { IsTree tree.now }
+    requires provided { IsShallow provided }
+    requires required { IsShallow required }
+    requires first { IsSide tree.now.d.now provided first.old }
+    requires second { IsSide tree.now.d.now required second.old }
+    requires matched { IsAdding tree.now.d.now matched.old links.old.keys }
+    requires pairs { HasPairs tree.now.d.now (gate_ends tree.now.d.now provided) (gate_ends tree.now.d.now required) pairs.now }
+    ensures first { OnOk result (IsSide tree.now.d.now provided first.new) }
+    ensures second { OnOk result (IsSide tree.now.d.now required second.new) }
+    ensures matched { OnOk result (IsAdding tree.now.d.now matched.new links.new.keys) }
+    ensures grown { IfOk result (λ is_full. Grown (IsCrossLink tree.now.d.now (gate_ends tree.now.d.now provided) (gate_ends tree.now.d.now required)) links.old.keys links.new.keys is_full) }
+{
+    let firsts = firsts_of(alloc, pairs)?;
+    let seconds = seconds_of(alloc, pairs)?;
+    let has_firsts = complete_all(alloc, tree, provided, firsts.as_slice(), first)?;
+    let has_seconds = complete_all(alloc, tree, required, seconds.as_slice(), second)?;
+    if has_firsts && has_seconds {
+        let is_full = add_known(
+            alloc,
+            tree.d,
+            provided,
+            required,
+            pairs,
+            &first.groups,
+            &second.groups,
+            matched,
+            links,
+        )?;
+        return Ok(is_full);
+    }
+    let is_full = add_cut(
+        alloc, tree, provided, required, first, second, pairs, matched, links,
+    )?;
+    Ok(is_full)
+}
+
+/// Adds the links of the ports below two gates, by what is below each.
+pub fn add_sides(
     alloc: Global,
     tree: &Tree,
     provided: Gate,
@@ -224,16 +271,16 @@ fn add_sides(
     ensures matched { OnOk result (IsAdding tree.now.d.now matched.new links.new.keys) }
     ensures grown { IfOk result (λ is_full. Grown (IsCrossLink tree.now.d.now (gate_ends tree.now.d.now provided) (gate_ends tree.now.d.now required)) links.old.keys links.new.keys is_full) }
 {
-    let first = matched.take_side(alloc, tree, provided)?;
-    let second = matched.take_side(alloc, tree, required)?;
+    let mut first = matched.take_side(alloc, tree, provided)?;
+    let mut second = matched.take_side(alloc, tree, required)?;
     let pairs = matched.pairs(alloc, tree.d, &first, &second)?;
     let is_full = add_shared(
         alloc,
         tree,
         provided,
         required,
-        &first,
-        &second,
+        &mut first,
+        &mut second,
         pairs.as_slice(),
         matched,
         links,
@@ -241,30 +288,4 @@ fn add_sides(
     matched.keep_side(tree.d, provided, first)?;
     matched.keep_side(tree.d, required, second)?;
     Ok(is_full)
-}
-
-/// Adds the links of the ports below two gates, unless they were added before.
-pub fn cross_gates(
-    alloc: Global,
-    tree: &Tree,
-    provided: Gate,
-    required: Gate,
-    matched: &mut Matched,
-    links: &mut BTreeSet<Link>,
-) -> Result<bool, Memory>
-    requires is_tree { IsTree tree.now }
-    requires provided { IsShallow provided }
-    requires required { IsShallow required }
-    requires matched { IsAdding tree.now.d.now matched.old links.old.keys }
-    ensures matched { OnOk result (IsAdding tree.now.d.now matched.new links.new.keys) }
-    ensures grown { IfOk result (λ is_full. Grown (IsCrossLink tree.now.d.now (gate_ends tree.now.d.now provided) (gate_ends tree.now.d.now required)) links.old.keys links.new.keys is_full) }
-{
-    if matched.is_crossed(provided, required) {
-        return Ok(false);
-    }
-    if add_sides(alloc, tree, provided, required, matched, links)? {
-        return Ok(true);
-    }
-    matched.note_crossed(provided, required)?;
-    Ok(false)
 }

@@ -2,11 +2,13 @@
 #![tactic(auto)]
 
 mod below;
+mod completing;
 mod connectors;
 mod containing;
 mod counts;
 mod cross;
 mod crossing;
+mod crossings;
 mod delegations;
 mod depth;
 mod ends;
@@ -26,11 +28,14 @@ mod names;
 mod nodes;
 mod own;
 mod partners;
+mod parts;
 mod prototypes;
 mod ranks;
 mod reach;
+mod rows;
 mod seek;
 mod sides;
+mod splitting;
 mod starts;
 mod tree;
 mod whole;

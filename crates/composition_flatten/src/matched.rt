@@ -1,7 +1,7 @@
 //! Which items of pairs of interfaces are joined, found once for each pair.
 
-ghost use Rattle.std.specs.Prelude.{◌≡◌, ◌↔◌, ◌⊎◌, List, IfOk, OnOk, IsTrue};
-ghost use Rattle.composition_flatten.specs.declared.gates.Gate.{Gate};
+ghost use Rattle.std.specs.Prelude.{◌≡◌, ◌↔◌, ◌⊎◌, List, IfOk, OnOk, IsTrue, length, nat_le};
+ghost use Rattle.composition_flatten.specs.declared.crossings.Crossing.{Crossing};
 ghost use Rattle.composition_flatten.specs.declared.links.Link.{Link};
 ghost use Rattle.composition_flatten.specs.declared.tree.PortEnd.{PortEnd};
 ghost use Rattle.composition_flatten.specs.Members.{Among};
@@ -12,6 +12,7 @@ ghost use Rattle.composition_flatten.specs.Sharing.{AreShared, IsIndexed};
 ghost use Rattle.composition_flatten.specs.Tables.{under};
 ghost use Rattle.composition_flatten.specs.Trees.{IsTree};
 
+use crate::crossings::Crossing;
 use crate::gates::Gate;
 use crate::interfaces::Listed;
 use crate::links::LINK_LIMIT;
@@ -35,12 +36,16 @@ pub struct Matched<'a> {
     weight: usize,
     /// The pairs of ports whose links were added.
     done: IndexSet<(PortEnd, PortEnd)>,
-    /// The pairs of gates whose links were added.
-    crossed: IndexSet<(Gate, Gate)>,
+    /// The crossings whose links were added.
+    crossed: IndexSet<Crossing>,
 }
 
-/// How many interfaces and ends the sides that are kept have at most, but for the last one.
-const SIDE_LIMIT: usize = 524_288;
+/// How many interfaces and ends the sides that are kept have at most, but for the last one. Gates that are not split mostly
+/// lead to ports of components alone, each by a delegation of its own. So there is mostly room for all of them.
+const SIDE_LIMIT: usize = 4_194_304;
+
+/// How many crossings are noted until gates are split no more.
+const CROSSED_LIMIT: usize = 524_288;
 
 /// Forgets what was found where it is of as many pairs as there may be links. So what is kept is bounded.
 fn make_room(matched: &mut Matched, d: &Description)
@@ -114,7 +119,7 @@ impl<'a> Matched<'a> {
         }
     }
 
-    /// Begins with another set of links: no pair of ports or gates is done.
+    /// Begins with another set of links: no pair of ports and no crossing is done.
     pub fn begin(&mut self, alloc: Global, d: &Description)
         requires { IsMatched d.now self.old }
         ensures { (links : List Link) → IsAdding d.now self.new links }
@@ -142,22 +147,30 @@ impl<'a> Matched<'a> {
         Ok(())
     }
 
-    /// Whether the links of two gates were added.
-    pub fn is_crossed(&self, provided: Gate, required: Gate) -> bool
-        ensures { IsTrue result ↔ Among (provided, required) self.now.crossed.keys }
+    /// Whether the links of a crossing were added.
+    pub fn is_crossed(&self, crossing: Crossing) -> bool
+        ensures { IsTrue result ↔ Among crossing self.now.crossed.keys }
     {
-        self.crossed.contains(&(provided, required))
+        self.crossed.contains(&crossing)
     }
 
-    /// Notes that the links of two gates were added.
-    pub fn note_crossed(&mut self, provided: Gate, required: Gate) -> Result<(), Memory>
+    /// Whether so many crossings are noted that gates are split no more. Where there are very many ways between ports, each of
+    /// them would be followed.
+    pub fn has_crossed_much(&self) -> bool
+        ensures { result ≡ nat_le 524288 (length self.now.crossed.keys) }
+    {
+        self.crossed.len() >= CROSSED_LIMIT
+    }
+
+    /// Notes that the links of a crossing were added.
+    pub fn note_crossed(&mut self, crossing: Crossing) -> Result<(), Memory>
         ensures listed { self.new.interfaces ≡ self.old.interfaces }
         ensures kept { self.new.kept ≡ self.old.kept }
         ensures sides { self.new.sides ≡ self.old.sides }
         ensures done { self.new.done ≡ self.old.done }
-        ensures crossed { OnOk result ((k : Gate × Gate) → Among k self.new.crossed.keys ↔ (Among k self.old.crossed.keys ⊎ (k ≡ (provided, required)))) }
+        ensures crossed { OnOk result ((k : Crossing) → Among k self.new.crossed.keys ↔ (Among k self.old.crossed.keys ⊎ (k ≡ crossing))) }
     {
-        self.crossed.insert((provided, required))?;
+        self.crossed.insert(crossing)?;
         Ok(())
     }
 

@@ -8,10 +8,10 @@ ghost use Rattle.composition_flatten.specs.Matching.{IsAdding};
 ghost use Rattle.composition_flatten.specs.Trees.{IsTree};
 
 use crate::connectors::{connectors_of, lets_join};
-use crate::crossing::cross_gates;
 use crate::gates::{inner_gate, narrowed};
 use crate::links::Link;
 use crate::matched::Matched;
+use crate::splitting::cross_gates;
 use crate::tree::Tree;
 use description_types::{Connector, InnerPort};
 use rte_text::Memory;

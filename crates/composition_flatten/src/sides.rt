@@ -33,6 +33,8 @@ pub struct Side<'a> {
     pub count: usize,
     /// Whether there are more ends. Then the groups have more than there may be links.
     pub is_cut: bool,
+    /// The interfaces of which all ends are in the groups all the same.
+    pub known: IndexSet<u32>,
 }
 
 /// How many interfaces and ends a side has.
@@ -66,6 +68,7 @@ pub fn side_of<'a>(
         groups,
         count: found.ends.len(),
         is_cut: found.is_cut,
+        known: IndexSet::new(alloc),
     })
 }
 

@@ -13,13 +13,14 @@ ghost use Rattle.composition_flatten.specs.Matching.{IsAdding, IsMatched};
 ghost use Rattle.composition_flatten.specs.Trees.{IsTree};
 
 use crate::connectors::{interface_of, kind_of, ports_of};
+use crate::containing::composition_count;
 use crate::counts::DEPTH_LIMIT;
-use crate::crossing::cross_gates;
 use crate::gates::{Gate, narrowed};
 use crate::links::{Item, Link, add_link, owner_from};
 use crate::matched::Matched;
 use crate::nodes::{Node, nodes_of};
 use crate::own::add_own;
+use crate::splitting::cross_gates;
 use crate::tree::Tree;
 use description_types::{PortKind, PrototypeType};
 use rte_text::Memory;
@@ -111,6 +112,19 @@ fn own_of(
     })
 }
 
+/// The links of what is no composition: none.
+fn no_own(alloc: Global, tree: &Tree) -> Result<Own, Memory>
+    ensures { IfOk result (IsOwn tree.now.d.now) }
+{
+    let composition = composition_count(tree.d)?;
+    Ok(Own {
+        depth: 0,
+        composition,
+        links: Vec::new(alloc),
+        is_full: false,
+    })
+}
+
 /// Takes the links of a composition, if they are not the last that were taken.
 fn take_own(
     alloc: Global,
@@ -174,7 +188,7 @@ fn add_nodes(
     ensures matched { OnOk result (IsMatched tree.now.d.now matched.new) }
     ensures grown { IfOk result (λ is_full. Grown (AnyOf (IsNodeLink tree.now.d.now) nodes.now) links.old.keys links.new.keys is_full) }
 {
-    let mut own = own_of(alloc, tree, 0, tree.d.root, matched)?;
+    let mut own = no_own(alloc, tree)?;
     for node in nodes {
         if add_node(alloc, tree, *node, &mut own, matched, links)? {
             return Ok(true);

@@ -1,18 +1,20 @@
+use Rattle.std.proofs.Common.{sym, subst}
 use Rattle.composition_flatten.specs.Gates.{gate_ends}
-use Rattle.composition_flatten.proofs.Parting.{known_full, known_rest, known_all}
+use Rattle.composition_flatten.specs.Members.{Among}
+use Rattle.composition_flatten.proofs.ByParts.{side_has}
+use Rattle.composition_flatten.proofs.Parting.{known_all}
 use Rattle.composition_flatten.proofs.crossing.add_shared.Goals as goal
 
-pub returns-then-branch-clause-grown : goal.returns-then-branch-clause-grown
-returns-then-branch-clause-grown c = known_full c.args.tree.now.d.now (gate_ends c.args.tree.now.d.now c.args.provided) (gate_ends c.args.tree.now.d.now c.args.required) c.args.pairs.now
-    c.args.first.now.groups c.args.second.now.groups c.requires.first.sound c.requires.second.sound c.args.links.now.keys c.add_grouped.new.links.keys c.in_ok-add_grouped.field-0 c.if-branch.true c.in_ok-add_grouped.ensures.grown
+pub add_known-requires-clause-first : goal.add_known-requires-clause-first
+add_known-requires-clause-first c = λ k a. side_has c.args.tree.now.d.now c.args.provided c.complete_all.new.side c.in_ok-has_firsts.ensures.side k.0 (c.in_ok-has_firsts.ensures.has c.if-has_firsts.true k.0 (subst (Among k.0) (sym c.as_slice.ensures.keys) (c.in_ok-firsts.ensures k a)))
 
-pub returns-then-first-clause-grown : goal.returns-then-first-clause-grown
-returns-then-first-clause-grown c = known_rest c.args.tree.now.d.now (gate_ends c.args.tree.now.d.now c.args.provided) (gate_ends c.args.tree.now.d.now c.args.required) c.args.pairs.now
-    c.args.first.now.groups c.args.second.now.groups c.requires.first.sound c.requires.second.sound c.args.links.now.keys c.add_grouped.new.links.keys c.add_rest.new.links.keys c.in_ok-add_grouped.field-0 c.in_ok-is_full.is_full
-    c.in_ok-add_grouped.ensures.grown c.in_ok-is_full.ensures.grown
+pub add_known-requires-clause-second : goal.add_known-requires-clause-second
+add_known-requires-clause-second c = λ k a. side_has c.args.tree.now.d.now c.args.required c.complete_all-2.new.side c.in_ok-has_seconds.ensures.side k.1 (c.in_ok-has_seconds.ensures.has c.if-has_seconds.true k.1 (subst (Among k.1) (sym c.as_slice-2.ensures.keys) (c.in_ok-seconds.ensures k a)))
 
-pub returns-clause-grown : goal.returns-clause-grown
-returns-clause-grown c =
+pub returns-then-has_seconds-clause-grown : goal.returns-then-has_seconds-clause-grown
+returns-then-has_seconds-clause-grown c =
     known_all c.args.tree.now.d.now (gate_ends c.args.tree.now.d.now c.args.provided) (gate_ends c.args.tree.now.d.now c.args.required) c.args.pairs.now
-    c.args.first.now.groups c.args.second.now.groups c.requires.first.sound c.requires.second.sound (c.requires.first.whole c.if-first.false) (c.requires.second.whole c.if-second.false) c.requires.pairs
-    c.args.links.now.keys c.add_grouped.new.links.keys c.in_ok-add_grouped.field-0 c.if-branch.false c.in_ok-add_grouped.ensures.grown
+    c.complete_all.new.side.groups c.complete_all-2.new.side.groups c.in_ok-has_firsts.ensures.side.sound c.in_ok-has_seconds.ensures.side.sound
+    (λ k a x b e. (side_has c.args.tree.now.d.now c.args.provided c.complete_all.new.side c.in_ok-has_firsts.ensures.side k.0 (c.in_ok-has_firsts.ensures.has c.if-has_firsts.true k.0 (subst (Among k.0) (sym c.as_slice.ensures.keys) (c.in_ok-firsts.ensures k a))) x).1 (b, e))
+    (λ k a x b e. (side_has c.args.tree.now.d.now c.args.required c.complete_all-2.new.side c.in_ok-has_seconds.ensures.side k.1 (c.in_ok-has_seconds.ensures.has c.if-has_seconds.true k.1 (subst (Among k.1) (sym c.as_slice-2.ensures.keys) (c.in_ok-seconds.ensures k a))) x).1 (b, e))
+    c.requires.pairs c.args.links.now.keys c.add_known.new.links.keys c.in_ok-is_full.is_full c.in_ok-is_full.ensures.grown

@@ -1,0 +1,11 @@
+use Rattle.std.proofs.Common.{take, false}
+use Rattle.composition_flatten.specs.Growing.{AnyOf, Grown}
+use Rattle.composition_flatten.specs.Links.{IsPairLink}
+use Rattle.composition_flatten.specs.Matching.{IsAdding}
+use Rattle.composition_flatten.proofs.rows.add_rows.Given as goal
+
+abbrev pub invariant-loop-end : goal.invariant-loop-end
+invariant-loop-end l = record {
+  matched : IsAdding l.d l.matched l.links.keys;
+  grown : Grown (AnyOf (λ p. AnyOf (IsPairLink l.d p) l.second) (take l.end-index l.first)) l.fn.links.keys l.links.keys false;
+}
