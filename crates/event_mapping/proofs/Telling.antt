@@ -1,5 +1,5 @@
 -- What an answer tells, of one check after another.
-use Rattle.std.proofs.Common.{◌≡◌, ℕ, List, Bool, true, false, if◌then◌else◌, ap, Option, Some, None, Result, Ok, Err, IfOk, OnOk, ◌⊎◌, inl, inr, refl, sym, subst, ◌∙◌}
+use Rattle.std.proofs.Common.{◌≡◌, ℕ, List, Bool, true, false, if◌then◌else◌, ap, Option, Some, None, Result, Ok, Err, OnOk, ◌⊎◌, inl, inr, refl, sym, subst, ◌∙◌}
 use Rattle.rte_text.specs.declared.refusal.Refused.{Refused}
 use Rattle.rte_text.specs.declared.refusal.Refused.TheVariants.{Rule, Memory}
 use Rattle.component_rules.specs.Refusals as components
@@ -41,10 +41,6 @@ module _ (later : Option (ℕ × List ℕ) → Type 0) (o : Option (ℕ × List 
 pub on_ok : {U : Type 0} (P : Type 0) (r : Result U Refused) → P → OnOk r P
 on_ok P (Ok u) p = p
 on_ok P (Err x) p = tt
-
-pub is_mapping : {X Y : Type 0} (r : Result (X × Y) Refused) (m n : Y) → m ≡ n → IfOk r (λ found. found.1 ≡ m) → IfOk r (λ found. found.1 ≡ n)
-is_mapping (Ok u) m n is told = told ∙ is
-is_mapping (Err x) m n is told = tt
 
 -- rule 30
 abbrev by_size : Bool → Option (ℕ × List ℕ)

@@ -15,7 +15,7 @@ use bus_semantics::{BusPlan, Mapping};
 use component_rules::check_components;
 use composition_flatten::Flat;
 use description_types::Description;
-use mapping_rules::check_mapping;
+use mapping_rules::{check_mapping, list_mapping};
 use rte_text::{Refusal, Refused, Text};
 use std::alloc::Global;
 
@@ -50,40 +50,29 @@ fn sized_plan(alloc: Global, d: &Description, f: &Flat, mapped: &[bool]) -> Resu
     }
 }
 
-/// The plan, listed only where the counts do not tell that it is too large.
-fn bounded_plan(
-    alloc: Global,
-    d: &Description,
-    f: &Flat,
-    mapped: &[bool],
-) -> Result<BusPlan, Refused>
-    requires { mapped.now ≡ are_mapped d.now f.now }
+fn listed(alloc: Global, d: &Description, f: &Flat) -> Result<(BusPlan, Mapping), Refused>
     ensures size { Says (of_size (plan_of d.now f.now)) result }
-    ensures plan { IfOk result (λ plan. seen plan ≡ plan_of d.now f.now) }
+    ensures plan { IfOk result (λ found. seen found.0 ≡ plan_of d.now f.now) }
+    ensures mapping { IfOk result (λ found. found.1 ≡ mapping_of d.now f.now) }
+{
+    let (mapping, mapped) = list_mapping(alloc, d, f)?;
+    match sized_plan(alloc, d, f, mapped.as_slice()) {
+        Ok(plan) => Ok((plan, mapping)),
+        Err(refused) => Err(refused),
+    }
+}
+
+/// The plan and the mapping, listed only where the counts do not tell that the plan is too large.
+fn planned(alloc: Global, d: &Description, f: &Flat) -> Result<(BusPlan, Mapping), Refused>
+    ensures size { Says (of_size (plan_of d.now f.now)) result }
+    ensures plan { IfOk result (λ found. seen found.0 ≡ plan_of d.now f.now) }
+    ensures mapping { IfOk result (λ found. found.1 ≡ mapping_of d.now f.now) }
 {
     let foretold = is_foretold(alloc, d, f)?;
     if foretold {
         return Err(size_refusal(alloc));
     }
-    sized_plan(alloc, d, f, mapped)
-}
-
-fn planned(
-    alloc: Global,
-    d: &Description,
-    f: &Flat,
-    mapping: Mapping,
-    mapped: &[bool],
-) -> Result<(BusPlan, Mapping), Refused>
-    requires { mapped.now ≡ are_mapped d.now f.now }
-    ensures size { Says (of_size (plan_of d.now f.now)) result }
-    ensures plan { IfOk result (λ found. seen found.0 ≡ plan_of d.now f.now) }
-    ensures mapping { IfOk result (λ found. found.1 ≡ mapping) }
-{
-    match bounded_plan(alloc, d, f, mapped) {
-        Ok(plan) => Ok((plan, mapping)),
-        Err(refused) => Err(refused),
-    }
+    listed(alloc, d, f)
 }
 
 fn mapped_plan(alloc: Global, d: &Description, f: &Flat) -> Result<(BusPlan, Mapping), Refused>
@@ -93,7 +82,7 @@ fn mapped_plan(alloc: Global, d: &Description, f: &Flat) -> Result<(BusPlan, Map
     ensures order { OnOk result (HaveOrder d.now f.now) }
 {
     match check_mapping(alloc, d, f) {
-        Ok((mapping, mapped)) => planned(alloc, d, f, mapping, mapped.as_slice()),
+        Ok(()) => planned(alloc, d, f),
         Err(refused) => Err(refused),
     }
 }
@@ -108,7 +97,7 @@ fn mapped_plan(alloc: Global, d: &Description, f: &Flat) -> Result<(BusPlan, Map
 /// - The plan has at most 16,384 objects (groups of elements, servers, exclusive areas, mode machines, and the clock) and 16,384
 ///   events, and the queue lengths of all receivers, queued servers and mode machines are together at most 65,536 (30, at
 ///   `/mapping`). Every required queued element is a receiver, joined or not, the environment's too. Too many objects or events
-///   are told from counts, before the plan is listed, unless joins may put enough elements into common groups.
+///   are told from counts, before the plan and the mapping are listed, unless joins may put enough elements into common groups.
 ///
 /// The plan lists everything by instance and in declared order, what belongs to the environment last; groups by their least
 /// element. The mapping has the tasks on their cores, each with the numbers of its events in the order of their positions. The

@@ -31,11 +31,6 @@ module _ (d : Description) (f : Flat) where
   refused_before U (Rule x) says = subst (λ o. IsAfter o (IsOfTasks d f) (Some (x.rule, x.place))) (sym says) refl
   refused_before U Memory says = tt
 
--- the same of another type of what is accepted
-pub still_refused : (U V : Type 0) (is_refusal : Option (ℕ × List ℕ) → Type 0) (x : Refused) → Tells {U = U} is_refusal (Err x) → Tells {U = V} is_refusal (Err x)
-still_refused U V is_refusal (Rule x) tells = tells
-still_refused U V is_refusal Memory tells = tells
-
 pub moved : (P : Description → Flat → Type 0) (d e : Description) (f g : Flat) → d ≡ e → f ≡ g → P d f → P e g
 moved P d e f g de fg p = subst (λ h. P e h) fg (subst (λ k. P k f) de p)
 

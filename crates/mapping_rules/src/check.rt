@@ -6,16 +6,13 @@ ghost use Rattle.mapping_rules.specs.InstanceRules.{number_of, of_rule, part_tex
 ghost use Rattle.mapping_rules.specs.Mapped.{named_by};
 ghost use Rattle.mapping_rules.specs.Refusals.{IsOfTasks, IsRefusal, Says, Tells, mapping_text, of_events, of_named};
 ghost use Rattle.mapping_rules.specs.Rules.{HaveOrder, TellsOrder};
-ghost use Rattle.mapping_rules.specs.Tasks.{are_mapped, mapping_of};
 
 use crate::instances::{InstanceRule, Part, first_broken};
 use crate::naming::Names;
 use crate::peeling::are_acyclic;
 use crate::places::{event_text, mapped_text, mapping_text, runnable_text};
 use crate::servers::Servers;
-use crate::tasks::{are_mapped, mapping_of};
 use crate::waits::waits;
-use bus_semantics::Mapping;
 use composition_flatten::Flat;
 use description_types::{Description, MappedEvent};
 use rte_text::{Memory, Refusal, Refused, Text};
@@ -140,52 +137,23 @@ fn check_rules(alloc: Global, servers: &Servers<'_>) -> Result<(), Refused>
     }
 }
 
-fn made(alloc: Global, servers: &Servers<'_>) -> Result<(Mapping, Vec<bool>), Memory>
-    ensures mapping { IfOk result (λ found. found.0 ≡ mapping_of servers.now.mapped.names.d.now servers.now.mapped.names.f.now) }
-    ensures mapped { IfOk result (λ found. found.1.items ≡ are_mapped servers.now.mapped.names.d.now servers.now.mapped.names.f.now) }
-{
-    let mapping = mapping_of(alloc, &servers.mapped)?;
-    let mapped = are_mapped(alloc, &servers.mapped)?;
-    Ok((mapping, mapped))
-}
-
-fn checked(alloc: Global, servers: &Servers<'_>) -> Result<(Mapping, Vec<bool>), Refused>
-    ensures refusal { Tells (IsRefusal servers.now.mapped.names.d.now servers.now.mapped.names.f.now) result }
-    ensures mapping { IfOk result (λ found. found.0 ≡ mapping_of servers.now.mapped.names.d.now servers.now.mapped.names.f.now) }
-    ensures mapped { IfOk result (λ found. found.1.items ≡ are_mapped servers.now.mapped.names.d.now servers.now.mapped.names.f.now) }
-    ensures order { OnOk result (HaveOrder servers.now.mapped.names.d.now servers.now.mapped.names.f.now) }
-{
-    match check_rules(alloc, servers) {
-        Ok(()) => {
-            let found = made(alloc, servers)?;
-            Ok(found)
-        }
-        Err(refused) => Err(refused),
-    }
-}
-
 /// Whether the mapping of a description, made flat, keeps its rules: each mapped event names an instance and an event of it (25,
 /// at the mapped event); each event of each instance is mapped once, an OperationInvokedEvent at most once (26, at the event);
 /// all events of a runnable of an instance are mapped to one task (27, at the runnable); an OperationInvokedEvent that is not
 /// mapped has a runnable that may be invoked concurrently and makes no call, and its operation is not joined to the environment
 /// (28, at the event); no task waits for itself, directly or through others, where a task waits for that of each queued server
 /// that a runnable in it calls by `call` (29, at the mapping). An error of `Rule` names the least of these that is broken and
-/// its first place: a JSON pointer, or a name as in a trace, in the order of instances and of their declarations.
+/// its first place: a JSON pointer, or a name as in a trace, in the order of instances and of their declarations. An error of
+/// `Memory` may come at any time.
 ///
-/// Where they keep them: the tasks on their cores, each with the numbers of its events in a plan, in the order of their
-/// positions; and for each event of a plan, by its number, whether it is mapped. An error of `Memory` may come at any time.
+/// Where they are kept, the tasks can be put in an order in which each waits only for later ones. Of events that are not mapped
+/// nothing is listed, so they may be counted before `list_mapping` lists all.
 ///
 /// SWS_RTE: RteEventToTaskMapping.
-pub fn check_mapping(
-    alloc: Global,
-    d: &Description,
-    f: &Flat,
-) -> Result<(Mapping, Vec<bool>), Refused>
+pub fn check_mapping(alloc: Global, d: &Description, f: &Flat) -> Result<(), Refused>
     ensures refusal { Tells (IsRefusal d.now f.now) result }
-    ensures mapping { IfOk result (λ found. found.0 ≡ mapping_of d.now f.now) }
-    ensures mapped { IfOk result (λ found. found.1.items ≡ are_mapped d.now f.now) }
     ensures order { OnOk result (HaveOrder d.now f.now) }
 {
     let servers = Servers::new(alloc, d, f)?;
-    checked(alloc, &servers)
+    check_rules(alloc, &servers)
 }

@@ -16,6 +16,7 @@ mod tasks;
 mod waits;
 
 pub use check::check_mapping;
+pub use tasks::list_mapping;
 
 #[cfg(test)]
 mod tests;

@@ -15,7 +15,8 @@ use crate::naming::Names;
 use crate::positions::{Positions, position};
 use crate::sorting::{Placed, sort_by_position};
 use bus_semantics::{Mapping, Task};
-use description_types::{MappedEvent, Task as DeclaredTask};
+use composition_flatten::Flat;
+use description_types::{Description, MappedEvent, Task as DeclaredTask};
 use plan_numbers::numbered_events;
 use rte_text::{Memory, Seq, Text};
 use std::alloc::Global;
@@ -132,7 +133,7 @@ fn tasks_of(alloc: Global, mapped: &Mapped<'_>, numbers: &Numbers) -> Result<Vec
 }
 
 /// The tasks on their cores, each with the numbers of its events in the order of their positions.
-pub fn mapping_of(alloc: Global, mapped: &Mapped<'_>) -> Result<Mapping, Memory>
+fn mapping_of(alloc: Global, mapped: &Mapped<'_>) -> Result<Mapping, Memory>
     ensures { IfOk result (λ mapping. mapping ≡ mapping_of mapped.now.names.d.now mapped.now.names.f.now) }
 {
     let pairs = numbered_events(alloc, mapped.names.d, mapped.names.f)?;
@@ -159,10 +160,37 @@ fn list_mapped(
 }
 
 /// Whether each event of a plan is mapped, by its number.
-pub fn are_mapped(alloc: Global, mapped: &Mapped<'_>) -> Result<Vec<bool>, Memory>
+fn are_mapped(alloc: Global, mapped: &Mapped<'_>) -> Result<Vec<bool>, Memory>
     ensures { IfOk result (λ list. list.items ≡ are_mapped mapped.now.names.d.now mapped.now.names.f.now) }
 {
     let events = numbered_events(alloc, mapped.names.d, mapped.names.f)?;
     let list = list_mapped(alloc, mapped, events.as_slice())?;
     Ok(list)
+}
+
+fn made(alloc: Global, mapped: &Mapped<'_>) -> Result<(Mapping, Vec<bool>), Memory>
+    ensures mapping { IfOk result (λ found. found.0 ≡ mapping_of mapped.now.names.d.now mapped.now.names.f.now) }
+    ensures mapped { IfOk result (λ found. found.1.items ≡ are_mapped mapped.now.names.d.now mapped.now.names.f.now) }
+{
+    let mapping = mapping_of(alloc, mapped)?;
+    let events = are_mapped(alloc, mapped)?;
+    Ok((mapping, events))
+}
+
+/// The mapping of a description, made flat: the tasks on their cores, each with the numbers of its events in a plan, in the order
+/// of their positions; and for each event of a plan, by its number, whether it is mapped. All events of all instances are listed,
+/// so it takes memory for each. A mapped event that names none is left out. The only error is want of memory.
+///
+/// SWS_RTE: RteEventToTaskMapping.
+pub fn list_mapping(
+    alloc: Global,
+    d: &Description,
+    f: &Flat,
+) -> Result<(Mapping, Vec<bool>), Memory>
+    ensures mapping { IfOk result (λ found. found.0 ≡ mapping_of d.now f.now) }
+    ensures mapped { IfOk result (λ found. found.1.items ≡ are_mapped d.now f.now) }
+{
+    let mapped = Mapped::new(alloc, d, f)?;
+    let found = made(alloc, &mapped)?;
+    Ok(found)
 }

@@ -1,6 +1,6 @@
 //! Mappings that are kept and that are broken: a client and its server, and a component with two events for one runnable.
 
-use crate::check_mapping;
+use crate::{check_mapping, list_mapping};
 use component_model::read_description;
 use composition_flatten::flatten;
 use rte_text::Refused;
@@ -101,7 +101,10 @@ fn shown(alloc: Global, text: &str) -> Result<String, Refused> {
     let d = read_description(alloc, text.as_bytes())?;
     let f = flatten(alloc, &d)?;
     match check_mapping(alloc, &d, &f) {
-        Ok((mapping, mapped)) => Ok(told(alloc, &mapping, mapped.as_slice())?),
+        Ok(()) => {
+            let (mapping, mapped) = list_mapping(alloc, &d, &f)?;
+            Ok(told(alloc, &mapping, mapped.as_slice())?)
+        }
         Err(Refused::Rule(refusal)) => {
             let rule = refusal.rule;
             let mut text = format!(in alloc; "rule {rule} at ")?;

@@ -1,26 +1,23 @@
-use Rattle.std.proofs.Common.{Bool, Vec}
-use Rattle.std.specs.Global.{Global}
 use Rattle.bus_semantics.specs.declared.plan.BusPlan.{BusPlan}
 use Rattle.bus_semantics.specs.declared.script.Mapping.{Mapping}
 use Rattle.mapping_rules.specs.Refusals as rules
 use Rattle.mapping_rules.specs.Rules.{HaveOrder}
-use Rattle.mapping_rules.specs.Tasks.{mapping_of}
 use Rattle.event_mapping.specs.Planned.{plan_of}
 use Rattle.event_mapping.specs.Refusals.{of_size}
-use Rattle.event_mapping.proofs.Telling.{is_mapping, on_ok, then_first, then_later}
+use Rattle.event_mapping.proofs.Telling.{on_ok, then_first, then_later}
 use Rattle.event_mapping.proofs.check.mapped_plan.Goals as goal
 
 pub returns-in-Ok : goal.returns-in-Ok
 returns-in-Ok c = record {
   refusal = then_later (rules.IsRefusal c.args.d.now c.args.f.now) (of_size (plan_of c.args.d.now c.args.f.now)) c.planned.result c.in-Ok.ensures.refusal c.planned.ensures.size;
   plan = c.planned.ensures.plan;
-  mapping = is_mapping c.planned.result c.in-Ok.mapping (mapping_of c.args.d.now c.args.f.now) c.in-Ok.ensures.mapping c.planned.ensures.mapping;
+  mapping = c.planned.ensures.mapping;
   order = on_ok (HaveOrder c.args.d.now c.args.f.now) c.planned.result c.in-Ok.ensures.order;
 }
 
 pub returns-in-Err : goal.returns-in-Err
 returns-in-Err c = record {
-  refusal = then_first (rules.IsRefusal c.args.d.now c.args.f.now) (of_size (plan_of c.args.d.now c.args.f.now)) (Mapping × Vec Bool Global) (BusPlan × Mapping) c.in-Err.refused c.in-Err.ensures.refusal;
+  refusal = then_first (rules.IsRefusal c.args.d.now c.args.f.now) (of_size (plan_of c.args.d.now c.args.f.now)) Unit (BusPlan × Mapping) c.in-Err.refused c.in-Err.ensures.refusal;
   plan = tt;
   mapping = tt;
   order = tt;

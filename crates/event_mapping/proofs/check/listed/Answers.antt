@@ -1,13 +1,12 @@
-use Rattle.std.proofs.Common.{refl}
 use Rattle.bus_semantics.specs.declared.plan.BusPlan.{BusPlan}
 use Rattle.bus_semantics.specs.declared.script.Mapping.{Mapping}
 use Rattle.event_mapping.specs.Planned.{plan_of}
 use Rattle.event_mapping.specs.Refusals.{of_size}
 use Rattle.event_mapping.proofs.Telling.{still_says}
-use Rattle.event_mapping.proofs.check.planned.Goals as goal
+use Rattle.event_mapping.proofs.check.listed.Goals as goal
 
 pub returns-in-Ok : goal.returns-in-Ok
-returns-in-Ok c = record { size = c.in-Ok.ensures.size; plan = c.in-Ok.ensures.plan; mapping = refl }
+returns-in-Ok c = record { size = c.in-Ok.ensures.size; plan = c.in-Ok.ensures.plan; mapping = c.in_ok-mapping.ensures.mapping }
 
 pub returns-in-Err : goal.returns-in-Err
 returns-in-Err c = record {
