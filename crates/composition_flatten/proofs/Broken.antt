@@ -7,11 +7,11 @@ use Rattle.std.proofs.lemmas.Option.{get_or_from_slice_get}
 use Rattle.description_types.specs.declared.description.Connector.{Connector}
 use Rattle.description_types.specs.declared.description.Description.{Description}
 use Rattle.composition_flatten.specs.declared.wiring.Key.{Key}
-use Rattle.composition_flatten.specs.Connectors.{connectors_of, lets_join, IsBrokenConnector}
-use Rattle.composition_flatten.specs.Firsts.{IsFirst}
+use Rattle.composition_tables.specs.Connectors.{connectors_of, lets_join, IsBrokenConnector}
+use Rattle.composition_tables.specs.Firsts.{IsFirst}
 use Rattle.composition_flatten.specs.Keys.{key_of}
-use Rattle.composition_flatten.specs.Members.{Among}
-use Rattle.composition_flatten.proofs.Members.{left, right, cases, get_lt, get_past}
+use Rattle.composition_tables.specs.Members.{Among}
+use Rattle.composition_tables.proofs.Members.{left, right, cases, get_lt, get_past}
 use Rattle.composition_flatten.proofs.SameKeys.{same_connector}
 
 mapped : {X Y : Type 0} (f : X → Y) (x : X) (xs : List X) → Among x xs → Among (f x) (map f xs)

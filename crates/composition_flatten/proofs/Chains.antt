@@ -11,20 +11,20 @@ use Rattle.description_types.specs.declared.description.Description.{Description
 use Rattle.description_types.specs.declared.description.InnerPort.{InnerPort}
 use Rattle.description_types.specs.declared.description.PrototypeType.{PrototypeType}
 use Rattle.description_types.specs.declared.description.PrototypeType.TheVariants.{Component, Composition}
-use Rattle.composition_flatten.specs.declared.tree.Owner.TheVariants.{Instance}
-use Rattle.composition_flatten.specs.declared.tree.PortEnd.{PortEnd}
-use Rattle.composition_flatten.specs.Connectors.{interface_of, kind_of, kind_in, connectors_of, is_one_kind, lets_join}
-use Rattle.composition_flatten.specs.Ends.{ends, own_end, inner_ends, inner_ports, delegated, number_from, offset}
-use Rattle.composition_flatten.specs.Instances.{Place, IsTooDeep}
+use Rattle.composition_tables.specs.declared.tree.Owner.TheVariants.{Instance}
+use Rattle.composition_tables.specs.declared.tree.PortEnd.{PortEnd}
+use Rattle.composition_tables.specs.Connectors.{interface_of, kind_of, kind_in, connectors_of, is_one_kind, lets_join}
+use Rattle.composition_tables.specs.Ends.{ends, own_end, inner_ends, inner_ports, delegated, number_from, offset}
+use Rattle.composition_tables.specs.Places.{Place, IsTooDeep}
 use Rattle.composition_flatten.specs.Joined.{Stand, as_inner, IsBelow}
 use Rattle.composition_flatten.specs.Joined.IsBelow.{itself, further}
-use Rattle.composition_flatten.specs.Members.{Among}
-use Rattle.composition_flatten.specs.Paths.{type_in, type_at}
-use Rattle.composition_flatten.proofs.Deepest.{through_none}
-use Rattle.composition_flatten.proofs.Following.{inner_cases}
-use Rattle.composition_flatten.proofs.Members.{flat, unflat, pick, unpick}
+use Rattle.composition_tables.specs.Members.{Among}
+use Rattle.composition_tables.specs.Paths.{type_in, type_at}
+use Rattle.composition_tables.proofs.Deepest.{through_none}
+use Rattle.composition_tables.proofs.Following.{inner_cases}
+use Rattle.composition_tables.proofs.Members.{flat, unflat, pick, unpick}
 use Rattle.composition_flatten.proofs.Placing.{Segment, segment_inner}
-use Rattle.composition_flatten.proofs.Steps.{step_on}
+use Rattle.composition_tables.proofs.Steps.{step_on}
 
 -- what a delegation that leads to an inner port is
 delegated_is : (d : Description) (c outer : ℕ) (x : Connector) (inner : InnerPort) → delegated d c outer x ≡ Some inner → (x ≡ Delegation inner outer) × (lets_join d c (Delegation inner outer) ≡ true)

@@ -9,27 +9,31 @@ use Rattle.description_types.specs.declared.description.InnerPort.{InnerPort}
 use Rattle.description_types.specs.declared.description.PrototypeType.TheVariants.{Component, Composition}
 use Rattle.interface_types.specs.declared.interface.InterfaceKind.{InterfaceKind}
 use Rattle.interface_types.specs.declared.interface.InterfaceKind.TheVariants.{SenderReceiver, ClientServer, ModeSwitch}
-use Rattle.composition_flatten.specs.declared.links.Link.{Link}
-use Rattle.composition_flatten.specs.declared.nodes.Node.{Node}
-use Rattle.composition_flatten.specs.declared.tree.Owner.TheVariants.{Instance, Environment}
-use Rattle.composition_flatten.specs.declared.tree.PortEnd.{PortEnd}
-use Rattle.composition_flatten.specs.Connectors.{interface_of, kind_of, connectors_of, is_provided, is_required}
-use Rattle.composition_flatten.specs.Ends.{ends, inner_ends, offset}
-use Rattle.composition_flatten.specs.Instances.{Place, places_below, places, IsTooDeep}
-use Rattle.composition_flatten.specs.Items.{interface_at, ItemsJoin}
+use Rattle.composition_tables.specs.declared.links.Link.{Link}
+use Rattle.composition_tables.specs.declared.nodes.Node.{Node}
+use Rattle.composition_tables.specs.declared.tree.Owner.TheVariants.{Instance, Environment}
+use Rattle.composition_tables.specs.declared.tree.PortEnd.{PortEnd}
+use Rattle.composition_tables.specs.Connectors.{interface_of, kind_of, connectors_of, is_provided, is_required}
+use Rattle.composition_tables.specs.Ends.{ends, inner_ends, offset}
+use Rattle.composition_tables.specs.Places.{Place, places_below, places, IsTooDeep}
+use Rattle.composition_tables.specs.Items.{interface_at, ItemsJoin}
 use Rattle.composition_flatten.specs.Joined.{Stand, IsBelow, IsOutside, stand_in, interface_below, IsJoined}
 use Rattle.composition_flatten.specs.Joined.IsBelow.{itself, further}
 use Rattle.composition_flatten.specs.Joins.{instance_of, join_of}
-use Rattle.composition_flatten.specs.Links.{link_of, owner_from, link_from, IsAssemblyLink, IsNode, IsNodeLink, IsLink, outer_link, outer_ends}
-use Rattle.composition_flatten.specs.Members.{Among}
-use Rattle.composition_flatten.specs.Paths.{type_at}
+use Rattle.end_crossing.specs.PortLinks.{link_of}
+use Rattle.composition_tables.specs.Owners.{owner_from}
+use Rattle.composition_flatten.specs.Links.{link_from, IsAssemblyLink, IsNodeLink, IsLink, outer_link}
+use Rattle.composition_tables.specs.Nodes.{IsNode}
+use Rattle.end_search.specs.Gates.{outer_ends}
+use Rattle.composition_tables.specs.Members.{Among}
+use Rattle.composition_tables.specs.Paths.{type_at}
 use Rattle.composition_flatten.proofs.Chains.{IsEndAt, number_exact, ends_sound}
-use Rattle.composition_flatten.proofs.Following.{inner_cases}
-use Rattle.composition_flatten.proofs.Members.{get_lt}
+use Rattle.composition_tables.proofs.Following.{inner_cases}
+use Rattle.composition_tables.proofs.Members.{get_lt}
 use Rattle.composition_flatten.proofs.Naming.{placed_size}
 use Rattle.composition_flatten.proofs.Placing.{segment_whole, segment_inner, place_once}
 use Rattle.composition_flatten.proofs.Standing.{StandsAt, root_segment, placed_type, node_stands}
-use Rattle.composition_flatten.proofs.Steps.{step_on}
+use Rattle.composition_tables.proofs.Steps.{step_on}
 
 -- joined items are of interfaces that there are
 pub items_some : (x y : Option InterfaceKind) (i j : ℕ) → ItemsJoin x y i j → ((k : InterfaceKind) × (x ≡ Some k)) × ((k : InterfaceKind) × (y ≡ Some k))

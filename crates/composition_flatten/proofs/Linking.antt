@@ -10,27 +10,30 @@ use Rattle.description_types.specs.declared.description.Description.{Description
 use Rattle.description_types.specs.declared.description.PrototypeType.TheVariants.{Component, Composition}
 use Rattle.interface_types.specs.declared.interface.InterfaceKind.{InterfaceKind}
 use Rattle.composition_flatten.specs.declared.flat.Join.{Join}
-use Rattle.composition_flatten.specs.declared.links.Link.{Link}
-use Rattle.composition_flatten.specs.declared.tree.Owner.TheVariants.{Instance, Environment}
-use Rattle.composition_flatten.specs.declared.tree.PortEnd.{PortEnd}
-use Rattle.composition_flatten.specs.Connectors.{interface_of, kind_in, is_provided, is_required}
-use Rattle.composition_flatten.specs.Ends.{ends, inner_ends, number_from, offset}
-use Rattle.composition_flatten.specs.Instances.{Place, places_below, places, IsTooDeep}
-use Rattle.composition_flatten.specs.Items.{interface_at, ItemsJoin}
+use Rattle.composition_tables.specs.declared.links.Link.{Link}
+use Rattle.composition_tables.specs.declared.tree.Owner.TheVariants.{Instance, Environment}
+use Rattle.composition_tables.specs.declared.tree.PortEnd.{PortEnd}
+use Rattle.composition_tables.specs.Connectors.{interface_of, kind_in, is_provided, is_required}
+use Rattle.composition_tables.specs.Ends.{ends, inner_ends, number_from, offset}
+use Rattle.composition_tables.specs.Places.{Place, places_below, places, IsTooDeep}
+use Rattle.composition_tables.specs.Items.{interface_at, ItemsJoin}
 use Rattle.composition_flatten.specs.Joined.{Stand, as_inner, IsBelow, IsOutside, IsChain, stand_in, interface_below, IsJoined}
 use Rattle.composition_flatten.specs.Joined.IsBelow.{further}
 use Rattle.composition_flatten.specs.Joins.{instance_of, join_of}
-use Rattle.composition_flatten.specs.Links.{link_of, owner_from, link_from, IsCrossLink, IsOwnLink, IsLink, outer_link, outer_ends}
-use Rattle.composition_flatten.specs.Members.{Among}
-use Rattle.composition_flatten.specs.Paths.{type_at}
+use Rattle.end_crossing.specs.PortLinks.{link_of, IsCrossLink}
+use Rattle.composition_tables.specs.Owners.{owner_from}
+use Rattle.composition_flatten.specs.Links.{link_from, IsOwnLink, IsLink, outer_link}
+use Rattle.end_search.specs.Gates.{outer_ends}
+use Rattle.composition_tables.specs.Members.{Among}
+use Rattle.composition_tables.specs.Paths.{type_at}
 use Rattle.composition_flatten.proofs.Chains.{IsEndAt, number_exact, ends_complete, below_path, inner_typed}
-use Rattle.composition_flatten.proofs.Deepest.{through_none}
+use Rattle.composition_tables.proofs.Deepest.{through_none}
 use Rattle.composition_flatten.proofs.Joining.{items_some, provided_some, required_some, once, InstanceAt, instance_at}
-use Rattle.composition_flatten.proofs.Members.{get_lt}
+use Rattle.composition_tables.proofs.Members.{get_lt}
 use Rattle.composition_flatten.proofs.Naming.{placed_size}
 use Rattle.composition_flatten.proofs.Placing.{Segment, segment_whole, segment_inner, place_once}
 use Rattle.composition_flatten.proofs.Standing.{root_segment, node_at, local_place, has_size}
-use Rattle.composition_flatten.proofs.Steps.{step_on}
+use Rattle.composition_tables.proofs.Steps.{step_on}
 
 module _ (d : Description) (short : length (places d) ≤ 1024) (shallow : ¬ IsTooDeep d) where
   -- the end of the port of an instance, by its number in a list of places

@@ -1,5 +1,5 @@
 -- The instances as they are listed are those of the places.
-use Rattle.std.proofs.Common.{◌≡◌, ℕ, zero, suc, ◌+◌, ◌<◌, ◌≤◌, min, List, [], ◌∷◌, ◌++◌, length, map, slice_get, slice_index, codes, Vec, Option, Some, None, option_map, refl, sym, ap, ◌∙◌, arith}
+use Rattle.std.proofs.Common.{◌≡◌, ℕ, zero, suc, ◌+◌, ◌<◌, List, [], ◌∷◌, ◌++◌, length, map, codes, Vec, Some, option_map, refl, sym, ap, ◌∙◌, arith}
 use Rattle.std.proofs.lemmas.List.{nil_from_length, append-nil}
 use Rattle.std.specs.Global.{Global}
 use Rattle.std.specs.List.{enumerate_from}
@@ -9,12 +9,14 @@ use Rattle.description_types.specs.declared.description.Prototype.{Prototype}
 use Rattle.description_types.specs.declared.description.PrototypeType.{PrototypeType}
 use Rattle.description_types.specs.declared.description.PrototypeType.TheVariants.{Component, Composition}
 use Rattle.composition_flatten.specs.declared.flat.Instance.{Instance}
-use Rattle.composition_flatten.specs.Counts.{IsCounted, count_in}
-use Rattle.composition_flatten.specs.Instances.{places_of, places_below, size, size_of, name_in, name_at, prefix_at, written, instance_at, instances}
+use Rattle.composition_tables.specs.Counts.{IsCounted, count_in}
+use Rattle.composition_tables.specs.Places.{places_of, places_below, size, size_of}
+use Rattle.composition_flatten.specs.Instances.{name_in, name_at, prefix_at, written, instance_at, instances}
 use Rattle.composition_flatten.specs.Named.{named_below, named_of}
-use Rattle.composition_flatten.specs.Paths.{prototypes_of, type_in, type_at}
-use Rattle.composition_flatten.proofs.Members.{flat_length, sum_same, sum_numbered, map_numbered, past_end}
-use Rattle.composition_flatten.proofs.Steps.{step_on}
+use Rattle.composition_tables.specs.Paths.{prototypes_of, type_in, type_at}
+use Rattle.composition_tables.proofs.Members.{flat_length, sum_same, sum_numbered, map_numbered}
+use Rattle.composition_tables.proofs.Steps.{step_on}
+use Rattle.composition_tables.proofs.Counting.{counted}
 
 module _ (d : Description) where
   named_one : (n : ℕ) (t : PrototypeType) (path : List ℕ) → ((c : ℕ) (prefix : List ℕ) → length (named_below d n c prefix) ≡ size d n c) → length (named_of (named_below d n) t path) ≡ size_of (size d n) t
@@ -39,19 +41,11 @@ module _ (d : Description) where
       ∙ sum_numbered (λ (x : ℕ × Prototype). length (places_of (places_below d n) x.1.of_type (x.0 ∷ path))) (λ p. size_of (size d n) p.of_type)
       (λ i p. placed_one n p.of_type (i ∷ path) (placed_size n)) 0 (prototypes_of d c)
 
-  -- what the counts say
-  pub counted : (levels : List (Vec ℕ Global)) (depth c : ℕ) → IsCounted d levels → depth ≤ 8 → count_in levels depth c ≡ min (size d depth c) 1025
-  counted levels depth c is within = by (slice_get levels depth) refl
-    where
-      by : (o : Option (Vec ℕ Global)) → slice_get levels depth ≡ o → count_in levels depth c ≡ min (size d depth c) 1025
-      by None none = let past = past_end levels depth none in absurd (omega (arith, is.0))
-      by (Some counts) some = ap (λ (o : Option (Vec ℕ Global)). option_map_or (λ x. slice_index x.items c) o 0) some ∙ is.1 depth counts some c
-
   -- where the count is 0, nothing is listed
   pub none_named : (levels : List (Vec ℕ Global)) (depth c count : ℕ) (t : PrototypeType) (path : List ℕ) (before : List Instance) → IsCounted d levels → depth < 8 → count ≡ count_in levels depth c → count ≡ 0 → t ≡ Composition c
       → before ≡ before ++ named_of (named_below d depth) t path
   none_named levels depth c count t path before is within made zero_is typed =
-      let capped = counted levels depth c is (omega arith) in
+      let capped = counted d levels depth c is (omega arith) in
       let long = named_size depth c (path ++ codes "/") in
       let nothing : named_of (named_below d depth) t path ≡ [] =
       ap (λ u. named_of (named_below d depth) u path) typed ∙ nil_from_length (named_below d depth c (path ++ codes "/")) (omega arith) in

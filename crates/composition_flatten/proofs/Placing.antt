@@ -6,13 +6,13 @@ use Rattle.description_types.specs.declared.description.Description.{Description
 use Rattle.description_types.specs.declared.description.Prototype.{Prototype}
 use Rattle.description_types.specs.declared.description.PrototypeType.{PrototypeType}
 use Rattle.description_types.specs.declared.description.PrototypeType.TheVariants.{Component, Composition}
-use Rattle.composition_flatten.specs.Ends.{offset}
-use Rattle.composition_flatten.specs.Instances.{Place, places_of, places_below, size, size_of}
-use Rattle.composition_flatten.specs.Members.{sum_of}
-use Rattle.composition_flatten.specs.Paths.{prototypes_of, type_in, type_at}
-use Rattle.composition_flatten.proofs.Deepest.{path_on, through_none}
+use Rattle.composition_tables.specs.Ends.{offset}
+use Rattle.composition_tables.specs.Places.{Place, places_of, places_below, size, size_of}
+use Rattle.composition_tables.specs.Members.{sum_of}
+use Rattle.composition_tables.specs.Paths.{prototypes_of, type_in, type_at}
+use Rattle.composition_tables.proofs.Deepest.{path_on, through_none}
 use Rattle.composition_flatten.proofs.Naming.{placed_size, placed_one}
-use Rattle.composition_flatten.proofs.Steps.{step_is, last_step}
+use Rattle.composition_tables.proofs.Steps.{step_is, last_step}
 
 get_left : {X : Type 0} (xs ys : List X) (i : ℕ) (x : X) → slice_get xs i ≡ Some x → slice_get (xs ++ ys) i ≡ Some x
 get_left [] ys i x h = cc

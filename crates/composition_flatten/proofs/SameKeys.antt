@@ -1,5 +1,5 @@
 -- Equal keys are the same.
-use Rattle.std.proofs.Common.{◌≡◌, true, ℕ, ◌&&◌, refl, sym, true≢false, eqb}
+use Rattle.std.proofs.Common.{◌≡◌, true, ◌&&◌, refl, sym, true≢false, eqb}
 use Rattle.std.proofs.lemmas.Bool.{eqb-true, eq-eqb, and_parts, and_from}
 use Rattle.description_types.specs.declared.description.Connector.{Connector}
 use Rattle.description_types.specs.declared.description.Connector.TheVariants as connector
@@ -7,15 +7,7 @@ use Rattle.composition_flatten.specs.declared.wiring.Key.{Key}
 use Rattle.composition_flatten.specs.declared.wiring.Key.TheVariants.{Assembly, Delegation}
 use Rattle.composition_flatten.specs.contracts.wiring.KeyPartialEq.TheImpl.{eq-value}
 use Rattle.composition_flatten.specs.Keys.{key_of}
-
-pub three : (a b c a2 b2 c2 : ℕ) → (eqb a a2 && (eqb b b2 && eqb c c2)) ≡ true → (a ≡ a2) × (b ≡ b2) × (c ≡ c2)
-three a b c a2 b2 c2 h =
-    let p = and_parts (eqb a a2) (eqb b b2 && eqb c c2) h in
-    let q = and_parts (eqb b b2) (eqb c c2) p.1 in
-    (eqb-true a a2 p.0, eqb-true b b2 q.0, eqb-true c c2 q.1)
-
-pub three_from : (a b c : ℕ) → (eqb a a && (eqb b b && eqb c c)) ≡ true
-three_from a b c = and_from (eqb a a) (eqb b b && eqb c c) (eq-eqb a a refl) (and_from (eqb b b) (eqb c c) (eq-eqb b b refl) (eq-eqb c c refl))
+use Rattle.end_crossing.proofs.SameGates.{three, three_from}
 
 pub same_key : (x y : Key) → (eq-value).it x y ≡ true → x ≡ y
 same_key (Assembly a b c e) (Assembly a2 b2 c2 e2) h =

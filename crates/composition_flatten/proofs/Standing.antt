@@ -5,18 +5,18 @@ use Rattle.std.proofs.lemmas.List.{length-append, append-nil}
 use Rattle.description_types.specs.declared.description.Description.{Description}
 use Rattle.description_types.specs.declared.description.Prototype.{Prototype}
 use Rattle.description_types.specs.declared.description.PrototypeType.TheVariants.{Component, Composition}
-use Rattle.composition_flatten.specs.declared.nodes.Node.{Node}
-use Rattle.composition_flatten.specs.Ends.{number_from, offset}
-use Rattle.composition_flatten.specs.Instances.{Place, places_below, places, size, size_of, IsTooDeep}
-use Rattle.composition_flatten.specs.Links.{IsNode}
-use Rattle.composition_flatten.specs.Paths.{prototypes_of, type_in, type_at}
+use Rattle.composition_tables.specs.declared.nodes.Node.{Node}
+use Rattle.composition_tables.specs.Ends.{number_from, offset}
+use Rattle.composition_tables.specs.Places.{Place, places_below, places, size, size_of, IsTooDeep}
+use Rattle.composition_tables.specs.Nodes.{IsNode}
+use Rattle.composition_tables.specs.Paths.{prototypes_of, type_in, type_at}
 use Rattle.composition_flatten.proofs.Chains.{number_exact}
-use Rattle.composition_flatten.proofs.Deepest.{path_on}
-use Rattle.composition_flatten.proofs.Following.{sum_zero}
-use Rattle.composition_flatten.proofs.Members.{get_lt, get_some}
+use Rattle.composition_tables.proofs.Deepest.{path_on}
+use Rattle.composition_tables.proofs.Following.{sum_zero}
+use Rattle.composition_tables.proofs.Members.{get_lt, get_some}
 use Rattle.composition_flatten.proofs.Naming.{placed_size}
 use Rattle.composition_flatten.proofs.Placing.{Segment, segment_whole, segment_inner, placed, place_of}
-use Rattle.composition_flatten.proofs.Steps.{step_is, step_on, last_step}
+use Rattle.composition_tables.proofs.Steps.{step_is, step_on, last_step}
 
 module _ (d : Description) where
   -- a node with what stands there

@@ -11,20 +11,24 @@ use Rattle.description_types.specs.declared.description.Description.{Description
 use Rattle.description_types.specs.declared.description.InnerPort.{InnerPort}
 use Rattle.description_types.specs.declared.description.PrototypeType.{PrototypeType}
 use Rattle.description_types.specs.declared.description.PrototypeType.TheVariants.{Component, Composition}
-use Rattle.composition_flatten.specs.declared.links.Link.{Link}
-use Rattle.composition_flatten.specs.declared.nodes.Node.{Node}
-use Rattle.composition_flatten.specs.declared.tree.Owner.{Owner}
-use Rattle.composition_flatten.specs.declared.tree.Owner.TheVariants.{Instance}
-use Rattle.composition_flatten.specs.declared.tree.PortEnd.{PortEnd}
+use Rattle.composition_tables.specs.declared.links.Link.{Link}
+use Rattle.composition_tables.specs.declared.nodes.Node.{Node}
+use Rattle.composition_tables.specs.declared.tree.Owner.{Owner}
+use Rattle.composition_tables.specs.declared.tree.Owner.TheVariants.{Instance}
+use Rattle.composition_tables.specs.declared.tree.PortEnd.{PortEnd}
 use Rattle.composition_flatten.specs.declared.whole.Own.{Own}
-use Rattle.composition_flatten.specs.Connectors.{ports_of, interface_of, kind_of}
-use Rattle.composition_flatten.specs.Ends.{ends, own_end, inner_ends, inner_ports, number_from, offset}
-use Rattle.composition_flatten.specs.Growing.{AnyOf, Grown}
-use Rattle.composition_flatten.specs.Links.{IsAssemblyLink, IsOwnLink, IsNode, IsNodeLink, IsOwn, IsOuterLink, IsLink, outer_link, outer_ends, owner_from, link_from}
-use Rattle.composition_flatten.specs.Members.{Among, AllApart}
-use Rattle.composition_flatten.proofs.Following.{inner_cases}
-use Rattle.composition_flatten.proofs.Growth.{grown_same, grown_none, grown_then, grown_stop, cross_same}
-use Rattle.composition_flatten.proofs.Members.{unflat, get_lt}
+use Rattle.composition_tables.specs.Connectors.{ports_of, interface_of, kind_of}
+use Rattle.composition_tables.specs.Ends.{ends, own_end, inner_ends, inner_ports, number_from, offset}
+use Rattle.composition_tables.specs.Growing.{AnyOf, Grown}
+use Rattle.composition_flatten.specs.Links.{IsAssemblyLink, IsOwnLink, IsNodeLink, IsOwn, IsOuterLink, IsLink, outer_link, link_from}
+use Rattle.composition_tables.specs.Nodes.{IsNode}
+use Rattle.end_search.specs.Gates.{outer_ends}
+use Rattle.composition_tables.specs.Owners.{owner_from}
+use Rattle.composition_tables.specs.Members.{Among, AllApart}
+use Rattle.composition_tables.proofs.Following.{inner_cases}
+use Rattle.composition_tables.proofs.Growth.{grown_same, grown_none, grown_then, grown_stop}
+use Rattle.end_crossing.proofs.SamePorts.{cross_same}
+use Rattle.composition_tables.proofs.Members.{unflat, get_lt}
 
 -- how high numbers go
 abbrev IsLow : ℕ → Owner → Type 0

@@ -7,14 +7,15 @@ use Rattle.rte_text.specs.declared.refusal.Refused.{Refused}
 use Rattle.rte_text.specs.declared.refusal.Refused.TheVariants.{Rule, Memory}
 use Rattle.composition_flatten.specs.declared.flat.Flat.{Flat}
 use Rattle.composition_flatten.specs.declared.flat.Join.{Join}
-use Rattle.composition_flatten.specs.Connectors.{IsFirstBroken}
-use Rattle.composition_flatten.specs.Firsts.{IsFirst}
-use Rattle.composition_flatten.specs.Growing.{IsPastLimit}
-use Rattle.composition_flatten.specs.Instances.{instances, places, names_env, IsTooDeep}
+use Rattle.composition_tables.specs.Connectors.{IsFirstBroken}
+use Rattle.composition_tables.specs.Firsts.{IsFirst}
+use Rattle.composition_tables.specs.Growing.{IsPastLimit}
+use Rattle.composition_flatten.specs.Instances.{instances, names_env}
+use Rattle.composition_tables.specs.Places.{places, IsTooDeep}
 use Rattle.composition_flatten.specs.Joined.{IsJoined}
-use Rattle.composition_flatten.specs.Members.{Among}
+use Rattle.composition_tables.specs.Members.{Among}
 use Rattle.composition_flatten.specs.Orders.{join_order}
-use Rattle.composition_flatten.specs.Paths.{ContainsItself}
+use Rattle.composition_tables.specs.Paths.{ContainsItself}
 
 -- rule 9: no composition contains itself
 abbrev pub KeepsNesting : Description → Type 0

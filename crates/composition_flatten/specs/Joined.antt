@@ -11,11 +11,11 @@ use Rattle.description_types.specs.declared.description.InnerPort.{InnerPort}
 use Rattle.description_types.specs.declared.description.PrototypeType.TheVariants.{Composition}
 use Rattle.interface_types.specs.declared.interface.InterfaceKind.{InterfaceKind}
 use Rattle.composition_flatten.specs.declared.flat.Join.{Join}
-use Rattle.composition_flatten.specs.Connectors.{connectors_of, interface_of, kind_of, lets_join}
-use Rattle.composition_flatten.specs.Instances.{places}
-use Rattle.composition_flatten.specs.Items.{interface_at, ItemsJoin}
-use Rattle.composition_flatten.specs.Members.{Among}
-use Rattle.composition_flatten.specs.Paths.{type_at}
+use Rattle.composition_tables.specs.Connectors.{connectors_of, interface_of, kind_of, lets_join}
+use Rattle.composition_tables.specs.Places.{places}
+use Rattle.composition_tables.specs.Items.{interface_at, ItemsJoin}
+use Rattle.composition_tables.specs.Members.{Among}
+use Rattle.composition_tables.specs.Paths.{type_at}
 
 -- a port of what stands at the end of a path below the root; the root itself stands at the end of the empty one
 pub record Stand : Type 0 where

@@ -2,10 +2,10 @@
 use Rattle.std.specs.Prelude.{ℕ, Option, Some, None}
 use Rattle.composition_flatten.specs.declared.flat.End.{End}
 use Rattle.composition_flatten.specs.declared.flat.Join.{Join}
-use Rattle.composition_flatten.specs.declared.links.Item.{Item}
-use Rattle.composition_flatten.specs.declared.links.Link.{Link}
-use Rattle.composition_flatten.specs.declared.tree.Owner.{Owner}
-use Rattle.composition_flatten.specs.declared.tree.Owner.TheVariants.{Instance, Environment}
+use Rattle.composition_tables.specs.declared.links.Item.{Item}
+use Rattle.composition_tables.specs.declared.links.Link.{Link}
+use Rattle.composition_tables.specs.declared.tree.Owner.{Owner}
+use Rattle.composition_tables.specs.declared.tree.Owner.TheVariants.{Instance, Environment}
 
 abbrev pub instance_of : Owner → Option ℕ
 instance_of (Instance i) = Some i

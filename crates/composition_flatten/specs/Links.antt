@@ -1,40 +1,24 @@
 -- The links of a description, as they are found: those that a composition's assemblies make below it, with instances numbered
 -- from its own first one on, and those of the environment.
-use Rattle.std.specs.Prelude.{◌≡◌, ℕ, zero, suc, ◌+◌, ◌-◌, ◌^◌, min, List, [], ◌∷◌, true, Option, Some, None, ◌⊎◌}
+use Rattle.std.specs.Prelude.{◌≡◌, ℕ, List, [], true, Option, Some, None, ◌⊎◌}
 use Rattle.description_types.specs.declared.component.PortKind.{PortKind}
 use Rattle.description_types.specs.declared.component.PortKind.TheVariants.{Provided, Required}
 use Rattle.description_types.specs.declared.description.Connector.{Connector}
 use Rattle.description_types.specs.declared.description.Connector.TheVariants.{Assembly, Delegation}
 use Rattle.description_types.specs.declared.description.Description.{Description}
 use Rattle.description_types.specs.declared.description.PrototypeType.TheVariants.{Composition}
-use Rattle.composition_flatten.specs.declared.links.Item.{Item}
-use Rattle.composition_flatten.specs.declared.links.Link.{Link}
-use Rattle.composition_flatten.specs.declared.nodes.Node.{Node}
+use Rattle.composition_tables.specs.declared.links.Item.{Item}
+use Rattle.composition_tables.specs.declared.links.Link.{Link}
+use Rattle.composition_tables.specs.declared.nodes.Node.{Node}
 use Rattle.composition_flatten.specs.declared.whole.Own.{Own}
-use Rattle.composition_flatten.specs.declared.tree.Owner.{Owner}
-use Rattle.composition_flatten.specs.declared.tree.Owner.TheVariants.{Instance, Environment}
-use Rattle.composition_flatten.specs.declared.tree.PortEnd.{PortEnd}
-use Rattle.composition_flatten.specs.Connectors.{connectors_of, interface_of, kind_of, lets_join}
-use Rattle.composition_flatten.specs.Ends.{ends, inner_ends, number_from, offset}
-use Rattle.composition_flatten.specs.Growing.{AnyOf, Grown}
-use Rattle.composition_flatten.specs.Instances.{size}
-use Rattle.composition_flatten.specs.Items.{interface_at, ItemsJoin}
-use Rattle.composition_flatten.specs.Paths.{type_in}
-
-abbrev pub item_of : PortEnd → ℕ → Item
-item_of e i = record { owner = e.owner; port = e.port; element = i }
-
--- the link of two items of a provided and a required port
-abbrev pub link_of : PortEnd → PortEnd → ℕ × ℕ → Link
-link_of p r items = record { provided = item_of p items.0; required = item_of r items.1 }
-
--- a link of two ports
-abbrev pub IsPairLink : Description → PortEnd → PortEnd → Link → Type 0
-IsPairLink d p r x = (i : ℕ) × (j : ℕ) × ItemsJoin (interface_at d p.interface) (interface_at d r.interface) i j × (x ≡ link_of p r (i, j))
-
--- a link of one of the provided ports and one of the required ones
-abbrev pub IsCrossLink : Description → List PortEnd → List PortEnd → Link → Type 0
-IsCrossLink d provided required x = AnyOf (λ p. AnyOf (IsPairLink d p) required) provided x
+use Rattle.composition_tables.specs.declared.tree.PortEnd.{PortEnd}
+use Rattle.composition_tables.specs.Connectors.{connectors_of, interface_of, kind_of, lets_join}
+use Rattle.composition_tables.specs.Ends.{ends, inner_ends}
+use Rattle.composition_tables.specs.Growing.{AnyOf, Grown}
+use Rattle.end_crossing.specs.PortLinks.{IsCrossLink}
+use Rattle.composition_tables.specs.Nodes.{IsNode}
+use Rattle.composition_tables.specs.Owners.{owner_from}
+use Rattle.end_search.specs.Gates.{outer_ends}
 
 -- a link that an assembly of the composition c makes, the ports of its prototypes at most n deep below
 abbrev pub IsAssemblyLink : Description → ℕ → ℕ → Connector → Link → Type 0
@@ -43,23 +27,6 @@ IsAssemblyLink d n c (Delegation inner outer) x = ⊥
 
 abbrev pub IsOwnLink : Description → ℕ → ℕ → Link → Type 0
 IsOwnLink d n c x = AnyOf (IsAssemblyLink d n c) (connectors_of d c) x
-
--- A composition that stands at or below the composition c, whose first instance has the number `first`, at most n prototypes
--- down. Those without instances count as not there.
-abbrev pub IsNode : Description → ℕ → ℕ → ℕ → Node → Type 0
-IsNode d zero c first x = ⊥
-IsNode d (suc n) c first x =
-    (x ≡ record { depth = n; composition = c; first = first })
-    ⊎ ((q : ℕ) × (e : ℕ) × (type_in d (Composition c) q ≡ Some (Composition e)) × (size d n e ≡ 0 → ⊥) × IsNode d n e (number_from first (offset d n c q)) x)
-
--- one that stands at or below the prototype q of the composition c
-abbrev pub IsInnerNode : Description → ℕ → ℕ → ℕ → ℕ → Node → Type 0
-IsInnerNode d n c first q x = (e : ℕ) × (type_in d (Composition c) q ≡ Some (Composition e)) × (size d n e ≡ 0 → ⊥) × IsNode d n e (number_from first (offset d n c q)) x
-
--- with instances numbered from another first one on
-abbrev pub owner_from : ℕ → Owner → Owner
-owner_from first (Instance i) = Instance (min (first + i) (2 ^ 32 - 1))
-owner_from first Environment = Environment
 
 abbrev pub item_from : ℕ → Item → Item
 item_from first x = record { owner = owner_from first x.owner; port = x.port; element = x.element }
@@ -70,11 +37,6 @@ link_from first x = record { provided = item_from first x.provided; required = i
 -- a link that a composition makes where it stands
 abbrev pub IsNodeLink : Description → Node → Link → Type 0
 IsNodeLink d node x = (y : Link) × IsOwnLink d node.depth node.composition y × (x ≡ link_from node.first y)
-
--- a port of the root, as a port of the environment
-abbrev pub outer_ends : Option ℕ → ℕ → List PortEnd
-outer_ends None port = []
-outer_ends (Some interface) port = record { owner = Environment; port = port; interface = interface } ∷ []
 
 -- a link of a port of the root, the environment's: it provides at an R-port, and requires at a P-port
 abbrev pub outer_link : Option PortKind → Description → List PortEnd → List PortEnd → Link → Type 0

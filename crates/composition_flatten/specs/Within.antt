@@ -5,10 +5,11 @@ use Rattle.description_types.specs.declared.description.Description.{Description
 use Rattle.composition_flatten.specs.declared.flat.Join.{Join}
 use Rattle.composition_flatten.specs.declared.limits.Within.{Within}
 use Rattle.composition_flatten.specs.Flattening.{KeepsLimits}
-use Rattle.composition_flatten.specs.Growing.{IsPastLimit}
-use Rattle.composition_flatten.specs.Instances.{instances, places, names_env, IsTooDeep}
+use Rattle.composition_tables.specs.Growing.{IsPastLimit}
+use Rattle.composition_flatten.specs.Instances.{instances, names_env}
+use Rattle.composition_tables.specs.Places.{places, IsTooDeep}
 use Rattle.composition_flatten.specs.Joined.{IsJoined}
-use Rattle.composition_flatten.specs.Members.{Among}
+use Rattle.composition_tables.specs.Members.{Among}
 use Rattle.composition_flatten.specs.Orders.{join_order}
 
 -- the limits on instances

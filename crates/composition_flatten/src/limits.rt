@@ -1,25 +1,25 @@
 //! The limits of a description, and what it is within them.
 
 ghost use Rattle.std.specs.Prelude.{◌≡◌, ◌↔◌, IfOk, IfSome, IfNone, IsTrue, map};
-ghost use Rattle.composition_flatten.specs.Counts.{IsCounted};
+ghost use Rattle.composition_tables.specs.Counts.{IsCounted};
 ghost use Rattle.composition_flatten.specs.Flattening.{KeepsLimits};
-ghost use Rattle.composition_flatten.specs.Growing.{IsPastLimit};
+ghost use Rattle.composition_tables.specs.Growing.{IsPastLimit};
 ghost use Rattle.composition_flatten.specs.Instances.{names_env};
 ghost use Rattle.composition_flatten.specs.Joined.{IsJoined};
 ghost use Rattle.composition_flatten.specs.Joins.{instance_of, end_of, join_of};
-ghost use Rattle.composition_flatten.specs.Trees.{IsTree};
+ghost use Rattle.composition_tables.specs.Trees.{IsTree};
 ghost use Rattle.composition_flatten.specs.Within.{IsWithin, AreJoins, KeepsCounts};
 
-use crate::counts::{DEPTH_LIMIT, count_below, count_levels};
-use crate::delegations::delegations;
-use crate::depth::is_too_deep;
 use crate::flat::{End, Instance, Join};
-use crate::links::{Item, LINK_LIMIT, Link};
 use crate::listing::list_instances;
-use crate::prototypes::prototypes_of;
-use crate::starts::start_levels;
-use crate::tree::{Owner, Tree};
 use crate::whole::{add_links, listed};
+use composition_tables::counts::{DEPTH_LIMIT, count_below, count_levels};
+use composition_tables::delegations::delegations;
+use composition_tables::depth::is_too_deep;
+use composition_tables::links::{Item, LINK_LIMIT, Link};
+use composition_tables::prototypes::prototypes_of;
+use composition_tables::starts::start_levels;
+use composition_tables::tree::{Owner, Tree};
 use description_types::Description;
 use rte_text::Memory;
 use std::alloc::Global;

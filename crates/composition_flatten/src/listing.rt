@@ -1,12 +1,12 @@
 //! The component instances, listed.
 
 ghost use Rattle.std.specs.Prelude.{◌≡◌, ◌≤◌, ◌<◌, ◌++◌, [], codes, IfOk, OnOk};
-ghost use Rattle.composition_flatten.specs.Counts.{IsCounted};
+ghost use Rattle.composition_tables.specs.Counts.{IsCounted};
 ghost use Rattle.composition_flatten.specs.Named.{named_below, named_of};
 
-use crate::counts::{DEPTH_LIMIT, count_below};
 use crate::flat::Instance;
-use crate::prototypes::prototypes_of;
+use composition_tables::counts::{DEPTH_LIMIT, count_below};
+use composition_tables::prototypes::prototypes_of;
 use description_types::{Description, Prototype, PrototypeType};
 use rte_text::{Memory, Text};
 use std::alloc::Global;

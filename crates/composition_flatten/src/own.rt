@@ -1,19 +1,20 @@
 //! The links that the assemblies of a composition make.
 
 ghost use Rattle.std.specs.Prelude.{◌≡◌, ◌≤◌, IfOk, OnOk};
-ghost use Rattle.composition_flatten.specs.Ends.{ends, inner_ends};
-ghost use Rattle.composition_flatten.specs.Growing.{Grown};
-ghost use Rattle.composition_flatten.specs.Links.{IsAssemblyLink, IsCrossLink, IsOwnLink};
-ghost use Rattle.composition_flatten.specs.Matching.{IsAdding};
-ghost use Rattle.composition_flatten.specs.Trees.{IsTree};
+ghost use Rattle.composition_tables.specs.Ends.{ends, inner_ends};
+ghost use Rattle.composition_tables.specs.Growing.{Grown};
+ghost use Rattle.composition_flatten.specs.Links.{IsAssemblyLink, IsOwnLink};
+ghost use Rattle.end_crossing.specs.PortLinks.{IsCrossLink};
+ghost use Rattle.end_crossing.specs.Crossings.{IsAdding};
+ghost use Rattle.composition_tables.specs.Trees.{IsTree};
 
-use crate::connectors::{connectors_of, lets_join};
-use crate::gates::{inner_gate, narrowed};
-use crate::links::Link;
-use crate::matched::Matched;
-use crate::splitting::cross_gates;
-use crate::tree::Tree;
+use composition_tables::connectors::{connectors_of, lets_join};
+use composition_tables::links::Link;
+use composition_tables::tree::Tree;
 use description_types::{Connector, InnerPort};
+use end_crossing::matched::Matched;
+use end_crossing::splitting::cross_gates;
+use end_search::gates::{inner_gate, narrowed};
 use rte_text::Memory;
 use std::alloc::Global;
 use std::collections::BTreeSet;

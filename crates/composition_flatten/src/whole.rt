@@ -1,28 +1,29 @@
 //! All links of a description.
 
 ghost use Rattle.std.specs.Prelude.{◌≡◌, ◌≤◌, ◌<◌, ◌^◌, [], ◌∷◌, ℕ, IfOk, OnOk, Some, length};
-ghost use Rattle.composition_flatten.specs.Connectors.{ports_of};
-ghost use Rattle.composition_flatten.specs.declared.links.Link.{Link};
-ghost use Rattle.composition_flatten.specs.declared.nodes.Node.{Node};
-ghost use Rattle.composition_flatten.specs.Ends.{ends};
-ghost use Rattle.composition_flatten.specs.Gates.{gate_ends, IsShallow};
-ghost use Rattle.composition_flatten.specs.Members.{Among};
-ghost use Rattle.composition_flatten.specs.Growing.{AnyOf, Grown};
-ghost use Rattle.composition_flatten.specs.Links.{IsOwn, IsNode, IsNodeLink, IsOuterLink, IsLink, link_from, item_from, outer_link};
-ghost use Rattle.composition_flatten.specs.Matching.{IsAdding, IsMatched};
-ghost use Rattle.composition_flatten.specs.Trees.{IsTree};
+ghost use Rattle.composition_tables.specs.Connectors.{ports_of};
+ghost use Rattle.composition_tables.specs.declared.links.Link.{Link};
+ghost use Rattle.composition_tables.specs.declared.nodes.Node.{Node};
+ghost use Rattle.composition_tables.specs.Ends.{ends};
+ghost use Rattle.end_search.specs.Gates.{gate_ends, IsShallow};
+ghost use Rattle.composition_tables.specs.Members.{Among};
+ghost use Rattle.composition_tables.specs.Growing.{AnyOf, Grown};
+ghost use Rattle.composition_flatten.specs.Links.{IsOwn, IsNodeLink, IsOuterLink, IsLink, link_from, item_from, outer_link};
+ghost use Rattle.composition_tables.specs.Nodes.{IsNode};
+ghost use Rattle.end_crossing.specs.Crossings.{IsAdding, IsMatched};
+ghost use Rattle.composition_tables.specs.Trees.{IsTree};
 
-use crate::connectors::{interface_of, kind_of, ports_of};
-use crate::containing::composition_count;
-use crate::counts::DEPTH_LIMIT;
-use crate::gates::{Gate, narrowed};
-use crate::links::{Item, Link, add_link, owner_from};
-use crate::matched::Matched;
-use crate::nodes::{Node, nodes_of};
 use crate::own::add_own;
-use crate::splitting::cross_gates;
-use crate::tree::Tree;
+use composition_tables::connectors::{interface_of, kind_of, ports_of};
+use composition_tables::containing::composition_count;
+use composition_tables::counts::DEPTH_LIMIT;
+use composition_tables::links::{Item, Link, add_link, owner_from};
+use composition_tables::nodes::{Node, nodes_of};
+use composition_tables::tree::Tree;
 use description_types::{PortKind, PrototypeType};
+use end_crossing::matched::Matched;
+use end_crossing::splitting::cross_gates;
+use end_search::gates::{Gate, narrowed};
 use rte_text::Memory;
 use std::alloc::{AllocError, Global};
 use std::collections::BTreeSet;

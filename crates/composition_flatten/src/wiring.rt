@@ -2,13 +2,13 @@
 
 ghost use Rattle.std.specs.Prelude.{◌≡◌, ◌↔◌, ◌⊎◌, IfOk, OnOk, IsTrue, length, not, ◌||◌};
 ghost use Rattle.composition_flatten.specs.declared.wiring.Key.{Key};
-ghost use Rattle.composition_flatten.specs.Members.{Among};
-ghost use Rattle.composition_flatten.specs.Connectors.{connectors_of, lets_join, IsBrokenConnector, IsFirstBroken};
+ghost use Rattle.composition_tables.specs.Members.{Among};
+ghost use Rattle.composition_tables.specs.Connectors.{connectors_of, lets_join, IsBrokenConnector, IsFirstBroken};
 ghost use Rattle.composition_flatten.specs.Keys.{key_of};
-ghost use Rattle.composition_flatten.specs.Firsts.{IsFirst};
+ghost use Rattle.composition_tables.specs.Firsts.{IsFirst};
 
-use crate::connectors::{connectors_of, lets_join};
-use crate::containing::composition_count;
+use composition_tables::connectors::{connectors_of, lets_join};
+use composition_tables::containing::composition_count;
 use description_types::{Connector, Description};
 use indexmap::IndexSet;
 use rte_text::Memory;

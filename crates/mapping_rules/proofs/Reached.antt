@@ -9,7 +9,7 @@ use Rattle.description_types.specs.declared.component.Runnable.{Runnable}
 use Rattle.description_types.specs.declared.description.Description.{Description}
 use Rattle.composition_flatten.specs.declared.flat.Flat.{Flat}
 use Rattle.composition_flatten.specs.declared.flat.Instance.{Instance}
-use Rattle.composition_flatten.specs.Members.{Among}
+use Rattle.composition_tables.specs.Members.{Among}
 use Rattle.plan_numbers.specs.Keys.{same_pair}
 use Rattle.plan_numbers.specs.Parts.{component_of}
 use Rattle.mapping_rules.specs.Edges.{HaveCircle, HaveRanks, IsDecided, Way}

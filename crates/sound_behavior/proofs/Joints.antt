@@ -11,7 +11,7 @@ use Rattle.description_types.specs.declared.description.Description.{Description
 use Rattle.composition_flatten.specs.declared.flat.End.{End}
 use Rattle.composition_flatten.specs.declared.flat.Flat.{Flat}
 use Rattle.composition_flatten.specs.declared.flat.Join.{Join}
-use Rattle.composition_flatten.specs.Items.{interface_at, ItemsJoin}
+use Rattle.composition_tables.specs.Items.{interface_at, ItemsJoin}
 use Rattle.composition_flatten.specs.Joined.{IsJoined, Stand, stand_in}
 use Rattle.compatibility.specs.Connectors.{incompatible, root_client}
 use Rattle.compatibility.specs.Refusals as joins

@@ -1,7 +1,7 @@
 -- What is among the items of a list.
 use Rattle.std.proofs.Common.{◌≡◌, ℕ, zero, suc, List, [], ◌∷◌, ◌++◌, map, Some, ◌⊎◌, inl, inr, sym, ap}
 use Rattle.std.specs.List.{slice_get, flat_map}
-use Rattle.composition_flatten.specs.Members.{Among}
+use Rattle.composition_tables.specs.Members.{Among}
 use Rattle.sound_behavior.proofs.Lists.{mapped, some_same}
 
 pub at : {X : Type 0} (xs : List X) (n : ℕ) (x : X) → slice_get xs n ≡ Some x → Among x xs

@@ -11,13 +11,14 @@ use Rattle.description_types.specs.declared.description.PrototypeType.{Prototype
 use Rattle.description_types.specs.declared.description.PrototypeType.TheVariants.{Component, Composition}
 use Rattle.composition_flatten.specs.declared.flat.Flat.{Flat}
 use Rattle.composition_flatten.specs.declared.flat.Instance.{Instance}
-use Rattle.composition_flatten.specs.Connectors.{interface_of, ports_of}
+use Rattle.composition_tables.specs.Connectors.{interface_of, ports_of}
 use Rattle.composition_flatten.specs.Flattening.{IsFlatOf}
-use Rattle.composition_flatten.specs.Instances.{Place, instance_at, places, places_below, places_of}
-use Rattle.composition_flatten.specs.Items.{interface_at}
+use Rattle.composition_tables.specs.Places.{Place, places, places_below, places_of}
+use Rattle.composition_flatten.specs.Instances.{instance_at}
+use Rattle.composition_tables.specs.Items.{interface_at}
 use Rattle.composition_flatten.specs.Joined.{Stand, interface_below, stand_in}
-use Rattle.composition_flatten.specs.Members.{Among}
-use Rattle.composition_flatten.specs.Paths.{prototypes_of, type_at, type_in}
+use Rattle.composition_tables.specs.Members.{Among}
+use Rattle.composition_tables.specs.Paths.{prototypes_of, type_at, type_in}
 use Rattle.plan_numbers.specs.Parts.{component_of}
 use Rattle.plan_ports.specs.Ports.{port_of}
 use Rattle.sound_behavior.proofs.Listed.{at, map_get, unflat}

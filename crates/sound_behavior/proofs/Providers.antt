@@ -20,7 +20,7 @@ use Rattle.composition_flatten.specs.declared.flat.End.{End}
 use Rattle.composition_flatten.specs.declared.flat.Flat.{Flat}
 use Rattle.composition_flatten.specs.declared.flat.Instance.{Instance}
 use Rattle.composition_flatten.specs.declared.flat.Join.{Join}
-use Rattle.composition_flatten.specs.Items.{interface_at, ItemsJoin, operation_names, IsSameName}
+use Rattle.composition_tables.specs.Items.{interface_at, ItemsJoin, operation_names, IsSameName}
 use Rattle.compatibility.specs.Connectors as connectors
 use Rattle.compatibility.specs.Connectors.{requires_server, root_client}
 use Rattle.compatibility.specs.Items as items

@@ -19,7 +19,7 @@ use Rattle.description_types.specs.declared.component.Variable.{Variable as Decl
 use Rattle.description_types.specs.declared.description.Description.{Description}
 use Rattle.component_model.specs.Initials.{element_type, fits, fits_type, is_within, keeps, keeps_element, keeps_type, type_in}
 use Rattle.composition_flatten.specs.declared.flat.Flat.{Flat}
-use Rattle.composition_flatten.specs.Members.{Among}
+use Rattle.composition_tables.specs.Members.{Among}
 use Rattle.bus_semantics.specs.declared.plan.BusPlan.{BusPlan}
 use Rattle.bus_semantics.specs.declared.plan.ElemKind.{ElemKind}
 use Rattle.bus_semantics.specs.declared.plan.ElemKind.TheVariants as kind

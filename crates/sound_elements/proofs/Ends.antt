@@ -13,9 +13,9 @@ use Rattle.compatibility.specs.Connectors.{incompatible}
 use Rattle.composition_flatten.specs.declared.flat.Flat.{Flat}
 use Rattle.composition_flatten.specs.declared.flat.Join.{Join}
 use Rattle.composition_flatten.specs.Flattening.{IsFlatOf}
-use Rattle.composition_flatten.specs.Items.{ItemsJoin, interface_at}
+use Rattle.composition_tables.specs.Items.{ItemsJoin, interface_at}
 use Rattle.composition_flatten.specs.Joined.{IsJoined, Stand, interface_below, stand_in}
-use Rattle.composition_flatten.specs.Members.{Among}
+use Rattle.composition_tables.specs.Members.{Among}
 use Rattle.bus_semantics.specs.declared.plan.ElemKind.{ElemKind}
 use Rattle.bus_semantics.specs.SoundPlan.{same_numbers}
 use Rattle.plan_numbers.specs.declared.site.Site.{Site}

@@ -20,7 +20,7 @@ use Rattle.composition_flatten.specs.declared.flat.End.{End}
 use Rattle.composition_flatten.specs.declared.flat.Flat.{Flat}
 use Rattle.composition_flatten.specs.declared.flat.Instance.{Instance}
 use Rattle.composition_flatten.specs.declared.flat.Join.{Join}
-use Rattle.composition_flatten.specs.Members.{Among}
+use Rattle.composition_tables.specs.Members.{Among}
 use Rattle.plan_numbers.specs.Sites.{provides_at}
 use Rattle.plan_ports.specs.Ports.{port_of}
 use Rattle.sound_elements.proofs.Chains.{first_none, map_none, or_none}

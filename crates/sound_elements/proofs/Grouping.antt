@@ -2,7 +2,7 @@
 use Rattle.std.proofs.Common.{◌≡◌, ℕ, zero, suc, ◌+◌, ◌<◌, List, [], ◌∷◌, ◌++◌, length, map, filter, Bool, true, false, cond, not, ◌&&◌, ◌==◌, nat_eq, nat_lt, Some, refl, sym, ap, subst, ◌∙◌, arith, slice_get}
 use Rattle.std.proofs.lemmas.Bool.{and_from, eq-eqb, lt-ltb, ne_eqb}
 use Rattle.std.specs.List.{list_all}
-use Rattle.composition_flatten.specs.Members.{Among}
+use Rattle.composition_tables.specs.Members.{Among}
 use Rattle.plan_numbers.specs.Lists.{from, positions}
 use Rattle.plan_elements.specs.Groups.{group_number, groups, heads, member_at, members}
 use Rattle.bus_semantics.specs.Plan.{every_from, positions as bus_positions}

@@ -3,7 +3,7 @@ use Rattle.std.proofs.Common.{◌≡◌, ℕ, zero, suc, ◌+◌, ◌<◌, ◌�
 use Rattle.std.proofs.lemmas.Bool.{and_from, eq-eqb, eqb-true, eqb-false, le-leb, ne_eqb}
 use Rattle.std.specs.List.{list_all, position_from}
 use Rattle.std.specs.Option.{unwrap_or}
-use Rattle.composition_flatten.specs.Members.{Among}
+use Rattle.composition_tables.specs.Members.{Among}
 use Rattle.plan_numbers.specs.Lists.{from, positions}
 use Rattle.plan_elements.specs.Groups.{group_number, groups, head_at, heads, member_at, members, number_among}
 use Rattle.bus_semantics.specs.SoundPlan.{first_of, firsts, is_rising}

@@ -12,8 +12,8 @@ use Rattle.description_types.specs.declared.description.Description.{Description
 use Rattle.composition_flatten.specs.declared.flat.End.{End}
 use Rattle.composition_flatten.specs.declared.flat.Flat.{Flat}
 use Rattle.composition_flatten.specs.declared.flat.Join.{Join}
-use Rattle.composition_flatten.specs.Items.{ItemsJoin, interface_at}
-use Rattle.composition_flatten.specs.Members.{Among}
+use Rattle.composition_tables.specs.Items.{ItemsJoin, interface_at}
+use Rattle.composition_tables.specs.Members.{Among}
 use Rattle.bus_semantics.specs.declared.plan.ElemKind.TheVariants.{Unqueued}
 use Rattle.bus_semantics.specs.SoundNames.{is_name}
 use Rattle.plan_numbers.specs.declared.site.Site.{Site}

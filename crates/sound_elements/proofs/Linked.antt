@@ -5,7 +5,7 @@ use Rattle.compatibility.specs.Refusals.{refusal}
 use Rattle.composition_flatten.specs.declared.flat.End.{End}
 use Rattle.composition_flatten.specs.declared.flat.Flat.{Flat}
 use Rattle.composition_flatten.specs.Flattening.{IsFlatOf}
-use Rattle.composition_flatten.specs.Members.{Among}
+use Rattle.composition_tables.specs.Members.{Among}
 use Rattle.plan_numbers.specs.declared.site.Site.{Site}
 use Rattle.plan_numbers.specs.Joined.{end_of, partners}
 use Rattle.plan_numbers.specs.Keys.{key_of, number_in}

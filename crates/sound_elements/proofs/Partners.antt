@@ -7,7 +7,7 @@ use Rattle.composition_flatten.specs.declared.flat.End.{End}
 use Rattle.composition_flatten.specs.declared.flat.Flat.{Flat}
 use Rattle.composition_flatten.specs.declared.flat.Join.{Join}
 use Rattle.composition_flatten.specs.Flattening.{IsFlatOf}
-use Rattle.composition_flatten.specs.Members.{Among}
+use Rattle.composition_tables.specs.Members.{Among}
 use Rattle.plan_numbers.specs.declared.site.Site.{Site}
 use Rattle.plan_numbers.specs.declared.site.SiteKind.TheVariants.{Element}
 use Rattle.plan_numbers.specs.Joined.{across, end_at, end_of, partners, same_end}

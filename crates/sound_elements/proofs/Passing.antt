@@ -14,7 +14,7 @@ use Rattle.interface_types.specs.declared.interface.SwImplPolicy.TheVariants.{Qu
 use Rattle.interface_types.specs.declared.interface.TypeTable.{TypeTable}
 use Rattle.compatibility.specs.Interfaces.{same_policy, serve_elements, serves, serves_element, serves_in}
 use Rattle.compatibility.specs.Types.{agree, are_compatible_types, base_number, types_agree}
-use Rattle.composition_flatten.specs.Members.{Among}
+use Rattle.composition_tables.specs.Members.{Among}
 use Rattle.sound_elements.proofs.Lists.{all_at, any_at}
 
 same_bytes : (a b : List ℕ) → bytes_eq a b ≡ true → a ≡ b

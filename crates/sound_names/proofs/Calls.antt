@@ -18,7 +18,7 @@ use Rattle.description_types.specs.declared.component.PortKind.TheVariants.{Prov
 use Rattle.description_types.specs.declared.component.Runnable.{Runnable}
 use Rattle.description_types.specs.declared.description.Description.{Description}
 use Rattle.composition_flatten.specs.declared.flat.Flat.{Flat}
-use Rattle.composition_flatten.specs.Members.{Among}
+use Rattle.composition_tables.specs.Members.{Among}
 use Rattle.component_rules.specs.declared.items.Item.{Item}
 use Rattle.component_rules.specs.declared.items.Item.TheVariants.{Data, Operation, Modes}
 use Rattle.component_rules.specs.declared.rule.Rule.TheVariants as rule

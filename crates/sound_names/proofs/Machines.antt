@@ -19,13 +19,14 @@ use Rattle.composition_flatten.specs.declared.flat.End.{End}
 use Rattle.composition_flatten.specs.declared.flat.Flat.{Flat}
 use Rattle.composition_flatten.specs.declared.flat.Instance.{Instance}
 use Rattle.composition_flatten.specs.declared.flat.Join.{Join}
-use Rattle.composition_flatten.specs.Connectors.{interface_of, kind_of, ports_of}
+use Rattle.composition_tables.specs.Connectors.{interface_of, kind_of, ports_of}
 use Rattle.composition_flatten.specs.Flattening.{IsFlatOf}
-use Rattle.composition_flatten.specs.Instances.{Place, instance_at, places}
-use Rattle.composition_flatten.specs.Items.{ItemsJoin, interface_at}
+use Rattle.composition_tables.specs.Places.{Place, places}
+use Rattle.composition_flatten.specs.Instances.{instance_at}
+use Rattle.composition_tables.specs.Items.{ItemsJoin, interface_at}
 use Rattle.composition_flatten.specs.Joined.{Stand, interface_below, stand_in}
-use Rattle.composition_flatten.specs.Members.{Among}
-use Rattle.composition_flatten.specs.Paths.{type_at}
+use Rattle.composition_tables.specs.Members.{Among}
+use Rattle.composition_tables.specs.Paths.{type_at}
 use Rattle.bus_semantics.specs.declared.plan.BusPlan.{BusPlan}
 use Rattle.bus_semantics.specs.declared.plan.ModePortPlan.{ModePortPlan}
 use Rattle.plan_numbers.specs.declared.site.Site.{Site}

@@ -7,7 +7,7 @@ use Rattle.description_types.specs.declared.component.Runnable as declared
 use Rattle.description_types.specs.declared.description.Description.{Description}
 use Rattle.composition_flatten.specs.declared.flat.Flat.{Flat}
 use Rattle.composition_flatten.specs.declared.flat.Instance.{Instance}
-use Rattle.composition_flatten.specs.Members.{Among}
+use Rattle.composition_tables.specs.Members.{Among}
 use Rattle.bus_semantics.specs.Plan.{Runnable}
 use Rattle.plan_numbers.specs.Keys.{Key, same_key, number_in, same_pair, pair_number}
 use Rattle.plan_numbers.specs.Lists.{positions, from}

@@ -14,9 +14,10 @@ use Rattle.description_types.specs.declared.description.PrototypeType.TheVariant
 use Rattle.composition_flatten.specs.declared.flat.Flat.{Flat}
 use Rattle.composition_flatten.specs.declared.flat.Instance.{Instance}
 use Rattle.composition_flatten.specs.Flattening.{IsFlatOf}
-use Rattle.composition_flatten.specs.Instances.{Place, places_of, places_below, places, name_in, name_at, prefix_at, written, instance_at, instances}
-use Rattle.composition_flatten.specs.Members.{Among, AllApart}
-use Rattle.composition_flatten.specs.Paths.{prototypes_of, type_in, type_at}
+use Rattle.composition_tables.specs.Places.{Place, places_of, places_below, places}
+use Rattle.composition_flatten.specs.Instances.{name_in, name_at, prefix_at, written, instance_at, instances}
+use Rattle.composition_tables.specs.Members.{Among, AllApart}
+use Rattle.composition_tables.specs.Paths.{prototypes_of, type_in, type_at}
 use Rattle.bus_semantics.specs.declared.plan.BusPlan.{BusPlan}
 use Rattle.bus_semantics.specs.Plan as bus
 use Rattle.bus_semantics.specs.SoundNames.{is_env_path, is_name, is_path, none_is_env, parts}

@@ -4,7 +4,7 @@ use Rattle.std.proofs.lemmas.Bool.{and_from, le-leb}
 use Rattle.std.proofs.lemmas.List.{map-append}
 use Rattle.std.specs.List.{list_all}
 use Rattle.bus_semantics.specs.SoundPlan.{is_rising}
-use Rattle.composition_flatten.specs.Members.{Among}
+use Rattle.composition_tables.specs.Members.{Among}
 use Rattle.plan_numbers.specs.Lists.{from}
 
 abbrev pub Rises : (low high : ℕ) → List ℕ → Type 0

@@ -1,5 +1,5 @@
 use Rattle.std.proofs.Common.{◌∙◌, sym}
-use Rattle.composition_flatten.proofs.Growth.{assembly_same}
+use Rattle.composition_flatten.proofs.Assembling.{assembly_same}
 use Rattle.composition_flatten.proofs.own.add_assembly.Goals as goal
 
 pub returns-in_ok-is_full-in-Assembly-clause-grown :

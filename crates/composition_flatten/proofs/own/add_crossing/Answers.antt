@@ -1,7 +1,7 @@
 use Rattle.std.proofs.Common.{◌∙◌}
-use Rattle.composition_flatten.specs.Ends.{ends, inner_ends}
-use Rattle.composition_flatten.specs.Gates.{gate_ends}
-use Rattle.composition_flatten.proofs.Growth.{cross_at, no_providers, no_requesters}
+use Rattle.composition_tables.specs.Ends.{ends, inner_ends}
+use Rattle.end_search.specs.Gates.{gate_ends}
+use Rattle.end_crossing.proofs.SamePorts.{cross_at, no_providers, no_requesters}
 use Rattle.composition_flatten.proofs.own.add_crossing.Goals as goal
 
 pub returns-in_ok-is_full-in-Some-inner_gate-clause-grown :

@@ -1,7 +1,7 @@
 use Rattle.std.proofs.Common.{take, false}
-use Rattle.composition_flatten.specs.Growing.{AnyOf, Grown}
+use Rattle.composition_tables.specs.Growing.{AnyOf, Grown}
 use Rattle.composition_flatten.specs.Links.{IsAssemblyLink}
-use Rattle.composition_flatten.specs.Matching.{IsAdding}
+use Rattle.end_crossing.specs.Crossings.{IsAdding}
 use Rattle.composition_flatten.proofs.own.add_own.Given as goal
 
 abbrev pub invariant-loop-connector : goal.invariant-loop-connector

@@ -1,6 +1,7 @@
 use Rattle.std.proofs.Common.{ap, Some}
-use Rattle.composition_flatten.specs.Gates.{gate_ends}
-use Rattle.composition_flatten.specs.Links.{IsCrossLink, outer_link}
+use Rattle.end_search.specs.Gates.{gate_ends}
+use Rattle.end_crossing.specs.PortLinks.{IsCrossLink}
+use Rattle.composition_flatten.specs.Links.{outer_link}
 use Rattle.composition_flatten.proofs.Wholes.{between}
 use Rattle.composition_flatten.proofs.whole.add_by_kind.Goals as goal
 

@@ -1,7 +1,8 @@
 use Rattle.std.proofs.Common.{◌≡◌}
-use Rattle.composition_flatten.specs.declared.links.Link.{Link}
+use Rattle.composition_tables.specs.declared.links.Link.{Link}
 use Rattle.composition_flatten.specs.Links.{link_from}
-use Rattle.composition_flatten.proofs.Growth.{grown_more, grown_full, grown_all, no_link}
+use Rattle.composition_tables.proofs.Growth.{grown_more, grown_full, grown_all}
+use Rattle.composition_flatten.proofs.Assembling.{no_link}
 use Rattle.composition_flatten.proofs.whole.add_from.Goals as goal
 
 pub returns-then-branch : goal.returns-then-branch

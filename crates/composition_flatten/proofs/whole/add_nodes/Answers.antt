@@ -1,7 +1,7 @@
-use Rattle.composition_flatten.specs.declared.nodes.Node.{Node}
+use Rattle.composition_tables.specs.declared.nodes.Node.{Node}
 use Rattle.composition_flatten.specs.Links.{IsNodeLink}
-use Rattle.composition_flatten.proofs.Growth.{grown_more, grown_full, grown_all}
-use Rattle.composition_flatten.proofs.Members.{at}
+use Rattle.composition_tables.proofs.Growth.{grown_more, grown_full, grown_all}
+use Rattle.composition_tables.proofs.Members.{at}
 use Rattle.composition_flatten.proofs.whole.add_nodes.Goals as goal
 
 abbrev no_node : Node

@@ -1,7 +1,7 @@
 use Rattle.std.proofs.Common.{take, false}
-use Rattle.composition_flatten.specs.Growing.{AnyOf, Grown}
+use Rattle.composition_tables.specs.Growing.{AnyOf, Grown}
 use Rattle.composition_flatten.specs.Links.{IsOwn, IsNodeLink}
-use Rattle.composition_flatten.specs.Matching.{IsMatched}
+use Rattle.end_crossing.specs.Crossings.{IsMatched}
 use Rattle.composition_flatten.proofs.whole.add_nodes.Given as goal
 
 abbrev pub invariant-loop-node : goal.invariant-loop-node

@@ -1,8 +1,8 @@
 use Rattle.std.proofs.Common.{ℕ, ◌<◌, false}
-use Rattle.composition_flatten.specs.declared.links.Link.{Link}
-use Rattle.composition_flatten.specs.Growing.{Grown}
+use Rattle.composition_tables.specs.declared.links.Link.{Link}
+use Rattle.composition_tables.specs.Growing.{Grown}
 use Rattle.composition_flatten.specs.Links.{IsOuterLink}
-use Rattle.composition_flatten.specs.Matching.{IsMatched}
+use Rattle.end_crossing.specs.Crossings.{IsMatched}
 use Rattle.composition_flatten.proofs.whole.add_outers.Given as goal
 
 abbrev pub invariant-loop-port : goal.invariant-loop-port

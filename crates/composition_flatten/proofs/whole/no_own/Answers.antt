@@ -1,4 +1,4 @@
-use Rattle.composition_flatten.proofs.ByParts.{no_links}
+use Rattle.composition_flatten.proofs.Assembling.{no_links}
 use Rattle.composition_flatten.proofs.whole.no_own.Goals as goal
 
 pub returns : goal.returns

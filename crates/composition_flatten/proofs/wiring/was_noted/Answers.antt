@@ -1,4 +1,4 @@
-use Rattle.composition_flatten.proofs.Members.{key_iff, key_was}
+use Rattle.composition_tables.proofs.Members.{key_iff, key_was}
 use Rattle.composition_flatten.proofs.SameKeys.{same_key, itself_key}
 use Rattle.composition_flatten.proofs.wiring.was_noted.Goals as goal
 

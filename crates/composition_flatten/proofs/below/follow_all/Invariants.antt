@@ -1,8 +1,0 @@
-use Rattle.composition_flatten.specs.Below.{Stays, IsSearching}
-use Rattle.composition_flatten.proofs.below.follow_all.Given as goal
-
-abbrev pub invariant-loop : goal.invariant-loop
-invariant-loop l = record {
-  stays : Stays l.fn.search l.search;
-  searching : IsSearching l.tree.d.now l.search;
-}

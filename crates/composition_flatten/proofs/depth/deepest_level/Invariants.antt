@@ -1,5 +1,0 @@
-use Rattle.composition_flatten.specs.Levels.{IsLevel}
-use Rattle.composition_flatten.proofs.depth.deepest_level.Given as goal
-
-abbrev pub invariant-loop : goal.invariant-loop
-invariant-loop l = IsLevel l.d l.counter l.level.keys

@@ -1,5 +1,0 @@
-use Rattle.composition_flatten.proofs.Deepest.{level_more}
-use Rattle.composition_flatten.proofs.depth.next_level.Goals as goal
-
-pub returns : goal.returns
-returns c = λ n. level_more c.args.d.now n c.args.level.keys c.as_slice.result.now c.in_ok-next.next.keys c.as_slice.ensures.keys c.in_ok-next.ensures

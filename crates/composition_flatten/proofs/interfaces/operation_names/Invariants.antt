@@ -1,7 +1,0 @@
-use Rattle.std.proofs.Common.{◌≡◌, take}
-use Rattle.composition_flatten.specs.Items.{operation_names}
-use Rattle.composition_flatten.specs.Tables.{names_of}
-use Rattle.composition_flatten.proofs.interfaces.operation_names.Given as goal
-
-abbrev pub invariant-loop-operation : goal.invariant-loop-operation
-invariant-loop-operation l = names_of l.names.items ≡ operation_names (take l.operation-index l.operations)

@@ -1,6 +1,0 @@
-use Rattle.std.proofs.Common.{ℕ, List, take}
-use Rattle.composition_flatten.specs.Sharing.{IsIndexed, AreShared}
-use Rattle.composition_flatten.proofs.partners.partners.Given as goal
-
-abbrev pub invariant-loop-interface : goal.invariant-loop-interface
-invariant-loop-interface l = (others : List ℕ) → IsIndexed l.d others l.index → AreShared l.d (take l.interface-index l.chosen) others l.pairs.keys

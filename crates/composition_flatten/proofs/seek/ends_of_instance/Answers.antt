@@ -1,9 +1,0 @@
-use Rattle.description_types.specs.declared.description.PrototypeType.TheVariants.{Component}
-use Rattle.composition_flatten.specs.Ends.{ends}
-use Rattle.composition_flatten.specs.Wishes.{IsEnd}
-use Rattle.composition_flatten.proofs.Wishing.{found_of}
-use Rattle.composition_flatten.proofs.seek.ends_of_instance.Goals as goal
-
-pub returns : goal.returns
-returns c = found_of c.args.wish.now.wanted (IsEnd c.args.tree.now.d.now c.args.wish.now.wanted 0 (Component c.args.component) c.args.first c.args.port)
-    (ends c.args.tree.now.d.now 0 (Component c.args.component) c.args.first c.args.port) _ c.new-ends.result.keys c.new-ends.ensures.empty (λ x h. h.0) (λ x a h. (a, h)) c.in_ok-is_cut.ensures

@@ -1,8 +1,0 @@
-use Rattle.std.proofs.Common.{◌≡◌, take, false}
-use Rattle.composition_flatten.specs.declared.tree.PortEnd.{PortEnd}
-use Rattle.composition_flatten.specs.Growing.{AnyOf}
-use Rattle.composition_flatten.specs.Wishes.{end_from, Sought}
-use Rattle.composition_flatten.proofs.seek.note_all_moved.Given as goal
-
-abbrev pub invariant-loop-end : goal.invariant-loop-end
-invariant-loop-end l = Sought (AnyOf (λ (y x : PortEnd). x ≡ end_from l.first y) (take l.end-index l.ends)) l.fn.found.keys l.found.keys false

@@ -1,7 +1,0 @@
-use Rattle.composition_flatten.proofs.Members.{key_iff}
-use Rattle.composition_flatten.proofs.SameEnds.{same_end, itself_end}
-use Rattle.composition_flatten.proofs.Wishing.{sought_one}
-use Rattle.composition_flatten.proofs.seek.note_end.Goals as goal
-
-pub returns : goal.returns
-returns c = sought_one c.args.found.now.keys c.insert.new.self.keys c.args.end _ (key_iff _ same_end itself_end c.args.found.now.keys c.args.end c.insert.new.self.keys c.in_ok-insert.ensures.keys)

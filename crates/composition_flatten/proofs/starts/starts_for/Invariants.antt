@@ -1,7 +1,0 @@
-use Rattle.std.proofs.Common.{◌≡◌, ◌++◌, slice_index, drop}
-use Rattle.composition_flatten.specs.Instances.{size_of}
-use Rattle.composition_flatten.specs.Trees.{running, starts_for}
-use Rattle.composition_flatten.proofs.starts.starts_for.Given as goal
-
-abbrev pub invariant-loop-prototype : goal.invariant-loop-prototype
-invariant-loop-prototype l = starts_for l.counts l.composition ≡ l.starts.items ++ running (size_of (slice_index l.counts)) l.total (drop l.prototype-index l.prototype-items)

@@ -1,0 +1,16 @@
+pub mod Adding
+pub mod Counting
+pub mod Deepest
+pub mod FirstOnes
+pub mod Following
+pub mod Growth
+pub mod InItself
+pub mod Members
+pub mod Noding
+pub mod Pairs
+pub mod Reaching
+pub mod SameLinks
+pub mod Sorting
+pub mod Starting
+pub mod Stepping
+pub mod Steps

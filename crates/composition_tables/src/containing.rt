@@ -1,0 +1,80 @@
+//! Compositions that contain themselves.
+
+ghost use Rattle.std.specs.Prelude.{◌≡◌, ◌<◌, ◌↔◌, ℕ, [], ◌∷◌, IfOk, IsTrue, length};
+ghost use Rattle.std.specs.List.{list_any};
+ghost use Rattle.composition_tables.specs.Paths.{prototypes_of, is_composition, ContainsItself};
+ghost use Rattle.composition_tables.specs.Ranks.{IsRanking};
+ghost use Rattle.std.specs.Bool.{OnTrue};
+ghost use Rattle.composition_tables.specs.Firsts.{IsFirst};
+
+use crate::prototypes::holds;
+use crate::ranks::{is_ranking, ranks_of, stands_above};
+use crate::reach::reached;
+use description_types::Description;
+use indexmap::IndexSet;
+use rte_text::Memory;
+use std::alloc::{AllocError, Global};
+
+fn is_held_by_any(d: &Description, holders: &[u32], held: u32) -> bool
+    ensures { result ≡ list_any (λ h. list_any (λ p. is_composition held p.of_type) (prototypes_of d.now h)) holders.now }
+{
+    holders.iter().any(|holder| holds(d, *holder, held))
+}
+
+fn set_of(alloc: Global, composition: u32) -> Result<IndexSet<u32>, Memory>
+    ensures { IfOk result (λ set. set.keys ≡ composition ∷ []) }
+{
+    let mut set = IndexSet::new(alloc);
+    set.insert(composition)?;
+    Ok(set)
+}
+
+fn contains_itself(alloc: Global, d: &Description, composition: u32) -> Result<bool, Memory>
+    requires { composition < length d.now.compositions }
+    ensures { IfOk result (λ answer. IsTrue answer ↔ ContainsItself d.now composition) }
+{
+    let starts = set_of(alloc, composition)?;
+    let below = reached(d, starts)?;
+    Ok(is_held_by_any(d, below.as_slice(), composition))
+}
+
+/// Whether a composition contains itself, directly or through others. Where the ranks are right, its rank may show at once
+/// that it does not.
+fn is_in_itself(
+    alloc: Global,
+    d: &Description,
+    ranks: &[u32],
+    are_ranks: bool,
+    composition: u32,
+) -> Result<bool, Memory>
+    requires declared { composition < length d.now.compositions }
+    requires ranked { OnTrue are_ranks (IsRanking d.now ranks.now) }
+    ensures { IfOk result (λ answer. IsTrue answer ↔ ContainsItself d.now composition) }
+{
+    if are_ranks && stands_above(d, ranks, composition) {
+        return Ok(false);
+    }
+    contains_itself(alloc, d, composition)
+}
+
+/// How many compositions there are. More than a `u32` can number count as want of memory.
+pub fn composition_count(d: &Description) -> Result<u32, Memory>
+    ensures { IfOk result (λ count. count ≡ length d.now.compositions) }
+{
+    u32::try_from(d.compositions.len()).map_err(|_| AllocError)
+}
+
+/// The first composition that contains itself, directly or through others.
+pub fn first_in_itself(alloc: Global, d: &Description) -> Result<Option<u32>, Memory>
+    ensures { IfOk result (λ first. IsFirst (ContainsItself d.now) (length d.now.compositions) first) }
+{
+    let count = composition_count(d)?;
+    let ranks = ranks_of(alloc, d)?;
+    let are_ranks = is_ranking(d, ranks.as_slice(), count);
+    for composition in 0..count {
+        if is_in_itself(alloc, d, ranks.as_slice(), are_ranks, composition)? {
+            return Ok(Some(composition));
+        }
+    }
+    Ok(None)
+}

@@ -1,0 +1,20 @@
+//! What stands in a description, by numbers: which component instances stand at the ends of paths of prototypes, how deep,
+//! and which ports connectors delegate to, with tables that answer such questions at once. The definitions say what paths,
+//! places of instances, connectors and joined items are.
+#![tactic(auto)]
+
+pub mod connectors;
+pub mod containing;
+pub mod counts;
+pub mod delegations;
+pub mod depth;
+pub mod ends;
+pub mod inner;
+pub mod links;
+pub mod multi;
+pub mod nodes;
+pub mod prototypes;
+mod ranks;
+mod reach;
+pub mod starts;
+pub mod tree;

@@ -1,0 +1,28 @@
+-- Links of the same ports.
+use Rattle.std.proofs.Common.{◌≡◌, List, [], Bool, false, ◌↔◌, sym, subst}
+use Rattle.description_types.specs.declared.description.Description.{Description}
+use Rattle.composition_tables.specs.declared.links.Link.{Link}
+use Rattle.composition_tables.specs.declared.tree.PortEnd.{PortEnd}
+use Rattle.end_crossing.specs.PortLinks.{IsCrossLink}
+use Rattle.composition_tables.specs.Growing.{Grown}
+use Rattle.composition_tables.specs.Members.{Among}
+use Rattle.composition_tables.proofs.Growth.{grown_same, grown_none}
+
+-- the links of the same ports
+pub cross_same : (d : Description) (ps qs first ps2 qs2 second : List PortEnd) (before after : List Link) (is_full : Bool) → first ≡ ps → second ≡ qs
+    → ((x : PortEnd) → Among x ps ↔ Among x ps2) → ((x : PortEnd) → Among x qs ↔ Among x qs2) → Grown (IsCrossLink d first second) before after is_full → Grown (IsCrossLink d ps2 qs2) before after is_full
+cross_same d ps qs first ps2 qs2 second before after is_full first_is second_is left_same right_same g =
+    grown_same (IsCrossLink d ps qs) (IsCrossLink d ps2 qs2) before after is_full
+    (λ x a. (a.0, (left_same a.0).0 a.1, (a.2.0, (right_same a.2.0).0 a.2.1, a.2.2)))
+    (λ x a. (a.0, (left_same a.0).1 a.1, (a.2.0, (right_same a.2.0).1 a.2.1, a.2.2)))
+    (subst (λ l. Grown (IsCrossLink d ps l) before after is_full) second_is (subst (λ l. Grown (IsCrossLink d l second) before after is_full) first_is g))
+
+-- the links of equal lists of ports, and of none
+pub cross_at : (d : Description) (ps qs ps2 qs2 : List PortEnd) (before after : List Link) (is_full : Bool) → ps ≡ ps2 → qs ≡ qs2 → Grown (IsCrossLink d ps qs) before after is_full → Grown (IsCrossLink d ps2 qs2) before after is_full
+cross_at d ps qs ps2 qs2 before after is_full first second g = subst (λ l. Grown (IsCrossLink d ps2 l) before after is_full) second (subst (λ l. Grown (IsCrossLink d l qs) before after is_full) first g)
+
+pub no_providers : (d : Description) (ps qs : List PortEnd) (list : List Link) → [] ≡ ps → Grown (IsCrossLink d ps qs) list list false
+no_providers d ps qs list none = grown_none (IsCrossLink d ps qs) list (λ x a. subst (Among a.0) (sym none) a.1)
+
+pub no_requesters : (d : Description) (ps qs : List PortEnd) (list : List Link) → [] ≡ qs → Grown (IsCrossLink d ps qs) list list false
+no_requesters d ps qs list none = grown_none (IsCrossLink d ps qs) list (λ x a. subst (Among a.2.0) (sym none) a.2.1)

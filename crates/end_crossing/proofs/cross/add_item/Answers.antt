@@ -1,0 +1,7 @@
+use Rattle.std.proofs.Common.{◌≡◌, subst}
+use Rattle.composition_tables.specs.declared.links.Link.{Link}
+use Rattle.composition_tables.specs.Growing.{Grown}
+use Rattle.end_crossing.proofs.cross.add_item.Goals as goal
+
+pub returns : goal.returns
+returns c = subst (λ (y : Link). Grown (λ x. x ≡ y) c.args.links.now.keys c.add_link.new.links.keys c.in_ok-is_full.is_full) c.link_of.ensures c.in_ok-is_full.ensures

@@ -1,0 +1,11 @@
+use Rattle.std.proofs.Common.{take, false}
+use Rattle.composition_tables.specs.Growing.{AnyOf, Grown}
+use Rattle.end_crossing.specs.PortLinks.{IsPairLink}
+use Rattle.end_crossing.specs.Crossings.{IsAdding}
+use Rattle.end_crossing.proofs.rows.add_rows.Given as goal
+
+abbrev pub invariant-loop-end : goal.invariant-loop-end
+invariant-loop-end l = record {
+  matched : IsAdding l.d l.matched l.links.keys;
+  grown : Grown (AnyOf (λ p. AnyOf (IsPairLink l.d p) l.second) (take l.end-index l.first)) l.fn.links.keys l.links.keys false;
+}

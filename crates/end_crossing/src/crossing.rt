@@ -1,0 +1,292 @@
+//! Links of the ports below two gates.
+
+ghost use Rattle.std.specs.Prelude.{◌≡◌, ℕ, IfOk, IfSome, IfNone, OnOk};
+ghost use Rattle.end_search.specs.Gates.{gate_ends, IsShallow};
+ghost use Rattle.composition_tables.specs.Growing.{Grown};
+ghost use Rattle.end_crossing.specs.PortLinks.{IsCrossLink};
+ghost use Rattle.end_crossing.specs.Crossings.{HasPairs, IsAdding, IsPart};
+ghost use Rattle.end_search.specs.Sides.{IsSide};
+ghost use Rattle.composition_tables.specs.Members.{Among};
+ghost use Rattle.composition_tables.specs.Trees.{IsTree};
+
+use crate::completing::complete_all;
+use crate::cross::{add_grouped, cross};
+use crate::matched::Matched;
+use crate::rows::add_known;
+use composition_tables::links::{LINK_LIMIT, Link};
+use composition_tables::tree::Tree;
+use end_search::gates::{Gate, ends_at};
+use end_search::seek::{Wanted, Wish};
+use end_search::sides::Side;
+use indexmap::IndexSet;
+use rte_text::Memory;
+use std::alloc::{AllocError, Global};
+use std::collections::BTreeSet;
+
+fn note_interface(interface: u32, found: &mut IndexSet<u32>) -> Result<(), Memory>
+    ensures stays { OnOk result ((i : ℕ) → Among i found.old.keys → Among i found.new.keys) }
+    ensures has { OnOk result (Among interface found.new.keys) }
+{
+    found.insert(interface)?;
+    Ok(())
+}
+
+/// The provided interfaces of pairs.
+fn firsts_of(alloc: Global, pairs: &[(u32, u32)]) -> Result<IndexSet<u32>, Memory>
+    ensures { IfOk result (λ found. (k : ℕ × ℕ) → Among k pairs.now → Among k.0 found.keys) }
+{
+    let mut found = IndexSet::new(alloc);
+    for pair in pairs {
+        note_interface(pair.0, &mut found)?;
+    }
+    Ok(found)
+}
+
+/// The required interfaces of pairs.
+fn seconds_of(alloc: Global, pairs: &[(u32, u32)]) -> Result<IndexSet<u32>, Memory>
+    ensures { IfOk result (λ found. (k : ℕ × ℕ) → Among k pairs.now → Among k.1 found.keys) }
+{
+    let mut found = IndexSet::new(alloc);
+    for pair in pairs {
+        note_interface(pair.1, &mut found)?;
+    }
+    Ok(found)
+}
+
+/// Adds the links of the ports below two gates, given which pairs of their interfaces share an item, after searches that
+/// are cut short past a limit. The answer is whether there are more links now than the limit on them; none where that is not
+/// known yet.
+fn add_within(
+    alloc: Global,
+    tree: &Tree,
+    provided: Gate,
+    required: Gate,
+    pairs: &[(u32, u32)],
+    limit: usize,
+    matched: &mut Matched,
+    links: &mut BTreeSet<Link>,
+) -> Result<Option<bool>, Memory>
+    requires is_tree { IsTree tree.now }
+    requires provided { IsShallow provided }
+    requires required { IsShallow required }
+    requires matched { IsAdding tree.now.d.now matched.old links.old.keys }
+    requires pairs { HasPairs tree.now.d.now (gate_ends tree.now.d.now provided) (gate_ends tree.now.d.now required) pairs.now }
+    ensures matched { OnOk result (IsAdding tree.now.d.now matched.new links.new.keys) }
+    ensures grown { IfOk result (λ answer. IfSome answer (Grown (IsCrossLink tree.now.d.now (gate_ends tree.now.d.now provided) (gate_ends tree.now.d.now required)) links.old.keys links.new.keys)) }
+    ensures part { IfOk result (λ answer. IfNone answer (IsPart (IsCrossLink tree.now.d.now (gate_ends tree.now.d.now provided) (gate_ends tree.now.d.now required)) links.old.keys links.new.keys)) }
+{
+    let firsts = firsts_of(alloc, pairs)?;
+    let seconds = seconds_of(alloc, pairs)?;
+    let first_wish = Wish {
+        wanted: Wanted::Only(firsts),
+        limit,
+    };
+    let second_wish = Wish {
+        wanted: Wanted::Only(seconds),
+        limit,
+    };
+    let first = ends_at(alloc, tree, provided, &first_wish)?;
+    let second = ends_at(alloc, tree, required, &second_wish)?;
+    let is_full = cross(
+        alloc,
+        tree.d,
+        first.ends.as_slice(),
+        second.ends.as_slice(),
+        pairs,
+        matched,
+        links,
+    )?;
+    if is_full {
+        return Ok(Some(true));
+    }
+    if first.is_cut || second.is_cut {
+        return Ok(None);
+    }
+    Ok(Some(false))
+}
+
+/// Adds the links of the ports below two gates, given which pairs of their interfaces share an item, however many ports
+/// there are.
+fn add_whole(
+    alloc: Global,
+    tree: &Tree,
+    provided: Gate,
+    required: Gate,
+    pairs: &[(u32, u32)],
+    matched: &mut Matched,
+    links: &mut BTreeSet<Link>,
+) -> Result<bool, Memory>
+    requires is_tree { IsTree tree.now }
+    requires provided { IsShallow provided }
+    requires required { IsShallow required }
+    requires matched { IsAdding tree.now.d.now matched.old links.old.keys }
+    requires pairs { HasPairs tree.now.d.now (gate_ends tree.now.d.now provided) (gate_ends tree.now.d.now required) pairs.now }
+    ensures matched { OnOk result (IsAdding tree.now.d.now matched.new links.new.keys) }
+    ensures grown { IfOk result (λ is_full. Grown (IsCrossLink tree.now.d.now (gate_ends tree.now.d.now provided) (gate_ends tree.now.d.now required)) links.old.keys links.new.keys is_full) }
+{
+    match add_within(
+        alloc,
+        tree,
+        provided,
+        required,
+        pairs,
+        usize::MAX,
+        matched,
+        links,
+    )? {
+        Some(is_full) => Ok(is_full),
+        None => Err(AllocError),
+    }
+}
+
+/// Adds the links of the ports below two gates, given which pairs of their interfaces share an item, where not all ports
+/// are at hand. More of those that share one than there may be links mostly show that there are too many links.
+fn add_rest(
+    alloc: Global,
+    tree: &Tree,
+    provided: Gate,
+    required: Gate,
+    pairs: &[(u32, u32)],
+    matched: &mut Matched,
+    links: &mut BTreeSet<Link>,
+) -> Result<bool, Memory>
+    requires is_tree { IsTree tree.now }
+    requires provided { IsShallow provided }
+    requires required { IsShallow required }
+    requires matched { IsAdding tree.now.d.now matched.old links.old.keys }
+    requires pairs { HasPairs tree.now.d.now (gate_ends tree.now.d.now provided) (gate_ends tree.now.d.now required) pairs.now }
+    ensures matched { OnOk result (IsAdding tree.now.d.now matched.new links.new.keys) }
+    ensures grown { IfOk result (λ is_full. Grown (IsCrossLink tree.now.d.now (gate_ends tree.now.d.now provided) (gate_ends tree.now.d.now required)) links.old.keys links.new.keys is_full) }
+{
+    let near = add_within(
+        alloc, tree, provided, required, pairs, LINK_LIMIT, matched, links,
+    )?;
+    match near {
+        Some(is_full) => Ok(is_full),
+        None => {
+            let is_full = add_whole(alloc, tree, provided, required, pairs, matched, links)?;
+            Ok(is_full)
+        }
+    }
+}
+
+/// The same where not all ports are at hand. Those at hand are joined first: where there are more of them, there are mostly
+/// too many links.
+fn add_cut(
+    alloc: Global,
+    tree: &Tree,
+    provided: Gate,
+    required: Gate,
+    first: &Side,
+    second: &Side,
+    pairs: &[(u32, u32)],
+    matched: &mut Matched,
+    links: &mut BTreeSet<Link>,
+) -> Result<bool, Memory>
+    requires is_tree { IsTree tree.now }
+    requires provided { IsShallow provided }
+    requires required { IsShallow required }
+    requires first { IsSide tree.now.d.now provided first.now }
+    requires second { IsSide tree.now.d.now required second.now }
+    requires matched { IsAdding tree.now.d.now matched.old links.old.keys }
+    requires pairs { HasPairs tree.now.d.now (gate_ends tree.now.d.now provided) (gate_ends tree.now.d.now required) pairs.now }
+    ensures matched { OnOk result (IsAdding tree.now.d.now matched.new links.new.keys) }
+    ensures grown { IfOk result (λ is_full. Grown (IsCrossLink tree.now.d.now (gate_ends tree.now.d.now provided) (gate_ends tree.now.d.now required)) links.old.keys links.new.keys is_full) }
+{
+    if add_grouped(
+        alloc,
+        tree.d,
+        pairs,
+        &first.groups,
+        &second.groups,
+        matched,
+        links,
+    )? {
+        return Ok(true);
+    }
+    let is_full = add_rest(alloc, tree, provided, required, pairs, matched, links)?;
+    Ok(is_full)
+}
+
+/// Adds the links of the ports below two gates, given which pairs of their interfaces share an item.
+fn add_shared(
+    alloc: Global,
+    tree: &Tree,
+    provided: Gate,
+    required: Gate,
+    first: &mut Side,
+    second: &mut Side,
+    pairs: &[(u32, u32)],
+    matched: &mut Matched,
+    links: &mut BTreeSet<Link>,
+) -> Result<bool, Memory>
+    requires is_tree { IsTree tree.now }
+    requires provided { IsShallow provided }
+    requires required { IsShallow required }
+    requires first { IsSide tree.now.d.now provided first.old }
+    requires second { IsSide tree.now.d.now required second.old }
+    requires matched { IsAdding tree.now.d.now matched.old links.old.keys }
+    requires pairs { HasPairs tree.now.d.now (gate_ends tree.now.d.now provided) (gate_ends tree.now.d.now required) pairs.now }
+    ensures first { OnOk result (IsSide tree.now.d.now provided first.new) }
+    ensures second { OnOk result (IsSide tree.now.d.now required second.new) }
+    ensures matched { OnOk result (IsAdding tree.now.d.now matched.new links.new.keys) }
+    ensures grown { IfOk result (λ is_full. Grown (IsCrossLink tree.now.d.now (gate_ends tree.now.d.now provided) (gate_ends tree.now.d.now required)) links.old.keys links.new.keys is_full) }
+{
+    let firsts = firsts_of(alloc, pairs)?;
+    let seconds = seconds_of(alloc, pairs)?;
+    let has_firsts = complete_all(alloc, tree, provided, firsts.as_slice(), first)?;
+    let has_seconds = complete_all(alloc, tree, required, seconds.as_slice(), second)?;
+    if has_firsts && has_seconds {
+        let is_full = add_known(
+            alloc,
+            tree.d,
+            provided,
+            required,
+            pairs,
+            &first.groups,
+            &second.groups,
+            matched,
+            links,
+        )?;
+        return Ok(is_full);
+    }
+    let is_full = add_cut(
+        alloc, tree, provided, required, first, second, pairs, matched, links,
+    )?;
+    Ok(is_full)
+}
+
+/// Adds the links of the ports below two gates, by what is below each.
+pub fn add_sides(
+    alloc: Global,
+    tree: &Tree,
+    provided: Gate,
+    required: Gate,
+    matched: &mut Matched,
+    links: &mut BTreeSet<Link>,
+) -> Result<bool, Memory>
+    requires is_tree { IsTree tree.now }
+    requires provided { IsShallow provided }
+    requires required { IsShallow required }
+    requires matched { IsAdding tree.now.d.now matched.old links.old.keys }
+    ensures matched { OnOk result (IsAdding tree.now.d.now matched.new links.new.keys) }
+    ensures grown { IfOk result (λ is_full. Grown (IsCrossLink tree.now.d.now (gate_ends tree.now.d.now provided) (gate_ends tree.now.d.now required)) links.old.keys links.new.keys is_full) }
+{
+    let mut first = matched.take_side(alloc, tree, provided)?;
+    let mut second = matched.take_side(alloc, tree, required)?;
+    let pairs = matched.pairs(alloc, tree.d, &first, &second)?;
+    let is_full = add_shared(
+        alloc,
+        tree,
+        provided,
+        required,
+        &mut first,
+        &mut second,
+        pairs.as_slice(),
+        matched,
+        links,
+    )?;
+    matched.keep_side(tree.d, provided, first)?;
+    matched.keep_side(tree.d, required, second)?;
+    Ok(is_full)
+}

@@ -1,0 +1,243 @@
+//! Links of the ports below two gates, part by part.
+
+ghost use Rattle.std.specs.Prelude.{◌≡◌, ◌≤◌, IfOk, OnOk};
+ghost use Rattle.composition_tables.specs.Ends.{ends, inner_ends};
+ghost use Rattle.end_search.specs.Gates.{gate_ends, IsShallow};
+ghost use Rattle.composition_tables.specs.Growing.{Grown};
+ghost use Rattle.end_crossing.specs.PortLinks.{IsCrossLink};
+ghost use Rattle.end_crossing.specs.Crossings.{IsAdding};
+ghost use Rattle.end_crossing.specs.Parts.{part_ends};
+ghost use Rattle.composition_tables.specs.Trees.{IsTree};
+
+use crate::crossing::add_sides;
+use crate::crossings::Crossing;
+use crate::matched::Matched;
+use crate::parts::{Parts, parts_of};
+use composition_tables::counts::DEPTH_LIMIT;
+use composition_tables::links::Link;
+use composition_tables::tree::Tree;
+use description_types::InnerPort;
+use end_search::gates::{Gate, inner_gate, narrowed};
+use rte_text::Memory;
+use std::alloc::Global;
+use std::collections::BTreeSet;
+
+/// How often two gates are split at most, one after the other.
+const SPLITS: usize = 2 * DEPTH_LIMIT;
+
+/// Adds the links of the ports below an inner port of a provided gate.
+#[cycle(splitting)]
+fn cross_provided_part(
+    alloc: Global,
+    tree: &Tree,
+    splits: usize,
+    parts: &Parts,
+    inner: InnerPort,
+    required: Gate,
+    matched: &mut Matched,
+    links: &mut BTreeSet<Link>,
+) -> Result<bool, Memory>
+    requires is_tree { IsTree tree.now }
+    requires within { parts.now.depth ≤ 8 }
+    requires required { IsShallow required }
+    requires matched { IsAdding tree.now.d.now matched.old links.old.keys }
+    ensures matched { OnOk result (IsAdding tree.now.d.now matched.new links.new.keys) }
+    ensures grown { IfOk result (λ is_full. Grown (IsCrossLink tree.now.d.now (inner_ends tree.now.d.now parts.now.depth (ends tree.now.d.now parts.now.depth) parts.now.composition parts.now.first inner) (gate_ends tree.now.d.now required)) links.old.keys links.new.keys is_full) }
+{
+    match inner_gate(tree, parts.depth, parts.composition, parts.first, inner) {
+        Some(gate) => {
+            let part = narrowed(tree, gate);
+            let is_full = cross_once(alloc, tree, splits, part, required, matched, links)?;
+            Ok(is_full)
+        }
+        None => Ok(false),
+    }
+}
+
+#[cycle(splitting)]
+fn cross_provided_parts(
+    alloc: Global,
+    tree: &Tree,
+    splits: usize,
+    parts: &Parts,
+    required: Gate,
+    matched: &mut Matched,
+    links: &mut BTreeSet<Link>,
+) -> Result<bool, Memory>
+    requires is_tree { IsTree tree.now }
+    requires within { parts.now.depth ≤ 8 }
+    requires required { IsShallow required }
+    requires matched { IsAdding tree.now.d.now matched.old links.old.keys }
+    ensures matched { OnOk result (IsAdding tree.now.d.now matched.new links.new.keys) }
+    ensures grown { IfOk result (λ is_full. Grown (IsCrossLink tree.now.d.now (part_ends tree.now.d.now parts.now) (gate_ends tree.now.d.now required)) links.old.keys links.new.keys is_full) }
+{
+    for inner in parts.ports {
+        if cross_provided_part(alloc, tree, splits, parts, *inner, required, matched, links)? {
+            return Ok(true);
+        }
+    }
+    Ok(false)
+}
+
+/// Adds the links of the ports below an inner port of a required gate.
+#[cycle(splitting)]
+fn cross_required_part(
+    alloc: Global,
+    tree: &Tree,
+    splits: usize,
+    provided: Gate,
+    parts: &Parts,
+    inner: InnerPort,
+    matched: &mut Matched,
+    links: &mut BTreeSet<Link>,
+) -> Result<bool, Memory>
+    requires is_tree { IsTree tree.now }
+    requires within { parts.now.depth ≤ 8 }
+    requires provided { IsShallow provided }
+    requires matched { IsAdding tree.now.d.now matched.old links.old.keys }
+    ensures matched { OnOk result (IsAdding tree.now.d.now matched.new links.new.keys) }
+    ensures grown { IfOk result (λ is_full. Grown (IsCrossLink tree.now.d.now (gate_ends tree.now.d.now provided) (inner_ends tree.now.d.now parts.now.depth (ends tree.now.d.now parts.now.depth) parts.now.composition parts.now.first inner)) links.old.keys links.new.keys is_full) }
+{
+    match inner_gate(tree, parts.depth, parts.composition, parts.first, inner) {
+        Some(gate) => {
+            let part = narrowed(tree, gate);
+            let is_full = cross_once(alloc, tree, splits, provided, part, matched, links)?;
+            Ok(is_full)
+        }
+        None => Ok(false),
+    }
+}
+
+#[cycle(splitting)]
+fn cross_required_parts(
+    alloc: Global,
+    tree: &Tree,
+    splits: usize,
+    provided: Gate,
+    parts: &Parts,
+    matched: &mut Matched,
+    links: &mut BTreeSet<Link>,
+) -> Result<bool, Memory>
+    requires is_tree { IsTree tree.now }
+    requires within { parts.now.depth ≤ 8 }
+    requires provided { IsShallow provided }
+    requires matched { IsAdding tree.now.d.now matched.old links.old.keys }
+    ensures matched { OnOk result (IsAdding tree.now.d.now matched.new links.new.keys) }
+    ensures grown { IfOk result (λ is_full. Grown (IsCrossLink tree.now.d.now (gate_ends tree.now.d.now provided) (part_ends tree.now.d.now parts.now)) links.old.keys links.new.keys is_full) }
+{
+    for inner in parts.ports {
+        if cross_required_part(alloc, tree, splits, provided, parts, *inner, matched, links)? {
+            return Ok(true);
+        }
+    }
+    Ok(false)
+}
+
+/// Adds the links of the ports below two gates. The one of less parts is split, where one is split at all.
+#[cycle(splitting)]
+fn cross_split(
+    alloc: Global,
+    tree: &Tree,
+    splits: usize,
+    provided: Gate,
+    required: Gate,
+    matched: &mut Matched,
+    links: &mut BTreeSet<Link>,
+) -> Result<bool, Memory>
+    requires is_tree { IsTree tree.now }
+    requires provided { IsShallow provided }
+    requires required { IsShallow required }
+    requires matched { IsAdding tree.now.d.now matched.old links.old.keys }
+    ensures matched { OnOk result (IsAdding tree.now.d.now matched.new links.new.keys) }
+    ensures grown { IfOk result (λ is_full. Grown (IsCrossLink tree.now.d.now (gate_ends tree.now.d.now provided) (gate_ends tree.now.d.now required)) links.old.keys links.new.keys is_full) }
+{
+    if splits == 0 || matched.has_crossed_much() {
+        let is_full = add_sides(alloc, tree, provided, required, matched, links)?;
+        return Ok(is_full);
+    }
+    let splits = splits - 1;
+    match parts_of(tree, provided) {
+        Some(first) => match parts_of(tree, required) {
+            Some(second) => {
+                if second.ports.len() < first.ports.len() {
+                    let is_full = cross_required_parts(
+                        alloc, tree, splits, provided, &second, matched, links,
+                    )?;
+                    return Ok(is_full);
+                }
+                let is_full = cross_provided_parts(
+                    alloc, tree, splits, &first, required, matched, links,
+                )?;
+                Ok(is_full)
+            }
+            None => {
+                let is_full = cross_provided_parts(
+                    alloc, tree, splits, &first, required, matched, links,
+                )?;
+                Ok(is_full)
+            }
+        },
+        None => match parts_of(tree, required) {
+            Some(second) => {
+                let is_full = cross_required_parts(
+                    alloc, tree, splits, provided, &second, matched, links,
+                )?;
+                Ok(is_full)
+            }
+            None => {
+                let is_full = add_sides(alloc, tree, provided, required, matched, links)?;
+                Ok(is_full)
+            }
+        },
+    }
+}
+
+/// Adds the links of the ports below two gates, unless they were added before.
+#[cycle(splitting)]
+fn cross_once(
+    alloc: Global,
+    tree: &Tree,
+    splits: usize,
+    provided: Gate,
+    required: Gate,
+    matched: &mut Matched,
+    links: &mut BTreeSet<Link>,
+) -> Result<bool, Memory>
+    requires is_tree { IsTree tree.now }
+    requires provided { IsShallow provided }
+    requires required { IsShallow required }
+    requires matched { IsAdding tree.now.d.now matched.old links.old.keys }
+    ensures matched { OnOk result (IsAdding tree.now.d.now matched.new links.new.keys) }
+    ensures grown { IfOk result (λ is_full. Grown (IsCrossLink tree.now.d.now (gate_ends tree.now.d.now provided) (gate_ends tree.now.d.now required)) links.old.keys links.new.keys is_full) }
+{
+    let crossing = Crossing::Gates(provided, required);
+    if matched.is_crossed(crossing) {
+        return Ok(false);
+    }
+    if cross_split(alloc, tree, splits, provided, required, matched, links)? {
+        return Ok(true);
+    }
+    matched.note_crossed(crossing)?;
+    Ok(false)
+}
+
+/// Adds the links of the ports below two gates, unless they were added before. The answer is whether there are more links
+/// now than the limit; then the rest may be missing.
+pub fn cross_gates(
+    alloc: Global,
+    tree: &Tree,
+    provided: Gate,
+    required: Gate,
+    matched: &mut Matched,
+    links: &mut BTreeSet<Link>,
+) -> Result<bool, Memory>
+    requires is_tree { IsTree tree.now }
+    requires provided { IsShallow provided }
+    requires required { IsShallow required }
+    requires matched { IsAdding tree.now.d.now matched.old links.old.keys }
+    ensures matched { OnOk result (IsAdding tree.now.d.now matched.new links.new.keys) }
+    ensures grown { IfOk result (λ is_full. Grown (IsCrossLink tree.now.d.now (gate_ends tree.now.d.now provided) (gate_ends tree.now.d.now required)) links.old.keys links.new.keys is_full) }
+{
+    let is_full = cross_once(alloc, tree, SPLITS, provided, required, matched, links)?;
+    Ok(is_full)
+}

@@ -1,0 +1,13 @@
+use Rattle.std.proofs.Common.{refl, sym, subst}
+use Rattle.composition_tables.specs.Members.{Among}
+use Rattle.end_search.specs.Sharing.{IsIndexed}
+use Rattle.end_search.proofs.sides.side_of.Goals as goal
+
+pub returns : goal.returns
+returns c = record {
+  covers = c.in_ok-interfaces.ensures;
+  indexed = subst (λ l. IsIndexed c.args.tree.now.d.now l c.in_ok-index.index) c.as_slice.ensures.keys c.in_ok-index.ensures;
+  sound = λ q x h. let g = (c.in_ok-groups.ensures q x).0 h in (c.in_ok-found.ensures.sound x (subst (Among x) c.as_slice-2.ensures.keys g.0), g.1);
+  whole = λ all x a. (c.in_ok-groups.ensures x.interface x).1 (subst (Among x) (sym c.as_slice-2.ensures.keys) (c.in_ok-found.ensures.whole all x a tt), refl);
+  known = λ q k. absurd (subst (Among q) c.new.ensures.empty k);
+}

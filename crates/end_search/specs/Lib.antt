@@ -1,0 +1,7 @@
+pub mod Below
+pub mod Gates
+pub mod Matching
+pub mod Sharing
+pub mod Sides
+pub mod Tables
+pub mod Wishes

@@ -1,0 +1,18 @@
+-- How the joined items of two interfaces are found.
+use Rattle.std.specs.Prelude.{◌≡◌, ◌↔◌, ℕ, List, map}
+use Rattle.description_types.specs.declared.description.Description.{Description}
+use Rattle.end_search.specs.declared.interfaces.Listed.{Listed}
+use Rattle.composition_tables.specs.Items.{interface_at, ItemsJoin}
+use Rattle.composition_tables.specs.Members.{Among}
+
+-- these are the interfaces of the description
+abbrev pub AreListed : Description → List Listed → Type 0
+AreListed d list = map (λ (x : Listed). x.kind.now) list ≡ map (λ x. x.kind) d.types.interfaces
+
+-- the pairs the other way round
+abbrev pub turned : List (ℕ × ℕ) → List (ℕ × ℕ)
+turned pairs = map (λ (p : ℕ × ℕ). (p.1, p.0)) pairs
+
+-- the pairs are exactly the items of the two interfaces that are joined
+abbrev pub AreMatches : Description → ℕ → ℕ → List (ℕ × ℕ) → Type 0
+AreMatches d provided required pairs = (i j : ℕ) → Among (i, j) pairs ↔ ItemsJoin (interface_at d provided) (interface_at d required) i j

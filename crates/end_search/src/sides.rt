@@ -1,0 +1,100 @@
+//! What is below gates: ends and their interfaces, and which of these share an item.
+
+ghost use Rattle.std.specs.Prelude.{◌≡◌, IfOk};
+ghost use Rattle.end_search.specs.Gates.{IsShallow};
+ghost use Rattle.end_search.specs.Matching.{AreListed};
+ghost use Rattle.end_search.specs.Sides.{IsSide};
+ghost use Rattle.end_search.specs.Sharing.{IsIndexed, AreShared};
+ghost use Rattle.composition_tables.specs.Trees.{IsTree};
+
+use crate::below::interfaces_below;
+use crate::gates::{Gate, ends_at};
+use crate::groups::{Groups, groups_of};
+use crate::interfaces::Listed;
+use crate::matches::turned;
+use crate::partners::{Index, index_of, partners};
+use crate::seek::{Wanted, Wish};
+use composition_tables::links::LINK_LIMIT;
+use composition_tables::tree::Tree;
+use description_types::Description;
+use indexmap::IndexSet;
+use rte_text::Memory;
+use std::alloc::Global;
+
+/// What is below a gate.
+#[derive(Drop)]
+pub struct Side<'a> {
+    /// The interfaces of the ports.
+    pub interfaces: IndexSet<u32>,
+    /// For each key of their items those that have it.
+    pub index: Index<'a>,
+    /// The ends, for each interface.
+    pub groups: Groups,
+    /// How many ends there are in the groups.
+    pub count: usize,
+    /// Whether there are more ends. Then the groups have more than there may be links.
+    pub is_cut: bool,
+    /// The interfaces of which all ends are in the groups all the same.
+    pub known: IndexSet<u32>,
+}
+
+/// How many interfaces and ends a side has.
+pub fn weight(side: &Side) -> usize {
+    side.interfaces.len().saturating_add(side.count)
+}
+
+/// What is below a gate.
+pub fn side_of<'a>(
+    alloc: Global,
+    tree: &Tree,
+    gate: Gate,
+    listed: &[Listed<'a>],
+) -> Result<Side<'a>, Memory>
+    requires is_tree { IsTree tree.now }
+    requires shallow { IsShallow gate }
+    requires listed { AreListed tree.now.d.now listed.now }
+    ensures { IfOk result (λ side. IsSide tree.now.d.now gate side) }
+{
+    let interfaces = interfaces_below(alloc, tree, gate)?;
+    let index = index_of(alloc, tree.d, listed, interfaces.as_slice())?;
+    let wish = Wish {
+        wanted: Wanted::Anything,
+        limit: LINK_LIMIT,
+    };
+    let found = ends_at(alloc, tree, gate, &wish)?;
+    let groups = groups_of(alloc, found.ends.as_slice())?;
+    Ok(Side {
+        interfaces,
+        index,
+        groups,
+        count: found.ends.len(),
+        is_cut: found.is_cut,
+        known: IndexSet::new(alloc),
+    })
+}
+
+/// The pairs of an interface of a provided side and one of a required side that share an item. The side with less interfaces
+/// is walked, so that a large one costs nothing beside a small one.
+pub fn shared(
+    alloc: Global,
+    d: &Description,
+    listed: &[Listed],
+    provided: &Side,
+    required: &Side,
+) -> Result<Vec<(u32, u32)>, Memory>
+    requires listed { AreListed d.now listed.now }
+    requires provided { IsIndexed d.now provided.now.interfaces.keys provided.now.index }
+    requires required { IsIndexed d.now required.now.interfaces.keys required.now.index }
+    ensures { IfOk result (λ pairs. AreShared d.now provided.now.interfaces.keys required.now.interfaces.keys pairs.items) }
+{
+    if provided.interfaces.len() <= required.interfaces.len() {
+        let interfaces = provided.interfaces.as_slice();
+        let pairs = partners(alloc, d, listed, interfaces, &required.index)?;
+        let list = Vec::from_slice(alloc, pairs.as_slice())?;
+        return Ok(list);
+    }
+    let interfaces = required.interfaces.as_slice();
+    let pairs = partners(alloc, d, listed, interfaces, &provided.index)?;
+    let list = turned(alloc, pairs.as_slice())?;
+    Ok(list)
+}
