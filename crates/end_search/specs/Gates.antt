@@ -7,7 +7,6 @@ use Rattle.end_search.specs.declared.gates.Gate.TheVariants.{Outer, Component, C
 use Rattle.composition_tables.specs.declared.tree.Owner.TheVariants.{Environment}
 use Rattle.composition_tables.specs.declared.tree.PortEnd.{PortEnd}
 use Rattle.composition_tables.specs.Ends.{ends}
-use Rattle.description_types.specs.declared.description.PrototypeType.TheVariants.{Composition}
 
 -- the ends at or below a gate
 abbrev pub gate_ends : Description → Gate → List PortEnd

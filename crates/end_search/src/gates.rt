@@ -5,8 +5,7 @@ ghost use Rattle.std.specs.Option.{option_map_or};
 ghost use Rattle.end_search.specs.declared.seek.Wanted.{Wanted};
 ghost use Rattle.composition_tables.specs.Ends.{ends, inner_ends};
 ghost use Rattle.end_search.specs.Wishes.{AreFound};
-ghost use Rattle.end_search.specs.Gates.{gate_ends, IsShallow};
-ghost use Rattle.end_search.specs.Gates.{outer_ends};
+ghost use Rattle.end_search.specs.Gates.{gate_ends, IsShallow, outer_ends};
 ghost use Rattle.composition_tables.specs.Trees.{IsTree};
 ghost use Rattle.description_types.specs.declared.description.Description.{Description};
 

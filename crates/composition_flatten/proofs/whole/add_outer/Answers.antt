@@ -1,7 +1,6 @@
 use Rattle.std.proofs.Common.{◌∙◌, ◌↔◌, List, Some, refl, sym, subst}
 use Rattle.composition_tables.specs.declared.tree.PortEnd.{PortEnd}
-use Rattle.end_search.specs.Gates.{gate_ends}
-use Rattle.end_search.specs.Gates.{outer_ends}
+use Rattle.end_search.specs.Gates.{gate_ends, outer_ends}
 use Rattle.composition_flatten.specs.Links.{IsOuterLink}
 use Rattle.composition_tables.specs.Members.{Among}
 use Rattle.composition_tables.proofs.Growth.{grown_none}

@@ -1,5 +1,4 @@
-use Rattle.end_search.proofs.Lookups.{no_end}
-use Rattle.end_search.proofs.Lookups.{end_more, ends_all}
+use Rattle.end_search.proofs.Lookups.{no_end, end_more, ends_all}
 use Rattle.end_search.proofs.groups.groups_of.Goals as goal
 
 pub loop-end-preserved : goal.loop-end-preserved
