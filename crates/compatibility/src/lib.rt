@@ -18,6 +18,3 @@ mod rule;
 mod types;
 
 pub use check::check_joins;
-
-#[cfg(test)]
-mod tests;

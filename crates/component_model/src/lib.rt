@@ -22,8 +22,6 @@ mod mapping_reading;
 mod port_reading;
 mod reading;
 mod servers;
-#[cfg(test)]
-mod tests;
 mod type_reading;
 
 pub use description_types::{

@@ -17,6 +17,3 @@ mod tally;
 
 pub use check::check_components;
 pub use signatures::signature_of;
-
-#[cfg(test)]
-mod tests;

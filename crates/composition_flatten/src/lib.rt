@@ -11,6 +11,3 @@ mod wiring;
 
 pub use flat::{End, Flat, Instance, Join};
 pub use flattening::flatten;
-
-#[cfg(test)]
-mod tests;

@@ -44,8 +44,6 @@ mod rows;
 mod rule;
 mod rules;
 mod shape;
-#[cfg(test)]
-mod tests;
 mod trail;
 mod walk;
 

@@ -9,6 +9,3 @@ mod pieces;
 mod size;
 
 pub use check::map_events;
-
-#[cfg(test)]
-mod tests;

@@ -17,6 +17,3 @@ mod waits;
 
 pub use check::check_mapping;
 pub use tasks::list_mapping;
-
-#[cfg(test)]
-mod tests;

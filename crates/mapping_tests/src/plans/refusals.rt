@@ -1,8 +1,8 @@
 //! Which rule is told of, and where: a server with a queue of one, and receivers with queues of 1,024.
 
-use crate::map_events;
 use component_model::read_description;
 use composition_flatten::flatten;
+use event_mapping::map_events;
 use rte_text::{Memory, Refused};
 use std::alloc::Global;
 use std::process::Abort;

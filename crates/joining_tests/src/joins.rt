@@ -1,6 +1,6 @@
 //! Descriptions that break each rule, worked out by hand.
 
-use crate::check_joins;
+use compatibility::check_joins;
 use composition_flatten::{End, Flat, Instance, Join};
 use description_types::{Description, PrototypeType};
 use interface_types::{Direction, InterfaceKind, SwImplPolicy};

@@ -1,8 +1,8 @@
 //! Mappings that are kept and that are broken: a client and its server, and a component with two events for one runnable.
 
-use crate::{check_mapping, list_mapping};
 use component_model::read_description;
 use composition_flatten::flatten;
+use mapping_rules::{check_mapping, list_mapping};
 use rte_text::Refused;
 use std::alloc::{AllocError, Global};
 use std::process::Abort;

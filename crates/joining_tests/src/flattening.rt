@@ -3,7 +3,7 @@ mod hostile;
 mod joins;
 mod rules;
 
-use crate::{End, Flat, flatten};
+use composition_flatten::{End, Flat, flatten};
 use description_types::Description;
 use rte_text::{Memory, Refused};
 use std::alloc::Global;

@@ -1,7 +1,8 @@
 mod refusals;
 mod texts;
 
-use super::*;
+use component_model::read_description;
+use description_types::Description;
 use interface_types::{BaseType, ComSpec, InterfaceKind, SwImplPolicy};
 use rte_text::{Refused, Seq, Text};
 use rte_value::Limits;

@@ -3,7 +3,7 @@ mod names;
 mod references;
 mod shapes;
 
-use crate::judge;
+use description_places::judge;
 use rte_text::Refused;
 use std::alloc::{AllocError, Global};
 use std::process::Abort;

@@ -1,5 +1,5 @@
 use super::texts::{A, whole};
-use crate::read_description;
+use component_model::read_description;
 use rte_text::{Refused, Text};
 use std::alloc::Global;
 use std::process::Abort;

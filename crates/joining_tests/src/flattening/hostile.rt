@@ -2,7 +2,7 @@
 
 use super::build::{assembly, component, composition, delegation, description, elements, numbered};
 use super::shown;
-use crate::flatten;
+use composition_flatten::flatten;
 use description_types::{Composition, Connector, Description, PortKind, PrototypeType};
 use rte_text::Memory;
 use std::alloc::Global;

@@ -1,12 +1,12 @@
 //! The plans and mappings of small descriptions, written out and compared with text that was derived by hand.
 
-use crate::map_events;
 use bus_semantics::{
     ArgPlan, BusPlan, ElemKind, ElemPlan, EventKind, EventPlan, MachinePlan, Mapping, ModePortPlan,
     Moment, PointPlan, RunnablePlan, ServerPlan,
 };
 use component_model::read_description;
 use composition_flatten::flatten;
+use event_mapping::map_events;
 use rte_text::{Memory, Refused, Text};
 use rte_value::Limits;
 use samples::{DIRECT_CALL, MODES, OUTER_SERVER, PING_PONG, QUEUE, WRITER_AND_READER};

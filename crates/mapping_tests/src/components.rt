@@ -1,6 +1,6 @@
 //! Components that break each rule, worked out by hand.
 
-use crate::{check_components, signature_of};
+use component_rules::{check_components, signature_of};
 use description_types::{Event, EventKind, ModeActivation, Runnable};
 use rte_text::{Refused, Seq};
 use rte_value::Limits;
