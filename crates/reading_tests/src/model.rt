@@ -2,7 +2,10 @@ mod refusals;
 mod texts;
 
 use component_model::read_description;
-use description_types::Description;
+use description_types::{
+    Access, Connector, Description, EventKind, InnerPort, ModeActivation, Port, PortKind,
+    PrototypeType,
+};
 use interface_types::{BaseType, ComSpec, InterfaceKind, SwImplPolicy};
 use rte_text::{Refused, Seq, Text};
 use rte_value::Limits;
