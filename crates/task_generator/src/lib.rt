@@ -15,6 +15,3 @@ pub use set::generate;
 
 /// There was no memory for what a call makes.
 pub type Memory = std::alloc::AllocError;
-
-#[cfg(test)]
-mod tests;

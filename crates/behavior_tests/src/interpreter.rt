@@ -1,7 +1,6 @@
 //! Small programs of every statement, with what they ask and take, worked out by hand.
 
-use crate::activation_state::{ActivationState, Kept};
-use crate::{BusCall, Deed, Ran, RunnablePlan, interpret};
+use bus_semantics::{ActivationState, BusCall, Deed, Kept, Ran, RunnablePlan, interpret};
 use rte_text::{Memory, Seq, Text};
 use rte_value::{Limits, Value, Word};
 use runnable_lang::{AccessKind, AccessSig, Expr, Op, Program, Signature, Stmt};

@@ -1,12 +1,12 @@
 //! Small programs, and what their bodies ask, worked out by hand.
 
-use crate::generate;
 use bus_semantics::{BusPlan, Deed, Mapping, RunnablePlan, Wish};
 use rte_text::{Memory, Seq, Text};
 use rte_value::{ActKey, Code, Limits, Value, Word};
 use runnable_lang::{AccessKind, AccessSig, Expr, Op, Program, Signature, Stmt};
 use std::alloc::Global;
 use std::test::Fail;
+use task_generator::generate;
 use task_machine::{Frame, Next, TaskSet};
 
 const KEY: ActKey = ActKey {

@@ -1,6 +1,6 @@
 //! Lookups on a small plan.
 
-use crate::plan::{BusPlan, ElemKind, ElemPlan, ModePortPlan, PointPlan};
+use bus_semantics::{BusPlan, ElemKind, ElemPlan, ModePortPlan, PointPlan};
 use rte_text::{Seq, Text};
 use rte_value::{Limits, Value};
 use std::alloc::{AllocError, Global};
