@@ -6,6 +6,7 @@ pub mod Ready
 pub mod Standing
 pub mod Looking
 pub mod Turning
+pub mod Awake
 pub mod Lawful
 pub mod Resting
 pub mod Small

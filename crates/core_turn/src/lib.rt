@@ -1,6 +1,9 @@
 //! The turn of a core: one entry of one of its tasks, in cyclic order, over any bench.
 #![tactic(auto)]
 
+mod awake;
+mod awake_looks;
+mod awake_turn;
 mod cores;
 mod going;
 mod laws;
@@ -15,6 +18,8 @@ mod threads;
 mod trying;
 mod turning;
 
+pub use awake::Awake;
+pub use awake_turn::turn_of_awake;
 pub use cores::Core;
 pub use laws::{
     cores_stand_beside_the_environment, nothing_now_frees_the_core,

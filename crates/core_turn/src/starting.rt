@@ -31,7 +31,7 @@ fn runnable_of(p: &BusPlan, event: u32) -> u32
 }
 
 /// An event tries to start its runnable.
-fn try_event<B: Bench>(p: &BusPlan, event: u32, bench: &mut B) -> Look
+pub(crate) fn try_event<B: Bench>(p: &BusPlan, event: u32, bench: &mut B) -> Look
     requires room { 0 < B.room bench.old }
     requires plan { B.plan bench.old ≡ plan_of p.now }
     requires built { (m : Mapping) × IsBuilt (plan_of p.now) m }
@@ -75,7 +75,7 @@ fn start_first<B: Bench>(p: &BusPlan, events: &[u32], bench: &mut B) -> Look
 }
 
 /// The activation that an entry starts begins in the slot.
-fn begin(t: &TaskSet, slot: &mut Slot, entry: &Entry)
+pub(crate) fn begin(t: &TaskSet, slot: &mut Slot, entry: &Entry)
     requires { IsMadeFor t.now slot.old.frame }
     ensures { BegunBy t.now entry.now slot.old slot.new }
 {

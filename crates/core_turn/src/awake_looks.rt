@@ -1,0 +1,176 @@
+//! Looks at the slots and events of a core that are awake.
+
+ghost use Rattle.std.specs.Prelude.{◌≡◌, ◌<◌, ◌≤◌, ℕ, length, true, nat_lt, Some, None, slice_get};
+ghost use Rattle.std.specs.List.{list_all};
+ghost use Rattle.bus_semantics.specs.declared.script.Mapping.{Mapping};
+ghost use Rattle.bus_semantics.specs.Plan.{plan_of};
+ghost use Rattle.bus_semantics.specs.History.{count};
+ghost use Rattle.bus_semantics.specs.Rest.{gathered, start_try};
+ghost use Rattle.task_generator.specs.Promise.{AsksAsPlanned};
+ghost use Rattle.core_turn.specs.declared.slot.Slot.{Slot};
+ghost use Rattle.core_turn.specs.Plans.{IsBuilt};
+ghost use Rattle.core_turn.specs.Slots.{waits, slot_tries, looks};
+ghost use Rattle.core_turn.specs.Ready.{IsReadySlot};
+ghost use Rattle.core_turn.specs.Looking.{StartBy, Looked};
+ghost use Rattle.core_turn.specs.Turning.{SlotLooked, IsPass};
+ghost use Rattle.core_turn.specs.Awake.{Fits, HeldTold, EventsHeld, IsSettled};
+
+use crate::awake::Awake;
+use crate::going::go_on;
+use crate::look::{Look, Passed};
+use crate::slot::Slot;
+use crate::starting::{begin, try_event};
+use bus_semantics::BusPlan;
+use place_set::PlaceSet;
+use port_objects::Bench;
+use task_machine::TaskSet;
+
+/// The first of the events that are awake that may start its runnable does so. Those before it fall asleep.
+fn start_first<B: Bench>(p: &BusPlan, events: &[u32], row: &mut PlaceSet, bench: &mut B) -> Look
+    requires room { 0 < B.room bench.old }
+    requires plan { B.plan bench.old ≡ plan_of p.now }
+    requires built { (m : Mapping) × IsBuilt (plan_of p.now) m }
+    requires there { list_all (λ e. nat_lt e (length p.now.events)) events.now ≡ true }
+    requires width { length row.old ≡ length events.now }
+    requires held { EventsHeld (plan_of p.now) (B.objects bench.old) events.now row.old }
+    requires work { B.work bench.old ≡ None }
+    ensures home { B.home bench.new ≡ B.home bench.old }
+    ensures plan { B.plan bench.new ≡ B.plan bench.old }
+    ensures start { StartBy (plan_of p.now) events.now result }
+    ensures looked { Looked (plan_of p.now) (gathered (start_try (plan_of p.now)) events.now) (count (waits (plan_of p.now)) events.now)
+        (record { room = B.room bench.old; next = B.next bench.old; objects = B.objects bench.old; work = B.work bench.old })
+        (record { room = B.room bench.new; next = B.next bench.new; objects = B.objects bench.new; work = B.work bench.new }) result }
+    ensures width { length row.new ≡ length events.now }
+    ensures held { EventsHeld (plan_of p.now) (B.objects bench.old) events.now row.new }
+{
+    let mut from = 0;
+    while let Some(at) = row.next(from) {
+        match try_event(p, events[at], bench) {
+            Look::Made(stamped) => return Look::Made(stamped),
+            Look::Nothing => row.remove(at),
+            Look::Contended(object) => return Look::Contended(object),
+        }
+        from = at + 1;
+    }
+    Look::Nothing
+}
+
+/// A free task starts the first of its events that are awake, in order of position, that may.
+fn start_due<B: Bench>(
+    p: &BusPlan,
+    t: &TaskSet,
+    slot: &mut Slot,
+    row: &mut PlaceSet,
+    bench: &mut B,
+) -> Look
+    requires room { 0 < B.room bench.old }
+    requires plan { B.plan bench.old ≡ plan_of p.now }
+    requires bodies { AsksAsPlanned (plan_of p.now) t.now }
+    requires built { (m : Mapping) × IsBuilt (plan_of p.now) m }
+    requires ready { IsReadySlot (plan_of p.now) t.now slot.old }
+    requires free { slot.old.running ≡ None }
+    requires width { length row.old ≡ length slot.old.events.items }
+    requires held { EventsHeld (plan_of p.now) (B.objects bench.old) slot.old.events.items row.old }
+    requires work { B.work bench.old ≡ None }
+    ensures home { B.home bench.new ≡ B.home bench.old }
+    ensures plan { B.plan bench.new ≡ B.plan bench.old }
+    ensures looked { Looked (plan_of p.now) (slot_tries (plan_of p.now) t.now slot.old) (looks (plan_of p.now) slot.old)
+        (record { room = B.room bench.old; next = B.next bench.old; objects = B.objects bench.old; work = B.work bench.old })
+        (record { room = B.room bench.new; next = B.next bench.new; objects = B.objects bench.new; work = B.work bench.new }) result }
+    ensures slot { SlotLooked (plan_of p.now) t.now slot.old slot.new result }
+    ensures width { length row.new ≡ length slot.old.events.items }
+    ensures held { EventsHeld (plan_of p.now) (B.objects bench.old) slot.old.events.items row.new }
+{
+    match start_first(p, slot.events.as_slice(), row, bench) {
+        Look::Made(stamped) => {
+            begin(t, slot, &stamped.entry);
+            Look::Made(stamped)
+        }
+        Look::Nothing => Look::Nothing,
+        Look::Contended(object) => Look::Contended(object),
+    }
+}
+
+/// A slot tries what it may: the next call of its running activation, or its events that are awake.
+fn look<B: Bench>(
+    p: &BusPlan,
+    t: &TaskSet,
+    slot: &mut Slot,
+    row: &mut PlaceSet,
+    bench: &mut B,
+) -> Look
+    requires room { 0 < B.room bench.old }
+    requires plan { B.plan bench.old ≡ plan_of p.now }
+    requires bodies { AsksAsPlanned (plan_of p.now) t.now }
+    requires built { (m : Mapping) × IsBuilt (plan_of p.now) m }
+    requires ready { IsReadySlot (plan_of p.now) t.now slot.old }
+    requires width { length row.old ≡ length slot.old.events.items }
+    requires held { EventsHeld (plan_of p.now) (B.objects bench.old) slot.old.events.items row.old }
+    requires work { B.work bench.old ≡ None }
+    ensures home { B.home bench.new ≡ B.home bench.old }
+    ensures plan { B.plan bench.new ≡ B.plan bench.old }
+    ensures looked { Looked (plan_of p.now) (slot_tries (plan_of p.now) t.now slot.old) (looks (plan_of p.now) slot.old)
+        (record { room = B.room bench.old; next = B.next bench.old; objects = B.objects bench.old; work = B.work bench.old })
+        (record { room = B.room bench.new; next = B.next bench.new; objects = B.objects bench.new; work = B.work bench.new }) result }
+    ensures slot { SlotLooked (plan_of p.now) t.now slot.old slot.new result }
+    ensures width { length row.new ≡ length slot.old.events.items }
+    ensures held { EventsHeld (plan_of p.now) (B.objects bench.old) slot.old.events.items row.new }
+{
+    match slot.running {
+        Some(key) => go_on(p, t, key, slot, bench),
+        None => start_due(p, t, slot, row, bench),
+    }
+}
+
+/// A slot of which nothing may come falls asleep, unless an activation runs in it: what that waits for wakes no slot.
+fn settle(awake: &mut PlaceSet, place: usize, slot: &Slot)
+    requires { place < length awake.old }
+    ensures { IsSettled slot.now.running place awake.old awake.new }
+{
+    if slot.running.is_none() {
+        awake.remove(place);
+    }
+}
+
+/// Looks at the slots that are awake from one place up to another, until one of them steps.
+pub(crate) fn look_through<B: Bench>(
+    p: &BusPlan,
+    t: &TaskSet,
+    slots: &mut Vec<Slot>,
+    a: &mut Awake,
+    from: usize,
+    to: usize,
+    bench: &mut B,
+) -> Passed
+    requires room { 0 < B.room bench.old }
+    requires plan { B.plan bench.old ≡ plan_of p.now }
+    requires bodies { AsksAsPlanned (plan_of p.now) t.now }
+    requires built { (m : Mapping) × IsBuilt (plan_of p.now) m }
+    requires ready { (i : ℕ) (s : Slot) → slice_get slots.old.items i ≡ Some s → IsReadySlot (plan_of p.now) t.now s }
+    requires order { from ≤ to }
+    requires within { to ≤ length slots.old.items }
+    requires fits { Fits slots.old.items a.old }
+    requires held { HeldTold (plan_of p.now) (B.objects bench.old) slots.old.items a.old }
+    requires work { B.work bench.old ≡ None }
+    ensures home { B.home bench.new ≡ B.home bench.old }
+    ensures plan { B.plan bench.new ≡ B.plan bench.old }
+    ensures pass { IsPass (plan_of p.now) t.now slots.old.items slots.new.items from to
+        (record { room = B.room bench.old; next = B.next bench.old; objects = B.objects bench.old; work = B.work bench.old })
+        (record { room = B.room bench.new; next = B.next bench.new; objects = B.objects bench.new; work = B.work bench.new }) result }
+    ensures fits { Fits slots.new.items a.new }
+    ensures held { HeldTold (plan_of p.now) (B.objects bench.old) slots.new.items a.new }
+{
+    let mut behind = from;
+    while let Some(at) = a.slots.next(behind) {
+        if at >= to {
+            break;
+        }
+        match look(p, t, &mut slots[at], &mut a.events[at], bench) {
+            Look::Made(stamped) => return Passed::Made(at, stamped),
+            Look::Nothing => settle(&mut a.slots, at, &slots[at]),
+            Look::Contended(object) => return Passed::Contended(object),
+        }
+        behind = at + 1;
+    }
+    Passed::Nothing
+}

@@ -1,0 +1,64 @@
+//! The turn of a core that looks only at what is awake.
+
+ghost use Rattle.std.specs.Prelude.{◌≡◌, ◌<◌, None};
+ghost use Rattle.bus_semantics.specs.declared.script.Mapping.{Mapping};
+ghost use Rattle.bus_semantics.specs.Plan.{plan_of};
+ghost use Rattle.task_generator.specs.Promise.{AsksAsPlanned};
+ghost use Rattle.core_turn.specs.Ready.{IsReady};
+ghost use Rattle.core_turn.specs.Turning.{IsTurn};
+ghost use Rattle.core_turn.specs.Awake.{Fits, HeldTold};
+
+use crate::awake::Awake;
+use crate::awake_looks::look_through;
+use crate::cores::Core;
+use crate::look::Passed;
+use crate::turning::Turned;
+use bus_semantics::BusPlan;
+use port_objects::Bench;
+use task_machine::TaskSet;
+
+/// Makes a turn of a core as `turn` does, over a bench that does not count its looks, and looks only at slots and
+/// events that are awake (OS: scheduling; SWS_RTE: runnable activation). What sleeps is held by the objects as they are
+/// before the turn, and so is what it puts to sleep. It takes no memory.
+pub fn turn_of_awake<B: Bench>(
+    p: &BusPlan,
+    t: &TaskSet,
+    c: &mut Core,
+    a: &mut Awake,
+    b: &mut B,
+) -> Turned
+    requires room { 0 < c.old.room }
+    requires bench_room { 0 < B.room b.old }
+    requires plan { B.plan b.old ≡ plan_of p.now }
+    requires bodies { AsksAsPlanned (plan_of p.now) t.now }
+    requires ready { (m : Mapping) × IsReady (plan_of p.now) m t.now c.old }
+    requires fits { Fits c.old.slots a.old }
+    requires held { HeldTold (plan_of p.now) (B.objects b.old) c.old.slots a.old }
+    requires work { B.work b.old ≡ None }
+    ensures home { B.home b.new ≡ B.home b.old }
+    ensures plan { B.plan b.new ≡ B.plan b.old }
+    ensures ready { (m : Mapping) → IsReady (plan_of p.now) m t.now c.old → IsReady (plan_of p.now) m t.now c.new }
+    ensures turned { IsTurn (plan_of p.now) t.now c.old c.new
+        (record { room = B.room b.old; next = B.next b.old; objects = B.objects b.old; work = B.work b.old })
+        (record { room = B.room b.new; next = B.next b.new; objects = B.objects b.new; work = B.work b.new }) result }
+    ensures fits { Fits c.new.slots a.new }
+    ensures held { HeldTold (plan_of p.now) (B.objects b.old) c.new.slots a.new }
+{
+    let first = c.first;
+    let count = c.slots.len();
+    match look_through(p, t, &mut c.slots, a, first, count, b) {
+        Passed::Made(at, stamped) => {
+            c.note(at, stamped);
+            Turned::Stepped
+        }
+        Passed::Contended(object) => Turned::Contended(object),
+        Passed::Nothing => match look_through(p, t, &mut c.slots, a, 0, first, b) {
+            Passed::Made(at, stamped) => {
+                c.note(at, stamped);
+                Turned::Stepped
+            }
+            Passed::Contended(object) => Turned::Contended(object),
+            Passed::Nothing => Turned::NothingNow,
+        },
+    }
+}

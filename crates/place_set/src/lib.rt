@@ -1,0 +1,11 @@
+//! Sets of places.
+#![tactic(auto)]
+
+mod set;
+
+
+
+pub use set::PlaceSet;
+
+/// There was no memory for what a call makes.
+pub type Memory = std::alloc::AllocError;
