@@ -22,3 +22,6 @@ pub mod Mapped
 pub mod Resting
 pub mod AtRest
 pub mod Freeing
+pub mod Awakes
+pub mod Unchanged
+pub mod Settling

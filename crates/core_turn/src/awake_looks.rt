@@ -163,7 +163,7 @@ pub(crate) fn look_through<B: Bench>(
     let mut behind = from;
     while let Some(at) = a.slots.next(behind) {
         if at >= to {
-            break;
+            return Passed::Nothing;
         }
         match look(p, t, &mut slots[at], &mut a.events[at], bench) {
             Look::Made(stamped) => return Passed::Made(at, stamped),

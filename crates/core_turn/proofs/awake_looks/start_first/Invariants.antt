@@ -1,0 +1,21 @@
+use Rattle.std.proofs.Common.{◌≡◌, ◌-◌, length}
+use Rattle.bus_semantics.specs.Plan.{plan_of}
+use Rattle.place_set.specs.Places.{NoneBetween}
+use Rattle.core_turn.specs.Awake.{EventsHeld}
+use Rattle.core_turn.proofs.Unchanged.{Unchanged}
+use Rattle.core_turn.proofs.awake_looks.start_first.Given as goal
+
+abbrev pub invariant-loop-at : goal.invariant-loop-at
+invariant-loop-at g l = record {
+  home : g.B.Bench.home l.bench ≡ g.B.Bench.home l.initial.bench;
+  plan : g.B.Bench.plan l.bench ≡ g.B.Bench.plan l.initial.bench;
+  width : length l.row ≡ length l.events;
+  held : EventsHeld (plan_of l.p) (g.B.Bench.objects l.initial.bench) l.events l.row;
+  asleep : NoneBetween l.row 0 l.from;
+  same : Unchanged
+      (record { room = g.B.Bench.room l.initial.bench; next = g.B.Bench.next l.initial.bench; objects = g.B.Bench.objects l.initial.bench; work = g.B.Bench.work l.initial.bench })
+      (record { room = g.B.Bench.room l.bench; next = g.B.Bench.next l.bench; objects = g.B.Bench.objects l.bench; work = g.B.Bench.work l.bench });
+}
+
+abbrev pub decreases-loop-at : goal.decreases-loop-at
+decreases-loop-at g l = length l.events - l.from

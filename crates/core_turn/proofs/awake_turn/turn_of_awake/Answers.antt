@@ -1,0 +1,67 @@
+use Rattle.std.proofs.Common.{◌≡◌, ◌-◌, ◌<◌, length, sym, ◌∙◌, ap, subst, refl, arith, [], ◌∷◌, ◌++◌, Some}
+use Rattle.std.specs.List.{slice_get}
+use Rattle.bus_semantics.specs.Plan.{plan_of}
+use Rattle.core_turn.specs.Cores.{CoreState}
+use Rattle.core_turn.proofs.Stepped.{ready_on, back_steps, front_steps, nothing_comes, pass_at, made_within, behind_all, before_all}
+use Rattle.core_turn.proofs.awake_turn.turn_of_awake.Goals as goal
+
+pub look_through-requires-clause-ready : goal.look_through-requires-clause-ready
+look_through-requires-clause-ready g c = λ i s found. c.requires.ready.1.each i s (subst (λ xs. slice_get xs i ≡ Some s) (ap (λ (k : CoreState). k.slots) c.c.view_is) found)
+
+pub look_through-requires-in-Nothing-clause-ready : goal.look_through-requires-in-Nothing-clause-ready
+look_through-requires-in-Nothing-clause-ready g c = λ i s found. c.requires.ready.1.each i s (subst (λ xs. slice_get xs i ≡ Some s) (c.in-Nothing.ensures.pass.0 ∙ ap (λ (k : CoreState). k.slots) c.c.view_is) found)
+
+pub note-requires-clause-within : goal.note-requires-clause-within
+note-requires-clause-within g c =
+    made_within (plan_of c.args.p.now) c.args.t.now c.c.inside.slots.items c.look_through.new.slots.items c.c.inside.first c.in-Made.at _ _ c.in-Made.stamped c.in-Made.ensures.pass.1
+
+pub note-requires-in-Made-look_through-clause-within : goal.note-requires-in-Made-look_through-clause-within
+note-requires-in-Made-look_through-clause-within g c =
+    made_within (plan_of c.args.p.now) c.args.t.now c.look_through.new.slots.items c.look_through-in-Nothing.new.slots.items 0 c.in-Made-look_through.at _ _ c.in-Made-look_through.stamped c.in-Made-look_through.ensures.pass.1
+
+pub returns-in-Made-clause-ready : goal.returns-in-Made-clause-ready
+returns-in-Made-clause-ready g c = λ m ready.
+    let pass = pass_at (plan_of c.args.p.now) c.args.t.now c.c.inside.slots.items c.args.c.now.slots c.look_through.new.slots.items c.note.new.self.slots c.c.inside.first c.args.c.now.first c.in-Made.at _ _ c.in-Made.stamped
+    (ap (λ (k : CoreState). k.slots) c.c.view_is) (sym c.note.ensures.slots) (ap (λ (k : CoreState). k.first) c.c.view_is) c.in-Made.ensures.pass.1 in
+    ready_on (plan_of c.args.p.now) m c.args.t.now c.args.c.now c.note.new.self ready c.in-Made.at pass.slot pass.stepped c.in-Made.stamped pass.there pass.slots
+    (c.note.ensures.number ∙ ap (λ (k : CoreState). k.number) c.c.view_is) pass.step
+
+pub returns-in-Made-clause-turned : goal.returns-in-Made-clause-turned
+returns-in-Made-clause-turned g c =
+    let pass = pass_at (plan_of c.args.p.now) c.args.t.now c.c.inside.slots.items c.args.c.now.slots c.look_through.new.slots.items c.note.new.self.slots c.c.inside.first c.args.c.now.first c.in-Made.at _ _ c.in-Made.stamped
+    (ap (λ (k : CoreState). k.slots) c.c.view_is) (sym c.note.ensures.slots) (ap (λ (k : CoreState). k.first) c.c.view_is) c.in-Made.ensures.pass.1 in (
+      c.in-Made.stamped,
+      back_steps (plan_of c.args.p.now) c.requires.ready.0 c.args.t.now c.args.c.now c.note.new.self c.requires.ready.1 c.in-Made.stamped c.in-Made.at
+          (c.note.ensures.number ∙ ap (λ (k : CoreState). k.number) c.c.view_is) c.note.ensures.first
+          (c.note.ensures.trace ∙ ap (λ (k : CoreState). k.trace ++ c.in-Made.stamped ∷ []) c.c.view_is)
+          (sym (ap (λ (k : CoreState). k.room) c.c.view_is) ∙ c.note.ensures.room) _ _ pass,
+    )
+
+pub returns-in-Made-look_through-clause-ready : goal.returns-in-Made-look_through-clause-ready
+returns-in-Made-look_through-clause-ready g c = λ m ready.
+    let pass = pass_at (plan_of c.args.p.now) c.args.t.now c.look_through.new.slots.items c.args.c.now.slots c.look_through-in-Nothing.new.slots.items c.note-in-Made-look_through.new.self.slots 0 0 c.in-Made-look_through.at _ _ c.in-Made-look_through.stamped
+    (c.in-Nothing.ensures.pass.0 ∙ ap (λ (k : CoreState). k.slots) c.c.view_is) (sym c.note-in-Made-look_through.ensures.slots) refl c.in-Made-look_through.ensures.pass.1 in
+    ready_on (plan_of c.args.p.now) m c.args.t.now c.args.c.now c.note-in-Made-look_through.new.self ready c.in-Made-look_through.at pass.slot pass.stepped c.in-Made-look_through.stamped pass.there pass.slots
+    (c.note-in-Made-look_through.ensures.number ∙ ap (λ (k : CoreState). k.number) c.c.view_is) pass.step
+
+pub returns-in-Made-look_through-clause-turned : goal.returns-in-Made-look_through-clause-turned
+returns-in-Made-look_through-clause-turned g c =
+    let pass = pass_at (plan_of c.args.p.now) c.args.t.now c.look_through.new.slots.items c.args.c.now.slots c.look_through-in-Nothing.new.slots.items c.note-in-Made-look_through.new.self.slots 0 0 c.in-Made-look_through.at _ _ c.in-Made-look_through.stamped
+    (c.in-Nothing.ensures.pass.0 ∙ ap (λ (k : CoreState). k.slots) c.c.view_is) (sym c.note-in-Made-look_through.ensures.slots) refl c.in-Made-look_through.ensures.pass.1 in
+    let count : c.len-count.result ≡ length c.c.inside.slots.items = omega arith in
+    let back = behind_all (plan_of c.args.p.now) c.args.t.now c.args.c.now c.c.inside.slots.items c.c.inside.first _ _ (ap (λ (k : CoreState). k.slots) c.c.view_is) (ap (λ (k : CoreState). k.first) c.c.view_is) c.len-count.result count c.in-Nothing.ensures.pass.1 in
+    let before : c.in-Made-look_through.at < c.args.c.now.first = subst (λ n. c.in-Made-look_through.at < n) (ap (λ (k : CoreState). k.first) c.c.view_is) c.in-Made-look_through.ensures.pass.0 in (
+      c.in-Made-look_through.stamped,
+      front_steps (plan_of c.args.p.now) c.requires.ready.0 c.args.t.now c.args.c.now c.note-in-Made-look_through.new.self c.requires.ready.1 c.in-Made-look_through.stamped c.in-Made-look_through.at
+          (c.note-in-Made-look_through.ensures.number ∙ ap (λ (k : CoreState). k.number) c.c.view_is) c.note-in-Made-look_through.ensures.first
+          (c.note-in-Made-look_through.ensures.trace ∙ ap (λ (k : CoreState). k.trace ++ c.in-Made-look_through.stamped ∷ []) c.c.view_is)
+          (sym (ap (λ (k : CoreState). k.room) c.c.view_is) ∙ c.note-in-Made-look_through.ensures.room) _ _ _ before back pass,
+    )
+
+pub returns-in-Nothing-look_through-clause-turned : goal.returns-in-Nothing-look_through-clause-turned
+returns-in-Nothing-look_through-clause-turned g c =
+    let count : c.len-count.result ≡ length c.c.inside.slots.items = omega arith in
+    let back = behind_all (plan_of c.args.p.now) c.args.t.now c.args.c.now c.c.inside.slots.items c.c.inside.first _ _ (ap (λ (k : CoreState). k.slots) c.c.view_is) (ap (λ (k : CoreState). k.first) c.c.view_is) c.len-count.result count c.in-Nothing.ensures.pass.1 in
+    let front = before_all (plan_of c.args.p.now) c.args.t.now c.args.c.now c.look_through.new.slots.items c.c.inside.first _ _ (c.in-Nothing.ensures.pass.0 ∙ ap (λ (k : CoreState). k.slots) c.c.view_is) (ap (λ (k : CoreState). k.first) c.c.view_is) c.in-Nothing-look_through.ensures.pass.1 in
+    let same = ap (λ (xs : _). record { number = c.c.inside.number; slots = xs; first = c.c.inside.first; trace = c.c.inside.trace.items; room = Rattle.std.specs.Vec.vec_capacity c.c.inside.trace - length c.c.inside.trace.items }) (c.in-Nothing-look_through.ensures.pass.0 ∙ c.in-Nothing.ensures.pass.0) ∙ c.c.view_is in
+    nothing_comes (plan_of c.args.p.now) c.args.t.now c.args.c.now _ _ _ _ same back front
