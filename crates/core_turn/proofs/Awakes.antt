@@ -45,9 +45,9 @@ not_before flags n i e = of_place (placed flags n true i false e)
 
 pub row_there : (rows : List (List Bool)) (n place : ℕ) → place < length (get_or rows n []) → n < length rows
 row_there rows n place within = elim (cases_lt n (length rows)) [
-    | inl inside ↦ inside
-    | inr past ↦ let none : length (get_or rows n []) ≡ 0 = ap length (get_or_past rows n [] past) in absurd (omega arith)
-  ]
+  | inl inside ↦ inside
+  | inr past ↦ let none : length (get_or rows n []) ≡ 0 = ap length (get_or_past rows n [] past) in absurd (omega arith)
+]
 
 pub held_waking : (p : Plan) (objects : List Object) (slots : List Slot) (flags : List Bool) (rows : List (List Bool)) (n place : ℕ) (row : List Bool) → slice_get rows n ≡ Some row
     → AreHeld p objects slots (record { slots = flags; events = rows }) → AreHeld p objects slots (record { slots = set flags n true; events = set rows n (set row place true) })

@@ -21,13 +21,13 @@ module _ (p : Plan) (t : TaskSet) (o : Option (List Object)) (slots : List Slot)
   -- up to the next one that is awake
   pub passed_on : (at to : ℕ) → to ≤ at → NoneBetween a.slots behind at → (i : ℕ) (s : Slot) → from ≤ i → i < to → slice_get slots i ≡ Some s → TriesHeld p o (slot_tries p t s)
   passed_on at to less none i s after before found = elim (cases_lt i behind) [
-      | inl low ↦ passed i s after low found
-      | inr high ↦
-          let within = slice_get_within slots i s found in
-          let count = fits.count in
-          let inside : i < length a.slots = omega arith in
-          asleep_held p t o slots a i s found (slice_get-get_or a.slots i false inside ∙ ap (λ b. Some b) (none i high (omega arith))) held
-    ]
+    | inl low ↦ passed i s after low found
+    | inr high ↦
+        let within = slice_get_within slots i s found in
+        let count = fits.count in
+        let inside : i < length a.slots = omega arith in
+        asleep_held p t o slots a i s found (slice_get-get_or a.slots i false inside ∙ ap (λ b. Some b) (none i high (omega arith))) held
+  ]
 
 -- ---- the slot that is looked at
 

@@ -117,9 +117,9 @@ none_on flags from to before behind = λ place _ within. elim (cases_lt place fr
 -- one more was taken out
 pub none_more : (flags : List Bool) (at : ℕ) → at < length flags → NoneBetween flags 0 at → NoneBetween (set flags at false) 0 (at + 1)
 none_more flags at inside before = λ place _ within. elim (cases_lt place at) [
-    | inl low ↦ let other : place ≢ at = omega arith in rw get_or-set_other (before place (omega arith) low)
-    | inr high ↦ let here : place ≡ at = omega arith in ap (λ n. get_or (set flags at false) n false) here ∙ get_or-set_same flags at false false inside
-  ]
+  | inl low ↦ let other : place ≢ at = omega arith in rw get_or-set_other (before place (omega arith) low)
+  | inr high ↦ let here : place ≡ at = omega arith in ap (λ n. get_or (set flags at false) n false) here ∙ get_or-set_same flags at false false inside
+]
 
 -- events of which none is awake
 pub asleep_before : (p : Plan) (o : Option (List Object)) (xs : List ℕ) (row : List Bool) (n : ℕ) → length row ≡ length xs → EventsHeld p o xs row → NoneBetween row 0 n → TriesHeld p o (gathered (start_try p) (take n xs))

@@ -18,6 +18,7 @@ use std::test::Fail;
 use task_generator::generate;
 use task_machine::TaskSet;
 
+mod awake;
 mod small;
 
 fn is_nothing(turned: &Turned) -> bool {

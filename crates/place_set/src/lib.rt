@@ -2,8 +2,9 @@
 #![tactic(auto)]
 
 mod set;
-
-
+#[cfg(test)]
+mod tests;
+mod threads;
 
 pub use set::PlaceSet;
 

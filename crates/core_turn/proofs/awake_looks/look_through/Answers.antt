@@ -21,7 +21,7 @@ returns-then-at-to-clause-pass g c =
     let loop = c.loop-at.invariant in (
       loop.slots,
       looked_at p _ _ _ _ loop.same (between_held p c.args.t.now o c.args.slots.now.items c.args.from c.args.to
-      (passed_on p c.args.t.now o c.args.slots.now.items _ loop.fits loop.held c.args.from c.loop-at.behind loop.passed c.in-Some.at c.args.to c.if-at-to.true c.in-Some.ensures.next.none)),
+          (passed_on p c.args.t.now o c.args.slots.now.items _ loop.fits loop.held c.args.from c.loop-at.behind loop.passed c.in-Some.at c.args.to c.if-at-to.true c.in-Some.ensures.next.none)),
     )
 
 pub returns-clause-pass : goal.returns-clause-pass
@@ -33,7 +33,7 @@ returns-clause-pass g c =
     let less : c.args.to ≤ length c.loop-at.a-inside.slots = omega arith in (
       loop.slots,
       looked_at p _ _ _ _ loop.same (between_held p c.args.t.now o c.args.slots.now.items c.args.from c.args.to
-      (passed_on p c.args.t.now o c.args.slots.now.items _ loop.fits loop.held c.args.from c.loop-at.behind loop.passed (length c.loop-at.a-inside.slots) c.args.to less c.in_default.ensures.next)),
+          (passed_on p c.args.t.now o c.args.slots.now.items _ loop.fits loop.held c.args.from c.loop-at.behind loop.passed (length c.loop-at.a-inside.slots) c.args.to less c.in_default.ensures.next)),
     )
 
 pub look-requires-clause-ready : goal.look-requires-clause-ready
