@@ -2,7 +2,7 @@
 use Rattle.std.specs.Prelude.{◌≡◌, ℕ, List, Bool, true, false, length, map, replicate, set, slice_get, Option, Some, None}
 use Rattle.rte_value.specs.declared.kinds.ActKey.{ActKey}
 use Rattle.bus_semantics.specs.Plan.{Plan}
-use Rattle.bus_semantics.specs.Rest.{Try, gathered, start_try}
+use Rattle.bus_semantics.specs.Rest.{gathered, start_try}
 use Rattle.port_objects.specs.declared.object.Object.{Object}
 use Rattle.core_turn.specs.declared.slot.Slot.{Slot}
 use Rattle.core_turn.specs.Looking.{AllHeld}

@@ -1,12 +1,10 @@
-use Rattle.std.proofs.Common.{◌≡◌, ℕ, ◌+◌, ◌<◌, ◌≤◌, length, get_or, set, false, sym, ◌∙◌, ap, subst, arith, refl, inl, inr, Some}
+use Rattle.std.proofs.Common.{◌≡◌, ◌<◌, ◌≤◌, length, get_or, set, sym, ◌∙◌, ap, subst, arith, inl, inr, Some}
 use Rattle.std.specs.List.{slice_get}
 use Rattle.std.proofs.lemmas.Bool.{cases_lt}
 use Rattle.std.proofs.lemmas.List.{get_or-set_same}
 use Rattle.bus_semantics.specs.Plan.{plan_of}
 use Rattle.core_turn.specs.declared.slot.Slot.{Slot}
-use Rattle.core_turn.specs.declared.look.Look.TheVariants.{Nothing}
 use Rattle.core_turn.specs.Slots.{slot_tries}
-use Rattle.core_turn.specs.Ready.{IsReadySlot}
 use Rattle.core_turn.specs.Awake.{Fits, HeldTold, EventsHeld, IsSettled}
 use Rattle.core_turn.proofs.Passing.{set_same, pass_made}
 use Rattle.core_turn.proofs.Awakes.{TriesHeld, events_held}

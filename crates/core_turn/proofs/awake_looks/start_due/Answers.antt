@@ -1,8 +1,7 @@
-use Rattle.std.proofs.Common.{◌≡◌, true, length, nat_lt, sym, ◌∙◌, ap, subst}
+use Rattle.std.proofs.Common.{◌≡◌, true, length, nat_lt, sym, subst}
 use Rattle.std.specs.List.{list_all}
 use Rattle.bus_semantics.specs.Plan.{plan_of}
 use Rattle.core_turn.specs.Looking.{IsStartBy}
-use Rattle.core_turn.specs.Awake.{EventsHeld}
 use Rattle.core_turn.proofs.Beginning.{begun_step}
 use Rattle.core_turn.proofs.awake_looks.start_due.Goals as goal
 

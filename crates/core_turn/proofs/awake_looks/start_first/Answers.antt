@@ -1,11 +1,10 @@
-use Rattle.std.proofs.Common.{◌≡◌, ◌+◌, ◌<◌, length, get_or, take, set, false, sym, ◌∙◌, ap, subst, arith, refl}
+use Rattle.std.proofs.Common.{◌≡◌, ◌+◌, ◌<◌, length, get_or, take, set, false, sym, ◌∙◌, ap, subst, arith}
 use Rattle.std.proofs.lemmas.List.{length-set}
 use Rattle.std.proofs.Math.Seq.{take-length}
 use Rattle.std.proofs.lemmas.Option.{slice_get-get_or}
 use Rattle.bus_semantics.specs.Plan.{plan_of}
 use Rattle.bus_semantics.specs.Rest.{gathered, start_try}
 use Rattle.place_set.specs.Places.{NoneBetween}
-use Rattle.core_turn.specs.declared.look.Look.TheVariants.{Nothing}
 use Rattle.core_turn.specs.Awake.{EventsHeld}
 use Rattle.core_turn.proofs.Starts.{event_made}
 use Rattle.core_turn.proofs.Awakes.{TriesHeld, held_more}

@@ -1,4 +1,4 @@
-use Rattle.std.proofs.Common.{◌<◌, length, set, get_or, [], refl, sym, subst, ap}
+use Rattle.std.proofs.Common.{◌<◌, length, set, get_or, [], refl, sym, subst}
 use Rattle.std.proofs.lemmas.Option.{slice_get_read}
 use Rattle.core_turn.specs.Awake.{AwakeState, AreHeld}
 use Rattle.core_turn.proofs.Awakes.{row_there, held_waking}
