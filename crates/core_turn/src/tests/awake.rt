@@ -36,10 +36,10 @@ fn rests(
     ensures plan { plan_of b.new.plan ≡ plan_of p.now }
     ensures ready { (m : Mapping) × IsReady (plan_of p.now) m t.now c.new }
 {
-    let mut a = Awake::all(alloc, c)?;
-    match turn_of_awake(p, t, c, &mut a, b) {
+    let mut awake = Awake::all(alloc, c)?;
+    match turn_of_awake(p, t, c, &mut awake, b) {
         Turned::NothingNow => {
-            let again = turn_of_awake(p, t, c, &mut a, b);
+            let again = turn_of_awake(p, t, c, &mut awake, b);
             Ok(is_nothing(&again))
         }
         _ => Ok(false),
