@@ -122,6 +122,14 @@ impl Unqueued {
         self.updated[receiver as usize]
     }
 
+    /// Whether the event is pending.
+    pub fn is_due(&self, event: u32) -> bool
+        requires { event < length self.now.events }
+        ensures { Some result ≡ slice_get self.now.due event }
+    {
+        self.due[event as usize]
+    }
+
     /// Whether the event was pending; then it is no longer.
     pub fn start(&mut self, event: u32) -> bool
         requires { event < length self.old.events }

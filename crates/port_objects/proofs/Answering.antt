@@ -116,3 +116,8 @@ timings_rise p n o t is planned = let of = subst (IsOfPlan p n) is planned in
 pub inits_rise : (p : Plan) (n : ℕ) (o : Object) (t : Ticks) → o ≡ Clock t → IsOfPlan p n o → is_rising t.inits.items ≡ true
 inits_rise p n o t is planned = let of = subst (IsOfPlan p n) is planned in
     subst (λ es. is_rising es ≡ true) (sym of.initial) (rising_positions (λ e. is_init (kind_of p e)) (length p.events))
+
+-- so do those of a group
+pub events_rise : (p : Plan) (n : ℕ) (o : Object) (g : Group) → o ≡ Unqueued g → IsOfPlan p n o → is_rising g.events.items ≡ true
+events_rise p n o g is planned = let of = subst (IsOfPlan p n) is planned in
+    subst (λ es. is_rising es ≡ true) (sym of.waiting) (rising_positions (λ e. waits_for_data p n (kind_of p e)) (length p.events))

@@ -20,3 +20,4 @@ pub mod Coming
 pub mod Staying
 pub mod Benching
 pub mod Unheld
+pub mod Pending

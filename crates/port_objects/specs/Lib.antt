@@ -12,3 +12,4 @@ pub mod Plans
 pub mod Gathered
 pub mod Coming
 pub mod Benches
+pub mod Waking

@@ -17,6 +17,7 @@ mod threads;
 mod ticks;
 mod touching;
 mod waiting;
+mod waking;
 
 pub use acting::{Acted, Shown, act};
 pub use bench::{Bench, Benched};
@@ -31,6 +32,7 @@ pub use object::Object;
 pub use plain_bench::PlainBench;
 pub use ticks::Ticks;
 pub use touching::object_of;
+pub use waking::{held_starts_lead_nowhere, may_start, other_entries_wake_nothing, wakes};
 
 /// There was no memory for what a call makes.
 pub type Memory = std::alloc::AllocError;

@@ -49,6 +49,22 @@ impl Clock {
         }
     }
 
+    /// Whether the TimingEvent is pending.
+    pub fn is_timing_due(&self, event: u32) -> bool
+        requires { event < length self.now.timers }
+        ensures { Some result ≡ is_due event self.now }
+    {
+        self.timers[event as usize].is_due()
+    }
+
+    /// Whether the InitEvent is pending, as it is until its first start.
+    pub fn is_init_due(&self, event: u32) -> bool
+        requires { event < length self.now.unstarted }
+        ensures { Some result ≡ slice_get self.now.unstarted event }
+    {
+        self.unstarted[event as usize]
+    }
+
     /// Whether the TimingEvent was pending; then it is no longer.
     pub fn start_timing(&mut self, event: u32) -> bool
         requires { event < length self.old.timers }

@@ -46,6 +46,13 @@ impl Timer {
         self.due = is_complete || self.due;
     }
 
+    /// Whether the event is pending.
+    pub fn is_due(&self) -> bool
+        ensures { result ≡ self.now.due }
+    {
+        self.due
+    }
+
     /// Whether the event was pending; then it is no longer.
     pub fn start(&mut self) -> bool
         ensures pending { result ≡ self.old.due }
