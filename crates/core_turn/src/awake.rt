@@ -1,6 +1,6 @@
 //! Which slots and events of a core are awake.
 
-ghost use Rattle.std.specs.Prelude.{◌≡◌, ◌<◌, ℕ, List, [], Bool, length, true, slice_set, slice_index_or, IfOk};
+ghost use Rattle.std.specs.Prelude.{◌≡◌, ◌<◌, ◌&&◌, ℕ, List, [], Bool, length, true, false, slice_set, slice_index_or, IfOk};
 ghost use Rattle.bus_semantics.specs.Plan.{Plan};
 ghost use Rattle.port_objects.specs.declared.object.Object.{Object};
 ghost use Rattle.core_turn.specs.declared.slot.Slot.{Slot};
@@ -51,6 +51,15 @@ impl Awake {
         let slots = PlaceSet::full(alloc, c.slots.len())?;
         let events = all_events(alloc, &c.slots)?;
         Ok(Awake { slots, events })
+    }
+
+    /// Whether the event at a place of the slot is awake, and the slot.
+    pub fn is_awake(&self, slot: usize, place: usize) -> bool
+        requires slot { slot < length self.now.slots }
+        requires place { place < length (slice_index_or self.now.events slot []) }
+        ensures { result ≡ (slice_index_or self.now.slots slot false && slice_index_or (slice_index_or self.now.events slot []) place false) }
+    {
+        self.slots.contains(slot) && self.events[slot].contains(place)
     }
 
     /// Wakes the event at a place of the slot, and the slot.

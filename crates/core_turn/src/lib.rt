@@ -12,6 +12,7 @@ mod looking;
 mod making;
 mod slot;
 mod starting;
+mod tasks;
 #[cfg(test)]
 mod tests;
 mod threads;
@@ -25,6 +26,7 @@ pub use laws::{
     cores_stand_beside_the_environment, nothing_now_frees_the_core,
     nothing_now_is_rest_of_the_core, resting_cores_are_at_rest, turns_keep_the_law,
 };
+pub use tasks::awaited_object;
 pub use turning::{Turned, turn};
 
 /// There was no memory for what a call makes.

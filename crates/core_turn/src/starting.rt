@@ -23,7 +23,7 @@ use rte_value::ActKey;
 use task_machine::TaskSet;
 
 /// The runnable of an event.
-fn runnable_of(p: &BusPlan, event: u32) -> u32
+pub(crate) fn runnable_of(p: &BusPlan, event: u32) -> u32
     requires { nat_lt event (length p.now.events) ≡ true }
     ensures { runnable_of_event (plan_of p.now) event ≡ Some result }
 {
