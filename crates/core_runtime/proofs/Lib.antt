@@ -7,3 +7,7 @@ pub mod Ending
 pub mod Staying
 pub mod SameNodes
 pub mod Outside
+pub mod Watched
+pub mod Wakes
+pub mod Seated
+pub mod Turned

@@ -12,11 +12,11 @@ use Rattle.core_turn.specs.Lawful.{IsLawful}
 use Rattle.core_turn.specs.Plans.{IsBuilt}
 use Rattle.core_runtime.specs.Nodes.{AreNewCores, IsNewCore, HaveRoom}
 
-data Last (X : Type 0) (xs : List X) (y : X) (i : ℕ) (x : X) : Type 0 where
+pub data Last (X : Type 0) (xs : List X) (y : X) (i : ℕ) (x : X) : Type 0 where
   earlier : slice_get xs i ≡ Some x → Last X xs y i x
   last : i ≡ length xs → x ≡ y → Last X xs y i x
 
-last_or : {X : Type 0} (xs : List X) (y : X) (i : ℕ) (x : X) → slice_get (xs ++ y ∷ []) i ≡ Some x → Last X xs y i x
+pub last_or : {X : Type 0} (xs : List X) (y : X) (i : ℕ) (x : X) → slice_get (xs ++ y ∷ []) i ≡ Some x → Last X xs y i x
 last_or [] y zero x e = last refl cc
 last_or [] y (suc i) x e = absurd (cc e)
 last_or (z ∷ xs) y zero x e = earlier e

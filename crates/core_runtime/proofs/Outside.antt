@@ -23,12 +23,14 @@ use Rattle.port_objects.specs.declared.object.Object.{Object}
 use Rattle.port_objects.specs.Objects.{kept_of, touched, IsObject, IsOfPlan}
 use Rattle.port_objects.specs.Standing.{Follows, Stands}
 use Rattle.port_objects.specs.Coming.{MayAsk, IsTheOne, is_start}
-use Rattle.port_objects.specs.Answers.{event_of, noted_for}
+use Rattle.port_objects.specs.Answers.{event_of, noted_for, IsMade}
+use Rattle.port_objects.specs.Leading.{lead}
 use Rattle.task_machine.specs.declared.instr.TaskSet.{TaskSet}
 use Rattle.core_turn.specs.Cores.{CoreState}
 use Rattle.core_turn.specs.Lawful.{IsLawful}
 use Rattle.core_turn.specs.Standing.{CoreStands}
 use Rattle.core_runtime.specs.Nodes.{IsNode}
+use Rattle.core_runtime.specs.Watching.{Touches}
 use Rattle.core_runtime.proofs.Places.{Placed, here, there, placed, found_at}
 
 both : (a b : Bool) → (a && b) ≡ true → (a ≡ true) × (b ≡ true)
@@ -101,6 +103,22 @@ module _ {p : Plan} {m : Mapping} {t : TaskSet} {cores : List CoreState} {object
       fits = may_want;
       own = refl;
       stands = subst (λ n. Stands p n (kept_of old) (entries_of p h object)) (sym at) (lawful.stand object old found);
+    }
+
+    -- what its entry does to the objects
+    pub touches_then : (new : Object) (e : Entry) → IsMade p (touched p Env w) Env w old new e → Touches p objects (set objects object new) e
+    touches_then new e made = record {
+      object = object;
+      actor = Env;
+      by = unwrap_or (event_of w) 0;
+      touching = ap (object_of p Env) made.wish ∙ sym touching;
+      old = old;
+      new = new;
+      found = found;
+      noted = noted_for w e;
+      is = refl;
+      leads = subst (λ n. lead p n (kept_of old) (noted_for w e) ≡ Some (kept_of new)) at made.leads;
+      others = refl;
     }
 
     -- ---- its entry

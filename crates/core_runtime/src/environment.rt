@@ -9,6 +9,7 @@ ghost use Rattle.bus_semantics.specs.Wanted.{wanted_by, wanted_of};
 ghost use Rattle.core_runtime.specs.Nodes.{IsLawfulNode};
 
 use crate::node::Node;
+use crate::waking::wake_after;
 use bus_semantics::{Actor, Entry, Wish};
 use core_turn::cores_stand_beside_the_environment;
 use port_objects::{
@@ -42,7 +43,15 @@ impl Node {
                     &Actor::Env,
                     wish,
                 ) {
-                    Acted::Done(entry) => entry,
+                    Acted::Done(entry) => {
+                        wake_after(
+                            &self.plan,
+                            &entry,
+                            self.objects.as_slice(),
+                            &mut self.watch,
+                        );
+                        entry
+                    }
                     Acted::NotYet(_) => unreachable!(),
                 }
             }

@@ -11,9 +11,11 @@ ghost use Rattle.core_turn.specs.Ready.{IsReady};
 ghost use Rattle.core_runtime.specs.Nodes.{HasRoom};
 ghost use Rattle.core_runtime.specs.Stays.{AreBounded, total};
 ghost use Rattle.core_runtime.specs.Turns.{IsUnderWay, Made};
+ghost use Rattle.core_runtime.specs.Watching.{IsWatch};
 
 use crate::stay::Stay;
 use crate::step::step;
+use crate::watch::Watch;
 use bus_semantics::{BusPlan, Stamped};
 use core_turn::Core;
 use port_objects::PlainBench;
@@ -26,6 +28,7 @@ fn visit<G: Gate>(
     t: &TaskSet,
     c: &mut Core,
     stay: &mut Stay,
+    w: &mut Watch,
     b: &mut PlainBench,
     entries: &mut Vec<Stamped>,
     number: u32,
@@ -39,6 +42,7 @@ fn visit<G: Gate>(
     requires plan { plan_of b.old.plan ≡ plan_of p.now }
     requires bodies { AsksAsPlanned (plan_of p.now) t.now }
     requires ready { (m : Mapping) × IsReady (plan_of p.now) m t.now c.old }
+    requires watched { (cores : List CoreState) × (slice_get cores number ≡ Some c.old) × IsWatch (plan_of p.now) b.old.objects cores w.old }
     ensures bounded { stay.new.made ≤ 1024 }
     ensures count { length entries.new.items + stay.old.made ≡ length entries.old.items + stay.new.made }
     ensures bench_room { b.new.room + length entries.new.items ≡ b.old.room + length entries.old.items }
@@ -48,10 +52,11 @@ fn visit<G: Gate>(
     ensures all { (start cores : List CoreState) (objects : List Object) (i : ℕ) → slice_get cores i ≡ Some c.old
         → Made (plan_of p.now) t.now start cores objects b.old.objects entries.old.items
         → Made (plan_of p.now) t.now start (set cores i c.new) objects b.new.objects entries.new.items }
+    ensures watched { (cores : List CoreState) → slice_get cores number ≡ Some c.old → IsWatch (plan_of p.now) b.old.objects cores w.old → IsWatch (plan_of p.now) b.new.objects (set cores number c.new) w.new }
 {
     if stay.goes_on() {
         gate.pass(number);
-        let made = step(p, t, c, b, entries);
+        let made = step(p, t, c, number as usize, w, b, entries);
         stay.note(made);
     }
 }
@@ -62,6 +67,7 @@ pub(crate) fn lap<G: Gate>(
     t: &TaskSet,
     cores: &mut Vec<Core>,
     stays: &mut Vec<Stay>,
+    w: &mut Watch,
     b: &mut PlainBench,
     entries: &mut Vec<Stamped>,
     gate: &G,
@@ -76,6 +82,7 @@ pub(crate) fn lap<G: Gate>(
     requires next { b.old.next ≡ length entries.old.items }
     requires plan { plan_of b.old.plan ≡ plan_of p.now }
     requires bodies { AsksAsPlanned (plan_of p.now) t.now }
+    requires watched { IsWatch (plan_of p.now) b.old.objects cores.old.items w.old }
     ensures stays { length stays.new.items ≡ length stays.old.items }
     ensures bounded { AreBounded stays.new.items }
     ensures made { length entries.new.items ≡ total stays.new.items }
@@ -84,6 +91,7 @@ pub(crate) fn lap<G: Gate>(
     ensures next { b.new.next ≡ length entries.new.items }
     ensures plan { plan_of b.new.plan ≡ plan_of b.old.plan }
     ensures count { length cores.new.items ≡ length cores.old.items }
+    ensures watched { IsWatch (plan_of p.now) b.new.objects cores.new.items w.new }
     ensures all { (start : List CoreState) (objects : List Object) → Made (plan_of p.now) t.now start cores.old.items objects b.old.objects entries.old.items → Made (plan_of p.now) t.now start cores.new.items objects b.new.objects entries.new.items }
 {
     for number in 0..cores.len() {
@@ -92,6 +100,7 @@ pub(crate) fn lap<G: Gate>(
             t,
             &mut cores[number],
             &mut stays[number],
+            w,
             b,
             entries,
             number as u32,
@@ -106,6 +115,7 @@ pub(crate) fn go_together<G: Gate>(
     t: &TaskSet,
     cores: &mut Vec<Core>,
     stays: &mut Vec<Stay>,
+    w: &mut Watch,
     b: &mut PlainBench,
     entries: &mut Vec<Stamped>,
     gate: &G,
@@ -120,14 +130,16 @@ pub(crate) fn go_together<G: Gate>(
     requires next { b.old.next ≡ length entries.old.items }
     requires plan { plan_of b.old.plan ≡ plan_of p.now }
     requires bodies { AsksAsPlanned (plan_of p.now) t.now }
+    requires watched { IsWatch (plan_of p.now) b.old.objects cores.old.items w.old }
     ensures capacity { vec_capacity entries.new ≡ vec_capacity entries.old }
     ensures plan { plan_of b.new.plan ≡ plan_of b.old.plan }
+    ensures watched { IsWatch (plan_of p.now) b.new.objects cores.new.items w.new }
     ensures all { (start : List CoreState) (objects : List Object) → Made (plan_of p.now) t.now start cores.old.items objects b.old.objects entries.old.items → Made (plan_of p.now) t.now start cores.new.items objects b.new.objects entries.new.items }
 {
     // A round has at most 8,192 entries, so at most so many laps make one.
     for laps in 0..=8192u32 {
         let before = entries.len();
-        lap(p, t, cores, stays, b, entries, gate);
+        lap(p, t, cores, stays, w, b, entries, gate);
         if entries.len() == before {
             return;
         }

@@ -8,8 +8,11 @@ mod making;
 mod node;
 mod pass;
 mod round;
+mod seats;
 mod stay;
 mod step;
+mod waking;
+mod watch;
 
 pub use node::Node;
 pub use pass::serial_pass;

@@ -9,6 +9,7 @@ ghost use Rattle.core_runtime.specs.Nodes.{IsLawfulNode};
 
 use crate::Memory;
 use crate::making::cores_of;
+use crate::watch::Watch;
 use bus_semantics::{BusPlan, Mapping, Stamped};
 use core_turn::Core;
 use port_objects::{Object, make_objects, sound_plans_have_objects};
@@ -26,6 +27,7 @@ pub struct Node {
     pub(crate) cores: Vec<Core>,
     pub(crate) objects: Vec<Object>,
     pub(crate) entries: Vec<Stamped>,
+    pub(crate) watch: Watch,
 }
 
 impl Model for Node {
@@ -33,6 +35,7 @@ impl Model for Node {
     ghost use Rattle.std.specs.Vec.{vec_capacity};
     ghost use Rattle.bus_semantics.specs.Plan.{plan_of};
     ghost use Rattle.core_runtime.specs.Nodes.{NodeState, IsNode};
+    ghost use Rattle.core_runtime.specs.Watching.{IsWatch};
     ghost use Rattle.runnable_lang.specs.contracts.stmt.Stmt as statements;
     ghost use Rattle.runnable_lang.specs.contracts.stmt.Expr as expressions;
     ghost use Rattle.std.specs.Coded.{codes};
@@ -43,7 +46,7 @@ impl Model for Node {
 
     ghost view = { λ n. record { plan = n.plan; mapping = n.mapping; bodies = n.bodies; cores = n.cores.items; objects = n.objects.items; entries = n.entries.items; spare = vec_capacity n.entries } };
 
-    ghost invariant = { λ n. IsNode (plan_of n.plan) n.mapping n.bodies n.cores.items n.objects.items };
+    ghost invariant = { λ n. IsNode (plan_of n.plan) n.mapping n.bodies n.cores.items n.objects.items × IsWatch (plan_of n.plan) n.objects.items n.cores.items n.watch };
 }
 
 impl Node {
@@ -60,6 +63,7 @@ impl Node {
         sound_plans_have_objects();
         let objects = make_objects(alloc, &p)?;
         let cores = cores_of(alloc, &m, &t)?;
+        let watch = Watch::new(alloc, &p, cores.as_slice())?;
         Ok(Node {
             plan: p,
             mapping: m,
@@ -67,6 +71,7 @@ impl Node {
             cores,
             objects,
             entries: Vec::new(alloc),
+            watch,
         })
     }
 

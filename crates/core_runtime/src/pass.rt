@@ -13,9 +13,11 @@ ghost use Rattle.task_generator.specs.Promise.{AsksAsPlanned};
 ghost use Rattle.core_runtime.specs.After.{after, are_within};
 ghost use Rattle.core_runtime.specs.Nodes.{HaveRoom, IsLawfulNode};
 ghost use Rattle.core_runtime.specs.Turns.{AreReady, TurnsGiven};
+ghost use Rattle.core_runtime.specs.Watching.{IsWatch};
 
 use crate::node::Node;
 use crate::step::step;
+use crate::watch::Watch;
 use bus_semantics::{BusPlan, Stamped};
 use core_turn::{
     Core, nothing_now_frees_the_core, nothing_now_is_rest_of_the_core, resting_cores_are_at_rest,
@@ -29,6 +31,7 @@ fn give_turns(
     p: &BusPlan,
     t: &TaskSet,
     cores: &mut Vec<Core>,
+    w: &mut Watch,
     b: &mut PlainBench,
     entries: &mut Vec<Stamped>,
 )
@@ -40,13 +43,15 @@ fn give_turns(
     requires plan { plan_of b.old.plan ≡ plan_of p.now }
     requires bodies { AsksAsPlanned (plan_of p.now) t.now }
     requires ready { (m : Mapping) × AreReady (plan_of p.now) m t.now cores.old.items }
+    requires watched { IsWatch (plan_of p.now) b.old.objects cores.old.items w.old }
     ensures plan { plan_of b.new.plan ≡ plan_of b.old.plan }
     ensures capacity { vec_capacity entries.new ≡ vec_capacity entries.old }
     ensures few { length entries.new.items ≤ length cores.old.items }
     ensures given { TurnsGiven (plan_of p.now) t.now cores.old.items cores.new.items b.old.objects b.new.objects entries.new.items }
+    ensures watched { IsWatch (plan_of p.now) b.new.objects cores.new.items w.new }
 {
     for number in 0..cores.len() {
-        step(p, t, &mut cores[number], b, entries);
+        step(p, t, &mut cores[number], number, w, b, entries);
     }
 }
 
@@ -55,6 +60,7 @@ pub(crate) fn pass_over(
     p: &BusPlan,
     t: &TaskSet,
     cores: &mut Vec<Core>,
+    w: &mut Watch,
     objects: &mut Vec<Object>,
     entries: &mut Vec<Stamped>,
 )
@@ -65,16 +71,18 @@ pub(crate) fn pass_over(
     requires room { length cores.old.items ≤ vec_capacity entries.old }
     requires bodies { AsksAsPlanned (plan_of p.now) t.now }
     requires ready { (m : Mapping) × AreReady (plan_of p.now) m t.now cores.old.items }
+    requires watched { IsWatch (plan_of p.now) objects.old.items cores.old.items w.old }
     ensures planned { ArePlans (plan_of p.now) objects.new.items }
     ensures capacity { vec_capacity entries.new ≡ vec_capacity entries.old }
     ensures few { length entries.new.items ≤ length cores.old.items }
     ensures given { TurnsGiven (plan_of p.now) t.now cores.old.items cores.new.items objects.old.items objects.new.items entries.new.items }
+    ensures watched { IsWatch (plan_of p.now) objects.new.items cores.new.items w.new }
 {
     entries.clear();
     let none = Vec::new(*objects.allocator());
     let all = mem::replace(objects, none);
     let mut bench = PlainBench::new(p, all, cores.len() as u32);
-    give_turns(p, t, cores, &mut bench, entries);
+    give_turns(p, t, cores, w, &mut bench, entries);
     *objects = bench.into_objects();
 }
 
@@ -99,6 +107,7 @@ pub fn serial_pass(n: &mut Node)
         &n.plan,
         &n.bodies,
         &mut n.cores,
+        &mut n.watch,
         &mut n.objects,
         &mut n.entries,
     );

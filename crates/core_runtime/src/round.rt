@@ -15,11 +15,13 @@ ghost use Rattle.core_runtime.specs.After.{after, are_within};
 ghost use Rattle.core_runtime.specs.Nodes.{HaveRoom, IsLawfulNode, IsSameNode};
 ghost use Rattle.core_runtime.specs.Stays.{AreBounded, total};
 ghost use Rattle.core_runtime.specs.Turns.{AreReady, Made, NothingMayCome};
+ghost use Rattle.core_runtime.specs.Watching.{IsWatch};
 
 use crate::alone::go_alone;
 use crate::lap::go_together;
 use crate::node::Node;
 use crate::stay::Stay;
+use crate::watch::Watch;
 use bus_semantics::{BusPlan, Stamped};
 use core_turn::{
     Core, nothing_now_frees_the_core, nothing_now_is_rest_of_the_core, resting_cores_are_at_rest,
@@ -59,6 +61,7 @@ fn round_over<G: Gate>(
     t: &TaskSet,
     cores: &mut Vec<Core>,
     stays: &mut Vec<Stay>,
+    w: &mut Watch,
     objects: &mut Vec<Object>,
     entries: &mut Vec<Stamped>,
     gate: &G,
@@ -73,9 +76,11 @@ fn round_over<G: Gate>(
     requires room { 1024 * length cores.old.items ≤ vec_capacity entries.old }
     requires bodies { AsksAsPlanned (plan_of p.now) t.now }
     requires ready { (m : Mapping) × AreReady (plan_of p.now) m t.now cores.old.items }
+    requires watched { IsWatch (plan_of p.now) objects.old.items cores.old.items w.old }
     ensures planned { ArePlans (plan_of p.now) objects.new.items }
     ensures capacity { vec_capacity entries.new ≡ vec_capacity entries.old }
     ensures made { Made (plan_of p.now) t.now cores.old.items cores.new.items objects.old.items objects.new.items entries.new.items }
+    ensures watched { IsWatch (plan_of p.now) objects.new.items cores.new.items w.new }
     ensures end { length cores.old.items ≡ 1 → (length entries.new.items ≡ 1024) ⊎ NothingMayCome (plan_of p.now) t.now cores.new.items objects.new.items }
 {
     entries.clear();
@@ -83,9 +88,9 @@ fn round_over<G: Gate>(
     let all = mem::replace(objects, none);
     let mut bench = PlainBench::new(p, all, 1024 * cores.len() as u32);
     if cores.len() == 1 {
-        go_alone(p, t, cores, &mut bench, entries, gate);
+        go_alone(p, t, cores, w, &mut bench, entries, gate);
     } else {
-        go_together(p, t, cores, stays, &mut bench, entries, gate);
+        go_together(p, t, cores, stays, w, &mut bench, entries, gate);
     }
     *objects = bench.into_objects();
 }
@@ -137,6 +142,7 @@ pub fn run_round<R: Threads + Sync, G: Gate>(
         &n.bodies,
         &mut n.cores,
         &mut stays,
+        &mut n.watch,
         &mut n.objects,
         &mut n.entries,
         gate,

@@ -11,6 +11,16 @@ step-made-requires-clause-ready g c =
       c.loop-turns.invariant.made.ready c.requires.ready.0 c.requires.ready.1 0 c.index_mut.result.now (found_at c.loop-turns.cores.items 0 c.index_mut.result.now within c.index_mut.ensures.value),
     )
 
+pub step-made-requires-clause-watched : goal.step-made-requires-clause-watched
+step-made-requires-clause-watched g c =
+    let within : 0 < length c.loop-turns.cores.items = omega (arith, c.loop-turns.invariant.made.count, c.requires.alone) in
+    (c.loop-turns.cores.items, found_at c.loop-turns.cores.items 0 c.index_mut.result.now within c.index_mut.ensures.value, c.loop-turns.invariant.watched)
+
+pub returns-then-not-made-clause-watched : goal.returns-then-not-made-clause-watched
+returns-then-not-made-clause-watched g c =
+    let within : 0 < length c.loop-turns.cores.items = omega (arith, c.loop-turns.invariant.made.count, c.requires.alone) in
+    c.if-not-made.ensures.watched c.loop-turns.cores.items (found_at c.loop-turns.cores.items 0 c.index_mut.result.now within c.index_mut.ensures.value) c.loop-turns.invariant.watched
+
 pub returns-then-not-made-clause-end : goal.returns-then-not-made-clause-end
 returns-then-not-made-clause-end g c =
     let one : length c.loop-turns.cores.items ≡ 1 = c.loop-turns.invariant.made.count ∙ c.requires.alone in
@@ -25,6 +35,7 @@ loop-turns-preserved g c =
     let found = found_at c.loop-turns.cores.items 0 c.index_mut.result.now within c.index_mut.ensures.value in
     let makes = c.if-not-made.ensures.stepped in
     record {
+      watched = c.if-not-made.ensures.watched c.loop-turns.cores.items found i.watched;
       plan = c.if-not-made.ensures.plan ∙ i.plan;
       capacity = c.if-not-made.ensures.capacity ∙ i.capacity;
       count = longer_by_one c.loop-turns.entries.items c.step-made.new.entries.items makes.made c.loop-turns.turns i.count makes.added;

@@ -21,5 +21,6 @@ loop-laps-preserved g c =
       next = c.lap.ensures.next;
       plan = c.lap.ensures.plan ∙ i.plan;
       count = c.lap.ensures.count ∙ i.count;
+      watched = c.lap.ensures.watched;
       all = λ start objects made. c.lap.ensures.all start objects (i.all start objects made);
     }

@@ -40,6 +40,11 @@ visit-requires-clause-ready g c κs within =
       made.ready far.mapping far.ready c.loop-number.number c.index_mut.result.now (found_at c.loop-number.cores.items c.loop-number.number c.index_mut.result.now inside c.index_mut.ensures.value),
     )
 
+pub visit-requires-clause-watched : goal.visit-requires-clause-watched
+visit-requires-clause-watched g c κs within =
+    let inside : c.loop-number.number < length c.loop-number.cores.items = omega (arith, c.loop-number.invariant.count) in
+    (c.loop-number.cores.items, found_at c.loop-number.cores.items c.loop-number.number c.index_mut.result.now inside c.index_mut.ensures.value, c.loop-number.invariant.watched)
+
 pub loop-number-preserved : goal.loop-number-preserved
 loop-number-preserved g c =
     let i = c.loop-number.invariant in
@@ -56,5 +61,6 @@ loop-number-preserved g c =
       next = c.visit.ensures.next;
       plan = c.visit.ensures.plan ∙ i.plan;
       count = length-set c.loop-number.cores.items c.loop-number.number c.visit.new.c ∙ i.count;
+      watched = c.visit.ensures.watched c.loop-number.cores.items core i.watched;
       all = λ start objects made. c.visit.ensures.all start c.loop-number.cores.items objects c.loop-number.number core (i.all start objects made);
     }

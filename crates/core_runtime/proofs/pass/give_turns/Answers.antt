@@ -17,6 +17,11 @@ step-requires-clause-ready c =
       c.loop-number.invariant.made.ready c.requires.ready.0 c.requires.ready.1 c.loop-number.number c.index_mut.result.now (found_at c.loop-number.cores.items c.loop-number.number c.index_mut.result.now within c.index_mut.ensures.value),
     )
 
+pub step-requires-clause-watched : goal.step-requires-clause-watched
+step-requires-clause-watched c =
+    let within : c.loop-number.number < length c.loop-number.cores.items = omega (arith, c.loop-number.invariant.made.count) in
+    (c.loop-number.cores.items, found_at c.loop-number.cores.items c.loop-number.number c.index_mut.result.now within c.index_mut.ensures.value, c.loop-number.invariant.watched)
+
 pub loop-number-preserved : goal.loop-number-preserved
 loop-number-preserved c =
     let i = c.loop-number.invariant in
@@ -29,6 +34,7 @@ loop-number-preserved c =
       room = step_room (plan_of c.args.p.now) c.args.t.now c.index_mut.result.now c.step.new.c c.loop-number.b c.step.new.b c.loop-number.entries.items c.step.new.entries.items c.step.result c.step.ensures.stepped ∙ i.room;
       next = step_next (plan_of c.args.p.now) c.args.t.now c.args.cores.now.items c.loop-number.cores.items c.args.b.now.objects c.loop-number.number c.index_mut.result.now c.step.new.c c.loop-number.b c.step.new.b c.loop-number.entries.items c.step.new.entries.items found c.step.ensures.core_room i.next i.made c.step.result c.step.ensures.stepped;
       made = step_on (plan_of c.args.p.now) c.args.t.now c.args.cores.now.items c.loop-number.cores.items c.args.b.now.objects c.loop-number.number c.index_mut.result.now c.step.new.c c.loop-number.b c.step.new.b c.loop-number.entries.items c.step.new.entries.items found c.step.ensures.core_room i.next i.made c.step.result c.step.ensures.stepped;
+      watched = c.step.ensures.watched c.loop-number.cores.items found i.watched;
       rest = quiet_on (plan_of c.args.p.now) c.args.t.now c.loop-number.number c.args.cores.now.items c.loop-number.cores.items c.args.b.now.objects c.index_mut.result.now c.step.new.c c.loop-number.b c.step.new.b c.loop-number.entries.items c.step.new.entries.items found c.step.result c.step.ensures.stepped i.rest;
     }
 

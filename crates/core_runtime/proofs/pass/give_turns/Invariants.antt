@@ -2,6 +2,7 @@ use Rattle.std.proofs.Common.{◌≡◌, ◌≤◌, [], length, ◌+◌}
 use Rattle.std.specs.Vec.{vec_capacity}
 use Rattle.bus_semantics.specs.Plan.{plan_of}
 use Rattle.core_runtime.specs.Turns.{Made}
+use Rattle.core_runtime.specs.Watching.{IsWatch}
 use Rattle.core_runtime.proofs.Turning.{SoFar}
 use Rattle.core_runtime.proofs.pass.give_turns.Given as goal
 
@@ -13,5 +14,6 @@ invariant-loop-number l = record {
   room : l.b.room + length l.entries.items ≡ l.initial.b.room;
   next : l.b.next ≡ length l.entries.items;
   made : Made (plan_of l.p) l.t l.initial.cores.items l.cores.items l.initial.b.objects l.b.objects l.entries.items;
+  watched : IsWatch (plan_of l.p) l.b.objects l.cores.items l.w;
   rest : l.entries.items ≡ [] → SoFar (plan_of l.p) l.t l.number l.initial.cores.items l.cores.items l.initial.b.objects l.b.objects;
 }

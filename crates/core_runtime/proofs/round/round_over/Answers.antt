@@ -1,6 +1,7 @@
 use Rattle.std.proofs.Common.{◌≡◌, refl, [], sym, ◌∙◌, ap}
 use Rattle.bus_semantics.specs.Plan.{plan_of}
 use Rattle.port_objects.specs.Benches.{Plain}
+use Rattle.core_runtime.proofs.Turned.{watch_as}
 use Rattle.core_runtime.proofs.Turning.{made_nothing, made_as}
 use Rattle.core_runtime.proofs.round.round_over.Goals as goal
 use Rattle.core_runtime.proofs.round.round_over.Goals.{then-len-eq1, else-len-eq1}
@@ -19,4 +20,16 @@ returns-clause-made g c =
           (w.go_together.ensures.all c.args.cores.now.items c.new-bench.result.objects
           (made_as (plan_of c.args.p.now) c.args.t.now c.args.cores.now.items c.args.cores.now.items c.args.cores.now.items c.new-bench.result.objects c.new-bench.result.objects c.new-bench.result.objects c.new-bench.result.objects
           [] c.clear.new.self.items refl refl refl c.clear.ensures.items (made_nothing (plan_of c.args.p.now) c.args.t.now c.args.cores.now.items c.new-bench.result.objects c.requires.core_room)))
+    ]
+
+pub returns-clause-watched : goal.returns-clause-watched
+returns-clause-watched g c =
+    let p = plan_of c.args.p.now in
+    elim c.if-len-eq1.branch [
+      | then-len-eq1 w ↦
+          watch_as p w.go_alone.new.b.objects c.into_objects.result.items w.go_alone.new.cores.items c.if-len-eq1.cores.items w.go_alone.new.w c.if-len-eq1.w (c.into_objects.ensures.objects ∙ ap (λ (b : Plain). b.objects) w.bench-is)
+          (ap (λ (v : _). v.items) w.cores-is) w.w-is w.go_alone.ensures.watched
+      | else-len-eq1 w ↦
+          watch_as p w.go_together.new.b.objects c.into_objects.result.items w.go_together.new.cores.items c.if-len-eq1.cores.items w.go_together.new.w c.if-len-eq1.w (c.into_objects.ensures.objects ∙ ap (λ (b : Plain). b.objects) w.bench-is)
+          (ap (λ (v : _). v.items) w.cores-is) w.w-is w.go_together.ensures.watched
     ]

@@ -1,13 +1,22 @@
-use Rattle.std.proofs.Common.{[]}
+use Rattle.std.proofs.Common.{[], sym, subst}
 use Rattle.bus_semantics.specs.Plan.{plan_of}
+use Rattle.core_runtime.specs.Turns.{AreReady}
+use Rattle.core_runtime.specs.Watching.{IsWatch}
 use Rattle.core_runtime.proofs.NewNodes.{new_lawful, new_room}
 use Rattle.core_runtime.proofs.node.Node.new.Goals as goal
 
 pub returns-clause-lawful : goal.returns-clause-lawful
 returns-clause-lawful c = new_lawful (plan_of c.args.p) c.args.m c.args.t c.in_ok-cores.cores.items c.in_ok-objects.objects.items c.requires.built c.in_ok-cores.ensures.cores c.in_ok-objects.ensures.standing
 
+pub new-requires-clause-ready : goal.new-requires-clause-ready
+new-requires-clause-ready c = (
+  c.args.m,
+  c.args.t,
+  subst (AreReady (plan_of c.args.p) c.args.m c.args.t) (sym c.as_slice.ensures.value) (λ i k found. (c.in_ok-cores.ensures.cores i k found).is_ready (plan_of c.args.p) c.requires.built),
+)
+
 pub invariant_of-result : goal.invariant_of-result
-invariant_of-result c = record {
+invariant_of-result c = (record {
   built = c.requires.built;
   bodies = c.requires.bodies;
   counted = c.sound_plans_have_objects.ensures.asked (plan_of c.args.p) c.args.m c.requires.built.sound;
@@ -16,4 +25,4 @@ invariant_of-result c = record {
   room = new_room (plan_of c.args.p) c.args.m c.args.t c.in_ok-cores.cores.items c.in_ok-objects.objects.items c.requires.built c.in_ok-cores.ensures.cores c.in_ok-objects.ensures.standing;
   history = [];
   lawful = new_lawful (plan_of c.args.p) c.args.m c.args.t c.in_ok-cores.cores.items c.in_ok-objects.objects.items c.requires.built c.in_ok-cores.ensures.cores c.in_ok-objects.ensures.standing;
-}
+}, subst (λ cs. IsWatch (plan_of c.args.p) c.in_ok-objects.objects.items cs c.in_ok-watch.watch) c.as_slice.ensures.value (c.in_ok-watch.ensures c.in_ok-objects.objects.items))

@@ -1,0 +1,147 @@
+-- Flags that are set, one after the other.
+use Rattle.std.proofs.Common.{◌≡◌, ℕ, zero, suc, ◌<◌, Bool, true, false, ◌&&◌, ◌||◌, not, refl, sym, ◌∙◌, ap, subst, arith, List, [], ◌∷◌, length, get_or, set, Some}
+use Rattle.std.specs.List.{slice_get}
+use Rattle.std.proofs.lemmas.Bool.{false≢true}
+use Rattle.std.proofs.lemmas.List.{length-set}
+use Rattle.std.proofs.lemmas.Option.{slice_get_within, slice_get-get_or}
+use Rattle.port_objects.specs.Kept.{Kept}
+use Rattle.port_objects.specs.Waking.{may_start_in}
+use Rattle.core_turn.specs.Awake.{AwakeState}
+use Rattle.core_runtime.specs.declared.seats.Seat.{Seat}
+use Rattle.core_runtime.specs.Watching.{is_awake, IsWoken, AreWoken, IsThere, IsSeen}
+use Rattle.core_runtime.proofs.Places.{Placed, here, there, placed, set_here}
+
+some_is : {X : Type 0} {x y : X} → Some x ≡ Some y → x ≡ y
+some_is e = cc
+
+-- ---- flags
+
+set_keeps : (flags : List Bool) (n i : ℕ) → get_or flags i false ≡ true → get_or (set flags n true) i false ≡ true
+set_keeps [] n i e = e
+set_keeps (b ∷ flags) zero zero e = refl
+set_keeps (b ∷ flags) zero (suc i) e = e
+set_keeps (b ∷ flags) (suc n) zero e = e
+set_keeps (b ∷ flags) (suc n) (suc i) e = set_keeps flags n i e
+
+set_puts : (flags : List Bool) (n : ℕ) → n < length flags → get_or (set flags n true) n false ≡ true
+set_puts [] n within = absurd (omega arith)
+set_puts (b ∷ flags) zero within = refl
+set_puts (b ∷ flags) (suc n) within = set_puts flags n (omega arith)
+
+abbrev row_set : List (List Bool) → (n place : ℕ) → List (List Bool)
+row_set rows n place = set rows n (set (get_or rows n []) place true)
+
+row_keeps : (rows : List (List Bool)) (n place i j : ℕ) → get_or (get_or rows i []) j false ≡ true → get_or (get_or (row_set rows n place) i []) j false ≡ true
+row_keeps [] n place i j e = e
+row_keeps (r ∷ rows) zero place zero j e = set_keeps r place j e
+row_keeps (r ∷ rows) zero place (suc i) j e = e
+row_keeps (r ∷ rows) (suc n) place zero j e = e
+row_keeps (r ∷ rows) (suc n) place (suc i) j e = row_keeps rows n place i j e
+
+row_puts : (rows : List (List Bool)) (n place : ℕ) → place < length (get_or rows n []) → get_or (get_or (row_set rows n place) n []) place false ≡ true
+row_puts [] n place within = absurd (omega arith)
+row_puts (r ∷ rows) zero place within = set_puts r place within
+row_puts (r ∷ rows) (suc n) place within = row_puts rows n place within
+
+row_width : (rows : List (List Bool)) (n place i : ℕ) → length (get_or (row_set rows n place) i []) ≡ length (get_or rows i [])
+row_width [] n place i = refl
+row_width (r ∷ rows) zero place zero = length-set r place true
+row_width (r ∷ rows) zero place (suc i) = refl
+row_width (r ∷ rows) (suc n) place zero = refl
+row_width (r ∷ rows) (suc n) place (suc i) = row_width rows n place i
+
+-- ---- of one core
+
+pub woken_same : (a : AwakeState) → IsWoken a a
+woken_same a = record { count = refl; rows = refl; widths = λ i. refl; slots = λ i on. on; events = λ i j on. on }
+
+woken_then : (a b c : AwakeState) → IsWoken a b → IsWoken b c → IsWoken a c
+woken_then a b c first second = record {
+  count = second.count ∙ first.count;
+  rows = second.rows ∙ first.rows;
+  widths = λ i. second.widths i ∙ first.widths i;
+  slots = λ i on. second.slots i (first.slots i on);
+  events = λ i j on. second.events i j (first.events i j on);
+}
+
+module _ (a b : AwakeState) (slot place : ℕ) (slots : b.slots ≡ set a.slots slot true) (events : b.events ≡ row_set a.events slot place) where
+  pub woken_one : IsWoken a b
+  woken_one = record {
+    count = ap length slots ∙ length-set a.slots slot true;
+    rows = ap length events ∙ length-set a.events slot (set (get_or a.events slot []) place true);
+    widths = λ i. ap (λ rs. length (get_or rs i [])) events ∙ row_width a.events slot place i;
+    slots = λ i on. ap (λ fs. get_or fs i false) slots ∙ set_keeps a.slots slot i on;
+    events = λ i j on. ap (λ rs. get_or (get_or rs i []) j false) events ∙ row_keeps a.events slot place i j on;
+  }
+
+  pub awake_now : slot < length a.slots → place < length (get_or a.events slot []) → is_awake b slot place ≡ true
+  awake_now within inside = both (get_or b.slots slot false) (get_or (get_or b.events slot []) place false) (ap (λ fs. get_or fs slot false) slots ∙ set_puts a.slots slot within)
+      (ap (λ rs. get_or (get_or rs slot []) place false) events ∙ row_puts a.events slot place inside)
+    where
+      both : (x y : Bool) → x ≡ true → y ≡ true → (x && y) ≡ true
+      both true y e f = f
+      both false y e f = absurd (false≢true e)
+
+-- ---- of all cores
+
+pub are_same : (xs : List AwakeState) → AreWoken xs xs
+are_same xs = record { count = refl; each = λ i a b was now. subst (IsWoken a) (some_is (sym was ∙ now)) (woken_same a) }
+
+pub are_then : (xs ys zs : List AwakeState) → AreWoken xs ys → AreWoken ys zs → AreWoken xs zs
+are_then xs ys zs first second = record {
+  count = second.count ∙ first.count;
+  each = λ i a c was now.
+      let inside : i < length zs = slice_get_within zs i c now in
+      let within : i < length ys = omega (arith, second.count) in
+      let b = get_or ys i c in
+      let mid : slice_get ys i ≡ Some b = slice_get-get_or ys i c within in
+      woken_then a b c (first.each i a b was mid) (second.each i b c mid now);
+}
+
+pub are_set : (xs : List AwakeState) (n : ℕ) (a b : AwakeState) → slice_get xs n ≡ Some a → IsWoken a b → AreWoken xs (set xs n b)
+are_set xs n a b is woken = record { count = length-set xs n b; each = λ i x y was now. of_place i x y was (placed xs n b i y now) }
+  where
+    of_place : (i : ℕ) (x y : AwakeState) → slice_get xs i ≡ Some x → Placed AwakeState xs n b i y → IsWoken x y
+    of_place i x y was (here at same) = subst (λ z. IsWoken z y) (some_is (sym is ∙ sym (ap (slice_get xs) at) ∙ was)) (subst (IsWoken a) (sym same) woken)
+    of_place i x y was (there other found) = subst (IsWoken x) (some_is (sym was ∙ found)) (woken_same x)
+
+pub there_still : (xs ys : List AwakeState) (s : Seat) → AreWoken xs ys → IsThere xs s → IsThere ys s
+there_still xs ys s woken at =
+    let inside : s.core < length xs = slice_get_within xs s.core at.core at.core_is in
+    let within : s.core < length ys = omega (arith, woken.count) in
+    let b = get_or ys s.core at.core in
+    let now : slice_get ys s.core ≡ Some b = slice_get-get_or ys s.core at.core within in
+    let one = woken.each s.core at.core b at.core_is now in
+    let slot = at.slot in
+    let place = at.place in
+    record { core = b; core_is = now; slot = omega (arith, one.count); place = omega (arith, one.widths s.slot) }
+
+-- ---- what was looked at
+
+pub seen_still : (k : Kept) (xs ys : List AwakeState) (s : Seat) → AreWoken xs ys → IsThere xs s → IsSeen k xs s → IsSeen k ys s
+seen_still k xs ys s woken at seen = λ b now. still (is_awake at.core s.slot s.place) (is_awake b s.slot s.place) (not (may_start_in k s.event)) (kept b (woken.each s.core at.core b at.core_is now)) (seen at.core at.core_is)
+  where
+    still : (x y z : Bool) → (x ≡ true → y ≡ true) → (x || z) ≡ true → (y || z) ≡ true
+    still true y z keeps e = ap (λ v. v || z) (keeps refl)
+    still false true z keeps e = refl
+    still false false z keeps e = e
+
+    parts : (x y : Bool) → (x && y) ≡ true → (x ≡ true) × (y ≡ true)
+    parts true y e = (refl, e)
+    parts false y e = absurd (false≢true e)
+
+    kept : (b : AwakeState) → IsWoken at.core b → is_awake at.core s.slot s.place ≡ true → is_awake b s.slot s.place ≡ true
+    kept b one on =
+        let both = parts (get_or at.core.slots s.slot false) (get_or (get_or at.core.events s.slot []) s.place false) on in
+        ap (λ v. v && get_or (get_or b.events s.slot []) s.place false) (one.slots s.slot both.0) ∙ one.events s.slot s.place both.1
+
+pub seen_awake : (k : Kept) (xs : List AwakeState) (s : Seat) (a : AwakeState) → slice_get xs s.core ≡ Some a → is_awake a s.slot s.place ≡ true → IsSeen k xs s
+seen_awake k xs s a is on = λ b now. let same : a ≡ b = some_is (sym is ∙ now) in ap (λ v. v || not (may_start_in k s.event)) (subst (λ x. is_awake x s.slot s.place ≡ true) same on)
+
+pub seen_held : (k : Kept) (xs : List AwakeState) (s : Seat) → may_start_in k s.event ≡ false → IsSeen k xs s
+seen_held k xs s off = λ b now. last (is_awake b s.slot s.place) (may_start_in k s.event) off
+  where
+    last : (x y : Bool) → y ≡ false → (x || not y) ≡ true
+    last true y e = refl
+    last false true e = absurd (false≢true (sym e))
+    last false false e = refl

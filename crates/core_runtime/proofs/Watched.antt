@@ -1,0 +1,257 @@
+-- What of the cores is awake, after an entry whose object was looked at.
+use Rattle.std.proofs.Common.{◌≡◌, ◌≢◌, ℕ, zero, suc, ◌<◌, ◌==◌, Bool, true, false, ◌&&◌, ◌||◌, not, ◌⊎◌, inl, inr, refl, sym, ◌∙◌, ap, subst, arith, List, [], ◌∷◌, ◌++◌, length, get_or, set, map, Option, Some, None}
+use Rattle.std.specs.Option.{option_map}
+use Rattle.std.specs.List.{slice_get}
+use Rattle.std.specs.Cmp.{unsigned_Decides}
+use Rattle.std.specs.Prelude.{Vec}
+use Rattle.std.specs.Global.{Global}
+use Rattle.std.proofs.lemmas.Bool.{false≢true}
+use Rattle.std.proofs.lemmas.Option.{get_or_from_slice_get, slice_get-get_or, slice_get_within, slice_get-map}
+use Rattle.bus_semantics.specs.declared.entries.Actor.{Actor}
+use Rattle.bus_semantics.specs.declared.entries.Actor.TheVariants.{Act}
+use Rattle.bus_semantics.specs.declared.entries.Entry.{Entry}
+use Rattle.bus_semantics.specs.Plan.{Plan, kind_of, runnable_of_event}
+use Rattle.bus_semantics.specs.History.{Noted}
+use Rattle.bus_semantics.specs.Objects.{object_of_kind}
+use Rattle.bus_semantics.specs.Rest.{Try, option_list, gathered, plain_key, start_try}
+use Rattle.bus_semantics.specs.Wanted.{Wanted, to_start, wanted_by}
+use Rattle.port_objects.specs.declared.object.Object.{Object}
+use Rattle.port_objects.specs.Kept.{Kept}
+use Rattle.port_objects.specs.Leading.{lead}
+use Rattle.port_objects.specs.Objects.{kept_of}
+use Rattle.port_objects.specs.Waking.{may_start_in, wakes}
+use Rattle.core_turn.specs.declared.slot.Slot.{Slot}
+use Rattle.core_turn.specs.Cores.{CoreState, events_of_slot}
+use Rattle.core_turn.specs.Looking.{AllHeld, IsHeldOn, IsHeldAt}
+use Rattle.core_turn.specs.Awake.{AwakeState, Fits, AreHeld}
+use Rattle.core_runtime.specs.declared.seats.Seat.{Seat}
+use Rattle.core_runtime.specs.Watching.{tables_of, IsOfTask, IsOfCore, IsOfCores, IsAt, AreSeated, IsWatched, AreWatched, is_awake, IsWoken, AreWoken, IsThere, IsSeen, Touches, IsAfter}
+use Rattle.core_runtime.proofs.Places.{set_here, set_there}
+
+-- ---- what the laws of objects say
+
+abbrev pub NowhereLaw : Type 0
+NowhereLaw = (p : Plan) (object : ℕ) (k : Kept) (event : ℕ) → may_start_in k event ≡ false → (n : Noted) (by : ℕ) → wanted_by by n.entry.deed ≡ to_start event → lead p object k n ≡ None
+
+abbrev pub HeldLaw : Type 0
+HeldLaw = (p : Plan) (object : ℕ) (k : Kept) (event : ℕ) → ((n : Noted) (by : ℕ) → wanted_by by n.entry.deed ≡ to_start event → lead p object k n ≡ None) → may_start_in k event ≡ false
+
+abbrev pub OthersLaw : Type 0
+OthersLaw = (p : Plan) (object : ℕ) (before after : Kept) (n : Noted) → lead p object before n ≡ Some after → wakes n.entry.deed ≡ false → (event : ℕ) → may_start_in before event ≡ false → may_start_in after event ≡ false
+
+-- ---- flags
+
+-- what is asleep now was so before
+asleep : (xs ys : List Bool) (j : ℕ) → length ys ≡ length xs → (get_or xs j false ≡ true → get_or ys j false ≡ true) → slice_get ys j ≡ Some false → slice_get xs j ≡ Some false
+asleep xs ys j count keeps off = of_flag (get_or xs j false) refl
+  where
+    within : j < length xs
+    within = let inside : j < length ys = slice_get_within ys j false off in omega arith
+
+    of_flag : (b : Bool) → get_or xs j false ≡ b → slice_get xs j ≡ Some false
+    of_flag true e = absurd (false≢true (sym (get_or_from_slice_get ys j false false off) ∙ keeps e))
+    of_flag false e = slice_get-get_or xs j false within ∙ ap (λ b. Some b) e
+
+off_right : (a b : Bool) → b ≡ false → (a && b) ≡ false
+off_right true b e = e
+off_right false b e = refl
+
+off_left : (a b : Bool) → a ≡ false → (a && b) ≡ false
+off_left true b e = absurd (false≢true (sym e))
+off_left false b e = refl
+
+not_so : (a b : Bool) → a ≡ false → (a || not b) ≡ true → b ≡ false
+not_so true b e seen = absurd (false≢true (sym e))
+not_so false true e seen = absurd (false≢true seen)
+not_so false false e seen = refl
+
+some_same : {X : Type 0} {x y : X} → Some x ≡ Some y → x ≡ y
+some_same e = cc
+
+-- an item of a mapped list comes of one
+pub record Mapped (X Y : Type 0) (f : X → Y) (xs : List X) (i : ℕ) (y : Y) : Type 0 where
+  pub item : X
+  pub is : slice_get xs i ≡ Some item
+  pub gives : f item ≡ y
+
+pub mapped_found : {X Y : Type 0} (f : X → Y) (xs : List X) (i : ℕ) (y : Y) → slice_get (map f xs) i ≡ Some y → Mapped X Y f xs i y
+mapped_found f [] i y e = absurd (cc e)
+mapped_found f (x ∷ xs) zero y e = record { item = x; is = refl; gives = cc }
+mapped_found f (x ∷ xs) (suc i) y e = let at = mapped_found f xs i y e in record { item = at.item; is = at.is; gives = at.gives }
+
+-- ---- tries
+
+held_first : (p : Plan) (objects : List Object) (xs ys : List Try) → AllHeld p objects (xs ++ ys) → AllHeld p objects xs
+held_first p objects [] ys held = tt
+held_first p objects (x ∷ xs) ys held = (held.0, held_first p objects xs ys held.1)
+
+held_rest : (p : Plan) (objects : List Object) (xs ys : List Try) → AllHeld p objects (xs ++ ys) → AllHeld p objects ys
+held_rest p objects [] ys held = held
+held_rest p objects (x ∷ xs) ys held = held_rest p objects xs ys held.1
+
+held_both : (p : Plan) (objects : List Object) (xs ys : List Try) → AllHeld p objects xs → AllHeld p objects ys → AllHeld p objects (xs ++ ys)
+held_both p objects [] ys first rest = rest
+held_both p objects (x ∷ xs) ys first rest = (first.0, held_both p objects xs ys first.1 rest)
+
+-- each of these events
+held_each : (p : Plan) (before later : List Object) (events : List ℕ) → ((j e : ℕ) → slice_get events j ≡ Some e → AllHeld p before (start_try p e) → AllHeld p later (start_try p e))
+    → AllHeld p before (gathered (start_try p) events) → AllHeld p later (gathered (start_try p) events)
+held_each p before later [] each held = tt
+held_each p before later (e ∷ events) each held =
+    held_both p later (start_try p e) (gathered (start_try p) events) (each zero e refl (held_first p before (start_try p e) (gathered (start_try p) events) held))
+    (held_each p before later events (λ j x found. each (suc j) x found) (held_rest p before (start_try p e) (gathered (start_try p) events) held))
+
+-- ---- an entry on one object
+
+module _ (nowhere : NowhereLaw) (p : Plan) (before later : List Object) (e : Entry) (t : Touches p before later e) (event : ℕ)
+    (calm : object_of_kind p (kind_of p event) ≡ Some t.object → IsHeldOn p before (to_start event) t.object → may_start_in (kept_of t.new) event ≡ false) where
+  at_object : (o : Option ℕ) → object_of_kind p (kind_of p event) ≡ o → IsHeldAt p before (to_start event) o → IsHeldAt p later (to_start event) o
+  at_object None is held = held
+  at_object (Some n) is held = by_test (n == t.object) refl
+    where
+      by_test : (b : Bool) → (n == t.object) ≡ b → IsHeldOn p later (to_start event) n
+      by_test true same =
+          let at : n ≡ t.object = (unsigned_Decides n t.object).0 same in
+          let off = calm (is ∙ ap (λ k. Some k) at) (subst (IsHeldOn p before (to_start event)) at held) in
+          subst (IsHeldOn p later (to_start event)) (sym at) (record {
+            before = t.new;
+            found = ap (λ os. slice_get os t.object) t.others ∙ set_here before t.object t.old t.new t.found;
+            none = nowhere p t.object (kept_of t.new) event off;
+          })
+      by_test false other = record {
+        before = held.before;
+        found = ap (λ os. slice_get os n) t.others ∙ set_there before t.object n held.before t.new (λ at. false≢true (sym other ∙ (unsigned_Decides n t.object).1 at)) held.found;
+        none = held.none;
+      }
+
+  one_moved : AllHeld p before (start_try p event) → AllHeld p later (start_try p event)
+  one_moved = of_runnable (runnable_of_event p event)
+    where
+      of_runnable : (r : Option ℕ) → AllHeld p before (map (λ k. (Act (plain_key k), to_start event)) (option_list r)) → AllHeld p later (map (λ k. (Act (plain_key k), to_start event)) (option_list r))
+      of_runnable None held = tt
+      of_runnable (Some k) held = (at_object (object_of_kind p (kind_of p event)) refl held.0, tt)
+
+-- ---- all cores
+
+module _ (nowhere : NowhereLaw) (is_held : HeldLaw) (others : OthersLaw) (p : Plan) (before later : List Object) (e : Entry) (cores : List CoreState) (old new : List AwakeState) (seats : List (Vec Seat Global))
+    (seated : AreSeated p (tables_of cores) seats) (woken : AreWoken old new) where
+  -- the entry makes no start come, or each seat of its object was looked at
+  abbrev IsCalm : Touches p before later e → Type 0
+  IsCalm t = (wakes e.deed ≡ false) ⊎ ((s : Seat) → IsAt seats t.object s → IsSeen (kept_of t.new) new s)
+
+  module _ (t : Touches p before later e) (calm : IsCalm t) (n : ℕ) (c : CoreState) (b : AwakeState) (core_is : slice_get cores n ≡ Some c) (awake_is : slice_get new n ≡ Some b) where
+    module _ (i j event : ℕ) (s : Slot) (slot_is : slice_get c.slots i ≡ Some s) (place_is : slice_get s.events.items j ≡ Some event) (sleeps : is_awake b i j ≡ false) where
+      seat : Seat
+      seat = record { core = n; slot = i; place = j; event = event }
+
+      of_cores : IsOfCores (tables_of cores) seat
+      unfolding seat
+      of_cores = record {
+        tasks = map events_of_slot c.slots;
+        core_is = slice_get-map (λ (k : CoreState). map events_of_slot k.slots) cores n ∙ ap (option_map (λ (k : CoreState). map events_of_slot k.slots)) core_is;
+        seat = record {
+          events = s.events.items;
+          task_is = slice_get-map events_of_slot c.slots i ∙ ap (option_map events_of_slot) slot_is;
+          seat = record { core_is = refl; slot_is = refl; place_is = place_is };
+        };
+      }
+
+      off : IsCalm t → object_of_kind p (kind_of p event) ≡ Some t.object → IsHeldOn p before (to_start event) t.object → may_start_in (kept_of t.new) event ≡ false
+      unfolding seat
+      off (inl wakes_none) waits held =
+          let same : held.before ≡ t.old = some_same (sym held.found ∙ t.found) in
+          let was : may_start_in (kept_of t.old) event ≡ false = subst (λ o. may_start_in (kept_of o) event ≡ false) same (is_held p t.object (kept_of held.before) event held.none) in
+          others p t.object (kept_of t.old) (kept_of t.new) t.noted t.leads (subst (λ (x : Entry). wakes x.deed ≡ false) (sym t.is) wakes_none) event was
+      off (inr seen) waits held = not_so (is_awake b i j) (may_start_in (kept_of t.new) event) sleeps (seen seat (seated.all t.object seat of_cores waits) b awake_is)
+
+      event_moved : AllHeld p before (start_try p event) → AllHeld p later (start_try p event)
+      event_moved = one_moved nowhere p before later e t event (off calm)
+
+  -- what sleeps is held still
+  abbrev Moves : Type 0
+  Moves = (n : ℕ) (c : CoreState) (b : AwakeState) → slice_get cores n ≡ Some c → slice_get new n ≡ Some b → (i j event : ℕ) (s : Slot) → slice_get c.slots i ≡ Some s → slice_get s.events.items j ≡ Some event
+      → is_awake b i j ≡ false → AllHeld p before (start_try p event) → AllHeld p later (start_try p event)
+
+  touched_moves : (t : Touches p before later e) → IsCalm t → Moves
+  touched_moves t calm = λ n c b core_is awake_is i j event s slot_is place_is sleeps held. event_moved t calm n c b core_is awake_is i j event s slot_is place_is sleeps held
+
+  same_moves : later ≡ before → Moves
+  same_moves same = λ n c b core_is awake_is i j event s slot_is place_is sleeps held. subst (λ os. AllHeld p os (start_try p event)) (sym same) held
+
+  module _ (moves : Moves) (n : ℕ) (c : CoreState) (b : AwakeState) (core_is : slice_get cores n ≡ Some c) (awake_is : slice_get new n ≡ Some b) where
+    module _ (a : AwakeState) (was_is : slice_get old n ≡ Some a) (watched : IsWatched p before c a) where
+      more : IsWoken a b
+      more = woken.each n a b was_is awake_is
+
+      fits_on : Fits c.slots b
+      fits_on = record {
+        count = more.count ∙ watched.fits.count;
+        rows = more.rows ∙ watched.fits.rows;
+        widths = λ i s row slot_is row_is.
+            let inside : i < length b.events = slice_get_within b.events i row row_is in
+            let within : i < length a.events = omega (arith, more.rows) in
+            let here : get_or b.events i [] ≡ row = get_or_from_slice_get b.events i row [] row_is in
+            ap length (sym here) ∙ more.widths i ∙ watched.fits.widths i s (get_or a.events i []) slot_is (slice_get-get_or a.events i [] within);
+      }
+
+      events_on : (i j event : ℕ) (s : Slot) (row : List Bool) → slice_get c.slots i ≡ Some s → slice_get b.events i ≡ Some row → slice_get s.events.items j ≡ Some event → slice_get row j ≡ Some false → AllHeld p later (start_try p event)
+      events_on i j event s row slot_is row_is place_is sleeps =
+          let inside : i < length b.events = slice_get_within b.events i row row_is in
+          let within : i < length a.events = omega (arith, more.rows) in
+          let here : get_or b.events i [] ≡ row = get_or_from_slice_get b.events i row [] row_is in
+          let off_here : slice_get (get_or b.events i []) j ≡ Some false = ap (λ r. slice_get r j) here ∙ sleeps in
+          let was_off = asleep (get_or a.events i []) (get_or b.events i []) j (more.widths i) (more.events i j) off_here in
+          let flag : get_or (get_or b.events i []) j false ≡ false = get_or_from_slice_get (get_or b.events i []) j false false off_here in
+          moves n c b core_is awake_is i j event s slot_is place_is (off_right (get_or b.slots i false) (get_or (get_or b.events i []) j false) flag)
+          (watched.held.events i j event s (get_or a.events i []) slot_is (slice_get-get_or a.events i [] within) place_is was_off)
+
+      slots_on : (i : ℕ) (s : Slot) → slice_get c.slots i ≡ Some s → slice_get b.slots i ≡ Some false → (s.running ≡ None) × AllHeld p later (gathered (start_try p) s.events.items)
+      slots_on i s slot_is sleeps =
+          let was_off = asleep a.slots b.slots i more.count (more.slots i) sleeps in
+          let was = watched.held.slots i s slot_is was_off in
+          let flag : get_or b.slots i false ≡ false = get_or_from_slice_get b.slots i false false sleeps in (
+            was.0,
+            held_each p before later s.events.items (λ j event place_is. moves n c b core_is awake_is i j event s slot_is place_is (off_left (get_or b.slots i false) (get_or (get_or b.events i []) j false) flag)) was.1,
+          )
+
+      watched_on : IsWatched p later c b
+      watched_on = record { fits = fits_on; held = record { events = events_on; slots = slots_on } }
+
+  all_watched : AreWatched p before cores old → Moves → AreWatched p later cores new
+  all_watched watched moves = record {
+    count = woken.count ∙ watched.count;
+    each = λ n c b core_is awake_is.
+        let inside : n < length new = slice_get_within new n b awake_is in
+        let within : n < length old = omega (arith, woken.count) in
+        let a = get_or old n b in
+        let was_is : slice_get old n ≡ Some a = slice_get-get_or old n b within in
+        watched_on moves n c b core_is awake_is a was_is (watched.each n c a core_is was_is);
+  }
+
+  -- of an entry that can make a start come, each seat of its object was looked at
+  pub after_entry : AreWatched p before cores old → IsAfter p before later e → ((t : Touches p before later e) → wakes e.deed ≡ true → (s : Seat) → IsAt seats t.object s → IsSeen (kept_of t.new) new s) → AreWatched p later cores new
+  after_entry watched (inl same) loud = all_watched watched (same_moves same)
+  after_entry watched (inr t) loud = all_watched watched (touched_moves t (calm (wakes e.deed) refl))
+    where
+      calm : (b : Bool) → wakes e.deed ≡ b → IsCalm t
+      calm false quiet = inl quiet
+      calm true on = inr (loud t on)
+
+-- each seat has its flag
+pub seats_there : (p : Plan) (objects : List Object) (cores : List CoreState) (awake : List AwakeState) (seats : List (Vec Seat Global)) → AreWatched p objects cores awake → AreSeated p (tables_of cores) seats → (n : ℕ) (s : Seat) → IsAt seats n s → IsThere awake s
+seats_there p objects cores awake seats watched seated n s at =
+    let of = seated.only n s at in
+    let core = mapped_found (λ (k : CoreState). map events_of_slot k.slots) cores s.core of.tasks of.core_is in
+    let slot = mapped_found events_of_slot core.item.slots s.slot of.seat.events (ap (λ ts. slice_get ts s.slot) core.gives ∙ of.seat.task_is) in
+    let inside : s.core < length cores = slice_get_within cores s.core core.item core.is in
+    let within : s.core < length awake = omega (arith, watched.count) in
+    let fresh : AwakeState = record { slots = []; events = [] } in
+    let a = get_or awake s.core fresh in
+    let found : slice_get awake s.core ≡ Some a = slice_get-get_or awake s.core fresh within in
+    let fits = (watched.each s.core core.item a core.is found).fits in
+    let slot_in : s.slot < length core.item.slots = slice_get_within core.item.slots s.slot slot.item slot.is in
+    let row_in : s.slot < length a.events = omega (arith, fits.rows) in
+    let width : length (get_or a.events s.slot []) ≡ length slot.item.events.items = fits.widths s.slot slot.item (get_or a.events s.slot []) slot.is (slice_get-get_or a.events s.slot [] row_in) in
+    let place_in : s.place < length of.seat.events = slice_get_within of.seat.events s.place s.event of.seat.seat.place_is in
+    let same : length slot.item.events.items ≡ length of.seat.events = ap length slot.gives in
+    record { core = a; core_is = found; slot = omega (arith, fits.count); place = omega (arith, width, same) }

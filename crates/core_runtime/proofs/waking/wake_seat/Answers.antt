@@ -1,0 +1,45 @@
+use Rattle.std.proofs.Common.{◌≡◌, ◌<◌, false, true, [], get_or, length, refl, sym, ◌∙◌, ap, subst, set, Some}
+use Rattle.std.specs.List.{slice_get}
+use Rattle.std.proofs.lemmas.Option.{slice_get_within}
+use Rattle.port_objects.specs.Objects.{kept_of}
+use Rattle.core_turn.specs.Awake.{AwakeState}
+use Rattle.core_runtime.specs.Watching.{is_awake, IsSeen}
+use Rattle.core_runtime.proofs.Places.{found_at, set_here}
+use Rattle.core_runtime.proofs.Wakes.{woken_one, awake_now, are_set, seen_awake, seen_held}
+use Rattle.core_runtime.proofs.waking.wake_seat.Goals as goal
+use Rattle.core_runtime.proofs.waking.wake_seat.Goals.{else-not-is_awake-via-then-not-is_awake+else-may_start, else-not-is_awake-via-else-not-is_awake}
+
+pub returns-then-may_start-clause-woken : goal.returns-then-may_start-clause-woken
+returns-then-may_start-clause-woken c =
+    let xs = c.args.awake.now.items in
+    let s = c.args.seat.now in
+    let a = c.index_mut-core.result.now in
+    let within : s.core < length xs = slice_get_within xs s.core c.requires.there.core c.requires.there.core_is in
+    are_set xs s.core a c.wake.new.self (found_at xs s.core a within c.index_mut-core.ensures.value) (woken_one a c.wake.new.self s.slot s.place c.wake.ensures.slots c.wake.ensures.events)
+
+pub returns-then-may_start-clause-seen : goal.returns-then-may_start-clause-seen
+returns-then-may_start-clause-seen c =
+    let xs = c.args.awake.now.items in
+    let s = c.args.seat.now in
+    let a = c.index_mut-core.result.now in
+    let within : s.core < length xs = slice_get_within xs s.core c.requires.there.core c.requires.there.core_is in
+    let found = found_at xs s.core a within c.index_mut-core.ensures.value in
+    let same : c.requires.there.core ≡ a = some_is (sym c.requires.there.core_is ∙ found) in
+    seen_awake (kept_of c.args.object.now) (set xs s.core c.wake.new.self) s c.wake.new.self (set_here xs s.core a c.wake.new.self found)
+    (awake_now a c.wake.new.self s.slot s.place c.wake.ensures.slots c.wake.ensures.events (subst (λ (x : AwakeState). s.slot < length x.slots) same c.requires.there.slot)
+    (subst (λ (x : AwakeState). s.place < length (get_or x.events s.slot [])) same c.requires.there.place))
+  where
+    some_is : {x y : AwakeState} → Some x ≡ Some y → x ≡ y
+    some_is e = cc
+
+pub returns-else-not-is_awake-clause-seen : goal.returns-else-not-is_awake-clause-seen
+returns-else-not-is_awake-clause-seen c =
+    let xs = c.args.awake.now.items in
+    let s = c.args.seat.now in
+    let a = c.index_mut-core.result.now in
+    let within : s.core < length xs = slice_get_within xs s.core c.requires.there.core c.requires.there.core_is in
+    let found = found_at xs s.core a within c.index_mut-core.ensures.value in
+    elim c.else-not-is_awake.branch [
+      | else-not-is_awake-via-then-not-is_awake+else-may_start w ↦ seen_held (kept_of c.args.object.now) c.else-not-is_awake.awake.items s (sym w.may_start.ensures ∙ w.if-may_start.false)
+      | else-not-is_awake-via-else-not-is_awake w ↦ subst (λ (v : _). IsSeen (kept_of c.args.object.now) v.items s) (sym w.awake-is) (seen_awake (kept_of c.args.object.now) (set xs s.core a) s a (set_here xs s.core a a found) (sym c.is_awake.ensures ∙ w.if-not-is_awake.false))
+    ]

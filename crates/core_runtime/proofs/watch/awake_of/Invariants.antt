@@ -1,0 +1,6 @@
+use Rattle.std.proofs.Common.{◌≡◌, length, take}
+use Rattle.core_runtime.specs.Watching.{AllWatched}
+use Rattle.core_runtime.proofs.watch.awake_of.Given as goal
+
+abbrev pub invariant-loop-core : goal.invariant-loop-core
+invariant-loop-core l = AllWatched (take l.core-index l.cores) l.awake.items
