@@ -68,8 +68,8 @@ impl PlaceSet {
         self.flags[place] = false;
     }
 
-    /// The first place of the set that is not before this one. It passes over blocks that are known to be empty, and
-    /// remembers which it found to be so.
+    /// The first place of the set that is not before this one. It looks at the flags of that place's block, of the block
+    /// in which it finds one, and of those that fell empty since; of every other block of 128 at one flag.
     pub fn next(&mut self, from: usize) -> Option<usize>
         ensures same { self.new ≡ self.old }
         ensures next { IsNext self.old from (length self.old) result }
