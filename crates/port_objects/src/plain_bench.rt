@@ -1,19 +1,16 @@
 //! A bench of one thread.
 
-ghost use Rattle.std.specs.Prelude.{◌≡◌, ◌<◌, ◌-◌, suc, length, slice_get, Some};
+ghost use Rattle.std.specs.Prelude.{◌≡◌, ◌<◌, ◌-◌, suc};
 ghost use Rattle.bus_semantics.specs.Plan.{plan_of};
 ghost use Rattle.bus_semantics.specs.Wanted.{wanted_of};
-ghost use Rattle.port_objects.specs.declared.object.Object.{Object};
-ghost use Rattle.port_objects.specs.Objects.{ArePlans, kept_of};
+ghost use Rattle.port_objects.specs.Objects.{ArePlans};
 ghost use Rattle.port_objects.specs.Plans.{HasObjects};
 ghost use Rattle.port_objects.specs.Answers.{event_of};
-ghost use Rattle.port_objects.specs.Waking.{may_start_in};
 
 use crate::acting::Acted;
 use crate::among::act_among;
 use crate::bench::{Bench, Benched};
 use crate::object::Object;
-use crate::waking::may_start;
 use bus_semantics::{Actor, BusPlan, Entry, Stamped, Wish};
 use std::marker::Model;
 
@@ -67,14 +64,6 @@ impl<'a> PlainBench<'a> {
         ensures planned { ArePlans (plan_of self.now.plan) result.now }
     {
         self.objects.as_slice()
-    }
-
-    /// Whether a start by an event may come on the object of this number.
-    pub fn may_start(&self, object: u32, event: u32) -> bool
-        requires there { object < length self.now.objects }
-        ensures { (o : Object) → slice_get self.now.objects object ≡ Some o → result ≡ may_start_in (kept_of o) event }
-    {
-        may_start(&self.objects[object as usize], event)
     }
 
     /// Its objects, given back; they are the plan's. It takes no memory.

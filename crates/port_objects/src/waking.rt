@@ -15,7 +15,6 @@ use crate::find::find;
 use crate::group::Group;
 use crate::object::Object;
 use crate::ticks::Ticks;
-use bus_semantics::Deed;
 
 impl Group {
     /// Whether a start by an event is pending.
@@ -58,16 +57,6 @@ pub fn may_start(object: &Object, event: u32) -> bool
     match object {
         Object::Unqueued(group) => group.may_start(event),
         Object::Clock(ticks) => ticks.may_start(event),
-    }
-}
-
-/// Whether an entry can make a start come: a write, publication or invalidation of data, or a tick.
-pub fn wakes(deed: &Deed) -> bool
-    ensures { result ≡ wakes deed.now }
-{
-    match deed {
-        Deed::Write { .. } | Deed::Publish { .. } | Deed::Invalidate { .. } | Deed::Tick => true,
-        _ => false,
     }
 }
 
