@@ -1,6 +1,6 @@
 -- Seats that are added to the lists of their objects.
-use Rattle.std.proofs.Common.{◌≡◌, ◌≢◌, ℕ, zero, suc, ◌<◌, ◌≤◌, ◌+◌, ◌==◌, ◌&&◌, Bool, true, false, ◌⊎◌, inl, inr, refl, sym, ◌∙◌, ap, subst, arith, List, [], ◌∷◌, ◌++◌, length, get_or, map, set, Option, Some, None}
-use Rattle.std.specs.Prelude.{Vec, nat_lt}
+use Rattle.std.proofs.Common.{◌≡◌, ℕ, zero, suc, ◌<◌, ◌≤◌, ◌+◌, ◌==◌, ◌&&◌, Bool, true, false, ◌⊎◌, inl, inr, refl, sym, ◌∙◌, ap, subst, arith, List, [], ◌∷◌, ◌++◌, length, set, Some, None}
+use Rattle.std.specs.Prelude.{Vec}
 use Rattle.std.specs.Global.{Global}
 use Rattle.std.specs.Cmp.{unsigned_Decides}
 use Rattle.std.specs.List.{list_all, slice_get}
@@ -129,12 +129,12 @@ module _ (p : Plan) (old mid new : List (Vec Seat Global)) where
     where
       parts : (s : Seat) → OfTaskBelow events core slot (k + 1) s → OfTaskBelow events core slot k s ⊎ (s ≡ at_place core slot k event)
       parts s (below, is) = elim (cases_lt s.place k) [
-          | inl less ↦ inl (less, is)
-          | inr past ↦
-              let at : s.place ≡ k = omega arith in
-              let own : s.event ≡ event = some_is (sym is.place_is ∙ ap (slice_get events) at ∙ found) in
-              inr (λ i. record { core = is.core_is i; slot = is.slot_is i; place = at i; event = own i })
-        ]
+        | inl less ↦ inl (less, is)
+        | inr past ↦
+            let at : s.place ≡ k = omega arith in
+            let own : s.event ≡ event = some_is (sym is.place_is ∙ ap (slice_get events) at ∙ found) in
+            inr (λ i. record { core = is.core_is i; slot = is.slot_is i; place = at i; event = own i })
+      ]
 
       second : (s : Seat) → s ≡ at_place core slot k event → OfTaskBelow events core slot (k + 1) s
       second s is = subst (OfTaskBelow events core slot (k + 1)) (sym is) (omega arith, record { core_is = refl; slot_is = refl; place_is = found })
@@ -144,12 +144,12 @@ module _ (p : Plan) (old mid new : List (Vec Seat Global)) where
     where
       parts : (s : Seat) → OfCoreBelow tasks core (k + 1) s → OfCoreBelow tasks core k s ⊎ IsOfTask events core k s
       parts s (below, is) = elim (cases_lt s.slot k) [
-          | inl less ↦ inl (less, is)
-          | inr past ↦
-              let at : s.slot ≡ k = omega arith in
-              let own : is.events ≡ events = some_is (sym is.task_is ∙ ap (slice_get tasks) at ∙ found) in
-              inr (record { core_is = is.seat.core_is; slot_is = at; place_is = ap (λ es. slice_get es s.place) (sym own) ∙ is.seat.place_is })
-        ]
+        | inl less ↦ inl (less, is)
+        | inr past ↦
+            let at : s.slot ≡ k = omega arith in
+            let own : is.events ≡ events = some_is (sym is.task_is ∙ ap (slice_get tasks) at ∙ found) in
+            inr (record { core_is = is.seat.core_is; slot_is = at; place_is = ap (λ es. slice_get es s.place) (sym own) ∙ is.seat.place_is })
+      ]
 
       second : (s : Seat) → IsOfTask events core k s → OfCoreBelow tasks core (k + 1) s
       second s is = let at = is.slot_is in (omega arith, record { events = events; task_is = ap (slice_get tasks) at ∙ found; seat = record { core_is = is.core_is; slot_is = refl; place_is = is.place_is } })
@@ -159,12 +159,12 @@ module _ (p : Plan) (old mid new : List (Vec Seat Global)) where
     where
       parts : (s : Seat) → OfCoresBelow table (k + 1) s → OfCoresBelow table k s ⊎ IsOfCore tasks k s
       parts s (below, is) = elim (cases_lt s.core k) [
-          | inl less ↦ inl (less, is)
-          | inr past ↦
-              let at : s.core ≡ k = omega arith in
-              let own : is.tasks ≡ tasks = some_is (sym is.core_is ∙ ap (slice_get table) at ∙ found) in
-              inr (subst (λ n. IsOfCore tasks n s) at (subst (λ ts. IsOfCore ts s.core s) own is.seat))
-        ]
+        | inl less ↦ inl (less, is)
+        | inr past ↦
+            let at : s.core ≡ k = omega arith in
+            let own : is.tasks ≡ tasks = some_is (sym is.core_is ∙ ap (slice_get table) at ∙ found) in
+            inr (subst (λ n. IsOfCore tasks n s) at (subst (λ ts. IsOfCore ts s.core s) own is.seat))
+      ]
 
       second : (s : Seat) → IsOfCore tasks k s → OfCoresBelow table (k + 1) s
       second s is = let at = is.seat.core_is in (omega arith, record { tasks = tasks; core_is = ap (slice_get table) at ∙ found; seat = subst (λ n. IsOfCore tasks n s) (sym at) is })

@@ -23,7 +23,7 @@ use Rattle.core_turn.specs.Awake.{AwakeState, Fits, AreHeld}
 use Rattle.core_turn.specs.Turning.{Steps}
 use Rattle.core_runtime.specs.declared.seats.Seat.{Seat}
 use Rattle.core_runtime.specs.declared.watch.Watch.{Watch}
-use Rattle.core_runtime.specs.Watching.{tables_of, AreSeated, IsWatch, IsWatched, AreWatched, Touches, IsAfter}
+use Rattle.core_runtime.specs.Watching.{tables_of, AreSeated, IsWatch, IsWatched, AreWatched, IsAfter}
 use Rattle.core_runtime.proofs.Places.{Placed, here, there, placed}
 use Rattle.core_runtime.proofs.NewNodes.{Last, earlier, last, last_or}
 use Rattle.core_runtime.proofs.Stepping.{told_by}

@@ -9,7 +9,7 @@ use Rattle.port_objects.specs.Waking.{may_start_in}
 use Rattle.core_turn.specs.Awake.{AwakeState}
 use Rattle.core_runtime.specs.declared.seats.Seat.{Seat}
 use Rattle.core_runtime.specs.Watching.{is_awake, IsWoken, AreWoken, IsThere, IsSeen}
-use Rattle.core_runtime.proofs.Places.{Placed, here, there, placed, set_here}
+use Rattle.core_runtime.proofs.Places.{Placed, here, there, placed}
 
 some_is : {X : Type 0} {x y : X} → Some x ≡ Some y → x ≡ y
 some_is e = cc

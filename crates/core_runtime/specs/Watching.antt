@@ -1,12 +1,12 @@
 -- What of the cores may step, and where the events stand that wait for each object.
-use Rattle.std.specs.Prelude.{◌≡◌, ◌<◌, ◌⊎◌, ℕ, List, [], map, length, set, slice_get, slice_index_or, Bool, true, false, not, ◌&&◌, ◌||◌, Option, Some, Vec}
+use Rattle.std.specs.Prelude.{◌≡◌, ◌<◌, ◌⊎◌, ℕ, List, [], map, length, set, slice_get, slice_index_or, Bool, true, false, not, ◌&&◌, ◌||◌, Some, Vec}
 use Rattle.std.specs.Global.{Global}
 use Rattle.bus_semantics.specs.declared.entries.Actor.{Actor}
 use Rattle.bus_semantics.specs.declared.entries.Entry.{Entry}
 use Rattle.bus_semantics.specs.Plan.{Plan, kind_of}
 use Rattle.bus_semantics.specs.History.{Noted}
 use Rattle.bus_semantics.specs.Objects.{object_of, object_of_kind}
-use Rattle.bus_semantics.specs.Wanted.{Wanted, wanted_by}
+use Rattle.bus_semantics.specs.Wanted.{wanted_by}
 use Rattle.port_objects.specs.declared.object.Object.{Object}
 use Rattle.port_objects.specs.Kept.{Kept}
 use Rattle.port_objects.specs.Leading.{lead}

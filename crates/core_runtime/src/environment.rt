@@ -44,12 +44,7 @@ impl Node {
                     wish,
                 ) {
                     Acted::Done(entry) => {
-                        wake_after(
-                            &self.plan,
-                            &entry,
-                            self.objects.as_slice(),
-                            &mut self.watch,
-                        );
+                        wake_after(&self.plan, &entry, self.objects.as_slice(), &mut self.watch);
                         entry
                     }
                     Acted::NotYet(_) => unreachable!(),

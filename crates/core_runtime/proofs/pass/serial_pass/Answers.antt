@@ -11,7 +11,7 @@ pass_over-requires-clause-ready c = (c.n.inside.mapping, c.n.invariant.0.lawful.
 pub invariant_of-n : goal.invariant_of-n
 invariant_of-n c = (
   node_on (plan_of c.n.inside.plan) c.n.inside.mapping c.n.inside.bodies c.n.inside.cores.items c.pass_over.new.cores.items c.n.inside.objects.items c.pass_over.new.objects.items c.pass_over.new.entries.items
-    c.n.invariant.0 c.pass_over.ensures.planned c.pass_over.ensures.given.made,
+      c.n.invariant.0 c.pass_over.ensures.planned c.pass_over.ensures.given.made,
   c.pass_over.ensures.watched,
 )
 

@@ -15,7 +15,7 @@ round_over-requires-clause-ready g c κs within = (c.n.inside.mapping, c.n.invar
 pub invariant_of-n : goal.invariant_of-n
 invariant_of-n g c = (
   node_on (plan_of c.n.inside.plan) c.n.inside.mapping c.n.inside.bodies c.n.inside.cores.items c.round_over.new.cores.items c.n.inside.objects.items c.round_over.new.objects.items c.round_over.new.entries.items
-    c.n.invariant.0 c.round_over.ensures.planned c.round_over.ensures.made,
+      c.n.invariant.0 c.round_over.ensures.planned c.round_over.ensures.made,
   c.round_over.ensures.watched,
 )
 

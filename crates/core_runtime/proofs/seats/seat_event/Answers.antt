@@ -1,4 +1,4 @@
-use Rattle.std.proofs.Common.{◌<◌, length, sym, subst, arith}
+use Rattle.std.proofs.Common.{◌<◌, length, sym, arith}
 use Rattle.bus_semantics.specs.Plan.{plan_of}
 use Rattle.core_runtime.proofs.Places.{found_at}
 use Rattle.core_runtime.proofs.Seated.{one_added}

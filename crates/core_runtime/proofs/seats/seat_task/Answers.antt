@@ -1,4 +1,4 @@
-use Rattle.std.proofs.Common.{◌<◌, ◌∙◌, get_or, length, arith}
+use Rattle.std.proofs.Common.{◌∙◌, get_or, length, arith}
 use Rattle.std.specs.Prelude.{nat_lt}
 use Rattle.std.proofs.lemmas.Option.{slice_get-get_or}
 use Rattle.bus_semantics.specs.Plan.{plan_of}

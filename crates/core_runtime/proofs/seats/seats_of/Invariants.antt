@@ -1,4 +1,3 @@
-use Rattle.std.proofs.Common.{◌≡◌, length}
 use Rattle.bus_semantics.specs.Plan.{plan_of}
 use Rattle.core_runtime.specs.Watching.{Adds, tables_of}
 use Rattle.core_runtime.proofs.Seated.{OfCoresBelow}

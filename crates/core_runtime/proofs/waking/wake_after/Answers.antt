@@ -15,10 +15,10 @@ returns-in-Some c = λ cores before after watch. record {
   awake = after_entry c.held_starts_lead_nowhere.ensures.nowhere c.held_starts_lead_nowhere.ensures.held c.other_entries_wake_nothing.ensures (plan_of c.args.p.now) before c.args.objects.now c.args.entry.now cores
       c.args.w.now.awake.items c.wake_at.new.w.awake.items c.args.w.now.seats.items watch.seated c.wake_at.ensures.woken watch.awake after
       (λ t on s at.
-          let is : Some c.in-Some.object ≡ Some t.object = c.in-Some.ensures.object t.actor t.by on ∙ t.touching in
-          let same : c.in-Some.object ≡ t.object = cc in
-          c.wake_at.ensures.seen t.new s (ap (slice_get c.args.objects.now) same ∙ ap (λ os. slice_get os t.object) t.others ∙ set_here before t.object t.old t.new t.found)
-          (subst (λ n. IsAt c.args.w.now.seats.items n s) (sym same) at));
+      let is : Some c.in-Some.object ≡ Some t.object = c.in-Some.ensures.object t.actor t.by on ∙ t.touching in
+      let same : c.in-Some.object ≡ t.object = cc in
+      c.wake_at.ensures.seen t.new s (ap (slice_get c.args.objects.now) same ∙ ap (λ os. slice_get os t.object) t.others ∙ set_here before t.object t.old t.new t.found)
+      (subst (λ n. IsAt c.args.w.now.seats.items n s) (sym same) at));
   seated = subst (λ (v : _). AreSeated (plan_of c.args.p.now) (tables_of cores) v.items) (sym c.wake_at.ensures.seats) watch.seated;
 }
 

@@ -1,9 +1,8 @@
-use Rattle.std.proofs.Common.{◌≡◌, ◌<◌, false, true, [], get_or, length, refl, sym, ◌∙◌, ap, subst, set, Some}
-use Rattle.std.specs.List.{slice_get}
+use Rattle.std.proofs.Common.{◌≡◌, ◌<◌, [], get_or, length, sym, ◌∙◌, subst, set, Some}
 use Rattle.std.proofs.lemmas.Option.{slice_get_within}
 use Rattle.port_objects.specs.Objects.{kept_of}
 use Rattle.core_turn.specs.Awake.{AwakeState}
-use Rattle.core_runtime.specs.Watching.{is_awake, IsSeen}
+use Rattle.core_runtime.specs.Watching.{IsSeen}
 use Rattle.core_runtime.proofs.Places.{found_at, set_here}
 use Rattle.core_runtime.proofs.Wakes.{woken_one, awake_now, are_set, seen_awake, seen_held}
 use Rattle.core_runtime.proofs.waking.wake_seat.Goals as goal

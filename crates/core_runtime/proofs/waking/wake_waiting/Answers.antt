@@ -1,4 +1,4 @@
-use Rattle.std.proofs.Common.{◌≡◌, ◌<◌, ◌≤◌, ◌+◌, ℕ, ◌⊎◌, inl, inr, length, get_or, refl, sym, ◌∙◌, ap, subst, arith, Some}
+use Rattle.std.proofs.Common.{◌≡◌, ◌<◌, inl, inr, length, get_or, sym, ◌∙◌, ap, subst, arith, Some}
 use Rattle.std.specs.List.{slice_get}
 use Rattle.std.proofs.lemmas.Bool.{cases_lt}
 use Rattle.std.proofs.lemmas.Option.{slice_get-get_or, slice_get_within}
@@ -24,15 +24,15 @@ pub loop-seat-preserved : goal.loop-seat-preserved
 loop-seat-preserved c = record {
   woken = are_then c.args.awake.now.items c.loop-seat.awake.items c.wake_seat.new.awake.items c.loop-seat.invariant.woken c.wake_seat.ensures.woken;
   seen = λ k s below found. elim (cases_lt k c.loop-seat.seat-index) [
-      | inl before ↦
-          seen_still (kept_of c.args.object.now) c.loop-seat.awake.items c.wake_seat.new.awake.items s c.wake_seat.ensures.woken
-          (there_still c.args.awake.now.items c.loop-seat.awake.items s c.loop-seat.invariant.woken (c.requires.there k s found)) (c.loop-seat.invariant.seen k s before found)
-      | inr after ↦
-          let at : k ≡ c.loop-seat.seat-index = omega arith in
-          let is = slice_get-get_or c.args.seats.now c.loop-seat.seat-index nowhere c.loop-seat-test.true in
-          let same : get_or c.args.seats.now c.loop-seat.seat-index nowhere ≡ s = some_is (sym is ∙ sym (ap (slice_get c.args.seats.now) at) ∙ found) in
-          subst (IsSeen (kept_of c.args.object.now) c.wake_seat.new.awake.items) same c.wake_seat.ensures.seen
-    ];
+    | inl before ↦
+        seen_still (kept_of c.args.object.now) c.loop-seat.awake.items c.wake_seat.new.awake.items s c.wake_seat.ensures.woken
+        (there_still c.args.awake.now.items c.loop-seat.awake.items s c.loop-seat.invariant.woken (c.requires.there k s found)) (c.loop-seat.invariant.seen k s before found)
+    | inr after ↦
+        let at : k ≡ c.loop-seat.seat-index = omega arith in
+        let is = slice_get-get_or c.args.seats.now c.loop-seat.seat-index nowhere c.loop-seat-test.true in
+        let same : get_or c.args.seats.now c.loop-seat.seat-index nowhere ≡ s = some_is (sym is ∙ sym (ap (slice_get c.args.seats.now) at) ∙ found) in
+        subst (IsSeen (kept_of c.args.object.now) c.wake_seat.new.awake.items) same c.wake_seat.ensures.seen
+  ];
 }
   where
     some_is : {x y : Seat} → Some x ≡ Some y → x ≡ y

@@ -1,4 +1,4 @@
-use Rattle.std.proofs.Common.{◌≡◌, length, take}
+use Rattle.std.proofs.Common.{take}
 use Rattle.core_runtime.specs.Watching.{AllWatched}
 use Rattle.core_runtime.proofs.watch.awake_of.Given as goal
 

@@ -58,9 +58,9 @@ invariant_of-self c =
     let changed = touches_then (wanted_of c.args.wish.now) c.self.invariant.0 fit c.in-Some.ensures c.sound_plans_have_objects.ensures.touched c.index_mut.result.now c.index_mut.ensures.value c.act.new.object c.in-Done.entry c.in-Done.ensures.lead in
     let is_after = subst (λ os. IsAfter p c.self.inside.objects.items os c.in-Done.entry) (sym c.as_slice.ensures.value) (inr changed) in (
       node_then (wanted_of c.args.wish.now) c.self.invariant.0 fit c.in-Some.ensures
-    c.sound_plans_have_objects.ensures.touched c.index_mut.result.now c.index_mut.ensures.value
-    c.legal_histories_part_into_objects.ensures.whole c.cores_stand_beside_the_environment.ensures c.act.new.object c.in-Done.entry
-    (λ h ask. c.in-Done.ensures.done c.self.inside.mapping (entries_of (plan_of c.self.inside.plan) h c.in-Some.object) c.in-Done.entry ask refl) c.in-Done.ensures.planned,
+          c.sound_plans_have_objects.ensures.touched c.index_mut.result.now c.index_mut.ensures.value
+          c.legal_histories_part_into_objects.ensures.whole c.cores_stand_beside_the_environment.ensures c.act.new.object c.in-Done.entry
+          (λ h ask. c.in-Done.ensures.done c.self.inside.mapping (entries_of (plan_of c.self.inside.plan) h c.in-Some.object) c.in-Done.entry ask refl) c.in-Done.ensures.planned,
       subst (λ os. IsWatch p os c.self.inside.cores.items c.wake_after.new.w) c.as_slice.ensures.value (c.wake_after.ensures c.self.inside.cores.items c.self.inside.objects.items is_after c.self.invariant.1),
     )
 

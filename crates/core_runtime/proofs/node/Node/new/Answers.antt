@@ -16,13 +16,16 @@ new-requires-clause-ready c = (
 )
 
 pub invariant_of-result : goal.invariant_of-result
-invariant_of-result c = (record {
-  built = c.requires.built;
-  bodies = c.requires.bodies;
-  counted = c.sound_plans_have_objects.ensures.asked (plan_of c.args.p) c.args.m c.requires.built.sound;
-  planned = c.in_ok-objects.ensures.planned;
-  cores_are = c.in_ok-cores.ensures.count;
-  room = new_room (plan_of c.args.p) c.args.m c.args.t c.in_ok-cores.cores.items c.in_ok-objects.objects.items c.requires.built c.in_ok-cores.ensures.cores c.in_ok-objects.ensures.standing;
-  history = [];
-  lawful = new_lawful (plan_of c.args.p) c.args.m c.args.t c.in_ok-cores.cores.items c.in_ok-objects.objects.items c.requires.built c.in_ok-cores.ensures.cores c.in_ok-objects.ensures.standing;
-}, subst (λ cs. IsWatch (plan_of c.args.p) c.in_ok-objects.objects.items cs c.in_ok-watch.watch) c.as_slice.ensures.value (c.in_ok-watch.ensures c.in_ok-objects.objects.items))
+invariant_of-result c = (
+  record {
+    built = c.requires.built;
+    bodies = c.requires.bodies;
+    counted = c.sound_plans_have_objects.ensures.asked (plan_of c.args.p) c.args.m c.requires.built.sound;
+    planned = c.in_ok-objects.ensures.planned;
+    cores_are = c.in_ok-cores.ensures.count;
+    room = new_room (plan_of c.args.p) c.args.m c.args.t c.in_ok-cores.cores.items c.in_ok-objects.objects.items c.requires.built c.in_ok-cores.ensures.cores c.in_ok-objects.ensures.standing;
+    history = [];
+    lawful = new_lawful (plan_of c.args.p) c.args.m c.args.t c.in_ok-cores.cores.items c.in_ok-objects.objects.items c.requires.built c.in_ok-cores.ensures.cores c.in_ok-objects.ensures.standing;
+  },
+  subst (λ cs. IsWatch (plan_of c.args.p) c.in_ok-objects.objects.items cs c.in_ok-watch.watch) c.as_slice.ensures.value (c.in_ok-watch.ensures c.in_ok-objects.objects.items),
+)
