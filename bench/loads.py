@@ -106,7 +106,16 @@ def instances(size):
     return described([writer(1, 1), reader(1)], held, joined, 8, tasks, events), "tick 1\nrun\n" * 100
 
 
-CASES = {chatter: 250, fan: 500, instances: 500}
+def timers(size):
+    """So many TimingEvents of one instance, each due at every thousandth tick, for 100 run lines with 900 ticks before each."""
+    runnables = [runnable(f"R{n}", [], []) for n in range(size)]
+    part = component("C", [], runnables, [timing(f"E{n}", f"R{n}", 1000) for n in range(size)])
+    events = [mapped("c", f"E{n}", "T", n) for n in range(size)]
+    tasks = [{"shortName": "T", "core": 0}]
+    return described([part], [{"shortName": "c", "type": "C"}], [], 1, tasks, events), "tick 900\nrun\n" * 100
+
+
+CASES = {chatter: 250, fan: 500, instances: 500, timers: 500}
 
 
 def run(case, size):
