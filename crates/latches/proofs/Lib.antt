@@ -1,0 +1,7 @@
+pub mod Counts
+pub mod Grouped
+pub mod Listed
+pub mod Made
+pub mod Noted
+pub mod Places
+pub mod Told
