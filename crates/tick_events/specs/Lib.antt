@@ -1,1 +1,3 @@
+pub mod Countdowns
 pub mod Kept
+pub mod Winners

@@ -2,8 +2,11 @@
 #![tactic(auto)]
 
 mod clock;
+mod countdown;
+mod countdowns;
 mod threads;
 mod timer;
+mod winners;
 
 pub use clock::Clock;
 
