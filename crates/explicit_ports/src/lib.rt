@@ -1,6 +1,7 @@
 //! Unqueued data elements: the last value, and who has seen it.
 #![tactic(auto)]
 
+mod flags;
 mod threads;
 mod unqueued;
 

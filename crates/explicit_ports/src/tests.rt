@@ -15,6 +15,32 @@ fn group(alloc: Global) -> Result<Unqueued, AllocError>
     Unqueued::new(alloc, inits, events)
 }
 
+// Writes a word, and gives the names of the events that it woke, in rising order. The two events are named 20 and 21.
+fn write(alloc: Global, group: &mut Unqueued, word: i64) -> Result<Vec<u32>, AllocError>
+    requires inits { length group.old.inits ≡ 2 }
+    requires events { length group.old.events ≡ 2 }
+    ensures inits { length group.new.inits ≡ 2 }
+    ensures events { length group.new.events ≡ 2 }
+{
+    let mut woken = Vec::with_capacity(alloc, 2)?;
+    group.write(&Value::of_word(word), &[20, 21], &mut woken);
+    woken.sort()?;
+    Ok(woken)
+}
+
+// The same for a publication.
+fn publish(alloc: Global, group: &mut Unqueued, word: i64) -> Result<Vec<u32>, AllocError>
+    requires inits { length group.old.inits ≡ 2 }
+    requires events { length group.old.events ≡ 2 }
+    ensures inits { length group.new.inits ≡ 2 }
+    ensures events { length group.new.events ≡ 2 }
+{
+    let mut woken = Vec::with_capacity(alloc, 2)?;
+    group.publish(&Value::of_word(word), &[20, 21], &mut woken);
+    woken.sort()?;
+    Ok(woken)
+}
+
 #[test]
 fn gives_the_last_value(rt: HostRuntime) -> Result<(), Fail> {
     let mut group = group(rt.alloc())?;
@@ -23,8 +49,8 @@ fn gives_the_last_value(rt: HostRuntime) -> Result<(), Fail> {
         (first.value, first.seen, first.invalid),
         (Value::of_word(6), false, false)
     );
-    group.write(&Value::of_word(7));
-    group.publish(&Value::of_word(8));
+    write(rt.alloc(), &mut group, 7)?;
+    publish(rt.alloc(), &mut group, 8)?;
     let second = group.read(0);
     assert_eq!(rt;
         (second.value, second.seen, second.invalid),
@@ -38,7 +64,7 @@ fn gives_the_last_value(rt: HostRuntime) -> Result<(), Fail> {
 fn keeps_an_update_flag_for_each_receiver(rt: HostRuntime) -> Result<(), Fail> {
     let mut group = group(rt.alloc())?;
     assert_eq!(rt; (group.is_updated(0), group.is_updated(1)), (false, false));
-    group.write(&Value::of_word(7));
+    write(rt.alloc(), &mut group, 7)?;
     group.fetch(0);
     assert_eq!(rt; (group.is_updated(0), group.is_updated(1)), (true, true));
     group.read(1);
@@ -56,7 +82,7 @@ fn invalidation_changes_nothing_else(rt: HostRuntime) -> Result<(), Fail> {
         (Value::of_word(5), false, true)
     );
     assert_eq!(rt; (group.is_updated(0), group.start(0)), (false, false));
-    group.write(&Value::of_word(7));
+    write(rt.alloc(), &mut group, 7)?;
     group.invalidate();
     assert_eq!(rt; (group.is_updated(0), group.start(0)), (true, true));
     let read = group.read(0);
@@ -65,7 +91,7 @@ fn invalidation_changes_nothing_else(rt: HostRuntime) -> Result<(), Fail> {
         (Value::of_word(7), true, true)
     );
     assert_eq!(rt; group.read(0).invalid, true);
-    group.publish(&Value::of_word(8));
+    publish(rt.alloc(), &mut group, 8)?;
     assert_eq!(rt; group.read(0).invalid, false);
     Ok(())
 }
@@ -74,9 +100,31 @@ fn invalidation_changes_nothing_else(rt: HostRuntime) -> Result<(), Fail> {
 fn pending_start_is_a_flag(rt: HostRuntime) -> Result<(), Fail> {
     let mut group = group(rt.alloc())?;
     assert_eq!(rt; (group.start(0), group.start(1)), (false, false));
-    group.write(&Value::of_word(7));
-    group.write(&Value::of_word(7));
+    write(rt.alloc(), &mut group, 7)?;
+    write(rt.alloc(), &mut group, 7)?;
     assert_eq!(rt; (group.start(0), group.start(0)), (true, false));
     assert_eq!(rt; (group.start(1), group.start(1)), (true, false));
+    Ok(())
+}
+
+#[test]
+fn a_write_tells_what_it_makes_pending(rt: HostRuntime) -> Result<(), Fail> {
+    let mut group = group(rt.alloc())?;
+    assert_eq!(rt;
+        write(rt.alloc(), &mut group, 7)?.as_slice(),
+        [20, 21].as_slice()
+    );
+    // both are pending still
+    assert!(rt; write(rt.alloc(), &mut group, 7)?.is_empty());
+    assert_eq!(rt; group.start(0), true);
+    assert_eq!(rt;
+        publish(rt.alloc(), &mut group, 8)?.as_slice(),
+        [20].as_slice()
+    );
+    assert_eq!(rt; group.start(1), true);
+    assert_eq!(rt;
+        write(rt.alloc(), &mut group, 9)?.as_slice(),
+        [21].as_slice()
+    );
     Ok(())
 }

@@ -1,9 +1,12 @@
 //! A group of joined unqueued data elements.
 
-ghost use Rattle.std.specs.Prelude.{◌≡◌, ◌<◌, length, IfOk, slice_get, Some, is_some};
+ghost use Rattle.std.specs.Prelude.{◌≡◌, ◌<◌, ◌≤◌, ℕ, false, length, IfOk, slice_get, Some, is_some};
+ghost use Rattle.std.specs.List.{Contains};
+ghost use Rattle.std.specs.Vec.{vec_capacity};
 ghost use Rattle.explicit_ports.specs.Kept.{fresh, after_write, after_invalidation, after_read, after_start, value_for};
 
 use crate::Memory;
+use crate::flags::Flags;
 use rte_value::Value;
 use std::alloc::Global;
 use std::marker::Model;
@@ -18,8 +21,8 @@ pub struct Unqueued {
     events: Vec<u32>,
     stored: Option<Value>,
     invalid: bool,
-    updated: Vec<bool>,
-    due: Vec<bool>,
+    updated: Flags,
+    due: Flags,
 }
 
 impl Model for Unqueued {
@@ -28,9 +31,9 @@ impl Model for Unqueued {
 
     ghost Value = { Kept };
 
-    ghost view = { λ u. record { inits = u.inits.items; events = u.events.items; stored = u.stored; invalid = u.invalid; updated = u.updated.items; due = u.due.items } };
+    ghost view = { λ u. record { inits = u.inits.items; events = u.events.items; stored = u.stored; invalid = u.invalid; updated = u.updated; due = u.due } };
 
-    ghost invariant = { λ u. (length u.updated.items ≡ length u.inits.items) × (length u.due.items ≡ length u.events.items) };
+    ghost invariant = { λ u. (length u.updated ≡ length u.inits.items) × (length u.due ≡ length u.events.items) };
 }
 
 /// What a read finds.
@@ -50,8 +53,8 @@ impl Unqueued {
     pub fn new(alloc: Global, inits: Vec<Value>, events: Vec<u32>) -> Result<Unqueued, Memory>
         ensures { IfOk result (λ u. u ≡ fresh inits.items events.items) }
     {
-        let updated = vec![in alloc; false; inits.len()]?;
-        let due = vec![in alloc; false; events.len()]?;
+        let updated = Flags::all_clear(alloc, inits.len())?;
+        let due = Flags::all_clear(alloc, events.len())?;
         Ok(Unqueued {
             inits,
             events,
@@ -62,21 +65,33 @@ impl Unqueued {
         })
     }
 
-    /// Stores a value that a provider writes (Rte_Write, Rte_IrvWrite).
-    pub fn write(&mut self, value: &Value)
-        ensures { self.new ≡ after_write value.now self.old }
+    /// Stores a value that a provider writes (Rte_Write, Rte_IrvWrite). The list is cleared, and then has the names of the
+    /// events that were not pending before; each event has a name, at its place in the list of names. The call costs as much
+    /// as there are receivers not updated and events not pending.
+    pub fn write(&mut self, value: &Value, names: &[u32], woken: &mut Vec<u32>)
+        requires named { length names.now ≡ length self.old.events }
+        requires room { length self.old.events ≤ vec_capacity woken.old }
+        ensures kept { self.new ≡ after_write value.now self.old }
+        ensures woken { (event name : ℕ) → slice_get self.old.due event ≡ Some false → slice_get names.now event ≡ Some name → Contains woken.new.items name }
+        ensures capacity { vec_capacity woken.new ≡ vec_capacity woken.old }
     {
         self.stored = Some(*value);
         self.invalid = false;
-        self.updated.fill(true);
-        self.due.fill(true);
+        self.updated.set_all();
+        woken.clear();
+        self.due.set_and_tell(names, woken);
     }
 
-    /// Stores a value that a provider wrote implicitly, at the end of its activation (Rte_IWrite, Rte_IrvIWrite).
-    pub fn publish(&mut self, value: &Value)
-        ensures { self.new ≡ after_write value.now self.old }
+    /// Stores a value that a provider wrote implicitly, at the end of its activation (Rte_IWrite, Rte_IrvIWrite). What is
+    /// woken is as after `write`.
+    pub fn publish(&mut self, value: &Value, names: &[u32], woken: &mut Vec<u32>)
+        requires named { length names.now ≡ length self.old.events }
+        requires room { length self.old.events ≤ vec_capacity woken.old }
+        ensures kept { self.new ≡ after_write value.now self.old }
+        ensures woken { (event name : ℕ) → slice_get self.old.due event ≡ Some false → slice_get names.now event ≡ Some name → Contains woken.new.items name }
+        ensures capacity { vec_capacity woken.new ≡ vec_capacity woken.old }
     {
-        self.write(value)
+        self.write(value, names, woken)
     }
 
     /// Marks the group as invalid (Rte_Invalidate). No value, update flag or pending event changes.
@@ -95,7 +110,7 @@ impl Unqueued {
         ensures kept { self.new ≡ after_read receiver self.old }
     {
         let value = self.fetch(receiver);
-        self.updated[receiver as usize] = false;
+        self.updated.clear(receiver as usize);
         ReadState {
             value,
             seen: self.stored.is_some(),
@@ -119,7 +134,7 @@ impl Unqueued {
         requires { receiver < length self.now.inits }
         ensures { Some result ≡ slice_get self.now.updated receiver }
     {
-        self.updated[receiver as usize]
+        self.updated.is_set(receiver as usize)
     }
 
     /// Whether the event is pending.
@@ -127,7 +142,7 @@ impl Unqueued {
         requires { event < length self.now.events }
         ensures { Some result ≡ slice_get self.now.due event }
     {
-        self.due[event as usize]
+        self.due.is_set(event as usize)
     }
 
     /// Whether the event was pending; then it is no longer.
@@ -136,8 +151,8 @@ impl Unqueued {
         ensures pending { Some result ≡ slice_get self.old.due event }
         ensures kept { self.new ≡ after_start event self.old }
     {
-        let is_pending = self.due[event as usize];
-        self.due[event as usize] = false;
+        let is_pending = self.due.is_set(event as usize);
+        self.due.clear(event as usize);
         is_pending
     }
 }

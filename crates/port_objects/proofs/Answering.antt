@@ -1,7 +1,8 @@
 -- What the parts of an object answer is what `act` answers on it.
-use Rattle.std.proofs.Common.{◌≡◌, ℕ, ◌&&◌, [], refl, sym, ◌∙◌, ap, subst, true, Option, Some, None, length}
+use Rattle.std.proofs.Common.{◌≡◌, ℕ, ◌&&◌, [], refl, sym, ◌∙◌, ap, subst, arith, true, Option, Some, None, length}
 use Rattle.std.specs.Prelude.{is_none, unwrap_or, option_map}
 use Rattle.std.specs.List.{list_all}
+use Rattle.std.specs.Vec.{vec_capacity}
 use Rattle.std.proofs.lemmas.Bool.{false≢true}
 use Rattle.bus_semantics.specs.declared.entries.Actor.{Actor}
 use Rattle.bus_semantics.specs.declared.entries.Deed.{Deed}
@@ -22,7 +23,7 @@ use Rattle.port_objects.specs.Layout.{is_timing, is_init, waits_for_data, place}
 use Rattle.port_objects.specs.Kept.{of_group, of_clock}
 use Rattle.port_objects.specs.Leading.{given, is_set, lead_of_group, lead_of_start, lead_of_clock, lead}
 use Rattle.port_objects.specs.Acting.{is_bare, LeadsGroup, HoldsGroup, LeadsClock, HoldsClock}
-use Rattle.port_objects.specs.Objects.{GroupOfPlan, ClockOfPlan, IsOfPlan}
+use Rattle.port_objects.specs.Objects.{GroupOfPlan, ClockOfPlan, HasRoom, IsOfPlan}
 use Rattle.port_objects.specs.Answers.{event_of, IsMade, IsHeld, why_held}
 use Rattle.port_objects.specs.declared.acting.Shown.{Shown}
 use Rattle.port_objects.specs.Rising.{is_rising}
@@ -80,6 +81,7 @@ group_made p n a w o old new d is planned made = subst (λ x. IsMade p n a w x (
   wish = made.wish (unwrap_or (event_of w) 0);
   answer = group_answer p n a old new.unqueued d planned made.leads made.bare;
   leads = ap (option_map (of_group old.events.items)) made.leads ∙ ap (λ es. Some (of_group es new.unqueued)) (ap (λ v. v.items) (sym made.events));
+  told = made.told;
 })
 
 pub group_held : (p : Plan) (n : ℕ) (w : Wanted) (o : Object) (old new : Group) (shown : Shown) → shown ≡ why_held w → o ≡ Unqueued old → HoldsGroup p n w old new → IsHeld p n w o (Unqueued new) shown
@@ -98,6 +100,7 @@ clock_made p n a w o old new d is planned made = subst (λ x. IsMade p n a w x (
   answer = clock_answer p n a old new.clock d planned made.leads made.bare;
   leads = ap (option_map (of_clock old.timings.items old.inits.items)) made.leads
       ∙ (λ i. Some (of_clock (sym made.timings i).items (sym made.inits i).items new.clock));
+  told = made.told;
 })
 
 pub clock_held : (p : Plan) (n : ℕ) (w : Wanted) (o : Object) (old new : Ticks) (shown : Shown) → shown ≡ why_held w → o ≡ Clock old → HoldsClock w old new → IsHeld p n w o (Clock new) shown
@@ -107,6 +110,24 @@ clock_held p n w o old new shown why is held = subst (λ x. IsHeld p n w x (Cloc
   same = ap Clock held.same;
   none = λ entry event wish. ap (option_map (of_clock old.timings.items old.inits.items)) (held.none entry.entry.deed event wish);
 })
+
+-- an object of a plan has room to tell the events that wait for it
+pub has_room : (p : Plan) (n : ℕ) (o : Object) → IsOfPlan p n o → HasRoom o
+has_room p n (Unqueued g) planned = planned.room
+has_room p n (Clock t) planned = planned.room
+
+-- the room stays
+pub group_room : (p : Plan) (n : ℕ) (w : Wanted) (old new : Group) (d : Deed) → LeadsGroup p n w old new d → HasRoom (Unqueued old) → HasRoom (Unqueued new)
+group_room p n w old new d made room =
+    let as_many : length new.events.items ≡ length old.events.items = ap (λ v. length v.items) made.events in
+    let same : vec_capacity new.woken ≡ vec_capacity old.woken = made.room in
+    omega arith
+
+pub clock_room : (w : Wanted) (old new : Ticks) (d : Deed) → LeadsClock w old new d → HasRoom (Clock old) → HasRoom (Clock new)
+clock_room w old new d made room =
+    let as_many : length new.timings.items ≡ length old.timings.items = ap (λ v. length v.items) made.timings in
+    let same : vec_capacity new.woken ≡ vec_capacity old.woken = made.room in
+    omega arith
 
 -- the plan's events of the clock rise
 pub timings_rise : (p : Plan) (n : ℕ) (o : Object) (t : Ticks) → o ≡ Clock t → IsOfPlan p n o → is_rising t.timings.items ≡ true

@@ -1,6 +1,7 @@
 -- What is read of a group, and a start that is taken from it, are what the lead gives.
 use Rattle.std.proofs.Common.{◌≡◌, ℕ, Bool, true, false, ◌&&◌, refl, sym, ◌∙◌, ap, List, Some, None}
 use Rattle.std.specs.List.{slice_get}
+use Rattle.std.proofs.lemmas.Bool.{false≢true}
 use Rattle.rte_value.specs.declared.value.Value.{Value}
 use Rattle.rte_value.specs.Values.{words_of}
 use Rattle.rte_value.specs.EqualValues.{same_words-Decides}
@@ -14,15 +15,16 @@ use Rattle.port_objects.specs.declared.group.Group.{Group}
 use Rattle.port_objects.specs.Layout.{place, members_of}
 use Rattle.port_objects.specs.Leading.{given, read_code_in, has_value, lead_of_group}
 use Rattle.port_objects.specs.Acting.{HoldsGroup, LeadsGroup, IsTakenOfGroup, started_at}
+use Rattle.port_objects.specs.Waking.{is_pending}
 use Rattle.port_objects.proofs.Placing.{same_test}
 use Rattle.port_objects.proofs.Taking.{set_same}
 
-group_same : (old : Group) (new : Kept) → new ≡ old.unqueued → (record { events = old.events; unqueued = new }) ≡ old
-group_same old new e = λ i. record { events = old.events; unqueued = e i }
+group_same : (old : Group) (new : Kept) → new ≡ old.unqueued → (record { events = old.events; unqueued = new; woken = old.woken }) ≡ old
+group_same old new e = λ i. record { events = old.events; unqueued = e i; woken = old.woken }
 
 pub start_taken : (old : Group) (new : Kept) (i : ℕ) (pending : Bool) → Some pending ≡ slice_get old.unqueued.due i → new ≡ after_start i old.unqueued
-    → IsTakenOfGroup pending old (record { events = old.events; unqueued = new }) (started_at old.unqueued (Some i))
-start_taken old new i true due next = (rw (← due) (ap (λ k. Some k) (sym next)), refl)
+    → IsTakenOfGroup pending old (record { events = old.events; unqueued = new; woken = old.woken }) (started_at old.unqueued (Some i))
+start_taken old new i true due next = (rw (← due) (ap (λ k. Some k) (sym next)), refl, refl)
 start_taken old new i false due next = (
   rw (← due) refl,
   group_same old new (next ∙ (λ j. record {
@@ -49,12 +51,14 @@ flag_itself true = refl
 flag_itself false = refl
 
 pub read_leads : (p : Plan) (g x r : ℕ) (old : Group) (new : Kept) (code : ℕ) (v : Value) → place x (members_of p g) ≡ Some r → Some v ≡ value_for r old.unqueued → code ≡ read_code_in p x old.unqueued → new ≡ after_read r old.unqueued
-    → LeadsGroup p g (to_read x) old (record { events = old.events; unqueued = new }) (deed.Read x code v)
+    → LeadsGroup p g (to_read x) old (record { events = old.events; unqueued = new; woken = old.woken }) (deed.Read x code v)
 read_leads p g x r old new code v there value is next = record {
   wish = λ event. refl;
   bare = refl;
   leads = rw there (ap (λ b. given b (after_read r old.unqueued)) (λ i. same_test code (read_code_in p x old.unqueued) is i && has_itself old.unqueued r v value i) ∙ ap (λ k. Some k) (sym next));
   events = refl;
+  told = λ event off on. absurd (false≢true (sym off ∙ sym (ap (λ (k : Kept). is_pending k.due (place event old.events.items)) next) ∙ on));
+  room = refl;
 }
 
 pub fetch_leads : (p : Plan) (g x r : ℕ) (old : Group) (v : Value) → place x (members_of p g) ≡ Some r → Some v ≡ value_for r old.unqueued → LeadsGroup p g (to_fetch x) old old (deed.Fetch x v)
@@ -63,6 +67,8 @@ fetch_leads p g x r old v there value = record {
   bare = refl;
   leads = rw there (ap (λ b. given b old.unqueued) (has_itself old.unqueued r v value));
   events = refl;
+  told = λ event off on. absurd (false≢true (sym off ∙ on));
+  room = refl;
 }
 
 pub look_leads : (p : Plan) (g x r : ℕ) (old : Group) (b : Bool) → place x (members_of p g) ≡ Some r → Some b ≡ slice_get old.unqueued.updated r → LeadsGroup p g (to_see_updated x) old old (deed.IsUpdated x b)
@@ -71,6 +77,8 @@ look_leads p g x r old b there flag = record {
   bare = refl;
   leads = rw (there, ← flag) (ap (λ c. given c old.unqueued) (flag_itself b));
   events = refl;
+  told = λ event off on. absurd (false≢true (sym off ∙ on));
+  room = refl;
 }
 
 -- an element that is not in the group answers nothing

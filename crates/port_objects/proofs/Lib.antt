@@ -21,3 +21,4 @@ pub mod Staying
 pub mod Benching
 pub mod Unheld
 pub mod Pending
+pub mod Telling

@@ -24,7 +24,7 @@ use Rattle.port_objects.specs.declared.object.Object.{Object}
 use Rattle.port_objects.specs.declared.object.Object.TheVariants.{Unqueued, Clock}
 use Rattle.port_objects.specs.Kept.{Kept, of_group, of_clock}
 use Rattle.port_objects.specs.Layout.{initial_of, events_of, waits_for_data, is_timing, is_init, period_in, receiver_of}
-use Rattle.port_objects.specs.Objects.{kept_of, IsOfPlan, ArePlans}
+use Rattle.port_objects.specs.Objects.{kept_of, HasRoom, IsOfPlan, ArePlans}
 use Rattle.port_objects.specs.Opening.{opening, opening_group, opening_clock}
 use Rattle.port_objects.specs.Plans.{IsUnqueuedPlan, HasObjects, has_period}
 use Rattle.port_objects.specs.Standing.{Stands}
@@ -179,18 +179,19 @@ abbrev pub is_group : Kept → Bool
 is_group (of_group events k) = true
 is_group (of_clock timings inits k) = false
 
-group_planned : (p : Plan) (g : ℕ) (o : Object) → g < length p.groups → kept_of o ≡ opening_group p g → IsOfPlan p g o
-group_planned p g (Unqueued x) within same = record {
+group_planned : (p : Plan) (g : ℕ) (o : Object) → g < length p.groups → HasRoom o → kept_of o ≡ opening_group p g → IsOfPlan p g o
+group_planned p g (Unqueued x) within room same = record {
   number = within;
   waiting = ap events_in same;
   inits = ap (λ k. (data_in k).inits) same;
   receivers = ap (λ k. (data_in k).events) same ∙ ap (map (receiver_of p g)) (sym (ap events_in same));
+  room = room;
 }
-group_planned p g (Clock t) within same = absurd (false≢true (ap is_group same))
+group_planned p g (Clock t) within room same = absurd (false≢true (ap is_group same))
 
-clock_planned : (p : Plan) (n : ℕ) (o : Object) → n ≡ clock p → kept_of o ≡ opening_clock p → IsOfPlan p n o
-clock_planned p n (Unqueued x) at same = absurd (false≢true (sym (ap is_group same)))
-clock_planned p n (Clock t) at same = record {
+clock_planned : (p : Plan) (n : ℕ) (o : Object) → n ≡ clock p → HasRoom o → kept_of o ≡ opening_clock p → IsOfPlan p n o
+clock_planned p n (Unqueued x) at room same = absurd (false≢true (sym (ap is_group same)))
+clock_planned p n (Clock t) at room same = record {
   number = at;
   timing = ap events_in same;
   initial = ap inits_in same;
@@ -198,16 +199,17 @@ clock_planned p n (Clock t) at same = record {
       ∙ timer_periods (map (λ e. period_in (kind_of p e)) (events_of p is_timing))
       ∙ ap (map (λ e. period_in (kind_of p e))) (sym (ap events_in same));
   count = ap (λ k. length (clock_in k).unstarted) same ∙ length-replicate (length (events_of p is_init)) true ∙ ap length (sym (ap inits_in same));
+  room = room;
 }
   where
     timer_periods : (ns : List ℕ) → map (λ (r : clock_kept.Timer). r.period) (map clock_kept.fresh_timer ns) ≡ ns
     timer_periods [] = refl
     timer_periods (n ∷ ns) = ap (λ ms. n ∷ ms) (timer_periods ns)
 
-pub made_planned : (p : Plan) (objects : List Object) → IsUnqueuedPlan p → map kept_of objects ≡ opening p → ArePlans p objects
-made_planned p objects plain made = record {
+pub made_planned : (p : Plan) (objects : List Object) → IsUnqueuedPlan p → map kept_of objects ≡ opening p → ((i : ℕ) (o : Object) → slice_get objects i ≡ Some o → HasRoom o) → ArePlans p objects
+made_planned p objects plain made roomy = record {
   count = sym (length_mapped kept_of objects) ∙ ap length made ∙ as_many;
-  each = λ i o found. of_place i o (opened_at p objects plain made i o found);
+  each = λ i o found. of_place i o (roomy i o found) (opened_at p objects plain made i o found);
 }
   where
     as_many : length (opening p) ≡ suc (clock p)
@@ -216,9 +218,18 @@ made_planned p objects plain made = record {
         let at = clock_last p plain in
         length-append (map (opening_group p) (positions (length p.groups))) (opening_clock p ∷ []) ∙ omega arith
 
-    of_place : (i : ℕ) (o : Object) → OpenedAt p i o → IsOfPlan p i o
-    of_place i o (a_group within same) = group_planned p i o within same
-    of_place i o (the_clock at same) = clock_planned p i o at same
+    of_place : (i : ℕ) (o : Object) → HasRoom o → OpenedAt p i o → IsOfPlan p i o
+    of_place i o room (a_group within same) = group_planned p i o within room same
+    of_place i o room (the_clock at same) = clock_planned p i o at room same
+
+-- objects with room, and one more after them
+pub more_room : (objects new : List Object) (o : Object) → ((i : ℕ) (x : Object) → slice_get objects i ≡ Some x → HasRoom x) → HasRoom o → new ≡ objects ++ o ∷ []
+    → (i : ℕ) (x : Object) → slice_get new i ≡ Some x → HasRoom x
+more_room objects new o before room is i x found = by_place (at_append objects o x i (subst (λ os. slice_get os i ≡ Some x) is found))
+  where
+    by_place : Which Object objects o x i → HasRoom x
+    by_place (inside at less) = before i x at
+    by_place (last at same) = subst HasRoom same room
 
 pub made_stand : (p : Plan) (objects : List Object) → IsUnqueuedPlan p → map kept_of objects ≡ opening p → (i : ℕ) (o : Object) → slice_get objects i ≡ Some o → Stands p i (kept_of o) []
 made_stand p objects plain made i o found = of_place (opened_at p objects plain made i o found)

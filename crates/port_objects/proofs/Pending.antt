@@ -133,7 +133,9 @@ group_off p object events k after (deed.Start e point value) event leads other o
     subst (λ (z : data_kept.Kept). is_pending z.due (place event events) ≡ false) gives.same (pending_off k.due at.item (place event events) off)
 group_off p object events k after (deed.Write x value) event leads other off = absurd (false≢true (sym other))
 group_off p object events k after (deed.Publish x value) event leads other off = absurd (false≢true (sym other))
-group_off p object events k after (deed.Invalidate x) event leads other off = absurd (false≢true (sym other))
+group_off p object events k after (deed.Invalidate x) event leads other off =
+    let same : data_kept.after_invalidation k ≡ after = cc in
+    subst (λ (z : data_kept.Kept). is_pending z.due (place event events) ≡ false) same off
 group_off p object events k after d event leads other off = absurd (cc leads)
 
 start_off : (k after : clock_kept.Kept) (timing init at other : Option ℕ) → lead_of_start timing init k ≡ Some after → is_pending_at at other k ≡ false → is_pending_at at other after ≡ false

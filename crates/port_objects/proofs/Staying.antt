@@ -19,7 +19,7 @@ use Rattle.port_objects.specs.declared.object.Object.{Object}
 use Rattle.port_objects.specs.declared.object.Object.TheVariants.{Unqueued, Clock}
 use Rattle.port_objects.specs.declared.acting.Acted.{Acted}
 use Rattle.port_objects.specs.declared.acting.Acted.TheVariants.{Done, NotYet}
-use Rattle.port_objects.specs.Objects.{kept_of, touched, IsOfPlan}
+use Rattle.port_objects.specs.Objects.{kept_of, touched, HasRoom, IsOfPlan}
 use Rattle.port_objects.specs.Answers.{noted_for, IsAnswer}
 use Rattle.bus_semantics.specs.declared.script.Mapping.{Mapping}
 use Rattle.bus_semantics.specs.History.{Past}
@@ -105,10 +105,10 @@ clock_stays timings inits k after d leads = absurd (cc leads)
 
 -- ---- the whole
 
-led_stays : (p : Plan) (n : ℕ) (old new : Object) (d : Deed) (o : Option Kept) → IsOfPlan p n old → o ≡ Some (kept_of new)
+led_stays : (p : Plan) (n : ℕ) (old new : Object) (d : Deed) (o : Option Kept) → IsOfPlan p n old → HasRoom new → o ≡ Some (kept_of new)
     → ((events : List ℕ) (k : data_kept.Kept) → kept_of old ≡ of_group events k → o ≡ option_map (of_group events) (lead_of_group p n events k d))
     → ((timings inits : List ℕ) (k : clock_kept.Kept) → kept_of old ≡ of_clock timings inits k → o ≡ option_map (of_clock timings inits) (lead_of_clock timings inits k d)) → IsOfPlan p n new
-led_stays p n (Unqueued x) (Unqueued y) d o planned is group clock =
+led_stays p n (Unqueued x) (Unqueued y) d o planned room is group clock =
     let gives = mapped_some (of_group x.events.items) (lead_of_group p n x.events.items x.unqueued d) (of_group y.events.items y.unqueued) (sym (group x.events.items x.unqueued refl) ∙ is) in
     let events : y.events.items ≡ x.events.items = sym (ap events_in gives.gives) in
     let kept : gives.item ≡ y.unqueued = ap data_in gives.gives in
@@ -117,14 +117,15 @@ led_stays p n (Unqueued x) (Unqueued y) d o planned is group clock =
       waiting = events ∙ planned.waiting;
       inits = same.inits ∙ planned.inits;
       receivers = same.events ∙ planned.receivers ∙ ap (map _) (sym events);
+      room = room;
     }
-led_stays p n (Unqueued x) (Clock t) d o planned is group clock =
+led_stays p n (Unqueued x) (Clock t) d o planned room is group clock =
     let gives = mapped_some (of_group x.events.items) (lead_of_group p n x.events.items x.unqueued d) (kept_of (Clock t)) (sym (group x.events.items x.unqueued refl) ∙ is) in
     absurd (false≢true (sym (ap is_group gives.gives)))
-led_stays p n (Clock t) (Unqueued y) d o planned is group clock =
+led_stays p n (Clock t) (Unqueued y) d o planned room is group clock =
     let gives = mapped_some (of_clock t.timings.items t.inits.items) (lead_of_clock t.timings.items t.inits.items t.clock d) (kept_of (Unqueued y)) (sym (clock t.timings.items t.inits.items t.clock refl) ∙ is) in
     absurd (false≢true (ap is_group gives.gives))
-led_stays p n (Clock t) (Clock u) d o planned is group clock =
+led_stays p n (Clock t) (Clock u) d o planned room is group clock =
     let gives = mapped_some (of_clock t.timings.items t.inits.items) (lead_of_clock t.timings.items t.inits.items t.clock d) (of_clock u.timings.items u.inits.items u.clock) (sym (clock t.timings.items t.inits.items t.clock refl) ∙ is) in
     let timings : u.timings.items ≡ t.timings.items = sym (ap events_in gives.gives) in
     let inits : u.inits.items ≡ t.inits.items = sym (ap inits_in gives.gives) in
@@ -135,13 +136,14 @@ led_stays p n (Clock t) (Clock u) d o planned is group clock =
       initial = inits ∙ planned.initial;
       periods = same.periods ∙ planned.periods ∙ ap (map _) (sym timings);
       count = same.count ∙ planned.count ∙ ap length (sym inits);
+      room = room;
     }
 
-pub stays_planned : (p : Plan) (n : ℕ) (a : Actor) (w : Wanted) (old new : Object) (r : Acted) → IsOfPlan p n old → IsAnswer p n a w old new r → IsOfPlan p n new
+pub stays_planned : (p : Plan) (n : ℕ) (a : Actor) (w : Wanted) (old new : Object) (r : Acted) → IsOfPlan p n old → HasRoom new → IsAnswer p n a w old new r → IsOfPlan p n new
 unfolding lead
-stays_planned p n a w old new (Done e) planned made = led_stays p n old new e.deed (lead p n (kept_of old) (noted_for w e)) planned made.leads
+stays_planned p n a w old new (Done e) planned room made = led_stays p n old new e.deed (lead p n (kept_of old) (noted_for w e)) planned room made.leads
     (λ events k is. ap (λ (z : Kept). lead p n z (noted_for w e)) is) (λ timings inits k is. ap (λ (z : Kept). lead p n z (noted_for w e)) is)
-stays_planned p n a w old new (NotYet shown) planned held = subst (IsOfPlan p n) (sym held.same) planned
+stays_planned p n a w old new (NotYet shown) planned room held = subst (IsOfPlan p n) (sym held.same) planned
 
 -- ---- answers of `act`
 

@@ -38,20 +38,20 @@ timers_same k i None there due = refl
 timers_same k i (Some t) there due = let off : t.due ≡ false = cc in
     ap (set k.timers i) (not_due t off) ∙ set_same k.timers i t there
 
-ticks_same : (old : Ticks) (new : Kept) → new ≡ old.clock → (record { timings = old.timings; inits = old.inits; clock = new }) ≡ old
-ticks_same old new e = λ i. record { timings = old.timings; inits = old.inits; clock = e i }
+ticks_same : (old : Ticks) (new : Kept) → new ≡ old.clock → (record { timings = old.timings; inits = old.inits; clock = new; woken = old.woken }) ≡ old
+ticks_same old new e = λ i. record { timings = old.timings; inits = old.inits; clock = e i; woken = old.woken }
 
 pub timing_taken : (old : Ticks) (new : Kept) (i : ℕ) (init : Option ℕ) (pending : Bool) → Some pending ≡ is_due i old.clock → new ≡ after_timing i old.clock
-    → IsTaken pending old (record { timings = old.timings; inits = old.inits; clock = new }) (lead_of_start (Some i) init old.clock)
-timing_taken old new i init true due next = (rw (← due) (ap (λ k. Some k) (sym next)), refl, refl)
+    → IsTaken pending old (record { timings = old.timings; inits = old.inits; clock = new; woken = old.woken }) (lead_of_start (Some i) init old.clock)
+timing_taken old new i init true due next = (rw (← due) (ap (λ k. Some k) (sym next)), refl, refl, refl)
 timing_taken old new i init false due next = (
   rw (← due) refl,
   ticks_same old new (next ∙ (λ j. record { timers = timers_same old.clock i (slice_get old.clock.timers i) refl (sym due) j; unstarted = old.clock.unstarted })),
 )
 
 pub init_taken : (old : Ticks) (new : Kept) (i : ℕ) (pending : Bool) → Some pending ≡ slice_get old.clock.unstarted i → new ≡ after_init i old.clock
-    → IsTaken pending old (record { timings = old.timings; inits = old.inits; clock = new }) (lead_of_start None (Some i) old.clock)
-init_taken old new i true due next = (rw (← due) (ap (λ k. Some k) (sym next)), refl, refl)
+    → IsTaken pending old (record { timings = old.timings; inits = old.inits; clock = new; woken = old.woken }) (lead_of_start None (Some i) old.clock)
+init_taken old new i true due next = (rw (← due) (ap (λ k. Some k) (sym next)), refl, refl, refl)
 init_taken old new i false due next = (
   rw (← due) refl,
   ticks_same old new (next ∙ (λ j. record { timers = old.clock.timers; unstarted = set_same old.clock.unstarted i false (sym due) j })),

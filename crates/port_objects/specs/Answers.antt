@@ -14,6 +14,7 @@ use Rattle.port_objects.specs.declared.acting.Shown.{Shown}
 use Rattle.port_objects.specs.declared.acting.Shown.TheVariants.{NotDue, Unmatched}
 use Rattle.port_objects.specs.Leading.{lead}
 use Rattle.port_objects.specs.Objects.{kept_of}
+use Rattle.port_objects.specs.Waking.{Tells}
 
 -- the event that a wish names for the entry: of an Admit or End
 abbrev pub event_of : Wanted → Option ℕ
@@ -25,12 +26,14 @@ event_of w = None
 abbrev pub noted_for : Wanted → Entry → Noted
 noted_for w e = record { entry = e; event = event_of w }
 
--- the entry is the actor's and of the wish, what it names as an answer fits, and what was kept leads by it to what is kept
+-- the entry is the actor's and of the wish, what it names as an answer fits, what was kept leads by it to what is kept, and the starts that
+-- came are told
 pub record IsMade (p : Plan) (object : ℕ) (a : Actor) (w : Wanted) (old new : Object) (e : Entry) : Type 0 where
   pub actor : e.actor ≡ a
   pub wish : wanted_by (unwrap_or (event_of w) 0) e.deed ≡ w
   pub answer : answer_fits p a e.deed ≡ true
   pub leads : lead p object (kept_of old) (noted_for w e) ≡ Some (kept_of new)
+  pub told : Tells (kept_of old) new
 
 -- why a wish may not come: a start is not due; every other wish that may not come is none of the object's
 abbrev pub why_held : Wanted → Shown

@@ -1,5 +1,6 @@
 -- The objects of a plan, as the code has them: what each keeps as plain data, and all in it that no call changes.
-use Rattle.std.specs.Prelude.{◌≡◌, ℕ, suc, ◌<◌, List, map, length, slice_get, Some, unwrap_or}
+use Rattle.std.specs.Prelude.{◌≡◌, ℕ, suc, ◌<◌, ◌≤◌, List, map, length, slice_get, Some, unwrap_or}
+use Rattle.std.specs.Vec.{vec_capacity}
 use Rattle.bus_semantics.specs.declared.entries.Actor.{Actor}
 use Rattle.bus_semantics.specs.Plan.{Plan, kind_of}
 use Rattle.bus_semantics.specs.Wanted.{Wanted}
@@ -21,6 +22,7 @@ pub record GroupOfPlan (p : Plan) (group : ℕ) (g : Group) : Type 0 where
   pub waiting : g.events.items ≡ events_of p (waits_for_data p group)
   pub inits : g.unqueued.inits ≡ map (initial_of p) (members_of p group)
   pub receivers : g.unqueued.events ≡ map (receiver_of p group) g.events.items
+  pub room : length g.events.items ≤ vec_capacity g.woken
 
 pub record ClockOfPlan (p : Plan) (object : ℕ) (t : Ticks) : Type 0 where
   pub number : object ≡ clock p
@@ -28,6 +30,12 @@ pub record ClockOfPlan (p : Plan) (object : ℕ) (t : Ticks) : Type 0 where
   pub initial : t.inits.items ≡ events_of p is_init
   pub periods : map (λ (r : Timer). r.period) t.clock.timers ≡ map (λ e. period_in (kind_of p e)) t.timings.items
   pub count : length t.clock.unstarted ≡ length t.inits.items
+  pub room : length t.timings.items ≤ vec_capacity t.woken
+
+-- a group has room to tell all events that wait for it, the clock all of its TimingEvents
+abbrev pub HasRoom : Object → Type 0
+HasRoom (Unqueued g) = length g.events.items ≤ vec_capacity g.woken
+HasRoom (Clock t) = length t.timings.items ≤ vec_capacity t.woken
 
 -- it is the plan's object of that number
 abbrev pub IsOfPlan : Plan → (object : ℕ) → Object → Type 0

@@ -10,7 +10,7 @@ ghost use Rattle.bus_semantics.specs.declared.entries.Entry.{Entry};
 ghost use Rattle.bus_semantics.specs.History.{Past};
 ghost use Rattle.port_objects.specs.declared.acting.Shown.{Shown};
 ghost use Rattle.port_objects.specs.declared.acting.Acted.TheVariants.{Done, NotYet};
-ghost use Rattle.port_objects.specs.Objects.{IsOfPlan, kept_of, touched};
+ghost use Rattle.port_objects.specs.Objects.{HasRoom, IsOfPlan, kept_of, touched};
 ghost use Rattle.port_objects.specs.Coming.{MayAsk, IsTheOne, NoneMayCome};
 ghost use Rattle.port_objects.specs.Answers.{IsAnswer, why_held};
 
@@ -69,7 +69,8 @@ fn act_by_kind(p: &BusPlan, object: &mut Object, who: &Actor, wish: &Wish) -> Ac
     requires groups { groups_fit (plan_of p.now) ≡ true }
     requires touching { object_of (plan_of p.now) who.now (wanted_of wish.now) ≡ Some (touched (plan_of p.now) who.now (wanted_of wish.now)) }
     requires planned { IsOfPlan (plan_of p.now) (touched (plan_of p.now) who.now (wanted_of wish.now)) object.old }
-    ensures { IsAnswer (plan_of p.now) (touched (plan_of p.now) who.now (wanted_of wish.now)) who.now (wanted_of wish.now) object.old object.new result }
+    ensures lead { IsAnswer (plan_of p.now) (touched (plan_of p.now) who.now (wanted_of wish.now)) who.now (wanted_of wish.now) object.old object.new result }
+    ensures room { HasRoom object.new }
 {
     match object {
         Object::Unqueued(group) => match group.act(p, who, wish) {

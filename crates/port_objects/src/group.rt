@@ -1,7 +1,8 @@
 //! A group of unqueued data elements with the plan's events that wait for it.
 
-ghost use Rattle.std.specs.Prelude.{◌≡◌, ◌<◌, ℕ, length, true, Some};
+ghost use Rattle.std.specs.Prelude.{◌≡◌, ◌<◌, ◌≤◌, ℕ, length, true, Some};
 ghost use Rattle.std.specs.Option.{MatchOption};
+ghost use Rattle.std.specs.Vec.{vec_capacity};
 ghost use Rattle.rte_value.specs.Values.{words_of};
 ghost use Rattle.bus_semantics.specs.Plan.{Plan, plan_of, look};
 ghost use Rattle.bus_semantics.specs.SoundPlan.{groups_fit};
@@ -18,11 +19,13 @@ use bus_semantics::{Actor, BusPlan, Deed, ElemKind, ElemPlan, Wish};
 use explicit_ports::{ReadState, Unqueued};
 use rte_value::{Code, Value};
 
-/// A group of unqueued data elements, and by number the plan's DataReceivedEvents that wait for it, in rising order.
+/// A group of unqueued data elements, and by number the plan's DataReceivedEvents that wait for it, in rising order. `woken`
+/// has those of them that the last write or publication made pending, and room for all.
 #[derive(Drop)]
 pub struct Group {
     pub(crate) events: Vec<u32>,
     pub(crate) unqueued: Unqueued,
+    pub(crate) woken: Vec<u32>,
 }
 
 /// The receiver of a group that an element is: its place among the elements of the group.
@@ -95,9 +98,12 @@ impl Group {
 
     /// A write to an element.
     pub(crate) fn write(&mut self, elem: u32, value: &Value) -> Deed
+        requires due { length self.old.unqueued.events ≡ length self.old.events.items }
+        requires room { length self.old.events.items ≤ vec_capacity self.old.woken }
         ensures { (p : Plan) (group : ℕ) → LeadsGroup p group (to_write elem (words_of value.now)) self.old self.new result }
     {
-        self.unqueued.write(value);
+        self.unqueued
+            .write(value, self.events.as_slice(), &mut self.woken);
         Deed::Write {
             elem,
             value: *value,
@@ -106,9 +112,12 @@ impl Group {
 
     /// A publication of an element.
     pub(crate) fn publish(&mut self, elem: u32, value: &Value) -> Deed
+        requires due { length self.old.unqueued.events ≡ length self.old.events.items }
+        requires room { length self.old.events.items ≤ vec_capacity self.old.woken }
         ensures { (p : Plan) (group : ℕ) → LeadsGroup p group (to_publish elem (words_of value.now)) self.old self.new result }
     {
-        self.unqueued.publish(value);
+        self.unqueued
+            .publish(value, self.events.as_slice(), &mut self.woken);
         Deed::Publish {
             elem,
             value: *value,

@@ -32,7 +32,7 @@ pub use object::Object;
 pub use plain_bench::PlainBench;
 pub use ticks::Ticks;
 pub use touching::object_of;
-pub use waking::{held_starts_lead_nowhere, may_start, other_entries_wake_nothing};
+pub use waking::{held_starts_lead_nowhere, may_start, other_entries_wake_nothing, woken};
 
 /// There was no memory for what a call makes.
 pub type Memory = std::alloc::AllocError;

@@ -4,7 +4,7 @@ ghost use Rattle.std.specs.Prelude.{◌≡◌, ℕ, ◌<◌, ◌^◌, length, ma
 ghost use Rattle.bus_semantics.specs.Plan.{plan_of, kind_of};
 ghost use Rattle.bus_semantics.specs.SoundPlan.{groups_fit};
 ghost use Rattle.port_objects.specs.Layout.{members_of, initial_of, receiver_of, events_of, waits_for_data};
-ghost use Rattle.port_objects.specs.Objects.{kept_of, ArePlans};
+ghost use Rattle.port_objects.specs.Objects.{kept_of, ArePlans, HasRoom};
 ghost use Rattle.port_objects.specs.Opening.{opening, opening_group, opening_clock};
 ghost use Rattle.port_objects.specs.Plans.{IsUnqueuedPlan, HasObjects};
 ghost use Rattle.port_objects.specs.Standing.{Stands};
@@ -46,12 +46,18 @@ fn group_object(alloc: Global, p: &BusPlan, group: u32, events: Vec<u32>) -> Res
     requires groups { groups_fit (plan_of p.now) ≡ true }
     requires within { group < length p.now.groups }
     requires waiting { events.items ≡ events_of (plan_of p.now) (waits_for_data (plan_of p.now) group) }
-    ensures { IfOk result (λ o. kept_of o ≡ opening_group (plan_of p.now) group) }
+    ensures kept { IfOk result (λ o. kept_of o ≡ opening_group (plan_of p.now) group) }
+    ensures room { IfOk result HasRoom }
 {
     let inits = initial_values(alloc, p, group)?;
     let receivers = receivers_of(alloc, p, group, events.as_slice())?;
     let unqueued = Unqueued::new(alloc, inits, receivers)?;
-    Ok(Object::Unqueued(Group { events, unqueued }))
+    let woken = Vec::with_capacity(alloc, events.len())?;
+    Ok(Object::Unqueued(Group {
+        events,
+        unqueued,
+        woken,
+    }))
 }
 
 /// The initial values of the elements of a group.
@@ -105,15 +111,18 @@ fn receiver_at(p: &BusPlan, group: u32, event: u32) -> u32
 /// The clock, with the events that wait for it.
 fn clock_object(alloc: Global, p: &BusPlan) -> Result<Object, Memory>
     requires sound { HasObjects (plan_of p.now) }
-    ensures { IfOk result (λ o. kept_of o ≡ opening_clock (plan_of p.now)) }
+    ensures kept { IfOk result (λ o. kept_of o ≡ opening_clock (plan_of p.now)) }
+    ensures room { IfOk result HasRoom }
 {
     let timings = timing_events(alloc, p)?;
     let inits = init_events(alloc, p)?;
     let periods = periods_of(alloc, p, timings.as_slice())?;
     let clock = Clock::new(alloc, periods, inits.len() as u32)?;
+    let woken = Vec::with_capacity(alloc, timings.len())?;
     Ok(Object::Clock(Ticks {
         timings,
         inits,
         clock,
+        woken,
     }))
 }

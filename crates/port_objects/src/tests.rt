@@ -13,7 +13,7 @@ ghost use Rattle.port_objects.specs.Plans.{IsUnqueuedPlan, HasObjects};
 
 use crate::among::act_among;
 use crate::events::kind_at;
-use crate::{Acted, Bench, Benched, Object, PlainBench, make_objects, object_of};
+use crate::{Acted, Bench, Benched, Object, PlainBench, make_objects, object_of, woken};
 use bus_semantics::{Actor, BusPlan, Deed, ElemKind, ElemPlan, Entry, EventKind, EventPlan, Wish};
 use rte_text::{Seq, Text};
 use rte_value::{ActKey, Code, Limits, Value};
@@ -124,6 +124,7 @@ fn object_for(p: &BusPlan, who: &Actor, wish: &Wish) -> Option<u32>
             _ => None,
         },
         Wish::Write { elem, .. }
+        | Wish::Publish { elem, .. }
         | Wish::Read { elem }
         | Wish::Fetch { elem }
         | Wish::Invalidate { elem }
@@ -156,6 +157,13 @@ fn make(p: &BusPlan, objects: &mut Vec<Object>, wish: Wish) -> Option<Deed>
 
 fn write(word: i64) -> Wish {
     Wish::Write {
+        elem: 0,
+        value: Value::of_word(word),
+    }
+}
+
+fn publish(word: i64) -> Wish {
+    Wish::Publish {
         elem: 0,
         value: Value::of_word(word),
     }
@@ -328,6 +336,42 @@ fn the_clock_starts_by_period_and_once(rt: HostRuntime) -> Result<(), Fail> {
         make(&p, &mut objects, Wish::Start { event: 2 }).is_some(),
         false
     );
+    Ok(())
+}
+
+// Whether the object of a number tells the start by an event.
+fn tells(objects: &[Object], object: usize, event: u32) -> bool {
+    match objects.get(object) {
+        Some(object) => woken(object).contains(&event),
+        None => false,
+    }
+}
+
+#[test]
+fn an_object_tells_the_starts_that_came(rt: HostRuntime) -> Result<(), Fail> {
+    let p = plan(rt.alloc())?;
+    let mut objects = make_objects(rt.alloc(), &p)?;
+    make(&p, &mut objects, Wish::Tick);
+    assert_eq!(rt; tells(objects.as_slice(), 2, 0), true);
+    make(&p, &mut objects, Wish::Start { event: 0 });
+    make(&p, &mut objects, Wish::Tick);
+    assert_eq!(rt; tells(objects.as_slice(), 2, 0), true);
+    make(&p, &mut objects, Wish::Tick);
+    assert_eq!(rt; tells(objects.as_slice(), 2, 1), true);
+    assert_eq!(rt; tells(objects.as_slice(), 0, 3), false);
+    make(&p, &mut objects, write(7));
+    assert_eq!(rt; tells(objects.as_slice(), 0, 3), true);
+    assert_eq!(rt; tells(objects.as_slice(), 0, 4), true);
+    assert_eq!(rt; tells(objects.as_slice(), 1, 3), false);
+    make(&p, &mut objects, Wish::Start { event: 3 });
+    make(&p, &mut objects, write(8));
+    // what is pending still is not told again
+    assert_eq!(rt; tells(objects.as_slice(), 0, 3), true);
+    assert_eq!(rt; tells(objects.as_slice(), 0, 4), false);
+    make(&p, &mut objects, Wish::Start { event: 4 });
+    make(&p, &mut objects, publish(9));
+    assert_eq!(rt; tells(objects.as_slice(), 0, 4), true);
+    assert_eq!(rt; tells(objects.as_slice(), 0, 3), false);
     Ok(())
 }
 

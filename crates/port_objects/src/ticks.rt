@@ -1,7 +1,8 @@
 //! The clock with the plan's events that wait for it.
 
-ghost use Rattle.std.specs.Prelude.{◌≡◌, length, true};
+ghost use Rattle.std.specs.Prelude.{◌≡◌, ◌≤◌, length, true};
 ghost use Rattle.std.specs.Option.{MatchOption};
+ghost use Rattle.std.specs.Vec.{vec_capacity};
 ghost use Rattle.bus_semantics.specs.Wanted.{to_tick, to_start, wanted_of};
 ghost use Rattle.port_objects.specs.Acting.{LeadsClock, HoldsClock, IsTaken};
 ghost use Rattle.port_objects.specs.Layout.{place};
@@ -13,12 +14,14 @@ use bus_semantics::{Deed, Wish};
 use rte_value::Value;
 use tick_events::Clock;
 
-/// The clock, and by number the plan's TimingEvents and InitEvents, each in rising order.
+/// The clock, and by number the plan's TimingEvents and InitEvents, each in rising order. `woken` has the TimingEvents that
+/// the last tick made pending, also by number, and room for all.
 #[derive(Drop)]
 pub struct Ticks {
     pub(crate) timings: Vec<u32>,
     pub(crate) inits: Vec<u32>,
     pub(crate) clock: Clock,
+    pub(crate) woken: Vec<u32>,
 }
 
 impl Ticks {
@@ -28,6 +31,7 @@ impl Ticks {
         requires inits { is_rising self.old.inits.items ≡ true }
         requires timers { length self.old.clock.timers ≡ length self.old.timings.items }
         requires unstarted { length self.old.clock.unstarted ≡ length self.old.inits.items }
+        requires room { length self.old.timings.items ≤ vec_capacity self.old.woken }
         ensures { MatchOption result (HoldsClock (wanted_of wish.now) self.old self.new) (LeadsClock (wanted_of wish.now) self.old self.new) }
     {
         match wish {
@@ -39,9 +43,11 @@ impl Ticks {
 
     /// A tick.
     pub(crate) fn tick(&mut self) -> Deed
+        requires timers { length self.old.clock.timers ≡ length self.old.timings.items }
+        requires room { length self.old.timings.items ≤ vec_capacity self.old.woken }
         ensures { LeadsClock to_tick self.old self.new result }
     {
-        self.clock.tick();
+        self.clock.tick(self.timings.as_slice(), &mut self.woken);
         Deed::Tick
     }
 

@@ -1,4 +1,4 @@
-//! Which starts an object allows, and which entries can make one come.
+//! Which starts an object allows, which entries can make one come, and which starts the last entry can have made come.
 
 ghost use Rattle.std.specs.Prelude.{◌≡◌, ℕ, length, true, false, None, Some};
 ghost use Rattle.bus_semantics.specs.Plan.{Plan};
@@ -9,7 +9,7 @@ ghost use Rattle.port_objects.specs.Layout.{place};
 ghost use Rattle.port_objects.specs.Leading.{lead};
 ghost use Rattle.port_objects.specs.Objects.{IsOfPlan, kept_of};
 ghost use Rattle.port_objects.specs.Rising.{is_rising};
-ghost use Rattle.port_objects.specs.Waking.{is_pending, is_pending_at, may_start_in, wakes};
+ghost use Rattle.port_objects.specs.Waking.{is_pending, is_pending_at, may_start_in, wakes, woken_in};
 
 use crate::find::find;
 use crate::group::Group;
@@ -57,6 +57,18 @@ pub fn may_start(object: &Object, event: u32) -> bool
     match object {
         Object::Unqueued(group) => group.may_start(event),
         Object::Clock(ticks) => ticks.may_start(event),
+    }
+}
+
+/// The events, by number, that the last write, publication or tick on an object made pending (SWS_RTE: activation of
+/// runnables): DataReceivedEvents of a group, TimingEvents of the clock. Each start that the last entry made come is by one
+/// of them; no clause says that there are no others among them. It changes nothing.
+pub fn woken(object: &Object) -> &[u32]
+    ensures { result.now ≡ woken_in object.now }
+{
+    match object {
+        Object::Unqueued(group) => group.woken.as_slice(),
+        Object::Clock(ticks) => ticks.woken.as_slice(),
     }
 }
 

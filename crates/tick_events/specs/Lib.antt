@@ -1,3 +1,4 @@
 pub mod Countdowns
 pub mod Kept
+pub mod Running
 pub mod Winners

@@ -1,10 +1,15 @@
 //! The clock.
 
-ghost use Rattle.std.specs.Prelude.{◌≡◌, ◌<◌, ◌≤◌, length, IfOk, slice_get, Some, All};
+ghost use Rattle.std.specs.Prelude.{◌≡◌, ◌<◌, ◌≤◌, ℕ, length, IfOk, slice_get, Some, true, false, All};
+ghost use Rattle.std.specs.List.{Contains};
+ghost use Rattle.std.specs.Vec.{vec_capacity};
 ghost use Rattle.tick_events.specs.Kept.{fresh, after_tick, after_timing, after_init, is_due};
 
 use crate::Memory;
-use crate::timer::Timer;
+use crate::countdowns::Countdowns;
+use crate::ringing::ring;
+use indexmap::IndexSet;
+use latches::Latches;
 use std::alloc::Global;
 use std::marker::Model;
 
@@ -13,16 +18,23 @@ use std::marker::Model;
 /// A TimingEvent is a position in the list of periods, an InitEvent one below their number. Only `new` takes memory.
 #[derive(Drop)]
 pub struct Clock {
-    timers: Vec<Timer>,
+    /// For each TimingEvent whether it is pending, in groups by the countdown of its period.
+    pending: Latches,
+    /// One for each distinct period.
+    countdowns: Countdowns,
     unstarted: Vec<bool>,
 }
 
 impl Model for Clock {
+    ghost use Rattle.std.specs.Prelude.{map};
     ghost use Rattle.tick_events.specs.Kept.{Kept};
+    ghost use Rattle.tick_events.specs.Running.{IsRunning, kept_timer};
 
     ghost Value = { Kept };
 
-    ghost view = { λ c. record { timers = c.timers.items; unstarted = c.unstarted.items } };
+    ghost view = { λ c. record { timers = map (kept_timer c.countdowns) c.pending; unstarted = c.unstarted.items } };
+
+    ghost invariant = { λ c. IsRunning c.countdowns c.pending };
 }
 
 impl Clock {
@@ -32,21 +44,36 @@ impl Clock {
         requires { All (λ period. 1 ≤ period) periods.items }
         ensures { IfOk result (λ c. c ≡ fresh periods.items inits) }
     {
-        let unstarted = vec![in alloc; true; inits as usize]?;
-        let mut timers = Vec::with_capacity(alloc, periods.len())?;
+        let mut distinct = IndexSet::new(alloc);
+        let mut groups = Vec::with_capacity(alloc, periods.len())?;
         for period in &periods {
-            timers.push(Timer::new(*period))?;
+            let (group, _) = distinct.insert_full(*period)?;
+            groups.push(group)?;
         }
-        Ok(Clock { timers, unstarted })
+        let pending = Latches::new(alloc, groups.as_slice(), distinct.len())?;
+        let countdowns = Countdowns::new(alloc, Vec::from_slice(alloc, distinct.as_slice())?)?;
+        let unstarted = vec![in alloc; true; inits as usize]?;
+        Ok(Clock {
+            pending,
+            countdowns,
+            unstarted,
+        })
     }
 
-    /// One tick more, of one millisecond: each TimingEvent whose period is complete is pending.
-    pub fn tick(&mut self)
-        ensures { self.new ≡ after_tick self.old }
+    /// One tick more, of one millisecond: each TimingEvent whose period is complete is pending. `rung` then has the name of
+    /// each that was not pending before; `names` has a name for each TimingEvent.
+    ///
+    /// It looks at the countdowns that end, of which there is one for each distinct period, and at what it tells.
+    pub fn tick(&mut self, names: &[u32], rung: &mut Vec<u32>)
+        requires named { length names.now ≡ length self.old.timers }
+        requires room { length self.old.timers ≤ vec_capacity rung.old }
+        ensures kept { self.new ≡ after_tick self.old }
+        ensures rung { (event name : ℕ) → is_due event self.old ≡ Some false → is_due event self.new ≡ Some true → slice_get names.now event ≡ Some name → Contains rung.new.items name }
+        ensures capacity { vec_capacity rung.new ≡ vec_capacity rung.old }
     {
-        for timer in self.timers.iter_mut() {
-            timer.tick();
-        }
+        rung.clear();
+        self.countdowns.tick();
+        ring(&mut self.pending, &mut self.countdowns, names, rung);
     }
 
     /// Whether the TimingEvent is pending.
@@ -54,7 +81,7 @@ impl Clock {
         requires { event < length self.now.timers }
         ensures { Some result ≡ is_due event self.now }
     {
-        self.timers[event as usize].is_due()
+        self.pending.is_set(event as usize)
     }
 
     /// Whether the InitEvent is pending, as it is until its first start.
@@ -71,7 +98,9 @@ impl Clock {
         ensures pending { Some result ≡ is_due event self.old }
         ensures kept { self.new ≡ after_timing event self.old }
     {
-        self.timers[event as usize].start()
+        let was_pending = self.is_timing_due(event);
+        self.pending.clear(event as usize);
+        was_pending
     }
 
     /// Whether the InitEvent was pending, as it is until its first start; then it is no longer.

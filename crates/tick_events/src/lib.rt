@@ -4,8 +4,8 @@
 mod clock;
 mod countdown;
 mod countdowns;
+mod ringing;
 mod threads;
-mod timer;
 mod winners;
 
 pub use clock::Clock;

@@ -17,5 +17,5 @@ pub returns-in-Some : goal.returns-in-Some
 returns-in-Some c =
     let old = c.args.self.now in
     let there : place c.args.event old.events.items ≡ Some c.in-Some.place = ap (place c.args.event) (sym c.as_slice.ensures.value) ∙ sym c.find.ensures ∙ c.in-Some.is in
-    subst (λ o. IsTakenOfGroup c.start.result old (record { events = old.events; unqueued = c.start.new.self }) (started_at old.unqueued o)) (sym there)
+    subst (λ o. IsTakenOfGroup c.start.result old (record { events = old.events; unqueued = c.start.new.self; woken = old.woken }) (started_at old.unqueued o)) (sym there)
     (start_taken old c.start.new.self c.in-Some.place c.start.result c.start.ensures.pending c.start.ensures.kept)

@@ -25,7 +25,7 @@ pub returns-in-Some : goal.returns-in-Some
 returns-in-Some c =
     let old = c.args.self.now in
     let there : place c.args.event old.timings.items ≡ Some c.in-Some.place = ap (place c.args.event) (sym c.as_slice.ensures.value) ∙ sym c.find.ensures ∙ c.in-Some.is in
-    subst (λ o. IsTaken c.start_timing.result old (record { timings = old.timings; inits = old.inits; clock = c.start_timing.new.self }) (lead_of_start o (place c.args.event old.inits.items) old.clock)) (sym there)
+    subst (λ o. IsTaken c.start_timing.result old (record { timings = old.timings; inits = old.inits; clock = c.start_timing.new.self; woken = old.woken }) (lead_of_start o (place c.args.event old.inits.items) old.clock)) (sym there)
     (timing_taken old c.start_timing.new.self c.in-Some.place (place c.args.event old.inits.items) c.start_timing.result c.start_timing.ensures.pending c.start_timing.ensures.kept)
 
 pub returns-in-Some-find : goal.returns-in-Some-find
@@ -33,6 +33,6 @@ returns-in-Some-find c =
     let old = c.args.self.now in
     let none : place c.args.event old.timings.items ≡ None = ap (place c.args.event) (sym c.as_slice.ensures.value) ∙ sym c.find.ensures ∙ c.in-None.is in
     let there : place c.args.event old.inits.items ≡ Some c.in-Some-find.place = ap (place c.args.event) (sym c.as_slice-in-None.ensures.value) ∙ sym c.find-in-None.ensures ∙ c.in-Some-find.is in
-    subst (λ o. IsTaken c.start_init.result old (record { timings = old.timings; inits = old.inits; clock = c.start_init.new.self }) (lead_of_start o (place c.args.event old.inits.items) old.clock)) (sym none)
-    (subst (λ o. IsTaken c.start_init.result old (record { timings = old.timings; inits = old.inits; clock = c.start_init.new.self }) (lead_of_start None o old.clock)) (sym there)
+    subst (λ o. IsTaken c.start_init.result old (record { timings = old.timings; inits = old.inits; clock = c.start_init.new.self; woken = old.woken }) (lead_of_start o (place c.args.event old.inits.items) old.clock)) (sym none)
+    (subst (λ o. IsTaken c.start_init.result old (record { timings = old.timings; inits = old.inits; clock = c.start_init.new.self; woken = old.woken }) (lead_of_start None o old.clock)) (sym there)
     (init_taken old c.start_init.new.self c.in-Some-find.place c.start_init.result c.start_init.ensures.pending c.start_init.ensures.kept))

@@ -1,0 +1,33 @@
+-- Flags of one group, seen as whether they are set.
+use Rattle.std.proofs.Common.{◌≡◌, ◌<◌, ◌==◌, ◌||◌, ℕ, zero, suc, refl, ◌∙◌, ap, Bool, true, false, List, [], ◌∷◌, length, get_or, map, replicate, Some}
+use Rattle.std.specs.List.{slice_get}
+use Rattle.std.specs.Option.{option_map}
+use Rattle.std.proofs.lemmas.Bool.{eq-eqb}
+use Rattle.std.proofs.lemmas.List.Elements.{All-head, All-tail}
+use Rattle.std.proofs.lemmas.Option.{slice_get-get_or, slice_get-map}
+use Rattle.latches.specs.Latches.{Latch, clear_in, after_set}
+use Rattle.explicit_ports.specs.Flags.{are_set, AreOneGroup}
+
+pub all_set : (ls : List Latch) → AreOneGroup ls → are_set (map (after_set 0) ls) ≡ replicate (length (are_set ls)) true
+all_set [] one = refl
+all_set (l ∷ ls) one =
+    let first : ((l.group == 0) || l.is_set) ≡ true = ap (λ b. b || l.is_set) (eq-eqb l.group 0 (All-head (λ (m : Latch). m.group ≡ 0) l ls one)) in
+    ap (λ b. b ∷ are_set (map (after_set 0) ls)) first ∙ ap (λ bs. true ∷ bs) (all_set ls (All-tail (λ (m : Latch). m.group ≡ 0) l ls one))
+
+pub none_set : (groups : List ℕ) → are_set (map clear_in groups) ≡ replicate (length groups) false
+none_set [] = refl
+none_set (g ∷ groups) = ap (λ bs. false ∷ bs) (none_set groups)
+
+pub read_set : (ls : List Latch) (at : ℕ) (d : Latch) → at < length ls → slice_get (are_set ls) at ≡ Some (get_or ls at d).is_set
+read_set ls at d within = slice_get-map (λ (l : Latch). l.is_set) ls at ∙ ap (option_map (λ (l : Latch). l.is_set)) (slice_get-get_or ls at d within)
+
+-- the flag behind what is seen
+pub record Behind (ls : List Latch) (at : ℕ) (b : Bool) : Type 0 where
+  pub latch : Latch
+  pub is : slice_get ls at ≡ Some latch
+  pub shown : latch.is_set ≡ b
+
+pub behind : (ls : List Latch) (at : ℕ) (b : Bool) → slice_get (are_set ls) at ≡ Some b → Behind ls at b
+behind [] at b e = absurd (cc e)
+behind (l ∷ ls) zero b e = record { latch = l; is = refl; shown = cc }
+behind (l ∷ ls) (suc at) b e = let rest = behind ls at b e in record { latch = rest.latch; is = rest.is; shown = rest.shown }

@@ -1,0 +1,76 @@
+//! Flags that are set all at once.
+
+ghost use Rattle.std.specs.Prelude.{◌≡◌, ◌<◌, ◌≤◌, ◌+◌, ℕ, IfOk, Some, false, length, replicate, set, slice_get, true};
+ghost use Rattle.std.specs.List.{Contains};
+ghost use Rattle.std.specs.Vec.{vec_capacity};
+
+use crate::Memory;
+use latches::Latches;
+use std::alloc::Global;
+use std::marker::Model;
+
+/// The number of the one group.
+const ALL: usize = 0;
+
+/// Flags that are set all at once, at the cost of those that are clear, and cleared one by one. They are seen as a list:
+/// for each whether it is set.
+#[derive(Drop)]
+pub(crate) struct Flags {
+    latches: Latches,
+}
+
+impl Model for Flags {
+    ghost use Rattle.std.specs.Prelude.{List, Bool};
+    ghost use Rattle.explicit_ports.specs.Flags.{AreOneGroup, are_set};
+
+    ghost Value = { List Bool };
+
+    ghost view = { λ f. are_set f.latches };
+
+    ghost invariant = { λ f. AreOneGroup f.latches };
+}
+
+impl Flags {
+    /// Flags that are clear. The only error is that there is no memory; no other call takes any.
+    pub fn all_clear(alloc: Global, count: usize) -> Result<Flags, Memory>
+        ensures { IfOk result (λ f. f ≡ replicate count false) }
+    {
+        let groups = vec![in alloc; ALL; count]?;
+        let latches = Latches::new(alloc, &groups, ALL + 1)?;
+        Ok(Flags { latches })
+    }
+
+    /// Whether a flag is set.
+    pub fn is_set(&self, at: usize) -> bool
+        requires { at < length self.now }
+        ensures { Some result ≡ slice_get self.now at }
+    {
+        self.latches.is_set(at)
+    }
+
+    /// Clears a flag.
+    pub fn clear(&mut self, at: usize)
+        requires { at < length self.old }
+        ensures { self.new ≡ set self.old at false }
+    {
+        self.latches.clear(at);
+    }
+
+    /// Sets all flags.
+    pub fn set_all(&mut self)
+        ensures { self.new ≡ replicate (length self.old) true }
+    {
+        self.latches.set_group(ALL);
+    }
+
+    /// Sets all flags, and appends the names of those that were clear.
+    pub fn set_and_tell(&mut self, names: &[u32], told: &mut Vec<u32>)
+        requires named { length names.now ≡ length self.old }
+        requires room { length told.old.items + length self.old ≤ vec_capacity told.old }
+        ensures set { self.new ≡ replicate (length self.old) true }
+        ensures told { (at name : ℕ) → slice_get self.old at ≡ Some false → slice_get names.now at ≡ Some name → Contains told.new.items name }
+        ensures capacity { vec_capacity told.new ≡ vec_capacity told.old }
+    {
+        self.latches.set_and_tell(ALL, names, told);
+    }
+}
