@@ -118,6 +118,7 @@ module _ {p : Plan} {m : Mapping} {t : TaskSet} {cores : List CoreState} {object
       noted = noted_for w e;
       is = refl;
       leads = subst (λ n. lead p n (kept_of old) (noted_for w e) ≡ Some (kept_of new)) at made.leads;
+      told = made.told;
       others = refl;
     }
 

@@ -1,61 +1,22 @@
--- Seats that are added to the lists of their objects.
-use Rattle.std.proofs.Common.{◌≡◌, ℕ, zero, suc, ◌<◌, ◌≤◌, ◌+◌, ◌==◌, ◌&&◌, Bool, true, false, ◌⊎◌, inl, inr, refl, sym, ◌∙◌, ap, subst, arith, List, [], ◌∷◌, ◌++◌, length, set, Some, None}
-use Rattle.std.specs.Prelude.{Vec}
+-- Seats that are added to the lists of their events.
+use Rattle.std.proofs.Common.{◌≡◌, ℕ, zero, suc, ◌<◌, ◌≤◌, ◌+◌, ◌==◌, Bool, true, false, ◌⊎◌, inl, inr, refl, sym, ◌∙◌, ap, subst, arith, List, [], ◌∷◌, ◌++◌, length, get_or, set, Some, None}
+use Rattle.std.specs.Prelude.{Vec, All, nat_lt}
 use Rattle.std.specs.Global.{Global}
 use Rattle.std.specs.Cmp.{unsigned_Decides}
 use Rattle.std.specs.List.{list_all, slice_get}
-use Rattle.std.proofs.lemmas.Bool.{cases_lt, false≢true}
+use Rattle.std.proofs.lemmas.Bool.{cases_lt, false≢true, ltb-true}
 use Rattle.std.proofs.lemmas.List.{length-set}
+use Rattle.std.proofs.lemmas.List.Folds.{list_all_at}
 use Rattle.std.proofs.lemmas.Option.{slice_get_within}
-use Rattle.bus_semantics.specs.Plan.{Plan, kind_of}
-use Rattle.bus_semantics.specs.Objects.{object_of_kind}
 use Rattle.core_runtime.specs.declared.seats.Seat.{Seat}
-use Rattle.core_runtime.specs.Watching.{IsOfTask, IsOfCore, IsOfCores, IsAt, WaitsFor, Adds, AreSeated}
+use Rattle.core_runtime.specs.Watching.{IsOfTask, IsOfCore, IsOfCores, IsAt, Adds, AreSeated}
+use Rattle.core_runtime.proofs.NewNodes.{Last, earlier, last, last_or}
 use Rattle.core_runtime.proofs.Places.{Placed, here, there, placed, set_here, set_there}
 
 some_is : {X : Type 0} {x y : X} → Some x ≡ Some y → x ≡ y
 some_is e = cc
 
--- ---- some, and then more
-
-pub adds_none : (p : Plan) (these : Seat → Type 0) (seats : List (Vec Seat Global)) → ((s : Seat) → these s → ⊥) → Adds p these seats seats
-adds_none p these seats none = record { count = refl; kept = λ object s at. at; added = λ object s is waits. absurd (none s is); only = λ object s at. inl at }
-
-pub adds_then : (p : Plan) (these those all : Seat → Type 0) (old mid new : List (Vec Seat Global)) → ((s : Seat) → all s → these s ⊎ those s) → ((s : Seat) → these s → all s) → ((s : Seat) → those s → all s) → Adds p these old mid → Adds p those mid new → Adds p all old new
-adds_then p these those all old mid new parts first second one other = record {
-  count = other.count ∙ one.count;
-  kept = λ object s at. other.kept object s (one.kept object s at);
-  added = λ object s is waits. of_part object s waits (parts s is);
-  only = λ object s at. of_late object s (other.only object s at);
-}
-  where
-    of_part : (object : ℕ) (s : Seat) → WaitsFor p object s → these s ⊎ those s → IsAt new object s
-    of_part object s waits (inl is) = other.kept object s (one.added object s is waits)
-    of_part object s waits (inr is) = other.added object s is waits
-
-    of_early : (object : ℕ) (s : Seat) → IsAt old object s ⊎ these s → IsAt old object s ⊎ all s
-    of_early object s (inl at) = inl at
-    of_early object s (inr is) = inr (first s is)
-
-    of_late : (object : ℕ) (s : Seat) → IsAt mid object s ⊎ those s → IsAt old object s ⊎ all s
-    of_late object s (inl at) = of_early object s (one.only object s at)
-    of_late object s (inr is) = inr (second s is)
-
 -- ---- one
-
-data Last (xs : List Seat) (y : Seat) (i : ℕ) (x : Seat) : Type 0 where
-  earlier : slice_get xs i ≡ Some x → Last xs y i x
-  last : x ≡ y → Last xs y i x
-
-last_or : (xs : List Seat) (y : Seat) (i : ℕ) (x : Seat) → slice_get (xs ++ y ∷ []) i ≡ Some x → Last xs y i x
-last_or [] y zero x e = last (some_is (sym e))
-last_or [] y (suc i) x e = absurd (cc e)
-last_or (z ∷ xs) y zero x e = earlier e
-last_or (z ∷ xs) y (suc i) x e = deeper (last_or xs y i x e)
-  where
-    deeper : Last xs y i x → Last (z ∷ xs) y (suc i) x
-    deeper (earlier found) = earlier found
-    deeper (last same) = last same
 
 append_keeps : (xs : List Seat) (y : Seat) (i : ℕ) (x : Seat) → slice_get xs i ≡ Some x → slice_get (xs ++ y ∷ []) i ≡ Some x
 append_keeps [] y i x e = absurd (cc e)
@@ -66,19 +27,23 @@ append_puts : (xs : List Seat) (y : Seat) → slice_get (xs ++ y ∷ []) (length
 append_puts [] y = refl
 append_puts (z ∷ xs) y = append_puts xs y
 
-module _ (p : Plan) (seats : List (Vec Seat Global)) (object : ℕ) (row new : Vec Seat Global) (seat : Seat) (found : slice_get seats object ≡ Some row) (pushed : new.items ≡ row.items ++ seat ∷ []) where
+-- the seat alone
+abbrev pub IsOne : (event : ℕ) → Seat → (e : ℕ) → Seat → Type 0
+IsOne event seat e s = (e ≡ event) × (s ≡ seat)
+
+module _ (seats : List (Vec Seat Global)) (event : ℕ) (row new : Vec Seat Global) (seat : Seat) (found : slice_get seats event ≡ Some row) (pushed : new.items ≡ row.items ++ seat ∷ []) where
   abbrev put : List (Vec Seat Global)
-  put = set seats object new
+  put = set seats event new
 
-  here_is : slice_get put object ≡ Some new
-  here_is = set_here seats object row new found
+  here_is : slice_get put event ≡ Some new
+  here_is = set_here seats event row new found
 
-  kept_at : (n : ℕ) (s : Seat) → IsAt seats n s → IsAt put n s
-  kept_at n s at = by_test (n == object) refl
+  kept_at : (e : ℕ) (s : Seat) → IsAt seats e s → IsAt put e s
+  kept_at e s at = by_test (e == event) refl
     where
-      by_test : (b : Bool) → (n == object) ≡ b → IsAt put n s
+      by_test : (b : Bool) → (e == event) ≡ b → IsAt put e s
       by_test true same =
-          let place : n ≡ object = (unsigned_Decides n object).0 same in
+          let place : e ≡ event = (unsigned_Decides e event).0 same in
           let own : at.row ≡ row = some_is (sym at.row_is ∙ ap (slice_get seats) place ∙ found) in
           record {
             row = new;
@@ -86,146 +51,156 @@ module _ (p : Plan) (seats : List (Vec Seat Global)) (object : ℕ) (row new : V
             row_is = ap (slice_get put) place ∙ here_is;
             is = ap (λ xs. slice_get xs at.at) pushed ∙ append_keeps row.items seat at.at s (ap (λ (v : Vec Seat Global). slice_get v.items at.at) (sym own) ∙ at.is);
           }
-      by_test false other = record { row = at.row; at = at.at; row_is = set_there seats object n at.row new (λ same. false≢true (sym other ∙ (unsigned_Decides n object).1 same)) at.row_is; is = at.is }
+      by_test false other = record { row = at.row; at = at.at; row_is = set_there seats event e at.row new (λ same. false≢true (sym other ∙ (unsigned_Decides e event).1 same)) at.row_is; is = at.is }
 
-  only_at : (n : ℕ) (s : Seat) → IsAt put n s → IsAt seats n s ⊎ (s ≡ seat)
-  only_at n s at = of_place (placed seats object new n at.row at.row_is)
+  only_at : (e : ℕ) (s : Seat) → IsAt put e s → IsAt seats e s ⊎ IsOne event seat e s
+  only_at e s at = of_place (placed seats event new e at.row at.row_is)
     where
-      of_place : Placed (Vec Seat Global) seats object new n at.row → IsAt seats n s ⊎ (s ≡ seat)
+      of_place : Placed (Vec Seat Global) seats event new e at.row → IsAt seats e s ⊎ IsOne event seat e s
       of_place (there other row_is) = inl (record { row = at.row; at = at.at; row_is = row_is; is = at.is })
       of_place (here place same) = of_last (last_or row.items seat at.at s (ap (λ xs. slice_get xs at.at) (sym pushed) ∙ ap (λ (v : Vec Seat Global). slice_get v.items at.at) (sym same) ∙ at.is))
         where
-          of_last : Last row.items seat at.at s → IsAt seats n s ⊎ (s ≡ seat)
+          of_last : Last Seat row.items seat at.at s → IsAt seats e s ⊎ IsOne event seat e s
           of_last (earlier is) = inl (record { row = row; at = at.at; row_is = ap (slice_get seats) place ∙ found; is = is })
-          of_last (last is) = inr is
+          of_last (last end is) = inr (place, is)
 
-  pub one_added : object_of_kind p (kind_of p seat.event) ≡ Some object → Adds p (λ s. s ≡ seat) seats (set seats object new)
-  one_added waits = record {
-    count = length-set seats object new;
+  pub one_added : Adds (IsOne event seat) seats put
+  one_added = record {
+    count = length-set seats event new;
     kept = kept_at;
-    added = λ n s is waits_n.
-        let place : object ≡ n = some_is (sym waits ∙ ap (λ (x : Seat). object_of_kind p (kind_of p x.event)) (sym is) ∙ waits_n) in
-        subst (λ m. IsAt put m s) place (record { row = new; at = length row.items; row_is = here_is; is = ap (λ xs. slice_get xs (length row.items)) pushed ∙ append_puts row.items seat ∙ ap (λ x. Some x) (sym is) });
+    added = λ e s is. record {
+      row = new;
+      at = length row.items;
+      row_is = ap (slice_get put) is.0 ∙ here_is;
+      is = ap (λ xs. slice_get xs (length row.items)) pushed ∙ append_puts row.items seat ∙ ap (λ x. Some x) (sym is.1);
+    };
     only = only_at;
   }
 
--- ---- those before a place
+-- ---- some, and then more
 
-abbrev at_place : (core slot k event : ℕ) → Seat
-at_place core slot k event = record { core = core; slot = slot; place = k; event = event }
+-- those of which a place is below k
+abbrev pub Below : (place : Seat → ℕ) → (all : (event : ℕ) → Seat → Type 0) → (k event : ℕ) → Seat → Type 0
+Below place all k event s = (place s < k) × all event s
 
-abbrev pub OfTaskBelow : (events : List ℕ) (core slot k : ℕ) → Seat → Type 0
-OfTaskBelow events core slot k s = (s.place < k) × IsOfTask events core slot s
+module _ (place : Seat → ℕ) (all : (event : ℕ) → Seat → Type 0) (old : List (Vec Seat Global)) where
+  pub adds_none : Adds (Below place all 0) old old
+  adds_none = record { count = refl; kept = λ event s at. at; added = λ event s is. let below = is.0 in absurd (omega arith); only = λ event s at. inl at }
 
-abbrev pub OfCoreBelow : (tasks : List (List ℕ)) (core k : ℕ) → Seat → Type 0
-OfCoreBelow tasks core k s = (s.slot < k) × IsOfCore tasks core s
+  -- and then those at k
+  module _ (those : (event : ℕ) → Seat → Type 0) (mid new : List (Vec Seat Global)) (k : ℕ) (to : (event : ℕ) (s : Seat) → place s ≡ k → all event s → those event s)
+      (back : (event : ℕ) (s : Seat) → those event s → (place s ≡ k) × all event s) (one : Adds (Below place all k) old mid) (other : Adds those mid new) where
+    added_at : (event : ℕ) (s : Seat) → Below place all (k + 1) event s → (place s < k) ⊎ (k ≤ place s) → IsAt new event s
+    added_at event s is (inl less) = other.kept event s (one.added event s (less, is.1))
+    added_at event s is (inr past) = let below = is.0 in let at : place s ≡ k = omega arith in other.added event s (to event s at is.1)
 
-abbrev pub OfCoresBelow : (table : List (List (List ℕ))) (k : ℕ) → Seat → Type 0
-OfCoresBelow table k s = (s.core < k) × IsOfCores table s
+    of_early : (event : ℕ) (s : Seat) → IsAt old event s ⊎ Below place all k event s → IsAt old event s ⊎ Below place all (k + 1) event s
+    of_early event s (inl at) = inl at
+    of_early event s (inr is) = let below = is.0 in inr (omega arith, is.1)
 
-module _ (p : Plan) (old mid new : List (Vec Seat Global)) where
-  pub task_on : (events : List ℕ) (core slot k event : ℕ) → slice_get events k ≡ Some event → Adds p (OfTaskBelow events core slot k) old mid → Adds p (λ s. s ≡ at_place core slot k event) mid new → Adds p (OfTaskBelow events core slot (k + 1)) old new
-  task_on events core slot k event found = adds_then p (OfTaskBelow events core slot k) (λ s. s ≡ at_place core slot k event) (OfTaskBelow events core slot (k + 1)) old mid new parts (λ s is. (let less = is.0 in omega arith, is.1)) second
+    of_late : (event : ℕ) (s : Seat) → IsAt mid event s ⊎ those event s → IsAt old event s ⊎ Below place all (k + 1) event s
+    of_late event s (inl at) = of_early event s (one.only event s at)
+    of_late event s (inr is) = let both = back event s is in let at = both.0 in inr (omega arith, both.1)
+
+    pub adds_more : Adds (Below place all (k + 1)) old new
+    adds_more = record {
+      count = other.count ∙ one.count;
+      kept = λ event s at. other.kept event s (one.kept event s at);
+      added = λ event s is. added_at event s is (cases_lt (place s) k);
+      only = λ event s at. of_late event s (other.only event s at);
+    }
+
+  -- all of them
+  pub adds_all : (new : List (Vec Seat Global)) (k : ℕ) → ((event : ℕ) (s : Seat) → all event s → place s < k) → Adds (Below place all k) old new → Adds all old new
+  adds_all new k within adds = record { count = adds.count; kept = adds.kept; added = λ event s is. adds.added event s (within event s is, is); only = λ event s at. of_part event s (adds.only event s at) }
     where
-      parts : (s : Seat) → OfTaskBelow events core slot (k + 1) s → OfTaskBelow events core slot k s ⊎ (s ≡ at_place core slot k event)
-      parts s (below, is) = elim (cases_lt s.place k) [
-        | inl less ↦ inl (less, is)
-        | inr past ↦
-            let at : s.place ≡ k = omega arith in
-            let own : s.event ≡ event = some_is (sym is.place_is ∙ ap (slice_get events) at ∙ found) in
-            inr (λ i. record { core = is.core_is i; slot = is.slot_is i; place = at i; event = own i })
-      ]
+      of_part : (event : ℕ) (s : Seat) → IsAt old event s ⊎ Below place all k event s → IsAt old event s ⊎ all event s
+      of_part event s (inl at) = inl at
+      of_part event s (inr is) = inr is.1
 
-      second : (s : Seat) → s ≡ at_place core slot k event → OfTaskBelow events core slot (k + 1) s
-      second s is = subst (OfTaskBelow events core slot (k + 1)) (sym is) (omega arith, record { core_is = refl; slot_is = refl; place_is = found })
+-- ---- the events of a task, the tasks of a core, the cores
 
-  pub core_on : (tasks : List (List ℕ)) (core k : ℕ) (events : List ℕ) → slice_get tasks k ≡ Some events → Adds p (OfCoreBelow tasks core k) old mid → Adds p (IsOfTask events core k) mid new → Adds p (OfCoreBelow tasks core (k + 1)) old new
-  core_on tasks core k events found = adds_then p (OfCoreBelow tasks core k) (IsOfTask events core k) (OfCoreBelow tasks core (k + 1)) old mid new parts (λ s is. (let less = is.0 in omega arith, is.1)) second
+abbrev pub OfTaskBelow : (events : List ℕ) (core slot k event : ℕ) → Seat → Type 0
+OfTaskBelow events core slot = Below (λ s. s.place) (IsOfTask events core slot)
+
+abbrev pub OfCoreBelow : (tasks : List (List ℕ)) (core k event : ℕ) → Seat → Type 0
+OfCoreBelow tasks core = Below (λ s. s.slot) (IsOfCore tasks core)
+
+abbrev pub OfCoresBelow : (table : List (List (List ℕ))) (k event : ℕ) → Seat → Type 0
+OfCoresBelow table = Below (λ s. s.core) (IsOfCores table)
+
+abbrev at_place : (core slot k : ℕ) → Seat
+at_place core slot k = record { core = core; slot = slot; place = k }
+
+module _ (old mid new : List (Vec Seat Global)) where
+  pub task_on : (events : List ℕ) (core slot k event : ℕ) → slice_get events k ≡ Some event → Adds (OfTaskBelow events core slot k) old mid → Adds (IsOne event (at_place core slot k)) mid new → Adds (OfTaskBelow events core slot (k + 1)) old new
+  task_on events core slot k event found = adds_more (λ s. s.place) (IsOfTask events core slot) old (IsOne event (at_place core slot k)) mid new k to back
     where
-      parts : (s : Seat) → OfCoreBelow tasks core (k + 1) s → OfCoreBelow tasks core k s ⊎ IsOfTask events core k s
-      parts s (below, is) = elim (cases_lt s.slot k) [
-        | inl less ↦ inl (less, is)
-        | inr past ↦
-            let at : s.slot ≡ k = omega arith in
-            let own : is.events ≡ events = some_is (sym is.task_is ∙ ap (slice_get tasks) at ∙ found) in
-            inr (record { core_is = is.seat.core_is; slot_is = at; place_is = ap (λ es. slice_get es s.place) (sym own) ∙ is.seat.place_is })
-      ]
+      to : (e : ℕ) (s : Seat) → s.place ≡ k → IsOfTask events core slot e s → IsOne event (at_place core slot k) e s
+      to e s at is = (some_is (sym is.place_is ∙ ap (slice_get events) at ∙ found), λ i. record { core = is.core_is i; slot = is.slot_is i; place = at i })
 
-      second : (s : Seat) → IsOfTask events core k s → OfCoreBelow tasks core (k + 1) s
-      second s is = let at = is.slot_is in (omega arith, record { events = events; task_is = ap (slice_get tasks) at ∙ found; seat = record { core_is = is.core_is; slot_is = refl; place_is = is.place_is } })
+      back : (e : ℕ) (s : Seat) → IsOne event (at_place core slot k) e s → (s.place ≡ k) × IsOfTask events core slot e s
+      back e s is =
+          let at : s.place ≡ k = ap (λ (x : Seat). x.place) is.1 in
+          (at, record { core_is = ap (λ (x : Seat). x.core) is.1; slot_is = ap (λ (x : Seat). x.slot) is.1; place_is = ap (slice_get events) at ∙ found ∙ ap (λ n. Some n) (sym is.0) })
 
-  pub cores_on : (table : List (List (List ℕ))) (k : ℕ) (tasks : List (List ℕ)) → slice_get table k ≡ Some tasks → Adds p (OfCoresBelow table k) old mid → Adds p (IsOfCore tasks k) mid new → Adds p (OfCoresBelow table (k + 1)) old new
-  cores_on table k tasks found = adds_then p (OfCoresBelow table k) (IsOfCore tasks k) (OfCoresBelow table (k + 1)) old mid new parts (λ s is. (let less = is.0 in omega arith, is.1)) second
+  pub core_on : (tasks : List (List ℕ)) (core k : ℕ) (events : List ℕ) → slice_get tasks k ≡ Some events → Adds (OfCoreBelow tasks core k) old mid → Adds (IsOfTask events core k) mid new → Adds (OfCoreBelow tasks core (k + 1)) old new
+  core_on tasks core k events found = adds_more (λ s. s.slot) (IsOfCore tasks core) old (IsOfTask events core k) mid new k to back
     where
-      parts : (s : Seat) → OfCoresBelow table (k + 1) s → OfCoresBelow table k s ⊎ IsOfCore tasks k s
-      parts s (below, is) = elim (cases_lt s.core k) [
-        | inl less ↦ inl (less, is)
-        | inr past ↦
-            let at : s.core ≡ k = omega arith in
-            let own : is.tasks ≡ tasks = some_is (sym is.core_is ∙ ap (slice_get table) at ∙ found) in
-            inr (subst (λ n. IsOfCore tasks n s) at (subst (λ ts. IsOfCore ts s.core s) own is.seat))
-      ]
+      to : (e : ℕ) (s : Seat) → s.slot ≡ k → IsOfCore tasks core e s → IsOfTask events core k e s
+      to e s at is =
+          let own : is.events ≡ events = some_is (sym is.task_is ∙ ap (slice_get tasks) at ∙ found) in
+          record { core_is = is.seat.core_is; slot_is = at; place_is = ap (λ es. slice_get es s.place) (sym own) ∙ is.seat.place_is }
 
-      second : (s : Seat) → IsOfCore tasks k s → OfCoresBelow table (k + 1) s
-      second s is = let at = is.seat.core_is in (omega arith, record { tasks = tasks; core_is = ap (slice_get table) at ∙ found; seat = subst (λ n. IsOfCore tasks n s) (sym at) is })
+      back : (e : ℕ) (s : Seat) → IsOfTask events core k e s → (s.slot ≡ k) × IsOfCore tasks core e s
+      back e s is = (is.slot_is, record { events = events; task_is = ap (slice_get tasks) is.slot_is ∙ found; seat = record { core_is = is.core_is; slot_is = refl; place_is = is.place_is } })
 
--- ---- all
+  pub cores_on : (table : List (List (List ℕ))) (k : ℕ) (tasks : List (List ℕ)) → slice_get table k ≡ Some tasks → Adds (OfCoresBelow table k) old mid → Adds (IsOfCore tasks k) mid new → Adds (OfCoresBelow table (k + 1)) old new
+  cores_on table k tasks found = adds_more (λ s. s.core) (IsOfCores table) old (IsOfCore tasks k) mid new k to back
+    where
+      to : (e : ℕ) (s : Seat) → s.core ≡ k → IsOfCores table e s → IsOfCore tasks k e s
+      to e s at is =
+          let own : is.tasks ≡ tasks = some_is (sym is.core_is ∙ ap (slice_get table) at ∙ found) in
+          subst (λ n. IsOfCore tasks n e s) at (subst (λ ts. IsOfCore ts s.core e s) own is.seat)
 
-adds_as : (p : Plan) (these all : Seat → Type 0) (old new : List (Vec Seat Global)) → ((s : Seat) → all s → these s) → ((s : Seat) → these s → all s) → Adds p these old new → Adds p all old new
-adds_as p these all old new back forth adds = record {
-  count = adds.count;
-  kept = adds.kept;
-  added = λ object s is waits. adds.added object s (back s is) waits;
-  only = λ object s at. of_part object s (adds.only object s at);
-}
+      back : (e : ℕ) (s : Seat) → IsOfCore tasks k e s → (s.core ≡ k) × IsOfCores table e s
+      back e s is = let at = is.seat.core_is in (at, record { tasks = tasks; core_is = ap (slice_get table) at ∙ found; seat = subst (λ n. IsOfCore tasks n e s) (sym at) is })
+
+pub task_all : (old new : List (Vec Seat Global)) (events : List ℕ) (core slot k : ℕ) → length events ≤ k → Adds (OfTaskBelow events core slot k) old new → Adds (IsOfTask events core slot) old new
+task_all old new events core slot k end = adds_all (λ s. s.place) (IsOfTask events core slot) old new k (λ e s is. let within : s.place < length events = slice_get_within events s.place e is.place_is in omega arith)
+
+pub core_all : (old new : List (Vec Seat Global)) (tasks : List (List ℕ)) (core k : ℕ) → length tasks ≤ k → Adds (OfCoreBelow tasks core k) old new → Adds (IsOfCore tasks core) old new
+core_all old new tasks core k end = adds_all (λ s. s.slot) (IsOfCore tasks core) old new k (λ e s is. let within : s.slot < length tasks = slice_get_within tasks s.slot is.events is.task_is in omega arith)
+
+pub cores_all : (old new : List (Vec Seat Global)) (table : List (List (List ℕ))) (k : ℕ) → length table ≤ k → AreSeated [] old → Adds (OfCoresBelow table k) old new → AreSeated table new
+cores_all old new table k end none adds = record { all = λ e s is. all.added e s is; only = λ e s at. of_part e s (all.only e s at) }
   where
-    of_part : (object : ℕ) (s : Seat) → IsAt old object s ⊎ these s → IsAt old object s ⊎ all s
-    of_part object s (inl at) = inl at
-    of_part object s (inr is) = inr (forth s is)
+    all : Adds (IsOfCores table) old new
+    all = adds_all (λ s. s.core) (IsOfCores table) old new k (λ e s is. let within : s.core < length table = slice_get_within table s.core is.tasks is.core_is in omega arith) adds
 
-pub task_all : (p : Plan) (old new : List (Vec Seat Global)) (events : List ℕ) (core slot k : ℕ) → length events ≤ k → Adds p (OfTaskBelow events core slot k) old new → Adds p (IsOfTask events core slot) old new
-task_all p old new events core slot k end = adds_as p (OfTaskBelow events core slot k) (IsOfTask events core slot) old new (λ s is. (let within : s.place < length events = slice_get_within events s.place s.event is.place_is in omega arith, is)) (λ s is. is.1)
+    of_part : (e : ℕ) (s : Seat) → IsAt old e s ⊎ IsOfCores table e s → IsOfCores table e s
+    of_part e s (inl at) = let was = none.only e s at in absurd (cc was.core_is)
+    of_part e s (inr is) = is
 
-pub core_all : (p : Plan) (old new : List (Vec Seat Global)) (tasks : List (List ℕ)) (core k : ℕ) → length tasks ≤ k → Adds p (OfCoreBelow tasks core k) old new → Adds p (IsOfCore tasks core) old new
-core_all p old new tasks core k end = adds_as p (OfCoreBelow tasks core k) (IsOfCore tasks core) old new (λ s is. (let within : s.slot < length tasks = slice_get_within tasks s.slot is.events is.task_is in omega arith, is)) (λ s is. is.1)
+-- ---- what is asked of the lists
 
-pub cores_all : (p : Plan) (old new : List (Vec Seat Global)) (table : List (List (List ℕ))) (k : ℕ) → length table ≤ k → AreSeated p [] old → Adds p (OfCoresBelow table k) old new → AreSeated p table new
-cores_all p old new table k end none adds = record {
-  all = λ object s is waits. adds.added object s (let within : s.core < length table = slice_get_within table s.core is.tasks is.core_is in omega arith, is) waits;
-  only = λ object s at. of_part object s (adds.only object s at);
-}
+pub all_below : (events : List ℕ) (count : ℕ) → list_all (λ e. nat_lt e count) events ≡ true → All (λ e. e < count) events
+all_below events count all = λ k d within. of_test k d within (nat_lt (get_or events k d) count) refl
   where
-    of_part : (object : ℕ) (s : Seat) → IsAt old object s ⊎ OfCoresBelow table k s → IsOfCores table s
-    of_part object s (inl at) = let was = none.only object s at in absurd (cc was.core_is)
-    of_part object s (inr is) = is.1
+    of_test : (k d : ℕ) → k < length events → (b : Bool) → nat_lt (get_or events k d) count ≡ b → get_or events k d < count
+    of_test k d within true is = ltb-true (get_or events k d) count is
+    of_test k d within false is = absurd (false≢true (sym (list_all_at (λ e. nat_lt e count) events k d within is) ∙ all))
 
 -- ---- no seats yet
 
-pub no_more : (p : Plan) (seats : List (Vec Seat Global)) (row : Vec Seat Global) → row.items ≡ [] → AreSeated p [] seats → AreSeated p [] (seats ++ row ∷ [])
-no_more p seats row empty none = record { all = λ object s is waits. absurd (cc is.core_is); only = λ object s at. absurd (nowhere s seats object at.row at.at at.row_is at.is (λ r found is. let was = none.only object s (record { row = r; at = at.at; row_is = found; is = is }) in cc was.core_is)) }
-  where
-    nowhere : (s : Seat) (xs : List (Vec Seat Global)) (i : ℕ) (r : Vec Seat Global) (k : ℕ) → slice_get (xs ++ row ∷ []) i ≡ Some r → slice_get r.items k ≡ Some s → ((x : Vec Seat Global) → slice_get xs i ≡ Some x → slice_get x.items k ≡ Some s → ⊥) → ⊥
-    nowhere s [] zero r k e is before =
-        let same : r ≡ row = some_is (sym e) in
-        let there_it : slice_get row.items k ≡ Some s = ap (λ (v : Vec Seat Global). slice_get v.items k) (sym same) ∙ is in
-        let none_it : None ≡ Some s = ap (λ xs. slice_get xs k) (sym empty) ∙ there_it in
-        cc none_it
-    nowhere s [] (suc i) r k e is before = cc e
-    nowhere s (x ∷ xs) zero r k e is before = before r e is
-    nowhere s (x ∷ xs) (suc i) r k e is before = nowhere s xs i r k e is before
+pub none_yet : (seats : List (Vec Seat Global)) → seats ≡ [] → AreSeated [] seats
+none_yet seats empty = subst (AreSeated []) (sym empty) (record { all = λ e s is. absurd (cc is.core_is); only = λ e s at. absurd (cc at.row_is) })
 
-pub at_of : (q : ℕ → Bool) (xs : List ℕ) (i x : ℕ) → list_all q xs ≡ true → slice_get xs i ≡ Some x → q x ≡ true
-at_of q [] i x all e = absurd (cc e)
-at_of q (y ∷ ys) zero x all e = let same : y ≡ x = some_is e in subst (λ z. q z ≡ true) same (first (q y) (list_all q ys) all)
+pub no_more : (seats : List (Vec Seat Global)) (row : Vec Seat Global) → row.items ≡ [] → AreSeated [] seats → AreSeated [] (seats ++ row ∷ [])
+no_more seats row empty none = record { all = λ e s is. absurd (cc is.core_is); only = λ e s at. of_row e s at (last_or seats row e at.row at.row_is) }
   where
-    first : (a b : Bool) → (a && b) ≡ true → a ≡ true
-    first true b f = refl
-    first false b f = f
-at_of q (y ∷ ys) (suc i) x all e = at_of q ys i x (rest (q y) (list_all q ys) all) e
-  where
-    rest : (a b : Bool) → (a && b) ≡ true → b ≡ true
-    rest true b f = f
-    rest false b f = absurd (false≢true f)
-
-pub none_yet : (p : Plan) (seats : List (Vec Seat Global)) → seats ≡ [] → AreSeated p [] seats
-none_yet p seats empty = subst (AreSeated p []) (sym empty) (record { all = λ object s is waits. absurd (cc is.core_is); only = λ object s at. absurd (cc at.row_is) })
+    of_row : (e : ℕ) (s : Seat) (at : IsAt (seats ++ row ∷ []) e s) → Last (Vec Seat Global) seats row e at.row → IsOfCores [] e s
+    of_row e s at (earlier found) = none.only e s (record { row = at.row; at = at.at; row_is = found; is = at.is })
+    of_row e s at (last end same) =
+        let nothing : None ≡ Some s = ap (λ xs. slice_get xs at.at) (sym empty) ∙ ap (λ (v : Vec Seat Global). slice_get v.items at.at) (sym same) ∙ at.is in
+        absurd (cc nothing)

@@ -86,6 +86,7 @@ after_step p t old new before now s steps = of_object (object_of p tried.0 tried
           noted = noted_for w s.entry;
           is = refl;
           leads = made.made.leads;
+          told = made.made.told;
           others = some_is made.others;
         })
 
@@ -103,8 +104,8 @@ module _ (p : Plan) (objects : List Object) (cores : List CoreState) (awake : Li
   pub awake_on : Fits turned.slots b → AreHeld p objects turned.slots b → AreWatched p objects cores awake → AreWatched p objects (set cores n k) (set awake n b)
   awake_on fits held watched = watched_put p objects cores awake n k b watched (watched_slots p objects turned k b slots fits held)
 
-  pub seated_on : AreSeated p (tables_of cores) seats → AreSeated p (tables_of (set cores n k)) seats
-  seated_on seated = subst (λ table. AreSeated p table seats) (sym (tables_kept cores n old k found (ap (map events_of_slot) slots ∙ events))) seated
+  pub seated_on : AreSeated (tables_of cores) seats → AreSeated (tables_of (set cores n k)) seats
+  seated_on seated = subst (λ table. AreSeated table seats) (sym (tables_kept cores n old k found (ap (map events_of_slot) slots ∙ events))) seated
 
 -- the same of equal things
 pub watch_as : (p : Plan) (objects objects_are : List Object) (cores cores_are : List CoreState) (w w_is : Watch) → objects_are ≡ objects → cores_are ≡ cores → w_is ≡ w → IsWatch p objects cores w → IsWatch p objects_are cores_are w_is

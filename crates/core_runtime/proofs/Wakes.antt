@@ -118,8 +118,8 @@ there_still xs ys s woken at =
 
 -- ---- what was looked at
 
-pub seen_still : (k : Kept) (xs ys : List AwakeState) (s : Seat) → AreWoken xs ys → IsThere xs s → IsSeen k xs s → IsSeen k ys s
-seen_still k xs ys s woken at seen = λ b now. still (is_awake at.core s.slot s.place) (is_awake b s.slot s.place) (not (may_start_in k s.event)) (kept b (woken.each s.core at.core b at.core_is now)) (seen at.core at.core_is)
+pub seen_still : (k : Kept) (xs ys : List AwakeState) (event : ℕ) (s : Seat) → AreWoken xs ys → IsThere xs s → IsSeen k xs event s → IsSeen k ys event s
+seen_still k xs ys event s woken at seen = λ b now. still (is_awake at.core s.slot s.place) (is_awake b s.slot s.place) (not (may_start_in k event)) (kept b (woken.each s.core at.core b at.core_is now)) (seen at.core at.core_is)
   where
     still : (x y z : Bool) → (x ≡ true → y ≡ true) → (x || z) ≡ true → (y || z) ≡ true
     still true y z keeps e = ap (λ v. v || z) (keeps refl)
@@ -135,11 +135,11 @@ seen_still k xs ys s woken at seen = λ b now. still (is_awake at.core s.slot s.
         let both = parts (get_or at.core.slots s.slot false) (get_or (get_or at.core.events s.slot []) s.place false) on in
         ap (λ v. v && get_or (get_or b.events s.slot []) s.place false) (one.slots s.slot both.0) ∙ one.events s.slot s.place both.1
 
-pub seen_awake : (k : Kept) (xs : List AwakeState) (s : Seat) (a : AwakeState) → slice_get xs s.core ≡ Some a → is_awake a s.slot s.place ≡ true → IsSeen k xs s
-seen_awake k xs s a is on = λ b now. let same : a ≡ b = some_is (sym is ∙ now) in ap (λ v. v || not (may_start_in k s.event)) (subst (λ x. is_awake x s.slot s.place ≡ true) same on)
+pub seen_awake : (k : Kept) (xs : List AwakeState) (event : ℕ) (s : Seat) (a : AwakeState) → slice_get xs s.core ≡ Some a → is_awake a s.slot s.place ≡ true → IsSeen k xs event s
+seen_awake k xs event s a is on = λ b now. let same : a ≡ b = some_is (sym is ∙ now) in ap (λ v. v || not (may_start_in k event)) (subst (λ x. is_awake x s.slot s.place ≡ true) same on)
 
-pub seen_held : (k : Kept) (xs : List AwakeState) (s : Seat) → may_start_in k s.event ≡ false → IsSeen k xs s
-seen_held k xs s off = λ b now. last (is_awake b s.slot s.place) (may_start_in k s.event) off
+pub seen_held : (k : Kept) (xs : List AwakeState) (event : ℕ) (s : Seat) → may_start_in k event ≡ false → IsSeen k xs event s
+seen_held k xs event s off = λ b now. last (is_awake b s.slot s.place) (may_start_in k event) off
   where
     last : (x y : Bool) → y ≡ false → (x || not y) ≡ true
     last true y e = refl

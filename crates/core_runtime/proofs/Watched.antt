@@ -1,7 +1,7 @@
--- What of the cores is awake, after an entry whose object was looked at.
+-- What of the cores is awake, after an entry whose object told what came.
 use Rattle.std.proofs.Common.{◌≡◌, ℕ, zero, suc, ◌<◌, ◌==◌, Bool, true, false, ◌&&◌, ◌||◌, not, ◌⊎◌, inl, inr, refl, sym, ◌∙◌, ap, subst, arith, List, [], ◌∷◌, ◌++◌, length, get_or, map, Option, Some, None}
 use Rattle.std.specs.Option.{option_map}
-use Rattle.std.specs.List.{slice_get}
+use Rattle.std.specs.List.{Contains, slice_get}
 use Rattle.std.specs.Cmp.{unsigned_Decides}
 use Rattle.std.specs.Prelude.{Vec}
 use Rattle.std.specs.Global.{Global}
@@ -18,7 +18,7 @@ use Rattle.port_objects.specs.declared.object.Object.{Object}
 use Rattle.port_objects.specs.Kept.{Kept}
 use Rattle.port_objects.specs.Leading.{lead}
 use Rattle.port_objects.specs.Objects.{kept_of}
-use Rattle.port_objects.specs.Waking.{may_start_in, wakes}
+use Rattle.port_objects.specs.Waking.{may_start_in, wakes, woken_in}
 use Rattle.core_turn.specs.declared.slot.Slot.{Slot}
 use Rattle.core_turn.specs.Cores.{CoreState, events_of_slot}
 use Rattle.core_turn.specs.Looking.{AllHeld, IsHeldOn, IsHeldAt}
@@ -103,15 +103,15 @@ held_each p before later (e ∷ events) each held =
 -- ---- an entry on one object
 
 module _ (nowhere : NowhereLaw) (p : Plan) (before later : List Object) (e : Entry) (t : Touches p before later e) (event : ℕ)
-    (calm : object_of_kind p (kind_of p event) ≡ Some t.object → IsHeldOn p before (to_start event) t.object → may_start_in (kept_of t.new) event ≡ false) where
-  at_object : (o : Option ℕ) → object_of_kind p (kind_of p event) ≡ o → IsHeldAt p before (to_start event) o → IsHeldAt p later (to_start event) o
-  at_object None is held = held
-  at_object (Some n) is held = by_test (n == t.object) refl
+    (calm : IsHeldOn p before (to_start event) t.object → may_start_in (kept_of t.new) event ≡ false) where
+  at_object : (o : Option ℕ) → IsHeldAt p before (to_start event) o → IsHeldAt p later (to_start event) o
+  at_object None held = held
+  at_object (Some n) held = by_test (n == t.object) refl
     where
       by_test : (b : Bool) → (n == t.object) ≡ b → IsHeldOn p later (to_start event) n
       by_test true same =
           let at : n ≡ t.object = (unsigned_Decides n t.object).0 same in
-          let off = calm (is ∙ ap (λ k. Some k) at) (subst (IsHeldOn p before (to_start event)) at held) in
+          let off = calm (subst (IsHeldOn p before (to_start event)) at held) in
           subst (IsHeldOn p later (to_start event)) (sym at) (record {
             before = t.new;
             found = ap (λ os. slice_get os t.object) t.others ∙ set_here before t.object t.old t.new t.found;
@@ -128,22 +128,26 @@ module _ (nowhere : NowhereLaw) (p : Plan) (before later : List Object) (e : Ent
     where
       of_runnable : (r : Option ℕ) → AllHeld p before (map (λ k. (Act (plain_key k), to_start event)) (option_list r)) → AllHeld p later (map (λ k. (Act (plain_key k), to_start event)) (option_list r))
       of_runnable None held = tt
-      of_runnable (Some k) held = (at_object (object_of_kind p (kind_of p event)) refl held.0, tt)
+      of_runnable (Some k) held = (at_object (object_of_kind p (kind_of p event)) held.0, tt)
 
 -- ---- all cores
 
 module _ (nowhere : NowhereLaw) (is_held : HeldLaw) (others : OthersLaw) (p : Plan) (before later : List Object) (e : Entry) (cores : List CoreState) (old new : List AwakeState) (seats : List (Vec Seat Global))
-    (seated : AreSeated p (tables_of cores) seats) (woken : AreWoken old new) where
-  -- the entry makes no start come, or each seat of its object was looked at
+    (seated : AreSeated (tables_of cores) seats) (woken : AreWoken old new) where
+  -- each seat of the events that its object tells was looked at
+  abbrev pub IsLookedAt : Touches p before later e → Type 0
+  IsLookedAt t = (event : ℕ) (s : Seat) → Contains (woken_in t.new) event → IsAt seats event s → IsSeen (kept_of t.new) new event s
+
+  -- so it is, or the entry makes no start come
   abbrev IsCalm : Touches p before later e → Type 0
-  IsCalm t = (wakes e.deed ≡ false) ⊎ ((s : Seat) → IsAt seats t.object s → IsSeen (kept_of t.new) new s)
+  IsCalm t = (wakes e.deed ≡ false) ⊎ IsLookedAt t
 
   module _ (t : Touches p before later e) (calm : IsCalm t) (n : ℕ) (c : CoreState) (b : AwakeState) (core_is : slice_get cores n ≡ Some c) (awake_is : slice_get new n ≡ Some b) where
     module _ (i j event : ℕ) (s : Slot) (slot_is : slice_get c.slots i ≡ Some s) (place_is : slice_get s.events.items j ≡ Some event) (sleeps : is_awake b i j ≡ false) where
       seat : Seat
-      seat = record { core = n; slot = i; place = j; event = event }
+      seat = record { core = n; slot = i; place = j }
 
-      of_cores : IsOfCores (tables_of cores) seat
+      of_cores : IsOfCores (tables_of cores) event seat
       unfolding seat
       of_cores = record {
         tasks = map events_of_slot c.slots;
@@ -155,13 +159,18 @@ module _ (nowhere : NowhereLaw) (is_held : HeldLaw) (others : OthersLaw) (p : Pl
         };
       }
 
-      off : IsCalm t → object_of_kind p (kind_of p event) ≡ Some t.object → IsHeldOn p before (to_start event) t.object → may_start_in (kept_of t.new) event ≡ false
+      -- what may start now and could not before is told, and sleeps at no seat
+      off : IsCalm t → IsHeldOn p before (to_start event) t.object → may_start_in (kept_of t.new) event ≡ false
       unfolding seat
-      off (inl wakes_none) waits held =
-          let same : held.before ≡ t.old = some_same (sym held.found ∙ t.found) in
-          let was : may_start_in (kept_of t.old) event ≡ false = subst (λ o. may_start_in (kept_of o) event ≡ false) same (is_held p t.object (kept_of held.before) event held.none) in
-          others p t.object (kept_of t.old) (kept_of t.new) t.noted t.leads (subst (λ (x : Entry). wakes x.deed ≡ false) (sym t.is) wakes_none) event was
-      off (inr seen) waits held = not_so (is_awake b i j) (may_start_in (kept_of t.new) event) sleeps (seen seat (seated.all t.object seat of_cores waits) b awake_is)
+      off is held = of_test is (may_start_in (kept_of t.new) event) refl
+        where
+          was : may_start_in (kept_of t.old) event ≡ false
+          was = let same : held.before ≡ t.old = some_same (sym held.found ∙ t.found) in subst (λ o. may_start_in (kept_of o) event ≡ false) same (is_held p t.object (kept_of held.before) event held.none)
+
+          of_test : IsCalm t → (b : Bool) → may_start_in (kept_of t.new) event ≡ b → may_start_in (kept_of t.new) event ≡ false
+          of_test is false now = now
+          of_test (inl wakes_none) true now = others p t.object (kept_of t.old) (kept_of t.new) t.noted t.leads (subst (λ (x : Entry). wakes x.deed ≡ false) (sym t.is) wakes_none) event was
+          of_test (inr seen) true now = not_so (is_awake b i j) (may_start_in (kept_of t.new) event) sleeps (seen event seat (t.told event was now) (seated.all event seat of_cores) b awake_is)
 
       event_moved : AllHeld p before (start_try p event) → AllHeld p later (start_try p event)
       event_moved = one_moved nowhere p before later e t event (off calm)
@@ -227,8 +236,7 @@ module _ (nowhere : NowhereLaw) (is_held : HeldLaw) (others : OthersLaw) (p : Pl
         watched_on moves n c b core_is awake_is a was_is (watched.each n c a core_is was_is);
   }
 
-  -- of an entry that can make a start come, each seat of its object was looked at
-  pub after_entry : AreWatched p before cores old → IsAfter p before later e → ((t : Touches p before later e) → wakes e.deed ≡ true → (s : Seat) → IsAt seats t.object s → IsSeen (kept_of t.new) new s) → AreWatched p later cores new
+  pub after_entry : AreWatched p before cores old → IsAfter p before later e → ((t : Touches p before later e) → wakes e.deed ≡ true → IsLookedAt t) → AreWatched p later cores new
   after_entry watched (inl same) loud = all_watched watched (same_moves same)
   after_entry watched (inr t) loud = all_watched watched (touched_moves t (calm (wakes e.deed) refl))
     where
@@ -237,9 +245,9 @@ module _ (nowhere : NowhereLaw) (is_held : HeldLaw) (others : OthersLaw) (p : Pl
       calm true on = inr (loud t on)
 
 -- each seat has its flag
-pub seats_there : (p : Plan) (objects : List Object) (cores : List CoreState) (awake : List AwakeState) (seats : List (Vec Seat Global)) → AreWatched p objects cores awake → AreSeated p (tables_of cores) seats → (n : ℕ) (s : Seat) → IsAt seats n s → IsThere awake s
-seats_there p objects cores awake seats watched seated n s at =
-    let of = seated.only n s at in
+pub seats_there : (p : Plan) (objects : List Object) (cores : List CoreState) (awake : List AwakeState) (seats : List (Vec Seat Global)) → AreWatched p objects cores awake → AreSeated (tables_of cores) seats → (event : ℕ) (s : Seat) → IsAt seats event s → IsThere awake s
+seats_there p objects cores awake seats watched seated event s at =
+    let of = seated.only event s at in
     let core = mapped_found (λ (k : CoreState). map events_of_slot k.slots) cores s.core of.tasks of.core_is in
     let slot = mapped_found events_of_slot core.item.slots s.slot of.seat.events (ap (λ ts. slice_get ts s.slot) core.gives ∙ of.seat.task_is) in
     let inside : s.core < length cores = slice_get_within cores s.core core.item core.is in
@@ -251,6 +259,6 @@ seats_there p objects cores awake seats watched seated n s at =
     let slot_in : s.slot < length core.item.slots = slice_get_within core.item.slots s.slot slot.item slot.is in
     let row_in : s.slot < length a.events = omega (arith, fits.rows) in
     let width : length (get_or a.events s.slot []) ≡ length slot.item.events.items = fits.widths s.slot slot.item (get_or a.events s.slot []) slot.is (slice_get-get_or a.events s.slot [] row_in) in
-    let place_in : s.place < length of.seat.events = slice_get_within of.seat.events s.place s.event of.seat.seat.place_is in
+    let place_in : s.place < length of.seat.events = slice_get_within of.seat.events s.place event of.seat.seat.place_is in
     let same : length slot.item.events.items ≡ length of.seat.events = ap length slot.gives in
     record { core = a; core_is = found; slot = omega (arith, fits.count); place = omega (arith, width, same) }

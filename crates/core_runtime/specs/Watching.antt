@@ -1,17 +1,17 @@
--- What of the cores may step, and where the events stand that wait for each object.
+-- What of the cores may step, and where the events stand on them.
 use Rattle.std.specs.Prelude.{◌≡◌, ◌<◌, ◌⊎◌, ℕ, List, [], map, length, set, slice_get, slice_index_or, Bool, true, false, not, ◌&&◌, ◌||◌, Some, Vec}
 use Rattle.std.specs.Global.{Global}
 use Rattle.bus_semantics.specs.declared.entries.Actor.{Actor}
 use Rattle.bus_semantics.specs.declared.entries.Entry.{Entry}
-use Rattle.bus_semantics.specs.Plan.{Plan, kind_of}
+use Rattle.bus_semantics.specs.Plan.{Plan}
 use Rattle.bus_semantics.specs.History.{Noted}
-use Rattle.bus_semantics.specs.Objects.{object_of, object_of_kind}
+use Rattle.bus_semantics.specs.Objects.{object_of}
 use Rattle.bus_semantics.specs.Wanted.{wanted_by}
 use Rattle.port_objects.specs.declared.object.Object.{Object}
 use Rattle.port_objects.specs.Kept.{Kept}
 use Rattle.port_objects.specs.Leading.{lead}
 use Rattle.port_objects.specs.Objects.{kept_of}
-use Rattle.port_objects.specs.Waking.{may_start_in}
+use Rattle.port_objects.specs.Waking.{may_start_in, Tells}
 use Rattle.core_turn.specs.Cores.{CoreState, events_of_slot}
 use Rattle.core_turn.specs.Awake.{AwakeState, Fits, AreHeld}
 use Rattle.core_runtime.specs.declared.seats.Seat.{Seat}
@@ -23,46 +23,42 @@ use Rattle.core_runtime.specs.declared.watch.Watch.{Watch}
 abbrev pub tables_of : List CoreState → List (List (List ℕ))
 tables_of cores = map (λ (c : CoreState). map events_of_slot c.slots) cores
 
--- the seat is a place of this task
-pub record IsOfTask (events : List ℕ) (core slot : ℕ) (s : Seat) : Type 0 where
+-- the event stands at the seat, a place of this task
+pub record IsOfTask (events : List ℕ) (core slot event : ℕ) (s : Seat) : Type 0 where
   pub core_is : s.core ≡ core
   pub slot_is : s.slot ≡ slot
-  pub place_is : slice_get events s.place ≡ Some s.event
+  pub place_is : slice_get events s.place ≡ Some event
 
 -- of one of a core's tasks
-pub record IsOfCore (tasks : List (List ℕ)) (core : ℕ) (s : Seat) : Type 0 where
+pub record IsOfCore (tasks : List (List ℕ)) (core event : ℕ) (s : Seat) : Type 0 where
   pub events : List ℕ
   pub task_is : slice_get tasks s.slot ≡ Some events
-  pub seat : IsOfTask events core s.slot s
+  pub seat : IsOfTask events core s.slot event s
 
 -- of one of the cores
-pub record IsOfCores (table : List (List (List ℕ))) (s : Seat) : Type 0 where
+pub record IsOfCores (table : List (List (List ℕ))) (event : ℕ) (s : Seat) : Type 0 where
   pub tasks : List (List ℕ)
   pub core_is : slice_get table s.core ≡ Some tasks
-  pub seat : IsOfCore tasks s.core s
+  pub seat : IsOfCore tasks s.core event s
 
--- it stands in the list of the object
-pub record IsAt (seats : List (Vec Seat Global)) (object : ℕ) (s : Seat) : Type 0 where
+-- it stands in the list of the event
+pub record IsAt (seats : List (Vec Seat Global)) (event : ℕ) (s : Seat) : Type 0 where
   pub row : Vec Seat Global
   pub at : ℕ
-  pub row_is : slice_get seats object ≡ Some row
+  pub row_is : slice_get seats event ≡ Some row
   pub is : slice_get row.items at ≡ Some s
 
--- the event of the seat waits for the object
-abbrev pub WaitsFor : Plan → (object : ℕ) → Seat → Type 0
-WaitsFor p object s = object_of_kind p (kind_of p s.event) ≡ Some object
-
--- these seats were added to the lists, each to that of its object
-pub record Adds (p : Plan) (these : Seat → Type 0) (old new : List (Vec Seat Global)) : Type 0 where
+-- these seats of events were added to the lists, each to that of its event
+pub record Adds (these : (event : ℕ) → Seat → Type 0) (old new : List (Vec Seat Global)) : Type 0 where
   pub count : length new ≡ length old
-  pub kept : (object : ℕ) (s : Seat) → IsAt old object s → IsAt new object s
-  pub added : (object : ℕ) (s : Seat) → these s → WaitsFor p object s → IsAt new object s
-  pub only : (object : ℕ) (s : Seat) → IsAt new object s → IsAt old object s ⊎ these s
+  pub kept : (event : ℕ) (s : Seat) → IsAt old event s → IsAt new event s
+  pub added : (event : ℕ) (s : Seat) → these event s → IsAt new event s
+  pub only : (event : ℕ) (s : Seat) → IsAt new event s → IsAt old event s ⊎ these event s
 
--- the lists are the cores': each place stands in the list of the object for which its event waits, and no other does
-pub record AreSeated (p : Plan) (table : List (List (List ℕ))) (seats : List (Vec Seat Global)) : Type 0 where
-  pub all : (object : ℕ) (s : Seat) → IsOfCores table s → WaitsFor p object s → IsAt seats object s
-  pub only : (object : ℕ) (s : Seat) → IsAt seats object s → IsOfCores table s
+-- the lists are the cores': each seat stands in the list of its event, and no other does
+pub record AreSeated (table : List (List (List ℕ))) (seats : List (Vec Seat Global)) : Type 0 where
+  pub all : (event : ℕ) (s : Seat) → IsOfCores table event s → IsAt seats event s
+  pub only : (event : ℕ) (s : Seat) → IsAt seats event s → IsOfCores table event s
 
 -- ---- what is awake
 
@@ -82,7 +78,7 @@ AllWatched cores awake = (p : Plan) (objects : List Object) → AreWatched p obj
 -- each core is watched, and the seats are theirs
 pub record IsWatch (p : Plan) (objects : List Object) (cores : List CoreState) (w : Watch) : Type 0 where
   pub awake : AreWatched p objects cores w.awake.items
-  pub seated : AreSeated p (tables_of cores) w.seats.items
+  pub seated : AreSeated (tables_of cores) w.seats.items
 
 -- ---- waking
 
@@ -109,13 +105,13 @@ pub record IsThere (awake : List AwakeState) (s : Seat) : Type 0 where
   pub slot : s.slot < length core.slots
   pub place : s.place < length (slice_index_or core.events s.slot [])
 
--- the event of the seat is awake, or no start by it may come
-abbrev pub IsSeen : Kept → List AwakeState → Seat → Type 0
-IsSeen k awake s = (a : AwakeState) → slice_get awake s.core ≡ Some a → (is_awake a s.slot s.place || not (may_start_in k s.event)) ≡ true
+-- at the seat the event is awake, or no start by it may come
+abbrev pub IsSeen : Kept → List AwakeState → (event : ℕ) → Seat → Type 0
+IsSeen k awake event s = (a : AwakeState) → slice_get awake s.core ≡ Some a → (is_awake a s.slot s.place || not (may_start_in k event)) ≡ true
 
 -- ---- what an entry does to the objects
 
--- the one that it touches changes by the lead
+-- the one that it touches changes by the lead, and tells which starts came
 pub record Touches (p : Plan) (before later : List Object) (e : Entry) : Type 0 where
   pub object : ℕ
   pub actor : Actor
@@ -127,6 +123,7 @@ pub record Touches (p : Plan) (before later : List Object) (e : Entry) : Type 0 
   pub noted : Noted
   pub is : noted.entry ≡ e
   pub leads : lead p object (kept_of old) noted ≡ Some (kept_of new)
+  pub told : Tells (kept_of old) new
   pub others : later ≡ set before object new
 
 -- or none does

@@ -1,6 +1,7 @@
 //! What an entry wakes.
 
 ghost use Rattle.std.specs.Prelude.{◌≡◌, ℕ, List, true, false, None, Some, slice_get};
+ghost use Rattle.std.specs.List.{Contains};
 ghost use Rattle.bus_semantics.specs.declared.entries.Actor.{Actor};
 ghost use Rattle.bus_semantics.specs.Objects.{clock, object_of};
 ghost use Rattle.bus_semantics.specs.Plan.{Plan, plan_of};
@@ -16,63 +17,68 @@ use crate::watch::Watch;
 use bus_semantics::{Actor, BusPlan, Deed, Entry, Wish};
 use core_turn::Awake;
 use port_objects::{
-    Object, held_starts_lead_nowhere, may_start, object_of, other_entries_wake_nothing,
+    Object, held_starts_lead_nowhere, may_start, object_of, other_entries_wake_nothing, woken,
 };
 
-/// Wakes the event of a seat, where it sleeps and may start now.
-fn wake_seat(object: &Object, seat: &Seat, awake: &mut Vec<Awake>)
+/// Wakes an event at a seat, where it sleeps and may start now.
+fn wake_seat(object: &Object, event: u32, seat: &Seat, awake: &mut Vec<Awake>)
     requires planned { (p : Plan) × (number : ℕ) × IsOfPlan p number object.now }
     requires there { IsThere awake.old.items seat.now }
     ensures woken { AreWoken awake.old.items awake.new.items }
-    ensures seen { IsSeen (kept_of object.now) awake.new.items seat.now }
+    ensures seen { IsSeen (kept_of object.now) awake.new.items event seat.now }
 {
     let core = &mut awake[seat.core];
-    if !core.is_awake(seat.slot, seat.place) && may_start(object, seat.event) {
+    if !core.is_awake(seat.slot, seat.place) && may_start(object, event) {
         core.wake(seat.slot, seat.place);
     }
 }
 
-/// Wakes those of the events that wait for an object which sleep and may start now.
-fn wake_waiting(object: &Object, seats: &[Seat], awake: &mut Vec<Awake>)
+/// The same at each of these seats.
+fn wake_seats(object: &Object, event: u32, seats: &[Seat], awake: &mut Vec<Awake>)
     requires planned { (p : Plan) × (number : ℕ) × IsOfPlan p number object.now }
     requires there { (k : ℕ) (s : Seat) → slice_get seats.now k ≡ Some s → IsThere awake.old.items s }
     ensures woken { AreWoken awake.old.items awake.new.items }
-    ensures seen { (k : ℕ) (s : Seat) → slice_get seats.now k ≡ Some s → IsSeen (kept_of object.now) awake.new.items s }
+    ensures seen { (k : ℕ) (s : Seat) → slice_get seats.now k ≡ Some s → IsSeen (kept_of object.now) awake.new.items event s }
 {
     for seat in seats {
-        wake_seat(object, seat, awake);
+        wake_seat(object, event, seat, awake);
     }
 }
 
-/// The same for the object of this number, where there is one.
-fn wake_at(objects: &[Object], object: usize, w: &mut Watch)
-    requires planned { (p : Plan) × ArePlans p objects.now }
-    requires there { (n : ℕ) (s : Seat) → IsAt w.old.seats.items n s → IsThere w.old.awake.items s }
+/// The same at each seat of the event.
+fn wake_event(object: &Object, event: u32, w: &mut Watch)
+    requires planned { (p : Plan) × (number : ℕ) × IsOfPlan p number object.now }
+    requires there { (e : ℕ) (s : Seat) → IsAt w.old.seats.items e s → IsThere w.old.awake.items s }
     ensures seats { w.new.seats ≡ w.old.seats }
     ensures woken { AreWoken w.old.awake.items w.new.awake.items }
-    ensures seen { (o : Object) (s : Seat) → slice_get objects.now object ≡ Some o → IsAt w.old.seats.items object s → IsSeen (kept_of o) w.new.awake.items s }
+    ensures seen { (s : Seat) → IsAt w.old.seats.items event s → IsSeen (kept_of object.now) w.new.awake.items event s }
 {
-    let kept = match objects.get(object) {
-        Some(kept) => kept,
-        None => return,
-    };
-    let seats = match w.seats.get(object) {
-        Some(seats) => seats,
-        None => return,
-    };
-    wake_waiting(kept, seats.as_slice(), &mut w.awake);
+    if let Some(seats) = w.seats.get(event as usize) {
+        wake_seats(object, event, seats.as_slice(), &mut w.awake);
+    }
+}
+
+/// The same of each of these events.
+fn wake_events(object: &Object, events: &[u32], w: &mut Watch)
+    requires planned { (p : Plan) × (number : ℕ) × IsOfPlan p number object.now }
+    requires there { (e : ℕ) (s : Seat) → IsAt w.old.seats.items e s → IsThere w.old.awake.items s }
+    ensures seats { w.new.seats ≡ w.old.seats }
+    ensures woken { AreWoken w.old.awake.items w.new.awake.items }
+    ensures seen { (e : ℕ) (s : Seat) → Contains events.now e → IsAt w.old.seats.items e s → IsSeen (kept_of object.now) w.new.awake.items e s }
+{
+    for event in events {
+        wake_event(object, *event, w);
+    }
 }
 
 /// The object on which an entry can make a start come.
-fn woken(p: &BusPlan, deed: &Deed) -> Option<u32>
+fn waking_object(p: &BusPlan, deed: &Deed) -> Option<u32>
     requires { IsObject (plan_of p.now) (clock (plan_of p.now)) }
     ensures object { (a : Actor) (by : ℕ) → wakes deed.now ≡ true → result ≡ object_of (plan_of p.now) a (wanted_by by deed.now) }
     ensures none { wakes deed.now ≡ false → result ≡ None }
 {
     match deed {
-        Deed::Write { elem, .. } | Deed::Publish { elem, .. } | Deed::Invalidate { elem } => {
-            p.group_of(*elem)
-        }
+        Deed::Write { elem, .. } | Deed::Publish { elem, .. } => p.group_of(*elem),
         Deed::Tick => object_of(p, &Actor::Env, &Wish::Tick),
         _ => None,
     }
@@ -88,7 +94,11 @@ pub(crate) fn wake_after(p: &BusPlan, entry: &Entry, objects: &[Object], w: &mut
 {
     held_starts_lead_nowhere();
     other_entries_wake_nothing();
-    if let Some(object) = woken(p, &entry.deed) {
-        wake_at(objects, object as usize, w);
+    let number = match waking_object(p, &entry.deed) {
+        Some(number) => number,
+        None => return,
+    };
+    if let Some(object) = objects.get(number as usize) {
+        wake_events(object, woken(object), w);
     }
 }

@@ -1,11 +1,10 @@
-//! What of the cores may step, and where the events stand that wait for each object.
+//! What of the cores may step, and where the events stand on them.
 
 ghost use Rattle.std.specs.Prelude.{◌≡◌, ℕ, List, IfOk};
 ghost use Rattle.bus_semantics.specs.declared.script.Mapping.{Mapping};
 ghost use Rattle.bus_semantics.specs.Plan.{plan_of};
 ghost use Rattle.port_objects.specs.declared.object.Object.{Object};
 ghost use Rattle.task_machine.specs.declared.instr.TaskSet.{TaskSet};
-ghost use Rattle.core_turn.specs.Plans.{IsBuilt};
 ghost use Rattle.core_runtime.specs.Turns.{AreReady};
 ghost use Rattle.core_runtime.specs.Watching.{IsWatch, AllWatched};
 
@@ -15,7 +14,7 @@ use bus_semantics::BusPlan;
 use core_turn::{Awake, Core};
 use std::alloc::Global;
 
-/// What of each core may step, and for each object, by number, the places of the events that wait for it.
+/// What of each core may step, and for each event, by number, its places on the cores.
 #[derive(Drop)]
 pub(crate) struct Watch {
     pub awake: Vec<Awake>,
@@ -36,8 +35,7 @@ fn awake_of(alloc: Global, cores: &[Core]) -> Result<Vec<Awake>, Memory>
 impl Watch {
     /// Over these cores all is awake. The only error is that there is no memory; no other call takes any.
     pub fn new(alloc: Global, p: &BusPlan, cores: &[Core]) -> Result<Watch, Memory>
-        requires built { (m : Mapping) × IsBuilt (plan_of p.now) m }
-        requires ready { (m : Mapping) × (t : TaskSet) × AreReady (plan_of p.now) m t cores.now }
+        requires { (m : Mapping) × (t : TaskSet) × AreReady (plan_of p.now) m t cores.now }
         ensures { IfOk result (λ w. (objects : List Object) → IsWatch (plan_of p.now) objects cores.now w) }
     {
         let awake = awake_of(alloc, cores)?;

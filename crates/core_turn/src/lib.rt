@@ -26,7 +26,6 @@ pub use laws::{
     cores_stand_beside_the_environment, nothing_now_frees_the_core,
     nothing_now_is_rest_of_the_core, resting_cores_are_at_rest, turns_keep_the_law,
 };
-pub use tasks::awaited_object;
 pub use turning::{Turned, turn};
 
 /// There was no memory for what a call makes.

@@ -1,18 +1,9 @@
-//! The tasks of a core, and what their events wait for, as those above see them.
+//! The tasks of a core, as those above see them.
 
-ghost use Rattle.std.specs.Prelude.{◌≡◌, ◌<◌, length, map, nat_lt, true, slice_get, Some, IfSome};
-ghost use Rattle.bus_semantics.specs.declared.script.Mapping.{Mapping};
-ghost use Rattle.bus_semantics.specs.Objects.{object_of_kind};
-ghost use Rattle.bus_semantics.specs.Plan.{plan_of, kind_of};
-ghost use Rattle.port_objects.specs.Objects.{IsObject};
+ghost use Rattle.std.specs.Prelude.{◌≡◌, ◌<◌, length, map, slice_get, Some};
 ghost use Rattle.core_turn.specs.Cores.{events_of_slot};
-ghost use Rattle.core_turn.specs.Plans.{IsBuilt};
 
 use crate::cores::Core;
-use crate::starting::runnable_of;
-use bus_semantics::{Actor, BusPlan, Wish};
-use port_objects::{object_of, sound_plans_have_objects};
-use rte_value::ActKey;
 
 impl Core {
     /// How many tasks it has.
@@ -29,19 +20,4 @@ impl Core {
     {
         self.slots[task].events.as_slice()
     }
-}
-
-/// The object for which an event of a plan waits, one of the plan's.
-pub fn awaited_object(p: &BusPlan, event: u32) -> Option<u32>
-    requires built { (m : Mapping) × IsBuilt (plan_of p.now) m }
-    requires there { nat_lt event (length p.now.events) ≡ true }
-    ensures object { result ≡ object_of_kind (plan_of p.now) (kind_of (plan_of p.now) event) }
-    ensures there { IfSome result (IsObject (plan_of p.now)) }
-{
-    sound_plans_have_objects();
-    let key = ActKey {
-        runnable: runnable_of(p, event),
-        point: None,
-    };
-    object_of(p, &Actor::Act(key), &Wish::Start { event })
 }

@@ -24,7 +24,7 @@ returns-then-may_start-clause-seen c =
     let within : s.core < length xs = slice_get_within xs s.core c.requires.there.core c.requires.there.core_is in
     let found = found_at xs s.core a within c.index_mut-core.ensures.value in
     let same : c.requires.there.core ≡ a = some_is (sym c.requires.there.core_is ∙ found) in
-    seen_awake (kept_of c.args.object.now) (set xs s.core c.wake.new.self) s c.wake.new.self (set_here xs s.core a c.wake.new.self found)
+    seen_awake (kept_of c.args.object.now) (set xs s.core c.wake.new.self) c.args.event s c.wake.new.self (set_here xs s.core a c.wake.new.self found)
     (awake_now a c.wake.new.self s.slot s.place c.wake.ensures.slots c.wake.ensures.events (subst (λ (x : AwakeState). s.slot < length x.slots) same c.requires.there.slot)
     (subst (λ (x : AwakeState). s.place < length (get_or x.events s.slot [])) same c.requires.there.place))
   where
@@ -39,6 +39,6 @@ returns-else-not-is_awake-clause-seen c =
     let within : s.core < length xs = slice_get_within xs s.core c.requires.there.core c.requires.there.core_is in
     let found = found_at xs s.core a within c.index_mut-core.ensures.value in
     elim c.else-not-is_awake.branch [
-      | else-not-is_awake-via-then-not-is_awake+else-may_start w ↦ seen_held (kept_of c.args.object.now) c.else-not-is_awake.awake.items s (sym w.may_start.ensures ∙ w.if-may_start.false)
-      | else-not-is_awake-via-else-not-is_awake w ↦ subst (λ (v : _). IsSeen (kept_of c.args.object.now) v.items s) (sym w.awake-is) (seen_awake (kept_of c.args.object.now) (set xs s.core a) s a (set_here xs s.core a a found) (sym c.is_awake.ensures ∙ w.if-not-is_awake.false))
+      | else-not-is_awake-via-then-not-is_awake+else-may_start w ↦ seen_held (kept_of c.args.object.now) c.else-not-is_awake.awake.items c.args.event s (sym w.may_start.ensures ∙ w.if-may_start.false)
+      | else-not-is_awake-via-else-not-is_awake w ↦ subst (λ (v : _). IsSeen (kept_of c.args.object.now) v.items c.args.event s) (sym w.awake-is) (seen_awake (kept_of c.args.object.now) (set xs s.core a) c.args.event s a (set_here xs s.core a a found) (sym c.is_awake.ensures ∙ w.if-not-is_awake.false))
     ]

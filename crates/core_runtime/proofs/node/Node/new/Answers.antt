@@ -8,8 +8,8 @@ use Rattle.core_runtime.proofs.node.Node.new.Goals as goal
 pub returns-clause-lawful : goal.returns-clause-lawful
 returns-clause-lawful c = new_lawful (plan_of c.args.p) c.args.m c.args.t c.in_ok-cores.cores.items c.in_ok-objects.objects.items c.requires.built c.in_ok-cores.ensures.cores c.in_ok-objects.ensures.standing
 
-pub new-requires-clause-ready : goal.new-requires-clause-ready
-new-requires-clause-ready c = (
+pub new-requires : goal.new-requires
+new-requires c = (
   c.args.m,
   c.args.t,
   subst (AreReady (plan_of c.args.p) c.args.m c.args.t) (sym c.as_slice.ensures.value) (λ i k found. (c.in_ok-cores.ensures.cores i k found).is_ready (plan_of c.args.p) c.requires.built),

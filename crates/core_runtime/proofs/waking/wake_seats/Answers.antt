@@ -6,10 +6,10 @@ use Rattle.port_objects.specs.Objects.{kept_of}
 use Rattle.core_runtime.specs.declared.seats.Seat.{Seat}
 use Rattle.core_runtime.specs.Watching.{IsSeen}
 use Rattle.core_runtime.proofs.Wakes.{are_same, are_then, there_still, seen_still}
-use Rattle.core_runtime.proofs.waking.wake_waiting.Goals as goal
+use Rattle.core_runtime.proofs.waking.wake_seats.Goals as goal
 
 abbrev nowhere : Seat
-nowhere = record { core = 0; slot = 0; place = 0; event = 0 }
+nowhere = record { core = 0; slot = 0; place = 0 }
 
 pub wake_seat-requires-clause-there : goal.wake_seat-requires-clause-there
 wake_seat-requires-clause-there c =
@@ -25,13 +25,13 @@ loop-seat-preserved c = record {
   woken = are_then c.args.awake.now.items c.loop-seat.awake.items c.wake_seat.new.awake.items c.loop-seat.invariant.woken c.wake_seat.ensures.woken;
   seen = λ k s below found. elim (cases_lt k c.loop-seat.seat-index) [
     | inl before ↦
-        seen_still (kept_of c.args.object.now) c.loop-seat.awake.items c.wake_seat.new.awake.items s c.wake_seat.ensures.woken
+        seen_still (kept_of c.args.object.now) c.loop-seat.awake.items c.wake_seat.new.awake.items c.args.event s c.wake_seat.ensures.woken
         (there_still c.args.awake.now.items c.loop-seat.awake.items s c.loop-seat.invariant.woken (c.requires.there k s found)) (c.loop-seat.invariant.seen k s before found)
     | inr after ↦
         let at : k ≡ c.loop-seat.seat-index = omega arith in
         let is = slice_get-get_or c.args.seats.now c.loop-seat.seat-index nowhere c.loop-seat-test.true in
         let same : get_or c.args.seats.now c.loop-seat.seat-index nowhere ≡ s = some_is (sym is ∙ sym (ap (slice_get c.args.seats.now) at) ∙ found) in
-        subst (IsSeen (kept_of c.args.object.now) c.wake_seat.new.awake.items) same c.wake_seat.ensures.seen
+        subst (IsSeen (kept_of c.args.object.now) c.wake_seat.new.awake.items c.args.event) same c.wake_seat.ensures.seen
   ];
 }
   where
