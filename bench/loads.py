@@ -87,12 +87,22 @@ def chatter(size):
     return described([writer(size, 1), reader(size)], prototypes(1), joined, 1, tasks, events), "tick 1\nrun\n" * 1000
 
 
-def fan(size):
-    """One writer and so many readers, each started by what it receives, for 100 run lines."""
+def spread(times, size):
+    """One writer that writes so many times and then so many readers, each started by what it received, for 100 run lines."""
     events = [mapped("w", "E", "T", 0)] + [mapped(f"r{n}", "D", "T", n + 1) for n in range(size)]
     tasks = [{"shortName": "T", "core": 0}]
     joined = [assembly(["w", "o"], [f"r{n}", "i"]) for n in range(size)]
-    return described([writer(1, 1), reader(1)], prototypes(size), joined, 1, tasks, events), "tick 1\nrun\n" * 100
+    return described([writer(times, 1), reader(1)], prototypes(size), joined, 1, tasks, events), "tick 1\nrun\n" * 100
+
+
+def fan(size):
+    """One writer and so many readers, each started by what it receives, for 100 run lines."""
+    return spread(1, size)
+
+
+def bursts(size):
+    """As `fan`, but the writer writes 900 times before the readers start."""
+    return spread(900, size)
 
 
 def instances(size):
@@ -106,16 +116,26 @@ def instances(size):
     return described([writer(1, 1), reader(1)], held, joined, 8, tasks, events), "tick 1\nrun\n" * 100
 
 
-def timers(size):
-    """So many TimingEvents of one instance, each due at every thousandth tick, for 100 run lines with 900 ticks before each."""
-    runnables = [runnable(f"R{n}", [], []) for n in range(size)]
-    part = component("C", [], runnables, [timing(f"E{n}", f"R{n}", 1000) for n in range(size)])
-    events = [mapped("c", f"E{n}", "T", n) for n in range(size)]
+def clocked(lengths):
+    """A TimingEvent of one instance with each of these periods, for 100 run lines with 900 ticks before each."""
+    runnables = [runnable(f"R{n}", [], []) for n in range(len(lengths))]
+    part = component("C", [], runnables, [timing(f"E{n}", f"R{n}", length) for n, length in enumerate(lengths)])
+    events = [mapped("c", f"E{n}", "T", n) for n in range(len(lengths))]
     tasks = [{"shortName": "T", "core": 0}]
     return described([part], [{"shortName": "c", "type": "C"}], [], 1, tasks, events), "tick 900\nrun\n" * 100
 
 
-CASES = {chatter: 250, fan: 500, instances: 500, timers: 500}
+def timers(size):
+    """So many TimingEvents, each due at every thousandth tick, for 100 run lines with 900 ticks before each."""
+    return clocked([1000] * size)
+
+
+def periods(size):
+    """As `timers`, but each TimingEvent has a period of its own, from 1,000 ticks on."""
+    return clocked([1000 + n for n in range(size)])
+
+
+CASES = {chatter: 250, fan: 500, bursts: 500, instances: 500, timers: 500, periods: 500}
 
 
 def run(case, size):
