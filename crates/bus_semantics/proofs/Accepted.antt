@@ -2,6 +2,7 @@
 use Rattle.std.proofs.Common.{◌≡◌, ◌+◌, ℕ, Bool, true, false, not, ◌&&◌, ◌||◌, ◌==◌, nat_lt, nat_le, refl, arith, List, [], ◌∷◌, ◌++◌, length, Option, Some, None, is_some}
 use Rattle.std.specs.List.{list_all}
 use Rattle.std.proofs.lemmas.Bool.Decides.{nat_tests}
+use Rattle.std.proofs.lemmas.Bool.{and_from, and_parts, not-false}
 use Rattle.runnable_lang.specs.declared.program.AccessSig.{AccessSig}
 use Rattle.runnable_lang.specs.Trees.{StmtTree, chooses, repeats, in_area, BodyTree, done, next}
 use Rattle.runnable_lang.specs.Accesses.{has_access}
@@ -10,7 +11,6 @@ use Rattle.runnable_lang.specs.Places.{Test, within, here, under, failing_in, fa
 use Rattle.runnable_lang.specs.Refusals.{lacks_access, is_declared_before, is_call, calls_inside, is_too_large, failing, whole, of_rule, refusal}
 use Rattle.bus_semantics.specs.Plan.{Runnable}
 use Rattle.bus_semantics.specs.SoundPrograms.{is_in_range, is_declared_after, calls_outside, each_in, each_of, is_well_formed, body_sound}
-use Rattle.bus_semantics.proofs.Resting.{both_parts}
 
 -- ---- lists of which nothing is first
 
@@ -43,10 +43,6 @@ empty_within : (fails : Bool) (paths : List (List ℕ)) → here fails paths ≡
 empty_within true paths none = cc
 empty_within false paths none = none
 
-all_true : (a b : Bool) → a ≡ true → b ≡ true → (a && b) ≡ true
-all_true true b e f = f
-all_true false b e f = cc
-
 -- ---- no statement fails a test where no path is found
 
 -- the areas around a statement, seen by the rules: the greatest of them tells where the next one may stand
@@ -63,19 +59,19 @@ module _ (fails : Test) (test : List ℕ → StmtTree → Bool) (link : (around 
         let os = under 2 (failing_among fails around 0 one) in
         let ts = under 3 (failing_among fails around 0 two) in
         let parts = empty_within f (os ++ ts) none in
-        all_true (test areas (chooses c one two)) (each_of test areas one && each_of test areas two) (link around areas (chooses c one two) stands (passed f (os ++ ts) none))
-        (all_true (each_of test areas one) (each_of test areas two)
+        and_from (test areas (chooses c one two)) (each_of test areas one && each_of test areas two) (link around areas (chooses c one two) stands (passed f (os ++ ts) none))
+        (and_from (each_of test areas one) (each_of test areas two)
         (unbroken_of around areas stands 0 one (empty_under 2 (failing_among fails around 0 one) (empty_left os ts parts)))
         (unbroken_of around areas stands 0 two (empty_under 3 (failing_among fails around 0 two) (empty_right os ts parts))))
     unbroken_in around areas stands (repeats n body) none =
         let f = fails around (repeats n body) in
         let paths = failing_among fails around 0 body in
-        all_true (test areas (repeats n body)) (each_of test areas body) (link around areas (repeats n body) stands (passed f (under 2 paths) none))
+        and_from (test areas (repeats n body)) (each_of test areas body) (link around areas (repeats n body) stands (passed f (under 2 paths) none))
         (unbroken_of around areas stands 0 body (empty_under 2 paths (empty_within f (under 2 paths) none)))
     unbroken_in around areas stands (in_area x body) none =
         let f = fails around (in_area x body) in
         let paths = failing_among fails (within around x) 0 body in
-        all_true (test areas (in_area x body)) (each_of test (x ∷ areas) body) (link around areas (in_area x body) stands (passed f (under 2 paths) none))
+        and_from (test areas (in_area x body)) (each_of test (x ∷ areas) body) (link around areas (in_area x body) stands (passed f (under 2 paths) none))
         (unbroken_of (within around x) (x ∷ areas) (step around areas x stands) 0 body (empty_under 2 paths (empty_within f (under 2 paths) none)))
     unbroken_in around areas stands s none = link around areas s stands (passed (fails around s) [] none)
 
@@ -84,7 +80,7 @@ module _ (fails : Test) (test : List ℕ → StmtTree → Bool) (link : (around 
     unbroken_of around areas stands i (next s body) none =
         let here = under i (failing_in fails around s) in
         let rest = failing_among fails around (i + 1) body in
-        all_true (each_in test areas s) (each_of test areas body)
+        and_from (each_in test areas s) (each_of test areas body)
         (unbroken_in around areas stands s (empty_under i (failing_in fails around s) (empty_left here rest none)))
         (unbroken_of around areas stands (i + 1) body (empty_right here rest none))
 
@@ -92,9 +88,9 @@ module _ (fails : Test) (test : List ℕ → StmtTree → Bool) (link : (around 
 
 -- one area more around
 step_after : (around : Option ℕ) (areas : List ℕ) (x y : ℕ) (body : BodyTree) → Stands around areas → is_declared_before (within around x) (in_area y body) ≡ false → list_all (λ a. nat_lt a y) (x ∷ areas) ≡ true
-step_after None areas x y body stands below = all_true (nat_lt x y) (list_all (λ a. nat_lt a y) areas) (grind (arith, nat_tests)) (stands.after y body refl)
+step_after None areas x y body stands below = and_from (nat_lt x y) (list_all (λ a. nat_lt a y) areas) (grind (arith, nat_tests)) (stands.after y body refl)
 step_after (Some g) areas x y body stands below =
-    all_true (nat_lt x y) (list_all (λ a. nat_lt a y) areas) (grind (arith, nat_tests)) (stands.after y body (grind (arith, nat_tests)))
+    and_from (nat_lt x y) (list_all (λ a. nat_lt a y) areas) (grind (arith, nat_tests)) (stands.after y body (grind (arith, nat_tests)))
 
 has_some : (around : Option ℕ) (x : ℕ) → is_some (within around x) ≡ true
 has_some None x = refl
@@ -109,12 +105,8 @@ step around areas x stands = record {
 nowhere : Stands None []
 nowhere = record { after = λ x body below. refl; outside = λ none. refl }
 
-not_lacking : (b : Bool) → not b ≡ false → b ≡ true
-not_lacking true e = refl
-not_lacking false e = cc
-
 access_link : (accesses : List AccessSig) (around : Option ℕ) (areas : List ℕ) (s : StmtTree) → Stands around areas → lacks_access accesses around s ≡ false → has_access accesses s ≡ true
-access_link accesses around areas s stands passes = not_lacking (has_access accesses s) passes
+access_link accesses around areas s stands passes = not-false (has_access accesses s) passes
 
 after_link : (around : Option ℕ) (areas : List ℕ) (s : StmtTree) → Stands around areas → is_declared_before around s ≡ false → is_declared_after areas s ≡ true
 after_link around areas (in_area x body) stands passes = stands.after x body passes
@@ -136,34 +128,34 @@ module _ (f g : List ℕ → StmtTree → Bool) where
     both_in : (areas : List ℕ) (s : StmtTree) → each_in f areas s ≡ true → each_in g areas s ≡ true → each_in (λ around t. f around t && g around t) areas s ≡ true
     both_in areas (chooses c one two) p q =
         let s = chooses c one two in
-        let p' = both_parts (f areas s) (each_of f areas one && each_of f areas two) p in
-        let q' = both_parts (g areas s) (each_of g areas one && each_of g areas two) q in
-        let p'' = both_parts (each_of f areas one) (each_of f areas two) p'.1 in
-        let q'' = both_parts (each_of g areas one) (each_of g areas two) q'.1 in
+        let p' = and_parts (f areas s) (each_of f areas one && each_of f areas two) p in
+        let q' = and_parts (g areas s) (each_of g areas one && each_of g areas two) q in
+        let p'' = and_parts (each_of f areas one) (each_of f areas two) p'.1 in
+        let q'' = and_parts (each_of g areas one) (each_of g areas two) q'.1 in
         let h = λ (around : List ℕ) (t : StmtTree). f around t && g around t in
-        all_true (h areas s) (each_of h areas one && each_of h areas two) (all_true (f areas s) (g areas s) p'.0 q'.0)
-        (all_true (each_of h areas one) (each_of h areas two) (both_of areas one p''.0 q''.0) (both_of areas two p''.1 q''.1))
+        and_from (h areas s) (each_of h areas one && each_of h areas two) (and_from (f areas s) (g areas s) p'.0 q'.0)
+        (and_from (each_of h areas one) (each_of h areas two) (both_of areas one p''.0 q''.0) (both_of areas two p''.1 q''.1))
     both_in areas (repeats n body) p q =
         let s = repeats n body in
-        let p' = both_parts (f areas s) (each_of f areas body) p in
-        let q' = both_parts (g areas s) (each_of g areas body) q in
+        let p' = and_parts (f areas s) (each_of f areas body) p in
+        let q' = and_parts (g areas s) (each_of g areas body) q in
         let h = λ (around : List ℕ) (t : StmtTree). f around t && g around t in
-        all_true (h areas s) (each_of h areas body) (all_true (f areas s) (g areas s) p'.0 q'.0) (both_of areas body p'.1 q'.1)
+        and_from (h areas s) (each_of h areas body) (and_from (f areas s) (g areas s) p'.0 q'.0) (both_of areas body p'.1 q'.1)
     both_in areas (in_area x body) p q =
         let s = in_area x body in
-        let p' = both_parts (f areas s) (each_of f (x ∷ areas) body) p in
-        let q' = both_parts (g areas s) (each_of g (x ∷ areas) body) q in
+        let p' = and_parts (f areas s) (each_of f (x ∷ areas) body) p in
+        let q' = and_parts (g areas s) (each_of g (x ∷ areas) body) q in
         let h = λ (around : List ℕ) (t : StmtTree). f around t && g around t in
-        all_true (h areas s) (each_of h (x ∷ areas) body) (all_true (f areas s) (g areas s) p'.0 q'.0) (both_of (x ∷ areas) body p'.1 q'.1)
-    both_in areas s p q = all_true (f areas s) (g areas s) p q
+        and_from (h areas s) (each_of h (x ∷ areas) body) (and_from (f areas s) (g areas s) p'.0 q'.0) (both_of (x ∷ areas) body p'.1 q'.1)
+    both_in areas s p q = and_from (f areas s) (g areas s) p q
 
     both_of : (areas : List ℕ) (body : BodyTree) → each_of f areas body ≡ true → each_of g areas body ≡ true → each_of (λ around t. f around t && g around t) areas body ≡ true
     both_of areas done p q = refl
     both_of areas (next s body) p q =
-        let p' = both_parts (each_in f areas s) (each_of f areas body) p in
-        let q' = both_parts (each_in g areas s) (each_of g areas body) q in
+        let p' = and_parts (each_in f areas s) (each_of f areas body) p in
+        let q' = and_parts (each_in g areas s) (each_of g areas body) q in
         let h = λ (around : List ℕ) (t : StmtTree). f around t && g around t in
-        all_true (each_in h areas s) (each_of h areas body) (both_in areas s p'.0 q'.0) (both_of areas body p'.1 q'.1)
+        and_from (each_in h areas s) (each_of h areas body) (both_in areas s p'.0 q'.0) (both_of areas body p'.1 q'.1)
 
 -- ---- programs
 

@@ -1,7 +1,8 @@
 -- What `follows_last` computes is that something happened after the last start; for a timing event, a tick.
 use Rattle.std.proofs.Common.{◌≡◌, ◌↔◌, ℕ, suc, ◌%◌, [], ◌∷◌, ◌++◌, Bool, true, false, not, ◌&&◌, ◌||◌, ◌==◌, refl, sym, ◌∙◌, ap, subst}
 use Rattle.std.specs.List.{list_any}
-use Rattle.std.proofs.lemmas.Bool.{false≢true, eqb-true}
+use Rattle.std.proofs.lemmas.Bool.{false≢true, eqb-true, or_from, or_parts}
+use Rattle.std.specs.Cmp.{first_so, second_so}
 use Rattle.bus_semantics.specs.declared.entries.Actor.{Actor}
 use Rattle.bus_semantics.specs.declared.entries.Deed.{Deed}
 use Rattle.bus_semantics.specs.declared.entries.Deed.TheVariants as deed
@@ -11,7 +12,6 @@ use Rattle.bus_semantics.specs.Plan.{Plan, kind_of}
 use Rattle.bus_semantics.specs.History.{Noted, Past}
 use Rattle.bus_semantics.specs.Owed.{is_start_by}
 use Rattle.bus_semantics.specs.Due.{follows_last, Follows, FollowsTick, is_due, is_due_kind, ticks_period, ticks, is_tick}
-use Rattle.bus_semantics.proofs.Computing.{first_true, second_true}
 
 -- one more entry, by whether it is a start and whether it did it
 one_more : (starts : Noted → Bool) (happened : Noted → Past → Bool) (n : Noted) (h : Past) (s g : Bool) → starts n ≡ s → happened n h ≡ g
@@ -40,14 +40,6 @@ follows_where_computed starts happened [] e = absurd (false≢true e)
 follows_where_computed starts happened (n ∷ h) e =
     one_more starts happened n h (starts n) (happened n h) refl refl (follows_where_computed starts happened h) e
 
-either_false : (a b : Bool) → (a || b) ≡ false → (a ≡ false) × (b ≡ false)
-either_false true b e = absurd (false≢true (sym e))
-either_false false b e = (refl, e)
-
-both_false : (a b : Bool) → a ≡ false → b ≡ false → (a || b) ≡ false
-both_false true b e f = e
-both_false false b e f = f
-
 did_now : (s g f : Bool) → s ≡ false → g ≡ true → (not s && (g || f)) ≡ true
 did_now true g f e t = absurd (false≢true (sym e))
 did_now false true f e t = refl
@@ -62,8 +54,8 @@ did_before false false f e t = t
 since : (starts : Noted → Bool) (happened : Noted → Past → Bool) (later : Past) (cause : Noted) (before : Past)
     → list_any starts (later ++ cause ∷ []) ≡ false → happened cause before ≡ true → follows_last starts happened (later ++ cause ∷ before) ≡ true
 since starts happened [] cause before none did =
-    did_now (starts cause) (happened cause before) (follows_last starts happened before) (either_false (starts cause) false none).0 did
-since starts happened (n ∷ later) cause before none did = let e = either_false (starts n) (list_any starts (later ++ cause ∷ [])) none in
+    did_now (starts cause) (happened cause before) (follows_last starts happened before) (or_parts (starts cause) false none).0 did
+since starts happened (n ∷ later) cause before none did = let e = or_parts (starts n) (list_any starts (later ++ cause ∷ [])) none in
     did_before (starts n) (happened n (later ++ cause ∷ before)) (follows_last starts happened (later ++ cause ∷ before)) e.0
     (since starts happened later cause before e.1 did)
 
@@ -78,14 +70,14 @@ deed_is_tick deed.Tick e = refl
 deed_is_tick _ e = absurd (false≢true e)
 
 any-end : (starts : Noted → Bool) (later : Past) (n : Noted) → list_any starts (later ++ n ∷ []) ≡ false → (list_any starts later ≡ false) × (starts n ≡ false)
-any-end starts [] n e = (refl, (either_false (starts n) false e).0)
-any-end starts (m ∷ later) n e = let first = either_false (starts m) (list_any starts (later ++ n ∷ [])) e in
-    let rest = any-end starts later n first.1 in (both_false (starts m) (list_any starts later) first.0 rest.0, rest.1)
+any-end starts [] n e = (refl, (or_parts (starts n) false e).0)
+any-end starts (m ∷ later) n e = let first = or_parts (starts m) (list_any starts (later ++ n ∷ [])) e in
+    let rest = any-end starts later n first.1 in (or_from (starts m) (list_any starts later) first.0 rest.0, rest.1)
 
 any-and_end : (starts : Noted → Bool) (later : Past) (n : Noted) → list_any starts later ≡ false → starts n ≡ false → list_any starts (later ++ n ∷ []) ≡ false
-any-and_end starts [] n e f = both_false (starts n) false f refl
-any-and_end starts (m ∷ later) n e f = let first = either_false (starts m) (list_any starts later) e in
-    both_false (starts m) (list_any starts (later ++ n ∷ [])) first.0 (any-and_end starts later n first.1 f)
+any-and_end starts [] n e f = or_from (starts n) false f refl
+any-and_end starts (m ∷ later) n e f = let first = or_parts (starts m) (list_any starts later) e in
+    or_from (starts m) (list_any starts (later ++ n ∷ [])) first.0 (any-and_end starts later n first.1 f)
 
 tick_follows : (event period : ℕ) (h : Past) → Follows (is_start_by event) (ticks_period period) h → FollowsTick event period h
 tick_follows event period h r = record {
@@ -94,8 +86,8 @@ tick_follows event period h r = record {
   before = r.before;
   whole = r.whole;
   no_start = (any-end (is_start_by event) r.later r.cause r.no_start).0;
-  is_tick = deed_is_tick r.cause.entry.deed (first_true (is_tick r.cause.entry.deed) (suc (ticks r.before) % period == 0) r.did);
-  multiple = eqb-true (suc (ticks r.before) % period) 0 (second_true (is_tick r.cause.entry.deed) (suc (ticks r.before) % period == 0) r.did);
+  is_tick = deed_is_tick r.cause.entry.deed (first_so (is_tick r.cause.entry.deed) (suc (ticks r.before) % period == 0) r.did);
+  multiple = eqb-true (suc (ticks r.before) % period) 0 (second_so (is_tick r.cause.entry.deed) (suc (ticks r.before) % period == 0) r.did);
 }
 
 not_started : (event : ℕ) (n : Noted) → n.entry.deed ≡ deed.Tick → is_start_by event n ≡ false

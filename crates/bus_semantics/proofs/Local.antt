@@ -1,5 +1,6 @@
 -- What the bus answers to an entry looks only at the earlier entries of its object.
 use Rattle.std.proofs.Common.{◌≡◌, ℕ, true, ◌&&◌, not, refl, [], ◌∷◌, Some, None}
+use Rattle.std.proofs.lemmas.Bool.{and_from, and_parts}
 use Rattle.std.specs.Prelude.{filter}
 use Rattle.std.specs.List.{list_all}
 use Rattle.rte_value.specs.Values.{same_number}
@@ -19,8 +20,7 @@ use Rattle.bus_semantics.specs.Sound.{IsSound}
 use Rattle.bus_semantics.proofs.LocalGroups.{unqueued_local, queued_local, unqueued_free, queued_free}
 use Rattle.bus_semantics.proofs.LocalCalls.{calls_local, calls_free}
 use Rattle.bus_semantics.proofs.LocalPhases.{modes_local, admission_local, modes_free, admission_free}
-use Rattle.bus_semantics.proofs.LocalDue.{both_true, due_local, areas_local, due_free, areas_free}
-use Rattle.bus_semantics.proofs.Resting.{both_parts}
+use Rattle.bus_semantics.proofs.LocalDue.{due_local, areas_local, due_free, areas_free}
 
 pub touching : (p : Plan) (m : Mapping) (h : Past) (n : Noted) (object : ℕ) → IsSound p m → list_all (is_proper p) h ≡ true → is_proper p n ≡ true → touched_by p n ≡ Some object
     → SameAnswers p n h (filter (touches p object) h)
@@ -50,12 +50,12 @@ free p m h n sound fine proper untouched = record {
 own_start : (p : Plan) (h : History) (a : Actor) (d : Deed) → follows_program p h a d ≡ true → starts_its_own p a d ≡ true
 own_start p h (Act k) (deed.Start event point value) may =
     let own = same_number (runnable_of_event p event) (Some k.runnable) in
-    (both_parts own (not (runs k h)) (both_parts (own && not (runs k h)) (caller_has_asked p h k) (both_parts (may_start p h k event) (not (is_held_back p h k)) may).0).0).0
+    (and_parts own (not (runs k h)) (and_parts (own && not (runs k h)) (caller_has_asked p h k) (and_parts (may_start p h k event) (not (is_held_back p h k)) may).0).0).0
 own_start p h (Act k) d may = refl
 own_start p h Env d may = refl
 own_start p h (Machine m) d may = refl
 
 pub proper_legal : (p : Plan) (h : History) → IsLegal p h → list_all (is_proper p) (noted h) ≡ true
 proper_legal p [] legal = refl
-proper_legal p (e ∷ h) legal = both_true (is_proper p (note h e)) (list_all (is_proper p) (noted h))
-    (both_true (fits p e) (starts_its_own p e.actor e.deed) legal.1.fit (own_start p h e.actor e.deed legal.1.actor)) (proper_legal p h legal.0)
+proper_legal p (e ∷ h) legal = and_from (is_proper p (note h e)) (list_all (is_proper p) (noted h))
+    (and_from (fits p e) (starts_its_own p e.actor e.deed) legal.1.fit (own_start p h e.actor e.deed legal.1.actor)) (proper_legal p h legal.0)

@@ -1,5 +1,7 @@
 -- What calls are answered looks only at the entries that touch the server.
 use Rattle.std.proofs.Common.{◌≡◌, ℕ, ◌+◌, Bool, true, false, ◌&&◌, ◌==◌, if◌then◌else◌, refl, sym, ◌∙◌, ap, subst, [], ◌∷◌, Option, Some, None}
+use Rattle.std.proofs.lemmas.Bool.{and_parts, eqb-true}
+use Rattle.std.proofs.lemmas.Option.{same_Some}
 use Rattle.std.specs.Prelude.{filter}
 use Rattle.std.specs.List.{list_all}
 use Rattle.rte_value.specs.declared.kinds.ActKey.{ActKey}
@@ -16,10 +18,9 @@ use Rattle.bus_semantics.specs.Calls.{is_request_at, is_outstanding, returned_by
 use Rattle.bus_semantics.specs.Legal.{is_outcome, is_some_outcome, calls_allow}
 use Rattle.bus_semantics.specs.Sound.{IsSound}
 use Rattle.bus_semantics.specs.Locality.{is_proper}
-use Rattle.bus_semantics.proofs.Thinning.{noting, if_same, number_same, number_in}
+use Rattle.bus_semantics.proofs.Thinning.{noting, if_same}
 use Rattle.bus_semantics.proofs.LocalServers.{start_named, ask_thin, next_thin}
 use Rattle.bus_semantics.proofs.LocalReturns.{all_false, answer_thin, result_thin, newer_returned}
-use Rattle.bus_semantics.proofs.Resting.{both_parts}
 
 -- an object of a server is that of one server
 pub record OfServer (p : Plan) (server : Option ℕ) (o : ℕ) : Type 0 where
@@ -29,7 +30,7 @@ pub record OfServer (p : Plan) (server : Option ℕ) (o : ℕ) : Type 0 where
 
 pub of_server : (p : Plan) (server : Option ℕ) (o : ℕ) → server_object p server ≡ Some o → OfServer p server o
 of_server p None o e = absurd (cc e)
-of_server p (Some s) o e = record { number = s; is = refl; object = number_in (first_server p + s) o e }
+of_server p (Some s) o e = record { number = s; is = refl; object = same_Some (first_server p + s) o e }
 
 pub no_server : (p : Plan) (server : Option ℕ) → server_object p server ≡ None → server ≡ None
 no_server p None e = refl
@@ -47,7 +48,7 @@ module _ (p : Plan) (m : Mapping) (h : Past) (sound : IsSound p m) (fine : list_
   calls_local a (deed.Start e None value) event o proper touched = refl
   calls_local a (deed.Start e (Some q) value) event o proper touched =
       let by = start_named p a e q value event proper in
-      let object : first_server p + by.server ≡ o = number_in (first_server p + by.server) o (sym (ap (object_of_kind p) by.kind) ∙ touched) in
+      let object : first_server p + by.server ≡ o = same_Some (first_server p + by.server) o (sym (ap (object_of_kind p) by.kind) ∙ touched) in
       let next : next_request p q (filter (touches p o) h) ≡ next_request p q h =
       subst (λ k. next_request p q (filter (touches p k) h) ≡ next_request p q h) object (next_thin p by.server q by.joined h fine) in
       ap (λ r. is_key_point a q && is_request q (words_of value) r) (sym next)
@@ -71,7 +72,7 @@ module _ (p : Plan) (q : ℕ) (unjoined : server_of p q ≡ None) where
     where
       by_test : (b : Bool) → (r == q) ≡ b → (r == q) ≡ false
       by_test false t = t
-      by_test true t = let by = start_named p a e r value event proper in absurd (cc (sym by.joined ∙ ap (server_of p) (number_same r q t) ∙ unjoined))
+      by_test true t = let by = start_named p a e r value event proper in absurd (cc (sym by.joined ∙ ap (server_of p) (eqb-true r q t) ∙ unjoined))
 
   nobody_entry : (k : ActKey) (a : Actor) (d : Deed) (event : Option ℕ) (h : Past) → is_proper p (noting a d event) ≡ true → serves q k h ≡ false → serves q k (noting a d event ∷ h) ≡ false
   nobody_entry k (Act j) (deed.Start e point value) event h proper before = rw before (rw (unnamed (Act j) e point value event proper) (if_same _ false))
@@ -81,7 +82,7 @@ module _ (p : Plan) (q : ℕ) (unjoined : server_of p q ≡ None) where
 
   nobody_serves : (k : ActKey) (h : Past) → list_all (is_proper p) h ≡ true → serves q k h ≡ false
   nobody_serves k [] fine = refl
-  nobody_serves k (n ∷ h) fine = let parts = both_parts (is_proper p n) (list_all (is_proper p) h) fine in
+  nobody_serves k (n ∷ h) fine = let parts = and_parts (is_proper p n) (list_all (is_proper p) h) fine in
       nobody_entry k n.entry.actor n.entry.deed n.event h parts.0 (nobody_serves k h parts.1)
 
   pub nobody_returns : (a : Actor) (d : Deed) (h : Past) → list_all (is_proper p) h ≡ true → returned_by q a d h ≡ None
@@ -90,7 +91,7 @@ module _ (p : Plan) (q : ℕ) (unjoined : server_of p q ≡ None) where
 
   never_returned : (h : Past) → list_all (is_proper p) h ≡ true → returned_to q h ≡ None
   never_returned [] fine = refl
-  never_returned (n ∷ h) fine = let parts = both_parts (is_proper p n) (list_all (is_proper p) h) fine in
+  never_returned (n ∷ h) fine = let parts = and_parts (is_proper p n) (list_all (is_proper p) h) fine in
       newer_returned q n h None (nobody_returns n.entry.actor n.entry.deed h parts.1) ∙ rw (never_returned h parts.1) (if_same (is_request_at q n.entry.deed) None)
 
   never_answered : (h : Past) → list_all (is_proper p) h ≡ true → answer_to q h ≡ None

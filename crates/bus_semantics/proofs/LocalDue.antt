@@ -1,5 +1,7 @@
 -- When an event is due, and whether an area is held, look only at the entries that touch the object.
 use Rattle.std.proofs.Common.{◌≡◌, ℕ, suc, ◌+◌, ◌%◌, Bool, true, false, ◌&&◌, ◌||◌, not, ◌==◌, if◌then◌else◌, refl, sym, ◌∙◌, ap, subst, [], ◌∷◌, length, Option, Some, None, is_some}
+use Rattle.std.proofs.lemmas.Bool.{and_from, and_parts, eqb-true}
+use Rattle.std.proofs.lemmas.Option.{same_Some}
 use Rattle.std.specs.Prelude.{filter, nat_lt}
 use Rattle.std.specs.List.{list_all, list_any, slice_get}
 use Rattle.std.specs.Option.{option_map_or}
@@ -28,25 +30,20 @@ use Rattle.bus_semantics.specs.Due.{follows_last, is_tick, ticks, ticks_period, 
 use Rattle.bus_semantics.specs.Legal.{areas_allow, due_allows}
 use Rattle.bus_semantics.specs.Sound.{IsSound}
 use Rattle.bus_semantics.specs.Locality.{starts_its_own, is_proper}
-use Rattle.bus_semantics.proofs.Thinning.{noting, clash, differs, number_same, same_test, option_same, option_test, number_in, count_thin, any_thin, follows_thin}
+use Rattle.bus_semantics.proofs.Thinning.{noting, clash, differs, same_test, option_same, option_test, count_thin, any_thin, follows_thin}
 use Rattle.bus_semantics.proofs.OneEvent.{invoked_serves}
 use Rattle.bus_semantics.proofs.LocalGroups.{accepts_thin, brings_quiet}
 use Rattle.bus_semantics.proofs.LocalServers.{start_owned, unstarted_thin}
 use Rattle.bus_semantics.proofs.LocalReturns.{returned_by_thin, returned_by_quiet}
 use Rattle.bus_semantics.proofs.LocalCalls.{of_server, no_server, nobody_returns}
 use Rattle.bus_semantics.proofs.LocalMachines.{phase_quiet, owes_thin}
-use Rattle.bus_semantics.proofs.Resting.{both_parts}
-
-pub both_true : (a b : Bool) → a ≡ true → b ≡ true → (a && b) ≡ true
-both_true true b e f = f
-both_true false b e f = clash false e refl
 
 -- ---- starts by an event of the object
 
 module _ (p : Plan) (o e : ℕ) (ours : object_of_kind p (kind_of p e) ≡ Some o) where
   start_silent : (a : Actor) (d : Deed) (event : Option ℕ) → touches p o (noting a d event) ≡ false → is_start_by e (noting a d event) ≡ false
   start_silent a (deed.Start f point value) event off = differs (same_number (object_of_kind p (kind_of p f)) (Some o)) (e == f)
-      (λ same. option_test (object_of_kind p (kind_of p f)) (Some o) (ap (λ k. object_of_kind p (kind_of p k)) (sym (number_same e f same)) ∙ ours)) off
+      (λ same. option_test (object_of_kind p (kind_of p f)) (Some o) (ap (λ k. object_of_kind p (kind_of p k)) (sym (eqb-true e f same)) ∙ ours)) off
   start_silent a d event off = refl
 
   start_quiet : (n : Noted) → touches p o n ≡ false → is_start_by e n ≡ false
@@ -93,7 +90,7 @@ module _ (p : Plan) (x : ℕ) (v : ElemPlan) (there : slice_get p.elements x ≡
 -- a start by a return event of the point touches the point's server
 return_start : (p : Plan) (q f : ℕ) (k : EventKind) → kind_of p f ≡ k → is_return_event_of p q f ≡ true → object_of_kind p (kind_of p f) ≡ server_object p (server_of p q)
 return_start p q f (Returns r) is returns = let same : (q == r) ≡ true = rw is at returns in
-    ap (object_of_kind p) is ∙ ap (λ z. server_object p (server_of p z)) (sym (number_same q r same))
+    ap (object_of_kind p) is ∙ ap (λ z. server_object p (server_of p z)) (sym (eqb-true q r same))
 return_start p q f k is returns = let no = rw is at returns in absurd (cc no)
 
 module _ (p : Plan) (m : Mapping) (sound : IsSound p m) (q s : ℕ) (joined : server_of p q ≡ Some s) where
@@ -121,7 +118,7 @@ module _ (p : Plan) (m e : ℕ) (ours : object_of_kind p (kind_of p e) ≡ Some 
       by_test : (b : Bool) → touches p (first_machine p + m) n ≡ b → phase_owes p m moment n (filter (touches p (first_machine p + m)) h) ≡ phase_owes p m moment n h
       by_test true t =
           let same : owes_moment p m (filter (touches p (first_machine p + m)) (n ∷ h)) moment ≡ owes_moment p m (n ∷ h) moment =
-          owes_thin p m (n ∷ h) (both_true (is_proper p n) (list_all (is_proper p) h) proper fine) moment in
+          owes_thin p m (n ∷ h) (and_from (is_proper p n) (list_all (is_proper p) h) proper fine) moment in
           let kept : filter (touches p (first_machine p + m)) (n ∷ h) ≡ n ∷ filter (touches p (first_machine p + m)) h =
           ap (λ b. if b then n ∷ filter (touches p (first_machine p + m)) h else filter (touches p (first_machine p + m)) h) t in
           ap (λ b. is_phase (phase_of m n) && b) (ap (λ l. owes_moment p m l moment) (sym kept) ∙ same)
@@ -146,19 +143,19 @@ key_point : (p : Plan) (k : ActKey) (w : ℕ) → key_fits p k ≡ true → k.po
 key_point p k w fit is =
     let point : (nat_lt k.runnable (length p.runnables) && (serves_directly p k && same_number (server_of p w) (served_by p (Act k)))) ≡ true = rw is at fit in
     option_same (server_of p w) (served_by p (Act k))
-    (both_parts (serves_directly p k) (same_number (server_of p w) (served_by p (Act k))) (both_parts (nat_lt k.runnable (length p.runnables)) _ point).1).1
+    (and_parts (serves_directly p k) (same_number (server_of p w) (served_by p (Act k))) (and_parts (nat_lt k.runnable (length p.runnables)) _ point).1).1
 
 start_key : (p : Plan) (k : ActKey) (e : ℕ) (point : Option ℕ) (value : _) (event : Option ℕ) → is_proper p (noting (Act k) (deed.Start e point value) event) ≡ true → key_fits p k ≡ true
 start_key p k e point value event proper =
     let d = deed.Start e point value in
-    (both_parts (key_fits p k) (event_fits p (instance_of p k.runnable) e)
-    (both_parts (wish_fits p (Act k) (wanted_by 0 d)) (answer_fits p (Act k) d) (both_parts (fits p (noting (Act k) d event).entry) (starts_its_own p (Act k) d) proper).0).0).0
+    (and_parts (key_fits p k) (event_fits p (instance_of p k.runnable) e)
+    (and_parts (wish_fits p (Act k) (wanted_by 0 d)) (answer_fits p (Act k) d) (and_parts (fits p (noting (Act k) d event).entry) (starts_its_own p (Act k) d) proper).0).0).0
 
 module _ (p : Plan) (m : Mapping) (sound : IsSound p m) (e s : ℕ) (kind : kind_of p e ≡ Invoked s) (point : Option ℕ) (value : _) (event : Option ℕ) where
   counts_key : (k : ActKey) → is_proper p (noting (Act k) (deed.Start e point value) event) ≡ true → (own : Option ℕ) → k.point ≡ own → (q : ℕ) → counts_for p s own q ≡ true → server_of p q ≡ Some s
   counts_key k proper None is q counts = option_same (server_of p q) (Some s) counts
   counts_key k proper (Some w) is q counts =
-      subst (λ z. server_of p z ≡ Some s) (number_same w q counts)
+      subst (λ z. server_of p z ≡ Some s) (eqb-true w q counts)
       (key_point p k w (start_key p k e point value event proper) is ∙ invoked_serves p m sound e s k.runnable kind (start_owned p k e point value event proper))
 
   counts_server : (a : Actor) → is_proper p (noting a (deed.Start e point value) event) ≡ true → (q : ℕ) → counts_for p s (key_point_of a) q ≡ true → server_of p q ≡ Some s
@@ -171,27 +168,27 @@ module _ (p : Plan) (m : Mapping) (h : Past) (sound : IsSound p m) (fine : list_
       → follows_last (is_start_by e) (brings_data p x) h ≡ follows_last (is_start_by e) (brings_data p x) (filter (touches p o) h)
   data_local e x o kind None there touched = absurd (cc touched)
   data_local e x o kind (Some v) there touched =
-      sym (subst (λ k. follows_last (is_start_by e) (brings_data p x) (filter (touches p k) h) ≡ follows_last (is_start_by e) (brings_data p x) h) (number_in v.group o touched)
+      sym (subst (λ k. follows_last (is_start_by e) (brings_data p x) (filter (touches p k) h) ≡ follows_last (is_start_by e) (brings_data p x) h) (same_Some v.group o touched)
       (data_thin p x v there e (ap (object_of_kind p) kind ∙ stands p x v there) h fine))
 
   kind_local : (a : Actor) (e : ℕ) (point : Option ℕ) (value : _) (event : Option ℕ) (o : ℕ) → is_proper p (noting a (deed.Start e point value) event) ≡ true
       → (k : EventKind) → kind_of p e ≡ k → object_of_kind p k ≡ Some o → is_due_kind p a e k h ≡ is_due_kind p a e k (filter (touches p o) h)
   kind_local a e point value event o proper (Timing period) is touched =
-      sym (subst (λ k. follows_last (is_start_by e) (ticks_period period) (filter (touches p k) h) ≡ follows_last (is_start_by e) (ticks_period period) h) (number_in (clock p) o touched)
+      sym (subst (λ k. follows_last (is_start_by e) (ticks_period period) (filter (touches p k) h) ≡ follows_last (is_start_by e) (ticks_period period) h) (same_Some (clock p) o touched)
       (timing_thin p e period (ap (object_of_kind p) is) h fine))
   kind_local a e point value event o proper Init is touched = sym (never_thin p o e (ap (object_of_kind p) is ∙ touched) h fine)
   kind_local a e point value event o proper (DataReceived x) is touched = data_local e x o is (slice_get p.elements x) refl touched
   kind_local a e point value event o proper (Invoked s) is touched =
-      sym (subst (λ k. has_unstarted (counts_for p s (key_point_of a)) (filter (touches p k) h) ≡ has_unstarted (counts_for p s (key_point_of a)) h) (number_in (first_server p + s) o touched)
+      sym (subst (λ k. has_unstarted (counts_for p s (key_point_of a)) (filter (touches p k) h) ≡ has_unstarted (counts_for p s (key_point_of a)) h) (same_Some (first_server p + s) o touched)
       (unstarted_thin p s (counts_for p s (key_point_of a)) (counts_server p m sound e s is point value event a proper) h fine))
   kind_local a e point value event o proper (Returns q) is touched = let of = of_server p (server_of p q) o touched in
       sym (subst (λ k. follows_last (is_start_by_return_of p q) (returns_to q) (filter (touches p k) h) ≡ follows_last (is_start_by_return_of p q) (returns_to q) h) of.object
       (returns_thin p m sound q of.number of.is h fine))
   kind_local a e point value event o proper (ModeSwitch n moment) is touched =
-      sym (subst (λ k. switch_due p e n moment (filter (touches p k) h) ≡ switch_due p e n moment h) (number_in (first_machine p + n) o touched)
+      sym (subst (λ k. switch_due p e n moment (filter (touches p k) h) ≡ switch_due p e n moment h) (same_Some (first_machine p + n) o touched)
       (switch_thin p n e (ap (object_of_kind p) is) moment h fine))
   kind_local a e point value event o proper (Ack n) is touched =
-      sym (subst (λ k. follows_last (is_start_by e) (ends_transition n) (filter (touches p k) h) ≡ follows_last (is_start_by e) (ends_transition n) h) (number_in (first_machine p + n) o touched)
+      sym (subst (λ k. follows_last (is_start_by e) (ends_transition n) (filter (touches p k) h) ≡ follows_last (is_start_by e) (ends_transition n) h) (same_Some (first_machine p + n) o touched)
       (ack_thin p n e (ap (object_of_kind p) is) h fine))
 
   pub due_local : (a : Actor) (d : Deed) (event : Option ℕ) (o : ℕ) → is_proper p (noting a d event) ≡ true → touched_by p (noting a d event) ≡ Some o → due_allows p h a d ≡ due_allows p (filter (touches p o) h) a d
@@ -203,7 +200,7 @@ module _ (p : Plan) (m : Mapping) (h : Past) (sound : IsSound p m) (fine : list_
   never_follows : (starts : Noted → Bool) (happened : Noted → Past → Bool) → ((n : Noted) (l : Past) → list_all (is_proper p) l ≡ true → happened n l ≡ false)
       → (l : Past) → list_all (is_proper p) l ≡ true → follows_last starts happened l ≡ false
   never_follows starts happened never [] f = refl
-  never_follows starts happened never (n ∷ l) f = let parts = both_parts (is_proper p n) (list_all (is_proper p) l) f in
+  never_follows starts happened never (n ∷ l) f = let parts = and_parts (is_proper p n) (list_all (is_proper p) l) f in
       rw (never n l parts.1, never_follows starts happened never l parts.1) (nothing (starts n))
     where
       nothing : (b : Bool) → (not b && false) ≡ false
@@ -234,7 +231,7 @@ module _ (p : Plan) (m : Mapping) (h : Past) (sound : IsSound p m) (fine : list_
   held_thin x = λ i. not (left_area i == entered i)
     where
       same_area : (y : ℕ) → (x == y) ≡ true → same_number (Some (first_area p + y)) (Some (first_area p + x)) ≡ true
-      same_area y same = option_test (Some (first_area p + y)) (Some (first_area p + x)) (ap (λ z. Some (first_area p + z)) (sym (number_same x y same)))
+      same_area y same = option_test (Some (first_area p + y)) (Some (first_area p + x)) (ap (λ z. Some (first_area p + z)) (sym (eqb-true x y same)))
 
       enter_silent : (a : Actor) (d : Deed) (event : Option ℕ) → touches p (first_area p + x) (noting a d event) ≡ false → enters x d ≡ false
       enter_silent a (deed.Enter y) event off = differs (same_number (Some (first_area p + y)) (Some (first_area p + x))) (x == y) (same_area y) off
@@ -252,7 +249,7 @@ module _ (p : Plan) (m : Mapping) (h : Past) (sound : IsSound p m) (fine : list_
 
   pub areas_local : (a : Actor) (d : Deed) (event : Option ℕ) (o : ℕ) → touched_by p (noting a d event) ≡ Some o → areas_allow h d ≡ areas_allow (filter (touches p o) h) d
   areas_local a (deed.Enter x) event o touched =
-      sym (subst (λ k. not (is_held x (filter (touches p k) h)) ≡ not (is_held x h)) (number_in (first_area p + x) o touched) (ap not (held_thin x)))
+      sym (subst (λ k. not (is_held x (filter (touches p k) h)) ≡ not (is_held x h)) (same_Some (first_area p + x) o touched) (ap not (held_thin x)))
   areas_local a d event o touched = refl
 
   pub areas_free : (a : Actor) (d : Deed) (event : Option ℕ) → touched_by p (noting a d event) ≡ None → areas_allow h d ≡ areas_allow [] d

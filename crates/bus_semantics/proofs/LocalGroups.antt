@@ -1,5 +1,7 @@
 -- What is kept of data looks only at the entries that touch the group.
 use Rattle.std.proofs.Common.{◌≡◌, ℕ, ℤ, Bool, true, false, ◌&&◌, ◌||◌, not, ◌==◌, if◌then◌else◌, refl, sym, ap, subst, List, [], length, Option, Some, None, is_some}
+use Rattle.std.proofs.lemmas.Bool.{and_parts, eqb-true}
+use Rattle.std.proofs.lemmas.Option.{same_Some}
 use Rattle.std.specs.Prelude.{filter, unwrap_or}
 use Rattle.std.specs.List.{list_all, list_any, slice_get}
 use Rattle.std.specs.Option.{option_map_or}
@@ -17,8 +19,7 @@ use Rattle.bus_semantics.specs.Unqueued.{is_in_group, stored_in, last_stored, va
 use Rattle.bus_semantics.specs.Queued.{sent_in, is_receive_of, takes_at, taken_at, with_sent, is_room, accepted_at, has_room_at, accepts_next, discards_next, has_lost, is_receiver_in, is_full_in, send_code, received_by, received_at}
 use Rattle.bus_semantics.specs.Legal.{same_bool, is_outcome, unqueued_allows, queued_allows}
 use Rattle.bus_semantics.specs.Locality.{is_proper}
-use Rattle.bus_semantics.proofs.Thinning.{noting, differs, none_if, number_same, option_test, thin, newest_thin, count_thin}
-use Rattle.bus_semantics.proofs.Resting.{both_parts}
+use Rattle.bus_semantics.proofs.Thinning.{noting, differs, none_if, option_test, thin, newest_thin, count_thin}
 
 -- an entry that touches another object stores nothing in the group, and makes it neither valid nor invalid
 module _ (p : Plan) (g : ℕ) where
@@ -55,10 +56,10 @@ module _ (p : Plan) (g : ℕ) where
 module _ (p : Plan) (x : ℕ) (e : ElemPlan) (stands : group_of p x ≡ Some e.group) where
   -- an entry at the element touches its group
   at_element : (y : ℕ) → (x == y) ≡ true → is_in_group p e.group y ≡ true
-  at_element y same = option_test (group_of p y) (Some e.group) (subst (λ z. group_of p z ≡ Some e.group) (number_same x y same) stands)
+  at_element y same = option_test (group_of p y) (Some e.group) (subst (λ z. group_of p z ≡ Some e.group) (eqb-true x y same) stands)
 
   at_same : (y : ℕ) → (y == x) ≡ true → is_in_group p e.group y ≡ true
-  at_same y same = option_test (group_of p y) (Some e.group) (subst (λ z. group_of p z ≡ Some e.group) (sym (number_same y x same)) stands)
+  at_same y same = option_test (group_of p y) (Some e.group) (subst (λ z. group_of p z ≡ Some e.group) (sym (eqb-true y x same)) stands)
 
   update_silent : (a : Actor) (d : Deed) (event : Option ℕ) → touches p e.group (noting a d event) ≡ false → update p x e.group d ≡ None
   update_silent a (deed.Write y value) event off = none_if (is_in_group p e.group y) true off
@@ -168,7 +169,7 @@ full_test p g y None at h fine = refl
 full_test p g y (Some e) at h fine = by_test (is_receiver_in g e) refl
   where
     by_test : (b : Bool) → is_receiver_in g e ≡ b → (b && not (has_room_at p y e (filter (touches p g) h))) ≡ (b && not (has_room_at p y e h))
-    by_test true t = ap not (in_group p g y e at (number_same e.group g (both_parts (e.joined && not e.provided) (e.group == g) t).1) h fine)
+    by_test true t = ap not (in_group p g y e at (eqb-true e.group g (and_parts (e.joined && not e.provided) (e.group == g) t).1) h fine)
     by_test false t = refl
 
 full_thin : (p : Plan) (g : ℕ) (h : Past) → list_all (is_proper p) h ≡ true → is_full_in p g (filter (touches p g) h) ≡ is_full_in p g h
@@ -181,10 +182,7 @@ module _ (p : Plan) (h : Past) (fine : list_all (is_proper p) h ≡ true) where
       → option_map_or (λ (v : ElemPlan). unwrap_or (last_stored p v.group h) (words_of v.init)) e [] ≡ option_map_or (λ (v : ElemPlan). unwrap_or (last_stored p v.group (filter (touches p o) h)) (words_of v.init)) e []
   value_at_group x o None at e = refl
   value_at_group x o (Some v) at e = subst (λ k. unwrap_or (last_stored p v.group h) (words_of v.init) ≡ unwrap_or (last_stored p v.group (filter (touches p k) h)) (words_of v.init))
-      (number_at v.group o e) (ap (λ s. unwrap_or s (words_of v.init)) (sym (last_stored_thin p v.group h fine)))
-    where
-      number_at : (a b : ℕ) → Some a ≡ Some b → a ≡ b
-      number_at a b s = cc
+      (same_Some v.group o e) (ap (λ s. unwrap_or s (words_of v.init)) (sym (last_stored_thin p v.group h fine)))
 
   value_local : (x o : ℕ) → group_of p x ≡ Some o → value_at p x h ≡ value_at p x (filter (touches p o) h)
   value_local x o e = value_at_group x o (slice_get p.elements x) refl e
@@ -194,11 +192,8 @@ module _ (p : Plan) (h : Past) (fine : list_all (is_proper p) h ≡ true) where
       → ((v : ElemPlan) → group_of p x ≡ Some v.group → f h v ≡ f (filter (touches p v.group) h) v)
       → option_map_or (f h) e otherwise ≡ option_map_or (f (filter (touches p o) h)) e otherwise
   elem_local f otherwise x o None at e same = refl
-  elem_local f otherwise x o (Some v) at e same = subst (λ k. f h v ≡ f (filter (touches p k) h) v) (number_at v.group o e)
+  elem_local f otherwise x o (Some v) at e same = subst (λ k. f h v ≡ f (filter (touches p k) h) v) (same_Some v.group o e)
       (same v (ap (λ (s : Option ElemPlan). option_map_or (λ (w : ElemPlan). Some w.group) s None) at))
-    where
-      number_at : (a b : ℕ) → Some a ≡ Some b → a ≡ b
-      number_at a b s = cc
 
   code_local : (x o : ℕ) → group_of p x ≡ Some o → read_code p x h ≡ read_code p x (filter (touches p o) h)
   code_local x o e = elem_local (λ l v. elem_read_code p v l) 0 x o (slice_get p.elements x) refl e (λ v at. sym (read_code_thin p x v at h fine))

@@ -1,5 +1,6 @@
 -- What is kept of modes looks only at the entries that touch the machine.
 use Rattle.std.proofs.Common.{◌≡◌, ℕ, ◌+◌, Bool, true, false, ◌&&◌, ◌||◌, ◌==◌, if◌then◌else◌, refl, sym, ◌∙◌, ap, ◌∷◌, length, Option, Some, None, unwrap_or}
+use Rattle.std.proofs.lemmas.Bool.{eqb-true}
 use Rattle.std.specs.Prelude.{filter}
 use Rattle.std.specs.List.{list_all, slice_get}
 use Rattle.rte_value.specs.declared.kinds.Step.TheVariants as step
@@ -18,11 +19,11 @@ use Rattle.bus_semantics.specs.Owed.{stage_owes, owes_moment, is_start_by, is_en
 use Rattle.bus_semantics.specs.Admission.{admitted_runs}
 use Rattle.bus_semantics.specs.Phases.{first_unbegun}
 use Rattle.bus_semantics.specs.Locality.{is_proper}
-use Rattle.bus_semantics.proofs.Thinning.{noting, differs, none_if, if_same, number_same, option_test, thin, newest_thin, count_thin}
+use Rattle.bus_semantics.proofs.Thinning.{noting, differs, none_if, if_same, option_test, thin, newest_thin, count_thin}
 
 module _ (p : Plan) (m : ℕ) where
   pub at_machine : (n : ℕ) → (m == n) ≡ true → same_number (machine_object p (Some n)) (Some (first_machine p + m)) ≡ true
-  at_machine n same = option_test (machine_object p (Some n)) (Some (first_machine p + m)) (ap (λ k. Some (first_machine p + k)) (sym (number_same m n same)))
+  at_machine n same = option_test (machine_object p (Some n)) (Some (first_machine p + m)) (ap (λ k. Some (first_machine p + k)) (sym (eqb-true m n same)))
 
   phase_silent : (a : Actor) (d : Deed) (event : Option ℕ) → touches p (first_machine p + m) (noting a d event) ≡ false → phase_of m (noting a d event) ≡ None
   phase_silent Env d event off = refl
@@ -87,7 +88,7 @@ module _ (p : Plan) (m : ℕ) where
     end_silent a deed.End None off = refl
     end_silent a deed.End (Some f) off = differs (same_number (machine_object p (machine_of_event p f)) (Some (first_machine p + m))) (f == e)
         (λ same. option_test (machine_object p (machine_of_event p f)) (Some (first_machine p + m))
-        (ap (machine_object p) (ap (machine_of_event p) (number_same f e same) ∙ ours))) off
+        (ap (machine_object p) (ap (machine_of_event p) (eqb-true f e same) ∙ ours))) off
     end_silent a d event off = refl
 
     -- one that the machine disables
@@ -95,12 +96,12 @@ module _ (p : Plan) (m : ℕ) where
       not_ours : (f : ℕ) → same_number (machine_object p (disabler_of p f)) (Some (first_machine p + m)) ≡ false → (f == e) ≡ false
       not_ours f off = differs (same_number (machine_object p (disabler_of p f)) (Some (first_machine p + m))) (f == e)
           (λ same. option_test (machine_object p (disabler_of p f)) (Some (first_machine p + m))
-          (ap (machine_object p) (ap (disabler_of p) (number_same f e same) ∙ disabled))) off
+          (ap (machine_object p) (ap (disabler_of p) (eqb-true f e same) ∙ disabled))) off
 
       not_ended : (f : ℕ) → same_number (machine_object p (machine_of_event p f)) (Some (first_machine p + m)) ≡ false → (f == e) ≡ false
       not_ended f off = differs (same_number (machine_object p (machine_of_event p f)) (Some (first_machine p + m))) (f == e)
           (λ same. option_test (machine_object p (machine_of_event p f)) (Some (first_machine p + m))
-          (ap (machine_object p) (ap (machine_of_event p) (number_same f e same) ∙ ours))) off
+          (ap (machine_object p) (ap (machine_of_event p) (eqb-true f e same) ∙ ours))) off
 
       admitted_quiet : (a : Actor) (d : Deed) (event : Option ℕ) (h : Past) → touches p (first_machine p + m) (noting a d event) ≡ false → admitted_runs e (noting a d event ∷ h) ≡ admitted_runs e h
       admitted_quiet a (deed.Admit true) None h off = refl
@@ -132,7 +133,7 @@ module _ (p : Plan) (m : ℕ) where
     module _ (waits : object_of_kind p (kind_of p e) ≡ Some (first_machine p + m)) where
       pub start_silent : (a : Actor) (d : Deed) (event : Option ℕ) → touches p (first_machine p + m) (noting a d event) ≡ false → is_start_by e (noting a d event) ≡ false
       start_silent a (deed.Start f point value) event off = differs (same_number (object_of_kind p (kind_of p f)) (Some (first_machine p + m))) (e == f)
-          (λ same. option_test (object_of_kind p (kind_of p f)) (Some (first_machine p + m)) (ap (λ k. object_of_kind p (kind_of p k)) (sym (number_same e f same)) ∙ waits)) off
+          (λ same. option_test (object_of_kind p (kind_of p f)) (Some (first_machine p + m)) (ap (λ k. object_of_kind p (kind_of p k)) (sym (eqb-true e f same)) ∙ waits)) off
       start_silent a d event off = refl
 
       started_thin : (h : Past) → list_all (is_proper p) h ≡ true → started_in_phase m e (filter (touches p (first_machine p + m)) h) ≡ started_in_phase m e h

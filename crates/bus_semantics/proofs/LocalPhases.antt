@@ -1,5 +1,7 @@
 -- Which phase may come, what switches and modes are answered, and who is admitted look only at the entries that touch the machine.
 use Rattle.std.proofs.Common.{◌≡◌, ℕ, ◌+◌, Bool, true, false, ◌&&◌, ◌||◌, not, ◌==◌, if◌then◌else◌, refl, sym, ◌∙◌, ap, subst, arith, Option, Some, None}
+use Rattle.std.proofs.lemmas.Bool.{eqb-true}
+use Rattle.std.proofs.lemmas.Option.{same_Some}
 use Rattle.std.specs.Prelude.{filter, option_map}
 use Rattle.std.specs.List.{list_all, list_any, slice_get}
 use Rattle.std.specs.Option.{option_map_or}
@@ -25,7 +27,7 @@ use Rattle.bus_semantics.specs.Phases.{phase_after}
 use Rattle.bus_semantics.specs.Legal.{same_bool, modes_allow, admission_allows}
 use Rattle.bus_semantics.specs.Sound.{IsSound}
 use Rattle.bus_semantics.specs.Locality.{is_proper}
-use Rattle.bus_semantics.proofs.Thinning.{noting, number_same, number_in, every_same}
+use Rattle.bus_semantics.proofs.Thinning.{noting, every_same}
 use Rattle.bus_semantics.proofs.OneEvent.{kind_at, none_disables}
 use Rattle.bus_semantics.proofs.LocalMachines.{stage_thin, next_thin, settled_thin, code_thin, stable_thin, mode_thin, unbegun_thin, owes_thin, admitted_thin, done_thin}
 
@@ -41,7 +43,7 @@ module _ (p : Plan) (m : ℕ) (h : Past) (fine : list_all (is_proper p) h ≡ tr
       by_test : (b : Bool) → (m == n) ≡ b → (not (b && owes_moment p m (of_machine p m h) moment) || is_done m e (of_machine p m h)) ≡ (not (b && owes_moment p m h moment) || is_done m e h)
       by_test false t = refl
       by_test true t =
-          let same : n ≡ m = sym (number_same m n t) in
+          let same : n ≡ m = sym (eqb-true m n t) in
           let kind : kind_of p e ≡ ModeSwitch n moment = kind_at p e v there ∙ is in
           let ours : machine_of_event p e ≡ Some m = ap (λ k. owing k (disabler_of p e)) kind ∙ ap (λ k. Some k) same in
           let waits : object_of_kind p (kind_of p e) ≡ Some (first_machine p + m) = ap (object_of_kind p) kind ∙ ap (λ k. Some (first_machine p + k)) same in
@@ -67,7 +69,7 @@ module _ (p : Plan) (m : ℕ) (h : Past) (fine : list_all (is_proper p) h ≡ tr
             → (not (b && list_any (λ a. a == next_of p m (of_machine p m h)) d.modes) || not (admitted_runs e (of_machine p m h))) ≡ (not (b && list_any (λ a. a == next_of p m h) d.modes) || not (admitted_runs e h))
         by_test false t = refl
         by_test true t =
-            let same : d.machine ≡ m = number_same d.machine m t in
+            let same : d.machine ≡ m = eqb-true d.machine m t in
             let by : disabling_of p e ≡ Some d = ap (λ (o : Option EventPlan). option_map_or (λ (w : EventPlan). w.disabled) o None) there ∙ is in
             let disabled : disabler_of p e ≡ Some m = ap (option_map (λ (x : Disabling). x.machine)) by ∙ ap (λ i. Some i) same in
             let ours : machine_of_event p e ≡ Some m = not_owed e d (kind_of p e) refl by same in
@@ -103,7 +105,7 @@ record OfMachine (p : Plan) (machine : Option ℕ) (o : ℕ) : Type 0 where
 
 machine_at : (p : Plan) (machine : Option ℕ) (o : ℕ) → machine_object p machine ≡ Some o → OfMachine p machine o
 machine_at p None o e = absurd (cc e)
-machine_at p (Some m) o e = record { number = m; is = refl; object = number_in (first_machine p + m) o e }
+machine_at p (Some m) o e = record { number = m; is = refl; object = same_Some (first_machine p + m) o e }
 
 no_machine : (p : Plan) (machine : Option ℕ) → machine_object p machine ≡ None → machine ≡ None
 no_machine p None e = refl
@@ -114,15 +116,15 @@ module _ (p : Plan) (mapping : Mapping) (h : Past) (sound : IsSound p mapping) (
   mode_same port None is o touched = absurd (cc touched)
   mode_same port (Some m) is o touched =
       let same : mode_of p m h ≡ mode_of p m (filter (touches p o) h) =
-      sym (subst (λ k. mode_of p m (filter (touches p k) h) ≡ mode_of p m h) (number_in (first_machine p + m) o touched) (mode_thin p m h fine)) in
+      sym (subst (λ k. mode_of p m (filter (touches p k) h) ≡ mode_of p m h) (same_Some (first_machine p + m) o touched) (mode_thin p m h fine)) in
       rw is same
 
   pub modes_local : (a : Actor) (d : Deed) (event : Option ℕ) (o : ℕ) → touched_by p (noting a d event) ≡ Some o → modes_allow p h a d ≡ modes_allow p (filter (touches p o) h) a d
   modes_local a (deed.Switch m mode code) event o touched =
-      sym (subst (λ k. (code == switch_code p m (filter (touches p k) h)) ≡ (code == switch_code p m h)) (number_in (first_machine p + m) o touched) (ap (λ c. code == c) (code_thin p m h fine)))
+      sym (subst (λ k. (code == switch_code p m (filter (touches p k) h)) ≡ (code == switch_code p m h)) (same_Some (first_machine p + m) o touched) (ap (λ c. code == c) (code_thin p m h fine)))
   modes_local a (deed.Mode port mode) event o touched = ap (λ c. mode == c) (mode_same port (machine_of_port p port) refl o touched)
   modes_local (Machine m) (deed.Phase s) event o touched =
-      sym (subst (λ k. phase_after p m (filter (touches p k) h) (stage_of m (filter (touches p k) h)) s ≡ phase_after p m h (stage_of m h) s) (number_in (first_machine p + m) o touched)
+      sym (subst (λ k. phase_after p m (filter (touches p k) h) (stage_of m (filter (touches p k) h)) s ≡ phase_after p m h (stage_of m h) s) (same_Some (first_machine p + m) o touched)
       (phase_thin p m h fine mapping sound s))
   modes_local Env (deed.Phase s) event o touched = refl
   modes_local (Act k) (deed.Phase s) event o touched = refl
@@ -132,7 +134,7 @@ module _ (p : Plan) (mapping : Mapping) (h : Past) (sound : IsSound p mapping) (
   disabled_local e None is o touched = absurd (cc touched)
   disabled_local e (Some d) is o touched =
       let same : is_disabled_by p d h ≡ is_disabled_by p d (filter (touches p o) h) =
-      sym (subst (λ k. is_disabled_by p d (filter (touches p k) h) ≡ is_disabled_by p d h) (number_in (first_machine p + d.machine) o touched) (disabled_thin p d h fine)) in
+      sym (subst (λ k. is_disabled_by p d (filter (touches p k) h) ≡ is_disabled_by p d h) (same_Some (first_machine p + d.machine) o touched) (disabled_thin p d h fine)) in
       rw is same
 
   pub admission_local : (a : Actor) (d : Deed) (event : Option ℕ) (o : ℕ) → touched_by p (noting a d event) ≡ Some o → admission_allows p h event d ≡ admission_allows p (filter (touches p o) h) event d

@@ -1,5 +1,7 @@
 -- What was returned looks only at the entries that touch the server; and what calls are answered.
 use Rattle.std.proofs.Common.{◌≡◌, ℕ, ◌+◌, ℤ, Bool, true, false, if◌then◌else◌, refl, sym, ◌∙◌, ap, subst, List, [], ◌∷◌, Option, Some, None}
+use Rattle.std.proofs.lemmas.Bool.{and_parts, eqb-true}
+use Rattle.std.proofs.lemmas.Option.{same_Some}
 use Rattle.std.specs.Prelude.{filter}
 use Rattle.std.specs.List.{list_all}
 use Rattle.std.specs.Option.{option_or}
@@ -18,10 +20,9 @@ use Rattle.bus_semantics.specs.Objects.{first_server, server_object, object_of_k
 use Rattle.bus_semantics.specs.Calls.{is_request_at, serves, returned_by, returned_to, answer_to, result_of}
 use Rattle.bus_semantics.specs.Sound.{IsSound}
 use Rattle.bus_semantics.specs.Locality.{is_proper}
-use Rattle.bus_semantics.proofs.Thinning.{noting, differs, if_false, if_same, number_same, option_same, option_test, number_in, thin, fine_thin}
+use Rattle.bus_semantics.proofs.Thinning.{noting, differs, if_false, if_same, option_same, option_test, thin, fine_thin}
 use Rattle.bus_semantics.proofs.OneEvent.{invoked_serves, serves_invoked}
 use Rattle.bus_semantics.proofs.LocalServers.{start_named, start_owned, by_invoked, request_quiet, outstanding_thin}
-use Rattle.bus_semantics.proofs.Resting.{both_parts}
 
 key_same : (k j : ActKey) → same_key k j ≡ true → k ≡ j
 key_same k j = (same_key-Decides k j).0
@@ -38,7 +39,7 @@ module _ (p : Plan) (m : Mapping) (sound : IsSound p m) (s q : ℕ) (joined : se
   names_point e None value event o named = absurd (cc named)
   names_point e (Some r) value event o named =
       let by = start_named p (Act k) e r value event o in
-      let same : by.server ≡ s = number_in by.server s (sym by.joined ∙ subst (λ z. server_of p z ≡ Some s) (sym (number_same r q named)) joined) in
+      let same : by.server ≡ s = same_Some by.server s (sym by.joined ∙ subst (λ z. server_of p z ≡ Some s) (sym (eqb-true r q named)) joined) in
       invoked_serves p m sound e s k.runnable (by.kind ∙ ap Invoked same) (start_owned p k e (Some r) value event o)
 
   module _ (away : same_number (served_by p (Act k)) (Some s) ≡ false) where
@@ -60,7 +61,7 @@ module _ (p : Plan) (m : Mapping) (sound : IsSound p m) (s q : ℕ) (joined : se
 
     unserved : (h : Past) → list_all (is_proper p) h ≡ true → serves q k h ≡ false
     unserved [] fine = refl
-    unserved (n ∷ h) fine = let parts = both_parts (is_proper p n) (list_all (is_proper p) h) fine in
+    unserved (n ∷ h) fine = let parts = and_parts (is_proper p n) (list_all (is_proper p) h) fine in
         unserved_entry n.entry.actor n.entry.deed n.event h parts.0 (unserved h parts.1)
 
   module _ (home : served_by p (Act k) ≡ Some s) where

@@ -2,7 +2,8 @@
 use Rattle.std.proofs.Common.{◌≡◌, ℕ, zero, suc, ◌+◌, ℤ, Bool, true, false, ◌&&◌, ◌||◌, not, ◌==◌, if◌then◌else◌, refl, sym, ◌∙◌, ap, subst, List, [], ◌∷◌, ◌++◌, length, Option, Some, None}
 use Rattle.std.specs.Prelude.{filter, nat_lt, nat_le}
 use Rattle.std.specs.List.{list_all, slice_get}
-use Rattle.std.proofs.lemmas.Bool.{false≢true}
+use Rattle.std.proofs.lemmas.Bool.{and_parts, eqb-true, false≢true}
+use Rattle.std.proofs.lemmas.Option.{same_Some}
 use Rattle.rte_value.specs.declared.kinds.ActKey.{ActKey}
 use Rattle.rte_value.specs.Values.{words_of, same_number}
 use Rattle.bus_semantics.specs.declared.plan.EventKind.{EventKind}
@@ -18,8 +19,7 @@ use Rattle.bus_semantics.specs.Objects.{first_server, server_object, object_of_k
 use Rattle.bus_semantics.specs.Fitting.{start_fits, answer_fits, activation_fits, wish_fits, fits}
 use Rattle.bus_semantics.specs.Calls.{is_request_at, takes_reply_at, is_outstanding, counts_with, requests_of, is_start_of, starts_of, is_queue_full, ask_code, next_request, has_unstarted}
 use Rattle.bus_semantics.specs.Locality.{starts_its_own, is_proper}
-use Rattle.bus_semantics.proofs.Thinning.{noting, differs, if_false, number_same, option_same, option_test, number_in, thin, count_thin}
-use Rattle.bus_semantics.proofs.Resting.{both_parts}
+use Rattle.bus_semantics.proofs.Thinning.{noting, differs, if_false, option_same, option_test, thin, count_thin}
 
 -- ---- proper starts
 
@@ -36,13 +36,13 @@ by_server p k q ws e = absurd (false≢true e)
 answer_part : (p : Plan) (n : Noted) → is_proper p n ≡ true → answer_fits p n.entry.actor n.entry.deed ≡ true
 answer_part p n o =
     let wish = (if needs_event n.entry.deed then activation_fits p n.entry.actor else wish_fits p n.entry.actor (wanted_by 0 n.entry.deed)) in
-    (both_parts wish (answer_fits p n.entry.actor n.entry.deed) (both_parts (fits p n.entry) (starts_its_own p n.entry.actor n.entry.deed) o).0).1
+    (and_parts wish (answer_fits p n.entry.actor n.entry.deed) (and_parts (fits p n.entry) (starts_its_own p n.entry.actor n.entry.deed) o).0).1
 
 pub start_named : (p : Plan) (a : Actor) (e q : ℕ) (value : _) (event : Option ℕ) → is_proper p (noting a (deed.Start e (Some q) value) event) ≡ true → ByServer p (kind_of p e) q
 start_named p a e q value event o = by_server p (kind_of p e) q (words_of value) (answer_part p (noting a (deed.Start e (Some q) value) event) o)
 
 own_part : (p : Plan) (n : Noted) → is_proper p n ≡ true → starts_its_own p n.entry.actor n.entry.deed ≡ true
-own_part p n o = (both_parts (fits p n.entry) (starts_its_own p n.entry.actor n.entry.deed) o).1
+own_part p n o = (and_parts (fits p n.entry) (starts_its_own p n.entry.actor n.entry.deed) o).1
 
 -- an activation's start is by an event of its runnable
 pub start_owned : (p : Plan) (k : ActKey) (e : ℕ) (point : Option ℕ) (value : _) (event : Option ℕ) → is_proper p (noting (Act k) (deed.Start e point value) event) ≡ true → runnable_of_event p e ≡ Some k.runnable
@@ -80,7 +80,7 @@ module _ (p : Plan) (s : ℕ) where
     start_quiet (deed.Start e (Some q) value) a event o off =
         differs (same_number (object_of_kind p (kind_of p e)) (Some (first_server p + s))) (counts q) (λ c.
         let by = start_named p a e q value event o in
-        by_invoked e (by.kind ∙ ap Invoked (number_in by.server s (sym by.joined ∙ ours q c)))) off
+        by_invoked e (by.kind ∙ ap Invoked (same_Some by.server s (sym by.joined ∙ ours q c)))) off
     start_quiet (deed.Start e None value) a event o off = refl
     start_quiet d a event o off = refl
 
@@ -94,7 +94,7 @@ module _ (p : Plan) (s : ℕ) where
 
   module _ (q : ℕ) (joined : server_of p q ≡ Some s) where
     same_point : (r : ℕ) → (q == r) ≡ true → same_number (server_object p (server_of p r)) (Some (first_server p + s)) ≡ true
-    same_point r same = at_server r (subst (λ z. server_of p z ≡ Some s) (number_same q r same) joined)
+    same_point r same = at_server r (subst (λ z. server_of p z ≡ Some s) (eqb-true q r same) joined)
 
     pub request_quiet : (d : Deed) (a : Actor) (event : Option ℕ) → touches p (first_server p + s) (noting a d event) ≡ false → is_request_at q d ≡ false
     request_quiet (deed.Ask r value zero) a event off = differs (same_number (server_object p (server_of p r)) (Some (first_server p + s))) (q == r) (same_point r) off
@@ -113,7 +113,7 @@ module _ (p : Plan) (s : ℕ) where
 
     -- which points count with this one
     counted : (t : Option ℕ) → queue_of p s ≡ t → (r : ℕ) → counts_with p q r ≡ true → server_of p r ≡ Some s
-    counted None is r c = let same : (q == r) ≡ true = rw (joined, is) at c in subst (λ z. server_of p z ≡ Some s) (number_same q r same) joined
+    counted None is r c = let same : (q == r) ≡ true = rw (joined, is) at c in subst (λ z. server_of p z ≡ Some s) (eqb-true q r same) joined
     counted (Some most) is r c = let same : same_number (server_of p r) (Some s) ≡ true = rw (joined, is) at c in option_same (server_of p r) (Some s) same
 
     counts_ours : (r : ℕ) → counts_with p q r ≡ true → server_of p r ≡ Some s

@@ -4,7 +4,7 @@ use Rattle.std.specs.Prelude.{filter}
 use Rattle.std.specs.Cmp.{unsigned_Decides}
 use Rattle.std.specs.List.{list_all, list_any, slice_get}
 use Rattle.std.specs.Option.{option_or, option_map_or}
-use Rattle.std.proofs.lemmas.Bool.{false≢true}
+use Rattle.std.proofs.lemmas.Bool.{and_parts, false≢true}
 use Rattle.rte_value.specs.Values.{same_number}
 use Rattle.rte_value.specs.EqualKeys.{same_number-Decides}
 use Rattle.bus_semantics.specs.declared.entries.Actor.{Actor}
@@ -12,7 +12,6 @@ use Rattle.bus_semantics.specs.declared.entries.Deed.{Deed}
 use Rattle.bus_semantics.specs.Plan.{every_from}
 use Rattle.bus_semantics.specs.History.{Past, Noted, newest, count}
 use Rattle.bus_semantics.specs.Due.{follows_last}
-use Rattle.bus_semantics.proofs.Resting.{both_parts}
 
 -- ---- tests
 
@@ -39,9 +38,6 @@ pub if_same : {X : Type 0} (b : Bool) (x : X) → (if b then x else x) ≡ x
 if_same true x = refl
 if_same false x = refl
 
-pub number_same : (a b : ℕ) → (a == b) ≡ true → a ≡ b
-number_same a b = (unsigned_Decides a b).0
-
 pub same_test : (a : ℕ) → (a == a) ≡ true
 same_test a = (unsigned_Decides a a).1 refl
 
@@ -50,9 +46,6 @@ option_same a b = (same_number-Decides a b).0
 
 pub option_test : (a b : Option ℕ) → a ≡ b → same_number a b ≡ true
 option_test a b = (same_number-Decides a b).1
-
-pub number_in : (a b : ℕ) → Some a ≡ Some b → a ≡ b
-number_in a b e = cc
 
 -- ---- leaving entries out
 
@@ -68,7 +61,7 @@ module _ (keep ok : Noted → Bool) where
       → ((n : Noted) (h : Past) → ok n ≡ true → list_all ok h ≡ true → keep n ≡ false → F (n ∷ h) ≡ F h)
       → (h : Past) → list_all ok h ≡ true → F (filter keep h) ≡ F h
   thin F more none [] fine = refl
-  thin F more none (n ∷ h) fine = let parts = both_parts (ok n) (list_all ok h) fine in
+  thin F more none (n ∷ h) fine = let parts = and_parts (ok n) (list_all ok h) fine in
       let before = thin F more none h parts.1 in
       kept_so F n h (keep n) refl (λ e. more n h parts.0 parts.1 before) (λ e. before ∙ sym (none n h parts.0 parts.1 e))
 
@@ -108,12 +101,12 @@ every_same f g i (x ∷ xs) each =
 pub every_at : {X : Type 0} (f : ℕ → X → Bool) (i : ℕ) (xs : List X) → every_from i f xs ≡ true → (j k : ℕ) (x : X) → k ≡ i + j → slice_get xs j ≡ Some x → f k x ≡ true
 every_at f i [] all j k x at found = cc
 every_at f i (y ∷ xs) all zero k x at found =
-    let first : f i y ≡ true = (both_parts (f i y) (every_from (i + 1) f xs) all).0 in
+    let first : f i y ≡ true = (and_parts (f i y) (every_from (i + 1) f xs) all).0 in
     let here : k ≡ i = omega arith in
     let there : y ≡ x = cc in
     subst (λ n. f n x ≡ true) (sym here) (subst (λ z. f i z ≡ true) there first)
 every_at f i (y ∷ xs) all (suc j) k x at found =
-    every_at f (i + 1) xs (both_parts (f i y) (every_from (i + 1) f xs) all).1 j k x (omega arith) found
+    every_at f (i + 1) xs (and_parts (f i y) (every_from (i + 1) f xs) all).1 j k x (omega arith) found
 
 -- what is found where a test of it holds
 pub record Found (X : Type 0) (xs : List X) (i : ℕ) (test : X → Bool) : Type 0 where

@@ -1,6 +1,6 @@
 -- An interface is compatible with itself.
-use Rattle.std.proofs.Common.{◌≡◌, ℕ, List, [], ◌∷◌, length, zip, Bool, true, false, ◌&&◌, ◌||◌, bytes_eq, slice_get, is_some, Option, Some, None, refl, sym, ◌∙◌}
-use Rattle.std.proofs.lemmas.Bool.{eq-eqb, and_parts}
+use Rattle.std.proofs.Common.{◌≡◌, ℕ, List, [], ◌∷◌, length, zip, Bool, true, ◌&&◌, ◌||◌, bytes_eq, slice_get, is_some, Option, Some, None, refl, sym, ◌∙◌}
+use Rattle.std.proofs.lemmas.Bool.{eq-eqb, and_parts, or_right}
 use Rattle.std.proofs.lemmas.Bool.Decides.{Decides-int_eq}
 use Rattle.std.proofs.lemmas.Slice.Eq.{bytes_eq-Decides}
 use Rattle.std.specs.Cmp.Lexicographic.{pointwise}
@@ -24,10 +24,6 @@ use Rattle.compatibility.specs.Interfaces.{same_policy, same_direction, serves_e
 
 same_bytes : (xs : List ℕ) → bytes_eq xs xs ≡ true
 same_bytes xs = (bytes_eq-Decides xs xs).1 refl
-
-or_right : (a b : Bool) → b ≡ true → (a || b) ≡ true
-or_right true b is = refl
-or_right false b is = is
 
 module _ {X : Type 0} where
   all_wider : (g h : X → Bool) → ((x : X) → g x ≡ true → h x ≡ true) → (xs : List X) → list_all g xs ≡ true → list_all h xs ≡ true

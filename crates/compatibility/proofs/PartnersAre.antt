@@ -1,6 +1,6 @@
 -- Partners of an end are the ends that it is joined with.
 use Rattle.std.proofs.Common.{◌≡◌, ◌≢◌, List, [], ◌∷◌, map, filter, Bool, true, false, cond, ◌||◌, not, ◌⊎◌, inl, inr, ⊎_elim, refl, sym, ap, subst, ◌∙◌, true≢false}
-use Rattle.std.proofs.lemmas.Bool.{or_cases}
+use Rattle.std.proofs.lemmas.Bool.{or_cases, or_right}
 use Rattle.std.specs.List.{list_any}
 use Rattle.composition_flatten.specs.declared.flat.End.{End}
 use Rattle.composition_flatten.specs.declared.flat.Join.{Join}
@@ -112,8 +112,4 @@ pub joined_any : (f : Join → Bool) (joins : List Join) (p r : End) → IsJoine
 joined_any f [] p r h passes = absurd h
 joined_any f (j ∷ joins) p r h passes = ⊎_elim
     (λ here. ap (λ b. b || list_any f joins) ((λ t. f (record { provided = here.0 t; required = here.1 t })) ∙ passes))
-    (λ there. or_right (f j) (joined_any f joins p r there passes)) h
-  where
-    or_right : (b : Bool) {c : Bool} → c ≡ true → (b || c) ≡ true
-    or_right true is = refl
-    or_right false is = is
+    (λ there. or_right (f j) (list_any f joins) (joined_any f joins p r there passes)) h

@@ -1,7 +1,7 @@
 -- A required end is in a group of many to many exactly where one of its provided ends has several required ones, and one of
 -- those has several provided ones: a group in which that is nowhere so is a star.
 use Rattle.std.proofs.Common.{◌≡◌, ℕ, zero, suc, List, Bool, true, false, ◌&&◌, ◌↔◌, refl, sym, subst, ◌∙◌, true≢false}
-use Rattle.std.proofs.lemmas.Bool.{and_parts}
+use Rattle.std.proofs.lemmas.Bool.{and_from, and_parts, false_from_ne_true}
 use Rattle.std.specs.List.{list_any}
 use Rattle.composition_flatten.specs.declared.flat.End.{End}
 use Rattle.composition_flatten.specs.declared.flat.Join.{Join}
@@ -9,9 +9,6 @@ use Rattle.compatibility.specs.Groups.{IsJoined, Leads, HasRequired, HasProvided
 use Rattle.compatibility.specs.Joins.{same_end, providers, requirers, are_several, crowds, is_crowded, is_many_to_many}
 use Rattle.compatibility.proofs.Keeping.{same_end_is, same_end_refl}
 use Rattle.compatibility.proofs.PartnersAre.{one_provider, one_requirer, two_providers, two_requirers, any_joined, joined_any}
-
-both_true : (a b : Bool) → a ≡ true → b ≡ true → (a && b) ≡ true
-both_true a b x y = (λ t. x t && y t)
 
 module _ (joins : List Join) (e : End) where
   -- what a crowded provided end has
@@ -24,10 +21,10 @@ module _ (joins : List Join) (e : End) where
       (o.1, subst (λ q. IsJoined joins q o.1) same o.2, subst (λ q. are_several (requirers joins q) ≡ true) same counts.0, counts.1)
 
   has_crowded : (p r : End) → IsJoined joins p r → are_several (requirers joins p) ≡ true → are_several (providers joins r) ≡ true → is_crowded joins p ≡ true
-  has_crowded p r joined many several = joined_any (λ j. same_end j.provided p && crowds joins j) joins p r joined (both_true _ _ (same_end_refl p) (both_true _ _ many several))
+  has_crowded p r joined many several = joined_any (λ j. same_end j.provided p && crowds joins j) joins p r joined (and_from _ _ (same_end_refl p) (and_from _ _ many several))
 
   crowded_many : (p : End) → IsJoined joins p e → is_crowded joins p ≡ true → is_many_to_many joins e ≡ true
-  crowded_many p joined crowded = joined_any (λ j. same_end j.required e && is_crowded joins j.provided) joins p e joined (both_true _ _ (same_end_refl e) crowded)
+  crowded_many p joined crowded = joined_any (λ j. same_end j.required e && is_crowded joins j.provided) joins p e joined (and_from _ _ (same_end_refl e) crowded)
 
   many_crowded : is_many_to_many joins e ≡ true → (p : End) × IsJoined joins p e × (is_crowded joins p ≡ true)
   many_crowded h =
@@ -68,16 +65,12 @@ module _ (joins : List Join) (e : End) where
         let back_here = subst (λ x. IsJoined joins q x) (alone n before leads) back in
         one_requirer joins q (single q back_here) r e on back_here
 
-  is_false : (b : Bool) → ¬ (b ≡ true) → b ≡ false
-  is_false true h = absurd (h refl)
-  is_false false h = refl
-
   -- a group in which nothing is crowded nearby is one of the stars
   none_nearby : is_many_to_many joins e ≡ false → ¬ IsManyToMany joins e
   none_nearby none (provided, required) = by (list_any (λ j. same_end j.required e && are_several (requirers joins j.provided)) joins) refl
     where
       quiet : (p : End) → IsJoined joins p e → are_several (requirers joins p) ≡ true → (r : End) → IsJoined joins p r → are_several (providers joins r) ≡ false
-      quiet p joined many r there = is_false (are_several (providers joins r)) (λ several. true≢false (sym (crowded_many p joined (has_crowded p r there many several)) ∙ none))
+      quiet p joined many r there = false_from_ne_true (are_several (providers joins r)) (λ several. true≢false (sym (crowded_many p joined (has_crowded p r there many several)) ∙ none))
 
       by : (b : Bool) → list_any (λ j. same_end j.required e && are_several (requirers joins j.provided)) joins ≡ b → ⊥
       by true some =
@@ -86,8 +79,8 @@ module _ (joins : List Join) (e : End) where
           let joined = subst (λ r. IsJoined joins o.0 r) (same_end_is o.1 e parts.0) o.2 in
           provided.2 (one_middle o.0 joined (quiet o.0 joined parts.1) provided.0 provided.3 ∙ sym (one_middle o.0 joined (quiet o.0 joined parts.1) provided.1 provided.4))
       by false all =
-          let single : (p : End) → IsJoined joins p e → are_several (requirers joins p) ≡ false = λ p joined. is_false (are_several (requirers joins p))
-          (λ many. true≢false (sym (joined_any (λ j. same_end j.required e && are_several (requirers joins j.provided)) joins p e joined (both_true _ _ (same_end_refl e) many)) ∙ all)) in
+          let single : (p : End) → IsJoined joins p e → are_several (requirers joins p) ≡ false = λ p joined. false_from_ne_true (are_several (requirers joins p))
+          (λ many. true≢false (sym (joined_any (λ j. same_end j.required e && are_several (requirers joins j.provided)) joins p e joined (and_from _ _ (same_end_refl e) many)) ∙ all)) in
           required.2 (alone single required.3.0 required.0 required.3.1 ∙ sym (alone single required.4.0 required.1 required.4.1))
 
   pub many_to_many_is : is_many_to_many joins e ≡ true ↔ IsManyToMany joins e

@@ -1,5 +1,6 @@
 -- The links that assemblies make.
 use Rattle.std.proofs.Common.{◌≡◌, ℕ, List, [], length, Bool, true, false, sym, subst, ap, arith}
+use Rattle.std.proofs.lemmas.Option.{slice_get_past}
 use Rattle.description_types.specs.declared.description.Connector.{Connector}
 use Rattle.description_types.specs.declared.description.Connector.TheVariants.{Assembly}
 use Rattle.description_types.specs.declared.description.Description.{Description}
@@ -12,7 +13,6 @@ use Rattle.end_crossing.specs.PortLinks.{IsCrossLink}
 use Rattle.composition_flatten.specs.Links.{IsAssemblyLink, IsOwnLink}
 use Rattle.composition_tables.specs.Growing.{Grown}
 use Rattle.composition_tables.specs.Members.{Among}
-use Rattle.composition_tables.proofs.Members.{get_past}
 use Rattle.composition_tables.proofs.Growth.{grown_same, grown_none}
 use Rattle.std.specs.Option.{option_map_or}
 use Rattle.description_types.specs.declared.description.Composition.{Composition}
@@ -32,4 +32,4 @@ pub no_links : (d : Description) (c : ℕ) (links : List Link) → c ≡ length 
 no_links d c links is empty = subst (λ l. Grown (IsOwnLink d 0 c) [] l false) (sym empty) (grown_none (IsOwnLink d 0 c) [] (λ x a. subst (Among a.0) none a.1))
   where
     none : connectors_of d c ≡ []
-    none = ap (λ o. option_map_or (λ (x : Composition). x.connectors) o []) (get_past d.compositions c (omega (arith, is)))
+    none = ap (λ o. option_map_or (λ (x : Composition). x.connectors) o []) (slice_get_past d.compositions c (omega (arith, is)))

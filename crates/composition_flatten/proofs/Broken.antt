@@ -3,7 +3,7 @@ use Rattle.std.proofs.Common.{◌≡◌, ℕ, ◌+◌, ◌<◌, ◌≤◌, List,
 use Rattle.std.proofs.lemmas.Bool.{or_cases, or_parts, not-true, not-false, cases_lt}
 use Rattle.std.specs.Option.{option_map_or}
 use Rattle.std.proofs.lemmas.List.{map_more}
-use Rattle.std.proofs.lemmas.Option.{get_or_from_slice_get}
+use Rattle.std.proofs.lemmas.Option.{get_or_from_slice_get, slice_get_past, slice_get_within}
 use Rattle.description_types.specs.declared.description.Connector.{Connector}
 use Rattle.description_types.specs.declared.description.Description.{Description}
 use Rattle.composition_flatten.specs.declared.wiring.Key.{Key}
@@ -11,7 +11,7 @@ use Rattle.composition_tables.specs.Connectors.{connectors_of, lets_join, IsBrok
 use Rattle.composition_tables.specs.Firsts.{IsFirst}
 use Rattle.composition_flatten.specs.Keys.{key_of}
 use Rattle.composition_tables.specs.Members.{Among}
-use Rattle.composition_tables.proofs.Members.{left, right, cases, get_lt, get_past}
+use Rattle.composition_tables.proofs.Members.{left, right, cases}
 use Rattle.composition_flatten.proofs.SameKeys.{same_connector}
 
 mapped : {X Y : Type 0} (f : X → Y) (x : X) (xs : List X) → Among x xs → Among (f x) (map f xs)
@@ -64,7 +64,7 @@ module _ (d : Description) where
     where
       absent : length d.compositions ≤ c → c < length d.compositions
       absent past =
-          let none : slice_get (connectors_of d c) m ≡ None = ap (λ o. slice_get (option_map_or (λ x. x.connectors) o []) m) (get_past d.compositions c past) in
+          let none : slice_get (connectors_of d c) m ≡ None = ap (λ o. slice_get (option_map_or (λ x. x.connectors) o []) m) (slice_get_past d.compositions c past) in
           let no : None ≡ Some x = sym none ∙ some in cc
 
   pub none_broken_more : (i : ℕ) (found : Option ℕ) → ((c m : ℕ) → c < i → ¬ IsBrokenConnector d c m) → IsFirst (IsBrokenConnector d i) (length (connectors_of d i)) found → found ≡ None
@@ -74,7 +74,7 @@ module _ (d : Description) where
       (λ (now : i ≤ c).
       let same : c ≡ i = omega arith in
       let here : IsFirst (IsBrokenConnector d i) (length (connectors_of d i)) None = subst (IsFirst (IsBrokenConnector d i) (length (connectors_of d i))) none first in
-      here m (subst (λ k. m < length (connectors_of d k)) same (get_lt (connectors_of d c) m broken.0 broken.1)) (subst (λ k. IsBrokenConnector d k m) same broken))
+      here m (subst (λ k. m < length (connectors_of d k)) same (slice_get_within (connectors_of d c) m broken.0 broken.1)) (subst (λ k. IsBrokenConnector d k m) same broken))
       (cases_lt c i)
 
   pub none_broken : (i : ℕ) → ((c m : ℕ) → c < i → ¬ IsBrokenConnector d c m) → length d.compositions ≤ i → (c m : ℕ) → ¬ IsBrokenConnector d c m

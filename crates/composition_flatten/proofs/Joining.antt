@@ -1,5 +1,6 @@
 -- The links of a description are its joins.
 use Rattle.std.proofs.Common.{◌≡◌, ℕ, suc, ◌+◌, ◌-◌, ◌^◌, ◌≤◌, min, List, [], ◌∷◌, length, slice_get, true, Option, Some, None, option_map, option_and_then, inl, inr, ⊎_elim, refl, sym, ap, subst, ◌∙◌, arith, true≢false}
+use Rattle.std.proofs.lemmas.Option.{slice_get_within}
 use Rattle.description_types.specs.declared.component.PortKind.{PortKind}
 use Rattle.description_types.specs.declared.component.PortKind.TheVariants.{Provided, Required}
 use Rattle.description_types.specs.declared.description.Connector.{Connector}
@@ -29,7 +30,6 @@ use Rattle.composition_tables.specs.Members.{Among}
 use Rattle.composition_tables.specs.Paths.{type_at}
 use Rattle.composition_flatten.proofs.Chains.{IsEndAt, number_exact, ends_sound}
 use Rattle.composition_tables.proofs.Following.{inner_cases}
-use Rattle.composition_tables.proofs.Members.{get_lt}
 use Rattle.composition_flatten.proofs.Naming.{placed_size}
 use Rattle.composition_flatten.proofs.Placing.{segment_whole, segment_inner, place_once}
 use Rattle.composition_flatten.proofs.Standing.{StandsAt, root_segment, placed_type, node_stands}
@@ -110,7 +110,7 @@ module _ (d : Description) (short : length (places d) ≤ 1024) (shallow : ¬ Is
         (step_on d (Composition d.root) (Composition node.composition) t.0 inner.prototype path at.typed t.1) segment (subst (λ k. Among x (ends d node.depth t.0 k inner.port)) exact t.2) in
         let e = r.2 in
         let whole = at.segment.at e.number (record { path = r.0.path; component = e.component }) e.place in
-        let within = get_lt (places d) (node.first + e.number) (record { path = r.0.path; component = e.component }) whole in
+        let within = slice_get_within (places d) (node.first + e.number) (record { path = r.0.path; component = e.component }) whole in
         let number_is : min (node.first + e.number) (2 ^ 32 - 1) ≡ node.first + e.number = omega arith in
         record {
           stand = r.0;

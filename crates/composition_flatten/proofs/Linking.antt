@@ -2,6 +2,7 @@
 use Rattle.std.proofs.Common.{◌≡◌, ℕ, suc, ◌+◌, ◌-◌, ◌^◌, ◌<◌, ◌≤◌, min, List, [], ◌∷◌, ◌++◌, length, slice_get, Option, Some, None, option_and_then, inl, inr, ⊎_elim, refl, sym, ap, subst, ◌∙◌, arith, append_assoc}
 use Rattle.std.proofs.lemmas.Bool.{and_parts, cases_lt}
 use Rattle.std.proofs.lemmas.List.{length-append}
+use Rattle.std.proofs.lemmas.Option.{slice_get_within}
 use Rattle.std.specs.Option.{option_map_or}
 use Rattle.description_types.specs.declared.component.PortKind.{PortKind}
 use Rattle.description_types.specs.declared.component.PortKind.TheVariants.{Provided, Required}
@@ -29,7 +30,6 @@ use Rattle.composition_tables.specs.Paths.{type_at}
 use Rattle.composition_flatten.proofs.Chains.{IsEndAt, number_exact, ends_complete, below_path, inner_typed}
 use Rattle.composition_tables.proofs.Deepest.{through_none}
 use Rattle.composition_flatten.proofs.Joining.{items_some, provided_some, required_some, once, InstanceAt, instance_at}
-use Rattle.composition_tables.proofs.Members.{get_lt}
 use Rattle.composition_flatten.proofs.Naming.{placed_size}
 use Rattle.composition_flatten.proofs.Placing.{Segment, segment_whole, segment_inner, place_once}
 use Rattle.composition_flatten.proofs.Standing.{root_segment, node_at, local_place, has_size}
@@ -79,7 +79,7 @@ module _ (d : Description) (short : length (places d) ≤ 1024) (shallow : ¬ Is
         let place : slice_get local p.0 ≡ Some (record { path = s.path; component = instance.component }) = p.1 ∙ ap (λ l. Some (record { path = l; component = instance.component })) (sym s_path) in
         let e = end_at local local_short p.0 instance.component s kind place instance.stands some in
         let whole = segment.at p.0 (record { path = s.path; component = instance.component }) place in
-        let within = get_lt (places d) (first + p.0) (record { path = s.path; component = instance.component }) whole in
+        let within = slice_get_within (places d) (first + p.0) (record { path = s.path; component = instance.component }) whole in
         let number_is : number ≡ first + p.0 = once d short shallow number (first + p.0) (record { path = s.path; component = instance.component }) (record { path = s.path; component = instance.component }) instance.place whole refl in
         let exact_number : min (first + p.0) (2 ^ 32 - 1) ≡ first + p.0 = omega arith in
         let t = inner_typed d composition (as_inner prototype upper) k port_kind in

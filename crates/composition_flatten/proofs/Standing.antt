@@ -2,6 +2,7 @@
 use Rattle.std.proofs.Common.{◌≡◌, ℕ, zero, suc, ◌+◌, ◌<◌, ◌≤◌, List, [], ◌∷◌, ◌++◌, length, slice_get, Some, option_and_then, inl, inr, ⊎_elim, refl, sym, ap, subst, ◌∙◌, arith}
 use Rattle.std.proofs.lemmas.Bool.{cases_lt}
 use Rattle.std.proofs.lemmas.List.{length-append, append-nil}
+use Rattle.std.proofs.lemmas.Option.{slice_get_within}
 use Rattle.description_types.specs.declared.description.Description.{Description}
 use Rattle.description_types.specs.declared.description.Prototype.{Prototype}
 use Rattle.description_types.specs.declared.description.PrototypeType.TheVariants.{Component, Composition}
@@ -13,7 +14,7 @@ use Rattle.composition_tables.specs.Paths.{prototypes_of, type_in, type_at}
 use Rattle.composition_flatten.proofs.Chains.{number_exact}
 use Rattle.composition_tables.proofs.Deepest.{path_on}
 use Rattle.composition_tables.proofs.Following.{sum_zero}
-use Rattle.composition_tables.proofs.Members.{get_lt, get_some}
+use Rattle.composition_tables.proofs.Members.{get_some}
 use Rattle.composition_flatten.proofs.Naming.{placed_size}
 use Rattle.composition_flatten.proofs.Placing.{Segment, segment_whole, segment_inner, placed, place_of}
 use Rattle.composition_tables.proofs.Steps.{step_is, step_on, last_step}
@@ -98,6 +99,6 @@ module _ (d : Description) where
     pub has_size : (rest path : List ℕ) (c n k : ℕ) → type_at d (Composition d.root) path ≡ Some (Composition c) → length path + n ≡ 8 → type_at d (Composition d.root) (rest ++ path) ≡ Some (Component k) → size d n c ≡ 0 → ⊥
     has_size rest path c n k typed deep typed_below none =
         let p = local_place rest path c n k typed deep typed_below in
-        let within = get_lt (places_below d n c path) p.0 (record { path = rest ++ path; component = k }) p.1 in
+        let within = slice_get_within (places_below d n c path) p.0 (record { path = rest ++ path; component = k }) p.1 in
         let long = placed_size d n c path in
         omega arith

@@ -2,6 +2,7 @@
 use Rattle.std.proofs.Common.{◌≡◌, ℕ, zero, suc, ◌+◌, ◌-◌, ◌*◌, ◌^◌, ◌<◌, ◌≤◌, min, List, [], ◌∷◌, length, map, slice_get, Bool, true, false, Option, Some, None, option_map, ◌⊎◌, inl, inr, ⊎_elim, ◌↔◌, refl, sym, ap, subst, ◌∙◌, arith, true≢false}
 use Rattle.std.proofs.lemmas.Bool.{cases_lt}
 use Rattle.std.proofs.lemmas.List.{length-map}
+use Rattle.std.proofs.lemmas.Option.{slice_get_within}
 use Rattle.description_types.specs.declared.component.Port.{Port}
 use Rattle.description_types.specs.declared.component.PortKind.{PortKind}
 use Rattle.description_types.specs.declared.component.PortKind.TheVariants.{Provided, Required}
@@ -28,7 +29,7 @@ use Rattle.composition_tables.specs.Members.{Among, AllApart}
 use Rattle.composition_tables.proofs.Following.{inner_cases}
 use Rattle.composition_tables.proofs.Growth.{grown_same, grown_none, grown_then, grown_stop}
 use Rattle.end_crossing.proofs.SamePorts.{cross_same}
-use Rattle.composition_tables.proofs.Members.{unflat, get_lt}
+use Rattle.composition_tables.proofs.Members.{unflat}
 
 -- how high numbers go
 abbrev IsLow : ℕ → Owner → Type 0
@@ -154,7 +155,7 @@ module _ (d : Description) where
   outer_within port x h = by (slice_get (ports_of d (Composition d.root)) port) refl
     where
       by : (o : Option Port) → slice_get (ports_of d (Composition d.root)) port ≡ o → port < length (ports_of d (Composition d.root))
-      by (Some p) some = get_lt (ports_of d (Composition d.root)) port p some
+      by (Some p) some = slice_get_within (ports_of d (Composition d.root)) port p some
       by None none = absurd (subst (λ o. outer_link (option_map (λ (p : Port). p.kind) o) d (outer_ends (interface_of d (Composition d.root) port) port) (ends d 8 (Composition d.root) 0 port) x) none h)
 
   pub outer_all : (count port : ℕ) (before after : List Link) → count ≡ length (ports_of d (Composition d.root)) → count ≤ port

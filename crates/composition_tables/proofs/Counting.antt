@@ -1,7 +1,7 @@
 -- Counts of instances, capped.
 use Rattle.std.proofs.Common.{◌≡◌, ℕ, suc, ◌+◌, ◌<◌, min, List, [], ◌∷◌, length, get_or, slice_get, slice_index, drop, map, Option, Some, None, Vec, subst, ◌++◌, ⊎_elim, refl, sym, ap, ◌∙◌, arith, ◌≤◌}
 use Rattle.std.proofs.lemmas.List.{at_drop_more, get_or-map, get_or_past, length-map}
-use Rattle.std.proofs.lemmas.Option.{get_or_from_slice_get}
+use Rattle.std.proofs.lemmas.Option.{get_or_from_slice_get, slice_get_within}
 use Rattle.std.specs.Global.{Global}
 use Rattle.std.specs.Option.{option_map_or}
 use Rattle.description_types.specs.declared.description.Composition.{Composition as CompositionType}
@@ -12,7 +12,7 @@ use Rattle.description_types.specs.declared.description.PrototypeType.TheVariant
 use Rattle.composition_tables.specs.Places.{size, size_of}
 use Rattle.composition_tables.specs.Counts.{AreCounts, count_for, IsCounted, count_in}
 use Rattle.composition_tables.specs.Members.{sum_of}
-use Rattle.composition_tables.proofs.Members.{get_lt, past_end, get_push}
+use Rattle.composition_tables.proofs.Members.{past_end, get_push}
 
 pub capped_more : (total here rest whole after : ℕ) → min (total + (here + rest)) 1025 ≡ whole → after ≡ min (total + here) 1025 → min (after + rest) 1025 ≡ whole
 capped_more total here rest whole after is e = omega arith
@@ -41,7 +41,7 @@ module _ (d : Description) (n : ℕ) (counts : List ℕ) (are : AreCounts d n co
           ap (λ xs. slice_index xs c) is ∙ get_or_past (map (count_for counts) d.compositions) c 0 (omega (arith, length-map d.compositions (count_for counts)))
           ∙ sym (ap (λ o. min (sum_of (λ p. size_of (size d n) p.of_type) (option_map_or (λ x. x.prototypes) o [])) 1025) none)
       by (Some x) some =
-          let within = get_lt d.compositions c x some in
+          let within = slice_get_within d.compositions c x some in
           ap (λ xs. slice_index xs c) is ∙ get_or-map (count_for counts) d.compositions c x 0 within ∙ ap (count_for counts) (get_or_from_slice_get d.compositions c x x some)
           ∙ sums_capped x.prototypes
           ∙ sym (ap (λ o. min (sum_of (λ p. size_of (size d n) p.of_type) (option_map_or (λ x. x.prototypes) o [])) 1025) some)

@@ -161,20 +161,10 @@ module _ {X : Type 0} where
   get_some (y ∷ xs) zero x h = inl cc
   get_some (y ∷ xs) (suc k) x h = inr (get_some xs k x h)
 
-  pub get_lt : (xs : List X) (k : ℕ) (x : X) → slice_get xs k ≡ Some x → k < length xs
-  get_lt [] k x h = cc
-  get_lt (y ∷ xs) zero x h = omega arith
-  get_lt (y ∷ xs) (suc k) x h = omega (arith, get_lt xs k x h)
-
   pub past_end : (xs : List X) (k : ℕ) → slice_get xs k ≡ None → length xs ≤ k
   past_end [] k h = omega arith
   past_end (y ∷ xs) zero h = cc
   past_end (y ∷ xs) (suc k) h = let rest = past_end xs k h in omega arith
-
-  pub get_past : (xs : List X) (k : ℕ) → length xs ≤ k → slice_get xs k ≡ None
-  get_past [] k h = refl
-  get_past (y ∷ xs) zero h = absurd (omega arith)
-  get_past (y ∷ xs) (suc k) h = get_past xs k (omega arith)
 
 -- tests of a list
 module _ {X : Type 0} (test : X → Bool) where

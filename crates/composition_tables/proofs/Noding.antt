@@ -1,6 +1,7 @@
 -- The compositions that stand in a description, listed.
 use Rattle.std.proofs.Common.{◌≡◌, ℕ, suc, ◌+◌, ◌<◌, ◌≤◌, min, List, [], ◌∷◌, ◌++◌, length, Vec, Some, ◌⊎◌, inl, inr, ⊎_elim, ◌↔◌, sym, ap, subst, ◌∙◌, arith}
 use Rattle.std.proofs.lemmas.Bool.{cases_lt}
+use Rattle.std.proofs.lemmas.Option.{slice_get_within}
 use Rattle.std.specs.Global.{Global}
 use Rattle.description_types.specs.declared.description.Description.{Description}
 use Rattle.description_types.specs.declared.description.PrototypeType.{PrototypeType}
@@ -12,13 +13,13 @@ use Rattle.composition_tables.specs.Places.{size}
 use Rattle.composition_tables.specs.Nodes.{IsNode, IsInnerNode}
 use Rattle.composition_tables.specs.Members.{Among}
 use Rattle.composition_tables.specs.Paths.{prototypes_of, type_in}
-use Rattle.composition_tables.proofs.Members.{left, right, cases, get_lt}
+use Rattle.composition_tables.proofs.Members.{left, right, cases}
 use Rattle.composition_tables.proofs.Counting.{counted}
 use Rattle.composition_tables.proofs.Steps.{step_is}
 
 module _ (d : Description) where
   pub type_declared : (c q : ℕ) (t : PrototypeType) → type_in d (Composition c) q ≡ Some t → q < length (prototypes_of d c)
-  type_declared c q t is = let p = step_is d c q t is in get_lt (prototypes_of d c) q p.0 p.1
+  type_declared c q t is = let p = step_is d c q t is in slice_get_within (prototypes_of d c) q p.0 p.1
 
   module _ (n c first q held : ℕ) (typed : type_in d (Composition c) q ≡ Some (Composition held)) (x : Node) where
     held_is : (e : ℕ) → type_in d (Composition c) q ≡ Some (Composition e) → e ≡ held

@@ -2,7 +2,7 @@
 use Rattle.std.proofs.Common.{◌≡◌, ℕ, ◌+◌, ◌-◌, ◌<◌, ◌≤◌, List, [], ◌∷◌, length, get_or, slice_get, Bool, true, false, cond, nat_eq, nat_lt, Some, None, option_and_then, ⊎_elim, ◌↔◌, refl, sym, ap, subst, ◌∙◌, arith}
 use Rattle.std.proofs.lemmas.Bool.{ltb-true, lt-ltb, cases_lt}
 use Rattle.std.proofs.lemmas.Map.Steps.{length-le_from_distinct_below}
-use Rattle.std.proofs.lemmas.Option.{get_or_from_slice_get}
+use Rattle.std.proofs.lemmas.Option.{get_or_from_slice_get, slice_get_within}
 use Rattle.std.specs.List.{IsDistinct}
 use Rattle.description_types.specs.declared.description.Description.{Description}
 use Rattle.description_types.specs.declared.description.PrototypeType.{PrototypeType}
@@ -10,7 +10,7 @@ use Rattle.description_types.specs.declared.description.PrototypeType.TheVariant
 use Rattle.indexmap.specs.IndexSet.{insert_all}
 use Rattle.composition_tables.specs.Members.{Among}
 use Rattle.composition_tables.specs.Paths.{prototypes_of, type_in, type_at, held_by, declared_in, declared_composition, IsReached}
-use Rattle.composition_tables.proofs.Members.{place, pick, unpick, found, numbers_keep, numbers_have, numbers_only, all_stay, get_some, get_lt, past_end}
+use Rattle.composition_tables.proofs.Members.{place, pick, unpick, found, numbers_keep, numbers_have, numbers_only, all_stay, get_some, past_end}
 use Rattle.composition_tables.proofs.Steps.{step_is, step_of, last_step, holder_declared}
 
 -- what a declared composition of a prototype is
@@ -65,7 +65,7 @@ module _ (d : Description) where
     pub search_goes : (keys after : List ℕ) (next holder : ℕ) → Search keys next → slice_get keys next ≡ Some holder → after ≡ insert_all nat_eq keys (held_by d holder)
         → Search after (next + 1)
     search_goes keys after next holder s some is =
-        let within = get_lt keys next holder some in
+        let within = slice_get_within keys next holder some in
         let here : get_or keys next 0 ≡ holder = get_or_from_slice_get keys next holder 0 some in
         subst (λ ks. Search ks (next + 1)) (sym is) (record {
           has = λ e h. numbers_keep (held_by d holder) keys e (s.has e h);
@@ -98,6 +98,6 @@ module _ (d : Description) where
     pub search_shrinks : (keys : List ℕ) (next holder : ℕ) → Search keys next → slice_get keys next ≡ Some holder → IsDistinct nat_eq keys
         → length d.compositions - (next + 1) < length d.compositions - next
     search_shrinks keys next holder s some apart =
-        let within = get_lt keys next holder some in
+        let within = slice_get_within keys next holder some in
         let few : length keys ≤ length d.compositions = length-le_from_distinct_below keys (length d.compositions) apart (λ e h. (s.sound e (found e keys h)).3) in
         omega arith

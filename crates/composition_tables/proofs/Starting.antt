@@ -1,5 +1,6 @@
 -- How many instances stand before those of a prototype.
 use Rattle.std.proofs.Common.{◌≡◌, ℕ, zero, suc, ◌+◌, ◌<◌, ◌≤◌, min, List, [], ◌∷◌, ◌++◌, length, map, take, slice_get, slice_index, Vec, Option, Some, None, option_map, ⊎_elim, refl, sym, ap, subst, ◌∙◌, arith, zero-add}
+use Rattle.std.proofs.lemmas.Option.{slice_get-map}
 use Rattle.std.specs.Global.{Global}
 use Rattle.std.specs.Option.{option_map_or}
 use Rattle.description_types.specs.declared.description.Composition.{Composition as CompositionType}
@@ -13,11 +14,6 @@ use Rattle.composition_tables.specs.Members.{sum_of}
 use Rattle.composition_tables.specs.Trees.{running, starts_for, items_of, start_in, AreStarts}
 use Rattle.composition_tables.proofs.Counting.{size_capped}
 use Rattle.composition_tables.proofs.Members.{get_push}
-
-pub get_map : {X Y : Type 0} (f : X → Y) (xs : List X) (i : ℕ) → slice_get (map f xs) i ≡ option_map f (slice_get xs i)
-get_map f [] i = refl
-get_map f (x ∷ xs) zero = refl
-get_map f (x ∷ xs) (suc i) = get_map f xs i
 
 -- what has run so far
 ran : (count real : PrototypeType → ℕ) → ((t : PrototypeType) → count t ≡ min (real t) 1025) → (ps : List Prototype) (total : ℕ) (q : ℕ) → total ≤ 1025 → q < length ps
@@ -34,7 +30,7 @@ module _ (d : Description) (n : ℕ) (counts : List ℕ) (are : AreCounts d n co
   are_starts starts is c q within = by (slice_get d.compositions c) refl
     where
       same : option_map items_of (slice_get starts c) ≡ option_map (starts_for counts) (slice_get d.compositions c)
-      same = sym (get_map items_of starts c) ∙ ap (λ l. slice_get l c) is ∙ get_map (starts_for counts) d.compositions c
+      same = sym (slice_get-map items_of starts c) ∙ ap (λ l. slice_get l c) is ∙ slice_get-map (starts_for counts) d.compositions c
 
       by : (o : Option CompositionType) → slice_get d.compositions c ≡ o → start_in starts c q ≡ min (offset d n c q) 1025
       by None none =

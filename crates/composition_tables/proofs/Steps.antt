@@ -1,6 +1,7 @@
 -- Steps of a path.
 use Rattle.std.proofs.Common.{◌≡◌, ℕ, ◌<◌, ◌≤◌, List, [], ◌∷◌, length, slice_get, Option, Some, None, option_map, option_and_then, ⊎_elim, refl, sym, ap, ◌∙◌}
 use Rattle.std.proofs.lemmas.Bool.{cases_lt}
+use Rattle.std.proofs.lemmas.Option.{slice_get_past}
 use Rattle.std.specs.Option.{option_map_or}
 use Rattle.description_types.specs.declared.description.Description.{Description}
 use Rattle.description_types.specs.declared.description.Prototype.{Prototype}
@@ -8,7 +9,7 @@ use Rattle.description_types.specs.declared.description.PrototypeType.{Prototype
 use Rattle.description_types.specs.declared.description.PrototypeType.TheVariants.{Component, Composition}
 use Rattle.composition_tables.specs.Members.{Among}
 use Rattle.composition_tables.specs.Paths.{prototypes_of, type_in, type_at}
-use Rattle.composition_tables.proofs.Members.{place, some_get, get_past}
+use Rattle.composition_tables.proofs.Members.{place, some_get}
 
 module _ (d : Description) where
   -- the type in a composition is that of one of its prototypes
@@ -32,7 +33,7 @@ module _ (d : Description) where
       absent : length d.compositions ≤ h → h < length d.compositions
       absent past =
           let none : type_in d (Composition h) q ≡ None =
-          ap (λ o. option_map (λ (p : Prototype). p.of_type) (slice_get (option_map_or (λ x. x.prototypes) o []) q)) (get_past d.compositions h past) in
+          ap (λ o. option_map (λ (p : Prototype). p.of_type) (slice_get (option_map_or (λ x. x.prototypes) o []) q)) (slice_get_past d.compositions h past) in
           let no : None ≡ Some t = sym none ∙ is in cc
 
   pub step_on : (t u v : PrototypeType) (q : ℕ) (path : List ℕ) → type_at d t path ≡ Some u → type_in d u q ≡ Some v → type_at d t (q ∷ path) ≡ Some v

@@ -1,9 +1,9 @@
 -- The entry of a wish of the environment keeps a node lawful.
-use Rattle.std.proofs.Common.{◌≡◌, ◌≢◌, ◌<◌, ◌+◌, ℕ, suc, Bool, true, false, ◌&&◌, if◌then◌else◌, refl, sym, ◌∙◌, ap, subst, arith, List, ◌∷◌, length, set, get_or, Option, Some, None}
+use Rattle.std.proofs.Common.{◌≡◌, ◌≢◌, ◌<◌, ◌+◌, ℕ, suc, Bool, true, false, if◌then◌else◌, refl, sym, ◌∙◌, ap, subst, arith, List, ◌∷◌, length, set, get_or, Option, Some, None}
 use Rattle.std.specs.Prelude.{◌==◌, IfSome, unwrap_or}
 use Rattle.std.specs.List.{slice_get}
 use Rattle.std.specs.Cmp.{unsigned_Decides}
-use Rattle.std.proofs.lemmas.Bool.{false≢true}
+use Rattle.std.proofs.lemmas.Bool.{and_parts, false≢true}
 use Rattle.std.proofs.lemmas.List.{length-set}
 use Rattle.rte_value.specs.Values.{same_number}
 use Rattle.bus_semantics.specs.declared.entries.Actor.{Actor}
@@ -32,10 +32,6 @@ use Rattle.core_turn.specs.Standing.{CoreStands}
 use Rattle.core_runtime.specs.Nodes.{IsNode}
 use Rattle.core_runtime.specs.Watching.{Touches}
 use Rattle.core_runtime.proofs.Places.{Placed, here, there, placed, found_at}
-
-both : (a b : Bool) → (a && b) ≡ true → (a ≡ true) × (b ≡ true)
-both true b e = (refl, e)
-both false b e = absurd (false≢true e)
 
 -- ---- what the environment may want
 
@@ -85,7 +81,7 @@ module _ {p : Plan} {m : Mapping} {t : TaskSet} {cores : List CoreState} {object
   pub is_there : TouchedLaw → object < length objects
   is_there law =
       let below : object < p.objects = subst (λ o. IfSome o (IsObject p)) (sym touching) (law p m Env w node.built.sound may_want) in
-      let counted : p.objects ≡ clock p + 1 = (unsigned_Decides p.objects (clock p + 1)).0 (both (p.objects == clock p + 1) _ node.counted.counted).0 in
+      let counted : p.objects ≡ clock p + 1 = (unsigned_Decides p.objects (clock p + 1)).0 (and_parts (p.objects == clock p + 1) _ node.counted.counted).0 in
       let count : length objects ≡ suc (clock p) = node.planned.count in
       omega arith
 
@@ -148,7 +144,7 @@ module _ {p : Plan} {m : Mapping} {t : TaskSet} {cores : List CoreState} {object
 
         may_follow : MayFollow p h e
         may_follow = record {
-          fit = (both (fits p e) (starts_its_own p e.actor e.deed) follows.proper).0;
+          fit = (and_parts (fits p e) (starts_its_own p e.actor e.deed) follows.proper).0;
           actor = subst (λ a. follows_program p h a e.deed ≡ true) (sym by_environment) refl;
           answers = whole p m h e object node.built.sound lawful.legal follows;
         }

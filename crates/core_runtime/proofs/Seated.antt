@@ -7,14 +7,11 @@ use Rattle.std.specs.List.{list_all, slice_get}
 use Rattle.std.proofs.lemmas.Bool.{cases_lt, false≢true, ltb-true}
 use Rattle.std.proofs.lemmas.List.{length-set}
 use Rattle.std.proofs.lemmas.List.Folds.{list_all_at}
-use Rattle.std.proofs.lemmas.Option.{slice_get_within}
+use Rattle.std.proofs.lemmas.Option.{same_Some, slice_get_within}
 use Rattle.core_runtime.specs.declared.seats.Seat.{Seat}
 use Rattle.core_runtime.specs.Watching.{IsOfTask, IsOfCore, IsOfCores, IsAt, Adds, AreSeated}
 use Rattle.core_runtime.proofs.NewNodes.{Last, earlier, last, last_or}
 use Rattle.core_runtime.proofs.Places.{Placed, here, there, placed, set_here, set_there}
-
-some_is : {X : Type 0} {x y : X} → Some x ≡ Some y → x ≡ y
-some_is e = cc
 
 -- ---- one
 
@@ -44,7 +41,7 @@ module _ (seats : List (Vec Seat Global)) (event : ℕ) (row new : Vec Seat Glob
       by_test : (b : Bool) → (e == event) ≡ b → IsAt put e s
       by_test true same =
           let place : e ≡ event = (unsigned_Decides e event).0 same in
-          let own : at.row ≡ row = some_is (sym at.row_is ∙ ap (slice_get seats) place ∙ found) in
+          let own : at.row ≡ row = same_Some _ _ (sym at.row_is ∙ ap (slice_get seats) place ∙ found) in
           record {
             row = new;
             at = at.at;
@@ -137,7 +134,7 @@ module _ (old mid new : List (Vec Seat Global)) where
   task_on events core slot k event found = adds_more (λ s. s.place) (IsOfTask events core slot) old (IsOne event (at_place core slot k)) mid new k to back
     where
       to : (e : ℕ) (s : Seat) → s.place ≡ k → IsOfTask events core slot e s → IsOne event (at_place core slot k) e s
-      to e s at is = (some_is (sym is.place_is ∙ ap (slice_get events) at ∙ found), λ i. record { core = is.core_is i; slot = is.slot_is i; place = at i })
+      to e s at is = (same_Some _ _ (sym is.place_is ∙ ap (slice_get events) at ∙ found), λ i. record { core = is.core_is i; slot = is.slot_is i; place = at i })
 
       back : (e : ℕ) (s : Seat) → IsOne event (at_place core slot k) e s → (s.place ≡ k) × IsOfTask events core slot e s
       back e s is =
@@ -149,7 +146,7 @@ module _ (old mid new : List (Vec Seat Global)) where
     where
       to : (e : ℕ) (s : Seat) → s.slot ≡ k → IsOfCore tasks core e s → IsOfTask events core k e s
       to e s at is =
-          let own : is.events ≡ events = some_is (sym is.task_is ∙ ap (slice_get tasks) at ∙ found) in
+          let own : is.events ≡ events = same_Some _ _ (sym is.task_is ∙ ap (slice_get tasks) at ∙ found) in
           record { core_is = is.seat.core_is; slot_is = at; place_is = ap (λ es. slice_get es s.place) (sym own) ∙ is.seat.place_is }
 
       back : (e : ℕ) (s : Seat) → IsOfTask events core k e s → (s.slot ≡ k) × IsOfCore tasks core e s
@@ -160,7 +157,7 @@ module _ (old mid new : List (Vec Seat Global)) where
     where
       to : (e : ℕ) (s : Seat) → s.core ≡ k → IsOfCores table e s → IsOfCore tasks k e s
       to e s at is =
-          let own : is.tasks ≡ tasks = some_is (sym is.core_is ∙ ap (slice_get table) at ∙ found) in
+          let own : is.tasks ≡ tasks = same_Some _ _ (sym is.core_is ∙ ap (slice_get table) at ∙ found) in
           subst (λ n. IsOfCore tasks n e s) at (subst (λ ts. IsOfCore ts s.core e s) own is.seat)
 
       back : (e : ℕ) (s : Seat) → IsOfCore tasks k e s → (s.core ≡ k) × IsOfCores table e s

@@ -1,5 +1,6 @@
 -- A turn over a plain bench, and then the core's trace cleared.
 use Rattle.std.proofs.Common.{◌≡◌, ℕ, refl, ◌∙◌, ap, ◌-◌, length, List, [], ◌∷◌, ◌++◌, set, Option, Some, None, true}
+use Rattle.std.proofs.lemmas.Option.{same_Some}
 use Rattle.std.specs.Prelude.{not}
 use Rattle.std.specs.List.{slice_get}
 use Rattle.bus_semantics.specs.declared.entries.Stamped.{Stamped}
@@ -26,9 +27,6 @@ told_by b = record { room = b.room; next = Some b.next; objects = Some b.objects
 pub last_is : (xs old : List Stamped) (s : Stamped) (o : Option Stamped) → old ≡ [] → xs ≡ old ++ s ∷ [] → o ≡ slice_get xs (length xs - 1) → o ≡ Some s
 last_is xs old s o none is last = last ∙ ap (λ ys. slice_get ys (length ys - 1)) (is ∙ ap (λ ys. ys ++ s ∷ []) none)
 
-pub both_some : {X : Type 0} {x y : X} → Some x ≡ Some y → x ≡ y
-both_some e = cc
-
 module _ (p : Plan) (t : TaskSet) (old : CoreState) (before now : Plain) (entries : List Stamped) where
   -- the law of turns, at these
   abbrev pub KeepsLaw : (turned : CoreState) → Stamped → Type 0
@@ -42,7 +40,7 @@ module _ (p : Plan) (t : TaskSet) (old : CoreState) (before now : Plain) (entrie
     added = added;
     within = within s.entry.actor steps.step.actor;
     stamp = steps.next.0;
-    next = both_some steps.next.1;
+    next = same_Some _ _ steps.next.1;
     room = steps.bench_room;
     ready = λ m is. same_ready p m t turned new same (ready m is);
     goes = λ m cores i found is h lawful. same_lawful p m t turned new same cores i old found now.objects (s.entry ∷ h) (law m cores i h lawful found (ready m is));
@@ -56,7 +54,7 @@ module _ (p : Plan) (t : TaskSet) (old : CoreState) (before now : Plain) (entrie
     none = record { same = new; before = told_by before; now = told_by now; told = refl; nothing = nothing };
     same = refl;
     core = nothing.same;
-    objects = both_some nothing.objects.1;
-    next = both_some nothing.next;
+    objects = same_Some _ _ nothing.objects.1;
+    next = same_Some _ _ nothing.next;
     room = nothing.room;
   }

@@ -1,11 +1,11 @@
 -- The watch of all cores, after a turn of one.
-use Rattle.std.proofs.Common.{◌≡◌, ℕ, zero, suc, ◌+◌, ◌<◌, ◌==◌, ◌&&◌, Bool, true, false, arith, refl, sym, ◌∙◌, ap, subst, List, [], ◌∷◌, ◌++◌, length, length-append, map, set, inl, inr, Option, Some, None}
+use Rattle.std.proofs.Common.{◌≡◌, ℕ, zero, suc, ◌+◌, ◌<◌, ◌==◌, arith, refl, sym, ◌∙◌, ap, subst, List, [], ◌∷◌, ◌++◌, length, length-append, map, set, inl, inr, Option, Some, None}
 use Rattle.std.specs.Prelude.{unwrap_or, nat_le, Vec}
 use Rattle.std.specs.Global.{Global}
-use Rattle.std.specs.Cmp.{unsigned_Decides}
+use Rattle.std.specs.Cmp.{first_so, unsigned_Decides}
 use Rattle.std.specs.List.{slice_get}
 use Rattle.std.proofs.lemmas.List.{length-set}
-use Rattle.std.proofs.lemmas.Option.{slice_get_within}
+use Rattle.std.proofs.lemmas.Option.{same_Some, slice_get_within}
 use Rattle.bus_semantics.specs.declared.entries.Stamped.{Stamped}
 use Rattle.bus_semantics.specs.Plan.{Plan}
 use Rattle.bus_semantics.specs.Objects.{clock, object_of}
@@ -28,14 +28,11 @@ use Rattle.core_runtime.proofs.Places.{Placed, here, there, placed}
 use Rattle.core_runtime.proofs.NewNodes.{Last, earlier, last, last_or}
 use Rattle.core_runtime.proofs.Stepping.{told_by}
 
-some_is : {X : Type 0} {x y : X} → Some x ≡ Some y → x ≡ y
-some_is e = cc
-
 -- a slot that keeps its events
 pub events_kept : (slots : List Slot) (at : ℕ) (slot stepped : Slot) → slice_get slots at ≡ Some slot → stepped.events ≡ slot.events → map events_of_slot (set slots at stepped) ≡ map events_of_slot slots
 events_kept [] at slot stepped found same = absurd (cc found)
 events_kept (s ∷ slots) zero slot stepped found same =
-    let is : s ≡ slot = some_is found in
+    let is : s ≡ slot = same_Some _ _ found in
     ap (λ es. es ∷ map events_of_slot slots) (ap (λ (v : _). v.items) same ∙ ap (λ (x : Slot). x.events.items) (sym is))
 events_kept (s ∷ slots) (suc at) slot stepped found same = ap (λ es. s.events.items ∷ es) (events_kept slots at slot stepped found same)
 
@@ -43,7 +40,7 @@ events_kept (s ∷ slots) (suc at) slot stepped found same = ap (λ es. s.events
 pub tables_kept : (cores : List CoreState) (n : ℕ) (old new : CoreState) → slice_get cores n ≡ Some old → map events_of_slot new.slots ≡ map events_of_slot old.slots → tables_of (set cores n new) ≡ tables_of cores
 tables_kept [] n old new found same = absurd (cc found)
 tables_kept (c ∷ cores) zero old new found same =
-    let is : c ≡ old = some_is found in
+    let is : c ≡ old = same_Some _ _ found in
     ap (λ es. es ∷ tables_of cores) (same ∙ ap (λ (x : CoreState). map events_of_slot x.slots) (sym is))
 tables_kept (c ∷ cores) (suc n) old new found same = ap (λ es. map events_of_slot c.slots ∷ es) (tables_kept cores n old new found same)
 
@@ -72,7 +69,7 @@ after_step p t old new before now s steps = of_object (object_of p tried.0 tried
     tried = steps.order.made.tried
 
     of_object : (o : Option ℕ) → object_of p steps.order.made.tried.0 steps.order.made.tried.1 ≡ o → MadeAt p before.objects (Some now.objects) steps.order.made.tried s.entry o → IsAfter p before.objects now.objects s.entry
-    of_object None is made = inl (some_is made)
+    of_object None is made = inl (same_Some _ _ made)
     of_object (Some n) is made =
         let w = steps.order.made.tried.1 in
         inr (record {
@@ -87,16 +84,12 @@ after_step p t old new before now s steps = of_object (object_of p tried.0 tried
           is = refl;
           leads = made.made.leads;
           told = made.made.told;
-          others = some_is made.others;
+          others = same_Some _ _ made.others;
         })
-
-both : (a b : Bool) → (a && b) ≡ true → a ≡ true
-both true b e = refl
-both false b e = e
 
 -- the clock is an object
 pub clock_there : (p : Plan) → HasObjects p → IsObject p (clock p)
-clock_there p has = let counted : p.objects ≡ clock p + 1 = (unsigned_Decides p.objects (clock p + 1)).0 (both (p.objects == clock p + 1) (nat_le p.objects 16384) has.counted) in omega arith
+clock_there p has = let counted : p.objects ≡ clock p + 1 = (unsigned_Decides p.objects (clock p + 1)).0 (first_so (p.objects == clock p + 1) (nat_le p.objects 16384) has.counted) in omega arith
 
 -- the seats, too
 module _ (p : Plan) (objects : List Object) (cores : List CoreState) (awake : List AwakeState) (seats : List (Vec Seat Global)) (n : ℕ) (old turned k : CoreState) (b : AwakeState)

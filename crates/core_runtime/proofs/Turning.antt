@@ -1,12 +1,12 @@
 -- Turns one after the other.
 use Rattle.std.proofs.Common.{◌≡◌, ◌<◌, ◌≤◌, ◌+◌, ℕ, zero, suc, refl, sym, ◌∙◌, ap, subst, arith, List, [], ◌∷◌, ◌++◌, length, set, Bool, true, false, Some}
 use Rattle.std.specs.Prelude.{◌==◌, ◌&&◌, ltb}
-use Rattle.std.proofs.lemmas.Bool.{ltb-false}
+use Rattle.std.proofs.lemmas.Bool.{and_parts, ltb-false}
 use Rattle.std.proofs.lemmas.Bool.Decides.{Decides-ltb}
 use Rattle.std.specs.Cmp.{unsigned_Decides}
 use Rattle.std.specs.List.{slice_get}
-use Rattle.std.proofs.lemmas.List.{length-set}
-use Rattle.std.proofs.lemmas.Option.{slice_get_within}
+use Rattle.std.proofs.lemmas.List.{length-set, length_push}
+use Rattle.std.proofs.lemmas.Option.{same_Some, slice_get_within}
 use Rattle.std.proofs.lemmas.List.Folds.{list_all-append}
 use Rattle.bus_semantics.specs.declared.entries.Stamped.{Stamped}
 use Rattle.bus_semantics.specs.declared.script.Mapping.{Mapping}
@@ -28,13 +28,9 @@ use Rattle.core_runtime.proofs.Places.{Placed, here, there, placed}
 every_on : {X : Type 0} (f : ℕ → X → Bool) (i : ℕ) (xs : List X) (y : X) → every_from i f xs ≡ true → f (i + length xs) y ≡ true → every_from i f (xs ++ y ∷ []) ≡ true
 every_on f i [] y all last = let at : i + 0 ≡ i = omega arith in ap (λ b. b && true) (ap (λ n. f n y) (sym at) ∙ last)
 every_on f i (x ∷ xs) y all last =
-    let parts = both (f i x) (every_from (i + 1) f xs) all in
+    let parts = and_parts (f i x) (every_from (i + 1) f xs) all in
     let place : i + suc (length xs) ≡ i + 1 + length xs = omega arith in
     ap (λ b. b && every_from (i + 1) f (xs ++ y ∷ [])) parts.0 ∙ every_on f (i + 1) xs y parts.1 (ap (λ n. f n y) (sym place) ∙ last)
-  where
-    both : (a b : Bool) → (a && b) ≡ true → (a ≡ true) × (b ≡ true)
-    both true b e = (refl, e)
-    both false b e = absurd (cc e)
 
 stamps_on : (entries : List Stamped) (s : Stamped) → stamps_count entries ≡ true → s.stamp ≡ length entries → stamps_count (entries ++ s ∷ []) ≡ true
 stamps_on entries s counted stamp = let place : s.stamp ≡ 0 + length entries = omega (arith, stamp) in every_on (λ i (x : Stamped). x.stamp == i) 0 entries s counted ((unsigned_Decides s.stamp (0 + length entries)).1 place)
@@ -104,16 +100,12 @@ module _ (p : Plan) (t : TaskSet) (cores now : List CoreState) (objects : List O
   step_next false step = step.next ∙ next ∙ sym (ap length step.same)
 
 module _ (p : Plan) (t : TaskSet) (old new : CoreState) (before after : Plain) (entries all : List Stamped) where
-  longer : (es : List Stamped) (s : Stamped) → length (es ++ s ∷ []) ≡ length es + 1
-  longer [] s = refl
-  longer (x ∷ es) s = omega (arith, longer es s)
-
   pub step_few : (b : Bool) → IsStep p t old new before after entries all b → length all ≤ length entries + 1
-  step_few true step = omega (arith, ap length step.added, longer entries step.made)
+  step_few true step = omega (arith, ap length step.added, length_push entries step.made)
   step_few false step = omega (arith, ap length step.same)
 
   pub step_room : (b : Bool) → IsStep p t old new before after entries all b → after.room + length all ≡ before.room + length entries
-  step_room true step = omega (arith, step.room, ap length step.added, longer entries step.made)
+  step_room true step = omega (arith, step.room, ap length step.added, length_push entries step.made)
   step_room false step = omega (arith, step.room, ap length step.same)
 
 -- ---- where nothing was made
@@ -152,11 +144,8 @@ module _ (p : Plan) (t : TaskSet) (number : ℕ) (cores now : List CoreState) (o
       of_place so i c found (before_it below) = so.none i c below found
       of_place so i c found (at_it here_it) =
           let found_now : slice_get now number ≡ Some c = ap (λ xs. slice_get xs number) so.cores_same ∙ ap (slice_get cores) (sym here_it) ∙ found in
-          let same_core : old ≡ c = some_same (sym is ∙ found_now) in
+          let same_core : old ≡ c = same_Some _ _ (sym is ∙ found_now) in
           subst (NothingOf p t objects) same_core (subst (λ os. NothingOf p t os old) so.objects_same step.none)
-        where
-          some_same : {x y : CoreState} → Some x ≡ Some y → x ≡ y
-          some_same e = cc
 
 -- ---- a core alone
 
@@ -176,11 +165,7 @@ alone_rests p t now old new before after entries all one is rests = λ i c found
         absurd (other only)
 
 pub longer_by_one : (entries all : List Stamped) (s : Stamped) (n : ℕ) → length entries ≡ n → all ≡ entries ++ s ∷ [] → length all ≡ n + 1
-longer_by_one entries all s n count added = omega (arith, count, ap length added, longer_list entries s)
-  where
-    longer_list : (es : List Stamped) (x : Stamped) → length (es ++ x ∷ []) ≡ length es + 1
-    longer_list [] x = refl
-    longer_list (e ∷ es) x = omega (arith, longer_list es x)
+longer_by_one entries all s n count added = omega (arith, count, ap length added, length_push entries s)
 
 -- ---- the same of equal things
 

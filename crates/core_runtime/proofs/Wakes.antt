@@ -1,18 +1,15 @@
 -- Flags that are set, one after the other.
 use Rattle.std.proofs.Common.{◌≡◌, ℕ, zero, suc, ◌<◌, Bool, true, false, ◌&&◌, ◌||◌, not, refl, sym, ◌∙◌, ap, subst, arith, List, [], ◌∷◌, length, get_or, set, Some}
 use Rattle.std.specs.List.{slice_get}
-use Rattle.std.proofs.lemmas.Bool.{false≢true}
-use Rattle.std.proofs.lemmas.List.{length-set}
-use Rattle.std.proofs.lemmas.Option.{slice_get_within, slice_get-get_or}
+use Rattle.std.proofs.lemmas.Bool.{and_from, and_parts, false≢true}
+use Rattle.std.proofs.lemmas.List.{get_or-set_same, length-set}
+use Rattle.std.proofs.lemmas.Option.{slice_get_within, slice_get-get_or, same_Some}
 use Rattle.port_objects.specs.Kept.{Kept}
 use Rattle.port_objects.specs.Waking.{may_start_in}
 use Rattle.core_turn.specs.Awake.{AwakeState}
 use Rattle.core_runtime.specs.declared.seats.Seat.{Seat}
 use Rattle.core_runtime.specs.Watching.{is_awake, IsWoken, AreWoken, IsThere, IsSeen}
 use Rattle.core_runtime.proofs.Places.{Placed, here, there, placed}
-
-some_is : {X : Type 0} {x y : X} → Some x ≡ Some y → x ≡ y
-some_is e = cc
 
 -- ---- flags
 
@@ -22,11 +19,6 @@ set_keeps (b ∷ flags) zero zero e = refl
 set_keeps (b ∷ flags) zero (suc i) e = e
 set_keeps (b ∷ flags) (suc n) zero e = e
 set_keeps (b ∷ flags) (suc n) (suc i) e = set_keeps flags n i e
-
-set_puts : (flags : List Bool) (n : ℕ) → n < length flags → get_or (set flags n true) n false ≡ true
-set_puts [] n within = absurd (omega arith)
-set_puts (b ∷ flags) zero within = refl
-set_puts (b ∷ flags) (suc n) within = set_puts flags n (omega arith)
 
 abbrev row_set : List (List Bool) → (n place : ℕ) → List (List Bool)
 row_set rows n place = set rows n (set (get_or rows n []) place true)
@@ -40,7 +32,7 @@ row_keeps (r ∷ rows) (suc n) place (suc i) j e = row_keeps rows n place i j e
 
 row_puts : (rows : List (List Bool)) (n place : ℕ) → place < length (get_or rows n []) → get_or (get_or (row_set rows n place) n []) place false ≡ true
 row_puts [] n place within = absurd (omega arith)
-row_puts (r ∷ rows) zero place within = set_puts r place within
+row_puts (r ∷ rows) zero place within = get_or-set_same r place true false within
 row_puts (r ∷ rows) (suc n) place within = row_puts rows n place within
 
 row_width : (rows : List (List Bool)) (n place i : ℕ) → length (get_or (row_set rows n place) i []) ≡ length (get_or rows i [])
@@ -75,17 +67,13 @@ module _ (a b : AwakeState) (slot place : ℕ) (slots : b.slots ≡ set a.slots 
   }
 
   pub awake_now : slot < length a.slots → place < length (get_or a.events slot []) → is_awake b slot place ≡ true
-  awake_now within inside = both (get_or b.slots slot false) (get_or (get_or b.events slot []) place false) (ap (λ fs. get_or fs slot false) slots ∙ set_puts a.slots slot within)
+  awake_now within inside = and_from (get_or b.slots slot false) (get_or (get_or b.events slot []) place false) (ap (λ fs. get_or fs slot false) slots ∙ get_or-set_same a.slots slot true false within)
       (ap (λ rs. get_or (get_or rs slot []) place false) events ∙ row_puts a.events slot place inside)
-    where
-      both : (x y : Bool) → x ≡ true → y ≡ true → (x && y) ≡ true
-      both true y e f = f
-      both false y e f = absurd (false≢true e)
 
 -- ---- of all cores
 
 pub are_same : (xs : List AwakeState) → AreWoken xs xs
-are_same xs = record { count = refl; each = λ i a b was now. subst (IsWoken a) (some_is (sym was ∙ now)) (woken_same a) }
+are_same xs = record { count = refl; each = λ i a b was now. subst (IsWoken a) (same_Some _ _ (sym was ∙ now)) (woken_same a) }
 
 pub are_then : (xs ys zs : List AwakeState) → AreWoken xs ys → AreWoken ys zs → AreWoken xs zs
 are_then xs ys zs first second = record {
@@ -102,8 +90,8 @@ pub are_set : (xs : List AwakeState) (n : ℕ) (a b : AwakeState) → slice_get 
 are_set xs n a b is woken = record { count = length-set xs n b; each = λ i x y was now. of_place i x y was (placed xs n b i y now) }
   where
     of_place : (i : ℕ) (x y : AwakeState) → slice_get xs i ≡ Some x → Placed AwakeState xs n b i y → IsWoken x y
-    of_place i x y was (here at same) = subst (λ z. IsWoken z y) (some_is (sym is ∙ sym (ap (slice_get xs) at) ∙ was)) (subst (IsWoken a) (sym same) woken)
-    of_place i x y was (there other found) = subst (IsWoken x) (some_is (sym was ∙ found)) (woken_same x)
+    of_place i x y was (here at same) = subst (λ z. IsWoken z y) (same_Some _ _ (sym is ∙ sym (ap (slice_get xs) at) ∙ was)) (subst (IsWoken a) (sym same) woken)
+    of_place i x y was (there other found) = subst (IsWoken x) (same_Some _ _ (sym was ∙ found)) (woken_same x)
 
 pub there_still : (xs ys : List AwakeState) (s : Seat) → AreWoken xs ys → IsThere xs s → IsThere ys s
 there_still xs ys s woken at =
@@ -126,17 +114,13 @@ seen_still k xs ys event s woken at seen = λ b now. still (is_awake at.core s.s
     still false true z keeps e = refl
     still false false z keeps e = e
 
-    parts : (x y : Bool) → (x && y) ≡ true → (x ≡ true) × (y ≡ true)
-    parts true y e = (refl, e)
-    parts false y e = absurd (false≢true e)
-
     kept : (b : AwakeState) → IsWoken at.core b → is_awake at.core s.slot s.place ≡ true → is_awake b s.slot s.place ≡ true
     kept b one on =
-        let both = parts (get_or at.core.slots s.slot false) (get_or (get_or at.core.events s.slot []) s.place false) on in
+        let both = and_parts (get_or at.core.slots s.slot false) (get_or (get_or at.core.events s.slot []) s.place false) on in
         ap (λ v. v && get_or (get_or b.events s.slot []) s.place false) (one.slots s.slot both.0) ∙ one.events s.slot s.place both.1
 
 pub seen_awake : (k : Kept) (xs : List AwakeState) (event : ℕ) (s : Seat) (a : AwakeState) → slice_get xs s.core ≡ Some a → is_awake a s.slot s.place ≡ true → IsSeen k xs event s
-seen_awake k xs event s a is on = λ b now. let same : a ≡ b = some_is (sym is ∙ now) in ap (λ v. v || not (may_start_in k event)) (subst (λ x. is_awake x s.slot s.place ≡ true) same on)
+seen_awake k xs event s a is on = λ b now. let same : a ≡ b = same_Some _ _ (sym is ∙ now) in ap (λ v. v || not (may_start_in k event)) (subst (λ x. is_awake x s.slot s.place ≡ true) same on)
 
 pub seen_held : (k : Kept) (xs : List AwakeState) (event : ℕ) (s : Seat) → may_start_in k event ≡ false → IsSeen k xs event s
 seen_held k xs event s off = λ b now. last (is_awake b s.slot s.place) (may_start_in k event) off

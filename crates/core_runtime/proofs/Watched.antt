@@ -1,12 +1,12 @@
 -- What of the cores is awake, after an entry whose object told what came.
-use Rattle.std.proofs.Common.{◌≡◌, ℕ, zero, suc, ◌<◌, ◌==◌, Bool, true, false, ◌&&◌, ◌||◌, not, ◌⊎◌, inl, inr, refl, sym, ◌∙◌, ap, subst, arith, List, [], ◌∷◌, ◌++◌, length, get_or, map, Option, Some, None}
+use Rattle.std.proofs.Common.{◌≡◌, ℕ, zero, suc, ◌<◌, ◌==◌, Bool, true, false, ◌||◌, not, ◌⊎◌, inl, inr, refl, sym, ◌∙◌, ap, subst, arith, List, [], ◌∷◌, ◌++◌, length, get_or, map, Option, Some, None}
 use Rattle.std.specs.Option.{option_map}
 use Rattle.std.specs.List.{Contains, slice_get}
 use Rattle.std.specs.Cmp.{unsigned_Decides}
 use Rattle.std.specs.Prelude.{Vec}
 use Rattle.std.specs.Global.{Global}
-use Rattle.std.proofs.lemmas.Bool.{false≢true}
-use Rattle.std.proofs.lemmas.Option.{get_or_from_slice_get, slice_get-get_or, slice_get_within, slice_get-map}
+use Rattle.std.proofs.lemmas.Bool.{and_left, and_right, false≢true}
+use Rattle.std.proofs.lemmas.Option.{get_or_from_slice_get, slice_get-get_or, slice_get_within, slice_get-map, same_Some}
 use Rattle.bus_semantics.specs.declared.entries.Actor.TheVariants.{Act}
 use Rattle.bus_semantics.specs.declared.entries.Entry.{Entry}
 use Rattle.bus_semantics.specs.Plan.{Plan, kind_of, runnable_of_event}
@@ -51,21 +51,10 @@ asleep xs ys j count keeps off = of_flag (get_or xs j false) refl
     of_flag true e = absurd (false≢true (sym (get_or_from_slice_get ys j false false off) ∙ keeps e))
     of_flag false e = slice_get-get_or xs j false within ∙ ap (λ b. Some b) e
 
-off_right : (a b : Bool) → b ≡ false → (a && b) ≡ false
-off_right true b e = e
-off_right false b e = refl
-
-off_left : (a b : Bool) → a ≡ false → (a && b) ≡ false
-off_left true b e = absurd (false≢true (sym e))
-off_left false b e = refl
-
 not_so : (a b : Bool) → a ≡ false → (a || not b) ≡ true → b ≡ false
 not_so true b e seen = absurd (false≢true (sym e))
 not_so false true e seen = absurd (false≢true seen)
 not_so false false e seen = refl
-
-some_same : {X : Type 0} {x y : X} → Some x ≡ Some y → x ≡ y
-some_same e = cc
 
 -- an item of a mapped list comes of one
 pub record Mapped (X Y : Type 0) (f : X → Y) (xs : List X) (i : ℕ) (y : Y) : Type 0 where
@@ -165,7 +154,7 @@ module _ (nowhere : NowhereLaw) (is_held : HeldLaw) (others : OthersLaw) (p : Pl
       off is held = of_test is (may_start_in (kept_of t.new) event) refl
         where
           was : may_start_in (kept_of t.old) event ≡ false
-          was = let same : held.before ≡ t.old = some_same (sym held.found ∙ t.found) in subst (λ o. may_start_in (kept_of o) event ≡ false) same (is_held p t.object (kept_of held.before) event held.none)
+          was = let same : held.before ≡ t.old = same_Some _ _ (sym held.found ∙ t.found) in subst (λ o. may_start_in (kept_of o) event ≡ false) same (is_held p t.object (kept_of held.before) event held.none)
 
           of_test : IsCalm t → (b : Bool) → may_start_in (kept_of t.new) event ≡ b → may_start_in (kept_of t.new) event ≡ false
           of_test is false now = now
@@ -210,7 +199,7 @@ module _ (nowhere : NowhereLaw) (is_held : HeldLaw) (others : OthersLaw) (p : Pl
           let off_here : slice_get (get_or b.events i []) j ≡ Some false = ap (λ r. slice_get r j) here ∙ sleeps in
           let was_off = asleep (get_or a.events i []) (get_or b.events i []) j (more.widths i) (more.events i j) off_here in
           let flag : get_or (get_or b.events i []) j false ≡ false = get_or_from_slice_get (get_or b.events i []) j false false off_here in
-          moves n c b core_is awake_is i j event s slot_is place_is (off_right (get_or b.slots i false) (get_or (get_or b.events i []) j false) flag)
+          moves n c b core_is awake_is i j event s slot_is place_is (and_right (get_or b.slots i false) (get_or (get_or b.events i []) j false) flag)
           (watched.held.events i j event s (get_or a.events i []) slot_is (slice_get-get_or a.events i [] within) place_is was_off)
 
       slots_on : (i : ℕ) (s : Slot) → slice_get c.slots i ≡ Some s → slice_get b.slots i ≡ Some false → (s.running ≡ None) × AllHeld p later (gathered (start_try p) s.events.items)
@@ -219,7 +208,7 @@ module _ (nowhere : NowhereLaw) (is_held : HeldLaw) (others : OthersLaw) (p : Pl
           let was = watched.held.slots i s slot_is was_off in
           let flag : get_or b.slots i false ≡ false = get_or_from_slice_get b.slots i false false sleeps in (
             was.0,
-            held_each p before later s.events.items (λ j event place_is. moves n c b core_is awake_is i j event s slot_is place_is (off_left (get_or b.slots i false) (get_or (get_or b.events i []) j false) flag)) was.1,
+            held_each p before later s.events.items (λ j event place_is. moves n c b core_is awake_is i j event s slot_is place_is (and_left (get_or b.slots i false) (get_or (get_or b.events i []) j false) flag)) was.1,
           )
 
       watched_on : IsWatched p later c b

@@ -14,7 +14,7 @@ fn core_of(alloc: Global, m: &Mapping, t: &TaskSet, number: u32) -> Result<Core,
     ensures { IfOk result (IsNewCore m.now t.now number) }
 {
     let mut core = Core::new(alloc, m, t, number)?;
-    core.make_room(1)?;
+    core.make_room(alloc, 1)?;
     Ok(core)
 }
 

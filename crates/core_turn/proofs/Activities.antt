@@ -1,7 +1,7 @@
 -- A whole activation of such a plan: it asks for data and then for its end, and until that end it always asks something.
 use Rattle.std.proofs.Common.{◌≡◌, ℕ, Bool, true, false, not, if◌then◌else◌, refl, sym, ◌∙◌, ap, subst, List, [], ◌∷◌, ◌++◌, ◌⊎◌, inl, inr, ℤ, Some, None}
 use Rattle.std.specs.List.{list_all, slice_get}
-use Rattle.std.proofs.lemmas.Bool.{false≢true}
+use Rattle.std.proofs.lemmas.Bool.{and_parts, false≢true}
 use Rattle.runnable_lang.specs.declared.program.AccessSig.{AccessSig}
 use Rattle.bus_semantics.specs.declared.entries.Deed.{Deed}
 use Rattle.bus_semantics.specs.declared.script.Mapping.{Mapping}
@@ -67,15 +67,15 @@ module _ (D : Wanted → Type 0) (event : ℕ) where
   no_fetch [] xs s plain = going D s
   no_fetch (a ∷ sigs) [] s plain = going D s
   no_fetch (a ∷ sigs) (x ∷ xs) s plain =
-      let parts = basics.both (is_explicit_access a) (list_all is_explicit_access sigs) plain in
-      passed (is_read_early a.kind) _ (fetching sigs xs) s (basics.both (not (is_read_early a.kind)) (not (is_written_late a.kind)) parts.0).0 (no_fetch sigs xs s parts.1)
+      let parts = and_parts (is_explicit_access a) (list_all is_explicit_access sigs) plain in
+      passed (is_read_early a.kind) _ (fetching sigs xs) s (and_parts (not (is_read_early a.kind)) (not (is_written_late a.kind)) parts.0).0 (no_fetch sigs xs s parts.1)
 
   no_publication : (sigs : List AccessSig) (xs : List ℕ) (s : State) → list_all is_explicit_access sigs ≡ true → Tame D (publishing sigs xs s)
   no_publication [] xs s plain = going D s
   no_publication (a ∷ sigs) [] s plain = going D s
   no_publication (a ∷ sigs) (x ∷ xs) s plain =
-      let parts = basics.both (is_explicit_access a) (list_all is_explicit_access sigs) plain in
-      passed (is_written_late a.kind) _ (publishing sigs xs) s (basics.both (not (is_read_early a.kind)) (not (is_written_late a.kind)) parts.0).1 (no_publication sigs xs s parts.1)
+      let parts = and_parts (is_explicit_access a) (list_all is_explicit_access sigs) plain in
+      passed (is_written_late a.kind) _ (publishing sigs xs) s (and_parts (not (is_read_early a.kind)) (not (is_written_late a.kind)) parts.0).1 (no_publication sigs xs s parts.1)
 
   whole_final : (p : Plan) (r : Runnable) → disabling_of p event ≡ None → r.server ≡ None → list_all is_explicit_access r.accesses ≡ true
       → ((s : State) → Tame D (run_program r r.program.body s)) → (s : State) → Final (activity p r event s)

@@ -2,11 +2,11 @@
 use Rattle.std.proofs.Common.{◌≡◌, ◌≢◌, ℕ, zero, suc, ◌+◌, ◌<◌, ◌≤◌, Bool, true, false, ◌&&◌, ◌||◌, not, ◌==◌, if◌then◌else◌, refl, sym, ◌∙◌, ap, subst, arith, List, [], ◌∷◌, ◌++◌, length, map, take, length-append, Some}
 use Rattle.std.specs.Prelude.{filter, nat_lt, nat_le, is_none}
 use Rattle.std.specs.List.{list_all, slice_get}
-use Rattle.std.proofs.lemmas.Bool.{false≢true}
+use Rattle.std.proofs.lemmas.Bool.{and_from, and_parts, eq-eqb, eqb-true, false≢true}
 use Rattle.std.proofs.lemmas.Bool.Decides.{nat_tests}
 use Rattle.std.proofs.lemmas.List.{take_more, append-nil}
 use Rattle.std.proofs.Math.Seq.{take-length}
-use Rattle.std.proofs.lemmas.Option.{get_or_from_slice_get}
+use Rattle.std.proofs.lemmas.Option.{get_or_from_slice_get, same_Some}
 use Rattle.rte_value.specs.declared.kinds.ActKey.{ActKey}
 use Rattle.rte_value.specs.Values.{same_number}
 use Rattle.bus_semantics.specs.declared.script.Mapping.{Mapping}
@@ -22,7 +22,7 @@ use Rattle.core_turn.specs.declared.slot.Slot.{Slot}
 use Rattle.core_turn.specs.Plans.{IsBuilt}
 use Rattle.core_turn.specs.Slots.{starts, is_key_of}
 use Rattle.core_turn.specs.Cores.{CoreState, events_of_slot, tasks_of_core, HasTasks}
-use Rattle.core_turn.proofs.Basics.{clash, both, both_of, number_same, same_test, option_same, looked}
+use Rattle.core_turn.proofs.Basics.{clash, option_same, looked}
 use Rattle.core_turn.proofs.Looks.{gathered_on, count_on}
 use Rattle.core_turn.proofs.Facts.{there_is, started, event_known}
 
@@ -141,20 +141,20 @@ module _ (p : Plan) (r : ℕ) where
 -- ---- what a sound mapping says
 
 all_but_last : (test : ℕ → Bool) (xs : List ℕ) (n : ℕ) → list_all test (xs ++ n ∷ []) ≡ true → (list_all test xs ≡ true) × (test n ≡ true)
-all_but_last test [] n all = (refl, (both (test n) true all).0)
+all_but_last test [] n all = (refl, (and_parts (test n) true all).0)
 all_but_last test (x ∷ xs) n all =
-    let parts = both (test x) (list_all test (xs ++ n ∷ [])) all in
+    let parts = and_parts (test x) (list_all test (xs ++ n ∷ [])) all in
     let rest = all_but_last test xs n parts.1 in
-    (both_of (test x) (list_all test xs) parts.0 rest.0, rest.1)
+    (and_from (test x) (list_all test xs) parts.0 rest.0, rest.1)
 
 all_below : (test : ℕ → Bool) (n r : ℕ) → list_all test (positions n) ≡ true → r < n → test r ≡ true
 all_below test zero r all less = absurd (omega arith)
 all_below test (suc n) r all less = of_test (r == n) refl (all_but_last test (positions n) n all) (λ rest below. all_below test n r rest below)
   where
     of_test : (b : Bool) → (r == n) ≡ b → (list_all test (positions n) ≡ true) × (test n ≡ true) → (list_all test (positions n) ≡ true → r < n → test r ≡ true) → test r ≡ true
-    of_test true same parts rest = ap test (number_same r n same) ∙ parts.1
+    of_test true same parts rest = ap test (eqb-true r n same) ∙ parts.1
     of_test false other parts rest =
-        let apart : r ≢ n = λ e. clash (r == n) (same_test r n e) other in
+        let apart : r ≢ n = λ e. clash (r == n) (eq-eqb r n e) other in
         rest parts.0 (omega arith)
 
 starts_one : (p : Plan) (r : ℕ) (events : List ℕ) → starts p r events ≡ true → (e : ℕ) × (runnable_of_event p e ≡ Some r)
@@ -165,16 +165,13 @@ starts_one p r (x ∷ events) e = by_test (same_number (runnable_of_event p x) (
     by_test true is any rest = (x, option_same (runnable_of_event p x) (Some r) is)
     by_test false is any rest = rest any
 
-same_some : (a b : ℕ) → Some a ≡ Some b → a ≡ b
-same_some a b e = cc
-
 module _ (p : Plan) (m : Mapping) (built : IsBuilt p m) where
   pub runnable_inside : (r : ℕ) (events : List ℕ) → starts p r events ≡ true → r < length p.runnables
   runnable_inside r events is =
       let e = starts_one p r events is in
       let s = started p m built e.0 (event_known p e.0 r e.1) in
       let inside = s.inside in
-      subst (λ n. n < length p.runnables) (same_some s.number r (sym s.starts ∙ e.1)) inside
+      subst (λ n. n < length p.runnables) (same_Some s.number r (sym s.starts ∙ e.1)) inside
 
   abbrev limits : Bool
   limits = is_in 1 8 m.cores
@@ -195,19 +192,19 @@ module _ (p : Plan) (m : Mapping) (built : IsBuilt p m) where
   alone = list_all (λ r. nat_le (length (tasks_of p m r)) 1) (positions (length p.runnables))
 
   after_two : (each_task && (names && (mapped && alone))) ≡ true
-  after_two = (both numbers (each_task && (names && (mapped && alone))) (both limits (numbers && (each_task && (names && (mapped && alone)))) built.sound.tasks).1).1
+  after_two = (and_parts numbers (each_task && (names && (mapped && alone))) (and_parts limits (numbers && (each_task && (names && (mapped && alone)))) built.sound.tasks).1).1
 
   pub tasks_fit : list_all (λ (t : Task). nat_lt t.core m.cores && (is_name t.name && list_all (λ e. nat_lt e (length p.events)) t.events)) m.tasks ≡ true
-  tasks_fit = (both each_task (names && (mapped && alone)) after_two).0
+  tasks_fit = (and_parts each_task (names && (mapped && alone)) after_two).0
 
   after_four : (mapped && alone) ≡ true
-  after_four = (both names (mapped && alone) (both each_task (names && (mapped && alone)) after_two).1).1
+  after_four = (and_parts names (mapped && alone) (and_parts each_task (names && (mapped && alone)) after_two).1).1
 
   pub each_mapped : every_from 0 (λ e (v : EventPlan). count (λ d. d == e) (mapped_events m) == times_mapped p v.kind) p.events ≡ true
-  each_mapped = (both mapped alone after_four).0
+  each_mapped = (and_parts mapped alone after_four).0
 
   one_task : list_all (λ r. nat_le (length (tasks_of p m r)) 1) (positions (length p.runnables)) ≡ true
-  one_task = (both mapped alone after_four).1
+  one_task = (and_parts mapped alone after_four).1
 
   pub few : (r : ℕ) → r < length p.runnables → count (in_task p r) m.tasks ≤ 1
   few r inside =
@@ -227,8 +224,8 @@ module _ (p : Plan) (m : Mapping) (built : IsBuilt p m) where
       of_test : (v : Bool) → is_key_of p b.events.items k ≡ v → v ≡ false
       of_test false is = refl
       of_test true is =
-          let mine = (both (is_none k.point) (starts p k.runnable a.events.items) own).1 in
-          let also = (both (is_none k.point) (starts p k.runnable b.events.items) is).1 in
+          let mine = (and_parts (is_none k.point) (starts p k.runnable a.events.items) own).1 in
+          let also = (and_parts (is_none k.point) (starts p k.runnable b.events.items) is).1 in
           let whole = few k.runnable (runnable_inside k.runnable a.events.items mine) in
           let part = count_kept (in_task p k.runnable) (λ (t : Task). t.core == c.number) m.tasks in
           let slots = slots_counted c k.runnable tasks in
@@ -241,13 +238,13 @@ module _ (p : Plan) (m : Mapping) (built : IsBuilt p m) where
   cores_apart c d k i j a b tasks others differ here own there = of_test (is_key_of p b.events.items k) refl
     where
       never : (t : Task) → (t.core == c.number) ≡ true → (t.core == d.number) ≡ true → ⊥
-      never t one two = differ (sym (number_same t.core c.number one) ∙ number_same t.core d.number two)
+      never t one two = differ (sym (eqb-true t.core c.number one) ∙ eqb-true t.core d.number two)
 
       of_test : (v : Bool) → is_key_of p b.events.items k ≡ v → v ≡ false
       of_test false is = refl
       of_test true is =
-          let mine = (both (is_none k.point) (starts p k.runnable a.events.items) own).1 in
-          let also = (both (is_none k.point) (starts p k.runnable b.events.items) is).1 in
+          let mine = (and_parts (is_none k.point) (starts p k.runnable a.events.items) own).1 in
+          let also = (and_parts (is_none k.point) (starts p k.runnable b.events.items) is).1 in
           let whole = few k.runnable (runnable_inside k.runnable a.events.items mine) in
           let parts = count_parts (in_task p k.runnable) (λ (t : Task). t.core == c.number) (λ (t : Task). t.core == d.number) m.tasks never in
           let first = slots_counted c k.runnable tasks in

@@ -1,8 +1,9 @@
 -- Where each core rests the whole is at rest, and where no activation of a core's tasks runs none runs.
 use Rattle.std.proofs.Common.{◌≡◌, ℕ, ◌<◌, Bool, true, false, not, ◌==◌, refl, sym, ◌∙◌, ap, subst, [], ◌∷◌, ◌++◌, map, length, Some}
 use Rattle.std.specs.List.{list_all, list_any, slice_get}
-use Rattle.std.proofs.lemmas.Bool.{false≢true}
+use Rattle.std.proofs.lemmas.Bool.{and_from, eq-eqb, eqb-true, false≢true}
 use Rattle.std.proofs.lemmas.List.{append-nil}
+use Rattle.std.proofs.lemmas.Map.Keys.{any_passes_from_place}
 use Rattle.rte_value.specs.declared.kinds.ActKey.{ActKey}
 use Rattle.bus_semantics.specs.declared.entries.Actor.TheVariants.{Machine, Act}
 use Rattle.bus_semantics.specs.declared.script.Mapping.{Mapping}
@@ -16,10 +17,10 @@ use Rattle.bus_semantics.specs.Rest.{plain_key, option_list, gathered, plain_key
 use Rattle.core_turn.specs.Plans.{IsBuilt}
 use Rattle.core_turn.specs.Cores.{tasks_of_core}
 use Rattle.core_turn.specs.Resting.{calls_of, calls_by, tries_of_task, CoreRests, CoreIsFree}
-use Rattle.core_turn.proofs.Basics.{both_of, number_same, same_test, same_option, all_at}
+use Rattle.core_turn.proofs.Basics.{same_option, all_at}
 use Rattle.core_turn.proofs.Facts.{event_known}
 use Rattle.core_turn.proofs.Started.{StartedBy, started_by, wanting_runs}
-use Rattle.core_turn.proofs.Places.{passing, any_at, all_from, mapped_from, in_kept}
+use Rattle.core_turn.proofs.Places.{passing, all_from, mapped_from, in_kept}
 use Rattle.core_turn.proofs.Mapped.{InTask, task_within, in_its_task}
 use Rattle.core_turn.proofs.Resting.{stuck_on, stuck_first, stuck_last, stuck_each, stuck_at, stuck_wish, wish_stuck, optional_stuck}
 
@@ -54,7 +55,7 @@ module _ (p : Plan) (m : Mapping) (built : IsBuilt p m) (h : History) (legal : I
   module _ (rests : (n : ℕ) → n < m.cores → CoreRests p m h n) where
     of_task : (i : ℕ) (t : Task) → slice_get m.tasks i ≡ Some t → t.core < m.cores → AllStuck p h (tries_of_task p h t)
     of_task i t found within =
-        let at = in_kept (λ (u : Task). u.core == t.core) m.tasks i t found (same_test t.core t.core refl) in
+        let at = in_kept (λ (u : Task). u.core == t.core) m.tasks i t found (eq-eqb t.core t.core refl) in
         stuck_at p h (tries_of_task p h) (tasks_of_core m t.core) at.place t at.found (rests t.core within)
 
     goes_on_stuck : (r : ℕ) (w : Wanted) → next_wish p h (plain_key r) ≡ Some w → IsStuck p h (Act (plain_key r), w)
@@ -64,7 +65,7 @@ module _ (p : Plan) (m : Mapping) (built : IsBuilt p m) (h : History) (legal : I
         let stuck = stuck_first p h (gathered (calls_by p h) t.events) (task_tries p h t) (of_task at.task.at.place t at.task.at.found at.task.core) in
         let e = passing (λ d. d == at.started.event) t.events at.task.listed in
         let by = stuck_at p h (calls_by p h) t.events e.at.place e.item e.at.found stuck in
-        let starts : runnable_of_event p e.item ≡ Some r = ap (runnable_of_event p) (number_same e.item at.started.event e.passes) ∙ at.started.starts in
+        let starts : runnable_of_event p e.item ≡ Some r = ap (runnable_of_event p) (eqb-true e.item at.started.event e.passes) ∙ at.started.starts in
         wish_stuck p h (plain_key r) (next_wish p h (plain_key r)) w next (optional_stuck p h (calls_of p h) (runnable_of_event p e.item) r starts by)
 
     keys_stuck : AllStuck p h (goes_on_tries p h)
@@ -104,12 +105,12 @@ module _ (p : Plan) (m : Mapping) (built : IsBuilt p m) (h : History) (legal : I
         of_test true is =
             let at = home r is in
             let t = at.task.task in
-            let place = in_kept (λ (u : Task). u.core == t.core) m.tasks at.task.at.place t at.task.at.found (same_test t.core t.core refl) in
+            let place = in_kept (λ (u : Task). u.core == t.core) m.tasks at.task.at.place t at.task.at.found (eq-eqb t.core t.core refl) in
             let none : not (list_any (event_runs p h) t.events) ≡ true = all_at (is_free p h) (tasks_of_core m t.core) place.place t (free t.core at.task.core) place.found in
             let e = passing (λ d. d == at.started.event) t.events at.task.listed in
             let busy : event_runs p h at.started.event ≡ true =
-            rw at.started.starts (both_of (runs (plain_key r) h) _ is (same_option (last_started (plain_key r) h) (Some at.started.event) at.started.last)) in
-            let taken = any_at (event_runs p h) t.events e.at.place e.item e.at.found (ap (event_runs p h) (number_same e.item at.started.event e.passes) ∙ busy) in
+            rw at.started.starts (and_from (runs (plain_key r) h) _ is (same_option (last_started (plain_key r) h) (Some at.started.event) at.started.last)) in
+            let taken = any_passes_from_place (event_runs p h) t.events e.at.place e.item e.at.found (ap (event_runs p h) (eqb-true e.item at.started.event e.passes) ∙ busy) in
             absurd (false≢true (sym (ap not taken) ∙ none))
 
     pub nothing_runs : none_runs p h ≡ true

@@ -1,9 +1,9 @@
 -- Tests, numbers, keys, and what is looked up.
-use Rattle.std.proofs.Common.{◌≡◌, ℕ, zero, suc, ◌+◌, ◌<◌, Bool, true, false, ◌&&◌, not, ◌==◌, refl, sym, ◌∙◌, ap, subst, arith, List, [], ◌∷◌, length, ℤ, Option, Some, None}
+use Rattle.std.proofs.Common.{◌≡◌, ℕ, zero, suc, ◌+◌, ◌<◌, Bool, true, false, refl, sym, ◌∙◌, ap, subst, arith, List, [], ◌∷◌, length, ℤ, Option, Some, None}
 use Rattle.std.specs.Ordering.{int_eq}
-use Rattle.std.specs.Cmp.{unsigned_Decides, signed_Decides}
+use Rattle.std.specs.Cmp.{signed_Decides}
 use Rattle.std.specs.List.{list_all, slice_get}
-use Rattle.std.proofs.lemmas.Bool.{false≢true}
+use Rattle.std.proofs.lemmas.Bool.{and_from, and_parts, eq-eqb, eqb-true, false≢true}
 use Rattle.rte_value.specs.declared.kinds.ActKey.{ActKey}
 use Rattle.rte_value.specs.Values.{same_words, same_number, same_key}
 use Rattle.rte_value.specs.EqualKeys.{same_key-Decides}
@@ -12,44 +12,19 @@ use Rattle.bus_semantics.specs.Plan.{look, every_from}
 pub clash : {X : Type 0} (b : Bool) → b ≡ true → b ≡ false → X
 clash b t f = absurd (false≢true (sym f ∙ t))
 
-pub both : (a b : Bool) → (a && b) ≡ true → (a ≡ true) × (b ≡ true)
-both true b e = (refl, e)
-both false b e = (e, clash false e refl)
-
-pub both_of : (a b : Bool) → a ≡ true → b ≡ true → (a && b) ≡ true
-both_of true b first second = second
-both_of false b first second = absurd (false≢true first)
-
-pub not_true : (b : Bool) → not b ≡ true → b ≡ false
-not_true true e = sym e
-not_true false e = refl
-
-pub number_same : (a b : ℕ) → (a == b) ≡ true → a ≡ b
-number_same a b = (unsigned_Decides a b).0
-
-pub same_test : (a b : ℕ) → a ≡ b → (a == b) ≡ true
-same_test a b = (unsigned_Decides a b).1
-
-pub differ_test : (a b : ℕ) → (a ≡ b → ⊥) → (a == b) ≡ false
-differ_test a b apart = of_test (a == b) refl
-  where
-    of_test : (v : Bool) → (a == b) ≡ v → v ≡ false
-    of_test false is = refl
-    of_test true is = absurd (apart (number_same a b is))
-
 pub words_same : (ws : List ℤ) → same_words ws ws ≡ true
 words_same [] = refl
-words_same (x ∷ ws) = both_of (int_eq x x) (same_words ws ws) ((signed_Decides x x).1 refl) (words_same ws)
+words_same (x ∷ ws) = and_from (int_eq x x) (same_words ws ws) ((signed_Decides x x).1 refl) (words_same ws)
 
 pub option_same : (a b : Option ℕ) → same_number a b ≡ true → a ≡ b
 option_same None None e = refl
-option_same (Some a) (Some b) e = ap (λ n. Some n) (number_same a b e)
+option_same (Some a) (Some b) e = ap (λ n. Some n) (eqb-true a b e)
 option_same None (Some b) e = absurd (false≢true e)
 option_same (Some a) None e = absurd (false≢true e)
 
 pub same_option : (a b : Option ℕ) → a ≡ b → same_number a b ≡ true
 same_option None b e = subst (λ o. same_number None o ≡ true) e refl
-same_option (Some a) b e = subst (λ o. same_number (Some a) o ≡ true) e (same_test a a refl)
+same_option (Some a) b e = subst (λ o. same_number (Some a) o ≡ true) e (eq-eqb a a refl)
 
 pub key_same : (k j : ActKey) → same_key k j ≡ true → k ≡ j
 key_same k j = (same_key-Decides k j).0
@@ -82,15 +57,15 @@ no_look xs i f other none = subst (λ ys. look ys i f other ≡ other) (sym none
 
 pub all_at : {X : Type 0} (test : X → Bool) (xs : List X) (i : ℕ) (x : X) → list_all test xs ≡ true → slice_get xs i ≡ Some x → test x ≡ true
 all_at test [] i x all e = absurd (cc e)
-all_at test (y ∷ xs) zero x all e = let same : y ≡ x = cc in subst (λ z. test z ≡ true) same (both (test y) (list_all test xs) all).0
-all_at test (y ∷ xs) (suc i) x all e = all_at test xs i x (both (test y) (list_all test xs) all).1 e
+all_at test (y ∷ xs) zero x all e = let same : y ≡ x = cc in subst (λ z. test z ≡ true) same (and_parts (test y) (list_all test xs) all).0
+all_at test (y ∷ xs) (suc i) x all e = all_at test xs i x (and_parts (test y) (list_all test xs) all).1 e
 
 pub at_place : {X : Type 0} (f : ℕ → X → Bool) (xs : List X) (i n : ℕ) (x : X) → every_from n f xs ≡ true → slice_get xs i ≡ Some x → f (n + i) x ≡ true
 at_place f [] i n x all at = absurd (cc at)
 at_place f (y ∷ xs) zero n x all at =
     let same : y ≡ x = cc in
     let place : n + 0 ≡ n = omega arith in
-    rw place (subst (λ z. f n z ≡ true) same (both (f n y) (every_from (n + 1) f xs) all).0)
+    rw place (subst (λ z. f n z ≡ true) same (and_parts (f n y) (every_from (n + 1) f xs) all).0)
 at_place f (y ∷ xs) (suc i) n x all at =
     let place : n + 1 + i ≡ n + suc i = omega arith in
-    subst (λ k. f k x ≡ true) place (at_place f xs i (n + 1) x (both (f n y) (every_from (n + 1) f xs) all).1 at)
+    subst (λ k. f k x ≡ true) place (at_place f xs i (n + 1) x (and_parts (f n y) (every_from (n + 1) f xs) all).1 at)

@@ -2,7 +2,8 @@
 use Rattle.std.proofs.Common.{◌≡◌, ℕ, ◌<◌, ◌≤◌, Bool, true, false, ◌||◌, ◌==◌, refl, sym, ◌∙◌, ap, subst, List, [], ◌∷◌, length, Some, None}
 use Rattle.std.specs.Prelude.{nat_lt}
 use Rattle.std.specs.List.{list_all, list_any, slice_get}
-use Rattle.std.proofs.lemmas.Bool.{false≢true}
+use Rattle.std.proofs.lemmas.Bool.{and_from, eqb-true, false≢true, or_left, or_right}
+use Rattle.std.proofs.lemmas.Option.{same_Some}
 use Rattle.rte_value.specs.Values.{words_of, same_number}
 use Rattle.bus_semantics.specs.declared.entries.Actor.TheVariants.{Act}
 use Rattle.bus_semantics.specs.declared.entries.Deed.TheVariants as deed
@@ -24,7 +25,7 @@ use Rattle.core_turn.specs.Ready.{IsBegunIn, IsReadySlot}
 use Rattle.core_turn.specs.Standing.{TaskStands}
 use Rattle.core_turn.specs.Looking.{IsStartBy}
 use Rattle.core_turn.specs.Turning.{StepFollows, SlotStep, BegunBy}
-use Rattle.core_turn.proofs.Basics.{both_of, number_same, same_option}
+use Rattle.core_turn.proofs.Basics.{same_option}
 use Rattle.core_turn.proofs.Activities.{AsksOn, asks_first}
 use Rattle.core_turn.proofs.Facts.{Started, started, event_known, start_touches, start_fits, enabled, serves_none}
 use Rattle.core_turn.proofs.Histories.{entry_by, IsStartOf, start_is, start_follows, start_stands}
@@ -34,20 +35,9 @@ one_starts : (p : Plan) (event n : ℕ) → runnable_of_event p event ≡ Some n
 one_starts p event n is [] e = absurd (false≢true e)
 one_starts p event n is (x ∷ xs) e = by_test (x == event) refl e (λ f. one_starts p event n is xs f)
   where
-    either : (a b : Bool) → a ≡ true → (a || b) ≡ true
-    either true b h = refl
-    either false b h = absurd (false≢true h)
-
-    second : (a b : Bool) → b ≡ true → (a || b) ≡ true
-    second true b h = refl
-    second false b h = h
-
     by_test : (b : Bool) → (x == event) ≡ b → (b || list_any (λ e. e == event) xs) ≡ true → (list_any (λ e. e == event) xs ≡ true → starts p n xs ≡ true) → (same_number (runnable_of_event p x) (Some n) || starts p n xs) ≡ true
-    by_test true same any rest = either (same_number (runnable_of_event p x) (Some n)) (starts p n xs) (same_option (runnable_of_event p x) (Some n) (ap (runnable_of_event p) (number_same x event same) ∙ is))
-    by_test false same any rest = second (same_number (runnable_of_event p x) (Some n)) (starts p n xs) (rest any)
-
-same_some : (a b : ℕ) → Some a ≡ Some b → a ≡ b
-same_some a b e = cc
+    by_test true same any rest = or_left (same_number (runnable_of_event p x) (Some n)) (starts p n xs) (same_option (runnable_of_event p x) (Some n) (ap (runnable_of_event p) (eqb-true x event same) ∙ is))
+    by_test false same any rest = or_right (same_number (runnable_of_event p x) (Some n)) (starts p n xs) (rest any)
 
 module _ (p : Plan) (m : Mapping) (built : IsBuilt p m) (t : TaskSet) (old : Slot) (free : old.running ≡ None) (ready : IsReadySlot p t old) (s : Stamped) (by : IsStartBy p old.events.items s) (new : Slot) (begun : BegunBy t s.entry old new) where
   deed_is : IsStartOf by.event s.entry.deed
@@ -60,7 +50,7 @@ module _ (p : Plan) (m : Mapping) (built : IsBuilt p m) (t : TaskSet) (old : Slo
   who = started p m built by.event (event_known p by.event by.runnable by.starts)
 
   number_is : who.number ≡ by.runnable
-  number_is = same_some who.number by.runnable (sym who.starts ∙ by.starts)
+  number_is = same_Some who.number by.runnable (sym who.starts ∙ by.starts)
 
   there : slice_get p.runnables by.runnable ≡ Some who.runnable
   there = subst (λ n. slice_get p.runnables n ≡ Some who.runnable) number_is who.there
@@ -100,8 +90,8 @@ module _ (p : Plan) (m : Mapping) (built : IsBuilt p m) (t : TaskSet) (old : Slo
     actor = by.entry.actor;
     own = own;
     proper = subst (λ e. is_proper p (record { entry = e; event = s.event }) ≡ true) (sym entry_is)
-        (both_of (fits p (entry_by (plain_key by.runnable) (deed.Start by.event deed_is.point deed_is.value))) _
-        (both_of (wish_fits p (Act (plain_key by.runnable)) (to_start by.event)) _ (start_fits p m built by.event by.runnable who.runnable (event_known p by.event by.runnable by.starts) by.starts there inside)
+        (and_from (fits p (entry_by (plain_key by.runnable) (deed.Start by.event deed_is.point deed_is.value))) _
+        (and_from (wish_fits p (Act (plain_key by.runnable)) (to_start by.event)) _ (start_fits p m built by.event by.runnable who.runnable (event_known p by.event by.runnable by.starts) by.starts there inside)
         (subst (λ d. answer_fits p (Act (plain_key by.runnable)) d ≡ true) deed_is.is by.entry.answer))
         (same_option (runnable_of_event p by.event) (Some by.runnable) by.starts));
     events = begun.events;

@@ -2,7 +2,7 @@
 use Rattle.std.proofs.Common.{◌≡◌, ℕ, ◌<◌, true, refl, sym, ◌∙◌, ap, subst, List, [], ◌∷◌, length, map, Option, Some, None}
 use Rattle.std.specs.Prelude.{is_none, IfSome}
 use Rattle.std.specs.List.{list_all, slice_get}
-use Rattle.std.proofs.lemmas.Bool.{false≢true}
+use Rattle.std.proofs.lemmas.Bool.{and_parts, false≢true}
 use Rattle.std.proofs.lemmas.Option.{slice_get_within}
 use Rattle.rte_value.specs.declared.kinds.ActKey.{ActKey}
 use Rattle.rte_value.specs.Values.{words_of}
@@ -30,7 +30,7 @@ use Rattle.core_turn.specs.Plans.{IsBuilt}
 use Rattle.core_turn.specs.Slots.{asked_by, tries_of, slot_tries, looks_of, looks}
 use Rattle.core_turn.specs.Ready.{IsBegun, IsBegunIn, IsReadySlot}
 use Rattle.core_turn.specs.Looking.{IsTried, IsFree, Told, Looked}
-use Rattle.core_turn.proofs.Basics.{both, all_at, looked}
+use Rattle.core_turn.proofs.Basics.{all_at, looked}
 use Rattle.core_turn.proofs.Wishes.{IsData}
 use Rattle.core_turn.proofs.Activities.{Asked, the_end, some_data, asked}
 use Rattle.core_turn.proofs.Facts.{event_known, data_touches, end_touches, enabled, serves_none, end_fits, data_fits}
@@ -83,7 +83,7 @@ module _ (p : Plan) (m : Mapping) (built : IsBuilt p m) (t : TaskSet) (bodies : 
     inside = slice_get_within p.runnables k.runnable b.runnable b.there
 
     pub plain : k ≡ plain_key k.runnable
-    plain = keyed k (both (is_none k.point) _ b.own).0
+    plain = keyed k (and_parts (is_none k.point) _ b.own).0
 
     pub what : Asked p b.runnable b.event (words_of b.value) b.answers b.wish
     what = asked p m built k.runnable b.runnable b.there b.event (enabled p m built b.event) (serves_none p m built k.runnable b.runnable b.there) (words_of b.value) b.answers b.wish b.next

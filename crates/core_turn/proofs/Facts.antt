@@ -4,7 +4,7 @@ use Rattle.std.proofs.Common.{◌≡◌, ℕ, zero, suc, ◌+◌, ◌<◌, Bool,
 use Rattle.std.specs.Prelude.{nat_lt, nat_le, option_map}
 use Rattle.std.specs.List.{list_all, list_any, slice_get}
 use Rattle.std.specs.Option.{option_map_or}
-use Rattle.std.proofs.lemmas.Bool.{false≢true}
+use Rattle.std.proofs.lemmas.Bool.{and_from, and_parts, false≢true, ltb-true}
 use Rattle.std.proofs.lemmas.Bool.Decides.{nat_tests}
 use Rattle.rte_value.specs.Values.{same_number}
 use Rattle.bus_semantics.specs.declared.plan.ElemPlan.{ElemPlan}
@@ -25,7 +25,7 @@ use Rattle.bus_semantics.specs.Fitting.{wish_fits}
 use Rattle.bus_semantics.specs.Rest.{plain_key}
 use Rattle.bus_semantics.specs.SoundEvents.{kind_sound, disabling_sound, event_sound, requires_machine, serves_back}
 use Rattle.core_turn.specs.Plans.{IsBuilt}
-use Rattle.core_turn.proofs.Basics.{clash, both, both_of, same_option, sought, looked, no_look, at_place}
+use Rattle.core_turn.proofs.Basics.{clash, same_option, sought, looked, no_look, at_place}
 use Rattle.core_turn.proofs.Wishes.{IsData}
 
 pub there_is : {X : Type 0} (xs : List X) (n : ℕ) → n < length xs → (x : X) × (slice_get xs n ≡ Some x)
@@ -33,12 +33,9 @@ there_is [] n less = absurd (omega arith)
 there_is (x ∷ xs) zero less = (x, refl)
 there_is (x ∷ xs) (suc n) less = there_is xs n (omega arith)
 
-below : (a b : ℕ) → nat_lt a b ≡ true → a < b
-below a b e = grind (arith, nat_tests)
-
 no_port : (ts : List ModePortPlan) → list_all (λ (t : ModePortPlan). nat_lt t.machine 0) ts ≡ true → ts ≡ []
 no_port [] all = refl
-no_port (t ∷ ts) all = let less = below t.machine 0 (both (nat_lt t.machine 0) (list_all (λ (t : ModePortPlan). nat_lt t.machine 0) ts) all).0 in absurd (omega arith)
+no_port (t ∷ ts) all = let less = ltb-true t.machine 0 (and_parts (nat_lt t.machine 0) (list_all (λ (t : ModePortPlan). nat_lt t.machine 0) ts) all).0 in absurd (omega arith)
 
 -- the kinds of events of such a plan; one that is not there counts as an InitEvent
 pub data PlainKind (p : Plan) (e : ℕ) : Type 0 where
@@ -58,16 +55,16 @@ module _ (p : Plan) (m : Mapping) (built : IsBuilt p m) where
   event_is : (e : ℕ) (v : EventPlan) → slice_get p.events e ≡ Some v → event_sound p e v ≡ true
   event_is e v there =
       let n : 0 + e ≡ e = omega arith in
-      subst (λ k. event_sound p k v ≡ true) n (at_place (event_sound p) p.events e 0 v (both (every_from 0 (event_sound p) p.events) (nat_le (length p.events) 16384) built.sound.events).0 there)
+      subst (λ k. event_sound p k v ≡ true) n (at_place (event_sound p) p.events e 0 v (and_parts (every_from 0 (event_sound p) p.events) (nat_le (length p.events) 16384) built.sound.events).0 there)
 
   pub kind_is_sound : (e : ℕ) (v : EventPlan) → slice_get p.events e ≡ Some v → kind_sound p e v.runnable (instance_of p v.runnable) v.kind ≡ true
   kind_is_sound e v there =
-      (both (kind_sound p e v.runnable (instance_of p v.runnable) v.kind) _ (both (nat_lt v.runnable (length p.runnables)) _ (event_is e v there)).1).0
+      (and_parts (kind_sound p e v.runnable (instance_of p v.runnable) v.kind) _ (and_parts (nat_lt v.runnable (length p.runnables)) _ (event_is e v there)).1).0
 
   disabling_is_sound : (e : ℕ) (v : EventPlan) → slice_get p.events e ≡ Some v → disabling_sound p (instance_of p v.runnable) v.kind v.disabled ≡ true
   disabling_is_sound e v there =
-      (both (disabling_sound p (instance_of p v.runnable) v.kind v.disabled) _
-      (both (kind_sound p e v.runnable (instance_of p v.runnable) v.kind) _ (both (nat_lt v.runnable (length p.runnables)) _ (event_is e v there)).1).1).0
+      (and_parts (disabling_sound p (instance_of p v.runnable) v.kind v.disabled) _
+      (and_parts (kind_sound p e v.runnable (instance_of p v.runnable) v.kind) _ (and_parts (nat_lt v.runnable (length p.runnables)) _ (event_is e v there)).1).1).0
 
   -- ---- events
 
@@ -79,7 +76,7 @@ module _ (p : Plan) (m : Mapping) (built : IsBuilt p m) where
       at_data x at.item.group is (looked p.elements x at.item (λ (w : ElemPlan). Some w.group) None at.found)
   by_kind e v (Invoked s) is sound = clash _ sound (no_look p.servers s _ false built.plain.unqueued.servers)
   by_kind e v (Returns q) is sound = clash _ sound (no_look p.points q _ false built.plain.points)
-  by_kind e v (ModeSwitch n moment) is sound = none_required (instance_of p v.runnable) n (both (requires_machine p (instance_of p v.runnable) n) _ sound).0
+  by_kind e v (ModeSwitch n moment) is sound = none_required (instance_of p v.runnable) n (and_parts (requires_machine p (instance_of p v.runnable) n) _ sound).0
   by_kind e v (Ack n) is sound = clash _ sound (no_look p.machines n _ false built.plain.unqueued.machines)
 
   pub plain_kind : (e : ℕ) → PlainKind p e
@@ -94,7 +91,7 @@ module _ (p : Plan) (m : Mapping) (built : IsBuilt p m) where
     where
       by_disabling : (v : EventPlan) (o : Option Disabling) → v.disabled ≡ o → disabling_sound p (instance_of p v.runnable) v.kind o ≡ true → o ≡ None
       by_disabling v None is sound = refl
-      by_disabling v (Some d) is sound = none_required (instance_of p v.runnable) d.machine (both (requires_machine p (instance_of p v.runnable) d.machine) _ (both _ _ sound).1).0
+      by_disabling v (Some d) is sound = none_required (instance_of p v.runnable) d.machine (and_parts (requires_machine p (instance_of p v.runnable) d.machine) _ (and_parts _ _ sound).1).0
 
       by_event : (o : Option EventPlan) → slice_get p.events e ≡ o → disabling_of p e ≡ None
       by_event None there = ap (λ (o : Option EventPlan). option_map_or (λ (v : EventPlan). v.disabled) o None) there
@@ -141,7 +138,7 @@ module _ (p : Plan) (m : Mapping) (built : IsBuilt p m) where
     where
       serves : serves_back p i r ≡ true
       serves = let n : 0 + i ≡ i = omega arith in
-          subst (λ k. serves_back p k r ≡ true) n (at_place (serves_back p) p.runnables i 0 r (both _ (every_from 0 (serves_back p) p.runnables) built.sound.servers).1 there)
+          subst (λ k. serves_back p k r ≡ true) n (at_place (serves_back p) p.runnables i 0 r (and_parts _ (every_from 0 (serves_back p) p.runnables) built.sound.servers).1 there)
 
       of_server : (o : Option ℕ) → r.server ≡ o → o ≡ None
       of_server None is = refl
@@ -156,7 +153,7 @@ module _ (p : Plan) (m : Mapping) (built : IsBuilt p m) where
       let inside : nat_lt i (length p.runnables) ≡ true = grind (arith, nat_tests) in
       let none : served_by p (Act (plain_key i)) ≡ None = looked p.runnables i r (λ (q : Runnable). q.server) None there ∙ serves_none i r there in
       let never : serves_directly p (plain_key i) ≡ false = rw none refl in
-      both_of (nat_lt i (length p.runnables)) (not (serves_directly p (plain_key i))) inside (ap not never)
+      and_from (nat_lt i (length p.runnables)) (not (serves_directly p (plain_key i))) inside (ap not never)
 
   -- the runnable of an event that is there
   pub record Started (e : ℕ) : Type 0 where
@@ -168,30 +165,30 @@ module _ (p : Plan) (m : Mapping) (built : IsBuilt p m) where
 
   pub started : (e : ℕ) → nat_lt e (length p.events) ≡ true → Started e
   started e inside =
-      let v = there_is p.events e (below e (length p.events) inside) in
-      let less = below v.0.runnable (length p.runnables) (both (nat_lt v.0.runnable (length p.runnables)) _ (event_is e v.0 v.1)).0 in
+      let v = there_is p.events e (ltb-true e (length p.events) inside) in
+      let less = ltb-true v.0.runnable (length p.runnables) (and_parts (nat_lt v.0.runnable (length p.runnables)) _ (event_is e v.0 v.1)).0 in
       let r = there_is p.runnables v.0.runnable less in
       record { number = v.0.runnable; runnable = r.0; starts = looked p.events e v.0 (λ (w : EventPlan). Some w.runnable) None v.1; there = r.1; inside = less }
 
   -- ---- wishes
 
   event_is_own : (e i : ℕ) (r : Runnable) → nat_lt e (length p.events) ≡ true → runnable_of_event p e ≡ Some i → slice_get p.runnables i ≡ Some r → event_fits p (instance_of p i) e ≡ true
-  event_is_own e i r inside starts there = both_of (nat_lt e (length p.events)) _ inside (rw starts (same_option (instance_of p i) (instance_of p i) refl))
+  event_is_own e i r inside starts there = and_from (nat_lt e (length p.events)) _ inside (rw starts (same_option (instance_of p i) (instance_of p i) refl))
 
   pub start_fits : (e i : ℕ) (r : Runnable) → nat_lt e (length p.events) ≡ true → runnable_of_event p e ≡ Some i → slice_get p.runnables i ≡ Some r → i < length p.runnables → wish_fits p (Act (plain_key i)) (to_start e) ≡ true
-  start_fits e i r inside starts there less = both_of (key_fits p (plain_key i)) (event_fits p (instance_of p i) e) (key_is i r there less) (event_is_own e i r inside starts there)
+  start_fits e i r inside starts there less = and_from (key_fits p (plain_key i)) (event_fits p (instance_of p i) e) (key_is i r there less) (event_is_own e i r inside starts there)
 
   pub end_fits : (e i : ℕ) (r : Runnable) → nat_lt e (length p.events) ≡ true → runnable_of_event p e ≡ Some i → slice_get p.runnables i ≡ Some r → i < length p.runnables → wish_fits p (Act (plain_key i)) (to_end e) ≡ true
-  end_fits e i r inside starts there less = both_of (key_fits p (plain_key i)) (event_fits p (instance_of p i) e) (key_is i r there less) (event_is_own e i r inside starts there)
+  end_fits e i r inside starts there less = and_from (key_fits p (plain_key i)) (event_fits p (instance_of p i) e) (key_is i r there less) (event_is_own e i r inside starts there)
 
   pub data_fits : (i : ℕ) (r : Runnable) (w : Wanted) → slice_get p.runnables i ≡ Some r → i < length p.runnables → IsData p (Some r.instance) w → wish_fits p (Act (plain_key i)) w ≡ true
   data_fits i r w there less is = of_wish w (subst (λ home. IsData p home w) (sym (looked p.runnables i r (λ (q : Runnable). Some q.instance) None there)) is)
     where
       of_wish : (w : Wanted) → IsData p (instance_of p i) w → wish_fits p (Act (plain_key i)) w ≡ true
-      of_wish (to_write x ws) is = both_of (key_fits p (plain_key i)) _ (key_is i r there less) is
-      of_wish (to_read x) is = both_of (key_fits p (plain_key i)) _ (key_is i r there less) is
-      of_wish (to_invalidate x) is = both_of (key_fits p (plain_key i)) _ (key_is i r there less) is
-      of_wish (to_see_updated x) is = both_of (key_fits p (plain_key i)) _ (key_is i r there less) is
+      of_wish (to_write x ws) is = and_from (key_fits p (plain_key i)) _ (key_is i r there less) is
+      of_wish (to_read x) is = and_from (key_fits p (plain_key i)) _ (key_is i r there less) is
+      of_wish (to_invalidate x) is = and_from (key_fits p (plain_key i)) _ (key_is i r there less) is
+      of_wish (to_see_updated x) is = and_from (key_fits p (plain_key i)) _ (key_is i r there less) is
       of_wish w is = absurd (false≢true is)
 
 -- an event that starts a runnable is there
@@ -202,6 +199,6 @@ event_known p e i starts = of_list p.events e starts
     of_list [] e starts = absurd (cc starts)
     of_list (v ∷ vs) zero starts = grind (arith, nat_tests)
     of_list (v ∷ vs) (suc e) starts =
-        let less : e < length vs = below e (length vs) (of_list vs e starts) in
+        let less : e < length vs = ltb-true e (length vs) (of_list vs e starts) in
         let more : suc e < length (v ∷ vs) = omega arith in
         grind (arith, nat_tests)

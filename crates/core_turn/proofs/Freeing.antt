@@ -2,7 +2,7 @@
 use Rattle.std.proofs.Common.{◌≡◌, ℕ, ◌≤◌, ◌-◌, ℤ, pos, true, false, not, ◌&&◌, refl, sym, ◌∙◌, ap, subst, arith, List, [], ◌∷◌, length, map, take, replicate, Option, Some, None}
 use Rattle.std.specs.Prelude.{unwrap_or, nat_le, IfSome}
 use Rattle.std.specs.List.{list_all, list_any, slice_get}
-use Rattle.std.proofs.lemmas.Bool.{false≢true}
+use Rattle.std.proofs.lemmas.Bool.{and_parts, eqb-true, false≢true}
 use Rattle.std.proofs.lemmas.Bool.Decides.{nat_tests}
 use Rattle.std.proofs.Math.Seq.{take-append_seam}
 use Rattle.rte_value.specs.declared.value.Value.{Value}
@@ -43,7 +43,7 @@ use Rattle.core_turn.specs.Ready.{IsReadySlot, IsReady}
 use Rattle.core_turn.specs.Standing.{TaskStands, SlotStands, CoreStands}
 use Rattle.core_turn.specs.Looking.{IsHeldAt, IsHeld, AllHeld, IsTried}
 use Rattle.core_turn.specs.Resting.{CoreIsFree}
-use Rattle.core_turn.proofs.Basics.{both, number_same, sought, all_at}
+use Rattle.core_turn.proofs.Basics.{sought, all_at}
 use Rattle.core_turn.proofs.Wishes.{IsData}
 use Rattle.core_turn.proofs.Activities.{Asked, the_end, some_data}
 use Rattle.core_turn.proofs.Facts.{end_touches}
@@ -67,9 +67,9 @@ module _ (p : Plan) (m : Mapping) (built : IsBuilt p m) where
   few_words : (home : Option ℕ) (x : ℕ) (ws : List ℤ) → IsData p home (to_write x ws) → length ws ≤ 16
   few_words home x ws is =
       let at = sought p.elements x (λ (e : ElemPlan). same_number e.instance home && (is_writable e && holds ws e)) is in
-      let held : length ws ≡ at.item.words = number_same (length ws) at.item.words (both (is_writable at.item) (holds ws at.item) (both (same_number at.item.instance home) (is_writable at.item && holds ws at.item) at.holds).1).1 in
+      let held : length ws ≡ at.item.words = eqb-true (length ws) at.item.words (and_parts (is_writable at.item) (holds ws at.item) (and_parts (same_number at.item.instance home) (is_writable at.item && holds ws at.item) at.holds).1).1 in
       let sound = all_at elem_sound p.elements x at.item built.sound.elements at.found in
-      let few = (both (nat_le 1 at.item.words) (nat_le at.item.words 16) (both (nat_le 1 at.item.words && nat_le at.item.words 16) _ sound).0).1 in
+      let few = (and_parts (nat_le 1 at.item.words) (nat_le at.item.words 16) (and_parts (nat_le 1 at.item.words && nat_le at.item.words 16) _ sound).0).1 in
       below at.item.words 16 (length ws) few held
     where
       below : (a b n : ℕ) → nat_le a b ≡ true → n ≡ a → n ≤ b

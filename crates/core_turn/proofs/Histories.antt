@@ -2,7 +2,7 @@
 use Rattle.std.proofs.Common.{◌≡◌, ℕ, Bool, true, false, not, if◌then◌else◌, refl, sym, ◌∙◌, ap, subst, List, [], ◌∷◌, ◌++◌, Option, Some, None}
 use Rattle.std.specs.Prelude.{option_and_then, unwrap_or}
 use Rattle.std.specs.List.{slice_get}
-use Rattle.std.proofs.lemmas.Bool.{false≢true}
+use Rattle.std.proofs.lemmas.Bool.{and_from, eq-eqb, false≢true}
 use Rattle.rte_value.specs.declared.value.Value.{Value}
 use Rattle.rte_value.specs.declared.kinds.ActKey.{ActKey}
 use Rattle.rte_value.specs.Values.{words_of, same_words, same_key, same_number}
@@ -22,7 +22,7 @@ use Rattle.task_machine.specs.Standing.{Standing}
 use Rattle.task_machine.specs.Frames.{Stands}
 use Rattle.core_turn.specs.Slots.{is_key_of}
 use Rattle.core_turn.specs.Standing.{StandsForRunning, TaskStands}
-use Rattle.core_turn.proofs.Basics.{clash, both_of, same_option, key_same, same_keys, same_test, words_same, no_look}
+use Rattle.core_turn.proofs.Basics.{clash, same_option, key_same, same_keys, words_same, no_look}
 use Rattle.core_turn.proofs.Wishes.{is_data, IsData}
 
 abbrev pub entry_by : ActKey → Deed → Entry
@@ -102,10 +102,10 @@ start_is by n (deed.Publish x value) e = absurd (cc e)
 -- ---- the actor rule
 
 same_data : (p : Plan) (home : Option ℕ) (w : Wanted) → IsData p home w → same_wanted w w ≡ true
-same_data p home (to_write x ws) is = both_of _ (same_words ws ws) (same_test x x refl) (words_same ws)
-same_data p home (to_read x) is = same_test x x refl
-same_data p home (to_invalidate x) is = same_test x x refl
-same_data p home (to_see_updated x) is = same_test x x refl
+same_data p home (to_write x ws) is = and_from _ (same_words ws ws) (eq-eqb x x refl) (words_same ws)
+same_data p home (to_read x) is = eq-eqb x x refl
+same_data p home (to_invalidate x) is = eq-eqb x x refl
+same_data p home (to_see_updated x) is = eq-eqb x x refl
 same_data p home w is = absurd (false≢true is)
 
 module _ (p : Plan) (unasked : p.points ≡ []) (g : History) (k : ActKey) where
@@ -121,7 +121,7 @@ module _ (p : Plan) (unasked : p.points ≡ []) (g : History) (k : ActKey) where
   goes_on_next : (w : Wanted) (d : Deed) → starts_or_goes_on p g k d ≡ is_wanted_next p g k d → wanted_by (unwrap_or (last_started k g) 0) d ≡ w → next_wish p g k ≡ Some w → same_wanted w w ≡ true
       → follows_program p g (Act k) d ≡ true
   goes_on_next w d going wish next same =
-      both_of (starts_or_goes_on p g k d) _
+      and_from (starts_or_goes_on p g k d) _
       (going ∙ ap (is_this (wanted_by (unwrap_or (last_started k g) 0) d)) next ∙ ap (λ v. same_wanted v w) wish ∙ same)
       never_held
 
@@ -131,14 +131,14 @@ module _ (p : Plan) (unasked : p.points ≡ []) (g : History) (k : ActKey) where
       goes_on_next w d (a.goes_on g k) (a.same (unwrap_or (last_started k g) 0) by ∙ wish) next (same_data p home w is)
 
   pub end_follows : (n : ℕ) → last_started k g ≡ Some n → next_wish p g k ≡ Some (to_end n) → follows_program p g (Act k) deed.End ≡ true
-  end_follows n last next = goes_on_next (to_end n) deed.End refl (ap (λ o. to_end (unwrap_or o 0)) last) next (same_test n n refl)
+  end_follows n last next = goes_on_next (to_end n) deed.End refl (ap (λ o. to_end (unwrap_or o 0)) last) next (eq-eqb n n refl)
 
   pub start_follows : (n : ℕ) (point : Option ℕ) (value : Value) → k.point ≡ None → runnable_of_event p n ≡ Some k.runnable → runs k g ≡ false → follows_program p g (Act k) (deed.Start n point value) ≡ true
   start_follows n point value plain starts idle =
       let asked : caller_has_asked p g k ≡ true = rw plain refl in
-      both_of (may_start p g k n) _
-      (both_of _ (caller_has_asked p g k)
-      (both_of (same_number (runnable_of_event p n) (Some k.runnable)) (not (runs k g)) (same_option (runnable_of_event p n) (Some k.runnable) starts) (ap not idle))
+      and_from (may_start p g k n) _
+      (and_from _ (caller_has_asked p g k)
+      (and_from (same_number (runnable_of_event p n) (Some k.runnable)) (not (runs k g)) (same_option (runnable_of_event p n) (Some k.runnable) starts) (ap not idle))
       asked)
       never_held
 

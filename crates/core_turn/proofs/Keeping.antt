@@ -2,7 +2,8 @@
 use Rattle.std.proofs.Common.{zero, suc, [], ◌≡◌, ◌≢◌, ℕ, Bool, true, false, ◌&&◌, if◌then◌else◌, refl, sym, ◌∙◌, ap, subst, List, ◌∷◌, set, Option, Some, None}
 use Rattle.std.specs.Prelude.{is_none, unwrap_or, option_map}
 use Rattle.std.specs.List.{slice_get}
-use Rattle.std.proofs.lemmas.Bool.{false≢true}
+use Rattle.std.proofs.lemmas.Bool.{and_parts, eq-eqb, false≢true, ne_eqb}
+use Rattle.std.proofs.lemmas.Option.{same_Some}
 use Rattle.rte_value.specs.Values.{same_number}
 use Rattle.bus_semantics.specs.declared.plan.Disabling.{Disabling}
 use Rattle.bus_semantics.specs.declared.entries.Actor.{Actor}
@@ -33,7 +34,6 @@ use Rattle.core_turn.specs.Standing.{SlotStands, CoreStands}
 use Rattle.core_turn.specs.Looking.{IsEntryOf, MadeAt, Told}
 use Rattle.core_turn.specs.Turning.{StepFollows, FirstInOrder, OrderTold, Steps, NoneTold, NothingComes}
 use Rattle.core_turn.specs.Lawful.{IsLawful}
-use Rattle.core_turn.proofs.Basics.{both, same_test, differ_test}
 use Rattle.core_turn.proofs.Facts.{enabled, end_touches}
 use Rattle.core_turn.proofs.Histories.{entry_by, other_stands}
 use Rattle.core_turn.proofs.Apart.{cores_apart}
@@ -162,9 +162,9 @@ module _ (p : Plan) (m : Mapping) (built : IsBuilt p m) where
         → MayAsk p m a w (kept_of k) (entries_of p h object)
     asked_on object k touching proper stands =
         let free = unbound object touching in
-        let parts = both (fits p s.entry) (starts_its_own p s.entry.actor s.entry.deed) proper in
+        let parts = and_parts (fits p s.entry) (starts_its_own p s.entry.actor s.entry.deed) proper in
         let wish : wanted_by 0 s.entry.deed ≡ w = free_same s.entry.deed 0 (unwrap_or (event_of w) 0) free ∙ entry.wish in
-        let fit : (if needs_event s.entry.deed then activation_fits p s.entry.actor else wish_fits p s.entry.actor (wanted_by 0 s.entry.deed)) ≡ true = (both _ (answer_fits p s.entry.actor s.entry.deed) parts.0).0 in
+        let fit : (if needs_event s.entry.deed then activation_fits p s.entry.actor else wish_fits p s.entry.actor (wanted_by 0 s.entry.deed)) ≡ true = (and_parts _ (answer_fits p s.entry.actor s.entry.deed) parts.0).0 in
         let plain : wish_fits p s.entry.actor (wanted_by 0 s.entry.deed) ≡ true = sym (ap (λ b. if b then activation_fits p s.entry.actor else wish_fits p s.entry.actor (wanted_by 0 s.entry.deed)) free) ∙ fit in
         let fitting : wish_fits p a w ≡ true = (λ i. wish_fits p (sym entry.actor i) (sym wish i)) ∙ plain in
         record {
@@ -240,26 +240,20 @@ module _ (p : Plan) (m : Mapping) (t : TaskSet) (cores : List CoreState) (i : �
       subst (λ n. Stands p n (kept_of made.now) (note h s.entry ∷ entries_of p h object)) number (subst (λ x. Stands p (touched p a w) (kept_of made.now) (x ∷ entries_of p h object)) same one.stands) in
       record {
         answers = whole s.entry object comes;
-        stand = λ j o found. of_place made.now standing j o (placed objects object made.now j o (subst (λ (os : List Object). slice_get os j ≡ Some o) (same_list made.others) found));
+        stand = λ j o found. of_place made.now standing j o (placed objects object made.now j o (subst (λ (os : List Object). slice_get os j ≡ Some o) (same_Some _ _ made.others) found));
       }
     where
-      same_list : {x y : List Object} → Some x ≡ Some y → x ≡ y
-      same_list e = cc
-
       of_place : (now_is : Object) → Stands p object (kept_of now_is) (note h s.entry ∷ entries_of p h object) → (j : ℕ) (o : Object) → Placed Object objects object now_is j o → Stands p j (kept_of o) (entries_of p (s.entry ∷ h) j)
       of_place now_is standing j o (here place same) =
-          let touch : touches p j (note h s.entry) ≡ true = touches_at p m old_ready.built h s a w entry j object touching ∙ same_test object j (sym place) in
+          let touch : touches p j (note h s.entry) ≡ true = touches_at p m old_ready.built h s a w entry j object touching ∙ eq-eqb object j (sym place) in
           subst (Stands p j (kept_of o)) (sym (parted p m old_ready.built h s a w entry j true touch))
           (subst (λ n. Stands p n (kept_of o) (note h s.entry ∷ entries_of p h n)) (sym place) (subst (λ x. Stands p object (kept_of x) (note h s.entry ∷ entries_of p h object)) (sym same) standing))
       of_place now_is standing j o (there other found) =
-          let touch : touches p j (note h s.entry) ≡ false = touches_at p m old_ready.built h s a w entry j object touching ∙ differ_test object j (λ e. other (sym e)) in
+          let touch : touches p j (note h s.entry) ≡ false = touches_at p m old_ready.built h s a w entry j object touching ∙ ne_eqb object j (λ e. other (sym e)) in
           subst (Stands p j (kept_of o)) (sym (parted p m old_ready.built h s a w entry j false touch)) (lawful.stand j o found)
 
-  same_some : {x y : List Object} → Some x ≡ Some y → x ≡ y
-  same_some e = cc
-
   kept_by : (a : Actor) (w : Wanted) (o : Option ℕ) → object_of p a w ≡ o → IsEntryOf p a w s → MadeAt p objects (Some after) (a, w) s.entry o → Kept
-  kept_by a w None touching entry made = untouched a w entry touching (same_some made)
+  kept_by a w None touching entry made = untouched a w entry touching (same_Some _ _ made)
   kept_by a w (Some object) touching entry made = changed a w object entry touching made
 
   kept : before.objects ≡ Some objects → now.objects ≡ Some after → Kept
@@ -272,7 +266,7 @@ module _ (p : Plan) (m : Mapping) (t : TaskSet) (cores : List CoreState) (i : �
   keeps_lawful told tells =
       let k = kept told tells in
       record {
-        legal = (lawful.legal, record { fit = (both (fits p s.entry) (starts_its_own p s.entry.actor s.entry.deed) steps.step.proper).0; actor = follows.rule; answers = k.answers });
+        legal = (lawful.legal, record { fit = (and_parts (fits p s.entry) (starts_its_own p s.entry.actor s.entry.deed) steps.step.proper).0; actor = follows.rule; answers = k.answers });
         stand = k.stand;
         number = λ j c found. cores_numbered j c (placed cores i new j c found);
         ready = λ j c found. cores_ready j c (placed cores i new j c found);
@@ -291,9 +285,6 @@ pub still_lawful : (p : Plan) (m : Mapping) (t : TaskSet) (cores : List CoreStat
     → IsLawful p m t (set cores i new) after h
 still_lawful p m t cores i old new objects after before now h lawful is told tells none =
     let kept = subst (λ o. NoneTold p t old o now.objects) told none.objects in
-    let same : after ≡ objects = both_some (sym tells ∙ kept.1) in
+    let same : after ≡ objects = same_Some _ _ (sym tells ∙ kept.1) in
     let all : set cores i new ≡ cores = ap (set cores i) none.same ∙ set_found cores i old is in
     subst (λ cs. IsLawful p m t cs after h) (sym all) (subst (λ os. IsLawful p m t cores os h) (sym same) lawful)
-  where
-    both_some : {x y : List Object} → Some x ≡ Some y → x ≡ y
-    both_some e = cc

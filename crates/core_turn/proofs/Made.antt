@@ -4,6 +4,7 @@ use Rattle.std.specs.Prelude.{filter, nat_lt}
 use Rattle.std.specs.List.{list_all, slice_get}
 use Rattle.std.proofs.lemmas.List.{take_more}
 use Rattle.std.proofs.lemmas.List.Elements.{filter-append}
+use Rattle.std.proofs.lemmas.Bool.{and_parts}
 use Rattle.bus_semantics.specs.declared.script.Mapping.{Mapping}
 use Rattle.bus_semantics.specs.declared.script.Task.{Task}
 use Rattle.bus_semantics.specs.Plan.{Plan}
@@ -16,7 +17,6 @@ use Rattle.core_turn.specs.Cores.{CoreState, events_of_slot, tasks_of_core, HasT
 use Rattle.core_turn.specs.Made.{IsNew, AreNew}
 use Rattle.core_turn.specs.Ready.{IsBegunIn, IsReadySlot, IsReady}
 use Rattle.core_turn.specs.Standing.{StandsForRunning, CoreStands}
-use Rattle.core_turn.proofs.Basics.{both}
 use Rattle.core_turn.proofs.Apart.{tasks_fit}
 
 new_on : (t : TaskSet) (tasks : List Task) (slots : List Slot) (task : Task) (s : Slot) → AreNew t tasks slots → IsNew t task.events s → AreNew t (tasks ++ task ∷ []) (slots ++ s ∷ [])
@@ -53,12 +53,12 @@ slot_new : (t : TaskSet) (tasks : List Task) (slots : List Slot) (i : ℕ) (s : 
 slot_new t tasks [] i s ok new all e = absurd (cc e)
 slot_new t [] (y ∷ slots) i s ok new all e = absurd new
 slot_new t (x ∷ tasks) (y ∷ slots) zero s ok new all e =
-    let same : y ≡ s = cc in (x, (both (ok x) (list_all ok tasks) all).0, subst (IsNew t x.events) same new.0)
-slot_new t (x ∷ tasks) (y ∷ slots) (suc i) s ok new all e = slot_new t tasks slots i s ok new.1 (both (ok x) (list_all ok tasks) all).1 e
+    let same : y ≡ s = cc in (x, (and_parts (ok x) (list_all ok tasks) all).0, subst (IsNew t x.events) same new.0)
+slot_new t (x ∷ tasks) (y ∷ slots) (suc i) s ok new all e = slot_new t tasks slots i s ok new.1 (and_parts (ok x) (list_all ok tasks) all).1 e
 
 all_kept : (ok keep : Task → Bool) (xs : List Task) → list_all ok xs ≡ true → list_all ok (filter keep xs) ≡ true
 all_kept ok keep [] all = refl
-all_kept ok keep (x ∷ xs) all = by_test (keep x) (both (ok x) (list_all ok xs) all).0 (all_kept ok keep xs (both (ok x) (list_all ok xs) all).1)
+all_kept ok keep (x ∷ xs) all = by_test (keep x) (and_parts (ok x) (list_all ok xs) all).0 (all_kept ok keep xs (and_parts (ok x) (list_all ok xs) all).1)
   where
     by_test : (b : Bool) → ok x ≡ true → list_all ok (filter keep xs) ≡ true → list_all ok (if b then x ∷ filter keep xs else filter keep xs) ≡ true
     by_test true one rest = ap (λ v. v && list_all ok (filter keep xs)) one ∙ rest
@@ -75,7 +75,7 @@ module _ (m : Mapping) (t : TaskSet) (c : CoreState) (new : AreNew t (tasks_of_c
       each i s found =
           let ok = all_kept (λ (x : Task). nat_lt x.core m.cores && (is_name x.name && list_all (λ e. nat_lt e (length p.events)) x.events)) (λ (x : Task). x.core == c.number) m.tasks (tasks_fit p m built) in
           let x = slot_new t (tasks_of_core m c.number) c.slots i s (λ (x : Task). nat_lt x.core m.cores && (is_name x.name && list_all (λ e. nat_lt e (length p.events)) x.events)) new ok found in
-          let known = (both (is_name x.0.name) (list_all (λ e. nat_lt e (length p.events)) x.0.events) (both (nat_lt x.0.core m.cores) _ x.1).1).1 in
+          let known = (and_parts (is_name x.0.name) (list_all (λ e. nat_lt e (length p.events)) x.0.events) (and_parts (nat_lt x.0.core m.cores) _ x.1).1).1 in
           record {
             mapped = subst (λ es. list_all (λ e. nat_lt e (length p.events)) es ≡ true) (sym x.2.listed) known;
             made = x.2.made;

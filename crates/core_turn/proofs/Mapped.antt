@@ -2,7 +2,9 @@
 use Rattle.std.proofs.Common.{◌≡◌, ℕ, ◌+◌, ◌<◌, true, false, ◌&&◌, ◌==◌, refl, sym, ◌∙◌, ap, subst, arith, List, length, Some}
 use Rattle.std.specs.Prelude.{nat_lt}
 use Rattle.std.specs.List.{list_all, list_any, slice_get}
-use Rattle.std.proofs.lemmas.Bool.Decides.{nat_tests}
+use Rattle.std.proofs.lemmas.Bool.{and_parts, eq-eqb, eqb-true, ltb-true}
+use Rattle.std.proofs.lemmas.Map.Keys.{any_passes_from_place}
+use Rattle.std.proofs.lemmas.Option.{same_Some}
 use Rattle.rte_value.specs.Values.{same_number}
 use Rattle.bus_semantics.specs.declared.plan.EventPlan.{EventPlan}
 use Rattle.bus_semantics.specs.declared.plan.EventKind.{EventKind}
@@ -17,13 +19,10 @@ use Rattle.bus_semantics.specs.SoundNames.{is_name}
 use Rattle.bus_semantics.specs.Sound.{mapped_events, times_mapped}
 use Rattle.core_turn.specs.Plans.{IsBuilt}
 use Rattle.core_turn.specs.Slots.{starts, is_key_of}
-use Rattle.core_turn.proofs.Basics.{clash, both, number_same, same_test, same_option, no_look, all_at, at_place}
+use Rattle.core_turn.proofs.Basics.{clash, same_option, no_look, all_at, at_place}
 use Rattle.core_turn.proofs.Facts.{there_is, event_known, kind_is_sound}
 use Rattle.core_turn.proofs.Apart.{in_task, tasks_fit, each_mapped, few, runnable_inside, one_place}
-use Rattle.core_turn.proofs.Places.{IsAmong, any_at, passing, gathers}
-
-below : (a b : ℕ) → nat_lt a b ≡ true → a < b
-below a b e = grind (arith, nat_tests)
+use Rattle.core_turn.proofs.Places.{IsAmong, passing, gathers}
 
 -- the task of an event
 pub record InTask (m : Mapping) (event : ℕ) : Type 0 where
@@ -46,16 +45,16 @@ module _ (p : Plan) (m : Mapping) (built : IsBuilt p m) where
   counted e v there =
       let n : 0 + e ≡ e = omega arith in
       let test = at_place (λ e (v : EventPlan). count (λ d. d == e) (mapped_events m) == times_mapped p v.kind) p.events e 0 v (each_mapped p m built) there in
-      number_same _ _ (subst (λ k. (count (λ d. d == k) (mapped_events m) == times_mapped p v.kind) ≡ true) n test) ∙ once e v v.kind (kind_is_sound p m built e v there)
+      eqb-true _ _ (subst (λ k. (count (λ d. d == k) (mapped_events m) == times_mapped p v.kind) ≡ true) n test) ∙ once e v v.kind (kind_is_sound p m built e v there)
 
   pub task_within : (i : ℕ) (t : Task) → slice_get m.tasks i ≡ Some t → t.core < m.cores
   task_within i t found =
       let test = all_at (λ (t : Task). nat_lt t.core m.cores && (is_name t.name && list_all (λ e. nat_lt e (length p.events)) t.events)) m.tasks i t (tasks_fit p m built) found in
-      below t.core m.cores (both (nat_lt t.core m.cores) _ test).0
+      ltb-true t.core m.cores (and_parts (nat_lt t.core m.cores) _ test).0
 
   pub in_its_task : (e : ℕ) → nat_lt e (length p.events) ≡ true → InTask m e
   in_its_task e inside =
-      let v = there_is p.events e (below e (length p.events) inside) in
+      let v = there_is p.events e (ltb-true e (length p.events) inside) in
       let n = counted e v.0 v.1 in
       let g = gathers (λ (t : Task). t.events) (λ d. d == e) m.tasks (omega arith) in
       record { task = g.from; at = g.at; listed = g.any; core = task_within g.at.place g.from g.at.found }
@@ -64,11 +63,11 @@ module _ (p : Plan) (m : Mapping) (built : IsBuilt p m) where
   pub starts_listed : (e r : ℕ) (events : List ℕ) → runnable_of_event p e ≡ Some r → list_any (λ d. d == e) events ≡ true → starts p r events ≡ true
   starts_listed e r events is any =
       let at = passing (λ d. d == e) events any in
-      any_at (λ d. same_number (runnable_of_event p d) (Some r)) events at.at.place at.item at.at.found
-      (same_option (runnable_of_event p at.item) (Some r) (ap (runnable_of_event p) (number_same at.item e at.passes) ∙ is))
+      any_passes_from_place (λ d. same_number (runnable_of_event p d) (Some r)) events at.at.place at.item at.at.found
+      (same_option (runnable_of_event p at.item) (Some r) (ap (runnable_of_event p) (eqb-true at.item e at.passes) ∙ is))
 
   pub is_own : (es : List ℕ) (i e r : ℕ) → slice_get es i ≡ Some e → runnable_of_event p e ≡ Some r → is_key_of p es (plain_key r) ≡ true
-  is_own es i e r found is = starts_listed e r es is (any_at (λ d. d == e) es i e found (same_test e e refl))
+  is_own es i e r found is = starts_listed e r es is (any_passes_from_place (λ d. d == e) es i e found (eq-eqb e e refl))
 
   -- a task that has an event of a runnable has each of them
   pub has_all : (t : Task) (e r : ℕ) → IsAmong m.tasks t → starts p r t.events ≡ true → runnable_of_event p e ≡ Some r → list_any (λ d. d == e) t.events ≡ true
@@ -77,7 +76,4 @@ module _ (p : Plan) (m : Mapping) (built : IsBuilt p m) where
       let also = starts_listed e r its.task.events is its.listed in
       let place = one_place (in_task p r) m.tasks at.place its.at.place t its.task (few p m built r (runnable_inside p m built r t.events own)) at.found own its.at.found also in
       let same : Some its.task ≡ Some t = sym its.at.found ∙ ap (slice_get m.tasks) (sym place) ∙ at.found in
-      subst (λ o. list_any (λ d. d == e) o.events ≡ true) (one same) its.listed
-    where
-      one : {a b : Task} → Some a ≡ Some b → a ≡ b
-      one e = cc
+      subst (λ o. list_any (λ d. d == e) o.events ≡ true) (same_Some _ _ same) its.listed

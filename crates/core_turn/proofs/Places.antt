@@ -2,10 +2,9 @@
 use Rattle.std.proofs.Common.{◌≡◌, ℕ, zero, suc, ◌≤◌, Bool, true, false, ◌||◌, if◌then◌else◌, refl, sym, ◌∙◌, ap, subst, arith, List, [], ◌∷◌, map, Some}
 use Rattle.std.specs.Prelude.{filter}
 use Rattle.std.specs.List.{list_any, list_all, slice_get}
-use Rattle.std.proofs.lemmas.Bool.{false≢true}
+use Rattle.std.proofs.lemmas.Bool.{and_from, false≢true}
 use Rattle.bus_semantics.specs.History.{count}
 use Rattle.bus_semantics.specs.Rest.{gathered}
-use Rattle.core_turn.proofs.Basics.{both_of}
 use Rattle.core_turn.proofs.Looks.{count_on}
 
 -- an item of a list
@@ -30,18 +29,9 @@ passing test (x ∷ xs) e = of_test (test x) refl e (λ any. passing test xs any
     of_test true is any more = record { item = x; at = record { place = 0; found = refl }; passes = is }
     of_test false is any more = let rest = more any in record { item = rest.item; at = deeper x xs rest.item rest.at; passes = rest.passes }
 
-pub any_at : {X : Type 0} (test : X → Bool) (xs : List X) (i : ℕ) (x : X) → slice_get xs i ≡ Some x → test x ≡ true → list_any test xs ≡ true
-any_at test [] i x e is = absurd (cc e)
-any_at test (y ∷ xs) zero x e is = let same : y ≡ x = cc in ap (λ b. b || list_any test xs) (ap test same ∙ is)
-any_at test (y ∷ xs) (suc i) x e is = of_test (test y) (any_at test xs i x e is)
-  where
-    of_test : (b : Bool) → list_any test xs ≡ true → (b || list_any test xs) ≡ true
-    of_test true any = refl
-    of_test false any = any
-
 pub all_from : {X : Type 0} (test : X → Bool) (xs : List X) → ((i : ℕ) (x : X) → slice_get xs i ≡ Some x → test x ≡ true) → list_all test xs ≡ true
 all_from test [] each = refl
-all_from test (x ∷ xs) each = both_of (test x) (list_all test xs) (each 0 x refl) (all_from test xs (λ i y found. each (suc i) y found))
+all_from test (x ∷ xs) each = and_from (test x) (list_all test xs) (each 0 x refl) (all_from test xs (λ i y found. each (suc i) y found))
 
 pub none_from : {X : Type 0} (test : X → Bool) (xs : List X) → ((i : ℕ) (x : X) → slice_get xs i ≡ Some x → test x ≡ false) → list_any test xs ≡ false
 none_from test [] each = refl

@@ -2,7 +2,9 @@
 use Rattle.std.proofs.Common.{◌≡◌, ℕ, zero, suc, Bool, true, false, not, ◌&&◌, ◌==◌, if◌then◌else◌, refl, sym, ◌∙◌, ap, subst, List, [], ◌∷◌, ◌++◌, map, Option, Some, None}
 use Rattle.std.specs.Prelude.{is_some, is_none, unwrap_or}
 use Rattle.std.specs.List.{list_all, list_any, slice_get}
-use Rattle.std.proofs.lemmas.Bool.{false≢true}
+use Rattle.std.proofs.lemmas.Bool.{and_from, and_parts, eq-eqb, eqb-true, false≢true}
+use Rattle.std.proofs.lemmas.Map.Keys.{any_passes_from_place}
+use Rattle.std.proofs.lemmas.Option.{same_Some}
 use Rattle.rte_value.specs.declared.kinds.ActKey.{ActKey}
 use Rattle.rte_value.specs.Values.{same_number}
 use Rattle.bus_semantics.specs.declared.entries.Actor.TheVariants.{Act}
@@ -31,13 +33,13 @@ use Rattle.core_turn.specs.Ready.{IsBegun, IsReadySlot, IsReady}
 use Rattle.core_turn.specs.Standing.{TaskStands, SlotStands, CoreStands}
 use Rattle.core_turn.specs.Looking.{IsHeldAt, IsHeld, AllHeld}
 use Rattle.core_turn.specs.Resting.{calls_of, calls_by, tries_of_task, CoreRests}
-use Rattle.core_turn.proofs.Basics.{both, both_of, number_same, same_test, same_option, key_same, same_keys}
+use Rattle.core_turn.proofs.Basics.{same_option, key_same, same_keys}
 use Rattle.core_turn.proofs.Histories.{last_event}
 use Rattle.core_turn.proofs.Keeping.{same_event, note_touches}
 use Rattle.core_turn.proofs.Begun.{asked_is, plain, begun_of}
 use Rattle.core_turn.proofs.Stepping.{wants}
 use Rattle.core_turn.proofs.Started.{wanting_runs}
-use Rattle.core_turn.proofs.Places.{IsAmong, Passing, passing, any_at, together, kept_from}
+use Rattle.core_turn.proofs.Places.{IsAmong, Passing, passing, together, kept_from}
 use Rattle.core_turn.proofs.Mapped.{is_own, has_all}
 
 -- ---- lists of tries
@@ -101,7 +103,7 @@ module _ (p : Plan) (m : Mapping) (built : IsBuilt p m) (h : History) (legal : I
       of_object None touching held = held
       of_object (Some object) touching held =
           let touched : touched_by p (note h e) ≡ Some object = touched_note e ∙ ap (λ (u : Try). object_of p u.0 u.1) is ∙ touching in
-          let touch : touches p object (note h e) ≡ true = ap (λ o. same_number o (Some object)) touched ∙ same_test object object refl in
+          let touch : touches p object (note h e) ≡ true = ap (λ o. same_number o (Some object)) touched ∙ eq-eqb object object refl in
           let past : IsPastOf p object (note h e ∷ entries_of p h object) =
           subst (λ b. IsPastOf p object (if b then note h e ∷ entries_of p h object else entries_of p h object)) touch (parts (e ∷ h) object (legal, may)) in
           let some = misses_none object (kept_of held.before) (entries_of p h object) (note h e) (stand object held.before held.found) past.1 in
@@ -141,7 +143,7 @@ module _ (p : Plan) (m : Mapping) (built : IsBuilt p m) (ts : TaskSet) (bodies :
         let goes : runs k h ≡ true = stands.one k b.own ∙ same_keys k k refl in
         let last : last_started k h ≡ Some b.event = last_event k h stands.frame.activation stands.frame.current ∙ ap (λ n. Some n) (wants p m built ts bodies explicit s k b h stands).event in
         let both_are : (runs (plain_key k.runnable) h && same_number (last_started (plain_key k.runnable) h) (Some b.event)) ≡ true =
-        subst (λ j. (runs j h && same_number (last_started j h) (Some b.event)) ≡ true) is (both_of (runs k h) _ goes (same_option (last_started k h) (Some b.event) last)) in
+        subst (λ j. (runs j h && same_number (last_started j h) (Some b.event)) ≡ true) is (and_from (runs k h) _ goes (same_option (last_started k h) (Some b.event) last)) in
         rw b.starts both_are
 
     running_stuck : (task : Task) → IsAmong m.tasks task → task.events ≡ s.events.items → IsStuck p h (Act k, b.wish)
@@ -155,20 +157,17 @@ module _ (p : Plan) (m : Mapping) (built : IsBuilt p m) (ts : TaskSet) (bodies :
         of_call r w next own =
             let here : plain_key r ≡ k = key_same (plain_key r) k (sym (stands.one (plain_key r) own) ∙ wanting_runs p h (plain_key r) w next) in
             let wish : Some b.wish ≡ Some w = sym (wants p m built ts bodies explicit s k b h stands).next ∙ ap (next_wish p h) (sym here) ∙ next in
-            subst (λ j. IsStuck p h (Act j, w)) (sym here) (subst (λ v. IsStuck p h (Act k, v)) (one wish) stuck)
-          where
-            one : {v u : Wanted} → Some v ≡ Some u → v ≡ u
-            one e = cc
+            subst (λ j. IsStuck p h (Act j, w)) (sym here) (subst (λ v. IsStuck p h (Act k, v)) (same_Some _ _ wish) stuck)
 
         listed : list_any (λ d. d == b.event) s.events.items ≡ true
         listed = subst (λ es. list_any (λ d. d == b.event) es ≡ true) same
-            (has_all p m built task b.event k.runnable at (subst (λ es. starts p k.runnable es ≡ true) (sym same) (both (is_none k.point) _ b.own).1) b.starts)
+            (has_all p m built task b.event k.runnable at (subst (λ es. starts p k.runnable es ≡ true) (sym same) (and_parts (is_none k.point) _ b.own).1) b.starts)
 
         taken : list_any (event_runs p h) s.events.items ≡ true
         taken = of_place (passing (λ d. d == b.event) s.events.items listed)
           where
             of_place : Passing (λ d. d == b.event) s.events.items → list_any (event_runs p h) s.events.items ≡ true
-            of_place at = any_at (event_runs p h) s.events.items at.at.place at.item at.at.found (ap (event_runs p h) (number_same at.item b.event at.passes) ∙ busy)
+            of_place at = any_passes_from_place (event_runs p h) s.events.items at.at.place at.item at.at.found (ap (event_runs p h) (eqb-true at.item b.event at.passes) ∙ busy)
 
   pub slot_stuck : (task : Task) → IsAmong m.tasks task → task.events ≡ s.events.items → IsReadySlot p ts s → SlotStands p ts h s → AllStuck p h (slot_tries p ts s) → AllStuck p h (tries_of_task p h task)
   slot_stuck task at same ready stands stuck = of_running s.running refl

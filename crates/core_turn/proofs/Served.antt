@@ -1,7 +1,7 @@
 -- The access that a statement has in a sound plan: it is of the statement's kind, names what there is, and has a limit for each word that is given.
 use Rattle.std.proofs.Common.{◌≡◌, ℕ, Bool, true, false, ◌&&◌, ◌||◌, not, ◌==◌, if◌then◌else◌, refl, sym, ◌∙◌, ap, subst, List, [], ◌∷◌, length, Option}
 use Rattle.std.specs.List.{list_any}
-use Rattle.std.proofs.lemmas.Bool.{false≢true}
+use Rattle.std.proofs.lemmas.Bool.{and_from, and_parts, eq-eqb, eqb-true, false≢true, not-true}
 use Rattle.runnable_lang.specs.declared.program.AccessKind.{AccessKind}
 use Rattle.runnable_lang.specs.declared.program.AccessKind.TheVariants as kind
 use Rattle.runnable_lang.specs.declared.program.AccessSig.{AccessSig}
@@ -9,7 +9,7 @@ use Rattle.runnable_lang.specs.Accesses.{kind_number, is_at, counts, serves}
 use Rattle.bus_semantics.specs.Plan.{Plan}
 use Rattle.bus_semantics.specs.State.{Access, same_kind, is_to, found}
 use Rattle.bus_semantics.specs.SoundAccesses.{access_sound, each_access, same_access, accesses_distinct}
-use Rattle.core_turn.proofs.Basics.{clash, both, both_of, number_same, same_test}
+use Rattle.core_turn.proofs.Basics.{clash}
 
 -- ---- kinds
 
@@ -43,7 +43,7 @@ kind_back kind.Mode = refl
 kind_back kind.Enter = refl
 
 pub kind_same : (a b : AccessKind) → same_kind a b ≡ true → a ≡ b
-kind_same a b e = sym (kind_back a) ∙ ap kind_at (number_same (kind_number a) (kind_number b) e) ∙ kind_back b
+kind_same a b e = sym (kind_back a) ∙ ap kind_at (eqb-true (kind_number a) (kind_number b) e) ∙ kind_back b
 
 -- ---- the access that is found
 
@@ -59,14 +59,14 @@ module _ (f : AccessSig → ℕ → Bool) (k : AccessKind) (port item : ℕ) (te
   -- two accesses to one item of one kind are the same access
   twice : (a b : AccessSig) → is_to k port item a ≡ true → is_to k port item b ≡ true → same_access a b ≡ true
   twice a b one two =
-      let x = both (same_kind a.kind k && (a.port == port)) (a.item == item) one in
-      let y = both (same_kind b.kind k && (b.port == port)) (b.item == item) two in
-      let xs = both (same_kind a.kind k) (a.port == port) x.0 in
-      let ys = both (same_kind b.kind k) (b.port == port) y.0 in
-      let kinds : kind_number a.kind ≡ kind_number b.kind = number_same _ _ xs.0 ∙ sym (number_same _ _ ys.0) in
-      let ports : a.port ≡ b.port = number_same _ _ xs.1 ∙ sym (number_same _ _ ys.1) in
-      let items : a.item ≡ b.item = number_same _ _ x.1 ∙ sym (number_same _ _ y.1) in
-      both_of (same_kind a.kind b.kind) ((a.port == b.port) && (a.item == b.item)) (same_test _ _ kinds) (both_of (a.port == b.port) (a.item == b.item) (same_test _ _ ports) (same_test _ _ items))
+      let x = and_parts (same_kind a.kind k && (a.port == port)) (a.item == item) one in
+      let y = and_parts (same_kind b.kind k && (b.port == port)) (b.item == item) two in
+      let xs = and_parts (same_kind a.kind k) (a.port == port) x.0 in
+      let ys = and_parts (same_kind b.kind k) (b.port == port) y.0 in
+      let kinds : kind_number a.kind ≡ kind_number b.kind = eqb-true _ _ xs.0 ∙ sym (eqb-true _ _ ys.0) in
+      let ports : a.port ≡ b.port = eqb-true _ _ xs.1 ∙ sym (eqb-true _ _ ys.1) in
+      let items : a.item ≡ b.item = eqb-true _ _ x.1 ∙ sym (eqb-true _ _ y.1) in
+      and_from (same_kind a.kind b.kind) ((a.port == b.port) && (a.item == b.item)) (eq-eqb _ _ kinds) (and_from (a.port == b.port) (a.item == b.item) (eq-eqb _ _ ports) (eq-eqb _ _ items))
 
   not_again : (a : AccessSig) (sigs : List AccessSig) → is_to k port item a ≡ true → list_any (same_access a) sigs ≡ false → list_any test sigs ≡ false
   not_again a [] here none = refl
@@ -86,23 +86,19 @@ module _ (f : AccessSig → ℕ → Bool) (k : AccessKind) (port item : ℕ) (te
   served [] (n ∷ ns) all distinct some = absurd (false≢true some)
   served (a ∷ sigs) [] all distinct some = absurd (false≢true all)
   served (a ∷ sigs) (n ∷ ns) all distinct some =
-      let parts = both (f a n) (each_access f sigs ns) all in
-      let apart = both (not (list_any (same_access a) sigs)) (accesses_distinct sigs) distinct in
+      let parts = and_parts (f a n) (each_access f sigs ns) all in
+      let apart = and_parts (not (list_any (same_access a) sigs)) (accesses_distinct sigs) distinct in
       by_test (is_to k port item a) refl (test a) refl parts.0 apart.0 some (λ rest. served sigs ns parts.1 apart.1 rest)
     where
       by_test : (v : Bool) → is_to k port item a ≡ v → (u : Bool) → test a ≡ u → f a n ≡ true → not (list_any (same_access a) sigs) ≡ true → (u || list_any test sigs) ≡ true
           → (list_any test sigs ≡ true → Serving f test k (found (is_to k port item) sigs ns))
           → Serving f test k (if v then record { target = n; ins = a.ins } else found (is_to k port item) sigs ns)
       by_test true at true t sound alone any rest =
-          let kinds = both (same_kind a.kind k) (a.port == port) (both (same_kind a.kind k && (a.port == port)) (a.item == item) at).0 in
+          let kinds = and_parts (same_kind a.kind k) (a.port == port) (and_parts (same_kind a.kind k && (a.port == port)) (a.item == item) at).0 in
           record { sig = a; kind = kind_same a.kind k kinds.0; ins = refl; sound = sound; serves = t }
       by_test true at false t sound alone any rest =
-          let none : list_any (same_access a) sigs ≡ false = off (list_any (same_access a) sigs) alone in
+          let none : list_any (same_access a) sigs ≡ false = not-true (list_any (same_access a) sigs) alone in
           clash (list_any test sigs) any (not_again a sigs at none)
-        where
-          off : (b : Bool) → not b ≡ true → b ≡ false
-          off true e = sym e
-          off false e = refl
       by_test false at true t sound alone any rest = clash (is_to k port item a) (of a t) at
       by_test false at false t sound alone any rest = rest any
 
@@ -113,7 +109,7 @@ sound_of_kind p i home sig k target is sound =
     subst (λ j. access_sound p i home (record { kind = j; port = sig.port; item = sig.item; ins = sig.ins; outs = sig.outs; modes = sig.modes }) target ≡ true) is sound
 
 pub of_serves : (k : AccessKind) (port item : ℕ) (values vars : Option ℕ) (a : AccessSig) → serves k port item values vars a ≡ true → is_to k port item a ≡ true
-of_serves k port item values vars a e = (both (is_at k port a && (a.item == item)) (counts values (length a.ins) && counts vars (length a.outs)) e).0
+of_serves k port item values vars a e = (and_parts (is_at k port a && (a.item == item)) (counts values (length a.ins) && counts vars (length a.outs)) e).0
 
 -- an access that passes a test is sound
 pub record Sound (f : AccessSig → ℕ → Bool) (test : AccessSig → Bool) : Type 0 where
@@ -127,7 +123,7 @@ some_sound f test [] [] all some = absurd (false≢true some)
 some_sound f test [] (n ∷ ns) all some = absurd (false≢true some)
 some_sound f test (a ∷ sigs) [] all some = absurd (false≢true all)
 some_sound f test (a ∷ sigs) (n ∷ ns) all some =
-    let parts = both (f a n) (each_access f sigs ns) all in
+    let parts = and_parts (f a n) (each_access f sigs ns) all in
     by_test (test a) refl parts.0 some (λ rest. some_sound f test sigs ns parts.1 rest)
   where
     by_test : (v : Bool) → test a ≡ v → f a n ≡ true → (v || list_any test sigs) ≡ true → (list_any test sigs ≡ true → Sound f test) → Sound f test

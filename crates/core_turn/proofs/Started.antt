@@ -2,7 +2,7 @@
 use Rattle.std.proofs.Common.{◌≡◌, ℕ, Bool, true, false, not, if◌then◌else◌, refl, sym, ◌∙◌, ap, subst, [], ◌∷◌, Option, Some, None}
 use Rattle.std.specs.Prelude.{option_and_then, unwrap_or}
 use Rattle.std.specs.Option.{option_or}
-use Rattle.std.proofs.lemmas.Bool.{false≢true}
+use Rattle.std.proofs.lemmas.Bool.{and_parts, false≢true}
 use Rattle.rte_value.specs.declared.kinds.ActKey.{ActKey}
 use Rattle.rte_value.specs.Values.{same_key}
 use Rattle.bus_semantics.specs.declared.entries.Actor.{Actor}
@@ -14,7 +14,7 @@ use Rattle.bus_semantics.specs.Wanted.{Wanted, wanted_by}
 use Rattle.bus_semantics.specs.History.{History, made_by, is_over, event_started, last_started, runs}
 use Rattle.bus_semantics.specs.Actor.{activation_of, wanted_in, next_wish, is_this, caller_has_asked, starts_or_goes_on, is_held_back, follows_program}
 use Rattle.bus_semantics.specs.Legal.{IsLegal}
-use Rattle.core_turn.proofs.Basics.{both, option_same, key_same}
+use Rattle.core_turn.proofs.Basics.{option_same, key_same}
 
 -- one that wants something runs
 pub wanting_runs : (p : Plan) (h : History) (k : ActKey) (w : Wanted) → next_wish p h k ≡ Some w → runs k h ≡ true
@@ -37,7 +37,7 @@ module _ (p : Plan) (k : ActKey) where
   -- an entry of the key that is no start goes on
   of_deed : (g : History) (d : Deed) → starts_or_goes_on p g k d ≡ true → (runs k g ≡ true → StartedBy p k g) → (e : ℕ) × (option_or (event_started d) (last_started k g) ≡ Some e) × (runnable_of_event p e ≡ Some k.runnable)
   of_deed g (deed.Start event point value) rule before =
-      (event, refl, option_same (runnable_of_event p event) (Some k.runnable) (both _ (not (runs k g)) (both _ (caller_has_asked p g k) rule).0).0)
+      (event, refl, option_same (runnable_of_event p event) (Some k.runnable) (and_parts _ (not (runs k g)) (and_parts _ (caller_has_asked p g k) rule).0).0)
   of_deed g d rule before = let b = before (is_wanted g (wanted_by (unwrap_or (last_started k g) 0) d) (next_wish p g k) refl rule) in (b.event, b.last, b.starts)
 
   pub started_by : (h : History) → IsLegal p h → runs k h ≡ true → StartedBy p k h
@@ -58,5 +58,5 @@ module _ (p : Plan) (k : ActKey) where
       of_actor (Act j) is rule goes before =
           of_test (same_key k j) (Act j)
           (λ same. let own : j ≡ k = sym (key_same k j same) in
-          (both (starts_or_goes_on p g k e.deed) (not (is_held_back p g k)) (subst (λ i. follows_program p g (Act i) e.deed ≡ true) own (subst (λ a. follows_program p g a e.deed ≡ true) is rule))).0)
+          (and_parts (starts_or_goes_on p g k e.deed) (not (is_held_back p g k)) (subst (λ i. follows_program p g (Act i) e.deed ≡ true) own (subst (λ a. follows_program p g a e.deed ≡ true) is rule))).0)
           (ap (made_by k) is) (sym (ap (λ b. if b then (if is_over e.deed then false else true) else runs k g) (ap (made_by k) is)) ∙ goes) before

@@ -2,6 +2,8 @@
 use Rattle.std.proofs.Common.{◌≡◌, ℕ, ◌+◌, ◌<◌, take, drop, get_or, true, false, ◌||◌, if◌then◌else◌, refl, sym, ◌∙◌, ap, subst, List, [], ◌∷◌, ◌++◌, length, map, Some}
 use Rattle.std.specs.Prelude.{nat_lt, is_some, IfSome}
 use Rattle.std.proofs.lemmas.List.{take_more, take-append-drop}
+use Rattle.std.proofs.lemmas.Bool.{eq-eqb}
+use Rattle.std.proofs.lemmas.Option.{same_Some}
 use Rattle.bus_semantics.specs.declared.entries.Actor.{Actor}
 use Rattle.bus_semantics.specs.declared.entries.Actor.TheVariants.{Act}
 use Rattle.bus_semantics.specs.declared.entries.Stamped.{Stamped}
@@ -18,18 +20,15 @@ use Rattle.core_turn.specs.declared.look.Look.TheVariants.{Made, Nothing, Conten
 use Rattle.core_turn.specs.Plans.{IsBuilt}
 use Rattle.core_turn.specs.Slots.{waits}
 use Rattle.core_turn.specs.Looking.{IsTried, IsFree, EntryOf, StartBy, Told, Looked}
-use Rattle.core_turn.proofs.Basics.{same_option, same_test}
+use Rattle.core_turn.proofs.Basics.{same_option}
 use Rattle.core_turn.proofs.Looks.{looked_on, looked_as, made_more, gathered_on, gathered_one, count_on}
 use Rattle.core_turn.proofs.Facts.{started, start_touches, start_fits}
-
-same_some : (a b : ℕ) → Some a ≡ Some b → a ≡ b
-same_some a b e = cc
 
 module _ (p : Plan) (m : Mapping) (built : IsBuilt p m) (event n : ℕ) (known : nat_lt event (length p.events) ≡ true) (starts : runnable_of_event p event ≡ Some n) where
   pub start_tried : ((a : Actor) (w : Wanted) → wish_fits p a w ≡ true → IfSome (object_of p a w) (IsObject p)) → IsTried p (Act (plain_key n)) (to_start event)
   start_tried objects =
       let s = started p m built event known in
-      let same : s.number ≡ n = same_some s.number n (sym s.starts ∙ starts) in
+      let same : s.number ≡ n = same_Some s.number n (sym s.starts ∙ starts) in
       let fit : wish_fits p (Act (plain_key n)) (to_start event) ≡ true = subst (λ i. wish_fits p (Act (plain_key i)) (to_start event) ≡ true) same (start_fits p m built event s.number s.runnable known s.starts s.there s.inside) in
       record {
         fits = fit;
@@ -39,7 +38,7 @@ module _ (p : Plan) (m : Mapping) (built : IsBuilt p m) (event n : ℕ) (known :
       }
 
   pub start_by : (l : Look) → EntryOf p (Act (plain_key n)) (to_start event) l → StartBy p (event ∷ []) l
-  start_by (Made s) entry = record { event = event; mapped = ap (λ b. b || false) (same_test event event refl); runnable = n; starts = starts; entry = entry }
+  start_by (Made s) entry = record { event = event; mapped = ap (λ b. b || false) (eq-eqb event event refl); runnable = n; starts = starts; entry = entry }
   start_by Nothing entry = tt
   start_by (Contended object) entry = tt
 

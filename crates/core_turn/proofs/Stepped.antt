@@ -1,11 +1,10 @@
 -- A core after the step of one of its slots.
-use Rattle.std.proofs.Common.{◌≡◌, ◌≢◌, ℕ, zero, suc, ◌+◌, ◌-◌, ◌<◌, ◌≤◌, true, false, if◌then◌else◌, refl, sym, ◌∙◌, ap, subst, arith, List, [], ◌∷◌, ◌++◌, length, take, drop, set, map, add_comm, length-drop, Option, Some, None}
-use Rattle.std.specs.Prelude.{nat_le}
+use Rattle.std.proofs.Common.{◌≡◌, ◌≢◌, ℕ, zero, suc, ◌+◌, ◌-◌, ◌<◌, true, if◌then◌else◌, refl, sym, ◌∙◌, ap, subst, arith, List, [], ◌∷◌, ◌++◌, length, take, drop, set, map, add_comm, length-drop, Option, Some, None}
 use Rattle.std.specs.List.{slice_get}
-use Rattle.std.proofs.lemmas.Bool.Decides.{nat_tests}
 use Rattle.std.proofs.lemmas.List.{take-append-drop, length-set}
 use Rattle.std.proofs.Math.Seq.{take-length}
 use Rattle.std.proofs.lemmas.Option.{slice_get_within}
+use Rattle.std.proofs.lemmas.Bool.{le-leb, lt-leb}
 use Rattle.rte_value.specs.declared.kinds.ActKey.{ActKey}
 use Rattle.bus_semantics.specs.declared.entries.Stamped.{Stamped}
 use Rattle.bus_semantics.specs.declared.script.Mapping.{Mapping}
@@ -118,12 +117,6 @@ steps_of p m t old new ready at slot stepped s a b d xs is slots number first tr
       order = order_told p t old at slot a.objects b.objects d.objects s xs order passed.objects now.objects;
     }
 
-le_true : (a b : ℕ) → a ≤ b → nat_le a b ≡ true
-le_true a b h = grind (arith, nat_tests)
-
-le_false : (a b : ℕ) → b < a → nat_le a b ≡ false
-le_false a b h = grind (arith, nat_tests)
-
 -- ---- the first pass, from the first slot on
 
 module _ (p : Plan) (m : Mapping) (t : TaskSet) (old new : CoreState) (ready : IsReady p m t old) (s : Stamped) (at : ℕ)
@@ -131,7 +124,7 @@ module _ (p : Plan) (m : Mapping) (t : TaskSet) (old new : CoreState) (ready : I
   pub back_steps : (a d : Told) → PassMade p t old.slots new.slots old.first at a d s → Steps p t old new a d s
   back_steps a d pass =
       let order : slots_between old.first at old.slots ≡ slots_before old.first at old.slots =
-      ap (λ b. if b then slots_between old.first at old.slots else drop old.first old.slots ++ take at old.slots) (sym (le_true old.first at pass.behind)) in
+      ap (λ b. if b then slots_between old.first at old.slots else drop old.first old.slots ++ take at old.slots) (sym (le-leb old.first at pass.behind)) in
       steps_of p m t old new ready at pass.slot pass.stepped s a pass.middle d (slots_between old.first at old.slots) pass.there pass.slots number first trace room pass.step order pass.passed pass.looked
 
   -- the second pass, up to the first slot
@@ -141,7 +134,7 @@ module _ (p : Plan) (m : Mapping) (t : TaskSet) (old new : CoreState) (ready : I
       let none : at - 0 ≡ at = omega arith in
       let order : drop old.first old.slots ++ slots_between 0 at old.slots ≡ slots_before old.first at old.slots =
       ap (λ n. drop old.first old.slots ++ take n old.slots) none
-      ∙ ap (λ b. if b then slots_between old.first at old.slots else drop old.first old.slots ++ take at old.slots) (sym (le_false old.first at before)) in
+      ∙ ap (λ b. if b then slots_between old.first at old.slots else drop old.first old.slots ++ take at old.slots) (sym (lt-leb old.first at before)) in
       let tries : gathered (slot_tries p t) (drop old.first old.slots) ++ gathered (slot_tries p t) (slots_between 0 at old.slots) ≡ gathered (slot_tries p t) (drop old.first old.slots ++ slots_between 0 at old.slots) =
       sym (gathered_on (slot_tries p t) (drop old.first old.slots) (slots_between 0 at old.slots)) in
       let count : looks_in p (drop old.first old.slots) + looks_in p (slots_between 0 at old.slots) ≡ looks_in p (drop old.first old.slots ++ slots_between 0 at old.slots) =

@@ -1,5 +1,6 @@
 -- A slot after an entry of its running activation.
 use Rattle.std.proofs.Common.{◌≡◌, ℕ, ◌≤◌, true, ◌&&◌, if◌then◌else◌, refl, sym, ◌∙◌, ap, subst, List, [], ◌∷◌, ◌++◌, length, Option, Some, None}
+use Rattle.std.proofs.lemmas.Bool.{and_from}
 use Rattle.std.specs.Prelude.{nat_lt, is_none, option_and_then, unwrap_or}
 use Rattle.std.specs.List.{list_all, slice_get}
 use Rattle.rte_value.specs.declared.kinds.ActKey.{ActKey}
@@ -32,7 +33,7 @@ use Rattle.core_turn.specs.Ready.{IsBegun, IsBegunIn, IsReadySlot}
 use Rattle.core_turn.specs.Standing.{TaskStands, SlotStands}
 use Rattle.core_turn.specs.Looking.{IsEntryOf}
 use Rattle.core_turn.specs.Turning.{StepFollows, SlotStep, Heard}
-use Rattle.core_turn.proofs.Basics.{both_of, looked, same_keys}
+use Rattle.core_turn.proofs.Basics.{looked, same_keys}
 use Rattle.core_turn.proofs.Wishes.{IsData}
 use Rattle.core_turn.proofs.Activities.{AsksOn, Asked, the_end, some_data}
 use Rattle.core_turn.proofs.Facts.{data_touches, key_is, data_fits}
@@ -91,7 +92,7 @@ module _ (p : Plan) (m : Mapping) (built : IsBuilt p m) (t : TaskSet) (bodies : 
     key = k;
     actor = ap (λ (e : Entry). e.actor) entry;
     own = b.own;
-    proper = subst (λ e. is_proper p (record { entry = e; event = s.event }) ≡ true) (sym entry) (both_of (fits p (entry_by k deed.End)) true (both_of (key_fits p k) true key_is_fit refl) refl);
+    proper = subst (λ e. is_proper p (record { entry = e; event = s.event }) ≡ true) (sym entry) (and_from (fits p (entry_by k deed.End)) true (and_from (key_fits p k) true key_is_fit refl) refl);
     events = same;
     ready = record { mapped = still_mapped new same ready; made = made; begun = subst (IsBegunIn p t new.events.items new.frame) (sym idle) tt };
     follows = λ g stands. subst (StepFollows p t g new) (sym entry) (follows g (subst (λ o. TaskStands p t g old.events.items o old.frame) running stands));
@@ -123,7 +124,7 @@ module _ (p : Plan) (m : Mapping) (built : IsBuilt p m) (t : TaskSet) (bodies : 
         key = k;
         actor = ap (λ (e : Entry). e.actor) entry;
         own = b.own;
-        proper = subst (λ e. is_proper p (record { entry = e; event = s.event }) ≡ true) (sym entry) (both_of (fits p (entry_by k d)) (starts_its_own p (Act k) d) (both_of _ (answer_fits p (Act k) d) fit answer) (a.own k));
+        proper = subst (λ e. is_proper p (record { entry = e; event = s.event }) ≡ true) (sym entry) (and_from (fits p (entry_by k d)) (starts_its_own p (Act k) d) (and_from _ (answer_fits p (Act k) d) fit answer) (a.own k));
         events = same;
         ready = record {
           mapped = still_mapped new same ready;

@@ -4,7 +4,7 @@ use Rattle.std.proofs.Common.{◌≡◌, ℕ, ◌+◌, ◌<◌, ℤ, pos, Bool, 
 use Rattle.std.specs.Prelude.{nat_lt}
 use Rattle.std.specs.Ordering.{int_eq}
 use Rattle.std.specs.List.{list_any, slice_get}
-use Rattle.std.proofs.lemmas.Bool.{false≢true}
+use Rattle.std.proofs.lemmas.Bool.{and_from, and_parts, eq-eqb, eqb-true, false≢true}
 use Rattle.std.proofs.lemmas.Bool.Decides.{nat_tests}
 use Rattle.std.proofs.lemmas.List.{length-map, length-replicate}
 use Rattle.rte_value.specs.declared.kinds.Limits.{Limits}
@@ -32,7 +32,7 @@ use Rattle.bus_semantics.specs.SoundAccesses as accesses
 use Rattle.bus_semantics.specs.SoundAccesses.{access_sound, each_access, accesses_distinct, point_takes, mode_count}
 use Rattle.bus_semantics.specs.SoundPrograms.{is_in_range, is_declared_after, calls_outside, each_in, each_of, body_sound, runnable_sound}
 use Rattle.core_turn.specs.Plans.{IsBuilt}
-use Rattle.core_turn.proofs.Basics.{clash, both, both_of, number_same, same_test, Sought, sought, no_look, all_at, at_place}
+use Rattle.core_turn.proofs.Basics.{clash, Sought, sought, no_look, all_at, at_place}
 use Rattle.core_turn.proofs.Tame.{Tame, going, calling_tame, both_tame, times_tame, either_tame}
 use Rattle.core_turn.proofs.Served.{Serving, served, sound_of_kind, of_serves, kind_same, some_sound}
 
@@ -76,8 +76,8 @@ variable_reads e Variable is = refl
 fits_on : (p : Plan) (home : Option ℕ) (f g : ElemPlan → Bool) (x : ℕ) → elem_fits p home f x ≡ true → ((e : ElemPlan) → slice_get p.elements x ≡ Some e → f e ≡ true → g e ≡ true) → elem_fits p home g x ≡ true
 fits_on p home f g x fit on =
     let at = sought p.elements x (λ (e : ElemPlan). same_number e.instance home && f e) fit in
-    let parts = both (same_number at.item.instance home) (f at.item) at.holds in
-    looked_true p.elements x at.item (λ (e : ElemPlan). same_number e.instance home && g e) at.found (both_of (same_number at.item.instance home) (g at.item) parts.0 (on at.item at.found parts.1))
+    let parts = and_parts (same_number at.item.instance home) (f at.item) at.holds in
+    looked_true p.elements x at.item (λ (e : ElemPlan). same_number e.instance home && g e) at.found (and_from (same_number at.item.instance home) (g at.item) parts.0 (on at.item at.found parts.1))
   where
     looked_true : {X : Type 0} (xs : List X) (i : ℕ) (y : X) (f : X → Bool) → slice_get xs i ≡ Some y → f y ≡ true → look xs i f false ≡ true
     looked_true xs i y f at is = Rattle.core_turn.proofs.Basics.looked xs i y f false at ∙ is
@@ -87,7 +87,7 @@ fits_on p home f g x fit on =
 limits_count : (ls bs : List Limits) → same_limits ls bs ≡ true → length ls ≡ length bs
 limits_count [] [] e = refl
 limits_count (a ∷ ls) (b ∷ bs) e =
-    let less = limits_count ls bs (both (same_words (a.low ∷ a.high ∷ []) (b.low ∷ b.high ∷ [])) (same_limits ls bs) e).1 in
+    let less = limits_count ls bs (and_parts (same_words (a.low ∷ a.high ∷ []) (b.low ∷ b.high ∷ [])) (same_limits ls bs) e).1 in
     omega arith
 limits_count [] (b ∷ bs) e = absurd (false≢true e)
 limits_count (a ∷ ls) [] e = absurd (false≢true e)
@@ -110,10 +110,10 @@ module _ (p : Plan) (m : Mapping) (built : IsBuilt p m) (i : ℕ) (r : Runnable)
   whole = let n : 0 + i ≡ i = omega arith in subst (λ k. runnable_sound p k r ≡ true) n (at_place (runnable_sound p) p.runnables i 0 r built.sound.runnables there)
 
   sound_accesses : each_access (access_sound p i (Some r.instance)) r.accesses r.targets ≡ true
-  sound_accesses = (both (each_access (access_sound p i (Some r.instance)) r.accesses r.targets) _ whole).0
+  sound_accesses = (and_parts (each_access (access_sound p i (Some r.instance)) r.accesses r.targets) _ whole).0
 
   distinct : accesses_distinct r.accesses ≡ true
-  distinct = (both (accesses_distinct r.accesses) _ (both (each_access (access_sound p i (Some r.instance)) r.accesses r.targets) _ whole).1).0
+  distinct = (and_parts (accesses_distinct r.accesses) _ (and_parts (each_access (access_sound p i (Some r.instance)) r.accesses r.targets) _ whole).1).0
 
   serving : (k : AccessKind) (port item : ℕ) (values vars : Option ℕ) → list_any (serves k port item values vars) r.accesses ≡ true
       → Serving (access_sound p i (Some r.instance)) (serves k port item values vars) k (access r k port item)
@@ -125,8 +125,8 @@ module _ (p : Plan) (m : Mapping) (built : IsBuilt p m) (i : ℕ) (r : Runnable)
       × ((access r k port item).ins ≡ sig.ins) × (counts values (length sig.ins) ≡ true)
   sound_target k port item values vars has =
       let s = serving k port item values vars has in
-      let tests = both (is_at k port s.sig && (s.sig.item == item)) (counts values (length s.sig.ins) && counts vars (length s.sig.outs)) s.serves in
-      (s.sig, sound_of_kind p i (Some r.instance) s.sig k (access r k port item).target s.kind s.sound, s.ins, (both (counts values (length s.sig.ins)) (counts vars (length s.sig.outs)) tests.1).0)
+      let tests = and_parts (is_at k port s.sig && (s.sig.item == item)) (counts values (length s.sig.ins) && counts vars (length s.sig.outs)) s.serves in
+      (s.sig, sound_of_kind p i (Some r.instance) s.sig k (access r k port item).target s.kind s.sound, s.ins, (and_parts (counts values (length s.sig.ins)) (counts vars (length s.sig.outs)) tests.1).0)
 
   unqueued_all : (x : ℕ) (e : ElemPlan) → slice_get p.elements x ≡ Some e → not (is_queued e) ≡ true
   unqueued_all x e at = all_at (λ (e : ElemPlan). not (is_queued e)) p.elements x e built.plain.unqueued.unqueued at
@@ -135,44 +135,44 @@ module _ (p : Plan) (m : Mapping) (built : IsBuilt p m) (i : ℕ) (r : Runnable)
   words_fit : (x : ℕ) (e : ElemPlan) (a : Access) (es : List ExprTree) (s : State) (sig : AccessSig) → slice_get p.elements x ≡ Some e → accesses.takes_words p x sig.ins ≡ true
       → a.ins ≡ sig.ins → (length es == length sig.ins) ≡ true → holds (given a es s) e ≡ true
   words_fit x e a es s sig at takes ins count =
-      let es_count : length es ≡ length a.ins = number_same (length es) (length sig.ins) count ∙ ap length (sym ins) in
+      let es_count : length es ≡ length a.ins = eqb-true (length es) (length sig.ins) count ∙ ap length (sym ins) in
       let limits = sought p.elements x (λ (e : ElemPlan). same_limits sig.ins (replicate e.words e.limits)) takes in
       let same : limits.item ≡ e = cc (limits.found, at) in
       let limit_count : length sig.ins ≡ limits.item.words = limits_count sig.ins (replicate limits.item.words limits.item.limits) limits.holds ∙ length-replicate limits.item.words limits.item.limits in
-      same_test (length (given a es s)) e.words (given_count a es s es_count ∙ ap length ins ∙ limit_count ∙ ap (λ (e : ElemPlan). e.words) same)
+      eq-eqb (length (given a es s)) e.words (given_count a es s es_count ∙ ap length ins ∙ limit_count ∙ ap (λ (e : ElemPlan). e.words) same)
 
   writes_data : (port item : ℕ) (es : List ExprTree) (s : State) → list_any (serves kind.Write port item (Some (length es)) None) r.accesses ≡ true
       → D (to_write (access r kind.Write port item).target (given (access r kind.Write port item) es s))
   writes_data port item es s has =
       let a = access r kind.Write port item in
       let t = sound_target kind.Write port item (Some (length es)) None has in
-      let parts = both (elem_fits p (Some r.instance) (λ e. is_unqueued e && e.provided) a.target) (accesses.takes_words p a.target t.0.ins) t.1 in
+      let parts = and_parts (elem_fits p (Some r.instance) (λ e. is_unqueued e && e.provided) a.target) (accesses.takes_words p a.target t.0.ins) t.1 in
       fits_on p (Some r.instance) (λ e. is_unqueued e && e.provided) (λ e. is_writable e && holds (given a es s) e) a.target parts.0
-      (λ e at is. let x = both (is_unqueued e) e.provided is in
-      both_of (is_writable e) (holds (given a es s) e) (unqueued_writes e e.kind x.0 x.1) (words_fit a.target e a es s t.0 at parts.1 t.2 t.3))
+      (λ e at is. let x = and_parts (is_unqueued e) e.provided is in
+      and_from (is_writable e) (holds (given a es s) e) (unqueued_writes e e.kind x.0 x.1) (words_fit a.target e a es s t.0 at parts.1 t.2 t.3))
 
   writes_variable_data : (item : ℕ) (es : List ExprTree) (s : State) → list_any (serves kind.IrvWrite 0 item (Some (length es)) None) r.accesses ≡ true
       → D (to_write (access r kind.IrvWrite 0 item).target (given (access r kind.IrvWrite 0 item) es s))
   writes_variable_data item es s has =
       let a = access r kind.IrvWrite 0 item in
       let t = sound_target kind.IrvWrite 0 item (Some (length es)) None has in
-      let parts = both (elem_fits p (Some r.instance) is_variable a.target) (accesses.takes_words p a.target t.0.ins) t.1 in
+      let parts = and_parts (elem_fits p (Some r.instance) is_variable a.target) (accesses.takes_words p a.target t.0.ins) t.1 in
       fits_on p (Some r.instance) is_variable (λ e. is_writable e && holds (given a es s) e) a.target parts.0
-      (λ e at is. both_of (is_writable e) (holds (given a es s) e) (variable_writes e e.kind is) (words_fit a.target e a es s t.0 at parts.1 t.2 t.3))
+      (λ e at is. and_from (is_writable e) (holds (given a es s) e) (variable_writes e e.kind is) (words_fit a.target e a es s t.0 at parts.1 t.2 t.3))
 
   reads_data : (port item : ℕ) (vs : List ℕ) → list_any (serves kind.Read port item None (Some (length vs))) r.accesses ≡ true → D (to_read (access r kind.Read port item).target)
   reads_data port item vs has =
       let a = access r kind.Read port item in
       let t = sound_target kind.Read port item None (Some (length vs)) has in
-      let parts = both (elem_fits p (Some r.instance) (λ e. is_unqueued e && not e.provided) a.target) (accesses.takes_words p a.target t.0.outs) t.1 in
+      let parts = and_parts (elem_fits p (Some r.instance) (λ e. is_unqueued e && not e.provided) a.target) (accesses.takes_words p a.target t.0.outs) t.1 in
       fits_on p (Some r.instance) (λ e. is_unqueued e && not e.provided) is_readable a.target parts.0
-      (λ e at is. let x = both (is_unqueued e) (not e.provided) is in unqueued_reads e e.kind x.0 x.1)
+      (λ e at is. let x = and_parts (is_unqueued e) (not e.provided) is in unqueued_reads e e.kind x.0 x.1)
 
   reads_variable_data : (item : ℕ) (vs : List ℕ) → list_any (serves kind.IrvRead 0 item None (Some (length vs))) r.accesses ≡ true → D (to_read (access r kind.IrvRead 0 item).target)
   reads_variable_data item vs has =
       let a = access r kind.IrvRead 0 item in
       let t = sound_target kind.IrvRead 0 item None (Some (length vs)) has in
-      let parts = both (elem_fits p (Some r.instance) is_variable a.target) (accesses.takes_words p a.target t.0.outs) t.1 in
+      let parts = and_parts (elem_fits p (Some r.instance) is_variable a.target) (accesses.takes_words p a.target t.0.outs) t.1 in
       fits_on p (Some r.instance) is_variable is_readable a.target parts.0 (λ e at is. variable_reads e e.kind is)
 
   invalidates_data : (port item : ℕ) → list_any (serves kind.Invalidate port item None None) r.accesses ≡ true → D (to_invalidate (access r kind.Invalidate port item).target)
@@ -186,18 +186,18 @@ module _ (p : Plan) (m : Mapping) (built : IsBuilt p m) (i : ℕ) (r : Runnable)
   no_queued : (test : ElemPlan → Bool) (x : ℕ) → ((e : ElemPlan) → test e ≡ true → is_queued e ≡ true) → elem_fits p (Some r.instance) test x ≡ true → ⊥
   no_queued test x queued fit =
       let at = sought p.elements x (λ (e : ElemPlan). same_number e.instance (Some r.instance) && test e) fit in
-      let is = queued at.item (both (same_number at.item.instance (Some r.instance)) (test at.item) at.holds).1 in
+      let is = queued at.item (and_parts (same_number at.item.instance (Some r.instance)) (test at.item) at.holds).1 in
       clash (not (is_queued at.item)) (unqueued_all x at.item at.found) (ap not is)
 
   no_send : (port item : ℕ) (n : ℕ) → list_any (serves kind.Send port item (Some n) None) r.accesses ≡ true → ⊥
   no_send port item n has =
       let t = sound_target kind.Send port item (Some n) None has in
-      no_queued (λ e. is_queued e && e.provided) _ (λ e is. (both (is_queued e) e.provided is).0) (both (elem_fits p (Some r.instance) (λ e. is_queued e && e.provided) _) _ t.1).0
+      no_queued (λ e. is_queued e && e.provided) _ (λ e is. (and_parts (is_queued e) e.provided is).0) (and_parts (elem_fits p (Some r.instance) (λ e. is_queued e && e.provided) _) _ t.1).0
 
   no_receive : (port item : ℕ) (n : ℕ) → list_any (serves kind.Receive port item None (Some n)) r.accesses ≡ true → ⊥
   no_receive port item n has =
       let t = sound_target kind.Receive port item None (Some n) has in
-      no_queued (λ e. is_queued e && not e.provided) _ (λ e is. (both (is_queued e) (not e.provided) is).0) (both (elem_fits p (Some r.instance) (λ e. is_queued e && not e.provided) _) _ t.1).0
+      no_queued (λ e. is_queued e && not e.provided) _ (λ e is. (and_parts (is_queued e) (not e.provided) is).0) (and_parts (elem_fits p (Some r.instance) (λ e. is_queued e && not e.provided) _) _ t.1).0
 
   no_item : {X : Type 0} (xs : List X) (n : ℕ) (f : X → Bool) → xs ≡ [] → look xs n f false ≡ true → ⊥
   no_item xs n f none is = false≢true (sym (no_look xs n f false none) ∙ is)
@@ -209,14 +209,14 @@ module _ (p : Plan) (m : Mapping) (built : IsBuilt p m) (i : ℕ) (r : Runnable)
   no_acall port item n has = no_item p.points _ _ built.plain.points (sound_target kind.ACall port item (Some n) None has).1
 
   no_result : (port item n : ℕ) → list_any (serves kind.TakeResult port item None (Some n)) r.accesses ≡ true → ⊥
-  no_result port item n has = no_item p.points _ _ built.plain.points (both (result_point p (Some r.instance) (access r kind.TakeResult port item).target) _ (sound_target kind.TakeResult port item None (Some n) has).1).0
+  no_result port item n has = no_item p.points _ _ built.plain.points (and_parts (result_point p (Some r.instance) (access r kind.TakeResult port item).target) _ (sound_target kind.TakeResult port item None (Some n) has).1).0
 
   no_area : (x : ℕ) → list_any (serves kind.Enter 0 x None None) r.accesses ≡ true → ⊥
   no_area x has = no_item p.areas _ _ built.plain.unqueued.areas (sound_target kind.Enter 0 x None None has).1
 
   no_mode : (port : ℕ) → list_any (serves kind.Mode port 0 None None) r.accesses ≡ true → ⊥
   no_mode port has =
-      let fit = (both (mode_port_fits p (Some r.instance) (access r kind.Mode port 0).target) _ (sound_target kind.Mode port 0 None None has).1).0 in
+      let fit = (and_parts (mode_port_fits p (Some r.instance) (access r kind.Mode port 0).target) _ (sound_target kind.Mode port 0 None None has).1).0 in
       let at = sought p.mode_ports (access r kind.Mode port 0).target (λ (t : ModePortPlan). same_number t.instance (Some r.instance)) fit in
       let inside : nat_lt at.item.machine (length p.machines) ≡ true = all_at (λ (t : ModePortPlan). nat_lt t.machine (length p.machines)) p.mode_ports _ at.item built.sound.mode_ports at.found in
       let less : at.item.machine < length p.machines = grind (arith, nat_tests) in
@@ -226,10 +226,10 @@ module _ (p : Plan) (m : Mapping) (built : IsBuilt p m) (i : ℕ) (r : Runnable)
   no_switch : (port mode : ℕ) → list_any (serves_switch port mode) r.accesses ≡ true → ⊥
   no_switch port mode has =
       let s = some_sound (access_sound p i (Some r.instance)) (serves_switch port mode) r.accesses r.targets sound_accesses has in
-      let at = (both (is_at kind.Switch port s.sig) (nat_lt mode s.sig.modes) s.passes).0 in
-      let is = kind_same s.sig.kind kind.Switch (both (same_kind s.sig.kind kind.Switch) (s.sig.port == port) at).0 in
+      let at = (and_parts (is_at kind.Switch port s.sig) (nat_lt mode s.sig.modes) s.passes).0 in
+      let is = kind_same s.sig.kind kind.Switch (and_parts (same_kind s.sig.kind kind.Switch) (s.sig.port == port) at).0 in
       let sound = sound_of_kind p i (Some r.instance) s.sig kind.Switch s.target is s.sound in
-      no_item p.machines _ _ built.plain.unqueued.machines (both (switch_fits p (Some r.instance) s.target 0) _ sound).0
+      no_item p.machines _ _ built.plain.unqueued.machines (and_parts (switch_fits p (Some r.instance) s.target 0) _ sound).0
 
   -- ---- statements
 
@@ -237,16 +237,16 @@ module _ (p : Plan) (m : Mapping) (built : IsBuilt p m) (i : ℕ) (r : Runnable)
   test around st = (has_access r.accesses st && is_in_range r.program.vars st) && (is_declared_after around st && calls_outside around st)
 
   access_of : (around : List ℕ) (st : StmtTree) → test around st ≡ true → has_access r.accesses st ≡ true
-  access_of around st e = (both (has_access r.accesses st) (is_in_range r.program.vars st) (both (has_access r.accesses st && is_in_range r.program.vars st) (is_declared_after around st && calls_outside around st) e).0).0
+  access_of around st e = (and_parts (has_access r.accesses st) (is_in_range r.program.vars st) (and_parts (has_access r.accesses st && is_in_range r.program.vars st) (is_declared_after around st && calls_outside around st) e).0).0
 
   mutual
     statement_tame : (st : StmtTree) (around : List ℕ) → each_in test around st ≡ true → (s : State) → Tame D (running r st s)
     statement_tame (sets v e) around h s = going D _
     statement_tame (chooses c first second) around h s =
-        let sides = both (each_of test around first) (each_of test around second) (both (test around (chooses c first second)) _ h).1 in
+        let sides = and_parts (each_of test around first) (each_of test around second) (and_parts (test around (chooses c first second)) _ h).1 in
         either_tame D (int_eq (worth s.vars c) (pos 0)) (running_body r second s) (running_body r first s) (body_tame second around sides.1 s) (body_tame first around sides.0 s)
-    statement_tame (repeats n body) around h s = times_tame D n (running_body r body) s (λ t. body_tame body around (both (test around (repeats n body)) _ h).1 t)
-    statement_tame (in_area x body) around h s = absurd (no_area x (access_of around (in_area x body) (both (test around (in_area x body)) _ h).0))
+    statement_tame (repeats n body) around h s = times_tame D n (running_body r body) s (λ t. body_tame body around (and_parts (test around (repeats n body)) _ h).1 t)
+    statement_tame (in_area x body) around h s = absurd (no_area x (access_of around (in_area x body) (and_parts (test around (in_area x body)) _ h).0))
     statement_tame (writes port item es status) around h s = calling_tame D _ (takes_zero status) s (writes_data port item es s (access_of around (writes port item es status) h))
     statement_tame (reads port item vs status) around h s = calling_tame D _ (takes_words vs status) s (reads_data port item vs (access_of around (reads port item vs status) h))
     statement_tame (invalidates port item status) around h s = calling_tame D _ (takes_zero status) s (invalidates_data port item (access_of around (invalidates port item status) h))
@@ -268,11 +268,11 @@ module _ (p : Plan) (m : Mapping) (built : IsBuilt p m) (i : ℕ) (r : Runnable)
     body_tame : (body : BodyTree) (around : List ℕ) → each_of test around body ≡ true → (s : State) → Tame D (running_body r body s)
     body_tame done around h s = going D s
     body_tame (next st body) around h s =
-        let parts = both (each_in test around st) (each_of test around body) h in
+        let parts = and_parts (each_in test around st) (each_of test around body) h in
         both_tame D (running r st) (running_body r body) s (statement_tame st around parts.0 s) (λ t. body_tame body around parts.1 t)
 
   pub program_tame : (s : State) → Tame (IsData p (Some r.instance)) (running_body r r.program.body s)
   program_tame s =
-      let a = both (each_access (access_sound p i (Some r.instance)) r.accesses r.targets) _ whole in
-      let b = both (accesses_distinct r.accesses) _ a.1 in
-      body_tame r.program.body [] (both (body_sound r r.program.body []) _ b.1).0 s
+      let a = and_parts (each_access (access_sound p i (Some r.instance)) r.accesses r.targets) _ whole in
+      let b = and_parts (accesses_distinct r.accesses) _ a.1 in
+      body_tame r.program.body [] (and_parts (body_sound r r.program.body []) _ b.1).0 s

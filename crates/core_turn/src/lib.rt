@@ -13,8 +13,6 @@ mod making;
 mod slot;
 mod starting;
 mod tasks;
-#[cfg(test)]
-mod tests;
 mod threads;
 mod trying;
 mod turning;

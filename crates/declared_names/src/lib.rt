@@ -9,8 +9,6 @@
 mod in_component;
 mod names;
 mod scopes;
-#[cfg(test)]
-mod tests;
 mod values;
 
 pub use in_component::{ComponentNames, InComponent, component_names};

@@ -5,6 +5,8 @@ use Rattle.std.specs.Option.{option_map_or, unwrap_or}
 use Rattle.std.proofs.lemmas.Bool.{and_parts, and_from}
 use Rattle.std.proofs.lemmas.List.Folds.{list_all-map}
 use Rattle.std.proofs.lemmas.Option.{slice_get-map}
+use Rattle.std.proofs.lemmas.List.{length-map}
+use mathlib.Core.List.{map-map}
 use Rattle.serde_json.specs.Data.{Data, null, array, Items, no_items, item}
 use Rattle.serde_json.specs.Find.{get, get_item}
 use Rattle.runnable_lang.specs.declared.program.AccessKind.{AccessKind}
@@ -50,7 +52,6 @@ use Rattle.description_laws.proofs.Lists.{list_all_more}
 use Rattle.description_laws.proofs.Naming.{all_listed, names_owned, on_list, Owns, short_names_fit}
 use Rattle.description_laws.proofs.Ports.{ports_law}
 use Rattle.description_laws.proofs.Programs.{program_law}
-use Rattle.description_laws.proofs.Readings.{map_long, maps}
 use Rattle.description_laws.proofs.Servers.{servers_law, serves_in, map_or_map}
 use Rattle.description_laws.proofs.Serving.{all_well, well, with_served}
 use Rattle.description_laws.proofs.Shorts.{Name, name_value, needed_value, Value}
@@ -108,7 +109,7 @@ module _ (t : TypeTable) (c : Component) where
   event_so e h =
       let parts = and_parts (ltb e.runnable (length runnables)) (kind_low t c.ports e.kind && disabled_low c.ports e.disabled_in_modes) h in
       let more = and_parts (kind_low t c.ports e.kind) (disabled_low c.ports e.disabled_in_modes) parts.1 in
-      and_from _ _ (sym (ap (ltb e.runnable) (map_long runnable_tree c.behavior.runnables)) ∙ parts.0) (and_from _ _ (sym (kind_so e.kind) ∙ more.0) more.1)
+      and_from _ _ (sym (ap (ltb e.runnable) (length-map c.behavior.runnables runnable_tree)) ∙ parts.0) (and_from _ _ (sym (kind_so e.kind) ∙ more.0) more.1)
 
   serves_step : (name : List ℕ) (x : ℕ) (k : EventKind) (o : Option DisabledInModes) (es : List Event) (seen : List ℕ)
       → (well (serves_in t c.ports runnables) seen x k && serves_fit t c es (with_served k x seen)) ≡ serves_fit t c (record { short_name = name; runnable = x; kind = k; disabled_in_modes = o } ∷ es) seen
@@ -135,7 +136,7 @@ module _ (t : TypeTable) (c : Component) where
       let runs = and_parts (names_fit (map (λ (r : RunnableTree). r.short_name) runnables)) (list_all (runnable_low t c.ports (length c.behavior.variables) (length c.behavior.exclusive_areas)) runnables) h.runnables in
       let events = and_parts (names_fit (map (λ (e : Event). e.short_name) c.behavior.events)) (list_all (event_low t c.ports (length runnables)) c.behavior.events) h.events in
       and_from _ _ h.ports (and_from _ _ h.areas (and_from _ _ variables.0 (and_from _ _ variables.1
-      (and_from _ _ (sym (ap names_fit (maps (λ (r : RunnableTree). r.short_name) runnable_tree c.behavior.runnables)) ∙ runs.0)
+      (and_from _ _ (sym (ap names_fit (map-map (λ (r : RunnableTree). r.short_name) runnable_tree c.behavior.runnables)) ∙ runs.0)
       (and_from _ _ (list_all_more (λ r. runnable_low t c.ports (length c.behavior.variables) (length c.behavior.exclusive_areas) (runnable_tree r)) (runnable_fits t c) runnable_so c.behavior.runnables
       (sym (list_all-map (runnable_low t c.ports (length c.behavior.variables) (length c.behavior.exclusive_areas)) runnable_tree c.behavior.runnables) ∙ runs.1))
       (and_from _ _ events.0 (and_from _ _ (list_all_more (event_low t c.ports (length runnables)) (event_fits t c) event_so c.behavior.events events.1)
@@ -200,7 +201,7 @@ module _ (d : Data) (kept : Kept (declarations (visits d Description top)) d Des
           (λ xs. variables_keep table (map (variable_reading (type_names d)) xs) ≡ true → (names_fit (map (λ (v : Variable). v.short_name) (map (variable_reading (type_names d)) xs)) && list_all (variable_fits table) (map (variable_reading (type_names d)) xs)) ≡ true) (λ h. refl)
           (λ ps at kept_ps keeps_all.
           let list = inside inner of_kind.Behavior b (codes "variables") in
-          and_from _ _ (ap names_fit (maps (λ (v : Variable). v.short_name) (variable_reading (type_names d)) (listed ps)) ∙ short_names_fit ds of_kind.Variables of_kind.Variable list ps variables_list (λ x. refl) kept_ps)
+          and_from _ _ (ap names_fit (map-map (λ (v : Variable). v.short_name) (variable_reading (type_names d)) (listed ps)) ∙ short_names_fit ds of_kind.Variables of_kind.Variable list ps variables_list (λ x. refl) kept_ps)
           (all_listed (variable_fits table) (variable_reading (type_names d)) ps (λ j y is.
           let s = inside_part list of_kind.Variables (array ps) j in
           and_from _ _ (typed d kept y of_kind.Variable s (needed_value ds y of_kind.Variable s 1 (needed "type" of_kind.TypeName) refl refl refl (kept_part ds ps of_kind.Variables list j y kept_ps is)))
@@ -218,9 +219,9 @@ module _ (d : Data) (kept : Kept (declarations (visits d Description top)) d Des
           let s = inside_part (inside inner of_kind.Behavior b (codes "runnables")) of_kind.Runnables (array ps) j in
           and_from _ _
           (ap (λ n. list_all (access_low table (map (port_reading scope) (items_at (codes "ports") c)) n (length (texts (items_at (codes "exclusiveAreas") b)))) (map (access_reading scope names) (items_at (codes "accesses") y)) && accesses_distinct (map (access_reading scope names) (items_at (codes "accesses") y)))
-          (map_long (variable_reading (type_names d)) (items_at (codes "variables") b))
+          (length-map (items_at (codes "variables") b) (variable_reading (type_names d)))
           ∙ ap (λ n. list_all (access_low table (map (port_reading scope) (items_at (codes "ports") c)) (length (items_at (codes "variables") b)) n) (map (access_reading scope names) (items_at (codes "accesses") y)) && accesses_distinct (map (access_reading scope names) (items_at (codes "accesses") y)))
-          (map_long text_in (items_at (codes "exclusiveAreas") b))
+          (length-map (items_at (codes "exclusiveAreas") b) text_in)
           ∙ accesses_law d kept i c cs here components kept_c b behavior y s refl kept_y)
           (program_law ds scope names (first_names scope names (slice_get (invoked_events b) (position_in (runnable_names (invoked_events b)) (text_at (codes "shortName") y)))) y s kept_y)
 
@@ -229,7 +230,7 @@ module _ (d : Data) (kept : Kept (declarations (visits d Description top)) d Des
           (λ xs. (names_fit (map (λ (r : RunnableTree). r.short_name) (map run xs)) && list_all low (map run xs)) ≡ true) refl
           (λ ps at kept_ps.
           let list = inside inner of_kind.Behavior b (codes "runnables") in
-          and_from _ _ (ap names_fit (maps (λ (r : RunnableTree). r.short_name) run (listed ps)) ∙ short_names_fit ds of_kind.Runnables of_kind.Runnable list ps runnables_list (λ x. refl) kept_ps)
+          and_from _ _ (ap names_fit (map-map (λ (r : RunnableTree). r.short_name) run (listed ps)) ∙ short_names_fit ds of_kind.Runnables of_kind.Runnable list ps runnables_list (λ x. refl) kept_ps)
           (all_listed low run ps (λ j y is. runnable_fine ps j y (kept_part ds ps of_kind.Runnables list j y kept_ps is))))
 
       tree_fits : TreeFits table tree
@@ -239,7 +240,7 @@ module _ (d : Data) (kept : Kept (declarations (visits d Description top)) d Des
         variables = variables_so;
         runnables = runnables_so;
         events = ap (λ n. names_fit (map (λ (e : Event). e.short_name) (map (event_reading scope names) (items_at (codes "events") b)))
-            && list_all (event_low table (map (port_reading scope) (items_at (codes "ports") c)) n) (map (event_reading scope names) (items_at (codes "events") b))) (map_long run (items_at (codes "runnables") b))
+            && list_all (event_low table (map (port_reading scope) (items_at (codes "ports") c)) n) (map (event_reading scope names) (items_at (codes "events") b))) (length-map (items_at (codes "runnables") b) run)
             ∙ events_law d kept i c cs here components kept_c b behavior kept_b;
         servers = servers_law d kept rules i c cs here components kept_c b behavior kept_b;
       }

@@ -2,6 +2,8 @@
 use Rattle.std.proofs.Common.{◌≡◌, ℕ, List, map, length, Bool, true, false, ◌&&◌, ltb, codes, refl, sym, ap, ◌∙◌, inl, inr}
 use Rattle.std.specs.List.{list_all}
 use Rattle.std.proofs.lemmas.Bool.{and_from, cond_both, true≢false}
+use Rattle.std.proofs.lemmas.List.{length-map}
+use mathlib.Core.List.{map-map}
 use Rattle.serde_json.specs.Data.{Data, array}
 use Rattle.description_places.specs.declared.kind.Kind.TheVariants as of_kind
 use Rattle.description_places.specs.declared.kind.Kind.TheVariants.{Description}
@@ -28,7 +30,6 @@ use Rattle.description_laws.proofs.Listings.{Objects}
 use Rattle.description_laws.proofs.Naming.{all_listed, on_list, short_names_fit}
 use Rattle.description_laws.proofs.Ports.{ports_law, refers}
 use Rattle.description_laws.proofs.Positions.{below}
-use Rattle.description_laws.proofs.Readings.{map_long, maps}
 use Rattle.description_laws.proofs.Roots.{found_type, TypeItem}
 use Rattle.description_laws.proofs.Shorts.{name_value, needed_value}
 use Rattle.description_laws.proofs.Unbroken.{all_at, ports_keep}
@@ -60,12 +61,12 @@ module _ (d : Data) (kept : Kept (declarations (visits d Description top)) d Des
   type_found : (name : List ℕ) → TypeItem d name → type_low (length components) (length compositions) (type_named (prototype_names d) name) ≡ true
   type_found name o = cond_both (ltb (position_in (short_names components) name) (length (short_names components))) (of.Component (position_in (short_names components) name)) (of.Composition (position_in (short_names compositions) name))
       (λ t. type_low (length components) (length compositions) t ≡ true)
-      (λ low. ap (ltb (position_in (short_names components) name)) (sym (map_long (text_at (codes "shortName")) components)) ∙ low)
+      (λ low. ap (ltb (position_in (short_names components) name)) (sym (length-map components (text_at (codes "shortName")))) ∙ low)
       (λ high. by_case o high)
     where
       by_case : TypeItem d name → ltb (position_in (short_names components) name) (length (short_names components)) ≡ false → ltb (position_in (short_names compositions) name) (length compositions) ≡ true
       by_case (inr o) high = below (text_at (codes "shortName")) (codes "compositions") d name o
-      by_case (inl o) high = absurd (true≢false (sym (below (text_at (codes "shortName")) (codes "components") d name o) ∙ ap (ltb (position_in (short_names components) name)) (sym (map_long (text_at (codes "shortName")) components)) ∙ high))
+      by_case (inl o) high = absurd (true≢false (sym (below (text_at (codes "shortName")) (codes "components") d name o) ∙ ap (ltb (position_in (short_names components) name)) (sym (length-map components (text_at (codes "shortName")))) ∙ high))
 
   prototype_low : (x : Data) (s : Spot) → Kept ds x of_kind.Prototype s → type_low (length components) (length compositions) (type_named (prototype_names d) (text_at (codes "type") x)) ≡ true
   prototype_low x s kept_x =
@@ -83,7 +84,7 @@ module _ (d : Data) (kept : Kept (declarations (visits d Description top)) d Des
       (λ ps there kept_ps.
       let list = inside s of_kind.Composition x (codes "prototypes") in
       and_from _ _
-      (ap names_fit (maps (λ (p : Prototype). p.short_name) (prototype_reading (prototype_names d)) (listed ps)) ∙ short_names_fit ds of_kind.Prototypes of_kind.Prototype list ps prototypes_list (λ x. refl) kept_ps)
+      (ap names_fit (map-map (λ (p : Prototype). p.short_name) (prototype_reading (prototype_names d)) (listed ps)) ∙ short_names_fit ds of_kind.Prototypes of_kind.Prototype list ps prototypes_list (λ x. refl) kept_ps)
       (all_listed (λ (p : Prototype). type_low (length components) (length compositions) p.of_type) (prototype_reading (prototype_names d)) ps (λ i y is.
       prototype_low y (inside_part list of_kind.Prototypes (array ps) i) (kept_part ds ps of_kind.Prototypes list i y kept_ps is))))
 

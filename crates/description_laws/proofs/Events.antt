@@ -3,6 +3,7 @@ use Rattle.std.proofs.Common.{◌≡◌, ℕ, ◌^◌, List, ◌∷◌, ◌++◌
 use Rattle.std.specs.List.{list_all, slice_get}
 use Rattle.std.specs.Option.{option_map, option_map_or}
 use Rattle.std.proofs.lemmas.Bool.{and_from}
+use mathlib.Core.List.{map-map}
 use Rattle.serde_json.specs.Data.{Data, array, Items}
 use Rattle.serde_json.specs.Find.{get, get_item}
 use Rattle.description_places.specs.declared.kind.Kind.{Kind}
@@ -41,7 +42,6 @@ use Rattle.description_laws.proofs.Naming.{all_listed, on_list, short_names_fit}
 use Rattle.description_laws.proofs.PortItems.{item_low, port_low}
 use Rattle.description_laws.proofs.Ports.{refers, Refers}
 use Rattle.description_laws.proofs.Positions.{below}
-use Rattle.description_laws.proofs.Readings.{maps}
 use Rattle.description_laws.proofs.Reach.{activation_fine, pick_fine}
 use Rattle.description_laws.proofs.Shorts.{has_short, name_value, needed_value, optional_value, Value}
 use Rattle.description_laws.proofs.Types.{ranged}
@@ -212,5 +212,5 @@ module _ (d : Data) (kept : Kept (declarations (visits d Description top)) d Des
       (λ xs. (names_fit (map (λ (e : Event). e.short_name) (map (event_reading scope names) xs)) && list_all (event_low table ports (length (items_at (codes "runnables") b))) (map (event_reading scope names) xs)) ≡ true) refl
       (λ ps at kept_ps.
       let list = inside inner of_kind.Behavior b (codes "events") in
-      and_from _ _ (ap names_fit (maps (λ (e : Event). e.short_name) (event_reading scope names) (listed ps)) ∙ short_names_fit ds of_kind.Events of_kind.Event list ps events_list event_beside kept_ps)
+      and_from _ _ (ap names_fit (map-map (λ (e : Event). e.short_name) (event_reading scope names) (listed ps)) ∙ short_names_fit ds of_kind.Events of_kind.Event list ps events_list event_beside kept_ps)
       (all_listed (event_low table ports (length (items_at (codes "runnables") b))) (event_reading scope names) ps (λ j x is. event_fits ps j x (kept_part ds ps of_kind.Events list j x kept_ps is))))

@@ -20,7 +20,6 @@ use Rattle.description_laws.proofs.Beginning.{Whole}
 use Rattle.description_laws.proofs.Kept.{Kept, found_here}
 use Rattle.description_laws.proofs.Mappings.{fits_mapping, mapping_law}
 use Rattle.description_laws.proofs.Positions.{below}
-use Rattle.description_laws.proofs.Readings.{map_long}
 use Rattle.description_laws.proofs.Roots.{found_root}
 use Rattle.description_laws.proofs.Shorts.{name_value, needed_value}
 use Rattle.description_laws.proofs.Types.{types_law}
@@ -30,6 +29,7 @@ use Rattle.description_laws.proofs.Unbroken.{initials_kept, ports_keep, types_ke
 use Rattle.description_laws.proofs.Lists.{list_all_more}
 use Rattle.std.specs.List.{list_all}
 use Rattle.std.proofs.lemmas.Bool.{and_parts, and_from}
+use Rattle.std.proofs.lemmas.List.{length-map}
 use Rattle.description_types.specs.declared.description.Composition.{Composition}
 use Rattle.description_types.specs.declared.description.Prototype.{Prototype}
 use Rattle.description_types.specs.declared.description.PrototypeType.{PrototypeType}
@@ -50,7 +50,7 @@ root_law d kept =
     let found = found_here (declarations (visits d Whole_kind top)) v.value of_kind.RootName at v.kept in
     let listed = found_root d kept name.text name.fits_name (subst (λ y. is_declared_composition (declarations (visits d Whole_kind top)) (named (codes "/components") (text_in y)) ≡ true) name.is found) in
     ap (λ t. ltb (position_in (short_names (items_at (codes "compositions") d)) t) (length (reading d).compositions)) text_is
-    ∙ ap (ltb (position_in (short_names (items_at (codes "compositions") d)) name.text)) (map_long _ (items_at (codes "compositions") d))
+    ∙ ap (ltb (position_in (short_names (items_at (codes "compositions") d)) name.text)) (length-map (items_at (codes "compositions") d) _)
     ∙ below (text_at (codes "shortName")) (codes "compositions") d name.text listed
 
 pub root : (d : Description) → Whole (description_of d) → ltb d.root (length d.compositions) ≡ true
@@ -65,8 +65,8 @@ tree_fits t = list_all (fits_composition t.types (length t.components) (length t
 
 read_compositions : (d : Data) → Kept (declarations (visits d Whole_kind top)) d Whole_kind top → list_all (λ (c : Composition). ports_keep (reading d).types c.ports) (reading d).compositions ≡ true → tree_fits (reading d)
 read_compositions d kept h =
-    subst (λ n. list_all (fits_composition (reading d).types n (length (reading d).compositions)) (reading d).compositions ≡ true) (sym (map_long (component_reading (scope_of d)) (items_at (codes "components") d)))
-    (subst (λ n. list_all (fits_composition (reading d).types (length (items_at (codes "components") d)) n) (reading d).compositions ≡ true) (sym (map_long _ (items_at (codes "compositions") d)))
+    subst (λ n. list_all (fits_composition (reading d).types n (length (reading d).compositions)) (reading d).compositions ≡ true) (sym (length-map (items_at (codes "components") d) (component_reading (scope_of d))))
+    (subst (λ n. list_all (fits_composition (reading d).types (length (items_at (codes "components") d)) n) (reading d).compositions ≡ true) (sym (length-map (items_at (codes "compositions") d) _))
     (compositions_law d kept h))
 
 low_so : (d : Description) (t : PrototypeType) → type_low (length d.components) (length d.compositions) t ≡ true → prototype_fits d t ≡ true
@@ -83,7 +83,7 @@ pub compositions : (d : Description) → Whole (description_of d) → list_all (
 compositions d w =
     let of_tree : tree_fits (description_of d) = subst tree_fits (sym w.is_reading) (read_compositions w.value w.kept (initials_kept (reading w.value) w.initials).1) in
     list_all_more (fits_composition d.types (length d.components) (length d.compositions)) (composition_fits d) (fits_so d) d.compositions
-    (subst (λ n. list_all (fits_composition d.types n (length d.compositions)) d.compositions ≡ true) (map_long component_tree d.components) of_tree)
+    (subst (λ n. list_all (fits_composition d.types n (length d.compositions)) d.compositions ≡ true) (length-map d.components component_tree) of_tree)
 
 pub components : (d : Description) → Whole (description_of d) → list_all (component_fits d.types) d.components ≡ true
 components d w =

@@ -4,6 +4,7 @@ use Rattle.std.specs.Option.{option_and_then, unwrap_or}
 use Rattle.std.proofs.lemmas.Bool.{false≢true, cases_Bool}
 use Rattle.std.proofs.lemmas.Option.{same_Some}
 use Rattle.std.proofs.lemmas.Slice.Eq.{bytes_eq-Decides}
+use Rattle.std.proofs.lemmas.List.{length-map}
 use Rattle.serde_json.specs.Data.{Data, array, object, Items, Members}
 use Rattle.serde_json.specs.Find.{as_str, get, get_item, get_member}
 use Rattle.description_places.specs.declared.kind.Kind.{Kind}
@@ -28,7 +29,6 @@ use Rattle.description_laws.proofs.Lookups.{hit_of}
 use Rattle.description_laws.proofs.Numerals.{name_no, own_apart, slash_apart}
 use Rattle.description_laws.proofs.Positions.{InList, below}
 use Rattle.description_laws.proofs.Prefixes.{begins, begins_after, begins_self, none_with, Reaches}
-use Rattle.description_laws.proofs.Readings.{map_long}
 use Rattle.description_laws.proofs.Reach.{reach, is_plain, begin_so}
 use Rattle.description_laws.proofs.Sections.{Section, section, closed_near, interfaces_list, interface_beside}
 use Rattle.description_laws.proofs.Shorts.{short_name}
@@ -163,7 +163,7 @@ module _ (ds : List Declared) (s : Spot) (name : List ℕ) (fits : is_name name 
       at_word word e h = subst (λ w. ltb (position_in (names_by w x) name) (length (names_by w x)) ≡ true) (sym e) h
 
       listed_so : (key : List ℕ) → InList (text_at (codes "shortName")) key x name → ltb (position_in (short_names (items_at key x)) name) (length (short_names (items_at key x))) ≡ true
-      listed_so key o = ap (ltb (position_in (short_names (items_at key x)) name)) (map_long (text_at (codes "shortName")) (items_at key x)) ∙ below (text_at (codes "shortName")) key x name o
+      listed_so key o = ap (ltb (position_in (short_names (items_at key x)) name)) (length-map (items_at key x) (text_at (codes "shortName"))) ∙ below (text_at (codes "shortName")) key x name o
 
       alone : (text : List ℕ) → text ≡ name → ltb (position_in (text ∷ []) name) 1 ≡ true
       alone text e = ap (λ b. ltb (cond b 0 (1 + 0)) 1) ((bytes_eq-Decides text name).1 e)

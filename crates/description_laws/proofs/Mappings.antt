@@ -3,6 +3,8 @@ use Rattle.std.proofs.Common.{◌≡◌, ℕ, ◌≤◌, ◌<◌, ◌^◌, [], m
 use Rattle.std.specs.List.{list_all}
 use Rattle.std.specs.Option.{option_and_then, unwrap_or}
 use Rattle.std.proofs.lemmas.Bool.{and_parts, and_from, false≢true, leb-true, ltb-true}
+use Rattle.std.proofs.lemmas.List.{length-map}
+use mathlib.Core.List.{map-map}
 use Rattle.serde_json.specs.Data.{Data, null, array, Items}
 use Rattle.serde_json.specs.Events.{items_len}
 use Rattle.serde_json.specs.Find.{as_number, as_str, as_u64, get}
@@ -27,7 +29,7 @@ use Rattle.description_laws.proofs.Kept.{Kept, kept_part, shape_here, found_here
 use Rattle.description_laws.proofs.Lookups.{found_task, tasks_list}
 use Rattle.description_laws.proofs.Naming.{all_listed, on_list, short_names_fit}
 use Rattle.description_laws.proofs.Positions.{below}
-use Rattle.description_laws.proofs.Readings.{below_is, counted_array, items_counted, map_long, maps, number_fits}
+use Rattle.description_laws.proofs.Readings.{below_is, counted_array, items_counted, number_fits}
 use Rattle.description_laws.proofs.Shorts.{name_value, needed_value, Value}
 
 -- the fields of a mapping, as `mapping_fits` has them
@@ -60,12 +62,12 @@ module _ (d m : Data) (kept : Kept (declarations (visits d Description top)) d D
   tasks_counted = on_list (declarations (visits d Description top)) m of_kind.Mapping spot 1 (optional "tasks" of_kind.Tasks) refl refl (counted_array 0 256) kept_m
       (λ xs. leb (length (map task_reading xs)) 256 ≡ true) refl
       (λ ps at kept. let shape = shape_here (declarations (visits d Description top)) (array ps) of_kind.Tasks (inside spot of_kind.Mapping m (codes "tasks")) kept in
-      ap (λ n. leb n 256) (map_long task_reading (listed ps) ∙ items_counted ps) ∙ (and_parts (leb 0 (items_len ps)) (leb (items_len ps) 256) shape).1)
+      ap (λ n. leb n 256) (length-map (listed ps) task_reading ∙ items_counted ps) ∙ (and_parts (leb 0 (items_len ps)) (leb (items_len ps) 256) shape).1)
 
   tasks_named : names_fit (map (λ (t : Task). t.short_name) (map task_reading (items_at (codes "tasks") m))) ≡ true
   tasks_named = on_list (declarations (visits d Description top)) m of_kind.Mapping spot 1 (optional "tasks" of_kind.Tasks) refl refl (counted_array 0 256) kept_m
       (λ xs. names_fit (map (λ (t : Task). t.short_name) (map task_reading xs)) ≡ true) refl
-      (λ ps at kept. ap names_fit (maps (λ (t : Task). t.short_name) task_reading (listed ps)) ∙ short_names_fit (declarations (visits d Description top)) of_kind.Tasks of_kind.Task (inside spot of_kind.Mapping m (codes "tasks")) ps tasks_list (λ x. refl) kept)
+      (λ ps at kept. ap names_fit (map-map (λ (t : Task). t.short_name) task_reading (listed ps)) ∙ short_names_fit (declarations (visits d Description top)) of_kind.Tasks of_kind.Task (inside spot of_kind.Mapping m (codes "tasks")) ps tasks_list (λ x. refl) kept)
 
   core_fits : (o c : Option ℕ) → holds (is_within 1 8) c ≡ true → holds (λ n. ltb n (unwrap_or c 0)) o ≡ true → ltb (under (2 ^ 32) 0 o) (under (2 ^ 32) 0 c) ≡ true
   core_fits None c h k = absurd (false≢true k)
@@ -108,7 +110,7 @@ module _ (d m : Data) (kept : Kept (declarations (visits d Description top)) d D
           let found = found_here (declarations (visits d Description top)) v.value of_kind.TaskName (inside at of_kind.MappedEvent x (codes "task")) v.kept in
           let listed_so = found_task d kept m name.text there name.fits_name (subst (λ y. is_declared (declarations (visits d Description top)) (named (codes "/mapping/tasks") (text_in y)) ≡ true) name.is found) in
           ap (λ t. ltb (position_in (short_names (items_at (codes "tasks") m)) t) (length (map task_reading (items_at (codes "tasks") m)))) text_is
-          ∙ ap (ltb (position_in (short_names (items_at (codes "tasks") m)) name.text)) (map_long task_reading (items_at (codes "tasks") m))
+          ∙ ap (ltb (position_in (short_names (items_at (codes "tasks") m)) name.text)) (length-map (items_at (codes "tasks") m) task_reading)
           ∙ below (text_at (codes "shortName")) (codes "tasks") m name.text listed_so
 
   mapping_kept : fits_mapping (mapping_reading m) ≡ true

@@ -3,6 +3,7 @@ use Rattle.std.proofs.Common.{◌≡◌, ℕ, ◌+◌, List, [], ◌++◌, map, 
 use Rattle.std.specs.List.{slice_get, slice_index_or}
 use Rattle.std.specs.Option.{option_map, option_map_or}
 use Rattle.std.proofs.lemmas.Option.{get_or_from_slice_get, none-some, same_Some, slice_get-map}
+use Rattle.std.proofs.lemmas.List.{length-map}
 use Rattle.serde_json.specs.Data.{Data, array, Items}
 use Rattle.serde_json.specs.Find.{get, get_item}
 use Rattle.description_places.specs.declared.kind.Kind.TheVariants as of_kind
@@ -31,7 +32,6 @@ use Rattle.description_laws.proofs.Lists.{IsIn}
 use Rattle.description_laws.proofs.Naming.{in_parts_of}
 use Rattle.description_laws.proofs.Ports.{interface_at, item_at, item_below, port_interface, Refers, slot}
 use Rattle.description_laws.proofs.Positions.{InList, below, items_there, listed_at, nth_position, placed, Placed}
-use Rattle.description_laws.proofs.Readings.{map_long}
 use Rattle.description_laws.proofs.Roots.{declared_one}
 use Rattle.description_laws.proofs.Shorts.{optional_value, short_name, Value}
 
@@ -94,7 +94,7 @@ module _ (d : Data) (kept : Kept (declarations (visits d Description top)) d Des
   -- the port has a position
   pub port_low : (name : List ℕ) → is_name name ≡ true → is_declared ds (named (((codes "/components/") ++ decimal i) ++ codes "/ports") name) ≡ true
       → ltb (position_in (short_names ports) name) (length (map (port_reading scope) ports)) ≡ true
-  port_low name fits h = ap (ltb (position_in (short_names ports) name)) (map_long (port_reading scope) ports) ∙ below (text_at (codes "shortName")) (codes "ports") c name (found_port d kept i c cs here components name fits h)
+  port_low name fits h = ap (ltb (position_in (short_names ports) name)) (length-map ports (port_reading scope)) ∙ below (text_at (codes "shortName")) (codes "ports") c name (found_port d kept i c cs here components name fits h)
 
   -- the interface of the port, by its positions
   pub slot_interface : (name : List ℕ) (p : PortAt name) → slice_get (map (interface_of_port scope) ports) (position_in (short_names ports) name) ≡ Some (interface_of_port scope p.value)

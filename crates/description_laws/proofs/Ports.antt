@@ -4,6 +4,8 @@ use Rattle.std.specs.List.{list_all, slice_get}
 use Rattle.std.specs.Option.{option_and_then, option_map, option_map_or, unwrap_or}
 use Rattle.std.proofs.lemmas.Bool.{and_from, false≢true}
 use Rattle.std.proofs.lemmas.Option.{none-some, same_Some, slice_get-map}
+use Rattle.std.proofs.lemmas.List.{length-map}
+use mathlib.Core.List.{map-map}
 use Rattle.serde_json.specs.Data.{Data, array, Items, string}
 use Rattle.serde_json.specs.Find.{as_number, as_str, as_u64, get, get_item}
 use Rattle.description_places.specs.declared.kind.Kind.{Kind}
@@ -42,7 +44,7 @@ use Rattle.description_laws.proofs.Lists.{IsIn}
 use Rattle.description_laws.proofs.Lookups.{found_interface}
 use Rattle.description_laws.proofs.Naming.{all_listed, in_parts_of, on_list, short_names_fit}
 use Rattle.description_laws.proofs.Positions.{below, items_there, listed_at, placed}
-use Rattle.description_laws.proofs.Readings.{map_long, maps, number_fits}
+use Rattle.description_laws.proofs.Readings.{number_fits}
 use Rattle.description_laws.proofs.Reach.{pick_fine}
 use Rattle.description_laws.proofs.Roots.{declared_one}
 use Rattle.description_laws.proofs.Sections.{interface_beside, interfaces_list}
@@ -54,9 +56,9 @@ use Rattle.description_laws.proofs.Unbroken.{all_at, ports_keep}
 counted : (names : TypeNames) (x : Data) (a b : Bool)
     → item_count (cond a (ClientServer (map (operation_reading names) (items_at (codes "operations") x))) (cond b (ModeSwitch (mode_element_reading names x)) (SenderReceiver (map (data_element_reading names) (items_at (codes "dataElements") x)))))
     ≡ length (cond a (short_names (items_at (codes "operations") x)) (cond b (text_at_in (codes "modeGroup") (codes "shortName") x ∷ []) (short_names (items_at (codes "dataElements") x))))
-counted names x true b = map_long (operation_reading names) (items_at (codes "operations") x) ∙ sym (map_long (text_at (codes "shortName")) (items_at (codes "operations") x))
+counted names x true b = length-map (items_at (codes "operations") x) (operation_reading names) ∙ sym (length-map (items_at (codes "operations") x) (text_at (codes "shortName")))
 counted names x false true = refl
-counted names x false false = map_long (data_element_reading names) (items_at (codes "dataElements") x) ∙ sym (map_long (text_at (codes "shortName")) (items_at (codes "dataElements") x))
+counted names x false false = length-map (items_at (codes "dataElements") x) (data_element_reading names) ∙ sym (length-map (items_at (codes "dataElements") x) (text_at (codes "shortName")))
 
 pub items_counted : (names : TypeNames) (x : Data) → item_count (interface_reading names x).kind ≡ length (item_names x)
 items_counted names x = counted names x (bytes_eq (text_at (codes "kind") x) (codes "ClientServerInterface")) (bytes_eq (text_at (codes "kind") x) (codes "ModeSwitchInterface"))
@@ -215,7 +217,7 @@ module _ (d : Data) (kept : Kept (declarations (visits d Description top)) d Des
   interface_low x s kept_x =
       let port = port_interface x s kept_x in
       ap (λ t. ltb (position_in (short_names interfaces) t) (length table.interfaces)) port.read
-      ∙ ap (ltb (position_in (short_names interfaces) port.text)) (map_long (interface_reading (type_names d)) interfaces)
+      ∙ ap (ltb (position_in (short_names interfaces) port.text)) (length-map interfaces (interface_reading (type_names d)))
       ∙ below (text_at (codes "shortName")) (codes "interfaces") d port.text (found_interface d kept port.text port.fits_name port.found)
 
   pub ports_list : Objects of_kind.Ports of_kind.Port
@@ -228,7 +230,7 @@ module _ (d : Data) (kept : Kept (declarations (visits d Description top)) d Des
       (λ ps there kept_ps keeps.
       let list = inside s (resolved kind c) c (codes "ports") in
       and_from _ _
-      (ap names_fit (maps (λ (p : Port). p.short_name) (port_reading scope) (listed ps)) ∙ short_names_fit ds of_kind.Ports of_kind.Port list ps ports_list (λ x. refl) kept_ps)
+      (ap names_fit (map-map (λ (p : Port). p.short_name) (port_reading scope) (listed ps)) ∙ short_names_fit ds of_kind.Ports of_kind.Port list ps ports_list (λ x. refl) kept_ps)
       (all_listed (port_fits table) (port_reading scope) ps (λ i x is.
       let at = inside_part list of_kind.Ports (array ps) i in
       let kept_x = kept_part ds ps of_kind.Ports list i x kept_ps is in

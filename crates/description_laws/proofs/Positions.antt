@@ -3,8 +3,9 @@ use Rattle.std.proofs.Common.{◌≡◌, ℕ, zero, suc, ◌+◌, ◌<◌, List,
 use Rattle.std.specs.List.{slice_get, slice_index_or}
 use Rattle.std.specs.Option.{option_and_then}
 use Rattle.std.proofs.lemmas.Bool.{false≢true, lt-ltb, ltb-true}
-use Rattle.std.proofs.lemmas.Option.{none-some, same_Some}
+use Rattle.std.proofs.lemmas.Option.{none-some, same_Some, slice_get_within}
 use Rattle.std.proofs.lemmas.Slice.Eq.{bytes_eq-Decides}
+use Rattle.std.proofs.lemmas.List.{length-map}
 use Rattle.serde_json.specs.Data.{Data, array, Items, no_items, item}
 use Rattle.serde_json.specs.Find.{as_array, get, get_item}
 use Rattle.declared_names.specs.Names.{position_in}
@@ -60,21 +61,12 @@ pub record InList (text : Data → List ℕ) (key : List ℕ) (x : Data) (name :
 pub items_there : (key : List ℕ) (x : Data) (ps : Items) → get key x ≡ Some (array ps) → items_at key x ≡ listed ps
 items_there key x ps there = ap (λ o. items_of (option_and_then as_array o)) there
 
-within : {X : Type 0} (xs : List X) (i : ℕ) (x : X) → slice_get xs i ≡ Some x → i < length xs
-within [] i x h = absurd (none-some x h)
-within (y ∷ xs) zero x h = omega arith
-within (y ∷ xs) (suc i) x h = let deeper : i < length xs = within xs i x h in omega arith
-
-map_length : (text : Data → List ℕ) (xs : List Data) → length (map text xs) ≡ length xs
-map_length text [] = refl
-map_length text (x ∷ xs) = ap suc (map_length text xs)
-
 pub below : (text : Data → List ℕ) (key : List ℕ) (x : Data) (name : List ℕ) → InList text key x name
     → ltb (position_in (map text (items_at key x)) name) (length (items_at key x)) ≡ true
 below text key x name o =
     let place = placed text o.items name o.found in
     let n : position_in (map text (listed o.items)) name < length (listed o.items) =
-    within (listed o.items) (position_in (map text (listed o.items)) name) place.value (listed_at o.items (position_in (map text (listed o.items)) name) ∙ place.there) in
+    slice_get_within (listed o.items) (position_in (map text (listed o.items)) name) place.value (listed_at o.items (position_in (map text (listed o.items)) name) ∙ place.there) in
     subst (λ xs. ltb (position_in (map text xs) name) (length xs) ≡ true) (sym (items_there key x o.items o.there)) (lt-ltb _ _ n)
 
 -- what stands at the position of a name
@@ -92,4 +84,4 @@ nth_position (n ∷ ns) name h = by_first (bytes_eq n name) refl (nth_position n
         ap (λ b. slice_index_or (n ∷ ns) (cond b 0 (1 + position_in ns name)) []) e ∙ ap (λ m. slice_index_or (n ∷ ns) m []) next ∙ more (lt-ltb (position_in ns name) (length ns) down)
 
 pub nth_in : (text : Data → List ℕ) (key : List ℕ) (x : Data) (name : List ℕ) → InList text key x name → slice_index_or (map text (items_at key x)) (position_in (map text (items_at key x)) name) [] ≡ name
-nth_in text key x name o = nth_position (map text (items_at key x)) name (ap (ltb (position_in (map text (items_at key x)) name)) (map_length text (items_at key x)) ∙ below text key x name o)
+nth_in text key x name o = nth_position (map text (items_at key x)) name (ap (ltb (position_in (map text (items_at key x)) name)) (length-map (items_at key x) text) ∙ below text key x name o)

@@ -1,5 +1,5 @@
 -- What is read of a value that has its shape.
-use Rattle.std.proofs.Common.{◌≡◌, ℕ, suc, ◌≤◌, ◌<◌, List, [], ◌∷◌, map, length, true, leb, ltb, Option, Some, None, is_some, refl, sym, ap, subst, arith}
+use Rattle.std.proofs.Common.{◌≡◌, ℕ, suc, ◌≤◌, ◌<◌, length, true, leb, ltb, Option, Some, None, is_some, refl, sym, ap, subst, arith}
 use Rattle.std.proofs.lemmas.Bool.{and_parts, false≢true, leb-true, lt-ltb, cond-true}
 use Rattle.serde_json.specs.Data.{Data, null, boolean, number, string, array, object, Items, no_items, item}
 use Rattle.serde_json.specs.Events.{items_len}
@@ -7,14 +7,6 @@ use Rattle.serde_json.specs.Find.{as_array}
 use Rattle.declared_names.specs.Values.{below, listed}
 use Rattle.description_places.specs.Shape.{holds, is_within, part_count}
 use Rattle.bus_semantics.specs.SoundPlan.{is_in}
-
-pub maps : {X Y Z : Type 0} (f : Y → Z) (g : X → Y) (xs : List X) → map f (map g xs) ≡ map (λ x. f (g x)) xs
-maps f g [] = refl
-maps f g (x ∷ xs) = ap (λ ys. f (g x) ∷ ys) (maps f g xs)
-
-pub map_long : {X Y : Type 0} (f : X → Y) (xs : List X) → length (map f xs) ≡ length xs
-map_long f [] = refl
-map_long f (x ∷ xs) = ap suc (map_long f xs)
 
 pub below_is : (limit other n : ℕ) → n < limit → below limit other (Some n) ≡ n
 below_is limit other n h = cond-true (ltb n limit) n other (lt-ltb n limit h)

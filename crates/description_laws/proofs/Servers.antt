@@ -5,6 +5,7 @@ use Rattle.std.specs.Option.{option_and_then, option_map, option_map_or, unwrap_
 use Rattle.std.proofs.lemmas.Bool.{and_parts, false≢true, lt-ltb, or_from}
 use Rattle.std.proofs.lemmas.Option.{get_or_from_slice_get, none-some, same_Some, slice_get-map}
 use Rattle.std.proofs.lemmas.Slice.Eq.{bytes_eq-Decides}
+use Rattle.std.proofs.lemmas.List.{length-map}
 use Rattle.serde_json.specs.Data.{Data, null, array, Items}
 use Rattle.serde_json.specs.Find.{as_array, get, get_item}
 use Rattle.description_places.specs.declared.kind.Kind.TheVariants as of_kind
@@ -42,7 +43,6 @@ use Rattle.description_laws.proofs.Naming.{on_list, short_names_fit}
 use Rattle.description_laws.proofs.PortItems.{port_at, PortAt, slot_interface, slot_port}
 use Rattle.description_laws.proofs.Ports.{InterfaceAt, interface_at, Refers, slot}
 use Rattle.description_laws.proofs.Positions.{InList, items_there, listed_at, placed}
-use Rattle.description_laws.proofs.Readings.{map_long}
 use Rattle.description_laws.proofs.Serving.{all_well, Aside, enough_names, served, some_name, Starts, well, with_served}
 use Rattle.description_laws.proofs.Hits.{on_array}
 use Rattle.description_laws.proofs.Shorts.{needed_value, optional_value, Value}
@@ -93,7 +93,7 @@ module _ (d : Data) (kept : Kept (declarations (visits d Description top)) d Des
       (λ ps at kept_ps. short_names_fit ds of_kind.Arguments of_kind.Argument (inside s of_kind.Operation x (codes "arguments")) ps arguments_list (λ x. refl) kept_ps) in
       let rules = and_parts (list_all (is_sound_argument table.data_types) (operation_reading (type_names d) x).arguments) (has_distinct_codes (operation_reading (type_names d) x).errors) (and_parts _ (list_all (is_sound_argument table.data_types) (operation_reading (type_names d) x).arguments && has_distinct_codes (operation_reading (type_names d) x).errors) sound).1 in
       let enough = enough_names (short_names (items_at (codes "arguments") x)) (codes "error") more (and_parts _ (distinct (short_names (items_at (codes "arguments") x))) names_are).1 (none_error table.data_types (type_names d) (items_at (codes "arguments") x) rules.0) in
-      subst (λ n. n < length (all_added [] ((operation_arguments x ++ codes "error" ∷ []) ++ more))) (map_long (text_at (codes "shortName")) (items_at (codes "arguments") x) ∙ sym (map_long (argument_reading (type_names d)) (items_at (codes "arguments") x))) enough
+      subst (λ n. n < length (all_added [] ((operation_arguments x ++ codes "error" ∷ []) ++ more))) (length-map (items_at (codes "arguments") x) (text_at (codes "shortName")) ∙ sym (length-map (items_at (codes "arguments") x) (argument_reading (type_names d)))) enough
 
   -- ---- those of the operation at an item of an interface
 

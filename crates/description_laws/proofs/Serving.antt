@@ -1,9 +1,10 @@
 -- Lists of names that grow, and the first event of each server.
 use Rattle.std.proofs.Common.{◌≡◌, ℕ, suc, ◌+◌, ◌<◌, ◌≤◌, List, [], ◌∷◌, ◌++◌, map, length, Bool, true, false, not, ◌&&◌, ◌||◌, eqb, cond, bytes_eq, codes, Some, refl, sym, ap, subst, append_assoc, arith, ◌∙◌, ◌⊎◌, inl, inr}
 use Rattle.std.specs.List.{filter, list_any, slice_get}
-use Rattle.std.proofs.lemmas.Bool.{and_parts, and_from, cond-false, cond_both, eq-eqb, false≢true, true≢false, or_cases, or_from, or_left, or_parts, or_right, cases_Bool, false_from_ne_true}
+use Rattle.std.proofs.lemmas.Bool.{and_parts, and_from, cond-false, cond_both, eq-eqb, false≢true, true≢false, or_cases, or_from, or_left, or_parts, or_right, cases_Bool, false_from_ne_true, not-true}
 use Rattle.std.proofs.lemmas.List.Folds.{list_any-append}
 use Rattle.std.proofs.lemmas.Slice.Eq.{bytes_eq-Decides}
+use Rattle.std.proofs.lemmas.List.{length-append}
 use Rattle.serde_json.specs.Data.{Data, Items, no_items, item}
 use Rattle.serde_json.specs.Find.{get_item}
 use Rattle.description_places.specs.Around.{text_at}
@@ -20,12 +21,8 @@ use Rattle.description_laws.proofs.Programs.{has}
 
 -- ---- names that are added
 
-length_more : (vars more : Names) → length (vars ++ more) ≡ length vars + length more
-length_more [] more = omega arith
-length_more (n ∷ vars) more = let rest : length (vars ++ more) ≡ length vars + length more = length_more vars more in omega arith
-
 added_longer : (vars : Names) (t : List ℕ) → length vars ≤ length (added vars t)
-added_longer vars t = cond_both (list_any (bytes_eq t) vars) vars (vars ++ t ∷ []) (λ vs. length vars ≤ length vs) (λ h. omega arith) (λ h. let e : length (vars ++ t ∷ []) ≡ length vars + 1 = length_more vars (t ∷ []) in omega arith)
+added_longer vars t = cond_both (list_any (bytes_eq t) vars) vars (vars ++ t ∷ []) (λ vs. length vars ≤ length vs) (λ h. omega arith) (λ h. let e : length (vars ++ t ∷ []) ≡ length vars + 1 = length-append vars (t ∷ []) in omega arith)
 
 all_longer : (vars ns : Names) → length vars ≤ length (all_added vars ns)
 all_longer vars [] = omega arith
@@ -47,7 +44,7 @@ new_long : (vars ns : Names) → New vars ns → length vars + length ns ≤ len
 new_long vars [] h = omega arith
 new_long vars (n ∷ ns) h =
     let grown : added vars n ≡ vars ++ n ∷ [] = cond-false (list_any (bytes_eq n) vars) vars (vars ++ n ∷ []) h.0 in
-    let one : length (vars ++ n ∷ []) ≡ length vars + 1 = length_more vars (n ∷ []) in
+    let one : length (vars ++ n ∷ []) ≡ length vars + 1 = length-append vars (n ∷ []) in
     let rest : length (vars ++ n ∷ []) + length ns ≤ length (all_added (vars ++ n ∷ []) ns) = new_long (vars ++ n ∷ []) ns h.1 in
     let goal : length vars + suc (length ns) ≤ length (all_added (vars ++ n ∷ []) ns) = omega arith in
     subst (λ vs. length vars + suc (length ns) ≤ length (all_added vs ns)) (sym grown) goal
@@ -84,18 +81,14 @@ new_names vars (n ∷ ns) last d apart out fresh =
     let last_parts = or_parts (bytes_eq last n) (list_any (bytes_eq last) ns) fresh in (
       apart n (or_left (bytes_eq n n) _ ((bytes_eq-Decides n n).1 refl)),
       new_names (vars ++ n ∷ []) ns last parts.1
-          (λ m is. grown_any m vars n (apart m (or_right (bytes_eq n m) _ is)) (not_among n ns m (not_not (list_any (same_numbers n) ns) parts.0) is))
+          (λ m is. grown_any m vars n (apart m (or_right (bytes_eq n m) _ is)) (not_among n ns m (not-true (list_any (same_numbers n) ns) parts.0) is))
           (grown_any last vars n out last_parts.0) last_parts.1,
     )
-  where
-    not_not : (b : Bool) → not b ≡ true → b ≡ false
-    not_not true h = absurd (false≢true h)
-    not_not false h = refl
 
 pub enough_names : (ns : Names) (last : List ℕ) (more : Names) → distinct ns ≡ true → list_any (bytes_eq last) ns ≡ false → length ns < length (all_added [] ((ns ++ last ∷ []) ++ more))
 enough_names ns last more d fresh =
     let a : 0 + length (ns ++ last ∷ []) ≤ length (all_added [] (ns ++ last ∷ [])) = new_long [] (ns ++ last ∷ []) (new_names [] ns last d (λ m is. refl) refl fresh) in
-    let b : length (ns ++ last ∷ []) ≡ length ns + 1 = length_more ns (last ∷ []) in
+    let b : length (ns ++ last ∷ []) ≡ length ns + 1 = length-append ns (last ∷ []) in
     let c : length (all_added [] (ns ++ last ∷ [])) ≤ length (all_added (all_added [] (ns ++ last ∷ [])) more) = all_longer (all_added [] (ns ++ last ∷ [])) more in
     let goal : length ns < length (all_added (all_added [] (ns ++ last ∷ [])) more) = omega arith in
     subst (λ vs. length ns < length vs) (sym (all_split [] (ns ++ last ∷ []) more)) goal

@@ -3,6 +3,8 @@ use Rattle.std.proofs.Common.{◌≡◌, ℕ, ◌<◌, ◌^◌, List, [], ◌++�
 use Rattle.std.specs.List.{list_all}
 use Rattle.std.specs.Option.{option_and_then, unwrap_or}
 use Rattle.std.proofs.lemmas.Bool.{and_from, false≢true}
+use Rattle.std.proofs.lemmas.List.{length-map}
+use mathlib.Core.List.{map-map}
 use Rattle.serde_json.specs.Data.{Data, null, boolean, number, string, array, object, Items}
 use Rattle.serde_json.specs.Find.{as_number, as_str, as_u64, get, get_item}
 use Rattle.description_places.specs.declared.kind.Kind.{Kind}
@@ -35,7 +37,7 @@ use Rattle.description_laws.proofs.Kept.{Kept, kept_part, shape_here, found_here
 use Rattle.description_laws.proofs.Lookups.{found_data_type, found_group, found_mode}
 use Rattle.description_laws.proofs.Naming.{all_listed, name_fits, names_owned, on_list, Owns}
 use Rattle.description_laws.proofs.Positions.{below, items_there}
-use Rattle.description_laws.proofs.Readings.{counted_array, items_counted, map_long, maps, number_fits}
+use Rattle.description_laws.proofs.Readings.{counted_array, items_counted, number_fits}
 use Rattle.description_laws.proofs.Shorts.{Name, name_value, needed_value, short_name, Value}
 use Rattle.description_laws.proofs.Unbroken.{all_at, types_kept}
 use Rattle.description_laws.proofs.Words.{Found, interface_found, kept_as}
@@ -86,7 +88,7 @@ module _ (d : Data) (kept : Kept (declarations (visits d Description top)) d Des
           by_value (boolean b) there h = absurd (false≢true h)
           by_value (number n) there h = absurd (false≢true h)
           by_value (string t) there h = absurd (false≢true h)
-          by_value (array ps) there h = ap (λ xs. is_in 1 32 (length (texts xs))) (items_there (codes "modes") x ps there) ∙ ap (is_in 1 32) (map_long text_in (listed ps) ∙ items_counted ps) ∙ h
+          by_value (array ps) there h = ap (λ xs. is_in 1 32 (length (texts xs))) (items_there (codes "modes") x ps there) ∙ ap (is_in 1 32) (length-map (listed ps) text_in ∙ items_counted ps) ∙ h
           by_value (object ms) there h = absurd (false≢true h)
 
   text_owned : (x : Data) (s : Spot) → Kept ds x of_kind.DeclaredMode s → Owns x of_kind.DeclaredMode s (place_at 0 s.around) (text_in x) × (is_name (text_in x) ≡ true)
@@ -113,7 +115,7 @@ module _ (d : Data) (kept : Kept (declarations (visits d Description top)) d Des
       let at = found_mode d kept i x ps is name.text there
       (subst (λ y. is_declared ds (named (((codes "/modeGroups/") ++ decimal i) ++ codes "/modes") (text_in y)) ≡ true) name.is found) in
       ap (λ t. ltb (position_in (texts (items_at (codes "modes") x)) t) (length (texts (items_at (codes "modes") x)))) text.read
-      ∙ ap (ltb (position_in (texts (items_at (codes "modes") x)) name.text)) (map_long text_in (items_at (codes "modes") x))
+      ∙ ap (ltb (position_in (texts (items_at (codes "modes") x)) name.text)) (length-map (items_at (codes "modes") x) text_in)
       ∙ below text_in (codes "modes") x name.text at
 
   groups_fit : list_all group_fits (map mode_group_reading (items_at (codes "modeGroups") d)) ≡ true
@@ -132,7 +134,7 @@ module _ (d : Data) (kept : Kept (declarations (visits d Description top)) d Des
   -- a data type is named at a key
   type_found : (name : List ℕ) → is_name name ≡ true → is_declared ds (named (codes "/dataTypes") name) ≡ true → ltb (position_in (type_names d).data_types name) (length types) ≡ true
   type_found name fits h =
-      ap (ltb (position_in (type_names d).data_types name)) (map_long data_type_reading (items_at (codes "dataTypes") d))
+      ap (ltb (position_in (type_names d).data_types name)) (length-map (items_at (codes "dataTypes") d) data_type_reading)
       ∙ below (text_at (codes "shortName")) (codes "dataTypes") d name (found_data_type d kept name fits h)
 
   pub typed : (x : Data) (kind : Kind) (s : Spot) → Value ds x kind s (needed "type" of_kind.TypeName) → ltb (position_in (type_names d).data_types (text_at (codes "type") x)) (length types) ≡ true
@@ -152,7 +154,7 @@ module _ (d : Data) (kept : Kept (declarations (visits d Description top)) d Des
       (λ ps there kept_ps.
       let list = inside s of_kind.SenderReceiverInterface x (codes "dataElements") in
       and_from _ _
-      (ap names_fit (maps (λ (e : DataElement). e.short_name) (data_element_reading (type_names d)) (listed ps))
+      (ap names_fit (map-map (λ (e : DataElement). e.short_name) (data_element_reading (type_names d)) (listed ps))
       ∙ names_owned ds (text_at (codes "shortName")) s.place of_kind.DataElements list ps kept_ps (λ i y is.
       let at = inside_part list of_kind.DataElements (array ps) i in
       let short = short_name ds y of_kind.DataElement at refl (kept_part ds ps of_kind.DataElements list i y kept_ps is) in
@@ -181,7 +183,7 @@ module _ (d : Data) (kept : Kept (declarations (visits d Description top)) d Des
       (λ ps there kept_ps sound.
       let list = inside s of_kind.ClientServerInterface x (codes "operations") in
       and_from _ _
-      (ap names_fit (maps (λ (o : Operation). o.short_name) (operation_reading (type_names d)) (listed ps))
+      (ap names_fit (map-map (λ (o : Operation). o.short_name) (operation_reading (type_names d)) (listed ps))
       ∙ names_owned ds (text_at (codes "shortName")) s.place of_kind.Operations list ps kept_ps (λ i y is.
       let at = inside_part list of_kind.Operations (array ps) i in
       let short = short_name ds y of_kind.Operation at refl (kept_part ds ps of_kind.Operations list i y kept_ps is) in
@@ -193,7 +195,7 @@ module _ (d : Data) (kept : Kept (declarations (visits d Description top)) d Des
   group_found : (name : List ℕ) → is_name name ≡ true → is_declared ds (named (codes "/modeGroups") name) ≡ true
       → ltb (position_in (type_names d).mode_groups name) (length (map mode_group_reading (items_at (codes "modeGroups") d))) ≡ true
   group_found name fits h =
-      ap (ltb (position_in (type_names d).mode_groups name)) (map_long mode_group_reading (items_at (codes "modeGroups") d))
+      ap (ltb (position_in (type_names d).mode_groups name)) (length-map (items_at (codes "modeGroups") d) mode_group_reading)
       ∙ below (text_at (codes "shortName")) (codes "modeGroups") d name (found_group d kept name fits h)
 
   mode_fits : (x : Data) (s : Spot) → Kept ds x of_kind.ModeSwitchInterface s

@@ -1,9 +1,10 @@
 -- Keys tell lists and names.
-use Rattle.std.proofs.Common.{◌≡◌, ℕ, ◌+◌, ◌%◌, ◌^◌, ◌<◌, List, [], ◌∷◌, ◌++◌, Bool, true, false, not, ◌&&◌, eqb, decimal, length, slice_index, refl, sym, ap, ◌∙◌, arith, true≢false}
+use Rattle.std.proofs.Common.{◌≡◌, ℕ, ◌+◌, ◌%◌, ◌^◌, ◌<◌, List, [], ◌∷◌, ◌++◌, true, false, not, ◌&&◌, eqb, decimal, length, slice_index, refl, sym, ap, ◌∙◌, arith, true≢false}
 use Rattle.std.specs.List.{list_all}
-use Rattle.std.proofs.lemmas.Bool.{eq-eqb, ne_eqb}
+use Rattle.std.proofs.lemmas.Bool.{and_from, eq-eqb, ne_eqb}
 use Rattle.std.proofs.lemmas.Fmt.{decimal_by_steps, decimal_is_IsNumeral}
 use Rattle.std.proofs.lemmas.List.Folds.{list_all-append}
+use Rattle.std.specs.Cmp.{first_so, second_so}
 use Rattle.std.specs.Str.Parse.{digits_value}
 use Rattle.serde_json.specs.Data.{Items, no_items, item}
 use Rattle.description_places.specs.Around.{text_in}
@@ -12,25 +13,10 @@ use Rattle.description_places.specs.Laws.{has_no, texts_of}
 use Rattle.description_places.specs.Names.{is_letter, is_letter_or_digit, is_name}
 use Rattle.description_places.specs.Shape.{is_within}
 
-and_left : (a b : Bool) → (a && b) ≡ true → a ≡ true
-and_left true b h = refl
-and_left false b h = h
-
-and_right : (a b : Bool) → (a && b) ≡ true → b ≡ true
-and_right true b h = h
-and_right false b h = absurd (true≢false (sym h))
-
-both : (a b : Bool) → a ≡ true → b ≡ true → (a && b) ≡ true
-both a b p q = ap (λ x. x && b) p ∙ q
-
-false_right : (a b : Bool) → b ≡ false → (a && b) ≡ false
-false_right true b h = h
-false_right false b h = refl
-
 -- a text with the byte in it is none without it
 has_it : (byte : ℕ) (front back : List ℕ) → has_no byte ((front ++ byte ∷ []) ++ back) ≡ true → ⊥
-has_it byte [] back h = true≢false (sym (and_left _ _ h) ∙ ap not (eq-eqb byte byte refl))
-has_it byte (b ∷ front) back h = has_it byte front back (and_right _ _ h)
+has_it byte [] back h = true≢false (sym (first_so _ _ h) ∙ ap not (eq-eqb byte byte refl))
+has_it byte (b ∷ front) back h = has_it byte front back (second_so _ _ h)
 
 cons_head : {x y : ℕ} {xs ys : List ℕ} → ◌≡◌ {A = List ℕ} (x ∷ xs) (y ∷ ys) → x ≡ y
 cons_head e = cc
@@ -54,17 +40,17 @@ not_it byte b out is = ap not (ne_eqb b byte (λ e. true≢false (sym is ∙ ap 
 
 all_not : (byte : ℕ) (bs : List ℕ) → is_letter_or_digit byte ≡ false → list_all is_letter_or_digit bs ≡ true → has_no byte bs ≡ true
 all_not byte [] out h = refl
-all_not byte (b ∷ bs) out h = both _ _ (not_it byte b out (and_left _ _ h)) (all_not byte bs out (and_right _ _ h))
+all_not byte (b ∷ bs) out h = and_from _ _ (not_it byte b out (first_so _ _ h)) (all_not byte bs out (second_so _ _ h))
 
 pub name_has_no : (byte : ℕ) (name : List ℕ) → is_letter_or_digit byte ≡ false → is_name name ≡ true → has_no byte name ≡ true
 name_has_no byte name out h =
-    all_not byte name out (and_right (is_within 1 32 (length name) && is_letter (slice_index name 0)) (list_all is_letter_or_digit name) h)
+    all_not byte name out (second_so (is_within 1 32 (length name) && is_letter (slice_index name 0)) (list_all is_letter_or_digit name) h)
 
 pub parts_have_no_slash : (ds : Items) → list_all is_name (texts_of ds) ≡ true → has_no 47 (parts_text ds) ≡ true
 parts_have_no_slash no_items h = refl
 parts_have_no_slash (item d ds) h =
     list_all-append _ (text_in d) (parts_text ds)
-    ∙ both _ _ (name_has_no 47 (text_in d) refl (and_left _ _ h)) (parts_have_no_slash ds (and_right _ _ h))
+    ∙ and_from _ _ (name_has_no 47 (text_in d) refl (first_so _ _ h)) (parts_have_no_slash ds (second_so _ _ h))
 
 -- the first space parts a text that begins with a name
 split_parts : (t u : List ℕ) (ds es : Items) → has_no 32 t ≡ true → has_no 32 u ≡ true → t ++ parts_text ds ≡ u ++ parts_text es → (t ≡ u) × (parts_text ds ≡ parts_text es)
@@ -73,14 +59,14 @@ split_parts [] (c ∷ u) no_items es h k e = absurd (nil_cons e)
   where
     nil_cons : {y : ℕ} {ys : List ℕ} → ◌≡◌ {A = List ℕ} [] (y ∷ ys) → ⊥
     nil_cons e = cc
-split_parts [] (c ∷ u) (item d ds) es h k e = absurd (true≢false (sym (and_left _ _ k) ∙ ap not (eq-eqb c 32 (sym (cons_head e)))))
+split_parts [] (c ∷ u) (item d ds) es h k e = absurd (true≢false (sym (first_so _ _ k) ∙ ap not (eq-eqb c 32 (sym (cons_head e)))))
 split_parts (b ∷ t) [] ds no_items h k e = absurd (cons_nil e)
   where
     cons_nil : {y : ℕ} {ys : List ℕ} → ◌≡◌ {A = List ℕ} (y ∷ ys) [] → ⊥
     cons_nil e = cc
-split_parts (b ∷ t) [] ds (item x es) h k e = absurd (true≢false (sym (and_left _ _ h) ∙ ap not (eq-eqb b 32 (cons_head e))))
+split_parts (b ∷ t) [] ds (item x es) h k e = absurd (true≢false (sym (first_so _ _ h) ∙ ap not (eq-eqb b 32 (cons_head e))))
 split_parts (b ∷ t) (c ∷ u) ds es h k e =
-    let rest = split_parts t u ds es (and_right _ _ h) (and_right _ _ k) (cons_tail e) in
+    let rest = split_parts t u ds es (second_so _ _ h) (second_so _ _ k) (cons_tail e) in
     ((λ j. cons_head e j ∷ rest.0 j), rest.1)
 
 pub parts_told : (ds es : Items) → list_all is_name (texts_of ds) ≡ true → list_all is_name (texts_of es) ≡ true → parts_text ds ≡ parts_text es → texts_of ds ≡ texts_of es
@@ -94,23 +80,23 @@ parts_told (item d ds) no_items h k e = absurd (cons_nil e)
     cons_nil : {y : ℕ} {ys : List ℕ} → ◌≡◌ {A = List ℕ} (y ∷ ys) [] → ⊥
     cons_nil e = cc
 parts_told (item d ds) (item x es) h k e =
-    let rest = split_parts (text_in d) (text_in x) ds es (name_has_no 32 (text_in d) refl (and_left _ _ h)) (name_has_no 32 (text_in x) refl (and_left _ _ k)) (cons_tail e) in
-    let later = parts_told ds es (and_right _ _ h) (and_right _ _ k) rest.1 in
+    let rest = split_parts (text_in d) (text_in x) ds es (name_has_no 32 (text_in d) refl (first_so _ _ h)) (name_has_no 32 (text_in x) refl (first_so _ _ k)) (cons_tail e) in
+    let later = parts_told ds es (second_so _ _ h) (second_so _ _ k) rest.1 in
     (λ j. rest.0 j ∷ later j)
 
 -- the digits of a number
 digit_has_no : (byte n : ℕ) → byte < 48 → has_no byte ((48 + n) ∷ []) ≡ true
-digit_has_no byte n low = both _ _ (ap not (ne_eqb (48 + n) byte (λ e. omega arith))) refl
+digit_has_no byte n low = and_from _ _ (ap not (ne_eqb (48 + n) byte (λ e. omega arith))) refl
 
 pub decimal_has_no : (byte n : ℕ) → byte < 48 → n < 2 ^ 64 → has_no byte (decimal n) ≡ true
 decimal_has_no byte n low =
     decimal_by_steps (λ _ ds. has_no byte ds ≡ true) (λ m small. digit_has_no byte m low)
-    (λ m ds large h. list_all-append _ ds ((48 + m % 10) ∷ []) ∙ both _ _ h (digit_has_no byte (m % 10) low)) n
+    (λ m ds large h. list_all-append _ ds ((48 + m % 10) ∷ []) ∙ and_from _ _ h (digit_has_no byte (m % 10) low)) n
 
 pub position_has_no_slash : (task : List ℕ) (n : ℕ) → is_name task ≡ true → n < 2 ^ 64 → has_no 47 (position_text task n) ≡ true
 position_has_no_slash task n h fits =
     list_all-append _ (task ++ 32 ∷ []) (decimal n)
-    ∙ both _ _ (list_all-append _ task (32 ∷ []) ∙ both _ _ (name_has_no 47 task refl h) refl) (decimal_has_no 47 n (omega arith) fits)
+    ∙ and_from _ _ (list_all-append _ task (32 ∷ []) ∙ and_from _ _ (name_has_no 47 task refl h) refl) (decimal_has_no 47 n (omega arith) fits)
 
 pub position_told : (task other : List ℕ) (n m : ℕ) → is_name task ≡ true → is_name other ≡ true → n < 2 ^ 64 → m < 2 ^ 64 → position_text task n ≡ position_text other m → (task ≡ other) × (n ≡ m)
 position_told task other n m h k n_fits m_fits e =

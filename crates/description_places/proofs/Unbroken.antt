@@ -1,7 +1,7 @@
 -- What a description with no refusal holds.
-use Rattle.std.proofs.Common.{◌≡◌, ◌≢◌, ℕ, List, [], ◌∷◌, map, Bool, true, false, cond, ◌||◌, Option, Some, None, option_map, refl, sym, ap, subst, arith, ◌∙◌}
+use Rattle.std.proofs.Common.{◌≡◌, ◌≢◌, ℕ, List, [], ◌∷◌, map, Bool, true, false, cond, Option, Some, None, option_map, refl, sym, ap, subst, arith, ◌∙◌}
 use Rattle.std.specs.List.{All, AllPairs, find, list_any}
-use Rattle.std.proofs.lemmas.Bool.{false≢true}
+use Rattle.std.proofs.lemmas.Bool.{false≢true, or_parts}
 use Rattle.std.proofs.lemmas.List.Elements.{All-nil, All-cons}
 use Rattle.std.proofs.lemmas.List.Kept.{AllPairs-cons}
 use Rattle.std.proofs.lemmas.Slice.Eq.{bytes_eq-Decides}
@@ -56,14 +56,6 @@ pub references : (d : Data) → refusal d ≡ None → All (λ v. breaks_referen
 references d h = none_broken (breaks_references (declarations_of d)) (visits_of d) (here_unbroken 5 _ _ (later_unbroken 4 _ _ (names_unbroken d h)))
 
 -- no declaration is repeated: none has the key of another
-or_left : (a b : Bool) → (a || b) ≡ false → a ≡ false
-or_left true b h = h
-or_left false b h = refl
-
-or_right : (a b : Bool) → (a || b) ≡ false → b ≡ false
-or_right true b h = absurd (false≢true (sym h))
-or_right false b h = h
-
 -- each with one more before it
 abbrev one_before : Declared → List (Declared × List Declared) → List (Declared × List Declared)
 one_before x ps = map (λ p. (p.0, x ∷ p.1)) ps
@@ -86,13 +78,13 @@ other_keys : (x : Declared) (ps : List (Declared × List Declared)) → find is_
 other_keys x [] h = All-nil (λ y. x.key ≢ y.key)
 other_keys x (p ∷ ps) h =
     let here = found_here (is_repeated (p.0, x ∷ p.1)) (p.0, x ∷ p.1) (find is_repeated (one_before x ps)) h in
-    All-cons (λ y. x.key ≢ y.key) p.0 (first_of_each ps) (not_same x p.0 (or_left (has_key p.0.key x) (list_any (has_key p.0.key) p.1) here))
+    All-cons (λ y. x.key ≢ y.key) p.0 (first_of_each ps) (not_same x p.0 (or_parts (has_key p.0.key x) (list_any (has_key p.0.key) p.1) here).0)
     (other_keys x ps (found_later (is_repeated (p.0, x ∷ p.1)) (p.0, x ∷ p.1) (find is_repeated (one_before x ps)) h))
 
 fewer_before : (x : Declared) (ps : List (Declared × List Declared)) → find is_repeated (one_before x ps) ≡ None → find is_repeated ps ≡ None
 fewer_before x [] h = refl
 fewer_before x (p ∷ ps) h =
-    let here = or_right (has_key p.0.key x) (list_any (has_key p.0.key) p.1) (found_here (is_repeated (p.0, x ∷ p.1)) (p.0, x ∷ p.1) (find is_repeated (one_before x ps)) h) in
+    let here = (or_parts (has_key p.0.key x) (list_any (has_key p.0.key) p.1) (found_here (is_repeated (p.0, x ∷ p.1)) (p.0, x ∷ p.1) (find is_repeated (one_before x ps)) h)).1 in
     ap (λ b. cond b (Some p) (find is_repeated ps)) here
     ∙ fewer_before x ps (found_later (is_repeated (p.0, x ∷ p.1)) (p.0, x ∷ p.1) (find is_repeated (one_before x ps)) h)
 

@@ -6,8 +6,6 @@
 
 mod joining;
 mod planning;
-#[cfg(test)]
-mod tests;
 
 pub use joining::{JoinedDescription, join_description};
 pub use planning::{PlannedDescription, plan_description};

@@ -2,7 +2,7 @@
 use Rattle.std.proofs.Common.{Option, take, get_or, option_map, ◌≡◌, ℕ, ◌+◌, ◌<◌, ◌≤◌, List, [], ◌∷◌, ◌++◌, length, slice_get, Some, None, ◌⊎◌, inl, inr, ⊎_elim, ◌↔◌, sym, ap, subst, ◌∙◌, arith}
 use Rattle.std.proofs.lemmas.Bool.{cases_lt}
 use Rattle.std.proofs.lemmas.List.{take_more, take_all}
-use Rattle.std.proofs.lemmas.Option.{slice_get-map}
+use Rattle.std.proofs.lemmas.Option.{slice_get-map, slice_get_within}
 use Rattle.description_types.specs.declared.description.Description.{Description}
 use Rattle.end_search.specs.declared.interfaces.Listed.{Listed}
 use Rattle.interface_types.specs.declared.interface.DataElement.{DataElement}
@@ -13,7 +13,7 @@ use Rattle.composition_tables.specs.Items.{interface_at, element_names, operatio
 use Rattle.end_search.specs.Matching.{AreListed, turned}
 use Rattle.composition_tables.specs.Members.{Among}
 use Rattle.end_search.specs.Tables.{item_names}
-use Rattle.composition_tables.proofs.Members.{left, right, cases, get_lt}
+use Rattle.composition_tables.proofs.Members.{left, right, cases}
 
 -- one more pair is pushed
 pub push_more : (number : ℕ) (places : List ℕ) (k : ℕ) (before pairs after : List (ℕ × ℕ)) → k < length places → after ≡ pairs ++ (number, get_or places k 0) ∷ []
@@ -52,7 +52,7 @@ items_more names others number i j N M now before = (
 )
 
 pub items_all : (names others : List (List ℕ)) (count number i j : ℕ) (N : Type 0) → count ≡ length names → count ≤ number → N ↔ (IsSameName names others i j × (i < number)) → N ↔ IsSameName names others i j
-items_all names others count number i j N counted past h = ((λ n. (h.0 n).0), (λ s. let within = get_lt names i s.0 s.1 in h.1 (s, omega arith)))
+items_all names others count number i j N counted past h = ((λ n. (h.0 n).0), (λ s. let within = slice_get_within names i s.0 s.1 in h.1 (s, omega arith)))
 
 -- the pairs the other way round
 turned_there : (pairs : List (ℕ × ℕ)) (i j : ℕ) → Among (i, j) (turned pairs) → Among (j, i) pairs

@@ -5,7 +5,7 @@ use Rattle.description_types.specs.declared.description.Description.{Description
 use Rattle.composition_tables.specs.declared.tree.PortEnd.{PortEnd}
 use Rattle.composition_tables.specs.Growing.{AnyOf}
 use Rattle.composition_tables.specs.Members.{Among}
-use Rattle.std.proofs.lemmas.Bool.{eqb-true, and_parts}
+use Rattle.std.proofs.lemmas.Bool.{eqb-true, and_parts, or_parts}
 use Rattle.std.proofs.lemmas.List.{take_all, take-append-drop, map-append}
 use Rattle.std.specs.Cmp.Lexicographic.{pointwise}
 use Rattle.std.specs.List.{flat_map}
@@ -26,10 +26,6 @@ use Rattle.end_search.specs.Wishes.{end_from, AreFound, IsBelowPrototype, IsWant
 use Rattle.composition_tables.proofs.Following.{dead_spot, inner_is}
 use Rattle.composition_tables.proofs.Members.{left, at, flat, unflat}
 use Rattle.composition_tables.proofs.Stepping.{one_more}
-
-pub neither : (a b : Bool) → (a || b) ≡ false → (a ≡ false) × (b ≡ false)
-neither false b h = (refl, h)
-neither true b h = absurd (true≢false h)
 
 pub sought_one : (before after : List PortEnd) (end : PortEnd) (is_cut : Bool) → ((y : PortEnd) → Among y after ↔ (Among y before ⊎ (y ≡ end))) → Sought (λ x. x ≡ end) before after is_cut
 sought_one before after end is_cut more = record { sound = λ x h. (more x).0 h; stays = λ x h. (more x).1 (inl h); has = λ _ x h. (more x).1 (inr h) }
@@ -131,7 +127,7 @@ module _ (d : Description) where
     sound = λ x h. ⊎_elim (λ o. inl o) (λ a. ⊎_elim (λ no. absurd no) (λ b. inr (b.0, b.1, moved_there w n t first b.0 short x a.0 b.2 a.2)) (s.sound a.0 (subst (Among a.0) same a.1))) (m.sound x h);
     stays = m.stays;
     has = λ none x a.
-        let parts = neither is_more is_cut none in
+        let parts = or_parts is_more is_cut none in
         let r = moved_back w n t first a.0 short x a.2 in
         m.has parts.0 x (r.0, subst (Among r.0) (sym same) (s.has parts.1 r.0 (a.0, a.1, r.1)), r.2);
   }

@@ -1,6 +1,7 @@
 -- What the counts tell of a plan.
 use Rattle.std.proofs.Common.{◌≡◌, ℕ, ◌+◌, ◌<◌, ◌≤◌, [], filter, length, Bool, true, false, ◌||◌, nat_le, nat_lt, Option, Some, None, ⊎_elim, refl, sym, ◌∙◌, arith, slice_get}
 use Rattle.std.proofs.lemmas.Bool.{leb-false, leb-true, lt-ltb, ltb-false, ltb-true, or_cases, or_left, or_parts, or_right}
+use Rattle.std.proofs.lemmas.List.{length-map}
 use Rattle.std.specs.List.{sum_by}
 use Rattle.std.specs.Option.{option_map_or, unwrap_or}
 use Rattle.description_types.specs.declared.component.Component.{Component}
@@ -22,7 +23,7 @@ use Rattle.event_mapping.specs.Planned.{area_of, areas, areas_at, named_areas, p
 use Rattle.event_mapping.specs.Rules.{is_too_large, queue_lengths}
 use Rattle.event_mapping.proofs.Alone.{groups_most}
 use Rattle.event_mapping.proofs.Apart.{apart_filter, sites_apart}
-use Rattle.event_mapping.proofs.Totals.{areas_in, by_kind, length_from, length_map, sites_counted}
+use Rattle.event_mapping.proofs.Totals.{areas_in, by_kind, length_from, sites_counted}
 
 module _ (d : Description) (f : Flat) where
   events_listed : length (events d f) ≡ event_count d f
@@ -33,26 +34,26 @@ module _ (d : Description) (f : Flat) where
         where
           by : (o : Option Component) → length (option_map_or (events_of_component d f i) o []) ≡ option_map_or (λ (c : Component). length c.behavior.events) o 0
           by None = refl
-          by (Some c) = length_map (event_of d f i) c.behavior.events
+          by (Some c) = length-map c.behavior.events (event_of d f i)
 
   areas_listed : length (areas d f) ≡ sum_by (areas_in d) f.instances
   areas_listed = length_from (λ i x. named_areas i (areas_at d x)) (areas_in d) each 0 f.instances
     where
       each : (i : ℕ) (x : Instance) → length (named_areas i (areas_at d x)) ≡ areas_in d x
-      each i x = length_map (area_of i) (areas_at d x) ∙ by (slice_get d.components x.component)
+      each i x = length-map (areas_at d x) (area_of i) ∙ by (slice_get d.components x.component)
         where
           by : (o : Option Component) → length (option_map_or (λ (c : Component). c.behavior.exclusive_areas) o []) ≡ option_map_or (λ (c : Component). length c.behavior.exclusive_areas) o 0
           by None = refl
           by (Some c) = refl
 
   elements_listed : length (elements d f) ≡ length (elements_of d f)
-  elements_listed = length_map (λ s. element_of d f (group_of d f s) s) (elements_of d f)
+  elements_listed = length-map (elements_of d f) (λ s. element_of d f (group_of d f s) s)
 
   servers_listed : length (servers d f) ≡ length (servers_of d f)
-  servers_listed = length_map (server_of d f) (servers_of d f)
+  servers_listed = length-map (servers_of d f) (server_of d f)
 
   machines_listed : length (machines d f) ≡ length (machines_of d f)
-  machines_listed = length_map (λ s. machine_at d f s.owner (unwrap_or s.port 0)) (machines_of d f)
+  machines_listed = length-map (machines_of d f) (λ s. machine_at d f s.owner (unwrap_or s.port 0))
 
   all_listed : listed (plan_of d f) ≡ item_count d f
   all_listed =

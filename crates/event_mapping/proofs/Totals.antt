@@ -26,10 +26,6 @@ use Rattle.event_mapping.specs.Guard.{counted_with, is_counted, items_at, items_
 
 -- ---- lists that are made of others
 
-pub length_map : {X Y : Type 0} (f : X → Y) (xs : List X) → length (map f xs) ≡ length xs
-length_map f [] = refl
-length_map f (x ∷ xs) = ap (λ n. suc n) (length_map f xs)
-
 module _ {X Y : Type 0} (g : ℕ → X → List Y) (h : X → ℕ) where
   pub length_from : ((i : ℕ) (x : X) → length (g i x) ≡ h x) → (i : ℕ) (xs : List X) → length (from i g xs) ≡ sum_by h xs
   length_from each i [] = refl

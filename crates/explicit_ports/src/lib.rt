@@ -9,6 +9,3 @@ pub use unqueued::{ReadState, Unqueued};
 
 /// There was no memory for what a call makes.
 pub type Memory = std::alloc::AllocError;
-
-#[cfg(test)]
-mod tests;

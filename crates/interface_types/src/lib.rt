@@ -4,8 +4,6 @@
 mod base_type;
 mod check;
 mod interface;
-#[cfg(test)]
-mod tests;
 
 pub use base_type::{BaseType, DataType, range};
 pub use check::check_types;

@@ -4,7 +4,7 @@ use Rattle.std.specs.Global.{Global}
 use Rattle.std.specs.List.{slice_get, Contains, count_by}
 use Rattle.std.specs.Option.{option_map}
 use Rattle.std.specs.Vec.{vec_capacity}
-use Rattle.std.proofs.lemmas.Bool.{eq-eqb, ne_eqb, eqb-true, false≢true}
+use Rattle.std.proofs.lemmas.Bool.{eq-eqb, ne_eqb, eqb-true, false≢true, or_left}
 use Rattle.std.proofs.lemmas.List.{length-set}
 use Rattle.std.proofs.lemmas.Option.{slice_get-map}
 use Rattle.latches.specs.Latches.{Latch, after_set}
@@ -42,10 +42,6 @@ module _ (group : ℕ) (xs : List Latch) where
   abbrev ys : List Latch
   ys = map (after_set group) xs
 
-  or_true : (b c : Bool) → b ≡ true → (b || c) ≡ true
-  or_true true c e = refl
-  or_true false c e = absurd (false≢true e)
-
   -- its own list, which is empty
   own_noted : (places none : Vec ℕ Global) → none.items ≡ [] → vec_capacity none ≡ vec_capacity places → IsNoted group xs places → IsNoted group ys none
   own_noted places none empty capacity own = none_noted group ys none empty all (omega (arith, count_map (is_of group) (is_of group) (after_set group) (λ l. refl) xs, own.room, capacity))
@@ -53,7 +49,7 @@ module _ (group : ℕ) (xs : List Latch) where
       all : (at : ℕ) (l : Latch) → slice_get ys at ≡ Some l → l.group ≡ group → l.is_set ≡ true
       all at l is of =
           let was = mapped (after_set group) xs at l is in
-          ap (λ (m : Latch). m.is_set) was.gives ∙ or_true (was.item.group == group) was.item.is_set (eq-eqb was.item.group group (sym (ap (λ (m : Latch). m.group) was.gives) ∙ of))
+          ap (λ (m : Latch). m.is_set) was.gives ∙ or_left (was.item.group == group) was.item.is_set (eq-eqb was.item.group group (sym (ap (λ (m : Latch). m.group) was.gives) ∙ of))
 
   -- that of another group
   other_noted : (other : ℕ) (places : Vec ℕ Global) → other ≢ group → IsNoted other xs places → IsNoted other ys places

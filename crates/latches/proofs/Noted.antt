@@ -8,14 +8,11 @@ use Rattle.std.proofs.lemmas.List.{length-set, length_push}
 use Rattle.std.proofs.lemmas.List.Elements.{Contains-push, Contains-push_cases, Contains-append_left}
 use Rattle.std.proofs.lemmas.List.Sums.{sum_by-le-sum_by}
 use Rattle.std.proofs.lemmas.Option.{same_Some}
+use Rattle.std.proofs.Math.Bool.{and-false}
 use Rattle.latches.specs.Latches.{Latch, clear_in}
 use Rattle.latches.specs.Noted.{is_of, is_clear_of, IsOf, IsNoted, AreNoted}
 use Rattle.latches.proofs.Counts.{one_if, count_same, count_more}
 use Rattle.latches.proofs.Places.{Placed, here, there, placed, set_here, set_there}
-
-and_false : (b : Bool) → (b && false) ≡ false
-and_false true = refl
-and_false false = refl
 
 -- ---- a flag is cleared
 
@@ -27,7 +24,7 @@ module _ (xs : List Latch) (at : ℕ) (x : Latch) (found : slice_get xs at ≡ S
   one_more : count_by (is_clear_of x.group) ys ≡ count_by (is_clear_of x.group) xs + 1
   one_more =
       let own = eq-eqb x.group x.group refl in
-      count_more (is_clear_of x.group) xs at x (clear_in x.group) found (ap (λ b. (x.group == x.group) && not b) was_set ∙ and_false (x.group == x.group)) (ap (λ b. b && true) own)
+      count_more (is_clear_of x.group) xs at x (clear_in x.group) found (ap (λ b. (x.group == x.group) && not b) was_set ∙ and-false (x.group == x.group)) (ap (λ b. b && true) own)
 
   as_many : (group : ℕ) → count_by (is_of group) ys ≡ count_by (is_of group) xs
   as_many group = count_same (is_of group) xs at x (clear_in x.group) found refl

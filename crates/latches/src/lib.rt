@@ -5,8 +5,6 @@ mod flag;
 mod latches;
 mod making;
 mod setting;
-#[cfg(test)]
-mod tests;
 mod threads;
 
 pub use latches::Latches;

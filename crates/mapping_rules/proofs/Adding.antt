@@ -1,6 +1,7 @@
 -- The turns of the loops that add edges to a set.
 use Rattle.std.proofs.Common.{◌≡◌, ℕ, zero, suc, ◌+◌, ◌<◌, ◌≤◌, List, [], ◌∷◌, length, get_or, drop, Bool, true, false, cond, ◌||◌, ◌&&◌, nat_eq, slice_get, Some, None, option_and_then, refl, sym, ap, ◌∙◌, arith, add-one}
 use Rattle.std.proofs.lemmas.Bool.{eqb-true}
+use Rattle.std.proofs.Math.Bool.{or-false}
 use Rattle.std.specs.List.{list_all}
 use Rattle.std.specs.Option.{option_map_or}
 use Rattle.description_types.specs.declared.component.Component.{Component}
@@ -18,10 +19,6 @@ use Rattle.mapping_rules.specs.Waiting.{any_at, leads, pairs, waits_in}
 or_turn : (old part rest new whole : Bool) → (old || (part || rest)) ≡ whole → new ≡ (old || part) → (new || rest) ≡ whole
 or_turn true part rest new whole h is = ap (λ b. b || rest) is ∙ h
 or_turn false part rest new whole h is = ap (λ b. b || rest) is ∙ h
-
-pub or_none : (b : Bool) → (b || false) ≡ b
-or_none true = refl
-or_none false = refl
 
 pub one_key : (same old : Bool) → cond same true old ≡ (old || same)
 one_key true true = refl
@@ -89,7 +86,7 @@ module _ (e : ℕ × ℕ) (waits : List ℕ) where
 
   -- where there is no task, nothing is added
   pub none_added : (ts : List ℕ) → None ≡ slice_get ts 0 → (old : Bool) → old ≡ (old || pairs e ts waits)
-  none_added ts none old = sym (or_none old) ∙ ap (λ b. old || b) (none_lead ts none)
+  none_added ts none old = sym (or-false old) ∙ ap (λ b. old || b) (none_lead ts none)
 
 -- what is true of the same is true of some
 any_same : {X : Type 0} (f g : ℕ → X → Bool) → ((i : ℕ) (x : X) → f i x ≡ g i x) → (n : ℕ) (xs : List X) → any_at f n xs ≡ any_at g n xs

@@ -1,5 +1,6 @@
 -- What is found by its key.
-use Rattle.std.proofs.Common.{◌≡◌, ℕ, zero, suc, ◌+◌, List, [], ◌∷◌, map, Bool, cond, Option, Some, option_map, slice_get, refl, sym, ap, ◌∙◌}
+use Rattle.std.proofs.Common.{◌≡◌, ℕ, ◌+◌, List, [], ◌∷◌, map, Bool, cond, Option, Some, option_map, slice_get, refl, sym, ap, ◌∙◌}
+use Rattle.std.proofs.lemmas.Option.{slice_get-map}
 use Rattle.std.specs.List.{position_from}
 
 module _ {X Z : Type 0} (test : Z → Bool) (g : X → Z) where
@@ -12,14 +13,9 @@ pub same_place : {X Y Z : Type 0} (test : Z → Bool) (g : X → Z) (h : Y → Z
     → position_from (λ x. test (g x)) 0 xs ≡ position_from (λ y. test (h y)) 0 ys
 same_place test g h xs ys same = position_of_map test g 0 xs ∙ ap (position_from test 0) same ∙ sym (position_of_map test h 0 ys)
 
-get_of_map : {X Y : Type 0} (g : X → Y) (xs : List X) (k : ℕ) → option_map g (slice_get xs k) ≡ slice_get (map g xs) k
-get_of_map g [] k = refl
-get_of_map g (x ∷ xs) zero = refl
-get_of_map g (x ∷ xs) (suc k) = get_of_map g xs k
-
 -- and so at each place
 pub same_at : {X Y Z : Type 0} (g : X → Z) (h : Y → Z) (xs : List X) (ys : List Y) → map g xs ≡ map h ys → (k : ℕ) → option_map g (slice_get xs k) ≡ option_map h (slice_get ys k)
-same_at g h xs ys same k = get_of_map g xs k ∙ ap (λ l. slice_get l k) same ∙ sym (get_of_map h ys k)
+same_at g h xs ys same k = sym (slice_get-map g xs k) ∙ ap (λ l. slice_get l k) same ∙ slice_get-map h ys k
 
 -- what was found at a place
 pub same_found : {X Y Z : Type 0} (g : X → Z) (h : Y → Z) (k : ℕ) (r : Option X) (slice xs : List X) (ys : List Y) → r ≡ slice_get slice k → slice ≡ xs → map g xs ≡ map h ys

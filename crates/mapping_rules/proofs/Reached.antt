@@ -1,6 +1,7 @@
 -- The edges that are found are the waits of tasks for tasks.
 use Rattle.std.proofs.Common.{◌≡◌, ℕ, zero, suc, ◌+◌, ◌<◌, List, [], ◌∷◌, ◌++◌, Bool, true, false, ◌||◌, ◌&&◌, nat_eq, slice_get, Option, Some, None, option_and_then, inl, inr, ⊎_elim, refl, sym, ap, ◌∙◌, true≢false, arith}
-use Rattle.std.proofs.lemmas.Bool.{eqb-true, eq-eqb, or_cases, or_left, or_right, and_parts}
+use Rattle.std.proofs.lemmas.Bool.{eqb-true, eq-eqb, or_cases, or_left, or_right, and_parts, and_from}
+use Rattle.std.proofs.Math.Bool.{and-false}
 use Rattle.std.specs.List.{list_any, flat_map}
 use Rattle.std.specs.Option.{option_map_or}
 use Rattle.description_types.specs.declared.component.Access.{Access}
@@ -32,11 +33,6 @@ module _ {X : Type 0} (test : ℕ → X → Bool) where
       member = cc
   any_there n (y ∷ xs) (suc i) j x same at h = or_right (test n y) (any_at test (n + 1) xs) (any_there (n + 1) xs i j x (omega arith) at h)
 
-both : (p q : Bool) → p ≡ true → q ≡ true → (p && q) ≡ true
-both true true hp hq = refl
-both true false hp hq = cc
-both false q hp hq = cc
-
 module _ (e : ℕ × ℕ) where
   abbrev starts : List ℕ → Bool
   starts ts = list_any (λ t. nat_eq t e.0) ts
@@ -55,10 +51,6 @@ module _ (e : ℕ × ℕ) where
   back true false false = refl
   back false r w = refl
 
-  none : (p : Bool) → false ≡ (p && false)
-  none true = refl
-  none false = refl
-
   any-append : (xs ys : List ℕ) → ends (xs ++ ys) ≡ (ends xs || ends ys)
   any-append [] ys = refl
   any-append (x ∷ xs) ys = ap (λ b. nat_eq x e.1 || b) (any-append xs ys) ∙ grouped (nat_eq x e.1) (ends xs) (ends ys)
@@ -68,7 +60,7 @@ module _ (e : ℕ × ℕ) where
       grouped false q r = refl
 
   leads_is : (t n : ℕ) (us : List ℕ) → any_at (λ k u. same_pair (t, u) e) n us ≡ (nat_eq t e.0 && ends us)
-  leads_is t n [] = none (nat_eq t e.0)
+  leads_is t n [] = sym (and-false (nat_eq t e.0))
   leads_is t n (u ∷ us) = ap (λ b. (nat_eq t e.0 && nat_eq u e.1) || b) (leads_is t (n + 1) us) ∙ front (nat_eq t e.0) (nat_eq u e.1) (ends us)
 
   pairs_are : (n : ℕ) (ts us : List ℕ) → any_at (λ k t. leads e t us) n ts ≡ (starts ts && ends us)
@@ -77,7 +69,7 @@ module _ (e : ℕ × ℕ) where
 
   module _ (d : Description) (f : Flat) (i : ℕ) (ts : List ℕ) where
     runnable_waits : (n : ℕ) (xs : List Access) → any_at (λ k a. pairs e ts (waits_by d f i a)) n xs ≡ (starts ts && ends (flat_map (waits_by d f i) xs))
-    runnable_waits n [] = none (starts ts)
+    runnable_waits n [] = sym (and-false (starts ts))
     runnable_waits n (a ∷ xs) = (λ j. pairs_are 0 ts (waits_by d f i a) j || runnable_waits (n + 1) xs j) ∙ front (starts ts) (ends (waits_by d f i a)) (ends (flat_map (waits_by d f i) xs))
         ∙ ap (λ b. starts ts && b) (sym (any-append (waits_by d f i a) (flat_map (waits_by d f i) xs)))
 
@@ -115,7 +107,7 @@ module _ (e : ℕ × ℕ) where
         → starts (tasks_from d f i m 0 c.behavior.events) ≡ true → ends (flat_map (waits_by d f i) r.accesses) ≡ true → has_wait d f e ≡ true
     there_in i m x c r at is there starts_so ends_so =
         any_there of_instance 0 f.instances i i x (omega arith) at (ap (λ (o : Option Component). option_map_or (waits_in d f e i) o false) is
-        ∙ any_there (of_runnable i c) 0 c.behavior.runnables m m r (omega arith) there (runnable_waits d f i (tasks_from d f i m 0 c.behavior.events) 0 r.accesses ∙ both _ _ starts_so ends_so))
+        ∙ any_there (of_runnable i c) 0 c.behavior.runnables m m r (omega arith) there (runnable_waits d f i (tasks_from d f i m 0 c.behavior.events) 0 r.accesses ∙ and_from _ _ starts_so ends_so))
 
     by_runnable : (i m : ℕ) (x : Instance) (c : Component) (o : Option Runnable) → slice_get f.instances i ≡ Some x → slice_get d.components x.component ≡ Some c → slice_get c.behavior.runnables m ≡ o
         → starts (tasks_from d f i m 0 c.behavior.events) ≡ true → ends (option_map_or (λ (x : Runnable). flat_map (waits_by d f i) x.accesses) o []) ≡ true → has_wait d f e ≡ true
@@ -144,7 +136,7 @@ pair_is a b h = let parts = and_parts (nat_eq a.0 b.0) (nat_eq a.1 b.1) h in λ 
 
 among_any : (e : ℕ × ℕ) (xs : List (ℕ × ℕ)) → Among e xs → list_any (same_pair e) xs ≡ true
 among_any e [] h = absurd h
-among_any e (x ∷ xs) (inl is) = or_left (same_pair e x) (list_any (same_pair e) xs) (both (nat_eq e.0 x.0) (nat_eq e.1 x.1) (eq-eqb e.0 x.0 (ap (λ z. z.0) is)) (eq-eqb e.1 x.1 (ap (λ z. z.1) is)))
+among_any e (x ∷ xs) (inl is) = or_left (same_pair e x) (list_any (same_pair e) xs) (and_from (nat_eq e.0 x.0) (nat_eq e.1 x.1) (eq-eqb e.0 x.0 (ap (λ z. z.0) is)) (eq-eqb e.1 x.1 (ap (λ z. z.1) is)))
 among_any e (x ∷ xs) (inr h) = or_right (same_pair e x) (list_any (same_pair e) xs) (among_any e xs h)
 
 any_among : (e : ℕ × ℕ) (xs : List (ℕ × ℕ)) → list_any (same_pair e) xs ≡ true → Among e xs

@@ -1,14 +1,12 @@
 -- What an answer tells.
 use Rattle.std.proofs.Common.{◌≡◌, ℕ, List, Option, Some, None, Result, Ok, Err, OnOk, refl, sym, subst}
+use Rattle.std.proofs.lemmas.Option.{same_Some}
 use Rattle.rte_text.specs.declared.refusal.Refused.{Refused}
 use Rattle.rte_text.specs.declared.refusal.Refused.TheVariants.{Rule, Memory}
 use Rattle.description_types.specs.declared.description.Description.{Description}
 use Rattle.composition_flatten.specs.declared.flat.Flat.{Flat}
 use Rattle.mapping_rules.specs.Refusals.{IsAfter, IsOfTasks, IsRefusal, Says, Tells, mapping_text, of_events}
 use Rattle.mapping_rules.specs.Rules.{ReachesItself}
-
-some_is : (a b : ℕ × List ℕ) → Some a ≡ Some b → a ≡ b
-some_is a b h = cc
 
 module _ (d : Description) (f : Flat) where
   -- rule 29 is broken
@@ -17,7 +15,7 @@ module _ (d : Description) (f : Flat) where
   tasks_refused (Err (Rule x)) circle says = (is, circle)
     where
       is : ◌≡◌ {A = ℕ × List ℕ} (x.rule, x.place) (29, mapping_text)
-      is = some_is (x.rule, x.place) (29, mapping_text) (sym says)
+      is = same_Some (x.rule, x.place) (29, mapping_text) (sym says)
   tasks_refused (Err Memory) circle says = tt
 
   -- nothing is broken before rule 29

@@ -2,8 +2,6 @@
 #![tactic(auto)]
 
 mod set;
-#[cfg(test)]
-mod tests;
 mod threads;
 
 pub use set::PlaceSet;

@@ -10,6 +10,3 @@ pub use all_sites::sites;
 pub use parts::{numbered_areas, numbered_events, numbered_runnables};
 pub use site::{Site, SiteKind};
 pub use table::Table;
-
-#[cfg(test)]
-mod tests;

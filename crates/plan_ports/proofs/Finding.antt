@@ -111,6 +111,7 @@ pub second_joined : (joins : List Join) (provided required : List (EndKey × End
     → r ≡ is_some (lookup (same_end_key (key_of e)) provided) → r ≡ false → s ≡ is_some (lookup (same_end_key (key_of e)) required) → s ≡ is_joined joins e
 second_joined joins provided required e r s areprovided arerequired is here then_is = then_is ∙ or_is _ _ _ (joined_found joins provided required e areprovided arerequired) (sym is ∙ here)
 
+-- The standard library's lemma has a dash in its name, which a `using` in code cannot write.
 pub slice_get_map : {X Y : Type 0} (f : X → Y) (xs : List X) (i : ℕ) → slice_get (map f xs) i ≡ option_map f (slice_get xs i)
 slice_get_map f [] i = refl
 slice_get_map f (x ∷ xs) zero = refl

@@ -1,5 +1,6 @@
 -- The event by which an operation is invoked, as it is looked up.
-use Rattle.std.proofs.Common.{◌≡◌, ℕ, zero, suc, List, [], ◌∷◌, map, Bool, true, false, cond, ◌&&◌, nat_eq, Option, Some, None, refl, sym, ap, ◌∙◌}
+use Rattle.std.proofs.Common.{◌≡◌, ℕ, List, map, Bool, true, false, cond, ◌&&◌, nat_eq, Option, Some, None, refl, sym, ap, ◌∙◌}
+use Rattle.std.proofs.lemmas.Option.{slice_get-map}
 use Rattle.std.specs.List.{position_from, slice_get}
 use Rattle.std.specs.Option.{option_and_then, option_eq, option_map, option_map_or, unwrap_or}
 use Rattle.description_types.specs.declared.component.Component.{Component}
@@ -14,14 +15,9 @@ use Rattle.mapping_rules.specs.Mapped.{invocation_of, invokes}
 use Rattle.plan_services.specs.Invoked.{all_invoked, invoked_by, invoked_in}
 use Rattle.plan_services.proofs.Pointing.{position_map}
 
-pub slice_get_map : {X Y : Type 0} (f : X → Y) (xs : List X) (i : ℕ) → slice_get (map f xs) i ≡ option_map f (slice_get xs i)
-slice_get_map f [] i = refl
-slice_get_map f (x ∷ xs) zero = refl
-slice_get_map f (x ∷ xs) (suc i) = slice_get_map f xs i
-
 -- the flag of a number
 pub flag_at : {X : Type 0} (test : X → Bool) (xs : List X) (flags : List Bool) (n : ℕ) → flags ≡ map test xs → unwrap_or (slice_get flags n) false ≡ option_map_or test (slice_get xs n) false
-flag_at {X} test xs flags n are = ap (λ fs. unwrap_or (slice_get fs n) false) are ∙ ap (λ o. unwrap_or o false) (slice_get_map test xs n) ∙ by (slice_get xs n)
+flag_at {X} test xs flags n are = ap (λ fs. unwrap_or (slice_get fs n) false) are ∙ ap (λ o. unwrap_or o false) (slice_get-map test xs n) ∙ by (slice_get xs n)
   where
     by : (o : Option X) → unwrap_or (option_map test o) false ≡ option_map_or test o false
     by None = refl
@@ -53,7 +49,7 @@ module _ (k n : ℕ) where
   of_instance : (components : List Component) (tables : List (List (Option (ℕ × ℕ)))) (x : Option Instance) → tables ≡ map invoked_in components
       → option_and_then searched (option_and_then (λ (x : Instance). slice_get tables x.component) x) ≡ option_and_then wanted (option_and_then (λ (x : Instance). slice_get components x.component) x)
   of_instance components tables None are = refl
-  of_instance components tables (Some x) are = (λ j. option_and_then searched (slice_get (are j) x.component)) ∙ ap (option_and_then searched) (slice_get_map invoked_in components x.component) ∙ in_found (slice_get components x.component)
+  of_instance components tables (Some x) are = (λ j. option_and_then searched (slice_get (are j) x.component)) ∙ ap (option_and_then searched) (slice_get-map invoked_in components x.component) ∙ in_found (slice_get components x.component)
 
 pub invoked_found : (d : Description) (f : Flat) (tables : List (List (Option (ℕ × ℕ)))) (i k n : ℕ) → tables ≡ all_invoked d
     → option_and_then (position_from (option_eq same_pair (Some (k, n))) 0) (option_and_then (λ (x : Instance). slice_get tables x.component) (slice_get f.instances i)) ≡ invocation_of d f i k n

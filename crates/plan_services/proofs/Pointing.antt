@@ -3,6 +3,7 @@ use Rattle.std.proofs.Common.{◌≡◌, ℕ, ◌+◌, List, [], ◌∷◌, map,
 use Rattle.std.specs.List.{position_from}
 use Rattle.std.specs.Option.{option_eq, option_map, option_map_or, unwrap_or}
 use Rattle.std.proofs.lemmas.Bool.{eq-eqb, ne_eqb, cases_eq}
+use Rattle.std.proofs.Math.Bool.{and_assoc}
 use Rattle.plan_numbers.specs.Keys.{same_pair}
 use Rattle.plan_services.specs.declared.callings.Calling.{Calling}
 use Rattle.plan_services.specs.Callings.{call_key, first_calling, is_calling, leaves, left_key}
@@ -21,10 +22,6 @@ same_call a b = (option_eq same_pair a.0 b.0 && nat_eq a.1 b.1) && nat_eq a.2 b.
 
 abbrev pub same_left : Option ℕ × ℕ × ℕ → Option ℕ × ℕ × ℕ → Bool
 same_left a b = (option_eq nat_eq a.0 b.0 && nat_eq a.1 b.1) && nat_eq a.2 b.2
-
-and_assoc : (a b c : Bool) → ((a && b) && c) ≡ (a && (b && c))
-and_assoc true b c = refl
-and_assoc false b c = refl
 
 rest_same : (b : Bool) (k n : ℕ) (c : Calling) → ((b && nat_eq k c.port) && nat_eq n c.item) ≡ (b && (nat_eq c.port k && nat_eq c.item n))
 rest_same b k n c = and_assoc b (nat_eq k c.port) (nat_eq n c.item) ∙ (λ j. b && (nat_eq_sym k c.port j && nat_eq_sym n c.item j))

@@ -3,6 +3,8 @@ use Rattle.std.proofs.Common.{◌≡◌, ℕ, zero, suc, ◌+◌, ◌<◌, ◌==
 use Rattle.std.specs.Prelude.{nat_le, set, unwrap_or}
 use Rattle.std.specs.List.{slice_get}
 use Rattle.std.proofs.lemmas.Option.{slice_get-get_or}
+use Rattle.std.proofs.lemmas.Bool.{and_parts, eqb-true}
+use Rattle.std.proofs.lemmas.List.{length-set}
 use Rattle.bus_semantics.specs.declared.entries.Actor.{Actor}
 use Rattle.bus_semantics.specs.Plan.{Plan}
 use Rattle.bus_semantics.specs.Wanted.{Wanted}
@@ -14,8 +16,6 @@ use Rattle.port_objects.specs.Objects.{touched, IsOfPlan, IsObject, ArePlans}
 use Rattle.port_objects.specs.Plans.{HasObjects}
 use Rattle.port_objects.specs.Answers.{IsAnswer}
 use Rattle.port_objects.specs.Benches.{ActedOn}
-use Rattle.port_objects.proofs.Placing.{both, number_same}
-use Rattle.port_objects.proofs.Staying.{length_set}
 use Rattle.port_objects.proofs.Taking.{set_same}
 
 pub touched_is : (p : Plan) (a : Actor) (w : Wanted) (n : ℕ) → object_of p a w ≡ Some n → touched p a w ≡ n
@@ -23,7 +23,7 @@ touched_is p a w n e = ap (λ o. unwrap_or o 0) e
 
 pub found_at : (p : Plan) (objects : List Object) (n : ℕ) (o : Object) → HasObjects p → ArePlans p objects → IsObject p n → o ≡ get_or objects n o → slice_get objects n ≡ Some o
 found_at p objects n o sound planned there same =
-    let counted : p.objects ≡ clock p + 1 = number_same p.objects (clock p + 1) (both (p.objects == clock p + 1) (nat_le p.objects 16384) sound.counted).0 in
+    let counted : p.objects ≡ clock p + 1 = eqb-true p.objects (clock p + 1) (and_parts (p.objects == clock p + 1) (nat_le p.objects 16384) sound.counted).0 in
     let count = planned.count in
     let within : n < length objects = omega arith in
     slice_get-get_or objects n o within ∙ ap (λ z. Some z) (sym same)
@@ -45,7 +45,7 @@ held_in (z ∷ xs) (suc n) (suc i) y x e = deeper (held_in xs n i y x e)
 
 pub set_planned : (p : Plan) (objects : List Object) (n : ℕ) (o : Object) → ArePlans p objects → IsOfPlan p n o → ArePlans p (set objects n o)
 set_planned p objects n o planned new = record {
-  count = length_set objects n o ∙ planned.count;
+  count = length-set objects n o ∙ planned.count;
   each = λ i x found. of_place i x (held_in objects n i o x found);
 }
   where

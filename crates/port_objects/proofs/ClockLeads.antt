@@ -1,10 +1,12 @@
 -- What the lead gives of the clock stands for the list and the entry.
-use Rattle.std.proofs.Common.{◌≡◌, ℕ, suc, ◌%◌, ℤ, Bool, true, false, ◌&&◌, ◌||◌, not, ◌==◌, refl, sym, ◌∙◌, ap, subst, List, [], ◌∷◌, length, map, Option, Some, None}
+use Rattle.std.proofs.Common.{◌≡◌, ℕ, suc, ◌%◌, ℤ, Bool, true, false, ◌&&◌, ◌||◌, not, ◌==◌, refl, sym, ◌∙◌, ap, subst, List, ◌∷◌, length, map, Option, Some, None}
 use Rattle.std.specs.Prelude.{set, option_map}
 use Rattle.std.specs.List.{list_all, list_any, slice_get}
 use Rattle.std.specs.Option.{option_map_or}
-use Rattle.std.proofs.lemmas.Bool.{false≢true}
+use Rattle.std.proofs.lemmas.Bool.{eq-eqb, eqb-true, false≢true, or_right}
 use Rattle.std.proofs.Math.Nat.{suc-mod}
+use Rattle.std.proofs.lemmas.Option.{same_Some}
+use mathlib.Core.List.{map-map}
 use Rattle.rte_value.specs.declared.value.Value.{Value}
 use Rattle.rte_value.specs.Values.{words_of}
 use Rattle.bus_semantics.specs.declared.plan.EventKind.{EventKind}
@@ -28,7 +30,7 @@ use Rattle.port_objects.specs.Layout.{events_of, is_timing, is_init, period_in, 
 use Rattle.port_objects.specs.Matching.{start_matches}
 use Rattle.port_objects.specs.Standing.{Follows, due_after, timer_after, ClockKeeps}
 use Rattle.port_objects.specs.Leading.{is_set, is_timer_due, lead_of_start, lead_of_clock}
-use Rattle.port_objects.proofs.Placing.{clash, number_same, same_test, given_some, all_filter, map_all, place_at, mapped_at, all_at, set_all, distinct_positions}
+use Rattle.port_objects.proofs.Placing.{clash, given_some, all_filter, map_all, place_at, mapped_at, all_at, set_all, distinct_positions}
 use Rattle.port_objects.proofs.GroupLeads.{noting, answer_part, admitted, flag_set}
 
 -- ---- kinds
@@ -51,7 +53,7 @@ not_both p e f timing init = by_test (e == f) refl
   where
     by_test : (b : Bool) → (e == f) ≡ b → (e == f) ≡ false
     by_test true t =
-        let same : kind_of p e ≡ kind_of p f = ap (kind_of p) (number_same e f t) in
+        let same : kind_of p e ≡ kind_of p f = ap (kind_of p) (eqb-true e f t) in
         let at_init : is_timing (kind_of p e) ≡ false = ap is_timing (same ∙ of_init (kind_of p f) init) in
         clash (is_timing (kind_of p e)) timing at_init
     by_test false t = t
@@ -60,7 +62,7 @@ flipped : (e f : ℕ) → (e == f) ≡ false → (f == e) ≡ false
 flipped e f off = by_test (f == e) refl
   where
     by_test : (b : Bool) → (f == e) ≡ b → (f == e) ≡ false
-    by_test true t = clash (e == f) (same_test e f (sym (number_same f e t))) off
+    by_test true t = clash (e == f) (eq-eqb e f (sym (eqb-true f e t))) off
     by_test false t = t
 
 pub timing_due : (p : Plan) (e period : ℕ) (l : Past) → kind_of p e ≡ Timing period → due_after p l e ≡ follows_last (is_start_by e) (ticks_period period) l
@@ -81,10 +83,6 @@ module _ (p : Plan) where
 
   inits_once : is_distinct (events_of p is_init) ≡ true
   inits_once = distinct_positions (λ e. is_init (kind_of p e)) (length p.events)
-
-pub map_map : {X Y : Type 0} (f : X → Y) (g : ℕ → X) (xs : List ℕ) → map f (map g xs) ≡ map (λ x. f (g x)) xs
-map_map f g [] = refl
-map_map f g (x ∷ xs) = ap (λ ys. f (g x) ∷ ys) (map_map f g xs)
 
 module _ (p : Plan) (timings inits : List ℕ) (k : Kept) (l : Past) (keeps : ClockKeeps p timings inits k l) (a : Actor) (event : Option ℕ) where
   timed : list_all (λ e. is_timing (kind_of p e)) timings ≡ true
@@ -117,7 +115,7 @@ module _ (p : Plan) (timings inits : List ℕ) (k : Kept) (l : Past) (keeps : Cl
   tick_keeps = record {
     timing = keeps.timing;
     initial = keeps.initial;
-    timers = ap (map ticked) keeps.timers ∙ map_map ticked (timer_after p l) timings
+    timers = ap (map ticked) keeps.timers ∙ map-map ticked (timer_after p l) timings
         ∙ map_all (λ e. is_timing (kind_of p e)) (λ e. ticked (timer_after p l e)) (timer_after p (noting a deed.Tick event ∷ l)) timings timed ticked_timer;
     unstarted = keeps.unstarted
         ∙ map_all (λ e. is_init (kind_of p e)) (due_after p l) (due_after p (noting a deed.Tick event ∷ l)) inits first
@@ -141,7 +139,7 @@ module _ (p : Plan) (timings inits : List ℕ) (k : Kept) (l : Past) (keeps : Cl
         let of = of_period (kind_of p e) timing in
         let due : due_after p (noting a (deed.Start e point value) event ∷ l) e ≡ false =
         timing_due p e of.period (noting a (deed.Start e point value) event ∷ l) of.kind
-        ∙ ap (λ b. not b && follows_last (is_start_by e) (ticks_period of.period) l) (same_test e e refl) in
+        ∙ ap (λ b. not b && follows_last (is_start_by e) (ticks_period of.period) l) (eq-eqb e e refl) in
         λ i. record { period = period_in (kind_of p e); passed = ticks l % period_in (kind_of p e); due = due i }
 
     other_init : (f : ℕ) → is_init (kind_of p f) ≡ true → (e == f) ≡ false → due_after p l f ≡ due_after p (noting a (deed.Start e point value) event ∷ l) f
@@ -150,7 +148,7 @@ module _ (p : Plan) (timings inits : List ℕ) (k : Kept) (l : Past) (keeps : Cl
         init_due p f l is ∙ ap (λ b. not (b || list_any (is_start_by f) l)) (sym (flipped e f other)) ∙ sym (init_due p f (noting a (deed.Start e point value) event ∷ l) is)
 
     this_init : is_init (kind_of p e) ≡ true → due_after p (noting a (deed.Start e point value) event ∷ l) e ≡ false
-    this_init init = init_due p e (noting a (deed.Start e point value) event ∷ l) (of_init (kind_of p e) init) ∙ ap (λ b. not (b || list_any (is_start_by e) l)) (same_test e e refl)
+    this_init init = init_due p e (noting a (deed.Start e point value) event ∷ l) (of_init (kind_of p e) init) ∙ ap (λ b. not (b || list_any (is_start_by e) l)) (eq-eqb e e refl)
 
     pub timer_at : (i : ℕ) → place e timings ≡ Some i → slice_get k.timers i ≡ Some (timer_after p l e)
     timer_at i there = ap (λ ts. slice_get ts i) keeps.timers ∙ mapped_at (timer_after p l) timings i e (place_at e timings i there)
@@ -242,13 +240,9 @@ module _ (p : Plan) (object : ℕ) (timings inits : List ℕ) (k after : Kept) (
       let gives = given_some (is_set k.unstarted i) (after_init i k) after leads in
       let kind = init_at p timings inits k l keeps a event e point value i there in
       let flag : slice_get k.unstarted i ≡ Some (due_after p l e) = ap (λ us. slice_get us i) keeps.unstarted ∙ mapped_at (due_after p l) inits i e (place_at e inits i there) in record {
-        follows = start_follows e point value touching proper (either (is_timing (kind_of p e)) (is_init (kind_of p e)) kind) (flag_set k.unstarted i (due_after p l e) flag gives.holds);
+        follows = start_follows e point value touching proper (or_right (is_timing (kind_of p e)) (is_init (kind_of p e)) kind) (flag_set k.unstarted i (due_after p l e) flag gives.holds);
         keeps = subst (λ z. ClockKeeps p timings inits z (noting a (deed.Start e point value) event ∷ l)) gives.same (init_keeps p timings inits k l keeps a event e point value i there);
       }
-    where
-      either : (b c : Bool) → c ≡ true → (b || c) ≡ true
-      either true c is = refl
-      either false c is = is
   start_led e point value touching proper None None none nor leads = absurd (cc leads)
 
   pub clock_led : (d : Deed) → touches p object (noting a d event) ≡ true → is_proper p (noting a d event) ≡ true → lead_of_clock timings inits k d ≡ Some after → Led p object timings inits after l (noting a d event)
@@ -259,10 +253,7 @@ module _ (p : Plan) (object : ℕ) (timings inits : List ℕ) (k after : Kept) (
       answers = record { unqueued = refl; queued = refl; calls = refl; areas = refl; modes = refl; admission = admitted p l event deed.Tick refl; due = refl };
       matching = refl;
     };
-    keeps = subst (λ z. ClockKeeps p timings inits z (noting a deed.Tick event ∷ l)) (some_same (after_tick k) after leads) (tick_keeps p timings inits k l keeps a event);
+    keeps = subst (λ z. ClockKeeps p timings inits z (noting a deed.Tick event ∷ l)) (same_Some (after_tick k) after leads) (tick_keeps p timings inits k l keeps a event);
   }
-    where
-      some_same : (b c : Kept) → Some b ≡ Some c → b ≡ c
-      some_same b c e = cc
   clock_led (deed.Start e point value) touching proper leads = start_led e point value touching proper (place e timings) (place e inits) refl refl leads
   clock_led d touching proper leads = absurd (cc leads)

@@ -1,7 +1,7 @@
 -- What `act` answers by the lead is what may come after the entries that the object stands for.
 use Rattle.std.proofs.Common.{◌≡◌, ℕ, true, false, ◌&&◌, if◌then◌else◌, refl, sym, ◌∙◌, ap, subst, Some, None, is_some}
 use Rattle.std.specs.Prelude.{is_none, unwrap_or}
-use Rattle.std.proofs.lemmas.Bool.{false≢true}
+use Rattle.std.proofs.lemmas.Bool.{and_parts, eq-eqb, false≢true}
 use Rattle.rte_value.specs.Values.{same_number}
 use Rattle.bus_semantics.specs.declared.script.Mapping.{Mapping}
 use Rattle.bus_semantics.specs.declared.entries.Actor.{Actor}
@@ -24,7 +24,6 @@ use Rattle.port_objects.specs.Answers.{event_of, noted_for, IsMade, IsHeld}
 use Rattle.port_objects.specs.Coming.{asks_its_own, MayAsk, IsTheOne, NoneMayCome}
 use Rattle.port_objects.proofs.Complete.{leads_on}
 use Rattle.port_objects.proofs.Leads.{lead_follows, lead_stands}
-use Rattle.port_objects.proofs.Placing.{both, same_test}
 use Rattle.port_objects.proofs.Plain.{is_plain, plain_deed}
 use Rattle.port_objects.proofs.Single.{one_entry}
 
@@ -43,13 +42,13 @@ no_event d is a b = refl
 
 activation_may : (p : Plan) (a : Actor) (e : ℕ) (w : Wanted) → w ≡ to_admit e → wish_fits p a w ≡ true → activation_fits p a ≡ true
 activation_may p Env e w is fit = subst (λ v. wish_fits p Env v ≡ true) is fit
-activation_may p (Machine n) e w is fit = let parts = both _ false (subst (λ v. wish_fits p (Machine n) v ≡ true) is fit) in absurd (false≢true parts.1)
-activation_may p (Act k) e w is fit = (both (key_fits p k) (event_fits p (instance_of p k.runnable) e) (subst (λ v. wish_fits p (Act k) v ≡ true) is fit)).0
+activation_may p (Machine n) e w is fit = let parts = and_parts _ false (subst (λ v. wish_fits p (Machine n) v ≡ true) is fit) in absurd (false≢true parts.1)
+activation_may p (Act k) e w is fit = (and_parts (key_fits p k) (event_fits p (instance_of p k.runnable) e) (subst (λ v. wish_fits p (Act k) v ≡ true) is fit)).0
 
 activation_ends : (p : Plan) (a : Actor) (e : ℕ) (w : Wanted) → w ≡ to_end e → wish_fits p a w ≡ true → activation_fits p a ≡ true
 activation_ends p Env e w is fit = subst (λ v. wish_fits p Env v ≡ true) is fit
-activation_ends p (Machine n) e w is fit = let parts = both _ false (subst (λ v. wish_fits p (Machine n) v ≡ true) is fit) in absurd (false≢true parts.1)
-activation_ends p (Act k) e w is fit = (both (key_fits p k) (event_fits p (instance_of p k.runnable) e) (subst (λ v. wish_fits p (Act k) v ≡ true) is fit)).0
+activation_ends p (Machine n) e w is fit = let parts = and_parts _ false (subst (λ v. wish_fits p (Machine n) v ≡ true) is fit) in absurd (false≢true parts.1)
+activation_ends p (Act k) e w is fit = (and_parts (key_fits p k) (event_fits p (instance_of p k.runnable) e) (subst (λ v. wish_fits p (Act k) v ≡ true) is fit)).0
 
 fits_first : (p : Plan) (a : Actor) (w : Wanted) (d : Deed) (by : ℕ) → wanted_by by d ≡ w → wish_fits p a w ≡ true → (if needs_event d then activation_fits p a else wish_fits p a (wanted_by 0 d)) ≡ true
 fits_first p a w (deed.Admit admitted) by same fit = activation_may p a by w (sym same) fit
@@ -69,7 +68,7 @@ module _ (p : Plan) (m : Mapping) (a : Actor) (w : Wanted) (old new : Object) (t
       let free : (needs_event e.deed && is_none (event_of w)) ≡ false = has_event w e.deed made.wish in
       let object : object_of p e.actor (wanted_by by e.deed) ≡ Some (touched p a w) = (λ i. object_of p (made.actor i) (made.wish i)) ∙ touching in
       let whole : touched_by p (noted_for w e) ≡ Some (touched p a w) = ap (λ b. if b then None else object_of p e.actor (wanted_by by e.deed)) free ∙ object in
-      ap (λ o. same_number o (Some (touched p a w))) whole ∙ same_test (touched p a w) (touched p a w) refl
+      ap (λ o. same_number o (Some (touched p a w))) whole ∙ eq-eqb (touched p a w) (touched p a w) refl
 
   made_proper : (e : Entry) → wish_fits p a w ≡ true → asks_its_own p a w ≡ true → IsMade p (touched p a w) a w old new e → is_proper p (noted_for w e) ≡ true
   made_proper e fit own made =

@@ -3,9 +3,10 @@ use Rattle.std.proofs.Common.{◌≡◌, ℕ, zero, suc, ◌<◌, Bool, true, fa
 use Rattle.std.specs.Prelude.{filter, nat_lt, option_map, option_and_then}
 use Rattle.std.specs.List.{list_all, slice_get}
 use Rattle.std.specs.Option.{option_map_or}
-use Rattle.std.proofs.lemmas.Bool.{false≢true}
+use Rattle.std.proofs.lemmas.Bool.{and_parts, eq-eqb, eqb-true, false≢true}
 use Rattle.std.proofs.lemmas.Bool.Decides.{nat_tests}
 use Rattle.std.proofs.lemmas.List.Elements.{filter-append}
+use Rattle.std.proofs.lemmas.Option.{slice_get_within}
 use Rattle.rte_value.specs.declared.value.Value.{Value}
 use Rattle.rte_value.specs.Values.{words_of, same_words, same_number}
 use Rattle.bus_semantics.specs.declared.plan.ElemPlan.{ElemPlan}
@@ -38,7 +39,7 @@ use Rattle.port_objects.specs.Plans.{IsUnqueuedPlan}
 use Rattle.port_objects.proofs.ClockLeads.{timings_all, timer_at}
 use Rattle.port_objects.proofs.GroupLeads.{noting, member_of, value_same, code_in}
 use Rattle.port_objects.proofs.Opened.{clock_last, group_within}
-use Rattle.port_objects.proofs.Placing.{clash, both, number_same, same_test, mapped_at, place_at, all_at}
+use Rattle.port_objects.proofs.Placing.{clash, mapped_at, place_at, all_at}
 use Rattle.port_objects.proofs.Plain.{is_plain, Starting, at_time, at_init, at_data, plain_start, plain_deed, wish_part}
 
 -- ---- what passes has its place
@@ -67,7 +68,7 @@ placed_more x (y ∷ xs) ys p = by_test (x == y) refl (placed_more x xs ys)
     by_test false t deeper = placed_test x y (xs ++ ys) false t (λ f. deeper (placed_tail x y xs t p))
 
 placed_end : (x : ℕ) (xs : List ℕ) → Placed x (xs ++ x ∷ [])
-placed_end x [] = record { at = zero; is = let t : (x == x) ≡ true = same_test x x refl in rw t refl }
+placed_end x [] = record { at = zero; is = let t : (x == x) ≡ true = eq-eqb x x refl in rw t refl }
 placed_end x (y ∷ xs) = let rest = placed_end x xs in placed_test x y (xs ++ x ∷ []) (x == y) refl (λ f. rest)
 
 pub placed : (t : ℕ → Bool) (n x : ℕ) → x < n → t x ≡ true → Placed x (filter t (positions n))
@@ -76,20 +77,15 @@ placed t (suc n) x less passes = subst (Placed x) (sym (filter-append t (positio
   where
     by_test : (b : Bool) → (x == n) ≡ b → (x < n → Placed x (filter t (positions n))) → Placed x (filter t (positions n) ++ (if t n then n ∷ [] else []))
     by_test true is before =
-        let same : n ≡ x = sym (number_same x n is) in
+        let same : n ≡ x = sym (eqb-true x n is) in
         subst (λ k. Placed x (filter t (positions n) ++ (if t k then k ∷ [] else []))) (sym same)
         (subst (λ b. Placed x (filter t (positions n) ++ (if b then x ∷ [] else []))) (sym passes) (placed_end x (filter t (positions n))))
     by_test false is before = let below : x < n = grind (arith, nat_tests) in placed_more x (filter t (positions n)) (if t n then n ∷ [] else []) (before below)
 
 -- ---- elements and events that there are
 
-elem_within : (es : List ElemPlan) (x : ℕ) (v : ElemPlan) → slice_get es x ≡ Some v → x < length es
-elem_within [] x v there = absurd (cc there)
-elem_within (e ∷ es) zero v there = omega arith
-elem_within (e ∷ es) (suc x) v there = let deeper = elem_within es x v there in omega arith
-
 pub member_placed : (p : Plan) (g x : ℕ) → is_in_group p g x ≡ true → Placed x (members_of p g)
-member_placed p g x inside = let m = member_of p g x inside in placed (is_in_group p g) (length p.elements) x (elem_within p.elements x m.elem m.found) inside
+member_placed p g x inside = let m = member_of p g x inside in placed (is_in_group p g) (length p.elements) x (slice_get_within p.elements x m.elem m.found) inside
 
 event_within : (vs : List EventPlan) (e x : ℕ) → option_map_or (λ (v : EventPlan). v.kind) (slice_get vs e) Init ≡ DataReceived x → e < length vs
 event_within [] e x is = absurd (cc is)
@@ -102,10 +98,10 @@ waiting_placed p g e x kind inside = placed (λ f. waits_for_data p g (kind_of p
 -- what starts an activation is there
 started_within : (p : Plan) (a : Actor) (e : ℕ) → wish_fits p a (to_start e) ≡ true → e < length p.events
 started_within p Env e fit = absurd (false≢true fit)
-started_within p (Machine n) e fit = absurd (false≢true (both (nat_lt n (length p.machines)) false fit).1)
+started_within p (Machine n) e fit = absurd (false≢true (and_parts (nat_lt n (length p.machines)) false fit).1)
 started_within p (Act k) e fit =
-    let event = (both (key_fits p k) (event_fits p (instance_of p k.runnable) e) fit).1 in
-    let there : nat_lt e (length p.events) ≡ true = (both (nat_lt e (length p.events)) _ event).0 in
+    let event = (and_parts (key_fits p k) (event_fits p (instance_of p k.runnable) e) fit).1 in
+    let there : nat_lt e (length p.events) ≡ true = (and_parts (nat_lt e (length p.events)) _ event).0 in
     grind (arith, nat_tests)
 
 pub kind_placed : (p : Plan) (a : Actor) (e : ℕ) (test : EventKind → Bool) → wish_fits p a (to_start e) ≡ true → test (kind_of p e) ≡ true → Placed e (events_of p test)
@@ -126,7 +122,7 @@ then_where f o x there some = rw there some
 -- ---- a group
 
 pub not_clock : {X : Type 0} (p : Plan) (g : ℕ) → IsUnqueuedPlan p → g < length p.groups → same_number (Some (clock p)) (Some g) ≡ true → X
-not_clock p g plain within e = let same : clock p ≡ g = number_same (clock p) g e in let last = clock_last p plain in absurd (omega arith)
+not_clock p g plain within e = let same : clock p ≡ g = eqb-true (clock p) g e in let last = clock_last p plain in absurd (omega arith)
 
 module _ (p : Plan) (m : Mapping) (sound : IsSound p m) (plain : IsUnqueuedPlan p) (g : ℕ) (within : g < length p.groups)
     (events : List ℕ) (k : data_kept.Kept) (l : Past) (keeps : GroupKeeps p g events k l) (a : Actor) (event : Option ℕ) where
@@ -149,7 +145,7 @@ module _ (p : Plan) (m : Mapping) (sound : IsSound p m) (plain : IsUnqueuedPlan 
   read_comes x code value inside answer =
       let at = member_of p g x inside in
       let there = member_placed p g x inside in
-      let parts = both (code == read_code p x l) (same_words (words_of value) (value_at p x l)) answer in
+      let parts = and_parts (code == read_code p x l) (same_words (words_of value) (value_at p x l)) answer in
       let code_is : (code == read_code_in p x k) ≡ true = ap (λ c. code == c) (code_in p g events k l keeps x at.elem at.found at.group) ∙ parts.0 in
       let value_is : has_value value there.at k ≡ true = value_same p g events k l keeps x there.at at.elem at.found at.group there.is value ∙ parts.1 in
       then_where (λ r. given ((code == read_code_in p x k) && has_value value r k) (data_kept.after_read r k)) (place x (members_of p g)) there.at there.is

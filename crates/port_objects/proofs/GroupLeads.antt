@@ -3,7 +3,8 @@ use Rattle.std.proofs.Common.{◌≡◌, ℕ, ℤ, Bool, true, false, ◌&&◌, 
 use Rattle.std.specs.Prelude.{replicate, set, unwrap_or, option_map}
 use Rattle.std.specs.List.{list_all, slice_get}
 use Rattle.std.specs.Option.{option_or, option_map_or}
-use Rattle.std.proofs.lemmas.Bool.{false≢true}
+use Rattle.std.proofs.lemmas.Bool.{and_parts, eq-eqb, eqb-true, false≢true}
+use Rattle.std.proofs.lemmas.Option.{same_Some}
 use Rattle.rte_value.specs.declared.value.Value.{Value}
 use Rattle.rte_value.specs.Values.{words_of, same_words, same_number}
 use Rattle.rte_value.specs.ShortValues.{empty_value}
@@ -34,13 +35,10 @@ use Rattle.port_objects.specs.Layout.{members_of, initial_of, events_of, waits_f
 use Rattle.port_objects.specs.Matching.{start_matches}
 use Rattle.port_objects.specs.Standing.{Follows, due_after, GroupKeeps}
 use Rattle.port_objects.specs.Leading.{given, read_code_by, read_code_in, has_value, is_set, has_flag, lead_of_group}
-use Rattle.port_objects.proofs.Placing.{clash, both, number_same, same_test, given_some, then_some, all_filter, map_all, filled_all, place_at, mapped_at, all_at, set_all, distinct_positions}
+use Rattle.port_objects.proofs.Placing.{clash, given_some, then_some, all_filter, map_all, filled_all, place_at, mapped_at, all_at, set_all, distinct_positions}
 
 abbrev pub noting : Actor → Deed → Option ℕ → Noted
 noting a d event = record { entry = record { actor = a; deed = d }; event = event }
-
-some_same : (a b : Kept) → Some a ≡ Some b → a ≡ b
-some_same a b e = cc
 
 -- ---- elements and events of a group
 
@@ -51,7 +49,7 @@ pub record Member (p : Plan) (g x : ℕ) : Type 0 where
 
 member_in : (p : Plan) (g x : ℕ) (o : Option ElemPlan) → slice_get p.elements x ≡ o → same_number (option_map_or (λ (v : ElemPlan). Some v.group) o None) (Some g) ≡ true → Member p g x
 member_in p g x None there e = absurd (false≢true e)
-member_in p g x (Some v) there e = record { elem = v; found = there; group = number_same v.group g e }
+member_in p g x (Some v) there e = record { elem = v; found = there; group = eqb-true v.group g e }
 
 pub member_of : (p : Plan) (g x : ℕ) → is_in_group p g x ≡ true → Member p g x
 member_of p g x e = member_in p g x (slice_get p.elements x) refl e
@@ -164,7 +162,7 @@ module _ (p : Plan) (g : ℕ) (events : List ℕ) (k : Kept) (l : Past) (keeps :
 pub answer_part : (p : Plan) (n : Noted) → is_proper p n ≡ true → answer_fits p n.entry.actor n.entry.deed ≡ true
 answer_part p n o =
     let wish = (if needs_event n.entry.deed then activation_fits p n.entry.actor else wish_fits p n.entry.actor (wanted_by 0 n.entry.deed)) in
-    (both wish (answer_fits p n.entry.actor n.entry.deed) (both (fits p n.entry) (starts_its_own p n.entry.actor n.entry.deed) o).0).1
+    (and_parts wish (answer_fits p n.entry.actor n.entry.deed) (and_parts (fits p n.entry) (starts_its_own p n.entry.actor n.entry.deed) o).0).1
 
 -- a start for data names no point
 unnamed : (p : Plan) (a : Actor) (k : EventKind) (x : ℕ) (point : Option ℕ) (ws : List ℤ) (l : Past) → k ≡ DataReceived x → start_fits p k point ws ≡ true → starts_request p a point ws l ≡ true
@@ -267,7 +265,7 @@ module _ (p : Plan) (g : ℕ) (events : List ℕ) (k : Kept) (l : Past) (keeps :
     invalid = keeps.invalid;
     updated = ap (λ fs. set fs r false) keeps.updated
         ∙ set_all (is_in_group p g) (λ y. is_updated p y l) (λ y. is_updated p y (noting a (deed.Read x code value) event ∷ l)) false x (members_of p g) r (members_all p g) (members_once p g) there
-        (updated_now p g x (noting a (deed.Read x code value) event) l false inside (λ v group. ap (λ b. if b then Some false else None) (same_test x x refl)))
+        (updated_now p g x (noting a (deed.Read x code value) event) l false inside (λ v group. ap (λ b. if b then Some false else None) (eq-eqb x x refl)))
         (λ y within other. sym (updated_same p g y (noting a (deed.Read x code value) event) l within (λ v group. ap (λ b. if b then Some false else None) other)));
     due = due_kept (deed.Read x code value) (λ e. refl) (λ v y group. refl);
   }
@@ -283,7 +281,7 @@ module _ (p : Plan) (g : ℕ) (events : List ℕ) (k : Kept) (l : Past) (keeps :
     due = ap (λ fs. set fs i false) keeps.due ∙ set_all (λ f. waits_for_data p g (kind_of p f)) (due_after p l) (due_after p (noting a (deed.Start e point value) event ∷ l)) false e events i
         (subst (λ es. list_all (λ f. waits_for_data p g (kind_of p f)) es ≡ true) (sym keeps.waiting) (events_all p g))
         (subst (λ es. is_distinct es ≡ true) (sym keeps.waiting) (events_once p g)) there
-        (due_started p g e (noting a (deed.Start e point value) event) l waits (same_test e e refl))
+        (due_started p g e (noting a (deed.Start e point value) event) l waits (eq-eqb e e refl))
         (λ f wait other. sym (due_same p g f (noting a (deed.Start e point value) event) l wait (flipped f other) (λ v y group. refl)));
   }
     where
@@ -295,7 +293,7 @@ module _ (p : Plan) (g : ℕ) (events : List ℕ) (k : Kept) (l : Past) (keeps :
       flipped f off = by_test (f == e) refl
         where
           by_test : (b : Bool) → (f == e) ≡ b → (f == e) ≡ false
-          by_test true t = clash (e == f) (same_test e f (sym (number_same f e t))) off
+          by_test true t = clash (e == f) (eq-eqb e f (sym (eqb-true f e t))) off
           by_test false t = t
 
 -- ---- what the lead gives
@@ -324,7 +322,7 @@ module _ (p : Plan) (g : ℕ) (events : List ℕ) (k after : Kept) (l : Past) (k
       let at_place = then_some (λ r. given ((code == read_code_in p x k) && has_value value r k) (after_read r k)) (place x (members_of p g)) after leads in
       let r = at_place.item in
       let gives = given_some ((code == read_code_in p x k) && has_value value r k) (after_read r k) after at_place.gives in
-      let tests = both (code == read_code_in p x k) (has_value value r k) gives.holds in
+      let tests = and_parts (code == read_code_in p x k) (has_value value r k) gives.holds in
       let m = member_of p g x touching in
       let code_is : (code == read_code p x l) ≡ true = subst (λ c. (code == c) ≡ true) (code_in p g events k l keeps x m.elem m.found m.group) tests.0 in
       let value_is : same_words (words_of value) (value_at p x l) ≡ true = value_in p g events k l keeps x r m.elem m.found m.group at_place.is value tests.1 in
@@ -423,7 +421,7 @@ module _ (p : Plan) (g : ℕ) (events : List ℕ) (k after : Kept) (l : Past) (k
       answers = record { unqueued = refl; queued = refl; calls = refl; areas = refl; modes = refl; admission = admitted p l event (deed.Write x value) refl; due = refl };
       matching = refl;
     };
-    keeps = subst (λ z. GroupKeeps p g events z (noting a (deed.Write x value) event ∷ l)) (some_same (after_write value k) after leads) (write_keeps p g events k l keeps a event x value touching);
+    keeps = subst (λ z. GroupKeeps p g events z (noting a (deed.Write x value) event ∷ l)) (same_Some (after_write value k) after leads) (write_keeps p g events k l keeps a event x value touching);
   }
   group_led (deed.Publish x value) touching proper leads = record {
     follows = record {
@@ -432,7 +430,7 @@ module _ (p : Plan) (g : ℕ) (events : List ℕ) (k after : Kept) (l : Past) (k
       answers = record { unqueued = refl; queued = refl; calls = refl; areas = refl; modes = refl; admission = admitted p l event (deed.Publish x value) refl; due = refl };
       matching = refl;
     };
-    keeps = subst (λ z. GroupKeeps p g events z (noting a (deed.Publish x value) event ∷ l)) (some_same (after_write value k) after leads) (publish_keeps p g events k l keeps a event x value touching);
+    keeps = subst (λ z. GroupKeeps p g events z (noting a (deed.Publish x value) event ∷ l)) (same_Some (after_write value k) after leads) (publish_keeps p g events k l keeps a event x value touching);
   }
   group_led (deed.Invalidate x) touching proper leads = record {
     follows = record {
@@ -441,7 +439,7 @@ module _ (p : Plan) (g : ℕ) (events : List ℕ) (k after : Kept) (l : Past) (k
       answers = record { unqueued = refl; queued = refl; calls = refl; areas = refl; modes = refl; admission = admitted p l event (deed.Invalidate x) refl; due = refl };
       matching = refl;
     };
-    keeps = subst (λ z. GroupKeeps p g events z (noting a (deed.Invalidate x) event ∷ l)) (some_same (after_invalidation k) after leads) (invalidate_keeps p g events k l keeps a event x touching);
+    keeps = subst (λ z. GroupKeeps p g events z (noting a (deed.Invalidate x) event ∷ l)) (same_Some (after_invalidation k) after leads) (invalidate_keeps p g events k l keeps a event x touching);
   }
   group_led (deed.Read x code value) touching proper leads = read_led x code value touching proper leads
   group_led (deed.Fetch x value) touching proper leads = fetch_led x value touching proper leads

@@ -1,7 +1,7 @@
 -- What is read of a group, and a start that is taken from it, are what the lead gives.
 use Rattle.std.proofs.Common.{◌≡◌, ℕ, Bool, true, false, ◌&&◌, refl, sym, ◌∙◌, ap, List, Some, None}
 use Rattle.std.specs.List.{slice_get}
-use Rattle.std.proofs.lemmas.Bool.{false≢true}
+use Rattle.std.proofs.lemmas.Bool.{eq-eqb, false≢true}
 use Rattle.rte_value.specs.declared.value.Value.{Value}
 use Rattle.rte_value.specs.Values.{words_of}
 use Rattle.rte_value.specs.EqualValues.{same_words-Decides}
@@ -16,7 +16,6 @@ use Rattle.port_objects.specs.Layout.{place, members_of}
 use Rattle.port_objects.specs.Leading.{given, read_code_in, has_value, lead_of_group}
 use Rattle.port_objects.specs.Acting.{HoldsGroup, LeadsGroup, IsTakenOfGroup, started_at}
 use Rattle.port_objects.specs.Waking.{is_pending}
-use Rattle.port_objects.proofs.Placing.{same_test}
 use Rattle.port_objects.proofs.Taking.{set_same}
 
 group_same : (old : Group) (new : Kept) → new ≡ old.unqueued → (record { events = old.events; unqueued = new; woken = old.woken }) ≡ old
@@ -55,7 +54,7 @@ pub read_leads : (p : Plan) (g x r : ℕ) (old : Group) (new : Kept) (code : ℕ
 read_leads p g x r old new code v there value is next = record {
   wish = λ event. refl;
   bare = refl;
-  leads = rw there (ap (λ b. given b (after_read r old.unqueued)) (λ i. same_test code (read_code_in p x old.unqueued) is i && has_itself old.unqueued r v value i) ∙ ap (λ k. Some k) (sym next));
+  leads = rw there (ap (λ b. given b (after_read r old.unqueued)) (λ i. eq-eqb code (read_code_in p x old.unqueued) is i && has_itself old.unqueued r v value i) ∙ ap (λ k. Some k) (sym next));
   events = refl;
   told = λ event off on. absurd (false≢true (sym off ∙ sym (ap (λ (k : Kept). is_pending k.due (place event old.events.items)) next) ∙ on));
   room = refl;

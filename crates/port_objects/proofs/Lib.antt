@@ -6,7 +6,6 @@ pub mod Rising
 pub mod Taking
 pub mod Members
 pub mod GroupTaking
-pub mod Others
 pub mod Answering
 pub mod Opening
 pub mod Opened

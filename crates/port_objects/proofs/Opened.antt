@@ -8,9 +8,9 @@ use Rattle.rte_value.specs.EqualValues.{Value-by_words}
 use Rattle.bus_semantics.specs.declared.plan.ElemPlan.{ElemPlan}
 use Rattle.std.specs.List.{list_all, slice_get}
 use Rattle.std.specs.Option.{option_map_or}
-use Rattle.std.proofs.lemmas.Bool.{false≢true}
+use Rattle.std.proofs.lemmas.Bool.{and_parts, eq-eqb, eqb-true, false≢true}
 use Rattle.std.proofs.lemmas.Bool.Decides.{nat_tests}
-use Rattle.std.proofs.lemmas.List.{length-replicate}
+use Rattle.std.proofs.lemmas.List.{append-nil, length-map, length-replicate, map_push}
 use Rattle.std.proofs.lemmas.List.Elements.{filter-append}
 use Rattle.bus_semantics.specs.declared.plan.EventPlan.{EventPlan}
 use Rattle.bus_semantics.specs.declared.plan.EventKind.{EventKind}
@@ -30,7 +30,6 @@ use Rattle.port_objects.specs.Plans.{IsUnqueuedPlan, HasObjects, has_period}
 use Rattle.port_objects.specs.Standing.{Stands}
 use Rattle.port_objects.proofs.ClockLeads.{timings_all}
 use Rattle.port_objects.proofs.Opening.{group_opens, clock_opens}
-use Rattle.port_objects.proofs.Placing.{both, number_same, same_test, append_none}
 
 -- ---- positions that pass, one after the other
 
@@ -39,18 +38,14 @@ one_position t n = rw (filter-append t (positions n) (n ∷ [])) (by_test (t n))
   where
     by_test : (b : Bool) → (if b then filter t (positions n) ++ n ∷ [] else filter t (positions n)) ≡ filter t (positions n) ++ (if b then n ∷ [] else [])
     by_test true = refl
-    by_test false = sym (append_none (filter t (positions n)))
+    by_test false = sym (append-nil (filter t (positions n)))
 
 pub one_more : (t : ℕ → Bool) (n m : ℕ) (xs new : List ℕ) (passes : Bool) → m ≡ suc n → xs ≡ filter t (positions n) → passes ≡ t n → new ≡ (if passes then xs ++ n ∷ [] else xs) → new ≡ filter t (positions m)
 one_more t n m xs new passes next before is made = subst (λ k. new ≡ filter t (positions k)) (sym next)
     (made ∙ (λ i. if is i then before i ++ n ∷ [] else before i) ∙ one_position t n)
 
 pub mapped_more : {B : Type 0} (f : ℕ → B) (n m : ℕ) → m ≡ suc n → map f (positions n) ++ f n ∷ [] ≡ map f (positions m)
-mapped_more f n m next = subst (λ k. map f (positions n) ++ f n ∷ [] ≡ map f (positions k)) (sym next) (sym (map_end f (positions n) n))
-  where
-    map_end : {B : Type 0} (f : ℕ → B) (xs : List ℕ) (x : ℕ) → map f (xs ++ x ∷ []) ≡ map f xs ++ f x ∷ []
-    map_end f [] x = refl
-    map_end f (y ∷ xs) x = ap (λ ys. f y ∷ ys) (map_end f xs x)
+mapped_more f n m next = subst (λ k. map f (positions n) ++ f n ∷ [] ≡ map f (positions k)) (sym next) (sym (map_push f (positions n) n))
 
 length_positions : (n : ℕ) → length (positions n) ≡ n
 length_positions zero = refl
@@ -76,8 +71,8 @@ events_bound p sound = let few : nat_le (length p.events) 16384 ≡ true = sound
 
 pub groups_bound : (p : Plan) → HasObjects p → length p.groups < 2 ^ 32
 groups_bound p sound =
-    let parts = both (p.objects == clock p + 1) (nat_le p.objects 16384) sound.counted in
-    let same : p.objects ≡ clock p + 1 = number_same p.objects (clock p + 1) parts.0 in
+    let parts = and_parts (p.objects == clock p + 1) (nat_le p.objects 16384) sound.counted in
+    let same : p.objects ≡ clock p + 1 = eqb-true p.objects (clock p + 1) parts.0 in
     let few : nat_le p.objects 16384 ≡ true = parts.1 in
     grind (arith, nat_tests)
 
@@ -95,8 +90,8 @@ period_at p e all timing = by_event p.events e all timing
 
     by_event : (vs : List EventPlan) (i : ℕ) → list_all (λ (v : EventPlan). has_period v.kind) vs ≡ true → is_timing (kind_here vs i) ≡ true → 1 ≤ period_in (kind_here vs i)
     by_event [] i all is = absurd (false≢true is)
-    by_event (v ∷ vs) zero all is = of_kind v.kind (both (has_period v.kind) (list_all (λ (w : EventPlan). has_period w.kind) vs) all).0 is
-    by_event (v ∷ vs) (suc i) all is = by_event vs i (both (has_period v.kind) (list_all (λ (w : EventPlan). has_period w.kind) vs) all).1 is
+    by_event (v ∷ vs) zero all is = of_kind v.kind (and_parts (has_period v.kind) (list_all (λ (w : EventPlan). has_period w.kind) vs) all).0 is
+    by_event (v ∷ vs) (suc i) all is = by_event vs i (and_parts (has_period v.kind) (list_all (λ (w : EventPlan). has_period w.kind) vs) all).1 is
 
 -- ---- objects at their numbers
 
@@ -104,10 +99,6 @@ at_map : {X Y : Type 0} (f : X → Y) (xs : List X) (i : ℕ) (x : X) → slice_
 at_map f [] i x e = absurd (cc e)
 at_map f (y ∷ xs) zero x e = let same : y ≡ x = cc in ap (λ z. Some (f z)) same
 at_map f (y ∷ xs) (suc i) x e = at_map f xs i x e
-
-length_mapped : {X Y : Type 0} (f : X → Y) (xs : List X) → length (map f xs) ≡ length xs
-length_mapped f [] = refl
-length_mapped f (x ∷ xs) = ap (λ n. suc n) (length_mapped f xs)
 
 data Which (X : Type 0) (xs : List X) (y z : X) (i : ℕ) : Type 0 where
   inside : slice_get xs i ≡ Some z → i < length xs → Which X xs y z i
@@ -129,7 +120,7 @@ at_position {X} f (suc n) i z e = by_place (at_position f n i z) (at_append (map
   where
     by_place : (slice_get (map f (positions n)) i ≡ Some z → f i ≡ z) → Which X (map f (positions n)) (f n) z i → f i ≡ z
     by_place before (inside found less) = before found
-    by_place before (last at same) = ap f (at ∙ length_mapped f (positions n) ∙ length_positions n) ∙ same
+    by_place before (last at same) = ap f (at ∙ length-map (positions n) f ∙ length_positions n) ∙ same
 
 pub clock_last : (p : Plan) → IsUnqueuedPlan p → clock p ≡ length p.groups
 clock_last p plain =
@@ -148,7 +139,7 @@ opened_at p objects plain made i o found =
     (subst (λ ks. slice_get ks i ≡ Some (kept_of o)) made (at_map kept_of objects i o found)))
   where
     count : length (map (opening_group p) (positions (length p.groups))) ≡ length p.groups
-    count = length_mapped (opening_group p) (positions (length p.groups)) ∙ length_positions (length p.groups)
+    count = length-map (positions (length p.groups)) (opening_group p) ∙ length_positions (length p.groups)
 
     by_place : Which Kept (map (opening_group p) (positions (length p.groups))) (opening_clock p) (kept_of o) i → OpenedAt p i o
     by_place (inside at less) = a_group (let as_many = count in omega arith) (sym (at_position (opening_group p) (length p.groups) i (kept_of o) at))
@@ -208,13 +199,13 @@ clock_planned p n (Clock t) at room same = record {
 
 pub made_planned : (p : Plan) (objects : List Object) → IsUnqueuedPlan p → map kept_of objects ≡ opening p → ((i : ℕ) (o : Object) → slice_get objects i ≡ Some o → HasRoom o) → ArePlans p objects
 made_planned p objects plain made roomy = record {
-  count = sym (length_mapped kept_of objects) ∙ ap length made ∙ as_many;
+  count = sym (length-map objects kept_of) ∙ ap length made ∙ as_many;
   each = λ i o found. of_place i o (roomy i o found) (opened_at p objects plain made i o found);
 }
   where
     as_many : length (opening p) ≡ suc (clock p)
     as_many =
-        let groups : length (map (opening_group p) (positions (length p.groups))) ≡ length p.groups = length_mapped (opening_group p) (positions (length p.groups)) ∙ length_positions (length p.groups) in
+        let groups : length (map (opening_group p) (positions (length p.groups))) ≡ length p.groups = length-map (positions (length p.groups)) (opening_group p) ∙ length_positions (length p.groups) in
         let at = clock_last p plain in
         length-append (map (opening_group p) (positions (length p.groups))) (opening_clock p ∷ []) ∙ omega arith
 
@@ -245,29 +236,29 @@ periods_fit p sound = each (events_of p is_timing) (timings_all p)
   where
     each : (es : List ℕ) → list_all (λ e. is_timing (kind_of p e)) es ≡ true → (k d : ℕ) → k < length (map (λ e. period_in (kind_of p e)) es) → 1 ≤ slice_index_or (map (λ e. period_in (kind_of p e)) es) k d
     each [] all k d less = absurd (omega arith)
-    each (e ∷ es) all zero d less = period_at p e sound.periods (both (is_timing (kind_of p e)) (list_all (λ c. is_timing (kind_of p c)) es) all).0
-    each (e ∷ es) all (suc k) d less = each es (both (is_timing (kind_of p e)) (list_all (λ c. is_timing (kind_of p c)) es) all).1 k d (omega arith)
+    each (e ∷ es) all zero d less = period_at p e sound.periods (and_parts (is_timing (kind_of p e)) (list_all (λ c. is_timing (kind_of p c)) es) all).0
+    each (e ∷ es) all (suc k) d less = each es (and_parts (is_timing (kind_of p e)) (list_all (λ c. is_timing (kind_of p c)) es) all).1 k d (omega arith)
 
 -- ---- elements are in groups that there are
 
 pub group_within : (p : Plan) (x g : ℕ) → groups_fit p ≡ true → group_of p x ≡ Some g → g < length p.groups
-group_within p x g fit found = by_elem p.elements x (both (list_all (λ (e : ElemPlan). nat_lt e.group (length p.groups)) p.elements) _ fit).0 found
+group_within p x g fit found = by_elem p.elements x (and_parts (list_all (λ (e : ElemPlan). nat_lt e.group (length p.groups)) p.elements) _ fit).0 found
   where
     by_elem : (es : List ElemPlan) (i : ℕ) → list_all (λ (e : ElemPlan). nat_lt e.group (length p.groups)) es ≡ true → look es i (λ (e : ElemPlan). Some e.group) None ≡ Some g → g < length p.groups
     by_elem [] i all at = absurd (cc at)
     by_elem (e ∷ es) zero all at =
-        let less : nat_lt e.group (length p.groups) ≡ true = (both (nat_lt e.group (length p.groups)) (list_all (λ (f : ElemPlan). nat_lt f.group (length p.groups)) es) all).0 in
+        let less : nat_lt e.group (length p.groups) ≡ true = (and_parts (nat_lt e.group (length p.groups)) (list_all (λ (f : ElemPlan). nat_lt f.group (length p.groups)) es) all).0 in
         let same : e.group ≡ g = cc in
         grind (arith, nat_tests)
-    by_elem (e ∷ es) (suc i) all at = by_elem es i (both (nat_lt e.group (length p.groups)) (list_all (λ (f : ElemPlan). nat_lt f.group (length p.groups)) es) all).1 at
+    by_elem (e ∷ es) (suc i) all at = by_elem es i (and_parts (nat_lt e.group (length p.groups)) (list_all (λ (f : ElemPlan). nat_lt f.group (length p.groups)) es) all).1 at
 
 pub awaited_within : (p : Plan) (k : EventKind) (o : Option ℕ) (g : ℕ) → groups_fit p ≡ true → ((h : ℕ) → waits_for_data p h k ≡ same_number o (Some h)) → o ≡ Some g → g < length p.groups
-awaited_within p (DataReceived x) o g fit waits is = in_group (group_of p x) refl (waits g ∙ ap (λ q. same_number q (Some g)) is ∙ same_test g g refl)
+awaited_within p (DataReceived x) o g fit waits is = in_group (group_of p x) refl (waits g ∙ ap (λ q. same_number q (Some g)) is ∙ eq-eqb g g refl)
   where
     in_group : (q : Option ℕ) → group_of p x ≡ q → same_number q (Some g) ≡ true → g < length p.groups
     in_group None at e = absurd (false≢true e)
-    in_group (Some h) at e = group_within p x g fit (at ∙ ap (λ n. Some n) (number_same h g e))
-awaited_within p k o g fit waits is = absurd (false≢true (waits g ∙ ap (λ q. same_number q (Some g)) is ∙ same_test g g refl))
+    in_group (Some h) at e = group_within p x g fit (at ∙ ap (λ n. Some n) (eqb-true h g e))
+awaited_within p k o g fit waits is = absurd (false≢true (waits g ∙ ap (λ q. same_number q (Some g)) is ∙ eq-eqb g g refl))
 
 -- an element that there is not begins with the empty value
 pub initial_beyond : (p : Plan) (x : ℕ) (v : Value) → length p.elements ≤ x → words_of v ≡ [] → v ≡ initial_of p x

@@ -1,9 +1,11 @@
 -- What the objects of a plan keep at first stands for no entry.
-use Rattle.std.proofs.Common.{◌≡◌, ℕ, ◌<◌, ◌%◌, Bool, true, false, refl, sym, ◌∙◌, ap, List, [], ◌∷◌, length, map, Option, Some, None}
+use Rattle.std.proofs.Common.{◌≡◌, ℕ, ◌<◌, ◌%◌, Bool, true, false, refl, sym, ◌∙◌, ap, List, [], length, map, Option, Some, None}
 use Rattle.std.specs.Prelude.{replicate, unwrap_or}
 use Rattle.std.specs.List.{list_all, slice_get}
 use Rattle.std.specs.Option.{option_map_or}
 use Rattle.std.proofs.Math.Nat.{zero-mod}
+use Rattle.std.proofs.lemmas.List.{map-id}
+use mathlib.Core.List.{map-map}
 use Rattle.bus_semantics.specs.declared.plan.ElemPlan.{ElemPlan}
 use Rattle.bus_semantics.specs.Plan.{Plan, kind_of}
 use Rattle.bus_semantics.specs.Objects.{clock}
@@ -13,7 +15,7 @@ use Rattle.port_objects.specs.Layout.{members_of, initial_of, events_of, waits_f
 use Rattle.port_objects.specs.Opening.{opening_group, opening_clock}
 use Rattle.port_objects.specs.Standing.{due_after, timer_after, Stands}
 use Rattle.port_objects.proofs.GroupLeads.{waiting_for, due_kind, members_all, events_all}
-use Rattle.port_objects.proofs.ClockLeads.{of_period, of_init, timing_due, init_due, timings_all, inits_all, map_map}
+use Rattle.port_objects.proofs.ClockLeads.{of_period, of_init, timing_due, init_due, timings_all, inits_all}
 use Rattle.port_objects.proofs.Placing.{map_all, filled_all}
 
 filled_each : {B C : Type 0} (ok : ℕ → Bool) (f : ℕ → C) (g : ℕ → B) (b : B) (ys : List ℕ) → list_all ok ys ≡ true → ((y : ℕ) → ok y ≡ true → g y ≡ b) → replicate (length (map f ys)) b ≡ map g ys
@@ -26,12 +28,8 @@ never_updated p x = by_elem (slice_get p.elements x)
     by_elem None = refl
     by_elem (Some e) = refl
 
-map_itself : (ys : List ℕ) → map (λ y. y) ys ≡ ys
-map_itself [] = refl
-map_itself (y ∷ ys) = ap (λ zs. y ∷ zs) (map_itself ys)
-
 filled_list : {B : Type 0} (ok : ℕ → Bool) (g : ℕ → B) (b : B) (ys : List ℕ) → list_all ok ys ≡ true → ((y : ℕ) → ok y ≡ true → g y ≡ b) → replicate (length ys) b ≡ map g ys
-filled_list ok g b ys all each = ap (λ zs. replicate (length zs) b) (sym (map_itself ys)) ∙ filled_each ok (λ y. y) g b ys all each
+filled_list ok g b ys all each = ap (λ zs. replicate (length zs) b) (sym (map-id ys)) ∙ filled_each ok (λ y. y) g b ys all each
 
 pub group_opens : (p : Plan) (g : ℕ) → g < length p.groups → Stands p g (opening_group p g) []
 group_opens p g within = record {
@@ -59,7 +57,7 @@ clock_opens p = record {
     record {
       timing = refl;
       initial = refl;
-      timers = map_map fresh_timer (λ e. period_in (kind_of p e)) (events_of p is_timing)
+      timers = map-map fresh_timer (λ e. period_in (kind_of p e)) (events_of p is_timing)
           ∙ map_all (λ e. is_timing (kind_of p e)) (λ e. fresh_timer (period_in (kind_of p e))) (timer_after p []) (events_of p is_timing) (timings_all p) fresh_at;
       unstarted = filled_list (λ e. is_init (kind_of p e)) (due_after p []) true (events_of p is_init) (inits_all p) (λ e init. init_due p e [] (of_init (kind_of p e) init));
     },

@@ -2,7 +2,7 @@
 use Rattle.std.proofs.Common.{◌≡◌, ℕ, Bool, true, false, refl, sym, ◌∙◌, ap, if◌then◌else◌, [], ◌∷◌, Option, Some, None}
 use Rattle.std.specs.Prelude.{filter}
 use Rattle.std.specs.List.{list_all}
-use Rattle.std.proofs.lemmas.Bool.{false≢true}
+use Rattle.std.proofs.lemmas.Bool.{and_parts, eqb-true, false≢true}
 use Rattle.rte_value.specs.Values.{same_number}
 use Rattle.bus_semantics.specs.declared.script.Mapping.{Mapping}
 use Rattle.bus_semantics.specs.declared.entries.Entry.{Entry}
@@ -14,7 +14,6 @@ use Rattle.bus_semantics.specs.Locality.{is_proper, SameAnswers}
 use Rattle.bus_semantics.specs.Sound.{IsSound}
 use Rattle.port_objects.specs.Plans.{IsUnqueuedPlan}
 use Rattle.port_objects.specs.Standing.{Follows, IsPastOf}
-use Rattle.port_objects.proofs.Placing.{both, number_same}
 use Rattle.port_objects.proofs.Plain.{touching_matches}
 
 -- the laws of objects
@@ -25,7 +24,7 @@ pub record Looks : Type 0 where
 
 touched_is : (o : Option ℕ) (object : ℕ) → same_number o (Some object) ≡ true → o ≡ Some object
 touched_is None object e = absurd (false≢true e)
-touched_is (Some n) object e = ap (λ k. Some k) (number_same n object e)
+touched_is (Some n) object e = ap (λ k. Some k) (eqb-true n object e)
 
 fewer : (p : Plan) (n : Noted) (h l : Past) → SameAnswers p n h l → Answers p h n → Answers p l n
 fewer p n h l same answers = record {
@@ -52,7 +51,7 @@ more p n h l same answers = record {
 pub legal_past : Looks → (p : Plan) (m : Mapping) (h : History) (object : ℕ) → IsSound p m → IsUnqueuedPlan p → IsLegal p h → IsPastOf p object (entries_of p h object)
 legal_past looks p m [] object sound plain legal = tt
 legal_past looks p m (e ∷ h) object sound plain legal =
-    let proper = both (is_proper p (note h e)) (list_all (is_proper p) (noted h)) (looks.legal p (e ∷ h) legal) in
+    let proper = and_parts (is_proper p (note h e)) (list_all (is_proper p) (noted h)) (looks.legal p (e ∷ h) legal) in
     by_test (touches p object (note h e)) refl proper.0 proper.1 (legal_past looks p m h object sound plain legal.0)
   where
     by_test : (b : Bool) → touches p object (note h e) ≡ b → is_proper p (note h e) ≡ true → list_all (is_proper p) (noted h) ≡ true → IsPastOf p object (filter (touches p object) (noted h))

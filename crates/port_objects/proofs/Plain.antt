@@ -1,7 +1,7 @@
 -- In a sound plan of unqueued data nothing touches a server, an area or a machine.
 use Rattle.std.proofs.Common.{◌≡◌, ℕ, ◌<◌, Bool, true, false, ◌&&◌, not, refl, sym, ◌∙◌, ap, arith, length, Option, Some, None}
 use Rattle.std.specs.Prelude.{nat_lt, option_map}
-use Rattle.std.proofs.lemmas.Bool.{false≢true}
+use Rattle.std.proofs.lemmas.Bool.{and_parts, false≢true}
 use Rattle.std.proofs.lemmas.Bool.Decides.{nat_tests}
 use Rattle.rte_value.specs.declared.kinds.ActKey.{ActKey}
 use Rattle.rte_value.specs.Values.{words_of, same_number}
@@ -26,7 +26,7 @@ use Rattle.bus_semantics.specs.Sound.{IsSound}
 use Rattle.port_objects.specs.Matching.{matches, start_matches}
 use Rattle.port_objects.specs.Plans.{IsUnqueuedPlan}
 use Rattle.port_objects.proofs.GroupLeads.{noting}
-use Rattle.port_objects.proofs.Placing.{clash, both}
+use Rattle.port_objects.proofs.Placing.{clash}
 use Rattle.port_objects.proofs.Ranges.{sought, all_has, invoked_server, switching_machine, acked_machine, disabling_machine, joined_server, port_machine, serving_server}
 
 -- the deeds that touch a group or the clock
@@ -54,13 +54,13 @@ untouched f o object none e = absurd (false≢true (sym (ap (λ q. same_number (
 pub by_actor : {X : Type 0} (p : Plan) (a : Actor) (w : Wanted) → wish_fits p a w ≡ true → (environment_may_want p w ≡ true → X) → ((k : ActKey) → activation_may_want p k (instance_of p k.runnable) w ≡ true → X)
     → ((n : ℕ) → nat_lt n (length p.machines) ≡ true → machine_may_want w ≡ true → X) → X
 by_actor p Env w fit env act machine = env fit
-by_actor p (Act k) w fit env act machine = act k (both (key_fits p k) (activation_may_want p k (instance_of p k.runnable) w) fit).1
-by_actor p (Machine n) w fit env act machine = let parts = both (nat_lt n (length p.machines)) (machine_may_want w) fit in machine n parts.0 parts.1
+by_actor p (Act k) w fit env act machine = act k (and_parts (key_fits p k) (activation_may_want p k (instance_of p k.runnable) w) fit).1
+by_actor p (Machine n) w fit env act machine = let parts = and_parts (nat_lt n (length p.machines)) (machine_may_want w) fit in machine n parts.0 parts.1
 
 pub wish_part : (p : Plan) (a : Actor) (d : Deed) (event : Option ℕ) → needs_event d ≡ false → is_proper p (noting a d event) ≡ true → wish_fits p a (wanted_by 0 d) ≡ true
 wish_part p a d event free proper =
-    let whole = (both (fits p (noting a d event).entry) (starts_its_own p a d) proper).0 in
-    let wish = (both _ (answer_fits p a d) whole).0 in
+    let whole = (and_parts (fits p (noting a d event).entry) (starts_its_own p a d) proper).0 in
+    let wish = (and_parts _ (answer_fits p a d) whole).0 in
     rw free at wish
 
 module _ (p : Plan) (m : Mapping) (sound : IsSound p m) (plain : IsUnqueuedPlan p) where
@@ -108,7 +108,7 @@ module _ (p : Plan) (m : Mapping) (sound : IsSound p m) (plain : IsUnqueuedPlan 
   pub none_queued : {X : Type 0} (home : Option ℕ) (test : ElemPlan → Bool) (x : ℕ) → ((e : ElemPlan) → test e ≡ true → is_queued e ≡ true) → elem_fits p home test x ≡ true → X
   none_queued home test x queued fit =
       let at = sought p.elements x (λ (e : ElemPlan). same_number e.instance home && test e) fit in
-      let is : is_queued at.item ≡ true = queued at.item (both (same_number at.item.instance home) (test at.item) at.holds).1 in
+      let is : is_queued at.item ≡ true = queued at.item (and_parts (same_number at.item.instance home) (test at.item) at.holds).1 in
       clash (not (is_queued at.item)) (all_has (λ (e : ElemPlan). not (is_queued e)) p.elements x at.item plain.unqueued at.found) (ap not is)
 
   pub no_area : {X : Type 0} (home : Option ℕ) (x : ℕ) → area_fits p home x ≡ true → X
@@ -150,12 +150,12 @@ module _ (p : Plan) (m : Mapping) (sound : IsSound p m) (plain : IsUnqueuedPlan 
   plain_deed object a (deed.Return code value) event touching proper = untouched _ (served_by p a) object (serves_none a) touching
   plain_deed object a (deed.Mode port mode) event touching proper = untouched _ (machine_of_port p port) object (no_mode_port port) touching
   plain_deed object a (deed.Send x value code) event touching proper = by_actor p a (to_send x (words_of value)) (wish_part p a (deed.Send x value code) event refl proper)
-      (λ fit. none_queued None _ x (λ e t. (both (is_queued e) e.provided (both (is_queued e && e.provided) _ t).0).0) fit)
-      (λ k fit. none_queued (instance_of p k.runnable) _ x (λ e t. (both (is_queued e) e.provided (both (is_queued e && e.provided) _ t).0).0) fit)
+      (λ fit. none_queued None _ x (λ e t. (and_parts (is_queued e) e.provided (and_parts (is_queued e && e.provided) _ t).0).0) fit)
+      (λ k fit. none_queued (instance_of p k.runnable) _ x (λ e t. (and_parts (is_queued e) e.provided (and_parts (is_queued e && e.provided) _ t).0).0) fit)
       (λ n there fit. absurd (false≢true fit))
   plain_deed object a (deed.Receive x code value) event touching proper = by_actor p a (to_receive x) (wish_part p a (deed.Receive x code value) event refl proper)
-      (λ fit. none_queued None (λ e. is_queued e && not e.provided) x (λ e t. (both (is_queued e) (not e.provided) t).0) fit)
-      (λ k fit. none_queued (instance_of p k.runnable) (λ e. is_queued e && not e.provided) x (λ e t. (both (is_queued e) (not e.provided) t).0) fit)
+      (λ fit. none_queued None (λ e. is_queued e && not e.provided) x (λ e t. (and_parts (is_queued e) (not e.provided) t).0) fit)
+      (λ k fit. none_queued (instance_of p k.runnable) (λ e. is_queued e && not e.provided) x (λ e t. (and_parts (is_queued e) (not e.provided) t).0) fit)
       (λ n there fit. absurd (false≢true fit))
   plain_deed object a (deed.Enter x) event touching proper = by_actor p a (to_enter x) (wish_part p a (deed.Enter x) event refl proper)
       (λ fit. absurd (false≢true fit)) (λ k fit. no_area (instance_of p k.runnable) x fit) (λ n there fit. absurd (false≢true fit))

@@ -3,8 +3,8 @@ use Rattle.std.proofs.Common.{◌≡◌, ℕ, zero, suc, ◌<◌, Bool, true, fa
 use Rattle.std.specs.Prelude.{nat_lt, nat_le, option_map}
 use Rattle.std.specs.List.{list_all, list_any, slice_get}
 use Rattle.std.specs.Option.{option_map_or}
-use Rattle.std.proofs.lemmas.Bool.{false≢true}
-use Rattle.std.proofs.lemmas.Bool.Decides.{nat_tests}
+use Rattle.std.proofs.lemmas.Bool.{and_parts, eqb-true, false≢true, ltb-true}
+use Rattle.std.proofs.lemmas.Option.{same_Some}
 use Rattle.rte_value.specs.Values.{same_number}
 use Rattle.bus_semantics.specs.declared.plan.PointPlan.{PointPlan}
 use Rattle.bus_semantics.specs.declared.plan.ServerPlan.{ServerPlan}
@@ -22,10 +22,7 @@ use Rattle.bus_semantics.specs.Objects.{disabler_of, served_by}
 use Rattle.bus_semantics.specs.SoundEvents.{requires_machine, kind_sound, disabling_sound, is_invoked, event_sound, server_served, serves_back}
 use Rattle.bus_semantics.specs.Sound.{IsSound}
 use Rattle.port_objects.proofs.Members.{every_at}
-use Rattle.port_objects.proofs.Placing.{clash, both, number_same}
-
-pub some_same : {X : Type 0} (a b : X) → Some a ≡ Some b → a ≡ b
-some_same a b e = cc
+use Rattle.port_objects.proofs.Placing.{clash}
 
 -- ---- what is looked up
 
@@ -55,14 +52,11 @@ given_at (x ∷ xs) (suc i) f y e = let deeper = given_at xs i f y e in record {
 
 pub all_has : {X : Type 0} (test : X → Bool) (xs : List X) (i : ℕ) (x : X) → list_all test xs ≡ true → slice_get xs i ≡ Some x → test x ≡ true
 all_has test [] i x all there = absurd (cc there)
-all_has test (y ∷ xs) zero x all there = let same : y ≡ x = cc in subst (λ z. test z ≡ true) same (both (test y) (list_all test xs) all).0
-all_has test (y ∷ xs) (suc i) x all there = all_has test xs i x (both (test y) (list_all test xs) all).1 there
+all_has test (y ∷ xs) zero x all there = let same : y ≡ x = cc in subst (λ z. test z ≡ true) same (and_parts (test y) (list_all test xs) all).0
+all_has test (y ∷ xs) (suc i) x all there = all_has test xs i x (and_parts (test y) (list_all test xs) all).1 there
 
 has_with : {X : Type 0} (test : X → Bool) (xs : List X) (i : ℕ) (x y : X) → list_all test xs ≡ true → slice_get xs i ≡ Some x → x ≡ y → test y ≡ true
 has_with test xs i x y all there same = subst (λ z. test z ≡ true) same (all_has test xs i x all there)
-
-below : (a b : ℕ) → nat_lt a b ≡ true → a < b
-below a b e = grind (arith, nat_tests)
 
 -- ---- events
 
@@ -77,7 +71,7 @@ is_no_init _ = true
 
 module _ (p : Plan) (m : Mapping) (sound : IsSound p m) where
   event_at : (e : ℕ) (v : EventPlan) → slice_get p.events e ≡ Some v → event_sound p e v ≡ true
-  event_at e v there = every_at (event_sound p) 0 p.events (both (every_from 0 (event_sound p) p.events) (nat_le (length p.events) 16384) sound.events).0 e e v (omega arith) there
+  event_at e v there = every_at (event_sound p) 0 p.events (and_parts (every_from 0 (event_sound p) p.events) (nat_le (length p.events) 16384) sound.events).0 e e v (omega arith) there
 
   pub kind_fits : (e : ℕ) (v : EventPlan) → slice_get p.events e ≡ Some v → kind_sound p e v.runnable (instance_of p v.runnable) v.kind ≡ true
   kind_fits e v there =
@@ -85,7 +79,7 @@ module _ (p : Plan) (m : Mapping) (sound : IsSound p m) where
       let b = kind_sound p e v.runnable (instance_of p v.runnable) v.kind in
       let c = disabling_sound p (instance_of p v.runnable) v.kind v.disabled in
       let d = not (is_invoked v.kind) || every_from 0 (λ i (w : EventPlan). (i == e) || not (w.runnable == v.runnable)) p.events in
-      (both b (c && d) (both a (b && (c && d)) (event_at e v there)).1).0
+      (and_parts b (c && d) (and_parts a (b && (c && d)) (event_at e v there)).1).0
 
   disabling_fits : (e : ℕ) (v : EventPlan) → slice_get p.events e ≡ Some v → disabling_sound p (instance_of p v.runnable) v.kind v.disabled ≡ true
   disabling_fits e v there =
@@ -93,7 +87,7 @@ module _ (p : Plan) (m : Mapping) (sound : IsSound p m) where
       let b = kind_sound p e v.runnable (instance_of p v.runnable) v.kind in
       let c = disabling_sound p (instance_of p v.runnable) v.kind v.disabled in
       let d = not (is_invoked v.kind) || every_from 0 (λ i (w : EventPlan). (i == e) || not (w.runnable == v.runnable)) p.events in
-      (both c d (both b (c && d) (both a (b && (c && d)) (event_at e v there)).1).1).0
+      (and_parts c d (and_parts b (c && d) (and_parts a (b && (c && d)) (event_at e v there)).1).1).0
 
   kind_at : (e : ℕ) (k : EventKind) → kind_of p e ≡ k → is_no_init k ≡ true → KindAt p e k
   unfolding is_no_init
@@ -116,9 +110,9 @@ module _ (p : Plan) (m : Mapping) (sound : IsSound p m) where
               → (list_any (λ (u : ModePortPlan). same_number u.instance home && (u.machine == n)) ts ≡ true → list_all (λ (u : ModePortPlan). nat_lt u.machine (length p.machines)) ts ≡ true → n < length p.machines)
               → (b || list_any (λ (u : ModePortPlan). same_number u.instance home && (u.machine == n)) ts) ≡ true → n < length p.machines
           by_test true is deeper rest =
-              let same : t.machine ≡ n = number_same t.machine n (both (same_number t.instance home) (t.machine == n) is).1 in
-              subst (λ k. k < length p.machines) same (below t.machine (length p.machines) (both (nat_lt t.machine (length p.machines)) (list_all (λ (u : ModePortPlan). nat_lt u.machine (length p.machines)) ts) all).0)
-          by_test false is deeper rest = deeper rest (both (nat_lt t.machine (length p.machines)) (list_all (λ (u : ModePortPlan). nat_lt u.machine (length p.machines)) ts) all).1
+              let same : t.machine ≡ n = eqb-true t.machine n (and_parts (same_number t.instance home) (t.machine == n) is).1 in
+              subst (λ k. k < length p.machines) same (ltb-true t.machine (length p.machines) (and_parts (nat_lt t.machine (length p.machines)) (list_all (λ (u : ModePortPlan). nat_lt u.machine (length p.machines)) ts) all).0)
+          by_test false is deeper rest = deeper rest (and_parts (nat_lt t.machine (length p.machines)) (list_all (λ (u : ModePortPlan). nat_lt u.machine (length p.machines)) ts) all).1
 
   pub invoked_server : (e s : ℕ) → kind_of p e ≡ Invoked s → s < length p.servers
   unfolding is_no_init
@@ -133,7 +127,7 @@ module _ (p : Plan) (m : Mapping) (sound : IsSound p m) where
   switching_machine e n moment is =
       let at = kind_at e (ModeSwitch n moment) is refl in
       let v = at.event in
-      machine_required (instance_of p v.runnable) n (both (requires_machine p (instance_of p v.runnable) n) _ (subst (λ k. kind_sound p e v.runnable (instance_of p v.runnable) k ≡ true) at.kind (kind_fits e v at.found))).0
+      machine_required (instance_of p v.runnable) n (and_parts (requires_machine p (instance_of p v.runnable) n) _ (subst (λ k. kind_sound p e v.runnable (instance_of p v.runnable) k ≡ true) at.kind (kind_fits e v at.found))).0
 
   pub acked_machine : (e n : ℕ) → kind_of p e ≡ Ack n → n < length p.machines
   unfolding is_no_init
@@ -157,9 +151,9 @@ module _ (p : Plan) (m : Mapping) (sound : IsSound p m) where
               absurd (cc (sym gone ∙ is))
           by_disabling (Some d) some =
               let here : disabler_of p e ≡ Some d.machine = ap (λ (o : Option EventPlan). option_map (λ (d : Disabling). d.machine) (option_map_or (λ (w : EventPlan). w.disabled) o None)) there ∙ ap (option_map (λ (d : Disabling). d.machine)) some in
-              let same : d.machine ≡ n = some_same d.machine n (sym here ∙ is) in
+              let same : d.machine ≡ n = same_Some d.machine n (sym here ∙ is) in
               let fits : disabling_sound p (instance_of p v.runnable) v.kind (Some d) ≡ true = subst (λ o. disabling_sound p (instance_of p v.runnable) v.kind o ≡ true) some (disabling_fits e v there) in
-              subst (λ k. k < length p.machines) same (machine_required (instance_of p v.runnable) d.machine (both _ _ (both _ _ fits).1).0)
+              subst (λ k. k < length p.machines) same (machine_required (instance_of p v.runnable) d.machine (and_parts _ _ (and_parts _ _ fits).1).0)
 
   pub joined_server : (q s : ℕ) → server_of p q ≡ Some s → s < length p.servers
   joined_server q s is =
@@ -168,13 +162,13 @@ module _ (p : Plan) (m : Mapping) (sound : IsSound p m) where
       let has = at.gives in
       let joined : PointPlan = record { runnable = t.runnable; name = t.name; server = Some s; asynchronous = t.asynchronous; ins = t.ins; outs = t.outs } in
       let same : t ≡ joined = λ i. record { runnable = t.runnable; name = t.name; server = has i; asynchronous = t.asynchronous; ins = t.ins; outs = t.outs } in
-      (sought p.servers s _ (has_with _ p.points q t joined (both _ _ sound.operations).1 at.found same)).within
+      (sought p.servers s _ (has_with _ p.points q t joined (and_parts _ _ sound.operations).1 at.found same)).within
 
   pub port_machine : (port n : ℕ) → machine_of_port p port ≡ Some n → n < length p.machines
   port_machine port n is =
       let at = given_at p.mode_ports port (λ (t : ModePortPlan). Some t.machine) n is in
-      let same : at.item.machine ≡ n = some_same at.item.machine n at.gives in
-      subst (λ k. k < length p.machines) same (below at.item.machine (length p.machines) (all_has (λ (t : ModePortPlan). nat_lt t.machine (length p.machines)) p.mode_ports port at.item sound.mode_ports at.found))
+      let same : at.item.machine ≡ n = same_Some at.item.machine n at.gives in
+      subst (λ k. k < length p.machines) same (ltb-true at.item.machine (length p.machines) (all_has (λ (t : ModePortPlan). nat_lt t.machine (length p.machines)) p.mode_ports port at.item sound.mode_ports at.found))
 
   pub serving_server : (a : Actor) (s : ℕ) → served_by p a ≡ Some s → s < length p.servers
   serving_server Env s is = absurd (cc is)
@@ -182,6 +176,6 @@ module _ (p : Plan) (m : Mapping) (sound : IsSound p m) where
   serving_server (Act k) s is =
       let at = given_at p.runnables k.runnable (λ (r : Runnable). r.server) s is in
       let has = at.gives in
-      let back = every_at (serves_back p) 0 p.runnables (both (every_from 0 (server_served p) p.servers) (every_from 0 (serves_back p) p.runnables) sound.servers).1 k.runnable k.runnable at.item (omega arith) at.found in
+      let back = every_at (serves_back p) 0 p.runnables (and_parts (every_from 0 (server_served p) p.servers) (every_from 0 (serves_back p) p.runnables) sound.servers).1 k.runnable k.runnable at.item (omega arith) at.found in
       let serves = rw has at back in
       (sought p.servers s _ serves).within

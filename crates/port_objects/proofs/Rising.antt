@@ -5,10 +5,12 @@ use Rattle.std.proofs.lemmas.Bool.Decides.{nat_tests}
 use Rattle.port_objects.specs.Layout.{place}
 use Rattle.std.specs.List.{list_all}
 use Rattle.std.proofs.lemmas.List.Elements.{filter-append}
+use Rattle.std.proofs.lemmas.Bool.{and_parts}
+use Rattle.std.proofs.lemmas.List.{append-nil}
 use Rattle.std.specs.Prelude.{filter}
 use Rattle.bus_semantics.specs.Plan.{positions}
 use Rattle.port_objects.specs.Rising.{is_rising}
-use Rattle.port_objects.proofs.Placing.{both, all_kept, append_none, below_positions}
+use Rattle.port_objects.proofs.Placing.{all_kept, below_positions}
 
 -- the same of each two places
 abbrev pub IsRising : List ℕ → Type 0
@@ -16,24 +18,24 @@ IsRising xs = (i j : ℕ) → i < j → j < length xs → get_or xs i 0 < get_or
 
 above_at : (x : ℕ) (xs : List ℕ) (j : ℕ) → list_all (nat_lt x) xs ≡ true → j < length xs → x < get_or xs j 0
 above_at x [] j all within = absurd (omega arith)
-above_at x (y ∷ ys) zero all within = let first : nat_lt x y ≡ true = (both (nat_lt x y) (list_all (nat_lt x) ys) all).0 in grind (arith, nat_tests)
-above_at x (y ∷ ys) (suc j) all within = above_at x ys j (both (nat_lt x y) (list_all (nat_lt x) ys) all).1 (omega arith)
+above_at x (y ∷ ys) zero all within = let first : nat_lt x y ≡ true = (and_parts (nat_lt x y) (list_all (nat_lt x) ys) all).0 in grind (arith, nat_tests)
+above_at x (y ∷ ys) (suc j) all within = above_at x ys j (and_parts (nat_lt x y) (list_all (nat_lt x) ys) all).1 (omega arith)
 
 pub rising_pairs : (xs : List ℕ) → is_rising xs ≡ true → IsRising xs
 rising_pairs [] e i j less within = absurd (omega arith)
 rising_pairs (x ∷ xs) e i zero less within = absurd (omega arith)
-rising_pairs (x ∷ xs) e zero (suc j) less within = above_at x xs j (both (list_all (nat_lt x) xs) (is_rising xs) e).0 (omega arith)
-rising_pairs (x ∷ xs) e (suc i) (suc j) less within = rising_pairs xs (both (list_all (nat_lt x) xs) (is_rising xs) e).1 i j (omega arith) (omega arith)
+rising_pairs (x ∷ xs) e zero (suc j) less within = above_at x xs j (and_parts (list_all (nat_lt x) xs) (is_rising xs) e).0 (omega arith)
+rising_pairs (x ∷ xs) e (suc i) (suc j) less within = rising_pairs xs (and_parts (list_all (nat_lt x) xs) (is_rising xs) e).1 i j (omega arith) (omega arith)
 
 all_end : (q : ℕ → Bool) (xs : List ℕ) (n : ℕ) → list_all q xs ≡ true → q n ≡ true → list_all q (xs ++ n ∷ []) ≡ true
 all_end q [] n all last = ap (λ b. b && true) last
-all_end q (x ∷ xs) n all last = ap (λ b. b && list_all q (xs ++ n ∷ [])) (both (q x) (list_all q xs) all).0 ∙ all_end q xs n (both (q x) (list_all q xs) all).1 last
+all_end q (x ∷ xs) n all last = ap (λ b. b && list_all q (xs ++ n ∷ [])) (and_parts (q x) (list_all q xs) all).0 ∙ all_end q xs n (and_parts (q x) (list_all q xs) all).1 last
 
 rising_end : (xs : List ℕ) (n : ℕ) → list_all (λ m. nat_lt m n) xs ≡ true → is_rising xs ≡ true → is_rising (xs ++ n ∷ []) ≡ true
 rising_end [] n all up = refl
 rising_end (x ∷ xs) n all up =
-    let parts = both (nat_lt x n) (list_all (λ m. nat_lt m n) xs) all in
-    let rest = both (list_all (nat_lt x) xs) (is_rising xs) up in
+    let parts = and_parts (nat_lt x n) (list_all (λ m. nat_lt m n) xs) all in
+    let rest = and_parts (list_all (nat_lt x) xs) (is_rising xs) up in
     ap (λ b. b && is_rising (xs ++ n ∷ [])) (all_end (nat_lt x) xs n rest.0 parts.0) ∙ rising_end xs n parts.1 rest.1
 
 -- what is picked of the positions rises
@@ -43,7 +45,7 @@ rising_positions t (suc n) = rw (filter-append t (positions n) (n ∷ [])) (by_t
   where
     by_test : (b : Bool) → is_rising (filter t (positions n)) ≡ true → is_rising (filter t (positions n) ++ (if b then n ∷ [] else [])) ≡ true
     by_test true before = rising_end (filter t (positions n)) n (all_kept (λ m. nat_lt m n) t (positions n) (below_positions n)) before
-    by_test false before = subst (λ xs. is_rising xs ≡ true) (sym (append_none (filter t (positions n)))) before
+    by_test false before = subst (λ xs. is_rising xs ≡ true) (sym (append-nil (filter t (positions n)))) before
 
 pub rising_tail : (x : ℕ) (xs : List ℕ) → IsRising (x ∷ xs) → IsRising xs
 rising_tail x xs rising i j less within = rising (suc i) (suc j) (omega arith) (omega arith)

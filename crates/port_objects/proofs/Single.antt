@@ -1,6 +1,6 @@
 -- Of one wish at most one entry may come.
 use Rattle.std.proofs.Common.{◌≡◌, ℕ, ℤ, Bool, true, false, ◌&&◌, ◌==◌, refl, sym, ◌∙◌, ap, subst, List, [], Option, Some, None}
-use Rattle.std.proofs.lemmas.Bool.{false≢true}
+use Rattle.std.proofs.lemmas.Bool.{and_parts, eqb-true, false≢true}
 use Rattle.rte_value.specs.declared.value.Value.{Value}
 use Rattle.rte_value.specs.Values.{words_of, same_words}
 use Rattle.rte_value.specs.EqualValues.{Value-by_words, same_words-Decides}
@@ -21,7 +21,6 @@ use Rattle.bus_semantics.specs.Sound.{IsSound}
 use Rattle.port_objects.specs.Plans.{IsUnqueuedPlan}
 use Rattle.port_objects.specs.Standing.{Follows}
 use Rattle.port_objects.proofs.GroupLeads.{noting, answer_part}
-use Rattle.port_objects.proofs.Placing.{both, number_same}
 use Rattle.port_objects.proofs.Plain.{is_plain, Starting, at_time, at_init, at_data, plain_start, plain_deed}
 
 same_value : (v w : Value) (ws : List ℤ) → same_words (words_of v) ws ≡ true → same_words (words_of w) ws ≡ true → v ≡ w
@@ -97,10 +96,10 @@ module _ (p : Plan) (m : Mapping) (sound : IsSound p m) (plain : IsUnqueuedPlan 
       of_deed : (d : Deed) → wanted_by by d ≡ wanted_by by (deed.Read x code value) → unqueued_allows p l d ≡ true → d ≡ deed.Read x code value
       of_deed (deed.Read y other held) eq allowed =
           let elem : y ≡ x = cc in
-          let first = both (code == read_code p x l) (same_words (words_of value) (value_at p x l)) here in
+          let first = and_parts (code == read_code p x l) (same_words (words_of value) (value_at p x l)) here in
           let moved : ((other == read_code p x l) && same_words (words_of held) (value_at p x l)) ≡ true = subst (λ z. ((other == read_code p z l) && same_words (words_of held) (value_at p z l)) ≡ true) elem allowed in
-          let second = both (other == read_code p x l) (same_words (words_of held) (value_at p x l)) moved in
-          let codes : other ≡ code = number_same other (read_code p x l) second.0 ∙ sym (number_same code (read_code p x l) first.0) in
+          let second = and_parts (other == read_code p x l) (same_words (words_of held) (value_at p x l)) moved in
+          let codes : other ≡ code = eqb-true other (read_code p x l) second.0 ∙ sym (eqb-true code (read_code p x l) first.0) in
           let is_same : held ≡ value = same_value held value (value_at p x l) second.1 first.1 in
           λ i. deed.Read (elem i) (codes i) (is_same i)
       of_deed d eq allowed = absurd (cc eq)

@@ -2,7 +2,7 @@
 use Rattle.std.proofs.Common.{◌≡◌, ℕ, zero, suc, ◌+◌, ◌<◌, Bool, true, ◌&&◌, ◌==◌, refl, ◌∙◌, ap, subst, arith, List, [], ◌∷◌, length, Option, Some, None}
 use Rattle.std.specs.Prelude.{IfSome, nat_lt, nat_le, option_map}
 use Rattle.std.specs.List.{list_all, slice_get}
-use Rattle.std.proofs.lemmas.Bool.{false≢true}
+use Rattle.std.proofs.lemmas.Bool.{and_parts, eqb-true, false≢true}
 use Rattle.std.proofs.lemmas.Bool.Decides.{nat_tests}
 use Rattle.rte_value.specs.Values.{same_number}
 use Rattle.bus_semantics.specs.declared.plan.AreaPlan.{AreaPlan}
@@ -23,7 +23,6 @@ use Rattle.bus_semantics.specs.Sound.{IsSound}
 use Rattle.port_objects.specs.Objects.{IsObject}
 use Rattle.port_objects.specs.Plans.{HasObjects, has_period}
 use Rattle.port_objects.proofs.Opened.{group_within}
-use Rattle.port_objects.proofs.Placing.{both, number_same}
 use Rattle.port_objects.proofs.Plain.{by_actor}
 use Rattle.port_objects.proofs.Ranges.{sought, kind_fits, invoked_server, switching_machine, acked_machine, disabling_machine, joined_server, port_machine, serving_server}
 
@@ -35,12 +34,12 @@ pub has_objects : (p : Plan) (m : Mapping) → IsSound p m → HasObjects p
 has_objects p m sound = record {
   groups = sound.groups;
   counted = sound.objects;
-  few_events = (both (every_from 0 (event_sound p) p.events) (nat_le (length p.events) 16384) sound.events).1;
+  few_events = (and_parts (every_from 0 (event_sound p) p.events) (nat_le (length p.events) 16384) sound.events).1;
   periods = all_where (λ (v : EventPlan). has_period v.kind) p.events (λ i v there. of_kind i v.runnable (instance_of p v.runnable) v.kind (kind_fits p m sound i v there));
 }
   where
     of_kind : (e r : ℕ) (home : Option ℕ) (k : EventKind) → kind_sound p e r home k ≡ true → has_period k ≡ true
-    of_kind e r home (Timing period) fit = (both (nat_le 1 period) (nat_le period 1000000) fit).0
+    of_kind e r home (Timing period) fit = (and_parts (nat_le 1 period) (nat_le period 1000000) fit).0
     of_kind e r home Init fit = refl
     of_kind e r home (DataReceived x) fit = refl
     of_kind e r home (Invoked s) fit = refl
@@ -58,7 +57,7 @@ where_mapped f (Some n) P each = each n refl
 
 module _ (p : Plan) (m : Mapping) (sound : IsSound p m) where
   counted : p.objects ≡ clock p + 1
-  counted = number_same p.objects (clock p + 1) (both (p.objects == clock p + 1) (nat_le p.objects 16384) sound.objects).0
+  counted = eqb-true p.objects (clock p + 1) (and_parts (p.objects == clock p + 1) (nat_le p.objects 16384) sound.objects).0
 
   the_clock : IsObject p (clock p)
   the_clock = let all = counted in omega arith
@@ -137,7 +136,7 @@ module _ (p : Plan) (m : Mapping) (sound : IsSound p m) where
   touches_an_object Env to_move_on fit = tt
   touches_an_object (Act k) to_move_on fit = tt
   touches_an_object (Machine n) to_move_on fit =
-      let there : nat_lt n (length p.machines) ≡ true = (both (nat_lt n (length p.machines)) true fit).0 in
+      let there : nat_lt n (length p.machines) ≡ true = (and_parts (nat_lt n (length p.machines)) true fit).0 in
       let less : n < length p.machines = grind (arith, nat_tests) in
       this_machine n less
   touches_an_object a (to_end e) fit = a_machine (machine_of_event p e) (matters e)

@@ -4,6 +4,8 @@ use Rattle.std.specs.Prelude.{set, option_map}
 use Rattle.std.specs.List.{slice_get}
 use Rattle.std.specs.Option.{option_map_or}
 use Rattle.std.proofs.lemmas.Bool.{false≢true}
+use Rattle.std.proofs.lemmas.List.{length-set}
+use Rattle.std.proofs.lemmas.Option.{same_Some}
 use Rattle.bus_semantics.specs.declared.entries.Actor.{Actor}
 use Rattle.bus_semantics.specs.declared.entries.Deed.{Deed}
 use Rattle.bus_semantics.specs.declared.entries.Deed.TheVariants as deed
@@ -29,7 +31,6 @@ use Rattle.port_objects.specs.Coming.{MayAsk, IsTheOne, NoneMayCome}
 use Rattle.port_objects.proofs.Coming.{made_is_one, held_is_none}
 use Rattle.port_objects.proofs.Opened.{events_in, inits_in, data_in, clock_in, is_group}
 use Rattle.port_objects.proofs.Placing.{given_some, then_some, mapped_some}
-use Rattle.port_objects.proofs.Ranges.{some_same}
 
 -- ---- a group
 
@@ -41,9 +42,9 @@ same_group : (k after made : data_kept.Kept) → made ≡ after → SameGroup k 
 same_group k after made is same = subst (SameGroup k) is same
 
 group_stays : (p : Plan) (g : ℕ) (events : List ℕ) (k after : data_kept.Kept) (d : Deed) → lead_of_group p g events k d ≡ Some after → SameGroup k after
-group_stays p g events k after (deed.Write x value) leads = same_group k after (data_kept.after_write value k) (some_same (data_kept.after_write value k) after leads) (record { inits = refl; events = refl })
-group_stays p g events k after (deed.Publish x value) leads = same_group k after (data_kept.after_write value k) (some_same (data_kept.after_write value k) after leads) (record { inits = refl; events = refl })
-group_stays p g events k after (deed.Invalidate x) leads = same_group k after (data_kept.after_invalidation k) (some_same (data_kept.after_invalidation k) after leads) (record { inits = refl; events = refl })
+group_stays p g events k after (deed.Write x value) leads = same_group k after (data_kept.after_write value k) (same_Some (data_kept.after_write value k) after leads) (record { inits = refl; events = refl })
+group_stays p g events k after (deed.Publish x value) leads = same_group k after (data_kept.after_write value k) (same_Some (data_kept.after_write value k) after leads) (record { inits = refl; events = refl })
+group_stays p g events k after (deed.Invalidate x) leads = same_group k after (data_kept.after_invalidation k) (same_Some (data_kept.after_invalidation k) after leads) (record { inits = refl; events = refl })
 group_stays p g events k after (deed.Read x code value) leads =
     let at = then_some (λ r. given ((code == read_code_in p x k) && has_value value r k) (data_kept.after_read r k)) (place x (members_of p g)) after leads in
     let gives = given_some ((code == read_code_in p x k) && has_value value at.item k) (data_kept.after_read at.item k) after at.gives in
@@ -71,11 +72,6 @@ record SameClock (k after : clock_kept.Kept) : Type 0 where
   periods : periods after ≡ periods k
   count : length after.unstarted ≡ length k.unstarted
 
-pub length_set : {X : Type 0} (xs : List X) (i : ℕ) (x : X) → length (set xs i x) ≡ length xs
-length_set [] i x = refl
-length_set (y ∷ xs) zero x = refl
-length_set (y ∷ xs) (suc i) x = ap (λ n. suc n) (length_set xs i x)
-
 period_set : (ts : List clock_kept.Timer) (i : ℕ) (t : clock_kept.Timer) → slice_get ts i ≡ Some t → map (λ (r : clock_kept.Timer). r.period) (set ts i (clock_kept.started t)) ≡ map (λ (r : clock_kept.Timer). r.period) ts
 period_set [] i t there = refl
 period_set (s ∷ ts) zero t there = let same : s ≡ t = cc in ap (λ (r : clock_kept.Timer). r.period ∷ map (λ (u : clock_kept.Timer). u.period) ts) (sym same)
@@ -93,13 +89,13 @@ periods_ticked [] = refl
 periods_ticked (t ∷ ts) = ap (λ ps. t.period ∷ ps) (periods_ticked ts)
 
 clock_stays : (timings inits : List ℕ) (k after : clock_kept.Kept) (d : Deed) → lead_of_clock timings inits k d ≡ Some after → SameClock k after
-clock_stays timings inits k after deed.Tick leads = subst (SameClock k) (some_same (clock_kept.after_tick k) after leads) (record { periods = periods_ticked k.timers; count = refl })
+clock_stays timings inits k after deed.Tick leads = subst (SameClock k) (same_Some (clock_kept.after_tick k) after leads) (record { periods = periods_ticked k.timers; count = refl })
 clock_stays timings inits k after (deed.Start e point value) leads = by_place (place e timings) (place e inits) leads
   where
     by_place : (timing init : Option ℕ) → lead_of_start timing init k ≡ Some after → SameClock k after
     by_place (Some i) init gives =
         subst (SameClock k) (given_some (is_timer_due (clock_kept.is_due i k)) (clock_kept.after_timing i k) after gives).same (record { periods = periods_started k i; count = refl })
-    by_place None (Some i) gives = subst (SameClock k) (given_some (is_set k.unstarted i) (clock_kept.after_init i k) after gives).same (record { periods = refl; count = length_set k.unstarted i false })
+    by_place None (Some i) gives = subst (SameClock k) (given_some (is_set k.unstarted i) (clock_kept.after_init i k) after gives).same (record { periods = refl; count = length-set k.unstarted i false })
     by_place None None gives = absurd (cc gives)
 clock_stays timings inits k after d leads = absurd (cc leads)
 

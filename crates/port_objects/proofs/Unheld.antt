@@ -3,7 +3,7 @@ use Rattle.std.proofs.Common.{◌≡◌, ℕ, ◌<◌, Bool, true, false, ◌&&�
 use Rattle.std.specs.Prelude.{option_map}
 use Rattle.std.specs.List.{slice_get}
 use Rattle.std.specs.Option.{option_or}
-use Rattle.std.proofs.lemmas.Bool.{false≢true}
+use Rattle.std.proofs.lemmas.Bool.{and_parts, eq-eqb, false≢true}
 use Rattle.rte_value.specs.declared.value.Value.{Value}
 use Rattle.rte_value.specs.Values.{words_of, same_number}
 use Rattle.bus_semantics.specs.declared.script.Mapping.{Mapping}
@@ -35,7 +35,7 @@ use Rattle.port_objects.specs.Coming.{is_start, MayAsk}
 use Rattle.port_objects.proofs.Complete.{member_placed, flag_here, not_clock, not_group, then_where, given_where, mapped_where}
 use Rattle.port_objects.proofs.GroupLeads.{noting}
 use Rattle.port_objects.proofs.GroupTaking.{has_itself, flag_itself}
-use Rattle.port_objects.proofs.Placing.{both, same_test, mapped_at, place_at}
+use Rattle.port_objects.proofs.Placing.{mapped_at, place_at}
 use Rattle.port_objects.proofs.Plain.{by_actor, untouched, none_queued, no_area, no_switch, no_such_machine, unjoined, serves_none, never_disabled, no_mode_port, matters_to_none}
 
 -- ---- the wishes that touch a group or the clock
@@ -68,12 +68,12 @@ plain_wish p m a (wish.TakeResult q) object sound plain fit touching = untouched
 plain_wish p m a (wish.Return code value) object sound plain fit touching = untouched _ (served_by p a) object (serves_none p m sound plain a) touching
 plain_wish p m a (wish.Mode port) object sound plain fit touching = untouched _ (machine_of_port p port) object (no_mode_port p m sound plain port) touching
 plain_wish p m a (wish.Send x value) object sound plain fit touching = by_actor p a (to_send x (words_of value)) fit
-    (λ f. none_queued p m sound plain None _ x (λ e t. (both (is_queued e) e.provided (both (is_queued e && e.provided) _ t).0).0) f)
-    (λ k f. none_queued p m sound plain (instance_of p k.runnable) _ x (λ e t. (both (is_queued e) e.provided (both (is_queued e && e.provided) _ t).0).0) f)
+    (λ f. none_queued p m sound plain None _ x (λ e t. (and_parts (is_queued e) e.provided (and_parts (is_queued e && e.provided) _ t).0).0) f)
+    (λ k f. none_queued p m sound plain (instance_of p k.runnable) _ x (λ e t. (and_parts (is_queued e) e.provided (and_parts (is_queued e && e.provided) _ t).0).0) f)
     (λ n there f. absurd (false≢true f))
 plain_wish p m a (wish.Receive x) object sound plain fit touching = by_actor p a (to_receive x) fit
-    (λ f. none_queued p m sound plain None (λ e. is_queued e && not e.provided) x (λ e t. (both (is_queued e) (not e.provided) t).0) f)
-    (λ k f. none_queued p m sound plain (instance_of p k.runnable) (λ e. is_queued e && not e.provided) x (λ e t. (both (is_queued e) (not e.provided) t).0) f)
+    (λ f. none_queued p m sound plain None (λ e. is_queued e && not e.provided) x (λ e t. (and_parts (is_queued e) (not e.provided) t).0) f)
+    (λ k f. none_queued p m sound plain (instance_of p k.runnable) (λ e. is_queued e && not e.provided) x (λ e t. (and_parts (is_queued e) (not e.provided) t).0) f)
     (λ n there f. absurd (false≢true f))
 plain_wish p m a (wish.Enter x) object sound plain fit touching = by_actor p a (to_enter x) fit
     (λ f. absurd (false≢true f)) (λ k f. no_area p m sound plain (instance_of p k.runnable) x f) (λ n there f. absurd (false≢true f))
@@ -121,7 +121,7 @@ module _ (p : Plan) (m : Mapping) (plain : IsUnqueuedPlan p) (g : ℕ) (within :
       let there = member_placed p g x touching in
       let held = held_value x there.at there.is in
       let code = read_code_in p x k in
-      let tests : ((code == code) && has_value held.value there.at k) ≡ true = λ i. same_test code code refl i && has_itself k there.at held.value held.is i in
+      let tests : ((code == code) && has_value held.value there.at k) ≡ true = λ i. eq-eqb code code refl i && has_itself k there.at held.value held.is i in
       record {
         made = deed.Read x code held.value;
         wish = refl;
@@ -169,7 +169,7 @@ unfolding lead
 only_starts p m a w old new l shown touching ask held = by_test (is_start (wanted_of w)) refl
   where
     touches : same_number (object_of p a (wanted_of w)) (Some (touched p a (wanted_of w))) ≡ true
-    touches = ap (λ o. same_number o (Some (touched p a (wanted_of w)))) touching ∙ same_test (touched p a (wanted_of w)) (touched p a (wanted_of w)) refl
+    touches = ap (λ o. same_number o (Some (touched p a (wanted_of w)))) touching ∙ eq-eqb (touched p a (wanted_of w)) (touched p a (wanted_of w)) refl
 
     is : is_plain_wish (wanted_of w) ≡ true
     is = plain_wish p m a w (touched p a (wanted_of w)) ask.sound ask.unqueued ask.fits touches

@@ -11,8 +11,6 @@ mod laws;
 mod making;
 mod object;
 mod plain_bench;
-#[cfg(test)]
-mod tests;
 mod threads;
 mod ticks;
 mod touching;

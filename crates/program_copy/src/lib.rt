@@ -7,6 +7,3 @@ mod statements;
 
 pub use expressions::copy_expr;
 pub use statements::copy_program;
-
-#[cfg(test)]
-mod tests;

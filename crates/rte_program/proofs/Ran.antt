@@ -5,8 +5,8 @@ use Rattle.bus_semantics.specs.declared.script.Mapping.{Mapping}
 use Rattle.bus_semantics.specs.Plan.{Plan}
 use Rattle.bus_semantics.specs.Run.{Session, IsLegalRun}
 use Rattle.core_runtime.specs.Nodes.{NodeState}
-use Rattle.session_run.specs.Legal.{IsLegalFrom}
-use Rattle.session_run.specs.Running as session
+use Rattle.script_run.specs.Legal.{IsLegalFrom}
+use Rattle.script_run.specs.Running as session
 use Rattle.rte_program.specs.Running.{PrintsRun, PrintsBeginning}
 
 abbrev AreRuns : Type 0

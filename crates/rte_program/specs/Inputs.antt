@@ -9,8 +9,8 @@ use Rattle.bus_semantics.specs.Plan.{plan_of}
 use Rattle.description_stages.specs.declared.planning.PlannedDescription.{PlannedDescription}
 use Rattle.description_stages.specs.Plans.{IsPlannedOf, IsPlanRefusalOf}
 use Rattle.stage_rule.specs.Stage.{is_in_stage}
-use Rattle.script_run.specs.Reading.{IsScript, first_bad}
-use Rattle.script_run.specs.Texts.{lines_of}
+use Rattle.script_reading.specs.Reading.{IsScript, first_bad}
+use Rattle.script_reading.specs.Texts.{lines_of}
 use Rattle.rte_program.specs.declared.stop.Stop.{Stop}
 use Rattle.rte_program.specs.declared.stop.Stop.TheVariants as stop
 

@@ -69,25 +69,3 @@ impl LineBuf {
         self.held.clear();
     }
 }
-
-#[cfg(test)]
-mod tests {
-    use super::*;
-
-    #[test]
-    fn holds_what_fits(rt: HostRuntime) {
-        let mut line = LineBuf::new();
-        assert!(rt; line.text(&[b'x'; LINE_LIMIT - 20]));
-        assert!(rt; !line.text(&[b'x'; 21]));
-        assert!(rt; line.number(i64::MIN));
-        assert_eq!(rt;
-            &line.bytes()[LINE_LIMIT - 20..],
-            b"-9223372036854775808".as_slice()
-        );
-        assert!(rt; !line.number(0));
-        assert!(rt; line.text(b""));
-        line.clear();
-        assert!(rt; line.number(-7));
-        assert_eq!(rt; line.bytes(), b"-7".as_slice());
-    }
-}

@@ -122,34 +122,3 @@ impl Shelf for MemoryShelf {
         answer
     }
 }
-
-#[cfg(test)]
-mod tests {
-    use super::*;
-    use std::test::Fail;
-
-    /// A short file, a long one, and a call that fails.
-    fn sample(alloc: Global) -> Result<MemoryShelf, Fail> {
-        let short = (
-            String::from_str(alloc, "a")?,
-            Vec::from_slice(alloc, b"text")?,
-        );
-        let long = (
-            String::from_str(alloc, "b")?,
-            vec![in alloc; 7; FILE_LIMIT + 1]?,
-        );
-        Ok(MemoryShelf::new(vec![in alloc; short, long]?, vec![in alloc; 2]?))
-    }
-
-    #[test]
-    fn answers_by_call_and_name(rt: HostRuntime) -> Result<(), Fail> {
-        let alloc = rt.alloc();
-        let mut shelf = sample(alloc)?;
-        let text = Fetched::Bytes(Vec::from_slice(alloc, b"text")?);
-        assert!(rt; shelf.fetch(alloc, "a") == text);
-        assert!(rt; shelf.fetch(alloc, "c") == Fetched::Failed);
-        assert!(rt; shelf.fetch(alloc, "a") == Fetched::Failed);
-        assert!(rt; shelf.fetch(alloc, "b") == Fetched::TooLong);
-        Ok(())
-    }
-}

@@ -145,20 +145,3 @@ impl Sink for MemorySink {
         answer
     }
 }
-
-#[cfg(test)]
-mod tests {
-    use super::*;
-    use std::test::Fail;
-
-    #[test]
-    fn takes_up_to_a_fault(rt: HostRuntime) -> Result<(), Fail> {
-        let fails = vec![in rt.alloc(); (1, 3)]?;
-        let mut sink = MemorySink::new(rt.alloc(), 8, fails)?;
-        assert!(rt; sink.put(b"ab") == Put::Done);
-        assert!(rt; sink.put(b"cdef") == Put::Failed);
-        assert!(rt; sink.put(b"ghij") == Put::Failed);
-        assert_eq!(rt; sink.told(), b"abcdeghi".as_slice());
-        Ok(())
-    }
-}

@@ -163,36 +163,3 @@ impl<R: Print> Sink for StdSink<R> {
         answer
     }
 }
-
-#[cfg(test)]
-mod tests {
-    use super::*;
-    use std::test::Fail;
-
-    #[test]
-    fn reads_files(rt: HostRuntime) -> Result<(), Fail> {
-        let alloc = rt.alloc();
-        fs::write(&rt, "held", "some text")?;
-        let mut shelf = FileShelf::new(rt.clone()?);
-        let held = Fetched::Bytes(Vec::from_slice(alloc, b"some text")?);
-        assert!(rt; shelf.fetch(alloc, "held") == held);
-        fs::remove_file(&rt, "held")?;
-        assert!(rt; shelf.fetch(alloc, "held") == Fetched::Failed);
-        assert!(rt; shelf.fetch(alloc, ".") == Fetched::Failed);
-        assert!(rt; read_to_end(alloc, &mut io::repeat(7)) == Fetched::TooLong);
-        Ok(())
-    }
-
-    #[test]
-    fn writes_pieces(rt: HostRuntime) -> Result<(), Fail> {
-        let mut sink = StdSink::new(rt.clone()?);
-        assert_eq!(rt; sink.put(b"some text\n"), Put::Done);
-        let mut room = [0; 3];
-        assert_eq!(rt;
-            write_to_end(&mut room.as_mut_slice(), b"some text"),
-            Put::Failed
-        );
-        assert_eq!(rt; room.as_slice(), b"som".as_slice());
-        Ok(())
-    }
-}

@@ -31,19 +31,3 @@ impl From<AllocError> for Refused {
         Refused::Memory
     }
 }
-
-#[cfg(test)]
-mod tests {
-    use super::*;
-    use std::test::Fail;
-
-    #[test]
-    fn prints(rt: HostRuntime) -> Result<(), Fail> {
-        let place = Text::new(rt.alloc(), b"/dataTypes/0")?;
-        let refused = Refused::Rule(Refusal { rule: 7, place });
-        assert_eq!(rt; refused.to_string(rt.alloc())?.as_str(), "refused rule 7");
-        let memory = Refused::from(AllocError);
-        assert_eq!(rt; memory.to_string(rt.alloc())?.as_str(), "out of memory");
-        Ok(())
-    }
-}

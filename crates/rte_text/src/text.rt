@@ -84,20 +84,3 @@ impl Eq for Text {
 
     ghost laws = { nat_list_eq_equiv };
 }
-
-#[cfg(test)]
-mod tests {
-    use super::*;
-    use std::test::Fail;
-
-    #[test]
-    fn holds_bytes(rt: HostRuntime) -> Result<(), Fail> {
-        let text = Text::new(rt.alloc(), b"Speed")?;
-        assert_eq!(rt; text.bytes(), b"Speed".as_slice());
-        assert_eq!(rt; (text.len(), text.is_empty()), (5, false));
-        let held = Vec::from_slice(rt.alloc(), b"Speed")?;
-        assert_eq!(rt; text, Text::of(held));
-        assert_eq!(rt; text.into_vec().as_slice(), b"Speed".as_slice());
-        Ok(())
-    }
-}

@@ -1,4 +1,3 @@
 pub mod Capped
 pub mod Firsts
 pub mod Views
-pub mod Areas

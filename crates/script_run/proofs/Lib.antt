@@ -1,6 +1,3 @@
-pub mod Carrying
-pub mod Cutting
-pub mod Decimals
-pub mod Held
-pub mod Indexed
-pub mod Steps
+pub mod EntryTexts
+pub mod Items
+pub mod Sessions

@@ -1,8 +1,4 @@
+pub mod Legal
 pub mod Texts
-pub mod Numbers
-pub mod Meaning
-pub mod Limits
-pub mod Reading
-pub mod Pieces
-pub mod Index
-pub mod Carried
+pub mod Running
+pub mod Standing

@@ -1,13 +1,12 @@
-//! A law of scripts.
+//! A law of runs.
 
-ghost use Rattle.std.specs.Prelude.{List, All};
-ghost use Rattle.bus_semantics.specs.declared.script.Line.{Line};
+ghost use Rattle.std.specs.Prelude.{[]};
+ghost use Rattle.bus_semantics.specs.declared.script.Mapping.{Mapping};
 ghost use Rattle.bus_semantics.specs.Plan.{Plan};
-ghost use Rattle.bus_semantics.specs.Spelling.{Letters};
-ghost use Rattle.script_run.specs.Carried.{IsCarriable};
-ghost use Rattle.script_run.specs.Reading.{IsScript};
+ghost use Rattle.bus_semantics.specs.Run.{IsLegalRun, Session};
+ghost use Rattle.script_run.specs.Legal.{IsLegalFrom};
 
-/// Each line of a script over a plan is one that the environment may carry out.
-pub fn scripts_are_carriable()
-    ensures { (p : Plan) (bytes : Letters) (lines : List Line) → IsScript p bytes lines → All (IsCarriable p) lines }
+/// A run that goes on legally from no history is a legal run.
+pub fn runs_from_nothing_are_runs()
+    ensures { (p : Plan) (m : Mapping) (s : Session) → IsLegalFrom p m [] s → IsLegalRun p m s }
 {}

@@ -1,22 +1,14 @@
-//! Scripts: what their lines ask of a bus, in order, or the first bad line with its cause.
+//! Running a script on a node: what its lines ask for, in order, with the trace of what comes of it.
 //!
-//! A script is lines of text. `read_script` reads it over the plan of a bus in a time that is linear in the bytes: the
-//! elements of the environment are found by hash, in an index that is built once for a script.
+//! A node goes on from whatever has happened to it: the trace that is put is the text of a session that follows that
+//! history.
 #![tactic(auto)]
 
-mod counts;
-mod environment;
-mod fields;
 mod laws;
-mod limits;
-mod line;
-mod names;
-mod numbers;
-mod script_read;
-mod values;
+mod lines;
+mod run_line;
+mod script;
 
-pub use laws::scripts_are_carriable;
-pub use script_read::{ScriptRead, read_script};
-
-#[cfg(test)]
-mod tests;
+pub use laws::runs_from_nothing_are_runs;
+pub use script::{ScriptRun, run_script};
+pub use script_reading::{ScriptRead, read_script};

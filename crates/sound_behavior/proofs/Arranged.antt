@@ -3,8 +3,9 @@ use Rattle.std.proofs.Common.{◌≡◌, ℕ, zero, suc, ◌+◌, ◌<◌, Bool,
 use Rattle.std.specs.Prelude.{nat_lt, is_none}
 use Rattle.std.specs.List.{slice_get, flat_map}
 use Rattle.std.specs.Option.{option_map_or}
-use Rattle.std.proofs.lemmas.List.{append-nil}
-use Rattle.std.proofs.lemmas.Option.{slice_get_within}
+use Rattle.std.proofs.lemmas.List.{append-nil, length-map, map-append}
+use Rattle.std.proofs.lemmas.Option.{same_Some, slice_get_within}
+use Rattle.std.proofs.lemmas.Bool.{and_from, eq-eqb, lt-ltb, or_left, or_right}
 use Rattle.runnable_lang.specs.declared.program.AccessKind.{AccessKind}
 use Rattle.runnable_lang.specs.declared.program.AccessKind.TheVariants as kind
 use Rattle.runnable_lang.specs.declared.program.AccessSig.{AccessSig}
@@ -30,9 +31,8 @@ use Rattle.plan_services.specs.declared.callings.Calling.{Calling}
 use Rattle.plan_services.specs.Callings.{calling_of, callings_in, callings_of_component, callings, is_calling, point_number}
 use Rattle.plan_services.specs.Services.{point_of, points}
 use Rattle.planned_descriptions.specs.Whole.{IsWhole}
-use Rattle.sound_behavior.proofs.Lists.{both_of, some_same, same_test, every_if, map_at, length-map, append_at, Later, left_true, right_true}
+use Rattle.sound_behavior.proofs.Lists.{every_if, map_at, append_at, Later}
 use Rattle.sound_behavior.proofs.Rules.{planned, plan_is}
-use Rattle.sound_behavior.proofs.Tasks.{is_below}
 use Rattle.sound_behavior.proofs.Points.{inner, outer, inner_call, outer_call}
 use Rattle.sound_behavior.proofs.Callers.{point_is}
 
@@ -46,13 +46,9 @@ gathered_from : {X Y Z : Type 0} (g : Y → List Z) (h : ℕ → X → List Y) (
 gathered_from g h n [] = refl
 gathered_from g h n (x ∷ xs) = gathered_append g (h n x) (from (n + 1) h xs) ∙ ap (λ z. gathered g (h n x) ++ z) (gathered_from g h (n + 1) xs)
 
-map_append : {X Y : Type 0} (g : X → Y) (xs ys : List X) → map g (xs ++ ys) ≡ map g xs ++ map g ys
-map_append g [] ys = refl
-map_append g (x ∷ xs) ys = ap (λ z. g x ∷ z) (map_append g xs ys)
-
 map_from : {X Y Z : Type 0} (g : Y → Z) (h : ℕ → X → List Y) (n : ℕ) (xs : List X) → map g (from n h xs) ≡ from n (λ k x. map g (h k x)) xs
 map_from g h n [] = refl
-map_from g h n (x ∷ xs) = map_append g (h n x) (from (n + 1) h xs) ∙ ap (λ z. map g (h n x) ++ z) (map_from g h (n + 1) xs)
+map_from g h n (x ∷ xs) = map-append g (h n x) (from (n + 1) h xs) ∙ ap (λ z. map g (h n x) ++ z) (map_from g h (n + 1) xs)
 
 -- ---- the numbers below one
 
@@ -65,7 +61,7 @@ plan_position zero k r e = absurd (cc e)
 plan_position (suc n) k r e = by (λ a. plan_position n k r a) (append_at (plan.positions n) (n ∷ []) k r e)
   where
     last : (j : ℕ) → k ≡ length (plan.positions n) + j → slice_get (n ∷ []) j ≡ Some r → r ≡ k
-    last zero s e = let same : n ≡ r = some_same n r e in let long = length-plan_positions n in omega arith
+    last zero s e = let same : n ≡ r = same_Some n r e in let long = length-plan_positions n in omega arith
     last (suc j) s e = absurd (cc e)
 
     by : (slice_get (plan.positions n) k ≡ Some r → r ≡ k) → (slice_get (plan.positions n) k ≡ Some r) ⊎ Later ℕ (plan.positions n) (n ∷ []) k r → r ≡ k
@@ -76,7 +72,7 @@ same_by : (xs ys : List ℕ) → length xs ≡ length ys → ((k x y : ℕ) → 
 same_by [] [] long each = refl
 same_by [] (y ∷ ys) long each = absurd (omega arith)
 same_by (x ∷ xs) [] long each = absurd (omega arith)
-same_by (x ∷ xs) (y ∷ ys) long each = both_of (x == y) (same_numbers xs ys) (same_test x y (each 0 x y refl refl)) (same_by xs ys (omega arith) (λ k a b s t. each (suc k) a b s t))
+same_by (x ∷ xs) (y ∷ ys) long each = and_from (x == y) (same_numbers xs ys) (eq-eqb x y (each 0 x y refl refl)) (same_by xs ys (omega arith) (λ k a b s t. each (suc k) a b s t))
 
 -- ---- the calls of runnables
 
@@ -130,7 +126,7 @@ module _ (d : Description) (f : Flat) where
 
     arranged : points_arranged (planned d f es) ≡ true
     arranged = subst (λ called. (same_numbers called (plan.positions (length called)) && every_from 0 (λ q (t : PointPlan). nat_lt q (length called) || (is_none t.runnable && t.asynchronous)) (points d f)) ≡ true) (sym called_are)
-        (both_of (same_numbers (map number (inner d f)) (plan.positions (length (map number (inner d f))))) _
+        (and_from (same_numbers (map number (inner d f)) (plan.positions (length (map number (inner d f))))) _
         (same_by (map number (inner d f)) (plan.positions (length (map number (inner d f)))) (sym (length-plan_positions (length (map number (inner d f)))))
         (λ k x y s t. numbered k x s ∙ sym (plan_position (length (map number (inner d f))) k y t)))
         (every_if (λ q (t : PointPlan). nat_lt q (length (map number (inner d f))) || (is_none t.runnable && t.asynchronous)) 0 (points d f)
@@ -142,11 +138,11 @@ module _ (d : Description) (f : Flat) where
             → (nat_lt q (length (map number (inner d f))) || (is_none (point_of d f y).runnable && (point_of d f y).asynchronous)) ≡ true
         by q y (inl e) =
             let within : q < length (inner d f) = slice_get_within (inner d f) q y e in
-            let long : length (map number (inner d f)) ≡ length (inner d f) = length-map number (inner d f) in
-            left_true (nat_lt q (length (map number (inner d f)))) (is_none (point_of d f y).runnable && (point_of d f y).asynchronous) (is_below q (length (map number (inner d f))) (omega arith))
+            let long : length (map number (inner d f)) ≡ length (inner d f) = length-map (inner d f) number in
+            or_left (nat_lt q (length (map number (inner d f)))) (is_none (point_of d f y).runnable && (point_of d f y).asynchronous) (lt-ltb q (length (map number (inner d f))) (omega arith))
         by q y (inr l) =
             let z = outer_call d f q y l in
-            right_true (nat_lt q (length (map number (inner d f)))) (is_none (point_of d f y).runnable && (point_of d f y).asynchronous)
+            or_right (nat_lt q (length (map number (inner d f)))) (is_none (point_of d f y).runnable && (point_of d f y).asynchronous)
             (ap (λ (u : Calling). is_none (point_of d f u).runnable && (point_of d f u).asynchronous) z.is)
 
 pub points_stand : (d : Description) (f : Flat) (p : BusPlan) (m : Mapping) → IsWhole d f p m → points_arranged (plan_of p) ≡ true

@@ -3,8 +3,9 @@ use Rattle.std.proofs.Common.{◌≡◌, ℕ, ◌+◌, ◌<◌, Bool, true, fals
 use Rattle.std.specs.Prelude.{is_some, is_none}
 use Rattle.std.specs.List.{slice_get, list_all}
 use Rattle.std.specs.Option.{option_map_or, option_eq}
-use Rattle.std.proofs.lemmas.Bool.{false≢true, eq-eqb}
-use Rattle.std.proofs.lemmas.Option.{slice_get_within}
+use Rattle.std.proofs.lemmas.Bool.{false≢true, eq-eqb, and_from, and_parts, not-true, or_left, or_right}
+use Rattle.std.proofs.lemmas.Option.{same_Some, slice_get_within}
+use Rattle.std.proofs.lemmas.Map.Keys.{any_passes_from_place}
 use Rattle.rte_value.specs.Values.{same_number}
 use Rattle.runnable_lang.specs.declared.program.AccessKind.{AccessKind}
 use Rattle.runnable_lang.specs.declared.program.AccessKind.TheVariants as kind
@@ -45,7 +46,7 @@ use Rattle.plan_services.specs.declared.callings.Calling.{Calling}
 use Rattle.plan_services.specs.Callings.{callings, operations_at, operation_count, outer_calling}
 use Rattle.plan_services.specs.Services.{is_numbered_mapped, point_of, points, servers, started_by}
 use Rattle.planned_descriptions.specs.Whole.{IsWhole}
-use Rattle.sound_behavior.proofs.Lists.{clash, both, both_of, not_true, some_same, not_some, option_same, all_if, all_at, every_if, any_if, looked, there_at, map_at, left_true, right_true, append_at, Later}
+use Rattle.sound_behavior.proofs.Lists.{clash, not_some, option_same, all_if, all_at, every_if, looked, there_at, map_at, append_at, Later}
 use Rattle.sound_behavior.proofs.Parts.{number_there, runnable_there, event_count}
 use Rattle.sound_behavior.proofs.Rules.{planned, plan_is, direct_kept}
 use Rattle.sound_behavior.proofs.Serving.{ServerAt, server_at_number, server_site}
@@ -57,7 +58,7 @@ use Rattle.sound_behavior.proofs.Points.{inner, outer, inner_call, OuterCall, ou
 -- ---- ends
 
 pub end_itself : (e : End) → same_end e e ≡ true
-end_itself e = both_of (option_eq nat_eq e.instance e.instance && nat_eq e.port e.port) (nat_eq e.element e.element) (both_of (option_eq nat_eq e.instance e.instance) (nat_eq e.port e.port) (itself e.instance) (eq-eqb e.port e.port refl)) (eq-eqb e.element e.element refl)
+end_itself e = and_from (option_eq nat_eq e.instance e.instance && nat_eq e.port e.port) (nat_eq e.element e.element) (and_from (option_eq nat_eq e.instance e.instance) (nat_eq e.port e.port) (itself e.instance) (eq-eqb e.port e.port refl)) (eq-eqb e.element e.element refl)
   where
     itself : (a : Option ℕ) → option_eq nat_eq a a ≡ true
     itself None = refl
@@ -110,7 +111,7 @@ module _ (d : Description) (f : Flat) (p : BusPlan) (m : Mapping) (w : IsWhole d
     makes_none : option_map_or may_be_direct (slice_get x.c.behavior.runnables x.by.event.runnable) false ≡ true → look (runnables d f) (pair_number (runnables_of d f) (x.i, started_by d f x.i x.by.place)) (λ (u : Runnable). list_all calls_nothing u.accesses) false ≡ true
     makes_none e =
         let direct : may_be_direct r.0 ≡ true = ap (λ o. option_map_or may_be_direct o false) (sym r.1) ∙ e in
-        let none = (both r.0.can_be_invoked_concurrently (list_all (λ (a : Access). not (is_call a)) r.0.accesses) direct).1 in
+        let none = (and_parts r.0.can_be_invoked_concurrently (list_all (λ (a : Access). not (is_call a)) r.0.accesses) direct).1 in
         ap (λ n. look (runnables d f) (pair_number (runnables_of d f) (x.i, n)) (λ (u : Runnable). list_all calls_nothing u.accesses) false) (started_is d f p m w x.i x.c x.home x.by.place x.by.event x.by.there)
         ∙ looked (runnables d f) (pair_number (runnables_of d f) (x.i, x.by.event.runnable)) (runnable_of d f x.i x.c x.by.event.runnable r.0) (λ (u : Runnable). list_all calls_nothing u.accesses) false (runnable_there d f x.i x.c x.home x.by.event.runnable r.0 r.1)
         ∙ all_if calls_nothing (map (access_sig d.types x.c) r.0.accesses) (λ j y at. let z = map_at (access_sig d.types x.c) r.0.accesses j y at in
@@ -122,15 +123,15 @@ module _ (d : Description) (f : Flat) (p : BusPlan) (m : Mapping) (w : IsWhole d
     called_outside k n h (Some q) is e =
         let by = operation_by d f p m w None k n h.all h.operation h.is h.there q is in
         let j = provided_by f.joins (end_at None k n) q is in
-        let number : server_number d f (Some by.i, Some q.port, q.element) ≡ s = ap (λ o. server_number d f (o, Some q.port, q.element)) (sym by.owner) ∙ some_same (server_number d f (end_key q)) s e in
+        let number : server_number d f (Some by.i, Some q.port, q.element) ≡ s = ap (λ o. server_number d f (o, Some q.port, q.element)) (sym by.owner) ∙ same_Some (server_number d f (end_key q)) s e in
         let one = server_site d f p m w by.i by.c by.home q.port q.element by.provides in
         let other = server_site d f p m w x.i x.c x.home x.k x.n x.provides in
-        let same : site (Some by.i) (Some q.port) q.element Server ≡ site (Some x.i) (Some x.k) x.n Server = some_same (site (Some by.i) (Some q.port) q.element Server) (site (Some x.i) (Some x.k) x.n Server)
+        let same : site (Some by.i) (Some q.port) q.element Server ≡ site (Some x.i) (Some x.k) x.n Server = same_Some (site (Some by.i) (Some q.port) q.element Server) (site (Some x.i) (Some x.k) x.n Server)
         (sym one ∙ ap (slice_get (servers_of d f)) (number ∙ sym x.number) ∙ other) in
         let port : Some q.port ≡ Some x.k = ap (λ (z : Site). z.port) same in
-        let end : q ≡ end_at (Some x.i) x.k x.n = λ t. record { instance = (by.owner ∙ ap (λ (z : Site). z.owner) same) t; port = some_same q.port x.k port t; element = (ap (λ (z : Site). z.item) same) t } in
-        any_if (λ (z : Join). same_end (end_at (Some x.i) x.k x.n) z.provided && is_none z.required.instance) f.joins j.has.place j.join j.has.there
-        (both_of (same_end (end_at (Some x.i) x.k x.n) j.join.provided) (is_none j.join.required.instance)
+        let end : q ≡ end_at (Some x.i) x.k x.n = λ t. record { instance = (by.owner ∙ ap (λ (z : Site). z.owner) same) t; port = same_Some q.port x.k port t; element = (ap (λ (z : Site). z.item) same) t } in
+        any_passes_from_place (λ (z : Join). same_end (end_at (Some x.i) x.k x.n) z.provided && is_none z.required.instance) f.joins j.has.place j.join j.has.there
+        (and_from (same_end (end_at (Some x.i) x.k x.n) j.join.provided) (is_none j.join.required.instance)
         (ap (same_end (end_at (Some x.i) x.k x.n)) (j.provided ∙ end) ∙ end_itself (end_at (Some x.i) x.k x.n))
         (ap (λ (z : End). is_none z.instance) j.required))
 
@@ -143,13 +144,13 @@ module _ (d : Description) (f : Flat) (p : BusPlan) (m : Mapping) (w : IsWhole d
         called y z false is = refl
         called y z true is =
             let server : (point_of d f (outer_calling z.k z.n)).server ≡ Some s = ap (λ (u : Calling). (point_of d f u).server) (sym z.is) ∙ option_same (point_of d f y).server (Some s) is in
-            clash (serves_outside f x.i x.k x.n) (called_outside z.k z.n (outer_operation z.k z.port z.n z.there z.within) (provider_of f.joins (end_at None z.k z.n)) refl server) (not_true (serves_outside f x.i x.k x.n) outside)
+            clash (serves_outside f x.i x.k x.n) (called_outside z.k z.n (outer_operation z.k z.port z.n z.there z.within) (provider_of f.joins (end_at None z.k z.n)) refl server) (not-true (serves_outside f x.i x.k x.n) outside)
 
         by : (y : Calling) → (slice_get (inner d f) q ≡ Some y) ⊎ Later Calling (inner d f) (outer d f) q y → (not (same_number (point_of d f y).server (Some s)) || is_some (point_of d f y).runnable) ≡ true
         by y (inl e) =
             let z = inner_call d f q y e in
-            right_true (not (same_number (point_of d f y).server (Some s))) (is_some (point_of d f y).runnable) (ap (λ (u : Calling). is_some (option_map (pair_number (runnables_of d f)) u.caller)) z.is.is)
-        by y (inr l) = left_true (not (same_number (point_of d f y).server (Some s))) (is_some (point_of d f y).runnable) (called y (outer_call d f q y l) (same_number (point_of d f y).server (Some s)) refl)
+            or_right (not (same_number (point_of d f y).server (Some s))) (is_some (point_of d f y).runnable) (ap (λ (u : Calling). is_some (option_map (pair_number (runnables_of d f)) u.caller)) z.is.is)
+        by y (inr l) = or_left (not (same_number (point_of d f y).server (Some s))) (is_some (point_of d f y).runnable) (called y (outer_call d f q y l) (same_number (point_of d f y).server (Some s)) refl)
 
     pub direct_here : direct_sound (planned d f es) s v ≡ true
     direct_here = subst (λ (u : ServerPlan). direct_sound (planned d f es) s u ≡ true) (sym x.is) (by (is_numbered_mapped d f (pair_number (events_of d f) (x.i, x.by.place))) refl)
@@ -159,8 +160,8 @@ module _ (d : Description) (f : Flat) (p : BusPlan) (m : Mapping) (w : IsWhole d
             && list_all (λ (t : PointPlan). not (same_number t.server (Some s)) || is_some t.runnable) (points d f))) ≡ true
         by true is = refl
         by false is =
-            let two = both (option_map_or may_be_direct (slice_get x.c.behavior.runnables x.by.event.runnable) false) (not (serves_outside f x.i x.k x.n)) (kept (unmapped is)) in
-            both_of (look (runnables d f) (pair_number (runnables_of d f) (x.i, started_by d f x.i x.by.place)) (λ (u : Runnable). list_all calls_nothing u.accesses) false) (list_all (λ (t : PointPlan). not (same_number t.server (Some s)) || is_some t.runnable) (points d f))
+            let two = and_parts (option_map_or may_be_direct (slice_get x.c.behavior.runnables x.by.event.runnable) false) (not (serves_outside f x.i x.k x.n)) (kept (unmapped is)) in
+            and_from (look (runnables d f) (pair_number (runnables_of d f) (x.i, started_by d f x.i x.by.place)) (λ (u : Runnable). list_all calls_nothing u.accesses) false) (list_all (λ (t : PointPlan). not (same_number t.server (Some s)) || is_some t.runnable) (points d f))
             (makes_none two.0) (all_if (λ (t : PointPlan). not (same_number t.server (Some s)) || is_some t.runnable) (points d f) (not_called two.1))
 
   pub all_direct : (es : List ElemPlan) → every_from 0 (direct_sound (planned d f es)) (servers d f) ≡ true

@@ -2,6 +2,7 @@
 use Rattle.std.proofs.Common.{◌≡◌, ℕ, true, refl, ◌∙◌, ap, List, length, Option, Some, None, option_map, option_and_then}
 use Rattle.std.specs.List.{slice_get}
 use Rattle.std.proofs.lemmas.Bool.{false≢true}
+use Rattle.std.proofs.lemmas.Option.{same_Some}
 use Rattle.interface_types.specs.declared.interface.DataElement.{DataElement}
 use Rattle.interface_types.specs.declared.interface.Interface.{Interface}
 use Rattle.interface_types.specs.declared.interface.InterfaceKind.{InterfaceKind}
@@ -18,7 +19,7 @@ use Rattle.component_rules.specs.declared.items.Item.{Item}
 use Rattle.component_rules.specs.declared.items.Item.TheVariants.{Data, Operation, Modes}
 use Rattle.component_rules.specs.Events.{requires_data, provides_operation, requires_operation, provides_modes, required_modes}
 use Rattle.component_rules.specs.Items.{item_of, item_of_port, item_at}
-use Rattle.sound_behavior.proofs.Lists.{some_same, not_some}
+use Rattle.sound_behavior.proofs.Lists.{not_some}
 
 pub record ItemAt (types : TypeTable) (ports : List Port) (k n : ℕ) (side : PortKind) (item : Item) : Type 0 where
   pub port : Port
@@ -40,7 +41,7 @@ module _ (types : TypeTable) (ports : List Port) (k n : ℕ) where
           by_item : (o : Option Item) → item_of types i.kind n ≡ o → option_map {U = PortKind × Item} (λ x. (port.kind, x)) o ≡ Some (side, item) → ItemAt types ports k n side item
           by_item None is e = not_some (side, item) e
           by_item (Some x) is e =
-              let same : (port.kind, x) ≡ (side, item) = some_same (port.kind, x) (side, item) e in
+              let same : (port.kind, x) ≡ (side, item) = same_Some (port.kind, x) (side, item) e in
               record { port = port; there = at; kind = ap (λ (z : PortKind × Item). z.0) same; interface = i; has = has; is = is ∙ ap (λ (z : PortKind × Item). Some z.1) same }
 
       by_port : (o : Option Port) → slice_get ports k ≡ o → option_and_then (λ (port : Port). option_map {U = PortKind × Item} (λ x. (port.kind, x)) (item_of_port types port n)) o ≡ Some (side, item) → ItemAt types ports k n side item

@@ -3,7 +3,8 @@ use Rattle.std.proofs.Common.{◌≡◌, suc, List, [], ◌∷◌, Bool, true, f
 use Rattle.std.specs.Prelude.{is_some}
 use Rattle.std.specs.List.{find, list_all, list_any}
 use Rattle.std.specs.Option.{option_map_or, option_or, option_eq}
-use Rattle.std.proofs.lemmas.Bool.{eqb-true}
+use Rattle.std.proofs.lemmas.Bool.{and_parts, eqb-true}
+use Rattle.std.proofs.lemmas.Option.{same_Some}
 use Rattle.description_types.specs.declared.component.Port.{Port}
 use Rattle.description_types.specs.declared.component.PortKind.{PortKind}
 use Rattle.description_types.specs.declared.component.PortKind.TheVariants.{Provided, Required}
@@ -22,7 +23,7 @@ use Rattle.plan_numbers.specs.Joined.{same_end, provider_of}
 use Rattle.plan_numbers.specs.Sites.{provides_at}
 use Rattle.plan_ports.specs.Ports.{port_of}
 use Rattle.planned_descriptions.specs.Whole.{IsWhole}
-use Rattle.sound_behavior.proofs.Lists.{both, some_same, not_some, none_or, none_map}
+use Rattle.sound_behavior.proofs.Lists.{not_some, none_or, none_map}
 use Rattle.sound_behavior.proofs.Listed.{at}
 use Rattle.sound_behavior.proofs.Members.{Has}
 use Rattle.sound_behavior.proofs.Passing.{Passes}
@@ -34,8 +35,8 @@ use Rattle.sound_behavior.proofs.Chains.{are_joined, Faces}
 
 pub end_equal : (a b : End) → same_end a b ≡ true → a ≡ b
 end_equal a b e =
-    let outer = both (option_eq nat_eq a.instance b.instance && nat_eq a.port b.port) (nat_eq a.element b.element) e in
-    let inner = both (option_eq nat_eq a.instance b.instance) (nat_eq a.port b.port) outer.0 in
+    let outer = and_parts (option_eq nat_eq a.instance b.instance && nat_eq a.port b.port) (nat_eq a.element b.element) e in
+    let inner = and_parts (option_eq nat_eq a.instance b.instance) (nat_eq a.port b.port) outer.0 in
     λ j. record { instance = option_equal a.instance b.instance inner.0 j; port = eqb-true a.port b.port inner.1 j; element = eqb-true a.element b.element outer.1 j }
 
 pub record FoundBy (X : Type 0) (test : X → Bool) (xs : List X) (x : X) : Type 0 where
@@ -47,7 +48,7 @@ found_by test [] x e = not_some x e
 found_by {X} test (y ∷ xs) x e = by (λ r. found_by test xs x r) (test y) refl e
   where
     by : (find test xs ≡ Some x → FoundBy X test xs x) → (b : Bool) → test y ≡ b → cond b (Some y) (find test xs) ≡ Some x → FoundBy X test (y ∷ xs) x
-    by rest true is e = record { has = record { place = 0; there = e }; passes = subst (λ z. test z ≡ true) (some_same y x e) is }
+    by rest true is e = record { has = record { place = 0; there = e }; passes = subst (λ z. test z ≡ true) (same_Some y x e) is }
     by rest false is e = let deeper = rest e in record { has = record { place = suc deeper.has.place; there = deeper.has.there }; passes = deeper.passes }
 
 -- the join by which a required end is provided
@@ -62,7 +63,7 @@ provided_by js e q is = by (find (λ (j : Join). same_end j.required e) js) refl
   where
     by : (o : Option Join) → find (λ (j : Join). same_end j.required e) js ≡ o → option_map (λ (j : Join). j.provided) o ≡ Some q → ProvidedBy js e q
     by None found is = not_some q is
-    by (Some j) found is = let x = found_by (λ (j : Join). same_end j.required e) js j found in record { join = j; has = x.has; required = end_equal j.required e x.passes; provided = some_same j.provided q is }
+    by (Some j) found is = let x = found_by (λ (j : Join). same_end j.required e) js j found in record { join = j; has = x.has; required = end_equal j.required e x.passes; provided = same_Some j.provided q is }
 
 module _ (d : Description) (f : Flat) (p : BusPlan) (m : Mapping) (w : IsWhole d f p m) where
   -- ---- the rules on joins
@@ -100,7 +101,7 @@ module _ (d : Description) (f : Flat) (p : BusPlan) (m : Mapping) (w : IsWhole d
 
   port_is : (o : Option Port) (k : PortKind) → option_map (λ (x : Port). x.kind) o ≡ Some k → PortIs o k
   port_is None k e = not_some k e
-  port_is (Some x) k e = record { port = x; is = refl; kind = some_same x.kind k e }
+  port_is (Some x) k e = record { port = x; is = refl; kind = same_Some x.kind k e }
 
   provided_end : (e : End) (s : Stand) → stand_in d e.instance e.port ≡ Some s → Faces d all_compatible s Provided Required → EndAt e true
   provided_end e s is (inl x) =

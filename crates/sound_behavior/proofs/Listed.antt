@@ -1,12 +1,13 @@
 -- What is among the items of a list.
 use Rattle.std.proofs.Common.{◌≡◌, ℕ, zero, suc, List, [], ◌∷◌, ◌++◌, map, Some, ◌⊎◌, inl, inr, sym, ap}
+use Rattle.std.proofs.lemmas.Option.{same_Some}
 use Rattle.std.specs.List.{slice_get, flat_map}
 use Rattle.composition_tables.specs.Members.{Among}
-use Rattle.sound_behavior.proofs.Lists.{mapped, some_same}
+use Rattle.sound_behavior.proofs.Lists.{mapped}
 
 pub at : {X : Type 0} (xs : List X) (n : ℕ) (x : X) → slice_get xs n ≡ Some x → Among x xs
 at [] n x h = absurd (cc h)
-at (y ∷ xs) zero x h = inl (sym (some_same y x h))
+at (y ∷ xs) zero x h = inl (sym (same_Some y x h))
 at (y ∷ xs) (suc n) x h = inr (at xs n x h)
 
 pub place : {X : Type 0} (x : X) (xs : List X) → Among x xs → (n : ℕ) × (slice_get xs n ≡ Some x)

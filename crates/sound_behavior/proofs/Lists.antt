@@ -1,9 +1,8 @@
 -- Lists by positions: tests at each position, lists joined end to end, first positions.
-use Rattle.std.proofs.Common.{◌≡◌, ℕ, zero, suc, ◌+◌, ◌<◌, ◌≤◌, Bool, true, false, cond, ◌&&◌, ◌||◌, not, ◌==◌, refl, sym, ◌∙◌, ap, subst, arith, List, [], ◌∷◌, ◌++◌, map, filter, length, Option, Some, None, option_map, ◌⊎◌, inl, inr}
-use Rattle.std.specs.Cmp.{unsigned_Decides}
+use Rattle.std.proofs.Common.{◌≡◌, ℕ, zero, suc, ◌+◌, ◌<◌, ◌≤◌, Bool, true, false, cond, refl, sym, ◌∙◌, ap, subst, arith, List, [], ◌∷◌, ◌++◌, map, filter, length, Option, Some, None, option_map, ◌⊎◌, inl, inr}
 use Rattle.std.specs.List.{list_all, list_any, slice_get, position_from}
 use Rattle.std.specs.Option.{option_map_or, option_or}
-use Rattle.std.proofs.lemmas.Bool.{false≢true}
+use Rattle.std.proofs.lemmas.Bool.{and_from, and_parts, eq-eqb, eqb-true, false≢true, or_cases}
 use Rattle.std.proofs.lemmas.Option.{slice_get-map}
 use Rattle.rte_value.specs.Values.{same_number}
 use Rattle.bus_semantics.specs.Plan.{look, every_from}
@@ -16,59 +15,15 @@ use Rattle.plan_numbers.specs.Lists.{from, positions}
 pub clash : {X : Type 0} (b : Bool) → b ≡ true → b ≡ false → X
 clash b t f = absurd (false≢true (sym f ∙ t))
 
-pub both : (a b : Bool) → (a && b) ≡ true → (a ≡ true) × (b ≡ true)
-both true b e = (refl, e)
-both false b e = (e, clash false e refl)
-
-pub both_of : (a b : Bool) → a ≡ true → b ≡ true → (a && b) ≡ true
-both_of true b first second = second
-both_of false b first second = absurd (false≢true first)
-
-pub not_true : (b : Bool) → not b ≡ true → b ≡ false
-not_true true e = sym e
-not_true false e = refl
-
-pub or_false : (a b : Bool) → (a || b) ≡ false → (a ≡ false) × (b ≡ false)
-or_false true b e = (e, clash true refl e)
-or_false false b e = (refl, e)
-
-pub or_cases : (a b : Bool) → (a || b) ≡ true → (a ≡ true) ⊎ (b ≡ true)
-or_cases true b e = inl refl
-or_cases false b e = inr e
-
-pub left_true : (a b : Bool) → a ≡ true → (a || b) ≡ true
-left_true true b e = refl
-left_true false b e = absurd (false≢true e)
-
-pub right_true : (a b : Bool) → b ≡ true → (a || b) ≡ true
-right_true true b e = refl
-right_true false b e = e
-
-pub number_same : (a b : ℕ) → (a == b) ≡ true → a ≡ b
-number_same a b = (unsigned_Decides a b).0
-
-pub same_test : (a b : ℕ) → a ≡ b → (a == b) ≡ true
-same_test a b = (unsigned_Decides a b).1
-
-pub differ_test : (a b : ℕ) → (a ≡ b → ⊥) → (a == b) ≡ false
-differ_test a b apart = of_test (a == b) refl
-  where
-    of_test : (v : Bool) → (a == b) ≡ v → v ≡ false
-    of_test false is = refl
-    of_test true is = absurd (apart (number_same a b is))
-
 pub option_same : (a b : Option ℕ) → same_number a b ≡ true → a ≡ b
 option_same None None e = refl
-option_same (Some a) (Some b) e = ap (λ n. Some n) (number_same a b e)
+option_same (Some a) (Some b) e = ap (λ n. Some n) (eqb-true a b e)
 option_same None (Some b) e = absurd (false≢true e)
 option_same (Some a) None e = absurd (false≢true e)
 
 pub same_option : (a b : Option ℕ) → a ≡ b → same_number a b ≡ true
 same_option None b e = subst (λ o. same_number None o ≡ true) e refl
-same_option (Some a) b e = subst (λ o. same_number (Some a) o ≡ true) e (same_test a a refl)
-
-pub some_same : {X : Type 0} (a b : X) → Some a ≡ Some b → a ≡ b
-some_same a b e = cc
+same_option (Some a) b e = subst (λ o. same_number (Some a) o ≡ true) e (eq-eqb a a refl)
 
 pub not_some : {X Y : Type 0} (a : X) → None ≡ Some a → Y
 not_some a e = absurd (cc e)
@@ -80,16 +35,16 @@ looked xs i x f other e = ap (λ o. option_map_or f o other) e
 
 pub all_if : {X : Type 0} (test : X → Bool) (xs : List X) → ((k : ℕ) (x : X) → slice_get xs k ≡ Some x → test x ≡ true) → list_all test xs ≡ true
 all_if test [] each = refl
-all_if test (x ∷ xs) each = both_of (test x) (list_all test xs) (each 0 x refl) (all_if test xs (λ k y e. each (suc k) y e))
+all_if test (x ∷ xs) each = and_from (test x) (list_all test xs) (each 0 x refl) (all_if test xs (λ k y e. each (suc k) y e))
 
 pub all_at : {X : Type 0} (test : X → Bool) (xs : List X) (i : ℕ) (x : X) → list_all test xs ≡ true → slice_get xs i ≡ Some x → test x ≡ true
 all_at test [] i x all e = absurd (cc e)
-all_at test (y ∷ xs) zero x all e = let same : y ≡ x = cc in subst (λ z. test z ≡ true) same (both (test y) (list_all test xs) all).0
-all_at test (y ∷ xs) (suc i) x all e = all_at test xs i x (both (test y) (list_all test xs) all).1 e
+all_at test (y ∷ xs) zero x all e = let same : y ≡ x = cc in subst (λ z. test z ≡ true) same (and_parts (test y) (list_all test xs) all).0
+all_at test (y ∷ xs) (suc i) x all e = all_at test xs i x (and_parts (test y) (list_all test xs) all).1 e
 
 pub every_if : {X : Type 0} (f : ℕ → X → Bool) (n : ℕ) (xs : List X) → ((k : ℕ) (x : X) → slice_get xs k ≡ Some x → f (n + k) x ≡ true) → every_from n f xs ≡ true
 every_if f n [] each = refl
-every_if f n (x ∷ xs) each = both_of (f n x) (every_from (n + 1) f xs)
+every_if f n (x ∷ xs) each = and_from (f n x) (every_from (n + 1) f xs)
     (let place : n + 0 ≡ n = omega arith in subst (λ m. f m x ≡ true) place (each 0 x refl))
     (every_if f (n + 1) xs (λ k y e. let place : n + suc k ≡ n + 1 + k = omega arith in subst (λ m. f m y ≡ true) place (each (suc k) y e)))
 
@@ -98,15 +53,10 @@ at_place f [] i n x all at = absurd (cc at)
 at_place f (y ∷ xs) zero n x all at =
     let same : y ≡ x = cc in
     let place : n ≡ n + 0 = omega arith in
-    subst (λ m. f m x ≡ true) place (subst (λ z. f n z ≡ true) same (both (f n y) (every_from (n + 1) f xs) all).0)
+    subst (λ m. f m x ≡ true) place (subst (λ z. f n z ≡ true) same (and_parts (f n y) (every_from (n + 1) f xs) all).0)
 at_place f (y ∷ xs) (suc i) n x all at =
     let place : n + 1 + i ≡ n + suc i = omega arith in
-    subst (λ k. f k x ≡ true) place (at_place f xs i (n + 1) x (both (f n y) (every_from (n + 1) f xs) all).1 at)
-
-pub any_if : {X : Type 0} (test : X → Bool) (xs : List X) (k : ℕ) (x : X) → slice_get xs k ≡ Some x → test x ≡ true → list_any test xs ≡ true
-any_if test [] k x e t = absurd (cc e)
-any_if test (y ∷ xs) zero x e t = let same : x ≡ y = cc in left_true (test y) (list_any test xs) (subst (λ z. test z ≡ true) same t)
-any_if test (y ∷ xs) (suc k) x e t = right_true (test y) (list_any test xs) (any_if test xs k x e t)
+    subst (λ k. f k x ≡ true) place (at_place f xs i (n + 1) x (and_parts (f n y) (every_from (n + 1) f xs) all).1 at)
 
 pub record Passes (X : Type 0) (test : X → Bool) (xs : List X) : Type 0 where
   pub place : ℕ
@@ -256,10 +206,6 @@ position_is i (suc n) (suc k) l = position_is (i + 1) n k (omega arith) ∙ (let
 pub length-positions : (i n : ℕ) → length (positions i n) ≡ n
 length-positions i zero = refl
 length-positions i (suc n) = ap (λ m. suc m) (length-positions (i + 1) n)
-
-pub length-map : {X Y : Type 0} (f : X → Y) (xs : List X) → length (map f xs) ≡ length xs
-length-map f [] = refl
-length-map f (x ∷ xs) = ap (λ m. suc m) (length-map f xs)
 
 pub mapped : {X Y : Type 0} (f : X → Y) (xs : List X) (k : ℕ) (x : X) → slice_get xs k ≡ Some x → slice_get (map f xs) k ≡ Some (f x)
 mapped f xs k x e = slice_get-map f xs k ∙ ap (option_map f) e

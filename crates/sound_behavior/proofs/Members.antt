@@ -1,7 +1,9 @@
 -- What is in a list: of lists joined, in order, mapped and filtered; and how often.
 use Rattle.std.proofs.Common.{◌≡◌, ℕ, zero, suc, ◌+◌, ◌<◌, ◌≤◌, Bool, true, false, cond, ◌&&◌, ◌||◌, ◌==◌, nat_eq, nat_le, refl, sym, ◌∙◌, ap, subst, arith, List, [], ◌∷◌, ◌++◌, map, filter, length, Option, Some, None, ◌⊎◌, inl, inr}
 use Rattle.std.specs.List.{slice_get, flat_map, list_any}
-use Rattle.std.proofs.lemmas.Bool.{false≢true, eqb-true, eq-eqb}
+use Rattle.std.proofs.lemmas.Bool.{false≢true, eqb-true, eq-eqb, and_from, and_parts, not-true}
+use Rattle.std.proofs.lemmas.Map.Keys.{any_passes_from_place}
+use Rattle.std.proofs.lemmas.Option.{same_Some}
 use Rattle.bus_semantics.specs.History.{count}
 use Rattle.bus_semantics.specs.Plan as plan
 use Rattle.bus_semantics.specs.Rest.{gathered}
@@ -9,7 +11,7 @@ use Rattle.bus_semantics.specs.SoundPlan.{same_numbers}
 use Rattle.mapping_rules.specs.Rules.{are_same}
 use Rattle.mapping_rules.specs.Sorting.{put, in_order}
 use Rattle.sound_descriptions.specs.WellFormed.{distinct}
-use Rattle.sound_behavior.proofs.Lists.{clash, both, both_of, not_true, some_same, number_same, same_test, append_left, append_right, append_at, Later, kept_at, kept, mapped, all_at, any_if}
+use Rattle.sound_behavior.proofs.Lists.{clash, append_left, append_right, append_at, Later, kept_at, kept, mapped, all_at}
 
 pub record Has (X : Type 0) (xs : List X) (x : X) : Type 0 where
   pub place : ℕ
@@ -104,7 +106,7 @@ position_at_plan zero k r e = absurd (cc e)
 position_at_plan (suc n) k r e = by (λ a. position_at_plan n k r a) (append_at (plan.positions n) (n ∷ []) k r e)
   where
     one : (j : ℕ) → slice_get (n ∷ []) j ≡ Some r → r < suc n
-    one zero e = let same : n ≡ r = some_same n r e in omega arith
+    one zero e = let same : n ≡ r = same_Some n r e in omega arith
     one (suc j) e = absurd (cc e)
 
     by : (slice_get (plan.positions n) k ≡ Some r → r < n) → (slice_get (plan.positions n) k ≡ Some r) ⊎ Later ℕ (plan.positions n) (n ∷ []) k r → r < suc n
@@ -117,30 +119,30 @@ pub numbers_equal : (a b : List ℕ) → same_numbers a b ≡ true → a ≡ b
 numbers_equal [] [] e = refl
 numbers_equal [] (y ∷ b) e = absurd (false≢true e)
 numbers_equal (x ∷ a) [] e = absurd (false≢true e)
-numbers_equal (x ∷ a) (y ∷ b) e = let two = both (x == y) (same_numbers a b) e in λ j. number_same x y two.0 j ∷ numbers_equal a b two.1 j
+numbers_equal (x ∷ a) (y ∷ b) e = let two = and_parts (x == y) (same_numbers a b) e in λ j. eqb-true x y two.0 j ∷ numbers_equal a b two.1 j
 
 pub numbers_itself : (a : List ℕ) → same_numbers a a ≡ true
 numbers_itself [] = refl
-numbers_itself (x ∷ a) = both_of (x == x) (same_numbers a a) (same_test x x refl) (numbers_itself a)
+numbers_itself (x ∷ a) = and_from (x == x) (same_numbers a a) (eq-eqb x x refl) (numbers_itself a)
 
 -- two of distinct names at two places differ
 pub names_apart : (ns : List (List ℕ)) (i j : ℕ) (a : List ℕ) → distinct ns ≡ true → slice_get ns i ≡ Some a → slice_get ns j ≡ Some a → i ≡ j
 names_apart [] i j a all s t = absurd (cc s)
 names_apart (n ∷ ns) zero zero a all s t = refl
 names_apart (n ∷ ns) zero (suc j) a all s t =
-    let same : n ≡ a = some_same n a s in
-    clash (list_any (same_numbers n) ns) (any_if (same_numbers n) ns j a t (subst (λ b. same_numbers n b ≡ true) same (numbers_itself n))) (not_true (list_any (same_numbers n) ns) (both _ (distinct ns) all).0)
+    let same : n ≡ a = same_Some n a s in
+    clash (list_any (same_numbers n) ns) (any_passes_from_place (same_numbers n) ns j a t (subst (λ b. same_numbers n b ≡ true) same (numbers_itself n))) (not-true (list_any (same_numbers n) ns) (and_parts _ (distinct ns) all).0)
 names_apart (n ∷ ns) (suc i) zero a all s t =
-    let same : n ≡ a = some_same n a t in
-    clash (list_any (same_numbers n) ns) (any_if (same_numbers n) ns i a s (subst (λ b. same_numbers n b ≡ true) same (numbers_itself n))) (not_true (list_any (same_numbers n) ns) (both _ (distinct ns) all).0)
-names_apart (n ∷ ns) (suc i) (suc j) a all s t = ap (λ k. suc k) (names_apart ns i j a (both _ (distinct ns) all).1 s t)
+    let same : n ≡ a = same_Some n a t in
+    clash (list_any (same_numbers n) ns) (any_passes_from_place (same_numbers n) ns i a s (subst (λ b. same_numbers n b ≡ true) same (numbers_itself n))) (not-true (list_any (same_numbers n) ns) (and_parts _ (distinct ns) all).0)
+names_apart (n ∷ ns) (suc i) (suc j) a all s t = ap (λ k. suc k) (names_apart ns i j a (and_parts _ (distinct ns) all).1 s t)
 
 pub tasks_one : (ts : List ℕ) (a b : ℕ) → are_same ts ≡ true → Has ℕ ts a → Has ℕ ts b → a ≡ b
 tasks_one [] a b e g h = absurd (cc g.there)
 tasks_one (t ∷ ts) a b e g h = sym (at a g.place g.there) ∙ at b h.place h.there
   where
     at : (x k : ℕ) → slice_get (t ∷ ts) k ≡ Some x → t ≡ x
-    at x zero s = some_same t x s
+    at x zero s = same_Some t x s
     at x (suc k) s = eqb-true t x (all_at (λ u. nat_eq t u) ts k x e s)
 
 -- ---- how often

@@ -3,8 +3,9 @@ use Rattle.std.proofs.Common.{◌≡◌, ℕ, ◌+◌, Bool, true, false, cond, 
 use Rattle.std.specs.Prelude.{nat_le}
 use Rattle.std.specs.List.{slice_get, list_all}
 use Rattle.std.specs.Option.{option_map_or}
-use Rattle.std.proofs.lemmas.Bool.{false≢true}
+use Rattle.std.proofs.lemmas.Bool.{and_from, and_parts, eq-eqb, false≢true, or_cases, or_left, or_right}
 use Rattle.std.proofs.lemmas.Bool.Decides.{Decides-int_eq}
+use Rattle.std.proofs.lemmas.Option.{same_Some}
 use Rattle.rte_value.specs.declared.kinds.Limits.{Limits}
 use Rattle.rte_value.specs.Values.{same_number, same_words}
 use Rattle.runnable_lang.specs.declared.program.AccessKind.{AccessKind}
@@ -47,7 +48,7 @@ use Rattle.plan_services.specs.Callings.{callings, owner_of, outer_calling}
 use Rattle.plan_services.specs.Services.{argument_of, is_out, operation_in, point_of, point_words, points, server_at, servers}
 use Rattle.sound_descriptions.specs.WellFormed as formed
 use Rattle.planned_descriptions.specs.Whole.{IsWhole}
-use Rattle.sound_behavior.proofs.Lists.{clash, both, both_of, or_cases, not_true, some_same, not_some, option_same, same_test, all_if, all_at, every_if, looked, map_at, MapAt, mapped, append_at, Later, left_true, right_true}
+use Rattle.sound_behavior.proofs.Lists.{clash, not_some, option_same, all_if, all_at, every_if, looked, map_at, MapAt, mapped, append_at, Later}
 use Rattle.sound_behavior.proofs.Members.{numbers_equal, names_apart}
 use Rattle.sound_behavior.proofs.Parts.{Home, component_home, same_home}
 use Rattle.sound_behavior.proofs.Rules.{planned, plan_is, ports_formed, access_kept}
@@ -69,14 +70,14 @@ Free (c ∷ cs) = (c ≡ 46 → ⊥) × Free cs
 parts_free : (cs : List ℕ) → list_all is_name_part cs ≡ true → Free cs
 parts_free [] e = tt
 parts_free (c ∷ cs) e =
-    let two = both (is_name_part c) (list_all is_name_part cs) e in
+    let two = and_parts (is_name_part c) (list_all is_name_part cs) e in
     ((λ is. false≢true (ap is_name_part (sym is) ∙ two.0)), parts_free cs two.1)
 
 name_free : (cs : List ℕ) → is_name cs ≡ true → Free cs
 name_free [] e = tt
 name_free (c ∷ cs) e =
-    let two = both (is_letter c) (list_all is_name_part cs && nat_le (length cs) 31) e in
-    ((λ is. false≢true (ap is_letter (sym is) ∙ two.0)), parts_free cs (both (list_all is_name_part cs) (nat_le (length cs) 31) two.1).0)
+    let two = and_parts (is_letter c) (list_all is_name_part cs && nat_le (length cs) 31) e in
+    ((λ is. false≢true (ap is_letter (sym is) ∙ two.0)), parts_free cs (and_parts (list_all is_name_part cs) (nat_le (length cs) 31) two.1).0)
 
 split : (a b s t : List ℕ) → Free a → Free b → a ++ 46 ∷ s ≡ b ++ 46 ∷ t → (a ≡ b) × (s ≡ t)
 split [] [] s t u v e = (refl, cc e)
@@ -94,11 +95,11 @@ text_parts a b s t u v e = split a b s t (name_free a u) (name_free b v) (sym (a
 -- ---- limits
 
 pub words_itself : (l : Limits) → same_words (l.low ∷ l.high ∷ []) (l.low ∷ l.high ∷ []) ≡ true
-words_itself l = both_of (Rattle.std.specs.Ordering.int_eq l.low l.low) _ ((Decides-int_eq l.low l.low).1 refl) (both_of (Rattle.std.specs.Ordering.int_eq l.high l.high) true ((Decides-int_eq l.high l.high).1 refl) refl)
+words_itself l = and_from (Rattle.std.specs.Ordering.int_eq l.low l.low) _ ((Decides-int_eq l.low l.low).1 refl) (and_from (Rattle.std.specs.Ordering.int_eq l.high l.high) true ((Decides-int_eq l.high l.high).1 refl) refl)
 
 pub limits_itself : (xs : List Limits) → same_limits xs xs ≡ true
 limits_itself [] = refl
-limits_itself (l ∷ xs) = both_of (same_words (l.low ∷ l.high ∷ []) (l.low ∷ l.high ∷ [])) (same_limits xs xs) (words_itself l) (limits_itself xs)
+limits_itself (l ∷ xs) = and_from (same_words (l.low ∷ l.high ∷ []) (l.low ∷ l.high ∷ [])) (same_limits xs xs) (words_itself l) (limits_itself xs)
 
 pub limits_same : (xs ys : List Limits) → xs ≡ ys → same_limits xs ys ≡ true
 limits_same xs ys e = subst (λ zs. same_limits xs zs ≡ true) e (limits_itself xs)
@@ -138,7 +139,7 @@ module _ (d : Description) (f : Flat) (p : BusPlan) (m : Mapping) (w : IsWhole d
     where
       by : (x : Option Composition) → slice_get d.compositions d.root ≡ x → slice_get (option_map_or (λ (c : Composition). c.ports) x []) k ≡ Some port → formed.ports_fit d.types (option_map_or (λ (c : Composition). c.ports) x []) ≡ true
       by None is at = absurd (cc at)
-      by (Some c) is at = (both (formed.ports_fit d.types c.ports) _ (all_at (formed.composition_fits d) d.compositions d.root c w.well_formed.compositions is)).0
+      by (Some c) is at = (and_parts (formed.ports_fit d.types c.ports) _ (all_at (formed.composition_fits d) d.compositions d.root c w.well_formed.compositions is)).0
   owner_ports (Some i) k port there = by (component_of d f i) refl there
     where
       by : (x : Option Component) → component_of d f i ≡ x → slice_get (option_map_or (λ (c : Component). c.ports) x []) k ≡ Some port → formed.ports_fit d.types (option_map_or (λ (c : Component). c.ports) x []) ≡ true
@@ -157,7 +158,7 @@ module _ (d : Description) (f : Flat) (p : BusPlan) (m : Mapping) (w : IsWhole d
     where
       by_interface : (port : Port) → port_of d f o k ≡ Some port → (x : Option Interface) → slice_get d.types.interfaces port.interface ≡ x → option_map (λ (i : Interface). i.kind) x ≡ Some kind → PortHas o k kind
       by_interface port there None has e = not_some kind e
-      by_interface port there (Some i) has e = record { port = port; there = there; interface = i; has = has; is = some_same i.kind kind e }
+      by_interface port there (Some i) has e = record { port = port; there = there; interface = i; has = has; is = same_Some i.kind kind e }
 
       by : (x : Option Port) → port_of d f o k ≡ x → option_map (λ (i : Interface). i.kind) (option_and_then (λ (q : Port). slice_get d.types.interfaces q.interface) x) ≡ Some kind → PortHas o k kind
       by None there e = not_some kind e
@@ -169,15 +170,15 @@ module _ (d : Description) (f : Flat) (p : BusPlan) (m : Mapping) (w : IsWhole d
   names_formed : (o : Option ℕ) (k : ℕ) (all : List declared_operation.Operation) → PortHas o k (ClientServer all) → formed.names_fit (operation_names all) ≡ true
   unfolding operation_names
   names_formed o k all x =
-      let kinds = (both (list_all formed.group_fits d.types.mode_groups) (list_all (λ (i : Interface). formed.kind_fits d.types i.kind) d.types.interfaces) (both (list_all formed.type_fits d.types.data_types) _ w.well_formed.types).1).1 in
+      let kinds = (and_parts (list_all formed.group_fits d.types.mode_groups) (list_all (λ (i : Interface). formed.kind_fits d.types i.kind) d.types.interfaces) (and_parts (list_all formed.type_fits d.types.data_types) _ w.well_formed.types).1).1 in
       let kept : formed.kind_fits d.types (ClientServer all) ≡ true = subst (λ k. formed.kind_fits d.types k ≡ true) x.is (all_at (λ (i : Interface). formed.kind_fits d.types i.kind) d.types.interfaces x.port.interface x.interface kinds x.has) in
-      (both (formed.names_fit (map (λ (x : declared_operation.Operation). x.short_name) all)) (list_all (formed.operation_fits d.types.data_types) all) kept).0
+      (and_parts (formed.names_fit (map (λ (x : declared_operation.Operation). x.short_name) all)) (list_all (formed.operation_fits d.types.data_types) all) kept).0
 
   port_named : (o : Option ℕ) (k : ℕ) (port : Port) → port_of d f o k ≡ Some port → is_name port.short_name ≡ true
   port_named o k port there =
       all_at is_name (map (λ (x : Port). x.short_name) (ports_of d f o)) k port.short_name
-      (both (list_all is_name (map (λ (x : Port). x.short_name) (ports_of d f o))) (formed.distinct (map (λ (x : Port). x.short_name) (ports_of d f o)))
-      (both (formed.names_fit (map (λ (x : Port). x.short_name) (ports_of d f o))) (list_all (formed.port_fits d.types) (ports_of d f o)) (owner_ports o k port there)).0).0
+      (and_parts (list_all is_name (map (λ (x : Port). x.short_name) (ports_of d f o))) (formed.distinct (map (λ (x : Port). x.short_name) (ports_of d f o)))
+      (and_parts (formed.names_fit (map (λ (x : Port). x.short_name) (ports_of d f o))) (list_all (formed.port_fits d.types) (ports_of d f o)) (owner_ports o k port there)).0).0
       (mapped (λ (x : Port). x.short_name) (ports_of d f o) k port there)
 
   text_is : (o : Option ℕ) (k n : ℕ) (x : OperationAt o k n) (h : PortHas o k (ClientServer x.all)) → item_text d f o k n ≡ (h.port.short_name ++ codes ".") ++ x.operation.short_name
@@ -190,14 +191,14 @@ module _ (d : Description) (f : Flat) (p : BusPlan) (m : Mapping) (w : IsWhole d
       let g = port_has o a (ClientServer x.all) x.is in
       let h = port_has o b (ClientServer y.all) y.is in
       let texts = text_parts g.port.short_name h.port.short_name x.operation.short_name y.operation.short_name (port_named o a g.port g.there) (port_named o b h.port h.there) (sym (text_is o a i x g) ∙ e ∙ text_is o b j y h) in
-      let names = both (list_all is_name (map (λ (x : Port). x.short_name) (ports_of d f o))) (formed.distinct (map (λ (x : Port). x.short_name) (ports_of d f o)))
-      (both (formed.names_fit (map (λ (x : Port). x.short_name) (ports_of d f o))) (list_all (formed.port_fits d.types) (ports_of d f o)) (owner_ports o a g.port g.there)).0 in
+      let names = and_parts (list_all is_name (map (λ (x : Port). x.short_name) (ports_of d f o))) (formed.distinct (map (λ (x : Port). x.short_name) (ports_of d f o)))
+      (and_parts (formed.names_fit (map (λ (x : Port). x.short_name) (ports_of d f o))) (list_all (formed.port_fits d.types) (ports_of d f o)) (owner_ports o a g.port g.there)).0 in
       let ports : a ≡ b = names_apart (map (λ (x : Port). x.short_name) (ports_of d f o)) a b g.port.short_name names.1 (mapped (λ (x : Port). x.short_name) (ports_of d f o) a g.port g.there)
       (mapped (λ (x : Port). x.short_name) (ports_of d f o) b h.port h.there ∙ ap (λ z. Some z) (sym texts.0)) in
-      let lists : ClientServer x.all ≡ ClientServer y.all = some_same (ClientServer x.all) (ClientServer y.all) (sym x.is ∙ ap (interface_of d f o) ports ∙ y.is) in
+      let lists : ClientServer x.all ≡ ClientServer y.all = same_Some (ClientServer x.all) (ClientServer y.all) (sym x.is ∙ ap (interface_of d f o) ports ∙ y.is) in
       let same : x.all ≡ y.all = cc lists in
       let at_y : slice_get x.all j ≡ Some y.operation = subst (λ l. slice_get l j ≡ Some y.operation) (sym same) y.there in
-      let formed_names = both (list_all is_name (map (λ (x : declared_operation.Operation). x.short_name) x.all)) (formed.distinct (map (λ (x : declared_operation.Operation). x.short_name) x.all)) (names_formed o a x.all g) in (
+      let formed_names = and_parts (list_all is_name (map (λ (x : declared_operation.Operation). x.short_name) x.all)) (formed.distinct (map (λ (x : declared_operation.Operation). x.short_name) x.all)) (names_formed o a x.all g) in (
         ports,
         names_apart (map (λ (x : declared_operation.Operation). x.short_name) x.all) i j x.operation.short_name formed_names.1 (mapped (λ (x : declared_operation.Operation). x.short_name) x.all i x.operation x.there)
             (mapped (λ (x : declared_operation.Operation). x.short_name) x.all j y.operation at_y ∙ ap (λ z. Some z) (sym texts.1)),
@@ -243,8 +244,8 @@ module _ (d : Description) (f : Flat) (p : BusPlan) (m : Mapping) (w : IsWhole d
 
     same_inner : (i j : ℕ) (y u : Calling) (z : InnerCall d f i y) (v : InnerCall d f j u) → same_operation (planned d f es) (point_of d f y) (point_of d f u) ≡ true → (y.asynchronous || u.asynchronous) ≡ true → i ≡ j
     same_inner i j y u z v same goes =
-        let two = both (same_numbers (point_of d f y).name (point_of d f u).name) (same_number (of_runnable (point_of d f y).runnable) (of_runnable (point_of d f u).runnable)) same in
-        let homes : z.i ≡ v.i = some_same z.i v.i (sym (inner_home i y z) ∙ option_same (of_runnable (point_of d f y).runnable) (of_runnable (point_of d f u).runnable) two.1 ∙ inner_home j u v) in
+        let two = and_parts (same_numbers (point_of d f y).name (point_of d f u).name) (same_number (of_runnable (point_of d f y).runnable) (of_runnable (point_of d f u).runnable)) same in
+        let homes : z.i ≡ v.i = same_Some z.i v.i (sym (inner_home i y z) ∙ option_same (of_runnable (point_of d f y).runnable) (of_runnable (point_of d f u).runnable) two.1 ∙ inner_home j u v) in
         let text : item_text d f (Some z.i) z.access.port z.access.item ≡ item_text d f (Some z.i) v.access.port v.access.item =
         ap (λ (c : Calling). (point_of d f c).name) (sym z.is.is) ∙ numbers_equal (point_of d f y).name (point_of d f u).name two.0 ∙ ap (λ (c : Calling). (point_of d f c).name) v.is.is ∙ ap (λ n. item_text d f (Some n) v.access.port v.access.item) (sym homes) in
         let at_v : OperationAt (Some z.i) v.access.port v.access.item = subst (λ n. OperationAt (Some n) v.access.port v.access.item) (sym homes) (inner_operation j u v) in
@@ -255,7 +256,7 @@ module _ (d : Description) (f : Flat) (p : BusPlan) (m : Mapping) (w : IsWhole d
       where
         place : (homes : z.i ≡ v.i) (comp : z.c ≡ v.c) → slice_get z.c.behavior.runnables v.m ≡ Some v.runnable → (z.m ≡ v.m) × (z.j ≡ v.j) → i ≡ j
         place homes comp there same =
-            let runnable : z.runnable ≡ v.runnable = some_same z.runnable v.runnable (sym z.there ∙ ap (slice_get z.c.behavior.runnables) same.0 ∙ there) in
+            let runnable : z.runnable ≡ v.runnable = same_Some z.runnable v.runnable (sym z.there ∙ ap (slice_get z.c.behavior.runnables) same.0 ∙ there) in
             z.place ∙ (λ t. call_place d f (homes t) (comp t) (same.0 t) (runnable t) (same.1 t)) ∙ sym v.place
 
         goes_on_at : (k : AccessKind) (b : Bool) → Calls k b → b ≡ true → k ≡ kind.ACall
@@ -272,7 +273,7 @@ module _ (d : Description) (f : Flat) (p : BusPlan) (m : Mapping) (w : IsWhole d
 
     same_outer : (i j : ℕ) (y u : Calling) → OuterCall d f i y → OuterCall d f j u → same_operation (planned d f es) (point_of d f y) (point_of d f u) ≡ true → i ≡ j
     same_outer i j y u z v same =
-        let two = both (same_numbers (point_of d f y).name (point_of d f u).name) (same_number (of_runnable (point_of d f y).runnable) (of_runnable (point_of d f u).runnable)) same in
+        let two = and_parts (same_numbers (point_of d f y).name (point_of d f u).name) (same_number (of_runnable (point_of d f y).runnable) (of_runnable (point_of d f u).runnable)) same in
         let text : item_text d f None z.k z.n ≡ item_text d f None v.k v.n = ap (λ (c : Calling). (point_of d f c).name) (sym z.is) ∙ numbers_equal (point_of d f y).name (point_of d f u).name two.0 ∙ ap (λ (c : Calling). (point_of d f c).name) v.is in
         let operation = names_one None z.k v.k z.n v.n (outer_at i y z) (outer_at j u v) text in
         z.place ∙ (λ t. length (inner d f) + (Rattle.sound_behavior.proofs.Lists.before (Rattle.plan_services.specs.Callings.outer_callings d) 0 (root_ports d) (operation.0 t) + operation.1 t)) ∙ sym v.place
@@ -281,7 +282,7 @@ module _ (d : Description) (f : Flat) (p : BusPlan) (m : Mapping) (w : IsWhole d
     apart i j y u at_i at_j same goes = by (append_at (inner d f) (outer d f) i y at_i) (append_at (inner d f) (outer d f) j u at_j)
       where
         homes : of_runnable (point_of d f y).runnable ≡ of_runnable (point_of d f u).runnable
-        homes = option_same (of_runnable (point_of d f y).runnable) (of_runnable (point_of d f u).runnable) (both (same_numbers (point_of d f y).name (point_of d f u).name) (same_number (of_runnable (point_of d f y).runnable) (of_runnable (point_of d f u).runnable)) same).1
+        homes = option_same (of_runnable (point_of d f y).runnable) (of_runnable (point_of d f u).runnable) (and_parts (same_numbers (point_of d f y).name (point_of d f u).name) (same_number (of_runnable (point_of d f y).runnable) (of_runnable (point_of d f u).runnable)) same).1
 
         by : (slice_get (inner d f) i ≡ Some y) ⊎ Later Calling (inner d f) (outer d f) i y → (slice_get (inner d f) j ≡ Some u) ⊎ Later Calling (inner d f) (outer d f) j u → i ≡ j
         by (inl a) (inl b) = same_inner i j y u (inner_call d f i y a) (inner_call d f j u b) same goes
@@ -302,9 +303,9 @@ module _ (d : Description) (f : Flat) (p : BusPlan) (m : Mapping) (w : IsWhole d
         u = map_at (point_of d f) (callings d f) j t at_j
 
         by : (a b : Bool) → same_operation (planned d f es) (point_of d f y.item) (point_of d f u.item) ≡ a → (y.item.asynchronous || u.item.asynchronous) ≡ b → ((i == j) || (not a || not b)) ≡ true
-        by false b same goes = right_true (i == j) true refl
-        by true false same goes = right_true (i == j) true refl
-        by true true same goes = left_true (i == j) false (same_test i j (apart i j y.item u.item y.there u.there same goes))
+        by false b same goes = or_right (i == j) true refl
+        by true false same goes = or_right (i == j) true refl
+        by true true same goes = or_left (i == j) false (eq-eqb i j (apart i j y.item u.item y.there u.there same goes))
 
     -- ---- arguments
 
@@ -322,7 +323,7 @@ module _ (d : Description) (f : Flat) (p : BusPlan) (m : Mapping) (w : IsWhole d
         let s = server_at d f by.i e.port e.element v.place in
         let arguments : s.arguments ≡ map (argument_of d) by.provides.operation.arguments = ap (λ o. option_map_or (λ (z : declared_operation.Operation). map (argument_of d) z.arguments) o []) (operation_is d f p m w by.i by.c by.home e.port e.element by.provides) in
         looked (servers d f) (server_number d f (end_key e)) s (λ (v : ServerPlan). same_limits (point_words d f In y) (argument_limits false v.arguments) && same_limits (point_words d f Out y) (argument_limits true v.arguments)) false there
-        ∙ both_of (same_limits (point_words d f In y) (argument_limits false s.arguments)) (same_limits (point_words d f Out y) (argument_limits true s.arguments))
+        ∙ and_from (same_limits (point_words d f In y) (argument_limits false s.arguments)) (same_limits (point_words d f Out y) (argument_limits true s.arguments))
         (limits_same (point_words d f In y) (argument_limits false s.arguments) (words_are In y x ∙ sym (by.serves.arguments In) ∙ sym (in_limits d by.provides.operation.arguments) ∙ ap (argument_limits false) (sym arguments)))
         (limits_same (point_words d f Out y) (argument_limits true s.arguments) (words_are Out y x ∙ sym (by.serves.arguments Out) ∙ sym (out_limits d by.provides.operation.arguments) ∙ ap (argument_limits true) (sym arguments)))
 
@@ -343,7 +344,7 @@ module _ (d : Description) (f : Flat) (p : BusPlan) (m : Mapping) (w : IsWhole d
 
     all_fit : points_fit (planned d f es) ≡ true
     all_fit =
-        both_of (every_from 0 (λ i (a : PointPlan). every_from 0 (λ j (c : PointPlan). (i == j) || (not (same_operation (planned d f es) a c) || not (a.asynchronous || c.asynchronous))) (points d f)) (points d f)) _
+        and_from (every_from 0 (λ i (a : PointPlan). every_from 0 (λ j (c : PointPlan). (i == j) || (not (same_operation (planned d f es) a c) || not (a.asynchronous || c.asynchronous))) (points d f)) (points d f)) _
         (every_if (λ i (a : PointPlan). every_from 0 (λ j (c : PointPlan). (i == j) || (not (same_operation (planned d f es) a c) || not (a.asynchronous || c.asynchronous))) (points d f)) 0 (points d f)
         (λ i a s. let none : i ≡ 0 + i = omega arith in
         subst (λ k. every_from 0 (λ j (c : PointPlan). (k == j) || (not (same_operation (planned d f es) a c) || not (a.asynchronous || c.asynchronous))) (points d f) ≡ true) none

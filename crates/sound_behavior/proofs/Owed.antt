@@ -3,8 +3,9 @@ use Rattle.std.proofs.Common.{◌≡◌, ℕ, ◌+◌, ◌<◌, ◌≤◌, Bool,
 use Rattle.std.specs.Prelude.{nat_lt, nat_le, is_some}
 use Rattle.std.specs.List.{slice_get, list_all, list_any}
 use Rattle.std.specs.Option.{option_map_or}
-use Rattle.std.proofs.lemmas.Bool.{eq-eqb}
+use Rattle.std.proofs.lemmas.Bool.{and_from, and_parts, eq-eqb, eqb-true, le-leb, leb-true, lt-ltb, ltb-true, or_left, or_right}
 use Rattle.std.proofs.lemmas.Option.{slice_get_within}
+use Rattle.std.specs.Cmp.{both_ways}
 use Rattle.description_types.specs.declared.component.EventKind as declared_kind
 use Rattle.description_types.specs.declared.component.EventKind.TheVariants as declared_event
 use Rattle.description_types.specs.declared.description.Description.{Description}
@@ -38,17 +39,12 @@ use Rattle.plan_ports.specs.Ports.{queue_length_of}
 use Rattle.plan_ports.specs.Things.{server_number}
 use Rattle.sound_descriptions.specs.WellFormed as formed
 use Rattle.planned_descriptions.specs.Whole.{IsWhole}
-use Rattle.sound_behavior.proofs.Lists.{both, both_of, number_same, same_test, all_if, all_at, every_if, looked, there_at, mapped, left_true, right_true}
+use Rattle.sound_behavior.proofs.Lists.{all_if, all_at, every_if, looked, there_at, mapped}
 use Rattle.sound_behavior.proofs.Members.{position_at_plan, numbers_equal, names_apart, count_append, count_flat, added_same, added_kept, added_order, spread, spread_all}
 use Rattle.sound_behavior.proofs.Parts.{one_at, OneAt, length-one_each, EventAt, event_at, event_there, numbers_apart, number_there, same_pairs, event_count}
 use Rattle.sound_behavior.proofs.Rules.{planned, plan_is, mapped_kept}
 use Rattle.sound_behavior.proofs.Serving.{server_there}
-use Rattle.sound_behavior.proofs.Tasks.{below, is_below, at_most, most, NamedEvent, named_event, mapped_in, tasks, in_one_task}
-
-pub same_bool : (a b : Bool) → (a ≡ true → b ≡ true) → (b ≡ true → a ≡ true) → a ≡ b
-same_bool true b go back = sym (go refl)
-same_bool false true go back = back refl
-same_bool false false go back = refl
+use Rattle.sound_behavior.proofs.Tasks.{NamedEvent, named_event, mapped_in, tasks, in_one_task}
 
 -- something is kept where something passes
 pub any_kept : {X : Type 0} (test : X → Bool) (xs : List X) → length (filter test xs) ≤ 1 → cond (list_any test xs) 1 0 ≡ length (filter test xs)
@@ -72,14 +68,14 @@ module _ (d : Description) (f : Flat) (p : BusPlan) (m : Mapping) (w : IsWhole d
   tasks_formed : (nat_le (length d.mapping.tasks) 256 ≡ true) × (formed.names_fit (map (λ (t : declared_task.Task). t.short_name) d.mapping.tasks) ≡ true) × (list_all (λ (t : declared_task.Task). nat_lt t.core d.mapping.cores) d.mapping.tasks ≡ true)
       × (list_all (λ (x : MappedEvent). nat_lt x.task (length d.mapping.tasks)) d.mapping.events ≡ true)
   tasks_formed =
-      let a = both (nat_le (length d.mapping.tasks) 256) _ (both (is_in 1 8 d.mapping.cores) _ w.well_formed.mapping).1 in
-      let b = both (formed.names_fit (map (λ (t : declared_task.Task). t.short_name) d.mapping.tasks)) _ a.1 in
-      let c = both (list_all (λ (t : declared_task.Task). nat_lt t.core d.mapping.cores) d.mapping.tasks) _ b.1 in
+      let a = and_parts (nat_le (length d.mapping.tasks) 256) _ (and_parts (is_in 1 8 d.mapping.cores) _ w.well_formed.mapping).1 in
+      let b = and_parts (formed.names_fit (map (λ (t : declared_task.Task). t.short_name) d.mapping.tasks)) _ a.1 in
+      let c = and_parts (list_all (λ (t : declared_task.Task). nat_lt t.core d.mapping.cores) d.mapping.tasks) _ b.1 in
       (a.0, b.0, c.0, c.1)
 
   task_below : (j : ℕ) (y : MappedEvent) → slice_get d.mapping.events j ≡ Some y → (0 ≤ y.task) × (y.task < 0 + length d.mapping.tasks)
   task_below j y at =
-      let less : y.task < length d.mapping.tasks = below y.task (length d.mapping.tasks) (all_at (λ (x : MappedEvent). nat_lt x.task (length d.mapping.tasks)) d.mapping.events j y tasks_formed.3 at) in
+      let less : y.task < length d.mapping.tasks = ltb-true y.task (length d.mapping.tasks) (all_at (λ (x : MappedEvent). nat_lt x.task (length d.mapping.tasks)) d.mapping.events j y tasks_formed.3 at) in
       (omega arith, omega arith)
 
   -- ---- how often an event is mapped
@@ -93,11 +89,11 @@ module _ (d : Description) (f : Flat) (p : BusPlan) (m : Mapping) (w : IsWhole d
 
     same_number_as : (z : ℕ × ℕ) → NamedEvent d f z → (pair_number (events_of d f) z == e) ≡ same_pair mine z
     unfolding mine
-    same_number_as z h = same_bool (pair_number (events_of d f) z == e) (same_pair (x.i, x.m) z)
-        (λ is. let same = numbers_apart d f event_count z.0 x.i h.c x.c h.home x.home z.1 x.m (slice_get_within h.c.behavior.events z.1 h.event h.there) within (number_same (pair_number (events_of d f) z) e is ∙ sym x.number) in
-        both_of (nat_eq x.i z.0) (nat_eq x.m z.1) (eq-eqb x.i z.0 (sym same.0)) (eq-eqb x.m z.1 (sym same.1)))
+    same_number_as z h = both_ways (pair_number (events_of d f) z == e) (same_pair (x.i, x.m) z)
+        (λ is. let same = numbers_apart d f event_count z.0 x.i h.c x.c h.home x.home z.1 x.m (slice_get_within h.c.behavior.events z.1 h.event h.there) within (eqb-true (pair_number (events_of d f) z) e is ∙ sym x.number) in
+        and_from (nat_eq x.i z.0) (nat_eq x.m z.1) (eq-eqb x.i z.0 (sym same.0)) (eq-eqb x.m z.1 (sym same.1)))
         (λ is. let same = same_pairs d f event_count (x.i, x.m) z is in
-        same_test (pair_number (events_of d f) z) e ((λ j. pair_number (events_of d f) (sym same.0 j, sym same.1 j)) ∙ x.number))
+        eq-eqb (pair_number (events_of d f) z) e ((λ j. pair_number (events_of d f) (sym same.0 j, sym same.1 j)) ∙ x.number))
 
     one_number : (y : MappedEvent) → count (λ k. k == e) (number_of d f y) ≡ cond (names d f mine y) 1 0
     one_number y = by (named_by d f y) refl
@@ -128,21 +124,21 @@ module _ (d : Description) (f : Flat) (p : BusPlan) (m : Mapping) (w : IsWhole d
     numbered = ap (λ o. option_map_or (is_mapped d f) o false) (number_there d f event_count x.i x.c x.home x.m within)
 
     owed_kind : (kind : declared_kind.EventKind) → x.event.kind ≡ kind → is_mapped_well kind (length (mapped_as d f (x.i, x.m))) ≡ true → times_mapped (planned d f es) (kind_of d f x.i kind) ≡ length (mapped_as d f (x.i, x.m))
-    owed_kind (declared_event.Timing period) is well = sym (number_same (length (mapped_as d f (x.i, x.m))) 1 well)
-    owed_kind declared_event.Init is well = sym (number_same (length (mapped_as d f (x.i, x.m))) 1 well)
-    owed_kind (declared_event.DataReceived k n) is well = sym (number_same (length (mapped_as d f (x.i, x.m))) 1 well)
+    owed_kind (declared_event.Timing period) is well = sym (eqb-true (length (mapped_as d f (x.i, x.m))) 1 well)
+    owed_kind declared_event.Init is well = sym (eqb-true (length (mapped_as d f (x.i, x.m))) 1 well)
+    owed_kind (declared_event.DataReceived k n) is well = sym (eqb-true (length (mapped_as d f (x.i, x.m))) 1 well)
     owed_kind (declared_event.OperationInvoked k n) is well =
         let at = server_there d f p m w x.i x.c x.home k n x.m x.event x.there is in
         let queue : plan.queue_of (planned d f es) (server_number d f (Some x.i, Some k, n)) ≡ services.queue_of d f x.i k n (pair_number (events_of d f) (x.i, x.m)) =
         looked (servers d f) (server_number d f (Some x.i, Some k, n)) (server_at d f x.i k n x.m) (λ (v : ServerPlan). v.queue) None at in
         ap (λ o. cond (is_some o) 1 0) queue ∙ ap (λ b. cond b 1 0) (queue_mapped d f x.i k n (pair_number (events_of d f) (x.i, x.m)) ∙ numbered)
-        ∙ any_kept (names d f (x.i, x.m)) d.mapping.events (most (length (mapped_as d f (x.i, x.m))) 1 well)
-    owed_kind (declared_event.CallReturns k n) is well = sym (number_same (length (mapped_as d f (x.i, x.m))) 1 well)
-    owed_kind (declared_event.ModeSwitch k when) is well = sym (number_same (length (mapped_as d f (x.i, x.m))) 1 well)
-    owed_kind (declared_event.ModeSwitchedAck k) is well = sym (number_same (length (mapped_as d f (x.i, x.m))) 1 well)
+        ∙ any_kept (names d f (x.i, x.m)) d.mapping.events (leb-true (length (mapped_as d f (x.i, x.m))) 1 well)
+    owed_kind (declared_event.CallReturns k n) is well = sym (eqb-true (length (mapped_as d f (x.i, x.m))) 1 well)
+    owed_kind (declared_event.ModeSwitch k when) is well = sym (eqb-true (length (mapped_as d f (x.i, x.m))) 1 well)
+    owed_kind (declared_event.ModeSwitchedAck k) is well = sym (eqb-true (length (mapped_as d f (x.i, x.m))) 1 well)
 
     pub owed : (count (λ k. k == e) (mapped_events (mapping_of d f)) == times_mapped (planned d f es) v.kind) ≡ true
-    owed = same_test (count (λ k. k == e) (mapped_events (mapping_of d f))) (times_mapped (planned d f es) v.kind)
+    owed = eq-eqb (count (λ k. k == e) (mapped_events (mapping_of d f))) (times_mapped (planned d f es) v.kind)
         (times ∙ sym (ap (λ (u : EventPlan). times_mapped (planned d f es) u.kind) x.is ∙ owed_kind x.event.kind refl (mapped_kept d f p m w x.i x.c x.home x.m x.event x.there)))
 
   -- ---- the whole
@@ -155,9 +151,9 @@ module _ (d : Description) (f : Flat) (p : BusPlan) (m : Mapping) (w : IsWhole d
       let one = one_at (λ k (task : declared_task.Task). task_at d f k task) 0 d.mapping.tasks k t at in
       let core : nat_lt t.core d.mapping.cores ≡ true = subst (λ (u : Task). nat_lt u.core d.mapping.cores ≡ true) (sym one.is) (all_at (λ (t : declared_task.Task). nat_lt t.core d.mapping.cores) d.mapping.tasks k one.item tasks_formed.2 one.there) in
       let name : is_name t.name ≡ true = subst (λ (u : Task). is_name u.name ≡ true) (sym one.is) (all_at is_name (map (λ (t : declared_task.Task). t.short_name) d.mapping.tasks) k one.item.short_name
-      (both (list_all is_name (map (λ (t : declared_task.Task). t.short_name) d.mapping.tasks)) _ tasks_formed.1).0 (name_at k one.item one.there)) in
-      both_of (nat_lt t.core d.mapping.cores) (is_name t.name && list_all (λ e. nat_lt e (length (events d f))) t.events) core
-      (both_of (is_name t.name) (list_all (λ e. nat_lt e (length (events d f))) t.events) name
+      (and_parts (list_all is_name (map (λ (t : declared_task.Task). t.short_name) d.mapping.tasks)) _ tasks_formed.1).0 (name_at k one.item one.there)) in
+      and_from (nat_lt t.core d.mapping.cores) (is_name t.name && list_all (λ e. nat_lt e (length (events d f))) t.events) core
+      (and_from (is_name t.name) (list_all (λ e. nat_lt e (length (events d f))) t.events) name
       (all_if (λ e. nat_lt e (length (events d f))) t.events (λ j e there. event_below (0 + k) j e (ap (λ (u : Task). slice_get u.events j) (sym one.is) ∙ there))))
     where
       event_below : (n j e : ℕ) → slice_get (events_in d f n) j ≡ Some e → nat_lt e (length (events d f)) ≡ true
@@ -166,7 +162,7 @@ module _ (d : Description) (f : Flat) (p : BusPlan) (m : Mapping) (w : IsWhole d
           let z = named_event d f y.mapped y.names y.named in
           let at = event_there d f y.names.0 z.c z.home y.names.1 z.event z.there in
           let less = slice_get_within (events d f) (pair_number (events_of d f) y.names) _ at in
-          subst (λ k. nat_lt k (length (events d f)) ≡ true) y.number (is_below (pair_number (events_of d f) y.names) (length (events d f)) less)
+          subst (λ k. nat_lt k (length (events d f)) ≡ true) y.number (lt-ltb (pair_number (events_of d f) y.names) (length (events d f)) less)
 
   names_differ : (i : ℕ) (a : Task) → slice_get (tasks d f p m w es) i ≡ Some a → (j : ℕ) (c : Task) → slice_get (tasks d f p m w es) j ≡ Some c → ((i == j) || not (same_numbers a.name c.name)) ≡ true
   names_differ i a s j c t = by (same_numbers a.name c.name) refl
@@ -178,31 +174,31 @@ module _ (d : Description) (f : Flat) (p : BusPlan) (m : Mapping) (w : IsWhole d
       y = one_at (λ k (task : declared_task.Task). task_at d f k task) 0 d.mapping.tasks j c t
 
       by : (b : Bool) → same_numbers a.name c.name ≡ b → ((i == j) || not b) ≡ true
-      by false is = right_true (i == j) true refl
+      by false is = or_right (i == j) true refl
       by true is =
           let same : x.item.short_name ≡ y.item.short_name = ap (λ (u : Task). u.name) (sym x.is) ∙ numbers_equal a.name c.name is ∙ ap (λ (u : Task). u.name) y.is in
-          left_true (i == j) false (same_test i j (names_apart (map (λ (t : declared_task.Task). t.short_name) d.mapping.tasks) i j x.item.short_name
-          (both (list_all is_name (map (λ (t : declared_task.Task). t.short_name) d.mapping.tasks)) (formed.distinct (map (λ (t : declared_task.Task). t.short_name) d.mapping.tasks)) tasks_formed.1).1
+          or_left (i == j) false (eq-eqb i j (names_apart (map (λ (t : declared_task.Task). t.short_name) d.mapping.tasks) i j x.item.short_name
+          (and_parts (list_all is_name (map (λ (t : declared_task.Task). t.short_name) d.mapping.tasks)) (formed.distinct (map (λ (t : declared_task.Task). t.short_name) d.mapping.tasks)) tasks_formed.1).1
           (name_at i x.item x.there) (name_at j y.item y.there ∙ ap (λ n. Some n) (sym same))))
 
   pub mapping_sound : sound.mapping_fits (planned d f es) (mapping_of d f) ≡ true
   mapping_sound =
       let ts = tasks d f p m w es in
-      both_of (is_in 1 8 d.mapping.cores) _ (both (is_in 1 8 d.mapping.cores) _ w.well_formed.mapping).0
-      (both_of (nat_le (length ts) 256) _ (subst (λ n. nat_le n 256 ≡ true) (sym (length-one_each (λ k (task : declared_task.Task). task_at d f k task) 0 d.mapping.tasks)) tasks_formed.0)
-      (both_of (list_all (λ (t : Task). nat_lt t.core d.mapping.cores && (is_name t.name && list_all (λ e. nat_lt e (length (events d f))) t.events)) ts) _
+      and_from (is_in 1 8 d.mapping.cores) _ (and_parts (is_in 1 8 d.mapping.cores) _ w.well_formed.mapping).0
+      (and_from (nat_le (length ts) 256) _ (subst (λ n. nat_le n 256 ≡ true) (sym (length-one_each (λ k (task : declared_task.Task). task_at d f k task) 0 d.mapping.tasks)) tasks_formed.0)
+      (and_from (list_all (λ (t : Task). nat_lt t.core d.mapping.cores && (is_name t.name && list_all (λ e. nat_lt e (length (events d f))) t.events)) ts) _
       (all_if (λ (t : Task). nat_lt t.core d.mapping.cores && (is_name t.name && list_all (λ e. nat_lt e (length (events d f))) t.events)) ts each_task)
-      (both_of (every_from 0 (λ i (a : Task). every_from 0 (λ j (c : Task). (i == j) || not (same_numbers a.name c.name)) ts) ts) _
+      (and_from (every_from 0 (λ i (a : Task). every_from 0 (λ j (c : Task). (i == j) || not (same_numbers a.name c.name)) ts) ts) _
       (every_if (λ i (a : Task). every_from 0 (λ j (c : Task). (i == j) || not (same_numbers a.name c.name)) ts) 0 ts
       (λ i a s. let none : i ≡ 0 + i = omega arith in subst (λ k. every_from 0 (λ j (c : Task). (k == j) || not (same_numbers a.name c.name)) ts ≡ true) none
       (every_if (λ j (c : Task). (i == j) || not (same_numbers a.name c.name)) 0 ts
       (λ j c t. let nought : j ≡ 0 + j = omega arith in subst (λ k. ((i == k) || not (same_numbers a.name c.name)) ≡ true) nought (names_differ i a s j c t)))))
-      (both_of (every_from 0 (λ e (v : EventPlan). count (λ k. k == e) (mapped_events (mapping_of d f)) == times_mapped (planned d f es) v.kind) (events d f)) _
+      (and_from (every_from 0 (λ e (v : EventPlan). count (λ k. k == e) (mapped_events (mapping_of d f)) == times_mapped (planned d f es) v.kind) (events d f)) _
       (every_if (λ e (v : EventPlan). count (λ k. k == e) (mapped_events (mapping_of d f)) == times_mapped (planned d f es) v.kind) 0 (events d f)
       (λ e v at. let none : e ≡ 0 + e = omega arith in subst (λ k. (count (λ j. j == k) (mapped_events (mapping_of d f)) == times_mapped (planned d f es) v.kind) ≡ true) none (owed e v (event_at d f e v at))))
       (all_if (λ r. nat_le (length (sound.tasks_of (planned d f es) (mapping_of d f) r)) 1) (positions (length (runnables d f)))
       (λ k r at. let there = there_at (runnables d f) r (position_at_plan (length (runnables d f)) k r at) in
-      at_most (length (sound.tasks_of (planned d f es) (mapping_of d f) r)) 1 (in_one_task d f p m w es r there.0 there.1)))))))
+      le-leb (length (sound.tasks_of (planned d f es) (mapping_of d f) r)) 1 (in_one_task d f p m w es r there.0 there.1)))))))
 
 pub tasks_sound : (d : Description) (f : Flat) (p : BusPlan) (m : Mapping) → IsWhole d f p m → sound.mapping_fits (plan_of p) m ≡ true
 tasks_sound d f p m w = (λ j. sound.mapping_fits (plan_is d f p w.is_plan j) (w.is_mapping j)) ∙ mapping_sound d f p m w p.elements

@@ -2,8 +2,9 @@
 use Rattle.std.proofs.Common.{◌≡◌, ℕ, zero, suc, ◌+◌, ◌<◌, true, nat_eq, refl, sym, ◌∙◌, ap, subst, arith, List, [], ◌∷◌, map, length, Option, Some, None, option_and_then}
 use Rattle.std.specs.List.{slice_get}
 use Rattle.std.specs.Option.{option_map_or, unwrap_or}
-use Rattle.std.proofs.lemmas.Bool.{eqb-true, eq-eqb}
-use Rattle.std.proofs.lemmas.Option.{slice_get_within}
+use Rattle.std.proofs.lemmas.Bool.{eqb-true, eq-eqb, and_from, and_parts}
+use Rattle.std.proofs.lemmas.Option.{same_Some, slice_get_within}
+use Rattle.std.proofs.lemmas.List.{length-map}
 use Rattle.description_types.specs.declared.component.Component.{Component}
 use Rattle.description_types.specs.declared.component.Event.{Event}
 use Rattle.description_types.specs.declared.component.Runnable as declared_runnable
@@ -18,7 +19,7 @@ use Rattle.plan_numbers.specs.Lists.{from, positions}
 use Rattle.plan_numbers.specs.Parts.{component_of, of_instances, numbered, runnables_of, events_of, areas_of}
 use Rattle.plan_runnables.specs.Started.{event_of, events_of_component, events, runnable_of, runnables_of_component, runnables}
 use Rattle.event_mapping.specs.Planned.{area_of, areas}
-use Rattle.sound_behavior.proofs.Lists.{some_same, both, both_of, found, before, In, in_from, reach, before_same, position_is, length-positions, length-map, mapped, map_at}
+use Rattle.sound_behavior.proofs.Lists.{found, before, In, in_from, reach, before_same, position_is, length-positions, mapped, map_at}
 
 -- ---- lists with one item for each
 
@@ -79,7 +80,7 @@ module _ (d : Description) (f : Flat) where
       by (Some x) is e = record { instance = x; there = is; has = e }
 
   pub same_home : (i : ℕ) (a c : Component) → Home i a → Home i c → a ≡ c
-  same_home i a c g h = some_same a c (sym (home_component i a g) ∙ home_component i c h)
+  same_home i a c g h = same_Some a c (sym (home_component i a g) ∙ home_component i c h)
 
   module _ {X : Type 0} (g : ℕ → Component → List X) where
     pub spread : ℕ → Instance → List X
@@ -142,9 +143,9 @@ module _ (d : Description) (f : Flat) where
   pub at_numbered : (i n m : ℕ) (y : ℕ × ℕ) → slice_get (numbered i n) m ≡ Some y → (m < n) × (y ≡ (i, m))
   at_numbered i n m y e =
       let within : m < length (numbered i n) = slice_get_within (numbered i n) m y e in
-      let long : length (numbered i n) ≡ n = length-map (λ (k : ℕ). (i, k)) (positions 0 n) ∙ length-positions 0 n in
+      let long : length (numbered i n) ≡ n = length-map (positions 0 n) (λ (k : ℕ). (i, k)) ∙ length-positions 0 n in
       let less : m < n = omega arith in
-      (less, some_same y (i, m) (sym e ∙ numbered_at i n m less))
+      (less, same_Some y (i, m) (sym e ∙ numbered_at i n m less))
 
   module _ (count : Component → ℕ) where
     pub pair_there : (i : ℕ) (c : Component) → Home i c → (m : ℕ) → m < count c → slice_get (pairs_of count d f) (start (pairs_in count) i + m) ≡ Some (i, m)
@@ -167,10 +168,10 @@ module _ (d : Description) (f : Flat) where
         record { c = w.c; home = subst (λ n. Home n w.c) first w.home; within = subst (λ n. n < count w.c) second at.0; sum = w.sum ∙ (λ j. start (pairs_in count) (first j) + second j) }
 
     pub same_pairs : (a b : ℕ × ℕ) → same_pair a b ≡ true → (a.0 ≡ b.0) × (a.1 ≡ b.1)
-    same_pairs a b e = let two = both (nat_eq a.0 b.0) (nat_eq a.1 b.1) e in (eqb-true a.0 b.0 two.0, eqb-true a.1 b.1 two.1)
+    same_pairs a b e = let two = and_parts (nat_eq a.0 b.0) (nat_eq a.1 b.1) e in (eqb-true a.0 b.0 two.0, eqb-true a.1 b.1 two.1)
 
     pub itself : (a : ℕ × ℕ) → same_pair a a ≡ true
-    itself a = both_of (nat_eq a.0 a.0) (nat_eq a.1 a.1) (eq-eqb a.0 a.0 refl) (eq-eqb a.1 a.1 refl)
+    itself a = and_from (nat_eq a.0 a.0) (nat_eq a.1 a.1) (eq-eqb a.0 a.0 refl) (eq-eqb a.1 a.1 refl)
 
     -- the number of what an instance has is its place
     pub number_is : (i : ℕ) (c : Component) → Home i c → (m : ℕ) → m < count c → pair_number (pairs_of count d f) (i, m) ≡ start (pairs_in count) i + m
@@ -191,14 +192,14 @@ module _ (d : Description) (f : Flat) where
     pub numbers_apart : (i j : ℕ) (a c : Component) → Home i a → Home j c → (m n : ℕ) → m < count a → n < count c
         → pair_number (pairs_of count d f) (i, m) ≡ pair_number (pairs_of count d f) (j, n) → (i ≡ j) × (m ≡ n)
     numbers_apart i j a c g h m n l k e =
-        let same : (i, m) ≡ (j, n) = some_same (i, m) (j, n) (sym (number_there i a g m l) ∙ ap (slice_get (pairs_of count d f)) e ∙ number_there j c h n k) in
+        let same : (i, m) ≡ (j, n) = same_Some (i, m) (j, n) (sym (number_there i a g m l) ∙ ap (slice_get (pairs_of count d f)) e ∙ number_there j c h n k) in
         (ap (λ (z : ℕ × ℕ). z.0) same, ap (λ (z : ℕ × ℕ). z.1) same)
 
   -- ---- events
 
   same_events : (i : ℕ) (c : Component) → length (pairs_in event_count i c) ≡ length (events_of_component d f i c)
   unfolding pairs_in
-  same_events i c = length-map (λ (m : ℕ). (i, m)) (positions 0 (length c.behavior.events)) ∙ length-positions 0 (length c.behavior.events) ∙ sym (length-map (event_of d f i) c.behavior.events)
+  same_events i c = length-map (positions 0 (length c.behavior.events)) (λ (m : ℕ). (i, m)) ∙ length-positions 0 (length c.behavior.events) ∙ sym (length-map c.behavior.events (event_of d f i))
 
   pub record EventAt (k : ℕ) (v : EventPlan) : Type 0 where
     pub i : ℕ
@@ -230,7 +231,7 @@ module _ (d : Description) (f : Flat) where
 
   same_runnables : (i : ℕ) (c : Component) → length (pairs_in runnable_count i c) ≡ length (runnables_of_component d f i c)
   unfolding pairs_in
-  same_runnables i c = length-map (λ (m : ℕ). (i, m)) (positions 0 (length c.behavior.runnables)) ∙ length-positions 0 (length c.behavior.runnables) ∙ sym (length-one_each (runnable_of d f i c) 0 c.behavior.runnables)
+  same_runnables i c = length-map (positions 0 (length c.behavior.runnables)) (λ (m : ℕ). (i, m)) ∙ length-positions 0 (length c.behavior.runnables) ∙ sym (length-one_each (runnable_of d f i c) 0 c.behavior.runnables)
 
   pub record RunnableAt (k : ℕ) (v : Runnable) : Type 0 where
     pub i : ℕ
@@ -269,7 +270,7 @@ module _ (d : Description) (f : Flat) where
 
   same_areas : (i : ℕ) (c : Component) → length (pairs_in area_count i c) ≡ length (areas_in i c)
   unfolding pairs_in areas_in
-  same_areas i c = length-map (λ (m : ℕ). (i, m)) (positions 0 (length c.behavior.exclusive_areas)) ∙ length-positions 0 (length c.behavior.exclusive_areas) ∙ sym (length-map (area_of i) c.behavior.exclusive_areas)
+  same_areas i c = length-map (positions 0 (length c.behavior.exclusive_areas)) (λ (m : ℕ). (i, m)) ∙ length-positions 0 (length c.behavior.exclusive_areas) ∙ sym (length-map c.behavior.exclusive_areas (area_of i))
 
   areas_are : areas d f ≡ of_instances areas_in d f
   unfolding areas_in

@@ -1,7 +1,7 @@
 -- Interfaces that serve others: operations keep their arguments along a chain of compatible interfaces, and mode elements their modes.
 use Rattle.std.proofs.Common.{◌≡◌, ℕ, List, [], ◌∷◌, map, filter, length, Bool, true, false, cond, ◌&&◌, ◌==◌, nat_eq, bytes_eq, Option, Some, None, option_map, zip, refl, ap, subst, ◌∙◌, arith, slice_get}
 use Rattle.std.specs.Prelude.{pos}
-use Rattle.std.proofs.lemmas.Bool.{false≢true, eqb-true}
+use Rattle.std.proofs.lemmas.Bool.{false≢true, eqb-true, and_parts}
 use Rattle.std.proofs.lemmas.Bool.Decides.{Decides-int_eq}
 use Rattle.std.specs.Cmp.Lexicographic.{pointwise}
 use Rattle.std.specs.List.{list_all, list_any}
@@ -21,13 +21,13 @@ use Rattle.interface_types.specs.declared.interface.TypeTable.{TypeTable}
 use Rattle.compatibility.specs.Interfaces.{same_argument, same_arguments, same_direction, same_modes, serves, serves_in, serves_operation}
 use Rattle.compatibility.specs.Types.{agree, are_compatible_types, base_number, types_agree}
 use Rattle.component_rules.specs.Signatures.{arguments_of, goes, limits_of}
-use Rattle.sound_behavior.proofs.Lists.{both, number_same, all_at, any_at}
+use Rattle.sound_behavior.proofs.Lists.{all_at, any_at}
 
 pub same_bytes : (a b : List ℕ) → bytes_eq a b ≡ true → a ≡ b
 same_bytes [] [] h = refl
 same_bytes [] (y ∷ b) h = absurd (false≢true h)
 same_bytes (x ∷ a) [] h = absurd (false≢true h)
-same_bytes (x ∷ a) (y ∷ b) h = let p = both (nat_eq x y) (bytes_eq a b) h in (λ j. eqb-true x y p.0 j ∷ same_bytes a b p.1 j)
+same_bytes (x ∷ a) (y ∷ b) h = let p = and_parts (nat_eq x y) (bytes_eq a b) h in (λ j. eqb-true x y p.0 j ∷ same_bytes a b p.1 j)
 
 same_direction_is : (a b : Direction) → same_direction a b ≡ true → a ≡ b
 same_direction_is In In e = refl
@@ -39,7 +39,7 @@ same_names : (a b : List (List ℕ)) → pointwise bytes_eq a b ≡ true → a �
 same_names [] [] h = refl
 same_names [] (y ∷ b) h = absurd (false≢true h)
 same_names (x ∷ a) [] h = absurd (false≢true h)
-same_names (x ∷ a) (y ∷ b) h = let p = both (bytes_eq x y) (pointwise bytes_eq a b) h in (λ j. same_bytes x y p.0 j ∷ same_names a b p.1 j)
+same_names (x ∷ a) (y ∷ b) h = let p = and_parts (bytes_eq x y) (pointwise bytes_eq a b) h in (λ j. same_bytes x y p.0 j ∷ same_names a b p.1 j)
 
 abbrev pub modes_of_group : Option ModeGroup → Option (List (List ℕ))
 modes_of_group o = option_map (λ (g : ModeGroup). g.modes) o
@@ -48,7 +48,7 @@ same_groups : (a b : Option ModeGroup) → agree same_modes a b ≡ true → mod
 same_groups None None e = refl
 same_groups None (Some b) e = absurd (false≢true e)
 same_groups (Some a) None e = absurd (false≢true e)
-same_groups (Some a) (Some b) e = ap (λ ms. Some ms) (same_names a.modes b.modes (both (pointwise bytes_eq a.modes b.modes) (nat_eq a.initial_mode b.initial_mode) e).0)
+same_groups (Some a) (Some b) e = ap (λ ms. Some ms) (same_names a.modes b.modes (and_parts (pointwise bytes_eq a.modes b.modes) (nat_eq a.initial_mode b.initial_mode) e).0)
 
 module _ (types : TypeTable) where
   same_limits_of : (a b : ℕ) → types_agree types.data_types a b ≡ true → limits_of types.data_types a ≡ limits_of types.data_types b
@@ -59,9 +59,9 @@ module _ (types : TypeTable) where
       by None (Some b) e = absurd (false≢true e)
       by (Some a) None e = absurd (false≢true e)
       by (Some a) (Some b) e =
-          let p = both (nat_eq (base_number a.base) (base_number b.base)) _ e in
-          let q = both (int_eq a.limits.low b.limits.low) _ p.1 in
-          let r = both (int_eq a.limits.high b.limits.high) (nat_eq a.words b.words) q.1 in
+          let p = and_parts (nat_eq (base_number a.base) (base_number b.base)) _ e in
+          let q = and_parts (int_eq a.limits.low b.limits.low) _ p.1 in
+          let r = and_parts (int_eq a.limits.high b.limits.high) (nat_eq a.words b.words) q.1 in
           λ j. record { low = (Decides-int_eq a.limits.low b.limits.low).0 q.0 j; high = (Decides-int_eq a.limits.high b.limits.high).0 r.0 j }
 
   -- the limits of the arguments of a direction
@@ -70,9 +70,9 @@ module _ (types : TypeTable) where
   same_all way [] (r ∷ rs) long all = absurd (omega arith)
   same_all way (p ∷ ps) [] long all = absurd (omega arith)
   same_all way (p ∷ ps) (r ∷ rs) long all =
-      let a = both (same_argument types p r) (list_all (λ (x : Argument × Argument). same_argument types x.0 x.1) (zip ps rs)) all in
-      let b = both (bytes_eq p.short_name r.short_name) (same_direction p.direction r.direction && types_agree types.data_types p.of_type r.of_type) a.0 in
-      let e = both (same_direction p.direction r.direction) (types_agree types.data_types p.of_type r.of_type) b.1 in
+      let a = and_parts (same_argument types p r) (list_all (λ (x : Argument × Argument). same_argument types x.0 x.1) (zip ps rs)) all in
+      let b = and_parts (bytes_eq p.short_name r.short_name) (same_direction p.direction r.direction && types_agree types.data_types p.of_type r.of_type) a.0 in
+      let e = and_parts (same_direction p.direction r.direction) (types_agree types.data_types p.of_type r.of_type) b.1 in
       let side : goes way p ≡ goes way r = ways way p r (same_direction_is p.direction r.direction e.0) in
       let limits : limits_of types.data_types p.of_type ≡ limits_of types.data_types r.of_type = same_limits_of p.of_type r.of_type e.1 in
       let rest : arguments_of types.data_types way ps ≡ arguments_of types.data_types way rs = same_all way ps rs (omega arith) a.1 in
@@ -98,10 +98,10 @@ module _ (types : TypeTable) where
 
   serves_as : (p r : Operation) → serves_operation types p r ≡ true → ServesAs p r
   serves_as p r h =
-      let a = both (bytes_eq p.short_name r.short_name) _ h in
-      let b = both (same_arguments types p.arguments r.arguments) _ a.1 in
-      let e = both (length p.arguments == length r.arguments) (list_all (λ (x : Argument × Argument). same_argument types x.0 x.1) (zip p.arguments r.arguments)) b.0 in
-      record { name = same_bytes p.short_name r.short_name a.0; arguments = λ way. same_all way p.arguments r.arguments (number_same (length p.arguments) (length r.arguments) e.0) e.1 }
+      let a = and_parts (bytes_eq p.short_name r.short_name) _ h in
+      let b = and_parts (same_arguments types p.arguments r.arguments) _ a.1 in
+      let e = and_parts (length p.arguments == length r.arguments) (list_all (λ (x : Argument × Argument). same_argument types x.0 x.1) (zip p.arguments r.arguments)) b.0 in
+      record { name = same_bytes p.short_name r.short_name a.0; arguments = λ way. same_all way p.arguments r.arguments (eqb-true (length p.arguments) (length r.arguments) e.0) e.1 }
 
   pub record Served (xs : List Operation) (r : Operation) : Type 0 where
     pub place : ℕ

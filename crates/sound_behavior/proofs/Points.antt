@@ -1,8 +1,8 @@
 -- Calls: each access that calls is a point, whose number is its place; those of the environment stand last.
 use Rattle.std.proofs.Common.{◌≡◌, ℕ, zero, suc, ◌+◌, ◌<◌, ◌≤◌, Bool, true, false, ◌==◌, nat_eq, refl, sym, ◌∙◌, ap, subst, arith, List, [], ◌∷◌, ◌++◌, length, Some, ◌⊎◌, inl, inr}
 use Rattle.std.specs.List.{slice_get, flat_map}
-use Rattle.std.proofs.lemmas.Bool.{false≢true, eqb-true, eq-eqb}
-use Rattle.std.proofs.lemmas.Option.{slice_get_within}
+use Rattle.std.proofs.lemmas.Bool.{false≢true, eqb-true, eq-eqb, and_from, and_parts}
+use Rattle.std.proofs.lemmas.Option.{same_Some, slice_get_within}
 use Rattle.runnable_lang.specs.declared.program.AccessKind.{AccessKind}
 use Rattle.runnable_lang.specs.declared.program.AccessKind.TheVariants as kind
 use Rattle.description_types.specs.declared.component.Access.{Access}
@@ -23,7 +23,7 @@ use Rattle.plan_numbers.specs.Sites.{root_ports}
 use Rattle.plan_services.specs.declared.callings.Calling.{Calling}
 use Rattle.plan_services.specs.Callings.{calling_of, callings_in, callings_of_component, operations_at, outer_calling, outer_callings, callings}
 use Rattle.planned_descriptions.specs.Whole.{IsWhole}
-use Rattle.sound_behavior.proofs.Lists.{both, both_of, some_same, number_same, before, in_from, reach, within_before, append_left, Later, map_at, counted_at, once, position_is, length-positions}
+use Rattle.sound_behavior.proofs.Lists.{before, in_from, reach, within_before, append_left, Later, map_at, counted_at, once, position_is, length-positions}
 use Rattle.sound_behavior.proofs.Members.{Has, has_flat}
 use Rattle.sound_behavior.proofs.Parts.{Home, start, of_instance, to_instance}
 use Rattle.sound_behavior.proofs.Rules.{call_kept}
@@ -60,7 +60,7 @@ pub record IsCall (i m : ℕ) (a : Access) (y : Calling) : Type 0 where
   pub is : y ≡ call i m a asynchronous
 
 one_item : {X : Type 0} (x y : X) (k : ℕ) → slice_get (x ∷ []) k ≡ Some y → (x ≡ y) × (k ≡ 0)
-one_item x y zero e = (some_same x y e, refl)
+one_item x y zero e = (same_Some x y e, refl)
 one_item x y (suc k) e = absurd (cc e)
 
 call_at : (i m : ℕ) (k : AccessKind) (port item : ℕ) (j : ℕ) (y : Calling) → slice_get (calling_of i m (record { kind = k; port = port; item = item })) j ≡ Some y → IsCall i m (record { kind = k; port = port; item = item }) y × (j ≡ 0)
@@ -161,7 +161,7 @@ module _ (d : Description) (f : Flat) where
       let long : length (positions 0 (operations_at d port)) ≡ operations_at d port = length-positions 0 (operations_at d port) in
       let less : j < operations_at d port = omega arith in
       let none : 0 + j ≡ j = omega arith in
-      let item : x.item ≡ j = some_same x.item j (sym x.there ∙ position_is 0 (operations_at d port) j less ∙ ap (λ n. Some n) none) in
+      let item : x.item ≡ j = same_Some x.item j (sym x.there ∙ position_is 0 (operations_at d port) j less ∙ ap (λ n. Some n) none) in
       (is, less, x.is ∙ ap (outer_calling k) item)
   outer_at short_name Required interface port is k j y e =
       let at : slice_get (outer_callings d k (record { short_name = port.short_name; kind = Required; interface = port.interface; com_specs = port.com_specs })) j ≡ Some y =
@@ -208,7 +208,7 @@ module _ (d : Description) (f : Flat) where
         let within_i : before calls_in 0 r.accesses i < length (flat_map called_by r.accesses) = slice_get_within (flat_map called_by r.accesses) (before calls_in 0 r.accesses i) (a.port, a.item) (first r i a at_i x u) in
         let within_j : before calls_in 0 s.accesses j < length (flat_map called_by s.accesses) = slice_get_within (flat_map called_by s.accesses) (before calls_in 0 s.accesses j) (b.port, b.item) (first s j b at_j y v) in
         let outer_part = part_once calls_by 0 c.behavior.runnables k l r s (before calls_in 0 r.accesses i) (before calls_in 0 s.accesses j) there here within_i within_j e in
-        let same : r ≡ s = some_same r s (sym there ∙ ap (slice_get c.behavior.runnables) outer_part.0 ∙ here) in
+        let same : r ≡ s = same_Some r s (sym there ∙ ap (slice_get c.behavior.runnables) outer_part.0 ∙ here) in
         let at_j_r : slice_get r.accesses j ≡ Some b = subst (λ (z : Runnable). slice_get z.accesses j ≡ Some b) (sym same) at_j in
         let equal : before calls_in 0 r.accesses i + 0 ≡ before calls_in 0 r.accesses j + 0 = ap (λ n. n + 0) (outer_part.1 ∙ ap (λ (z : Runnable). before calls_in 0 z.accesses j) (sym same)) in
         let inner_part = part_once calls_in 0 r.accesses i j a b 0 0 at_i at_j_r (omega arith) (omega arith) equal in
@@ -227,10 +227,10 @@ module _ (d : Description) (f : Flat) where
         let calls : Calls a.kind true = subst (λ x. Calls x true) (sym goes) goes_on in
         let kept : (count (same_operation (a.port, a.item)) (called c.behavior.runnables) == 1) ≡ true =
         subst (λ (x : Access). access_keeps c.behavior.runnables x ≡ true) (λ q. record { kind = goes q; port = a.port; item = a.item }) (call_kept d f p m w t c at k r i a there at_i) in
-        let one = number_same (count (same_operation (a.port, a.item)) (called c.behavior.runnables)) 1 kept in
+        let one = eqb-true (count (same_operation (a.port, a.item)) (called c.behavior.runnables)) 1 kept in
         let same = once (same_operation (a.port, a.item)) (called c.behavior.runnables) (called_place k r i) (called_place l s j) (a.port, a.item) (b.port, b.item) (omega arith)
-        (called_there k r there i a at_i true calls) (both_of (nat_eq a.port a.port) (nat_eq a.item a.item) (eq-eqb a.port a.port refl) (eq-eqb a.item a.item refl))
-        (called_there l s here j b at_j y v) (both_of (nat_eq a.port b.port) (nat_eq a.item b.item) (eq-eqb a.port b.port port) (eq-eqb a.item b.item item)) in
+        (called_there k r there i a at_i true calls) (and_from (nat_eq a.port a.port) (nat_eq a.item a.item) (eq-eqb a.port a.port refl) (eq-eqb a.item a.item refl))
+        (called_there l s here j b at_j y v) (and_from (nat_eq a.port b.port) (nat_eq a.item b.item) (eq-eqb a.port b.port port) (eq-eqb a.item b.item item)) in
         one_place k l r s there here i j a b at_i at_j true y calls v same
 
     -- an operation that is called without waiting has an access that does so
@@ -247,11 +247,11 @@ module _ (d : Description) (f : Flat) where
 
     pub left_by_access : (k n : ℕ) → is_left c.behavior.runnables (k, n) ≡ true → LeftBy k n
     left_by_access k n e =
-        let u = counted_at (same_operation (k, n)) (left c.behavior.runnables) (Rattle.sound_behavior.proofs.Tasks.below 0 (count (same_operation (k, n)) (left c.behavior.runnables)) e) in
+        let u = counted_at (same_operation (k, n)) (left c.behavior.runnables) (Rattle.std.proofs.lemmas.Bool.ltb-true 0 (count (same_operation (k, n)) (left c.behavior.runnables)) e) in
         let v = has_flat (λ (r : Runnable). flat_map left_by r.accesses) c.behavior.runnables u.item (record { place = u.place; there = u.there }) in
         let x = has_flat left_by v.item.accesses u.item v.inside in
         let y = left_kind x.item.kind x.item.port x.item.item u.item x.inside in
-        let two = both (nat_eq k u.item.0) (nat_eq n u.item.1) u.passes in
+        let two = and_parts (nat_eq k u.item.0) (nat_eq n u.item.1) u.passes in
         record {
           number = v.has.place;
           runnable = v.item;

@@ -3,7 +3,8 @@ use Rattle.std.proofs.Common.{◌≡◌, ℕ, ◌+◌, List, [], ◌∷◌, map,
 use Rattle.std.specs.Prelude.{is_some}
 use Rattle.std.specs.List.{find, list_all}
 use Rattle.std.specs.Option.{option_map_or, unwrap_or}
-use Rattle.std.proofs.lemmas.Bool.{false≢true}
+use Rattle.std.proofs.lemmas.Bool.{and_parts, false≢true, or_parts}
+use Rattle.std.proofs.lemmas.Option.{same_Some}
 use Rattle.description_types.specs.declared.component.Component.{Component}
 use Rattle.description_types.specs.declared.component.Port.{Port}
 use Rattle.description_types.specs.declared.component.PortKind.{PortKind}
@@ -41,7 +42,7 @@ use Rattle.plan_ports.specs.Things.{machine_for, machine_number, machines_of, mo
 use Rattle.plan_services.specs.Modes.{group_in, machine_at, machines, mode_port_at, mode_ports}
 use Rattle.sound_descriptions.specs.WellFormed as formed
 use Rattle.planned_descriptions.specs.Whole.{IsWhole}
-use Rattle.sound_behavior.proofs.Lists.{both, or_false, some_same, not_some, all_at, map_at, mapped, none_or, kept}
+use Rattle.sound_behavior.proofs.Lists.{not_some, all_at, map_at, mapped, none_or, kept}
 use Rattle.sound_behavior.proofs.Members.{names_apart}
 use Rattle.sound_behavior.proofs.Parts.{Home, component_home}
 use Rattle.sound_behavior.proofs.Sites.{ports_at_home, site_there, numbered_kind, place_of, kept_apart, kind_apart, number_at}
@@ -78,7 +79,7 @@ module _ (d : Description) (f : Flat) (p : BusPlan) (m : Mapping) (w : IsWhole d
     where
       by : (o : Option Interface) → slice_get d.types.interfaces i ≡ o → option_map (λ (x : Interface). x.kind) o ≡ Some kind → InterfaceIs i kind
       by None has e = not_some kind e
-      by (Some x) has e = record { interface = x; has = has; is = some_same x.kind kind e }
+      by (Some x) has e = record { interface = x; has = has; is = same_Some x.kind kind e }
 
   -- ---- operations
 
@@ -120,9 +121,9 @@ module _ (d : Description) (f : Flat) (p : BusPlan) (m : Mapping) (w : IsWhole d
 
     distinct_names : formed.distinct (operation_names from_server.all) ≡ true
     distinct_names =
-        let kinds = (both (list_all formed.group_fits d.types.mode_groups) (list_all (λ (i : Interface). formed.kind_fits d.types i.kind) d.types.interfaces) (both (list_all formed.type_fits d.types.data_types) _ w.well_formed.types).1).1 in
+        let kinds = (and_parts (list_all formed.group_fits d.types.mode_groups) (list_all (λ (i : Interface). formed.kind_fits d.types i.kind) d.types.interfaces) (and_parts (list_all formed.type_fits d.types.data_types) _ w.well_formed.types).1).1 in
         let kept : formed.kind_fits d.types (ClientServer from_server.all) ≡ true = subst (λ k. formed.kind_fits d.types k ≡ true) here.is (all_at (λ (i : Interface). formed.kind_fits d.types i.kind) d.types.interfaces at_joint.provided.port.interface here.interface kinds here.has) in
-        (both _ (formed.distinct (operation_names from_server.all)) (both (formed.names_fit (operation_names from_server.all)) (list_all (formed.operation_fits d.types.data_types) from_server.all) kept).0).1
+        (and_parts _ (formed.distinct (operation_names from_server.all)) (and_parts (formed.names_fit (operation_names from_server.all)) (list_all (formed.operation_fits d.types.data_types) from_server.all) kept).0).1
 
     serving : Served d.types from_server.all r
     serving = from_server.serve n r at
@@ -133,7 +134,7 @@ module _ (d : Description) (f : Flat) (p : BusPlan) (m : Mapping) (w : IsWhole d
         let x = map_at (λ (z : Operation). z.short_name) from_server.all by_join.join.provided.element names.0 names.1 in
         let y = map_at (λ (z : Operation). z.short_name) ys by_join.join.required.element names.0 names.2 in
         let number : by_join.join.required.element ≡ n = ap (λ (e : End). e.element) by_join.required in
-        let same : y.item ≡ r = some_same y.item r (sym y.there ∙ ap (slice_get ys) number ∙ at) in
+        let same : y.item ≡ r = same_Some y.item r (sym y.there ∙ ap (slice_get ys) number ∙ at) in
         let name : names.0 ≡ serving.operation.short_name = y.is ∙ ap (λ (z : Operation). z.short_name) same ∙ sym serving.serves.name in
         let place : by_join.join.provided.element ≡ serving.place =
         names_apart (operation_names from_server.all) by_join.join.provided.element serving.place names.0 distinct_names names.1 (mapped (λ (z : Operation). z.short_name) from_server.all serving.place serving.operation serving.there ∙ ap (λ z. Some z) (sym name)) in
@@ -195,7 +196,7 @@ module _ (d : Description) (f : Flat) (p : BusPlan) (m : Mapping) (w : IsWhole d
     where
       by : (z : Option ModeGroup) → modes_of_group z ≡ Some g → option_map_or (λ (y : ModeGroup). y.modes) z [] ≡ g
       by None e = not_some g e
-      by (Some y) e = some_same y.modes g e
+      by (Some y) e = same_Some y.modes g e
 
   module _ (o : Option ℕ) (k : ℕ) (y : ModeElement) (g : ModeGroup) (required : interface_of d f o k ≡ Some (ModeSwitch y)) (group : slice_get d.types.mode_groups y.of_type ≡ Some g) (q : End) (by_end : provider_of f.joins (end_at o k 0) ≡ Some q) where
     mode_join : ProvidedBy f.joins (end_at o k 0) q
@@ -250,7 +251,7 @@ module _ (d : Description) (f : Flat) (p : BusPlan) (m : Mapping) (w : IsWhole d
       where
         by : (b : Bool) → items.breaks Services f.joins (ModeSwitch required_in.element) (items.end_of (Some i) k 0) ≡ b → option_map (items.end_of (Some i) k) (cond b (Some 0) None) ≡ None → sides.is_none (sides.providers f.joins (items.end_of (Some i) k 0)) ≡ false
         by true is none = absurd (cc none)
-        by false is none = (or_false (sides.are_several (sides.providers f.joins (items.end_of (Some i) k 0))) (sides.is_none (sides.providers f.joins (items.end_of (Some i) k 0))) is).1
+        by false is none = (or_parts (sides.are_several (sides.providers f.joins (items.end_of (Some i) k 0))) (sides.is_none (sides.providers f.joins (items.end_of (Some i) k 0))) is).1
 
     required_interface : interface_of d f (Some i) k ≡ Some (ModeSwitch required_in.element)
     required_interface =
@@ -261,7 +262,7 @@ module _ (d : Description) (f : Flat) (p : BusPlan) (m : Mapping) (w : IsWhole d
     required_machine = let q = some_of (provider_of f.joins (end_at (Some i) k 0)) has_provider in machine_by (Some i) k required_in.element required_in.group required_interface required_in.there q.0 q.1
 
     pub required_modes : length required_machine.machine.modes ≡ count
-    required_modes = ap length (some_same required_machine.machine.modes required_in.group.modes (required_machine.modes ∙ ap modes_of_group required_in.there)) ∙ required_in.counted
+    required_modes = ap length (same_Some required_machine.machine.modes required_in.group.modes (required_machine.modes ∙ ap modes_of_group required_in.there)) ∙ required_in.counted
 
     mode_port_shape : shape_at d.types (Some i) x.port ≡ Some (ModePort, 1)
     mode_port_shape = ap (option_map (λ (z : Interface). (kind_at (Some i) x.port.kind z.kind, count_at (Some i) x.port.kind z.kind))) x.has ∙ (λ q. Some (kind_at (Some i) (x.kind q) (required_in.is q), count_at (Some i) (x.kind q) (required_in.is q)))

@@ -1,5 +1,8 @@
 -- Runnables are sound: their accesses, their programs, and the arguments of what they serve.
 use Rattle.std.proofs.Common.{◌≡◌, ℕ, zero, suc, ◌+◌, Bool, true, false, cond, ◌&&◌, ◌||◌, not, ◌==◌, refl, sym, ◌∙◌, ap, subst, arith, List, [], ◌∷◌, ◌++◌, map, length, Option, Some, None, option_map, option_and_then}
+use Rattle.std.proofs.lemmas.Bool.{and_from, and_parts, eq-eqb, ne_eqb}
+use Rattle.std.proofs.lemmas.List.{length-map}
+use Rattle.std.proofs.lemmas.Option.{same_Some}
 use Rattle.std.specs.Prelude.{nat_lt, nat_le, is_none}
 use Rattle.std.specs.List.{slice_get, list_any, list_all}
 use Rattle.std.specs.Option.{option_map_or}
@@ -37,7 +40,7 @@ use Rattle.plan_runnables.specs.Started.{target_of, served_by, served_number, ru
 use Rattle.plan_services.specs.Services.{argument_of, server_at, servers}
 use Rattle.sound_descriptions.specs.WellFormed as formed
 use Rattle.planned_descriptions.specs.Whole.{IsWhole}
-use Rattle.sound_behavior.proofs.Lists.{differ_test, both, both_of, some_same, not_some, same_test, every_if, looked, length-map}
+use Rattle.sound_behavior.proofs.Lists.{not_some, every_if, looked}
 use Rattle.sound_behavior.proofs.Parts.{RunnableAt, runnable_at}
 use Rattle.sound_behavior.proofs.Rules.{planned, plan_is, program_kept, runnable_formed, serves_formed}
 use Rattle.sound_behavior.proofs.Serving.{Provides, provided_by, server_there}
@@ -55,7 +58,7 @@ pub record Accepted : Type 0 where
 
 none_of_rule : (k : ℕ) (paths : List (List ℕ)) (rest : List (ℕ × List ℕ)) → option_and_then (path_of (Some k)) (first (program.of_rule k paths ++ rest)) ≡ None → program.of_rule k paths ++ rest ≡ rest
 none_of_rule k [] rest e = refl
-none_of_rule k (x ∷ paths) rest e = absurd (cc (sym e ∙ ap (λ b. cond b (Some x) None) (same_test k k refl)))
+none_of_rule k (x ∷ paths) rest e = absurd (cc (sym e ∙ ap (λ b. cond b (Some x) None) (eq-eqb k k refl)))
 
 pub nothing_refused : (accesses : List AccessSig) (p : ProgramTree) → option_and_then (path_of (Some 17)) (program.refusal accesses p) ≡ None → option_and_then (path_of (Some 18)) (program.refusal accesses p) ≡ None
     → option_and_then (path_of (Some 19)) (program.refusal accesses p) ≡ None → option_and_then (path_of (Some 20)) (program.refusal accesses p) ≡ None → program.refusal accesses p ≡ None
@@ -87,7 +90,7 @@ nothing_refused accesses p one two three four =
 
 each_mapped : (f : AccessSig → ℕ → Bool) (g : Access → AccessSig) (h : Access → ℕ) (xs : List Access) → ((k : ℕ) (a : Access) → slice_get xs k ≡ Some a → f (g a) (h a) ≡ true) → each_access f (map g xs) (map h xs) ≡ true
 each_mapped f g h [] each = refl
-each_mapped f g h (a ∷ xs) each = both_of (f (g a) (h a)) (each_access f (map g xs) (map h xs)) (each 0 a refl) (each_mapped f g h xs (λ k b e. each (suc k) b e))
+each_mapped f g h (a ∷ xs) each = and_from (f (g a) (h a)) (each_access f (map g xs) (map h xs)) (each 0 a refl) (each_mapped f g h xs (λ k b e. each (suc k) b e))
 
 any_same : (types : TypeTable) (c : Component) (a : Access) (xs : List Access) → list_any (sound.same_access (access_sig types c a)) (map (access_sig types c) xs) ≡ list_any (formed.same_access a) xs
 any_same types c a [] = refl
@@ -111,19 +114,19 @@ module _ (d : Description) (f : Flat) (p : BusPlan) (m : Mapping) (w : IsWhole d
         → ((a : ℕ) (y : Event) → slice_get es a ≡ Some y → y.runnable ≡ e.runnable → a ≡ j) → list_any (λ r. r == e.runnable) seen ≡ false → has_variables e k n ≡ true
     serves_at [] seen j e k n all at kind one none = not_some e at
     serves_at (x ∷ es) seen zero e k n all at kind one none =
-        let same : x ≡ e = some_same x e at in
+        let same : x ≡ e = same_Some x e at in
         let here : x ≡ with_kind e (declared_event.OperationInvoked k n) = same ∙ (λ q. with_kind e (kind q)) in
         let fit : ((list_any (λ r. r == e.runnable) seen || has_variables e k n) && formed.serves_fit d.types c es (e.runnable ∷ seen)) ≡ true = subst (λ z. formed.serves_fit d.types c (z ∷ es) seen ≡ true) here all in
-        ap (λ b. b || has_variables e k n) (sym none) ∙ (both (list_any (λ r. r == e.runnable) seen || has_variables e k n) (formed.serves_fit d.types c es (e.runnable ∷ seen)) fit).0
+        ap (λ b. b || has_variables e k n) (sym none) ∙ (and_parts (list_any (λ r. r == e.runnable) seen || has_variables e k n) (formed.serves_fit d.types c es (e.runnable ∷ seen)) fit).0
     serves_at (x ∷ es) seen (suc j) e k n all at kind one none = by (λ more fit differs. serves_at es more j e k n fit at kind (λ a y s t. let same = one (suc a) y s t in omega arith) differs) x.kind all
       where
         other : (x.runnable == e.runnable) ≡ false
-        other = differ_test x.runnable e.runnable (λ same. let place = one 0 x refl same in absurd (omega arith))
+        other = ne_eqb x.runnable e.runnable (λ same. let place = one 0 x refl same in absurd (omega arith))
 
         by : ((more : List ℕ) → formed.serves_fit d.types c es more ≡ true → list_any (λ r. r == e.runnable) more ≡ false → has_variables e k n ≡ true)
             → (y : declared_kind.EventKind) → formed.serves_fit d.types c (with_kind x y ∷ es) seen ≡ true → has_variables e k n ≡ true
         by rest (declared_event.OperationInvoked a b) fit =
-            rest (x.runnable ∷ seen) (both (list_any (λ r. r == x.runnable) seen || has_variables x a b) (formed.serves_fit d.types c es (x.runnable ∷ seen)) fit).1 (ap (λ b. b || list_any (λ r. r == e.runnable) seen) other ∙ none)
+            rest (x.runnable ∷ seen) (and_parts (list_any (λ r. r == x.runnable) seen || has_variables x a b) (formed.serves_fit d.types c es (x.runnable ∷ seen)) fit).1 (ap (λ b. b || list_any (λ r. r == e.runnable) seen) other ∙ none)
         by rest (declared_event.Timing period) fit = rest seen fit none
         by rest declared_event.Init fit = rest seen fit none
         by rest (declared_event.DataReceived a b) fit = rest seen fit none
@@ -150,8 +153,8 @@ module _ (d : Description) (f : Flat) (p : BusPlan) (m : Mapping) (w : IsWhole d
 
       fits : (list_all (formed.access_fits d.types x.c) x.runnable.accesses ≡ true) × (formed.accesses_distinct x.runnable.accesses ≡ true) × (is_well_formed (program_tree x.runnable.program) ≡ true)
       fits =
-          let a = both (list_all (formed.access_fits d.types x.c) x.runnable.accesses) _ (runnable_formed d f p m w x.home.instance.component x.c x.home.has x.m x.runnable x.there) in
-          let b = both (formed.accesses_distinct x.runnable.accesses) (is_well_formed (program_tree x.runnable.program)) a.1 in
+          let a = and_parts (list_all (formed.access_fits d.types x.c) x.runnable.accesses) _ (runnable_formed d f p m w x.home.instance.component x.c x.home.has x.m x.runnable x.there) in
+          let b = and_parts (formed.accesses_distinct x.runnable.accesses) (is_well_formed (program_tree x.runnable.program)) a.1 in
           (a.0, b.0, b.1)
 
       serving : (o : Option (ℕ × ℕ)) → served_by x.c.behavior.events x.m ≡ o
@@ -165,7 +168,7 @@ module _ (d : Description) (f : Flat) (p : BusPlan) (m : Mapping) (w : IsWhole d
           let arguments : arguments_of_server (Some s) ≡ map (argument_of d) h.operation.arguments =
           looked (servers d f) s (server_at d f x.i y.0 y.1 z.place) (λ (v : ServerPlan). v.arguments) [] there
           ∙ ap (λ o. option_map_or (λ (o : Operation). map (argument_of d) o.arguments) o []) (operation_is d f p m w x.i x.c x.home y.0 y.1 h) in
-          let count : length (arguments_of_server (Some s)) ≡ formed.arguments_at d.types x.c.ports y.0 y.1 = ap length arguments ∙ length-map (argument_of d) h.operation.arguments ∙ sym (arguments_are x.c y.0 y.1 h) in
+          let count : length (arguments_of_server (Some s)) ≡ formed.arguments_at d.types x.c.ports y.0 y.1 = ap length arguments ∙ length-map h.operation.arguments (argument_of d) ∙ sym (arguments_are x.c y.0 y.1 h) in
           let has = serves_at x.c x.c.behavior.events [] z.place z.event y.0 y.1 (serves_formed d f p m w x.home.instance.component x.c x.home.has) z.there z.kind
           (alone d f p m w x.i x.c x.home z.place z.event y.0 y.1 z.there z.kind) refl in
           let runnable : slice_get x.c.behavior.runnables z.event.runnable ≡ Some x.runnable = ap (slice_get x.c.behavior.runnables) z.starts ∙ x.there in
@@ -178,13 +181,13 @@ module _ (d : Description) (f : Flat) (p : BusPlan) (m : Mapping) (w : IsWhole d
       pub runnable_here : runnable_sound (planned d f es) q r ≡ true
       unfolding mine
       runnable_here = subst (λ (u : Runnable). runnable_sound (planned d f es) q u ≡ true) (sym x.is)
-          (both_of (each_access (access_sound (planned d f es) q (Some x.i)) (map (access_sig d.types x.c) x.runnable.accesses) (map (target_of d f x.i x.m) x.runnable.accesses)) _
+          (and_from (each_access (access_sound (planned d f es) q (Some x.i)) (map (access_sig d.types x.c) x.runnable.accesses) (map (target_of d f x.i x.m) x.runnable.accesses)) _
           (each_mapped (access_sound (planned d f es) q (Some x.i)) (access_sig d.types x.c) (target_of d f x.i x.m) x.runnable.accesses
           (λ j a at. subst (λ k. access_sound (planned d f es) k (Some x.i) (access_sig d.types x.c a) (target_of d f x.i x.m a) ≡ true) x.number (use_sound d f p m w es seen_as x.i x.c x.home x.m x.runnable x.there j a at)))
-          (both_of (sound.accesses_distinct (map (access_sig d.types x.c) x.runnable.accesses)) _ (same_distinct d.types x.c x.runnable.accesses ∙ fits.1)
-          (both_of (body_sound mine mine.program.body []) _ (accepted.statements mine program_accepted fits.2)
-          (both_of (nat_le (body_cost mine.program.body) 100000) _ (accepted.cost mine program_accepted)
-          (both_of (nat_le mine.program.vars 256) (has_arguments (planned d f es) mine) (accepted.vars mine program_accepted)
+          (and_from (sound.accesses_distinct (map (access_sig d.types x.c) x.runnable.accesses)) _ (same_distinct d.types x.c x.runnable.accesses ∙ fits.1)
+          (and_from (body_sound mine mine.program.body []) _ (accepted.statements mine program_accepted fits.2)
+          (and_from (nat_le (body_cost mine.program.body) 100000) _ (accepted.cost mine program_accepted)
+          (and_from (nat_le mine.program.vars 256) (has_arguments (planned d f es) mine) (accepted.vars mine program_accepted)
           (serving (served_by x.c.behavior.events x.m) refl))))))
 
     pub all_runnables : every_from 0 (runnable_sound (planned d f es)) (runnables d f) ≡ true

@@ -3,7 +3,9 @@ use Rattle.std.proofs.Common.{◌≡◌, ℕ, zero, suc, ◌+◌, ℤ, Bool, tru
 use Rattle.std.specs.Prelude.{nat_lt, nat_le, pos, negsuc, int_le}
 use Rattle.std.specs.List.{slice_get, list_all, list_any, find}
 use Rattle.std.specs.Option.{option_map_or}
-use Rattle.std.proofs.lemmas.Bool.{false≢true, eqb-true, eq-eqb}
+use Rattle.std.proofs.lemmas.Bool.{false≢true, eqb-true, eq-eqb, and_from, and_parts, le-leb, leb-true, or_left, or_right}
+use Rattle.std.proofs.lemmas.List.{length-map}
+use Rattle.std.proofs.lemmas.Option.{same_Some}
 use Rattle.rte_value.specs.Values.{same_number}
 use Rattle.interface_types.specs.declared.base_type.BaseType.{BaseType}
 use Rattle.interface_types.specs.declared.base_type.BaseType.TheVariants.{Boolean, Uint8, Uint16, Uint32, Sint8, Sint16, Sint32}
@@ -49,13 +51,13 @@ use Rattle.plan_services.specs.Services.{operation_in, operation_at, started_by,
 use Rattle.plan_services.specs.Services as services
 use Rattle.sound_descriptions.specs.WellFormed as formed
 use Rattle.planned_descriptions.specs.Whole.{IsWhole}
-use Rattle.sound_behavior.proofs.Lists.{both, both_of, some_same, not_some, number_same, same_test, same_option, all_if, all_at, every_if, looked, there_at, mapped, map_at, length-map, once, left_true, right_true}
+use Rattle.sound_behavior.proofs.Lists.{not_some, same_option, all_if, all_at, every_if, looked, there_at, mapped, map_at, once}
 use Rattle.sound_behavior.proofs.Members.{Has}
 use Rattle.sound_behavior.proofs.Parts.{Home, home_component, RunnableAt, runnable_at, runnable_there, event_there}
 use Rattle.sound_behavior.proofs.Rules.{planned, plan_is, alone_kept, ports_formed}
 use Rattle.sound_behavior.proofs.Serving.{Provides, ServerAt, server_at_number, server_there}
 use Rattle.sound_behavior.proofs.Sites.{ports_at_home}
-use Rattle.sound_behavior.proofs.Tasks.{most, at_most, starts_within}
+use Rattle.sound_behavior.proofs.Tasks.{starts_within}
 
 abbrev invoked_here : ℕ → EventKind → Bool
 invoked_here s (Invoked n) = n == s
@@ -68,15 +70,15 @@ of_server d f q (Some s) = look (servers d f) s (λ (v : ServerPlan). v.runnable
 -- ---- ranges
 
 pub int_trans : (a b c : ℤ) → int_le a b ≡ true → int_le b c ≡ true → int_le a c ≡ true
-int_trans (pos a) (pos b) (pos c) s t = let x = most a b s in let y = most b c t in at_most a c (omega arith)
+int_trans (pos a) (pos b) (pos c) s t = let x = leb-true a b s in let y = leb-true b c t in le-leb a c (omega arith)
 int_trans (pos a) (pos b) (negsuc c) s t = absurd (false≢true t)
 int_trans (pos a) (negsuc b) c s t = absurd (false≢true s)
 int_trans (negsuc a) b (pos c) s t = refl
 int_trans (negsuc a) (pos b) (negsuc c) s t = absurd (false≢true t)
-int_trans (negsuc a) (negsuc b) (negsuc c) s t = let x = most b a s in let y = most c b t in at_most c a (omega arith)
+int_trans (negsuc a) (negsuc b) (negsuc c) s t = let x = leb-true b a s in let y = leb-true c b t in le-leb c a (omega arith)
 
 pub range_fits : (t : DataType) → keeps_range t ≡ true → limits_fit t.limits ≡ true
-range_fits t e = by t.base (both (int_le t.limits.low t.limits.high) _ e).1
+range_fits t e = by t.base (and_parts (int_le t.limits.low t.limits.high) _ e).1
   where
     l : ℤ
     l = t.limits.low
@@ -86,17 +88,17 @@ range_fits t e = by t.base (both (int_le t.limits.low t.limits.high) _ e).1
 
     unsigned : (top : ℤ) → int_le top (pos 4294967295) ≡ true → (int_le (pos 0) t.limits.low && int_le t.limits.high top) ≡ true → limits_fit t.limits ≡ true
     unsigned top less k =
-        let two = both (int_le (pos 0) t.limits.low) (int_le t.limits.high top) k in
-        both_of (int_le t.limits.low t.limits.high) _ (both (int_le t.limits.low t.limits.high) _ e).0
-        (left_true _ (int_le (negsuc 2147483647) t.limits.low && int_le t.limits.high (pos 2147483647))
-        (both_of (int_le (pos 0) t.limits.low) (int_le t.limits.high (pos 4294967295)) two.0 (int_trans t.limits.high top (pos 4294967295) two.1 less)))
+        let two = and_parts (int_le (pos 0) t.limits.low) (int_le t.limits.high top) k in
+        and_from (int_le t.limits.low t.limits.high) _ (and_parts (int_le t.limits.low t.limits.high) _ e).0
+        (or_left _ (int_le (negsuc 2147483647) t.limits.low && int_le t.limits.high (pos 2147483647))
+        (and_from (int_le (pos 0) t.limits.low) (int_le t.limits.high (pos 4294967295)) two.0 (int_trans t.limits.high top (pos 4294967295) two.1 less)))
 
     signed : (bottom top : ℤ) → int_le (negsuc 2147483647) bottom ≡ true → int_le top (pos 2147483647) ≡ true → (int_le bottom t.limits.low && int_le t.limits.high top) ≡ true → limits_fit t.limits ≡ true
     signed bottom top more less k =
-        let two = both (int_le bottom t.limits.low) (int_le t.limits.high top) k in
-        both_of (int_le t.limits.low t.limits.high) _ (both (int_le t.limits.low t.limits.high) _ e).0
-        (right_true (int_le (pos 0) t.limits.low && int_le t.limits.high (pos 4294967295)) (int_le (negsuc 2147483647) t.limits.low && int_le t.limits.high (pos 2147483647))
-        (both_of (int_le (negsuc 2147483647) t.limits.low) (int_le t.limits.high (pos 2147483647)) (int_trans (negsuc 2147483647) bottom t.limits.low more two.0) (int_trans t.limits.high top (pos 2147483647) two.1 less)))
+        let two = and_parts (int_le bottom t.limits.low) (int_le t.limits.high top) k in
+        and_from (int_le t.limits.low t.limits.high) _ (and_parts (int_le t.limits.low t.limits.high) _ e).0
+        (or_right (int_le (pos 0) t.limits.low && int_le t.limits.high (pos 4294967295)) (int_le (negsuc 2147483647) t.limits.low && int_le t.limits.high (pos 2147483647))
+        (and_from (int_le (negsuc 2147483647) t.limits.low) (int_le t.limits.high (pos 2147483647)) (int_trans (negsuc 2147483647) bottom t.limits.low more two.0) (int_trans t.limits.high top (pos 2147483647) two.1 less)))
 
     by : (b : BaseType) → (int_le (range_of b).low t.limits.low && int_le t.limits.high (range_of b).high) ≡ true → limits_fit t.limits ≡ true
     by Boolean k = unsigned (range_of Boolean).high refl k
@@ -131,20 +133,20 @@ codes_within (e ∷ es) = ap (λ b. is_in 1 63 e.code && b) (codes_within es)
 
 module _ (d : Description) (f : Flat) (p : BusPlan) (m : Mapping) (w : IsWhole d f p m) where
   type_kept : (n : ℕ) (t : DataType) → slice_get d.types.data_types n ≡ Some t → formed.type_fits t ≡ true
-  type_kept n t at = all_at formed.type_fits d.types.data_types n t (both (list_all formed.type_fits d.types.data_types) _ w.well_formed.types).0 at
+  type_kept n t at = all_at formed.type_fits d.types.data_types n t (and_parts (list_all formed.type_fits d.types.data_types) _ w.well_formed.types).0 at
 
   pub operation_kept : (i : ℕ) (x : Interface) (all : List Operation) (n : ℕ) (o : Operation) → slice_get d.types.interfaces i ≡ Some x → x.kind ≡ ClientServer all → slice_get all n ≡ Some o → formed.operation_fits d.types.data_types o ≡ true
   operation_kept i x all n o at is there =
-      let kinds = (both (list_all formed.group_fits d.types.mode_groups) (list_all (λ (i : Interface). formed.kind_fits d.types i.kind) d.types.interfaces) (both (list_all formed.type_fits d.types.data_types) _ w.well_formed.types).1).1 in
+      let kinds = (and_parts (list_all formed.group_fits d.types.mode_groups) (list_all (λ (i : Interface). formed.kind_fits d.types i.kind) d.types.interfaces) (and_parts (list_all formed.type_fits d.types.data_types) _ w.well_formed.types).1).1 in
       let kept : formed.kind_fits d.types (ClientServer all) ≡ true = subst (λ k. formed.kind_fits d.types k ≡ true) is (all_at (λ (i : Interface). formed.kind_fits d.types i.kind) d.types.interfaces i x kinds at) in
-      all_at (formed.operation_fits d.types.data_types) all n o (both (formed.names_fit (map (λ (o : Operation). o.short_name) all)) (list_all (formed.operation_fits d.types.data_types) all) kept).1 there
+      all_at (formed.operation_fits d.types.data_types) all n o (and_parts (formed.names_fit (map (λ (o : Operation). o.short_name) all)) (list_all (formed.operation_fits d.types.data_types) all) kept).1 there
 
   argument_fits : (a : Argument) → is_sound_argument d.types.data_types a ≡ true → limits_fit (limits_of d.types.data_types a.of_type) ≡ true
-  argument_fits a e = by (slice_get d.types.data_types a.of_type) refl (both (one_word (slice_get d.types.data_types a.of_type)) _ e).0
+  argument_fits a e = by (slice_get d.types.data_types a.of_type) refl (and_parts (one_word (slice_get d.types.data_types a.of_type)) _ e).0
     where
       by : (o : Option DataType) → slice_get d.types.data_types a.of_type ≡ o → one_word o ≡ true → limits_fit (option_map_or (λ (t : DataType). t.limits) o (record { low = pos 0; high = pos 0 })) ≡ true
       by None at e = absurd (false≢true e)
-      by (Some t) at e = range_fits t (both (is_in 1 16 t.words) (keeps_range t) (type_kept a.of_type t at)).1
+      by (Some t) at e = range_fits t (and_parts (is_in 1 16 t.words) (keeps_range t) (type_kept a.of_type t at)).1
 
   -- ---- servers
 
@@ -159,11 +161,11 @@ module _ (d : Description) (f : Flat) (p : BusPlan) (m : Mapping) (w : IsWhole d
         by None e = refl
         by (Some s) e =
             let h = find_has (λ (s : ComSpec). nat_eq s.element n) port.com_specs s e in
-            let ports = (both (formed.names_fit (map (λ (p : Port). p.short_name) c.ports)) (list_all (formed.port_fits d.types) c.ports) (ports_formed d f p m w home.instance.component c home.has)).1 in
+            let ports = (and_parts (formed.names_fit (map (λ (p : Port). p.short_name) c.ports)) (list_all (formed.port_fits d.types) c.ports) (ports_formed d f p m w home.instance.component c home.has)).1 in
             let fits = all_at (formed.port_fits d.types) c.ports k port ports at in
-            let specs = (both (nat_lt port.interface (length d.types.interfaces)) (list_all (formed.com_spec_fits d.types port.interface) port.com_specs) fits).1 in
+            let specs = (and_parts (nat_lt port.interface (length d.types.interfaces)) (list_all (formed.com_spec_fits d.types port.interface) port.com_specs) fits).1 in
             let spec = all_at (formed.com_spec_fits d.types port.interface) port.com_specs h.place s specs h.there in
-            (both (is_in 1 1024 s.queue_length) _ (both (nat_lt s.element (formed.items_at d.types port.interface)) _ spec).1).0
+            (and_parts (is_in 1 1024 s.queue_length) _ (and_parts (nat_lt s.element (formed.items_at d.types port.interface)) _ spec).1).0
 
     pub operation_is : (k n : ℕ) (h : Provides d c k n) → operation_at d f (Some i) k n ≡ Some h.operation
     operation_is k n h =
@@ -180,16 +182,16 @@ module _ (d : Description) (f : Flat) (p : BusPlan) (m : Mapping) (w : IsWhole d
         → (queue_fits queue && (nat_le (length (arguments (Some o))) 16 && (list_all (λ (a : ArgPlan). limits_fit a.limits) (arguments (Some o)) && code_list_fits (codes (Some o))))) ≡ true
     unfolding arguments codes
     parts_sound queue o fits kept =
-        let a = both (is_sound d.types.data_types o) (list_all (λ (e : ApplicationError). is_in 1 63 e.code) o.errors) kept in
-        let b = both (nat_le (length o.arguments) 16) (list_all (is_sound_argument d.types.data_types) o.arguments && has_distinct_codes o.errors) a.0 in
-        let e = both (list_all (is_sound_argument d.types.data_types) o.arguments) (has_distinct_codes o.errors) b.1 in
-        both_of (queue_fits queue) _ fits
-        (both_of (nat_le (length (map (argument_of d) o.arguments)) 16) _ (subst (λ x. nat_le x 16 ≡ true) (sym (length-map (argument_of d) o.arguments)) b.0)
-        (both_of (list_all (λ (a : ArgPlan). limits_fit a.limits) (map (argument_of d) o.arguments)) _
+        let a = and_parts (is_sound d.types.data_types o) (list_all (λ (e : ApplicationError). is_in 1 63 e.code) o.errors) kept in
+        let b = and_parts (nat_le (length o.arguments) 16) (list_all (is_sound_argument d.types.data_types) o.arguments && has_distinct_codes o.errors) a.0 in
+        let e = and_parts (list_all (is_sound_argument d.types.data_types) o.arguments) (has_distinct_codes o.errors) b.1 in
+        and_from (queue_fits queue) _ fits
+        (and_from (nat_le (length (map (argument_of d) o.arguments)) 16) _ (subst (λ x. nat_le x 16 ≡ true) (sym (length-map o.arguments (argument_of d))) b.0)
+        (and_from (list_all (λ (a : ArgPlan). limits_fit a.limits) (map (argument_of d) o.arguments)) _
         (all_if (λ (a : ArgPlan). limits_fit a.limits) (map (argument_of d) o.arguments)
         (λ j y at. let z = map_at (argument_of d) o.arguments j y at in
         subst (λ (u : ArgPlan). limits_fit u.limits ≡ true) (sym z.is) (argument_fits z.item (all_at (is_sound_argument d.types.data_types) o.arguments j z.item e.0 z.there))))
-        (both_of (is_distinct (map (λ (e : ApplicationError). e.code) o.errors)) (list_all (is_in 1 63) (map (λ (e : ApplicationError). e.code) o.errors)) (codes_distinct o.errors ∙ e.1) (codes_within o.errors ∙ a.1))))
+        (and_from (is_distinct (map (λ (e : ApplicationError). e.code) o.errors)) (list_all (is_in 1 63) (map (λ (e : ApplicationError). e.code) o.errors)) (codes_distinct o.errors ∙ e.1) (codes_within o.errors ∙ a.1))))
 
     sound_server : (k n j : ℕ) (h : Provides d c k n) → server_sound (server_at d f i k n j) ≡ true
     unfolding arguments codes
@@ -214,7 +216,7 @@ module _ (d : Description) (f : Flat) (p : BusPlan) (m : Mapping) (w : IsWhole d
         let side : e ≡ record { short_name = e.short_name; runnable = e.runnable; kind = declared_event.OperationInvoked k n; disabled_in_modes = e.disabled_in_modes } =
         λ q. record { short_name = e.short_name; runnable = e.runnable; kind = kind q; disabled_in_modes = e.disabled_in_modes } in
         let kept : (count (nat_eq e.runnable) (started c.behavior.events) == 1) ≡ true = subst (λ x. is_alone c.behavior.events x ≡ true) side (alone_kept d f p m w home.instance.component c home.has j e at) in
-        let one = number_same (count (nat_eq e.runnable) (started c.behavior.events)) 1 kept in
+        let one = eqb-true (count (nat_eq e.runnable) (started c.behavior.events)) 1 kept in
         once (nat_eq e.runnable) (started c.behavior.events) a j y.runnable e.runnable (omega arith)
         (mapped (λ (x : Event). x.runnable) c.behavior.events a y there) (eq-eqb e.runnable y.runnable (sym same)) (mapped (λ (x : Event). x.runnable) c.behavior.events j e at) (eq-eqb e.runnable e.runnable refl)
 
@@ -222,7 +224,7 @@ module _ (d : Description) (f : Flat) (p : BusPlan) (m : Mapping) (w : IsWhole d
   pub served_first : (es : List Event) (j : ℕ) (e : Event) (r k n : ℕ) → slice_get es j ≡ Some e → e.runnable ≡ r → e.kind ≡ declared_event.OperationInvoked k n → ((a : ℕ) (y : Event) → slice_get es a ≡ Some y → y.runnable ≡ r → a ≡ j) → served_by es r ≡ Some (k, n)
   served_first [] j e r k n at is kind one = not_some e at
   served_first (x ∷ es) zero e r k n at is kind one =
-      let same : x ≡ e = some_same x e at in
+      let same : x ≡ e = same_Some x e at in
       let starts : nat_eq x.runnable r ≡ true = eq-eqb x.runnable r (ap (λ (y : Event). y.runnable) same ∙ is) in
       let serving : serves r x ≡ Some (k, n) = ap (λ b. cond b (invoked_by x.kind) None) starts ∙ ap invoked_by (ap (λ (y : Event). y.kind) same ∙ kind) in
       ap (λ o. option_map_or (λ (z : ℕ × ℕ). Some z) o (served_by es r)) serving
@@ -240,7 +242,7 @@ module _ (d : Description) (f : Flat) (p : BusPlan) (m : Mapping) (w : IsWhole d
     pub kind : event.kind ≡ declared_event.OperationInvoked x.0 x.1
 
   invoked_is : (kind : declared_kind.EventKind) (x : ℕ × ℕ) → invoked_by kind ≡ Some x → kind ≡ declared_event.OperationInvoked x.0 x.1
-  invoked_is (declared_event.OperationInvoked k n) x e = let same : (k, n) ≡ x = some_same (k, n) x e in λ j. declared_event.OperationInvoked (same j).0 (same j).1
+  invoked_is (declared_event.OperationInvoked k n) x e = let same : (k, n) ≡ x = same_Some (k, n) x e in λ j. declared_event.OperationInvoked (same j).0 (same j).1
   invoked_is (declared_event.Timing period) x e = not_some x e
   invoked_is declared_event.Init x e = not_some x e
   invoked_is (declared_event.DataReceived k n) x e = not_some x e
@@ -271,10 +273,10 @@ module _ (d : Description) (f : Flat) (p : BusPlan) (m : Mapping) (w : IsWhole d
 
     served : (s : ℕ) (v : ServerPlan) → slice_get (servers d f) s ≡ Some v → server_served (planned d f es) s v ≡ true
     served s v at = subst (λ (u : ServerPlan). server_served (planned d f es) s u ≡ true) (sym x.is)
-        (both_of (server_sound (server_at d f x.i x.k x.n x.by.place)) _ (sound_server x.i x.c x.home x.k x.n x.by.place x.provides)
-        (both_of (look (events d f) (pair_number (events_of d f) (x.i, x.by.place)) (λ (u : EventPlan). invoked_here s u.kind) false) _
+        (and_from (server_sound (server_at d f x.i x.k x.n x.by.place)) _ (sound_server x.i x.c x.home x.k x.n x.by.place x.provides)
+        (and_from (look (events d f) (pair_number (events_of d f) (x.i, x.by.place)) (λ (u : EventPlan). invoked_here s u.kind) false) _
         (looked (events d f) (pair_number (events_of d f) (x.i, x.by.place)) (event_of d f x.i x.by.event) (λ (u : EventPlan). invoked_here s u.kind) false (event_there d f x.i x.c x.home x.by.place x.by.event x.by.there)
-        ∙ ap (λ k. invoked_here s (kind_of d f x.i k)) x.by.kind ∙ same_test (server_number d f (Some x.i, Some x.k, x.n)) s x.number)
+        ∙ ap (λ k. invoked_here s (kind_of d f x.i k)) x.by.kind ∙ eq-eqb (server_number d f (Some x.i, Some x.k, x.n)) s x.number)
         (ap (λ r. look (runnables d f) (pair_number (runnables_of d f) (x.i, r)) (λ (u : Runnable). same_number u.server (Some s)) false) (started_is x.i x.c x.home x.by.place x.by.event x.by.there)
         ∙ looked (runnables d f) (pair_number (runnables_of d f) (x.i, x.by.event.runnable)) (runnable_of d f x.i x.c x.by.event.runnable r.0) (λ (u : Runnable). same_number u.server (Some s)) false
         (runnable_there d f x.i x.c x.home x.by.event.runnable r.0 r.1)
@@ -299,10 +301,10 @@ module _ (d : Description) (f : Flat) (p : BusPlan) (m : Mapping) (w : IsWhole d
         by (Some y) is =
             let z = served_is x.c.behavior.events x.m y is in
             looked (servers d f) (server_number d f (Some x.i, Some y.0, y.1)) (server_at d f x.i y.0 y.1 z.place) (λ (v : ServerPlan). v.runnable == q) false (server_there d f p m w x.i x.c x.home y.0 y.1 z.place z.event z.there z.kind)
-            ∙ same_test (pair_number (runnables_of d f) (x.i, started_by d f x.i z.place)) q (ap (λ n. pair_number (runnables_of d f) (x.i, n)) (started_is x.i x.c x.home z.place z.event z.there ∙ z.starts) ∙ x.number)
+            ∙ eq-eqb (pair_number (runnables_of d f) (x.i, started_by d f x.i z.place)) q (ap (λ n. pair_number (runnables_of d f) (x.i, n)) (started_is x.i x.c x.home z.place z.event z.there ∙ z.starts) ∙ x.number)
 
     pub all_served : (every_from 0 (server_served (planned d f es)) (servers d f) && every_from 0 (serves_back (planned d f es)) (runnables d f)) ≡ true
-    all_served = both_of (every_from 0 (server_served (planned d f es)) (servers d f)) (every_from 0 (serves_back (planned d f es)) (runnables d f))
+    all_served = and_from (every_from 0 (server_served (planned d f es)) (servers d f)) (every_from 0 (serves_back (planned d f es)) (runnables d f))
         (every_if (server_served (planned d f es)) 0 (servers d f) (λ s v at. let none : s ≡ 0 + s = omega arith in subst (λ k. server_served (planned d f es) k v ≡ true) none (served s v at)))
         (every_if (serves_back (planned d f es)) 0 (runnables d f) (λ q r at. let none : q ≡ 0 + q = omega arith in subst (λ k. serves_back (planned d f es) k r ≡ true) none (served_back q r at)))
 

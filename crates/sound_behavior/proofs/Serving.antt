@@ -2,8 +2,8 @@
 use Rattle.std.proofs.Common.{◌≡◌, ℕ, zero, suc, ◌+◌, ◌<◌, Bool, true, cond, ◌==◌, nat_eq, refl, sym, ◌∙◌, ap, subst, arith, List, [], ◌∷◌, ◌++◌, length, Option, Some, None, option_map, option_and_then, inl, inr}
 use Rattle.std.specs.List.{slice_get, position_from}
 use Rattle.std.specs.Option.{option_map_or, unwrap_or}
-use Rattle.std.proofs.lemmas.Bool.{false≢true, eqb-true, eq-eqb}
-use Rattle.std.proofs.lemmas.Option.{slice_get_within}
+use Rattle.std.proofs.lemmas.Bool.{false≢true, eqb-true, eq-eqb, and_from, and_parts}
+use Rattle.std.proofs.lemmas.Option.{same_Some, slice_get_within}
 use Rattle.interface_types.specs.declared.interface.Interface.{Interface}
 use Rattle.interface_types.specs.declared.interface.InterfaceKind.{InterfaceKind}
 use Rattle.interface_types.specs.declared.interface.InterfaceKind.TheVariants.{SenderReceiver, ClientServer, ModeSwitch}
@@ -37,7 +37,7 @@ use Rattle.plan_ports.specs.Ports.{ports_of, port_of}
 use Rattle.plan_ports.specs.Things.{server_number, servers_of}
 use Rattle.plan_services.specs.Services.{server_at, server_of, servers}
 use Rattle.planned_descriptions.specs.Whole.{IsWhole}
-use Rattle.sound_behavior.proofs.Lists.{clash, both, both_of, some_same, not_some, found, position_at, number_same, Passes, counted_at, once, counts_some, mapped, map_at, MapAt}
+use Rattle.sound_behavior.proofs.Lists.{clash, not_some, found, position_at, Passes, counted_at, once, counts_some, mapped, map_at, MapAt}
 use Rattle.sound_behavior.proofs.Parts.{Home, home_component, component_home}
 use Rattle.sound_behavior.proofs.Rules.{kind_kept, served_kept}
 use Rattle.sound_behavior.proofs.Sites.{PortSite, IsSite, ports_at_home, site_there, numbered_kind, of_kind_at, kind_apart, number_at, place_of}
@@ -48,7 +48,7 @@ use Rattle.sound_behavior.proofs.Items.{item_there, operation_item, operation_pr
 module _ (k n : ℕ) where
   pub invokes_is : (kind : EventKind) → invokes k n kind ≡ true → kind ≡ OperationInvoked k n
   invokes_is (OperationInvoked a b) e =
-      let two = both (nat_eq k a) (nat_eq n b) e in
+      let two = and_parts (nat_eq k a) (nat_eq n b) e in
       λ j. OperationInvoked (sym (eqb-true k a two.0) j) (sym (eqb-true n b two.1) j)
   invokes_is (Timing a) e = absurd (false≢true e)
   invokes_is Init e = absurd (false≢true e)
@@ -58,7 +58,7 @@ module _ (k n : ℕ) where
   invokes_is (ModeSwitchedAck a) e = absurd (false≢true e)
 
   pub is_invokes : (kind : EventKind) → kind ≡ OperationInvoked k n → invokes k n kind ≡ true
-  is_invokes kind e = subst (λ x. invokes k n x ≡ true) (sym e) (both_of (nat_eq k k) (nat_eq n n) (eq-eqb k k refl) (eq-eqb n n refl))
+  is_invokes kind e = subst (λ x. invokes k n x ≡ true) (sym e) (and_from (nat_eq k k) (nat_eq n n) (eq-eqb k k refl) (eq-eqb n n refl))
 
   one_invoked : (kind : EventKind) (rest : List (ℕ × ℕ)) → count (same_operation (k, n)) (operation_of kind ++ rest) ≡ cond (invokes k n kind) (suc (count (same_operation (k, n)) rest)) (count (same_operation (k, n)) rest)
   one_invoked (OperationInvoked a b) rest = refl
@@ -75,8 +75,8 @@ module _ (k n : ℕ) where
 
 pub each_at : (test : ℕ → Bool) (i count k : ℕ) → each_number test i count ≡ true → k < count → test (i + k) ≡ true
 each_at test i zero k all l = absurd (omega arith)
-each_at test i (suc n) zero all l = let place : i ≡ i + 0 = omega arith in subst (λ m. test m ≡ true) place (both (test i) (each_number test (i + 1) n) all).0
-each_at test i (suc n) (suc k) all l = let place : i + 1 + k ≡ i + suc k = omega arith in subst (λ m. test m ≡ true) place (each_at test (i + 1) n k (both (test i) (each_number test (i + 1) n) all).1 (omega arith))
+each_at test i (suc n) zero all l = let place : i ≡ i + 0 = omega arith in subst (λ m. test m ≡ true) place (and_parts (test i) (each_number test (i + 1) n) all).0
+each_at test i (suc n) (suc k) all l = let place : i + 1 + k ≡ i + suc k = omega arith in subst (λ m. test m ≡ true) place (each_at test (i + 1) n k (and_parts (test i) (each_number test (i + 1) n) all).1 (omega arith))
 
 -- an operation that a port of a component provides
 pub record Provides (d : Description) (c : Component) (k n : ℕ) : Type 0 where
@@ -116,7 +116,7 @@ module _ (d : Description) (f : Flat) (p : BusPlan) (m : Mapping) (w : IsWhole d
         let each : each_number (λ x. count (same_operation (k, x)) (invoked c.behavior.events) == 1) 0 (operations_at d.types h.port) ≡ true = subst (λ (q : Port). is_served d.types c.behavior.events k q ≡ true) side served in
         let none : 0 + n ≡ n = omega arith in
         let here = subst (λ x. (count (same_operation (k, x)) (invoked c.behavior.events) == 1) ≡ true) none (each_at (λ x. count (same_operation (k, x)) (invoked c.behavior.events) == 1) 0 (operations_at d.types h.port) n each less) in
-        sym (invoked_count k n c.behavior.events) ∙ number_same (count (same_operation (k, n)) (invoked c.behavior.events)) 1 here
+        sym (invoked_count k n c.behavior.events) ∙ eqb-true (count (same_operation (k, n)) (invoked c.behavior.events)) 1 here
 
     pub invoked_by : (k n : ℕ) → Provides d c k n → InvokedBy c k n
     invoked_by k n h =
@@ -211,7 +211,7 @@ module _ (d : Description) (f : Flat) (p : BusPlan) (m : Mapping) (w : IsWhole d
           → option_map {U = SiteKind × ℕ} (λ (z : Interface). (kind_at t.owner x.port.kind z.kind, count_at t.owner x.port.kind z.kind)) o ≡ Some (t.kind, x.count) → ServerSite t
       with_interface x None has shape = not_some (t.kind, x.count) shape
       with_interface x (Some z) has shape =
-          let two : (kind_at t.owner x.port.kind z.kind, count_at t.owner x.port.kind z.kind) ≡ (t.kind, x.count) = some_same (kind_at t.owner x.port.kind z.kind, count_at t.owner x.port.kind z.kind) (t.kind, x.count) shape in
+          let two : (kind_at t.owner x.port.kind z.kind, count_at t.owner x.port.kind z.kind) ≡ (t.kind, x.count) = same_Some (kind_at t.owner x.port.kind z.kind, count_at t.owner x.port.kind z.kind) (t.kind, x.count) shape in
           let r = server_kind t.owner x.port z x.count t.item (ap (λ (y : SiteKind × ℕ). y.0) two ∙ kind) (ap (λ (y : SiteKind × ℕ). y.1) two) x.within in
           let there : port_of d f (Some r.0) x.k ≡ Some x.port = ap (λ o. slice_get (ports_of d f o) x.k) (sym r.3) ∙ x.there in
           with_component r.0 (component_of d f r.0) refl r.1 r.2 r.3 r.4 r.5 r.6 there

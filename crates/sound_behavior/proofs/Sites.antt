@@ -2,8 +2,8 @@
 use Rattle.std.proofs.Common.{◌≡◌, ℕ, zero, suc, ◌+◌, ◌<◌, Bool, true, false, cond, ◌&&◌, nat_eq, refl, sym, ◌∙◌, ap, subst, arith, List, [], ◌∷◌, filter, length, Option, Some, None, ◌⊎◌, inl, inr}
 use Rattle.std.specs.List.{slice_get}
 use Rattle.std.specs.Option.{option_map_or, option_eq, unwrap_or}
-use Rattle.std.proofs.lemmas.Bool.{eqb-true, eq-eqb, false≢true}
-use Rattle.std.proofs.lemmas.Option.{slice_get_within}
+use Rattle.std.proofs.lemmas.Bool.{eqb-true, eq-eqb, false≢true, and_from, and_parts}
+use Rattle.std.proofs.lemmas.Option.{same_Some, slice_get_within}
 use Rattle.interface_types.specs.declared.interface.TypeTable.{TypeTable}
 use Rattle.description_types.specs.declared.component.Component.{Component}
 use Rattle.description_types.specs.declared.component.Port.{Port}
@@ -17,7 +17,7 @@ use Rattle.plan_numbers.specs.Lists.{positions}
 use Rattle.plan_numbers.specs.Parts.{component_of, of_instances}
 use Rattle.plan_numbers.specs.Sites.{site, sites_with, shape_at, sites_at, sites_of_ports, variables_of, sites_of_component, root_ports, sites}
 use Rattle.plan_ports.specs.Ports.{ports_of, port_of}
-use Rattle.sound_behavior.proofs.Lists.{some_same, not_some, both, both_of, found, before, In, in_from, reach, position_is, length-positions, mapped, map_at, append_left, append_right, append_at, Later, kept, kept_at}
+use Rattle.sound_behavior.proofs.Lists.{not_some, found, before, In, in_from, reach, position_is, length-positions, mapped, map_at, append_left, append_right, append_at, Later, kept, kept_at}
 use Rattle.sound_behavior.proofs.Parts.{Home, home_component, component_home, start, OfInstance, of_instance, to_instance}
 
 -- ---- keys that are apart
@@ -34,12 +34,12 @@ option_itself (Some a) = eq-eqb a a refl
 
 pub key_equal : (a b : Key) → same_key a b ≡ true → a ≡ b
 key_equal a b e =
-    let outer = both (option_eq nat_eq a.0 b.0 && option_eq nat_eq a.1 b.1) (nat_eq a.2 b.2) e in
-    let inner = both (option_eq nat_eq a.0 b.0) (option_eq nat_eq a.1 b.1) outer.0 in
+    let outer = and_parts (option_eq nat_eq a.0 b.0 && option_eq nat_eq a.1 b.1) (nat_eq a.2 b.2) e in
+    let inner = and_parts (option_eq nat_eq a.0 b.0) (option_eq nat_eq a.1 b.1) outer.0 in
     λ j. (option_equal a.0 b.0 inner.0 j, option_equal a.1 b.1 inner.1 j, eqb-true a.2 b.2 outer.1 j)
 
 pub key_itself : (a : Key) → same_key a a ≡ true
-key_itself a = both_of (option_eq nat_eq a.0 a.0 && option_eq nat_eq a.1 a.1) (nat_eq a.2 a.2) (both_of (option_eq nat_eq a.0 a.0) (option_eq nat_eq a.1 a.1) (option_itself a.0) (option_itself a.1)) (eq-eqb a.2 a.2 refl)
+key_itself a = and_from (option_eq nat_eq a.0 a.0 && option_eq nat_eq a.1 a.1) (nat_eq a.2 a.2) (and_from (option_eq nat_eq a.0 a.0) (option_eq nat_eq a.1 a.1) (option_itself a.0) (option_itself a.1)) (eq-eqb a.2 a.2 refl)
 
 abbrev pub Apart : List Site → Type 0
 Apart xs = (a b : ℕ) (s t : Site) → slice_get xs a ≡ Some s → slice_get xs b ≡ Some t → key_of s ≡ key_of t → a ≡ b
@@ -112,7 +112,7 @@ module _ (types : TypeTable) (owner : Option ℕ) (ports : List Port) where
           let long : length (positions 0 x.1) ≡ x.1 = length-positions 0 x.1 in
           let less : w.place < x.1 = omega arith in
           let none : 0 + w.place ≡ w.place = omega arith in
-          let item : m.item ≡ w.place = some_same m.item w.place (sym m.there ∙ position_is 0 x.1 w.place less ∙ ap (λ n. Some n) none) in
+          let item : m.item ≡ w.place = same_Some m.item w.place (sym m.there ∙ position_is 0 x.1 w.place less ∙ ap (λ n. Some n) none) in
           let is_site : s ≡ site owner (Some w.at) w.place x.0 = m.is ∙ ap (λ n. site owner (Some w.at) n x.0) item in
           let kind : s.kind ≡ x.0 = ap (λ (t : Site). t.kind) is_site in
           let number : s.item ≡ w.place = ap (λ (t : Site). t.item) is_site in
@@ -168,14 +168,14 @@ module _ (d : Description) (f : Flat) where
       of_component w (inl at) =
           let ports = ports_at_home w.i w.c w.home in
           let p = at_port d.types (Some w.i) (ports_of d f (Some w.i)) w.place s (subst (λ ps. slice_get (sites_of_ports d.types (Some w.i) ps) w.place ≡ Some s) (sym ports) at) in
-          port_at a s (Some w.i) p.is (λ k named. w.sum ∙ ap (λ n. start d f (sites_of_component d.types) w.i + n) (p.place ∙ ap (λ m. port_place d.types (Some w.i) (ports_of d f (Some w.i)) m s.item) (some_same p.is.k k (sym p.is.named ∙ named))))
+          port_at a s (Some w.i) p.is (λ k named. w.sum ∙ ap (λ n. start d f (sites_of_component d.types) w.i + n) (p.place ∙ ap (λ m. port_place d.types (Some w.i) (ports_of d f (Some w.i)) m s.item) (same_Some p.is.k k (sym p.is.named ∙ named))))
       of_component w (inr l) =
           let m = map_at (λ n. site (Some w.i) None n Variable) (positions 0 (length w.c.behavior.variables)) l.place s l.there in
           let within : l.place < length (positions 0 (length w.c.behavior.variables)) = slice_get_within (positions 0 (length w.c.behavior.variables)) l.place m.item m.there in
           let long : length (positions 0 (length w.c.behavior.variables)) ≡ length w.c.behavior.variables = length-positions 0 (length w.c.behavior.variables) in
           let less : l.place < length w.c.behavior.variables = omega arith in
           let none : 0 + l.place ≡ l.place = omega arith in
-          let item : m.item ≡ l.place = some_same m.item l.place (sym m.there ∙ position_is 0 (length w.c.behavior.variables) l.place less ∙ ap (λ n. Some n) none) in
+          let item : m.item ≡ l.place = same_Some m.item l.place (sym m.there ∙ position_is 0 (length w.c.behavior.variables) l.place less ∙ ap (λ n. Some n) none) in
           let is_site : s ≡ site (Some w.i) None l.place Variable = m.is ∙ ap (λ n. site (Some w.i) None n Variable) item in
           let number : s.item ≡ l.place = ap (λ (t : Site). t.item) is_site in
           let ports = ports_at_home w.i w.c w.home in
@@ -190,7 +190,7 @@ module _ (d : Description) (f : Flat) where
           of_component w (append_at (sites_of_ports d.types (Some w.i) w.c.ports) (variables_of w.i (length w.c.behavior.variables)) w.place s w.inside)
       by (inr l) =
           let p = at_port d.types None (root_ports d) l.place s l.there in
-          port_at a s None p.is (λ k named. l.sum ∙ ap (λ n. length (of_instances (sites_of_component d.types) d f) + n) (p.place ∙ ap (λ m. port_place d.types None (root_ports d) m s.item) (some_same p.is.k k (sym p.is.named ∙ named))))
+          port_at a s None p.is (λ k named. l.sum ∙ ap (λ n. length (of_instances (sites_of_component d.types) d f) + n) (p.place ∙ ap (λ m. port_place d.types None (root_ports d) m s.item) (same_Some p.is.k k (sym p.is.named ∙ named))))
 
   pub sites_apart : Apart (sites d f)
   sites_apart a b s t u v e = (site_at a s u).place ∙ ap place_of e ∙ sym (site_at b t v).place

@@ -1,11 +1,9 @@
 -- The tasks of the mapping fit the plan: what is mapped is there, as often as it is owed, and a runnable's events are in one task.
 use Rattle.std.proofs.Common.{◌≡◌, ℕ, zero, suc, ◌+◌, ◌<◌, ◌≤◌, Bool, true, false, cond, nat_eq, bytes_eq, refl, sym, ◌∙◌, ap, subst, arith, List, [], ◌∷◌, filter, length, Option, Some, None, option_map, option_and_then}
-use Rattle.std.specs.Prelude.{nat_lt, nat_le}
 use Rattle.std.specs.List.{slice_get, position_from, list_any}
 use Rattle.std.specs.Option.{option_map_or}
-use Rattle.std.proofs.lemmas.Bool.{eqb-true, eq-eqb}
-use Rattle.std.proofs.lemmas.Bool.Decides.{nat_tests}
-use Rattle.std.proofs.lemmas.Option.{slice_get_within}
+use Rattle.std.proofs.lemmas.Bool.{eqb-true, eq-eqb, and_parts, ltb-true}
+use Rattle.std.proofs.lemmas.Option.{same_Some, slice_get_within}
 use Rattle.rte_value.specs.Values.{same_number}
 use Rattle.description_types.specs.declared.component.Component.{Component}
 use Rattle.description_types.specs.declared.component.Event.{Event}
@@ -31,22 +29,10 @@ use Rattle.plan_numbers.specs.Lists.{from}
 use Rattle.plan_numbers.specs.Parts.{component_of, events_of, runnables_of}
 use Rattle.plan_runnables.specs.Started.{event_of, events, runnables}
 use Rattle.planned_descriptions.specs.Whole.{IsWhole}
-use Rattle.sound_behavior.proofs.Lists.{both, some_same, not_some, option_same, any_at, position_at, looked}
+use Rattle.sound_behavior.proofs.Lists.{not_some, option_same, any_at, position_at, looked}
 use Rattle.sound_behavior.proofs.Members.{Has, has_flat, has_map, has_kept, kept_has, order_has, has_first, has_last, tasks_one, gathered_few}
 use Rattle.sound_behavior.proofs.Parts.{Home, home_component, component_home, one_at, event_there, RunnableAt, runnable_at, numbers_apart, itself, event_count, runnable_count}
 use Rattle.sound_behavior.proofs.Rules.{planned, spread_kept, event_formed}
-
-pub below : (a b : ℕ) → nat_lt a b ≡ true → a < b
-below a b e = grind (arith, nat_tests)
-
-pub is_below : (a b : ℕ) → a < b → nat_lt a b ≡ true
-is_below a b l = grind (arith, nat_tests)
-
-pub at_most : (a b : ℕ) → a ≤ b → nat_le a b ≡ true
-at_most a b l = grind (arith, nat_tests)
-
-pub most : (a b : ℕ) → nat_le a b ≡ true → a ≤ b
-most a b e = grind (arith, nat_tests)
 
 module _ (d : Description) (f : Flat) where
   -- ---- what a mapped event names is there
@@ -63,9 +49,9 @@ module _ (d : Description) (f : Flat) where
       by_place : (i : ℕ) (c : Component) → Home d f i c → (o : Option ℕ) → position_from (λ (v : Event). bytes_eq x.event v.short_name) 0 c.behavior.events ≡ o → option_map {U = ℕ × ℕ} (λ m. (i, m)) o ≡ Some y → NamedEvent y
       by_place i c h None at e = not_some y e
       by_place i c h (Some m) at e =
-          let same : (i, m) ≡ y = some_same (i, m) y e in
+          let same : (i, m) ≡ y = same_Some (i, m) y e in
           let w = position_at (λ (v : Event). bytes_eq x.event v.short_name) 0 c.behavior.events m at in
-          let place : 0 + w.place ≡ m = some_same (0 + w.place) m (sym w.is ∙ at) in
+          let place : 0 + w.place ≡ m = same_Some (0 + w.place) m (sym w.is ∙ at) in
           let here : w.place ≡ m = omega arith in
           subst NamedEvent same (record { c = c; home = h; event = w.item; there = ap (slice_get c.behavior.events) (sym here) ∙ w.there })
 
@@ -94,14 +80,14 @@ module _ (d : Description) (f : Flat) where
     where
       by : (v : MappedEvent) → Has MappedEvent d.mapping.events v → v.task ≡ t → (o : Option (ℕ × ℕ)) → named_by d f v ≡ o → (k : ℕ) → slice_get (option_map_or (λ (z : ℕ × ℕ). pair_number (events_of d f) z ∷ []) o []) k ≡ Some e → MappedIn t e
       by v has task None is k at = absurd (cc at)
-      by v has task (Some z) is zero at = record { mapped = v; has = has; task = task; names = z; named = is; number = some_same (pair_number (events_of d f) z) e at }
+      by v has task (Some z) is zero at = record { mapped = v; has = has; task = task; names = z; named = is; number = same_Some (pair_number (events_of d f) z) e at }
       by v has task (Some z) is (suc k) at = absurd (cc at)
 
   -- the tasks of an event's runnable have that of the event
   from_has : (i r n m : ℕ) (es : List Event) (e : Event) (t : ℕ) → slice_get es m ≡ Some e → e.runnable ≡ r → Has ℕ (tasks_of_event d f (i, n + m)) t → Has ℕ (tasks_from d f i r n es) t
   from_has i r n m [] e t at is h = absurd (cc at)
   from_has i r n zero (x ∷ es) e t at is h =
-      let same : x ≡ e = some_same x e at in
+      let same : x ≡ e = same_Some x e at in
       let started : nat_eq r x.runnable ≡ true = eq-eqb r x.runnable (sym is ∙ ap (λ (v : Event). v.runnable) (sym same)) in
       let place : n + 0 ≡ n = omega arith in
       has_first (cond (nat_eq r x.runnable) (tasks_of_event d f (i, n)) []) (tasks_from d f i r (n + 1) es) t
@@ -131,7 +117,7 @@ module _ (d : Description) (f : Flat) (p : BusPlan) (m : Mapping) (w : IsWhole d
   started_runnable y x = looked (events d f) (pair_number (events_of d f) y) (event_of d f y.0 x.event) (λ (v : EventPlan). Some v.runnable) None (event_there d f y.0 x.c x.home y.1 x.event x.there)
 
   pub starts_within : (i : ℕ) (c : Component) → Home d f i c → (k : ℕ) (e : Event) → slice_get c.behavior.events k ≡ Some e → e.runnable < length c.behavior.runnables
-  starts_within i c home k e at = below e.runnable (length c.behavior.runnables) (both _ _ (event_formed d f p m w home.instance.component c home.has k e at)).0
+  starts_within i c home k e at = ltb-true e.runnable (length c.behavior.runnables) (and_parts _ _ (event_formed d f p m w home.instance.component c home.has k e at)).0
 
   -- a task with an event of a runnable is one of those that the rules name
   pub holds_event : (r : ℕ) (v : plan.Runnable) (x : RunnableAt d f r v) (n : ℕ) (t : Task) → slice_get tasks n ≡ Some t → list_any (λ e. same_number (runnable_of_event (planned d f es) e) (Some r)) t.events ≡ true
@@ -144,7 +130,7 @@ module _ (d : Description) (f : Flat) (p : BusPlan) (m : Mapping) (w : IsWhole d
       let y = mapped_in d f n e.item (record { place = e.place; there = ap (λ ks. slice_get ks e.place) (sym inside) ∙ e.there }) in
       let z = named_event d f y.mapped y.names y.named in
       let same : pair_number (runnables_of d f) (y.names.0, z.event.runnable) ≡ pair_number (runnables_of d f) (x.i, x.m) =
-      some_same (pair_number (runnables_of d f) (y.names.0, z.event.runnable)) (pair_number (runnables_of d f) (x.i, x.m))
+      same_Some (pair_number (runnables_of d f) (y.names.0, z.event.runnable)) (pair_number (runnables_of d f) (x.i, x.m))
       (sym (started_runnable y.names z) ∙ ap (runnable_of_event (planned d f es)) y.number ∙ option_same (runnable_of_event (planned d f es) e.item) (Some r) e.passes ∙ ap (λ k. Some k) (sym x.number)) in
       let apart = numbers_apart d f runnable_count y.names.0 x.i z.c x.c z.home x.home z.event.runnable x.m (starts_within y.names.0 z.c z.home y.names.1 z.event z.there) (slice_get_within x.c.behavior.runnables x.m x.runnable x.there) same in
       subst (λ i. Has ℕ (mapped_rules.tasks_of d f (i, x.m)) n) apart.0

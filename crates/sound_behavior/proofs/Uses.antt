@@ -1,5 +1,6 @@
 -- Accesses are sound: what each names is there, of the runnable's instance, and takes its words.
 use Rattle.std.proofs.Common.{◌≡◌, ℕ, Bool, true, false, cond, ◌&&◌, ◌||◌, not, ◌==◌, refl, sym, ◌∙◌, ap, arith, List, [], map, length, Option, Some, None, option_map, option_and_then}
+use Rattle.std.proofs.lemmas.Bool.{and_from, and_parts, eq-eqb, eqb-true, leb-true, lt-ltb, ltb-true}
 use Rattle.std.specs.Prelude.{nat_lt, nat_le, replicate}
 use Rattle.std.specs.List.{slice_get, list_all}
 use Rattle.std.specs.Option.{option_map_or}
@@ -60,13 +61,12 @@ use Rattle.plan_services.specs.Modes.{machine_at, machines, mode_port_at, mode_p
 use Rattle.plan_services.specs.Services.{point_of, point_words, points}
 use Rattle.sound_descriptions.specs.WellFormed as formed
 use Rattle.planned_descriptions.specs.Whole.{IsWhole}
-use Rattle.sound_behavior.proofs.Lists.{both, both_of, some_same, same_test, same_option, number_same, looked, there_at, all_at}
+use Rattle.sound_behavior.proofs.Lists.{same_option, looked, there_at, all_at}
 use Rattle.sound_behavior.proofs.Parts.{Home, area_there}
 use Rattle.sound_behavior.proofs.Rules.{planned, access_kept, call_kept, runnable_formed}
 use Rattle.sound_behavior.proofs.Sites.{ports_at_home}
 use Rattle.sound_behavior.proofs.Items.{ItemAt, item_there, operation_item, modes_item}
 use Rattle.sound_behavior.proofs.Elems.{ElemAt, data_in, data_elem, variable_elem, queued, unqueued}
-use Rattle.sound_behavior.proofs.Tasks.{below, is_below, most}
 use Rattle.sound_behavior.proofs.Providers.{interface_is, machine_there, machine_modes, required_machine, required_modes, mode_port_there}
 use Rattle.sound_behavior.proofs.Points.{Calls, waits, goes_on, call, call_there, left_by_access}
 use Rattle.sound_behavior.proofs.Callers.{point_is, point_there, result_at, result_there}
@@ -85,7 +85,7 @@ module _ (d : Description) (f : Flat) (p : BusPlan) (m : Mapping) (w : IsWhole d
     elem_here : (n : ℕ) (s : Site) (k : ElemKind) (b : Bool) (o : Option DataType) (y : ElemAt d f es seen_as n s k b o) → s.owner ≡ Some i → (test : ElemPlan → Bool) → test y.elem ≡ true → elem_fits (planned d f es) (Some i) test n ≡ true
     elem_here n s k b o y owner test passes =
         looked es n y.elem (λ (e : ElemPlan). same_number e.instance (Some i) && test e) false y.there
-        ∙ both_of (same_number y.elem.instance (Some i)) (test y.elem) (same_option y.elem.instance (Some i) (y.owner ∙ owner)) passes
+        ∙ and_from (same_number y.elem.instance (Some i)) (test y.elem) (same_option y.elem.instance (Some i) (y.owner ∙ owner)) passes
 
     words_here : (n : ℕ) (s : Site) (k : ElemKind) (b : Bool) (o : Option DataType) (y : ElemAt d f es seen_as n s k b o) (limits : List Limits) → limits ≡ option_map_or (λ (t : DataType). replicate t.words t.limits) o [] → takes_words (planned d f es) n limits ≡ true
     words_here n s k b o y limits is =
@@ -115,9 +115,9 @@ module _ (d : Description) (f : Flat) (p : BusPlan) (m : Mapping) (w : IsWhole d
 
     variable_fits : (n : ℕ) → nat_lt n (length c.behavior.variables) ≡ true → (elem_fits (planned d f es) (Some i) is_variable (element_number d f i None n) && takes_words (planned d f es) (element_number d f i None n) (words_of_variable d.types c n)) ≡ true
     variable_fits n less =
-        let v = there_at c.behavior.variables n (below n (length c.behavior.variables) less) in
+        let v = there_at c.behavior.variables n (ltb-true n (length c.behavior.variables) less) in
         let y = variable_elem d f es seen_as i c home n v.0 v.1 in
-        both_of (elem_fits (planned d f es) (Some i) is_variable (element_number d f i None n)) (takes_words (planned d f es) (element_number d f i None n) (words_of_variable d.types c n))
+        and_from (elem_fits (planned d f es) (Some i) is_variable (element_number d f i None n)) (takes_words (planned d f es) (element_number d f i None n) (words_of_variable d.types c n))
         (elem_here (element_number d f i None n) (site (Some i) None n site_kind.Variable) elem.Variable false (slice_get d.types.data_types v.0.of_type) y refl is_variable (ap (λ k. not (queued k || unqueued k)) y.kept))
         (words_here (element_number d f i None n) (site (Some i) None n site_kind.Variable) elem.Variable false (slice_get d.types.data_types v.0.of_type) y (words_of_variable d.types c n)
         (ap (λ o. option_map_or (λ (v : Variable). words_of d.types.data_types v.of_type) o []) v.1))
@@ -166,7 +166,7 @@ module _ (d : Description) (f : Flat) (p : BusPlan) (m : Mapping) (w : IsWhole d
         found k at named = finds d.types c.ports (of_kind k port n) (access_kept d f p m w home.instance.component c home.has r rr j (of_kind k port n) there at) named
 
         fit : (k : AccessKind) → slice_get rr.accesses j ≡ Some (of_kind k port n) → formed.access_fits d.types c (of_kind k port n) ≡ true
-        fit k at = all_at (formed.access_fits d.types c) rr.accesses j (of_kind k port n) (both (list_all (formed.access_fits d.types c) rr.accesses) _ (runnable_formed d f p m w home.instance.component c home.has r rr there)).0 at
+        fit k at = all_at (formed.access_fits d.types c) rr.accesses j (of_kind k port n) (and_parts (list_all (formed.access_fits d.types c) rr.accesses) _ (runnable_formed d f p m w home.instance.component c home.has r rr there)).0 at
 
         item_of_side : (x : Option (PortKind × Item)) (side side2 : PortKind) (item item2 : Item) → x ≡ Some (side, item) → side ≡ side2 → item ≡ item2 → x ≡ Some (side2, item2)
         item_of_side x side side2 item item2 e s t = e ∙ (λ q. Some (s q, t q))
@@ -184,11 +184,11 @@ module _ (d : Description) (f : Flat) (p : BusPlan) (m : Mapping) (w : IsWhole d
             looked (points d f) (point_number d f (is_calling (i, r) port n)) (point_of d f (call i r (of_kind k port n) b))
             (λ (t : PointPlan). (same_number t.runnable (Some (pair_number (runnables_of d f) (i, r))) && (cond b t.asynchronous (not t.asynchronous))) && (same_limits (words_at d.types In c port n) t.ins && (b || same_limits (words_at d.types Out c port n) t.outs))) false
             (point_here r rr there j (of_kind k port n) at b calls)
-            ∙ both_of (same_number (Some (pair_number (runnables_of d f) (i, r))) (Some (pair_number (runnables_of d f) (i, r))) && (cond b b (not b))) _
-            (both_of (same_number (Some (pair_number (runnables_of d f) (i, r))) (Some (pair_number (runnables_of d f) (i, r)))) (cond b b (not b)) (same_option (Some (pair_number (runnables_of d f) (i, r))) (Some (pair_number (runnables_of d f) (i, r))) refl) (either b))
-            (both_of (same_limits (words_at d.types In c port n) (point_words d f In (call i r (of_kind k port n) b))) (b || same_limits (words_at d.types Out c port n) (point_words d f Out (call i r (of_kind k port n) b)))
+            ∙ and_from (same_number (Some (pair_number (runnables_of d f) (i, r))) (Some (pair_number (runnables_of d f) (i, r))) && (cond b b (not b))) _
+            (and_from (same_number (Some (pair_number (runnables_of d f) (i, r))) (Some (pair_number (runnables_of d f) (i, r)))) (cond b b (not b)) (same_option (Some (pair_number (runnables_of d f) (i, r))) (Some (pair_number (runnables_of d f) (i, r))) refl) (either b))
+            (and_from (same_limits (words_at d.types In c port n) (point_words d f In (call i r (of_kind k port n) b))) (b || same_limits (words_at d.types Out c port n) (point_words d f Out (call i r (of_kind k port n) b)))
             (limits_same (words_at d.types In c port n) (point_words d f In (call i r (of_kind k port n) b)) (words_point In port n x (call i r (of_kind k port n) b) refl refl refl))
-            (Rattle.sound_behavior.proofs.Lists.right_true b (same_limits (words_at d.types Out c port n) (point_words d f Out (call i r (of_kind k port n) b)))
+            (Rattle.std.proofs.lemmas.Bool.or_right b (same_limits (words_at d.types Out c port n) (point_words d f Out (call i r (of_kind k port n) b)))
             (limits_same (words_at d.types Out c port n) (point_words d f Out (call i r (of_kind k port n) b)) (words_point Out port n x (call i r (of_kind k port n) b) refl refl refl))))
           where
             either : (b : Bool) → cond b b (not b) ≡ true
@@ -203,11 +203,11 @@ module _ (d : Description) (f : Flat) (p : BusPlan) (m : Mapping) (w : IsWhole d
         use_here kind.Write at =
             let x = found kind.Write at refl in
             let y = writes_data kind.Write x Standard Provided x.needed.0 x.needed.1 in
-            both_of (elem_fits (planned d f es) (Some i) (λ e. is_unqueued e && e.provided) (element_number d f i (Some port) n)) _ (data_fits port n Provided Standard y (λ k b. unqueued k && b) refl) (data_words port n Provided Standard y In)
+            and_from (elem_fits (planned d f es) (Some i) (λ e. is_unqueued e && e.provided) (element_number d f i (Some port) n)) _ (data_fits port n Provided Standard y (λ k b. unqueued k && b) refl) (data_words port n Provided Standard y In)
         use_here kind.Read at =
             let x = found kind.Read at refl in
             let y = writes_data kind.Read x Standard Required x.needed.0 x.needed.1 in
-            both_of (elem_fits (planned d f es) (Some i) (λ e. is_unqueued e && not e.provided) (element_number d f i (Some port) n)) _ (data_fits port n Required Standard y (λ k b. unqueued k && not b) refl) (data_words port n Required Standard y Out)
+            and_from (elem_fits (planned d f es) (Some i) (λ e. is_unqueued e && not e.provided) (element_number d f i (Some port) n)) _ (data_fits port n Required Standard y (λ k b. unqueued k && not b) refl) (data_words port n Required Standard y Out)
         use_here kind.Invalidate at =
             let x = found kind.Invalidate at refl in
             data_fits port n Provided Standard (writes_data kind.Invalidate x Standard Provided x.needed.0 x.needed.1) (λ k b. unqueued k && b) refl
@@ -217,19 +217,19 @@ module _ (d : Description) (f : Flat) (p : BusPlan) (m : Mapping) (w : IsWhole d
         use_here kind.Send at =
             let x = found kind.Send at refl in
             let y = writes_data kind.Send x Queued Provided x.needed.0 x.needed.1 in
-            both_of (elem_fits (planned d f es) (Some i) (λ e. is_queued e && e.provided) (element_number d f i (Some port) n)) _ (data_fits port n Provided Queued y (λ k b. queued k && b) refl) (data_words port n Provided Queued y In)
+            and_from (elem_fits (planned d f es) (Some i) (λ e. is_queued e && e.provided) (element_number d f i (Some port) n)) _ (data_fits port n Provided Queued y (λ k b. queued k && b) refl) (data_words port n Provided Queued y In)
         use_here kind.Receive at =
             let x = found kind.Receive at refl in
             let y = writes_data kind.Receive x Queued Required x.needed.0 x.needed.1 in
-            both_of (elem_fits (planned d f es) (Some i) (λ e. is_queued e && not e.provided) (element_number d f i (Some port) n)) _ (data_fits port n Required Queued y (λ k b. queued k && not b) refl) (data_words port n Required Queued y Out)
+            and_from (elem_fits (planned d f es) (Some i) (λ e. is_queued e && not e.provided) (element_number d f i (Some port) n)) _ (data_fits port n Required Queued y (λ k b. queued k && not b) refl) (data_words port n Required Queued y Out)
         use_here kind.IWrite at =
             let x = found kind.IWrite at refl in
             let y = writes_data kind.IWrite x Standard Provided x.needed.0 x.needed.1 in
-            both_of (elem_fits (planned d f es) (Some i) (λ e. is_unqueued e && e.provided) (element_number d f i (Some port) n)) _ (data_fits port n Provided Standard y (λ k b. unqueued k && b) refl) (data_words port n Provided Standard y In)
+            and_from (elem_fits (planned d f es) (Some i) (λ e. is_unqueued e && e.provided) (element_number d f i (Some port) n)) _ (data_fits port n Provided Standard y (λ k b. unqueued k && b) refl) (data_words port n Provided Standard y In)
         use_here kind.IRead at =
             let x = found kind.IRead at refl in
             let y = writes_data kind.IRead x Standard Required x.needed.0 x.needed.1 in
-            both_of (elem_fits (planned d f es) (Some i) (λ e. is_unqueued e && not e.provided) (element_number d f i (Some port) n)) _ (data_fits port n Required Standard y (λ k b. unqueued k && not b) refl) (data_words port n Required Standard y Out)
+            and_from (elem_fits (planned d f es) (Some i) (λ e. is_unqueued e && not e.provided) (element_number d f i (Some port) n)) _ (data_fits port n Required Standard y (λ k b. unqueued k && not b) refl) (data_words port n Required Standard y Out)
         use_here kind.IrvWrite at = variable_fits n (fit kind.IrvWrite at)
         use_here kind.IrvRead at = variable_fits n (fit kind.IrvRead at)
         use_here kind.IrvIWrite at = variable_fits n (fit kind.IrvIWrite at)
@@ -242,7 +242,7 @@ module _ (d : Description) (f : Flat) (p : BusPlan) (m : Mapping) (w : IsWhole d
             let l = left_by_access d f p m w home.instance.component c home.has port n (call_kept d f p m w home.instance.component c home.has r rr j (of_kind kind.TakeResult port n) there at) in
             let z = result_at d f p m w es i c home port n l in
             let owner : owner_of z.calling ≡ Some i = ap owner_of z.call.is.is ∙ ap (λ k. Some k) z.instance in
-            both_of (result_point (planned d f es) (Some i) (point_number d f (leaves i port n))) _ (result_there d f p m w es i c home port n l)
+            and_from (result_point (planned d f es) (Some i) (point_number d f (leaves i port n))) _ (result_there d f p m w es i c home port n l)
             (looked (points d f) (point_number d f (leaves i port n)) (point_of d f z.calling) (λ (q : PointPlan). same_limits (words_at d.types Out c port n) q.outs) false
             (ap (slice_get (points d f)) z.number ∙ point_there d f p m w es z.place z.calling z.there)
             ∙ limits_same (words_at d.types Out c port n) (point_words d f Out z.calling) (words_point Out port n o z.calling owner z.port z.item))
@@ -255,21 +255,21 @@ module _ (d : Description) (f : Flat) (p : BusPlan) (m : Mapping) (w : IsWhole d
             let machine = machine_there d f p m w (Some i) port item.port z.element here (ap (λ s. provides_at (Some i) s) item.kind) is in
             let modes : (machine_at d f (Some i) port).modes ≡ z.group.modes = machine_modes d f p m w (Some i) port z.element z.group.modes (interface_is d f p m w (Some i) port item.port here ∙ is) (ap (option_map (λ (g : ModeGroup). g.modes)) z.there) in
             let group : formed.group_fits z.group ≡ true = all_at formed.group_fits d.types.mode_groups z.element.of_type z.group
-            (both (list_all formed.group_fits d.types.mode_groups) _ (both (list_all formed.type_fits d.types.data_types) _ w.well_formed.types).1).0 z.there in
-            let many : nat_lt 0 (length z.group.modes) ≡ true = some_modes (length z.group.modes) (both (is_in 1 32 (length z.group.modes)) _ group).0 in
+            (and_parts (list_all formed.group_fits d.types.mode_groups) _ (and_parts (list_all formed.type_fits d.types.data_types) _ w.well_formed.types).1).0 z.there in
+            let many : nat_lt 0 (length z.group.modes) ≡ true = some_modes (length z.group.modes) (and_parts (is_in 1 32 (length z.group.modes)) _ group).0 in
             let count : modes_of (planned d f es) (machine_number d f (Some i, Some port, 0)) ≡ x.needed.0 =
             looked (machines d f) (machine_number d f (Some i, Some port, 0)) (machine_at d f (Some i) port) (λ (n : MachinePlan). length n.modes) 0 machine ∙ ap length modes ∙ z.counted in
-            both_of (switch_fits (planned d f es) (Some i) (machine_number d f (Some i, Some port, 0)) 0) _
+            and_from (switch_fits (planned d f es) (Some i) (machine_number d f (Some i, Some port, 0)) 0) _
             (looked (machines d f) (machine_number d f (Some i, Some port, 0)) (machine_at d f (Some i) port) (λ (n : MachinePlan). same_number n.instance (Some i) && nat_lt 0 (length n.modes)) false machine
-            ∙ both_of (same_number (Some i) (Some i)) (nat_lt 0 (length (machine_at d f (Some i) port).modes)) (same_option (Some i) (Some i) refl) (ap (λ ms. nat_lt 0 (length ms)) modes ∙ many))
-            (same_test (option_map_or (λ (z : PortKind × Item). signatures.mode_count z.1) (item_at d.types c.ports port n) 0) (modes_of (planned d f es) (machine_number d f (Some i, Some port, 0)))
+            ∙ and_from (same_number (Some i) (Some i)) (nat_lt 0 (length (machine_at d f (Some i) port).modes)) (same_option (Some i) (Some i) refl) (ap (λ ms. nat_lt 0 (length ms)) modes ∙ many))
+            (eq-eqb (option_map_or (λ (z : PortKind × Item). signatures.mode_count z.1) (item_at d.types c.ports port n) 0) (modes_of (planned d f es) (machine_number d f (Some i, Some port, 0)))
             (count_found kind.Switch x x.needed.0 x.needed.2 ∙ sym count))
           where
             some_modes : (n : ℕ) → is_in 1 32 n ≡ true → nat_lt 0 n ≡ true
-            some_modes n e = let l = most 1 n (both (nat_le 1 n) (nat_le n 32) e).0 in is_below 0 n (omega arith)
+            some_modes n e = let l = leb-true 1 n (and_parts (nat_le 1 n) (nat_le n 32) e).0 in lt-ltb 0 n (omega arith)
         use_here kind.Mode at =
             let x = found kind.Mode at refl in
-            let zero_item : n ≡ 0 = number_same n 0 (both (nat_lt port (length c.ports)) (n == 0) (fit kind.Mode at)).1 in
+            let zero_item : n ≡ 0 = eqb-true n 0 (and_parts (nat_lt port (length c.ports)) (n == 0) (fit kind.Mode at)).1 in
             let item = item_there d.types c.ports port 0 Required (Modes x.needed.0)
             (ap (item_at d.types c.ports port) (sym zero_item) ∙ item_of_side (item_at d.types c.ports port n) x.side Required x.found (Modes x.needed.0) x.there x.needed.1 x.needed.2) in
             let y = required_machine d f p m w i c home port x.needed.0 item in
@@ -277,12 +277,12 @@ module _ (d : Description) (f : Flat) (p : BusPlan) (m : Mapping) (w : IsWhole d
             let count : mode_count (planned d f es) (mode_port_number d f i port) ≡ x.needed.0 =
             looked (mode_ports d f) (mode_port_number d f i port) (mode_port_at d f (Some i) port) (λ (t : ModePortPlan). modes_of (planned d f es) t.machine) 0 there_port
             ∙ looked (machines d f) (machine_for d f (Some i) port) y.machine (λ (n : MachinePlan). length n.modes) 0 y.there ∙ required_modes d f p m w i c home port x.needed.0 item in
-            both_of (mode_port_fits (planned d f es) (Some i) (mode_port_number d f i port)) _
+            and_from (mode_port_fits (planned d f es) (Some i) (mode_port_number d f i port)) _
             (looked (mode_ports d f) (mode_port_number d f i port) (mode_port_at d f (Some i) port) (λ (t : ModePortPlan). same_number t.instance (Some i)) false there_port ∙ same_option (Some i) (Some i) refl)
-            (same_test (option_map_or (λ (z : PortKind × Item). signatures.mode_count z.1) (item_at d.types c.ports port n) 0) (mode_count (planned d f es) (mode_port_number d f i port))
+            (eq-eqb (option_map_or (λ (z : PortKind × Item). signatures.mode_count z.1) (item_at d.types c.ports port n) 0) (mode_count (planned d f es) (mode_port_number d f i port))
             (count_found kind.Mode x x.needed.0 x.needed.2 ∙ sym count))
         use_here kind.Enter at =
-            let a = there_at c.behavior.exclusive_areas n (below n (length c.behavior.exclusive_areas) (fit kind.Enter at)) in
+            let a = there_at c.behavior.exclusive_areas n (ltb-true n (length c.behavior.exclusive_areas) (fit kind.Enter at)) in
             looked (areas d f) (pair_number (areas_of d f) (i, n)) (area_of i a.0) (λ (x : AreaPlan). same_number (Some x.instance) (Some i)) false (area_there d f i c home n a.0 a.1)
             ∙ same_option (Some i) (Some i) refl
 

@@ -3,7 +3,9 @@ use Rattle.std.proofs.Common.{◌≡◌, ℕ, zero, suc, ◌+◌, ◌≤◌, Boo
 use Rattle.std.specs.Prelude.{is_some}
 use Rattle.std.specs.List.{slice_get, list_any, flat_map}
 use Rattle.std.specs.Option.{option_map_or}
-use Rattle.std.proofs.lemmas.Bool.{false≢true, eqb-true, eq-eqb}
+use Rattle.std.proofs.lemmas.Bool.{false≢true, eqb-true, eq-eqb, and_parts, not-true}
+use Rattle.std.proofs.lemmas.Map.Keys.{any_passes_from_place}
+use Rattle.std.proofs.lemmas.Option.{same_Some}
 use Rattle.rte_value.specs.Values.{same_number}
 use Rattle.runnable_lang.specs.declared.program.AccessKind.{AccessKind}
 use Rattle.runnable_lang.specs.declared.program.AccessKind.TheVariants as kind
@@ -38,7 +40,7 @@ use Rattle.plan_services.specs.declared.callings.Calling.{Calling}
 use Rattle.plan_services.specs.Callings.{callings}
 use Rattle.plan_services.specs.Services.{point_of, points, server_at, servers}
 use Rattle.planned_descriptions.specs.Whole.{IsWhole}
-use Rattle.sound_behavior.proofs.Lists.{both, not_true, some_same, number_same, any_if, any_at, looked, map_at, append_at, Later}
+use Rattle.sound_behavior.proofs.Lists.{any_at, looked, map_at, append_at, Later}
 use Rattle.sound_behavior.proofs.Members.{Has, has_either, has_gathered, to_flat}
 use Rattle.sound_behavior.proofs.Parts.{Home, home_component, RunnableAt}
 use Rattle.sound_behavior.proofs.Rules.{planned, plan_is, access_kept}
@@ -81,7 +83,7 @@ module _ (d : Description) (f : Flat) (p : BusPlan) (m : Mapping) (w : IsWhole d
         by y.item (slice_get (tasks d f p m w es) y.item) refl y.inside
       where
         flagged : (n : ℕ) (t : Task) → slice_get (tasks d f p m w es) n ≡ Some t → (b : Bool) → list_any (λ e. same_number (runnable_of_event (planned d f es) e) (Some r)) t.events ≡ b → (k : ℕ) → slice_get (cond b (n ∷ []) []) k ≡ Some a → Has ℕ (mapped_rules.tasks_of d f (x.i, x.m)) a
-        flagged n t at true is zero e = subst (λ z. Has ℕ (mapped_rules.tasks_of d f (x.i, x.m)) z) (some_same n a e) (holds_event d f p m w es r v x n t at is)
+        flagged n t at true is zero e = subst (λ z. Has ℕ (mapped_rules.tasks_of d f (x.i, x.m)) z) (same_Some n a e) (holds_event d f p m w es r v x n t at is)
         flagged n t at true is (suc k) e = absurd (cc e)
         flagged n t at false is k e = absurd (cc e)
 
@@ -94,10 +96,10 @@ module _ (d : Description) (f : Flat) (p : BusPlan) (m : Mapping) (w : IsWhole d
     is_in_task n (Some r) = list_any (λ k. k == n) (sound.tasks_of (planned d f es) (mapping_of d f) r)
 
     task_has : (n : ℕ) (xs : List ℕ) → list_any (λ k. k == n) xs ≡ true → Has ℕ xs n
-    task_has n xs e = let x = any_at (λ k. k == n) xs e in record { place = x.place; there = x.there ∙ ap (λ k. Some k) (number_same x.item n x.passes) }
+    task_has n xs e = let x = any_at (λ k. k == n) xs e in record { place = x.place; there = x.there ∙ ap (λ k. Some k) (eqb-true x.item n x.passes) }
 
     has_task : (n : ℕ) (xs : List ℕ) → Has ℕ xs n → list_any (λ t. nat_eq t n) xs ≡ true
-    has_task n xs h = any_if (λ t. nat_eq t n) xs h.place n h.there (eq-eqb n n refl)
+    has_task n xs h = any_passes_from_place (λ t. nat_eq t n) xs h.place n h.there (eq-eqb n n refl)
 
     -- the runnable of a pair, in the plan
     abbrev at_pair : (i : ℕ) (c : Component) → Home d f i c → (k : ℕ) (r : declared_runnable.Runnable) → slice_get c.behavior.runnables k ≡ Some r → RunnableAt d f (pair_number (runnables_of d f) (i, k)) (runnable_of d f i c k r)
@@ -197,9 +199,9 @@ module _ (d : Description) (f : Flat) (p : BusPlan) (m : Mapping) (w : IsWhole d
         by q y (inl h) e =
             let z = inner_call d f q y h in
             let e2 = subst (λ u. (not (point_of d f u).asynchronous && (is_in_task a (point_of d f u).runnable && is_in_task b (sound.server_runnable (planned d f es) (point_of d f u).server))) ≡ true) z.is.is e in
-            let first = both (not z.is.asynchronous) _ e2 in
-            let second = both (is_in_task a (Some (pair_number (runnables_of d f) (z.i, z.m)))) _ first.1 in
-            wait_here a b q y z (not_true z.is.asynchronous first.0) second.0 (provider_of f.joins (end_at (Some z.i) z.access.port z.access.item)) refl second.1
+            let first = and_parts (not z.is.asynchronous) _ e2 in
+            let second = and_parts (is_in_task a (Some (pair_number (runnables_of d f) (z.i, z.m)))) _ first.1 in
+            wait_here a b q y z (not-true z.is.asynchronous first.0) second.0 (provider_of f.joins (end_at (Some z.i) z.access.port z.access.item)) refl second.1
         by q y (inr l) e =
             let z = outer_call d f q y l in
             let e2 = subst (λ u. (not (point_of d f u).asynchronous && (is_in_task a (point_of d f u).runnable && is_in_task b (sound.server_runnable (planned d f es) (point_of d f u).server))) ≡ true) z.is e in

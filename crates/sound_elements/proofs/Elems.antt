@@ -1,6 +1,7 @@
 -- Data elements and variables of a plan: their types fit, and so do their initial words and their queues.
 use Rattle.std.proofs.Common.{◌≡◌, ℕ, ◌<◌, ◌≤◌, List, map, length, Bool, true, false, if◌then◌else◌, not, ◌&&◌, ◌||◌, ◌==◌, is_some, nat_lt, nat_le, ℤ, int_le, Option, Some, None, option_map, option_and_then, unwrap_or, ⊎_elim, refl, sym, ap, subst, ◌∙◌, slice_get}
 use Rattle.std.proofs.lemmas.Bool.{and_parts, leb-true}
+use Rattle.std.proofs.lemmas.List.Folds.{list_all-map}
 use Rattle.std.specs.List.{list_all}
 use Rattle.std.specs.Option.{option_map_or}
 use Rattle.rte_value.specs.Values.{same_words}
@@ -37,7 +38,7 @@ use Rattle.plan_elements.specs.Elements.{Elem, declared_at, elem_seen, element_i
 use Rattle.sound_descriptions.specs.WellFormed.{IsWellFormed, items_at, kind_fits, names_fit, type_fits, variable_fits}
 use Rattle.planned_descriptions.specs.Whole.{IsWhole}
 use Rattle.sound_elements.proofs.Kept.{com_spec_keeps, component_keeps, interface_is, interface_keeps, queue_keeps, some_type, variables_keep}
-use Rattle.sound_elements.proofs.Lists.{all_at, all_from, all_seen, at, there, unkept, unmapped}
+use Rattle.sound_elements.proofs.Lists.{all_at, all_from, at, there, unkept, unmapped}
 use Rattle.sound_elements.proofs.Sites.{AtPort, IsVariable, is_site, with_port}
 use Rattle.sound_elements.proofs.Bounded.{elements_are}
 use Rattle.sound_elements.proofs.Words.{initial_fits, none_zeros, range_fits}
@@ -301,4 +302,4 @@ module _ (d : Description) (w : IsWellFormed d) (f : Flat) where
           subst (λ x. sound_seen x ≡ true) (sym p.2) (each_element p.0 (group_of d f p.0) p.1)
 
 pub elements_sound : (d : Description) (f : Flat) (p : BusPlan) (m : Mapping) → IsWhole d f p m → list_all elem_sound p.elements ≡ true
-elements_sound d f p m w = all_seen elem_seen sound_seen p.elements ∙ ap (list_all sound_seen) (elements_are d f p m w) ∙ elements_keep d w.well_formed f
+elements_sound d f p m w = sym (list_all-map sound_seen elem_seen p.elements) ∙ ap (list_all sound_seen) (elements_are d f p m w) ∙ elements_keep d w.well_formed f

@@ -1,6 +1,6 @@
 -- Rule 15 at each required data element, and the rules 12 and 15 out of what is not refused.
 use Rattle.std.proofs.Common.{◌≡◌, ℕ, zero, suc, ◌+◌, ◌<◌, List, [], ◌∷◌, length, filter, Bool, true, false, not, ◌&&◌, if◌then◌else◌, Option, Some, None, option_and_then, ◌⊎◌, inl, inr, ⊎_elim, refl, sym, ap, subst, ◌∙◌, arith, slice_get}
-use Rattle.std.proofs.lemmas.Bool.{and_cases}
+use Rattle.std.proofs.lemmas.Bool.{and_cases, not-false}
 use Rattle.std.specs.Option.{option_map_or}
 use Rattle.interface_types.specs.declared.interface.DataElement.{DataElement}
 use Rattle.interface_types.specs.declared.interface.Interface.{Interface}
@@ -83,13 +83,9 @@ all_same : (xs : List End) → are_several xs ≡ false → (x y : End) → Amon
 all_same [] h x y a b = absurd a
 all_same (z ∷ xs) h x y a b = here x a ∙ sym (here y b)
   where
-    not_false : (c : Bool) → not c ≡ false → c ≡ true
-    not_false true e = refl
-    not_false false e = cc
-
     here : (u : End) → Among u (z ∷ xs) → u ≡ z
     here u (inl e) = e
-    here u (inr later) = sym (same_end_is z u (not_false (same_end z u) (none_at (λ y. not (same_end z y)) xs h u later)))
+    here u (inr later) = sym (same_end_is z u (not-false (same_end z u) (none_at (λ y. not (same_end z y)) xs h u later)))
 
 -- who is joined with a provided end, and with a required one
 pub requirer : (joins : List Join) (j : Join) → Among j joins → (p : End) → j.provided ≡ p → Among j.required (requirers joins p)

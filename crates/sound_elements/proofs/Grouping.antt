@@ -1,13 +1,14 @@
 -- Each group lists exactly its members, in rising order, and the groups stand in order of their first members.
 use Rattle.std.proofs.Common.{◌≡◌, ℕ, zero, suc, ◌+◌, ◌<◌, List, [], ◌∷◌, ◌++◌, length, map, filter, Bool, true, false, cond, not, ◌&&◌, ◌==◌, nat_eq, nat_lt, Some, refl, sym, ap, subst, ◌∙◌, arith, slice_get}
 use Rattle.std.proofs.lemmas.Bool.{and_from, eq-eqb, lt-ltb, ne_eqb}
+use Rattle.std.proofs.lemmas.List.Folds.{list_all-map}
 use Rattle.std.specs.List.{list_all}
 use Rattle.composition_tables.specs.Members.{Among}
 use Rattle.plan_numbers.specs.Lists.{from, positions}
 use Rattle.plan_elements.specs.Groups.{group_number, groups, heads, member_at, members}
 use Rattle.bus_semantics.specs.Plan.{every_from, positions as bus_positions}
 use Rattle.bus_semantics.specs.SoundPlan.{first_of, firsts, is_rising, same_numbers}
-use Rattle.sound_elements.proofs.Lists.{all_from, all_seen, place, there, unmapped}
+use Rattle.sound_elements.proofs.Lists.{all_from, place, there, unmapped}
 use Rattle.sound_elements.proofs.Heads.{AreLow, first_is, groups_rise, number_within}
 
 -- ---- positions
@@ -95,7 +96,7 @@ module _ {X : Type 0} (of : X → ℕ) where
 
   module _ (xs : List X) (ls : List ℕ) (low : AreLow ls) (same : map of xs ≡ map (group_number ls) ls) where
     each_within : list_all (λ e. nat_lt (of e) (length (groups ls))) xs ≡ true
-    each_within = all_seen of (λ g. nat_lt g (length (groups ls))) xs ∙ ap (list_all (λ g. nat_lt g (length (groups ls)))) same
+    each_within = sym (list_all-map (λ g. nat_lt g (length (groups ls))) of xs) ∙ ap (list_all (λ g. nat_lt g (length (groups ls)))) same
         ∙ all_from (λ g. nat_lt g (length (groups ls))) (map (group_number ls) ls) each
       where
         count : length (groups ls) ≡ length (heads ls)

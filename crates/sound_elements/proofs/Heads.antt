@@ -1,13 +1,14 @@
 -- Groups that are numbered by their least elements, which no element has after it.
 use Rattle.std.proofs.Common.{◌≡◌, ℕ, zero, suc, ◌+◌, ◌<◌, ◌≤◌, List, [], ◌∷◌, ◌++◌, length, map, Bool, true, false, cond, nat_eq, nat_le, Option, Some, None, inl, inr, refl, sym, ap, subst, ◌∙◌, arith, slice_get}
 use Rattle.std.proofs.lemmas.Bool.{and_from, eq-eqb, eqb-true, eqb-false, le-leb, ne_eqb}
+use Rattle.std.proofs.lemmas.Option.{slice_get_within}
 use Rattle.std.specs.List.{list_all, position_from}
 use Rattle.std.specs.Option.{unwrap_or}
 use Rattle.composition_tables.specs.Members.{Among}
 use Rattle.plan_numbers.specs.Lists.{from, positions}
 use Rattle.plan_elements.specs.Groups.{group_number, groups, head_at, heads, member_at, members, number_among}
 use Rattle.bus_semantics.specs.SoundPlan.{first_of, firsts, is_rising}
-use Rattle.sound_elements.proofs.Lists.{all_from, at, get_map, in_from, map_get, out_from, within}
+use Rattle.sound_elements.proofs.Lists.{all_from, at, get_map, in_from, map_get, out_from}
 
 -- ---- heads
 
@@ -122,7 +123,7 @@ module _ (ls : List ℕ) (low : AreLow ls) where
     where
       by : (o : Option ℕ) → position_from (nat_eq l) 0 (heads ls) ≡ o → unwrap_or o 0 < length (heads ls)
       by None none = some_head ls low n l is
-      by (Some m) some = let p = positioned 0 l (heads ls) m some in let lt = within (heads ls) p.0 l p.2 in omega (arith, p.1)
+      by (Some m) some = let p = positioned 0 l (heads ls) m some in let lt = slice_get_within (heads ls) p.0 l p.2 in omega (arith, p.1)
 
   not_before : (n l g h : ℕ) → slice_get ls n ≡ Some l → group_number ls l ≡ g → slice_get (heads ls) g ≡ Some h → h ≤ n
   not_before n l g h is number head = by (position_from (nat_eq l) 0 (heads ls)) refl number

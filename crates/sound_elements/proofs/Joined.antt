@@ -1,6 +1,7 @@
 -- The sites of joined data elements: both are elements of the plan, and they agree in kind, limits and words.
 use Rattle.std.proofs.Common.{◌≡◌, ℕ, ◌<◌, List, map, length, Bool, true, false, nat_lt, Option, Some, None, option_map, option_and_then, ⊎_elim, refl, sym, ap, subst, ◌∙◌, slice_get}
 use Rattle.std.proofs.lemmas.Bool.{and_parts}
+use Rattle.std.proofs.lemmas.Option.{slice_get_within}
 use Rattle.std.specs.List.{list_all}
 use Rattle.std.specs.Option.{option_map_or}
 use Rattle.interface_types.specs.declared.interface.DataElement.{DataElement}
@@ -29,7 +30,7 @@ use Rattle.sound_descriptions.specs.WellFormed.{IsWellFormed, distinct, kind_fit
 use Rattle.sound_elements.proofs.Elems.{is_element_of}
 use Rattle.sound_elements.proofs.Ends.{HasPorts, one_named, same_limits, same_words, traits}
 use Rattle.sound_elements.proofs.Kept.{interface_is, interface_keeps}
-use Rattle.sound_elements.proofs.Lists.{at, get_map, kept, unkept, within}
+use Rattle.sound_elements.proofs.Lists.{at, get_map, kept, unkept}
 use Rattle.sound_elements.proofs.Passing.{Serves}
 use Rattle.sound_elements.proofs.Sites.{AtPort, IsVariable, is_site, site_is}
 
@@ -58,7 +59,7 @@ module _ (d : Description) (w : IsWellFormed d) (f : Flat) where
   element_site o k n b port xs x has side is there =
       let i = at_interface port.interface (SenderReceiver xs) is in
       let kind : kind_at o port.kind i.0.kind ≡ Element b = ap (kind_at o port.kind) i.2 ∙ ap (λ c. Element c) side in
-      let lt : n < count_at o port.kind i.0.kind = subst (λ q. n < count_at o port.kind q) (sym i.2) (within xs n x there) in (
+      let lt : n < count_at o port.kind i.0.kind = subst (λ q. n < count_at o port.kind q) (sym i.2) (slice_get_within xs n x there) in (
         kept (λ (s : Site). is_element s.kind) (sites d f) (site o (Some k) n (Element b)) (subst (λ q. Among (site o (Some k) n q) (sites d f)) kind (site_is d f o k port i.0 n has i.1 lt)) refl,
         ap (option_and_then (λ q. element_in q n)) (interface_is d w f o k port i.0 has i.1 ∙ ap (λ q. Some q) i.2) ∙ there,
       )

@@ -2,6 +2,7 @@
 -- each group has one element.
 use Rattle.std.proofs.Common.{◌≡◌, ℕ, ◌+◌, List, map, length, filter, Bool, true, false, if◌then◌else◌, not, ◌&&◌, ◌||◌, ◌==◌, nat_le, ℤ, pos, negsuc, int_le, Option, Some, None, inl, inr, ⊎_elim, refl, sym, ap, subst, ◌∙◌, arith, true≢false}
 use Rattle.std.proofs.lemmas.Bool.{and_from, and_parts, eq-eqb, eqb-true, leb-false, le-leb, not-true, or_cases, or_left, or_right}
+use Rattle.std.proofs.lemmas.List.Folds.{list_all-map}
 use Rattle.std.specs.List.{list_all, list_any}
 use Rattle.std.specs.Option.{option_map_or}
 use Rattle.description_types.specs.declared.description.Description.{Description}
@@ -30,7 +31,7 @@ use Rattle.sound_elements.proofs.Counting.{Two, by_second, one, two}
 use Rattle.sound_elements.proofs.Elems.{queued, unqueued, variable}
 use Rattle.sound_elements.proofs.Ends.{Traits, traits}
 use Rattle.sound_elements.proofs.Linked.{Linked, group_linked, linked_agree, linked_group}
-use Rattle.sound_elements.proofs.Lists.{all_from, all_seen, any_at, any_from, any_seen, count_seen, mapped, unmapped}
+use Rattle.sound_elements.proofs.Lists.{all_from, any_at, any_from, any_seen, count_seen, mapped, unmapped}
 use Rattle.sound_elements.proofs.Numbers.{key_is, same_end_is, same_end_refl}
 use Rattle.sound_elements.proofs.Partners.{Faces, back, elements_apart, end_site, faces, provided_touches, required_touches, same_site, star, touched}
 use Rattle.sound_elements.proofs.Stars.{Touch}
@@ -62,7 +63,7 @@ same_joins : (p : BusPlan) → joins_fit (plan_of p) ≡ joins_seen (map elem_se
 same_joins p = λ j. agree j && (sides j && ones j)
   where
     agree : list_all (λ (a : ElemPlan). list_all (agrees a) p.elements) p.elements ≡ list_all (λ a. list_all (agrees_seen a) (map elem_seen p.elements)) (map elem_seen p.elements)
-    agree = (λ j. list_all (λ (a : ElemPlan). all_seen elem_seen (agrees_seen (elem_seen a)) p.elements j) p.elements) ∙ all_seen elem_seen (λ a. list_all (agrees_seen a) (map elem_seen p.elements)) p.elements
+    agree = (λ j. list_all (λ (a : ElemPlan). sym (list_all-map (agrees_seen (elem_seen a)) elem_seen p.elements) j) p.elements) ∙ sym (list_all-map (λ a. list_all (agrees_seen a) (map elem_seen p.elements)) elem_seen p.elements)
 
     any_sides : (g : ℕ) → (has_side (plan_of p) g true && has_side (plan_of p) g false) ≡ (list_any (provides_in g) (map elem_seen p.elements) && list_any (requires_in g) (map elem_seen p.elements))
     any_sides g = λ j. any_seen elem_seen (provides_in g) p.elements j && any_seen elem_seen (requires_in g) p.elements j
@@ -72,10 +73,10 @@ same_joins p = λ j. agree j && (sides j && ones j)
 
     sides : list_all (λ (e : ElemPlan). if e.joined then has_side (plan_of p) e.group true && has_side (plan_of p) e.group false else (count_side (plan_of p) e.group true + count_side (plan_of p) e.group false == 1)) p.elements
         ≡ list_all (sides_seen (map elem_seen p.elements)) (map elem_seen p.elements)
-    sides = (λ j. list_all (λ (e : ElemPlan). if e.joined then any_sides e.group j else counts e.group j) p.elements) ∙ all_seen elem_seen (sides_seen (map elem_seen p.elements)) p.elements
+    sides = (λ j. list_all (λ (e : ElemPlan). if e.joined then any_sides e.group j else counts e.group j) p.elements) ∙ sym (list_all-map (sides_seen (map elem_seen p.elements)) elem_seen p.elements)
 
     ones : list_all (λ (e : ElemPlan). nat_le (count_side (plan_of p) e.group true) 1 || nat_le (count_side (plan_of p) e.group false) 1) p.elements ≡ list_all (one_seen (map elem_seen p.elements)) (map elem_seen p.elements)
-    ones = (λ j. list_all (λ (e : ElemPlan). nat_le (count_seen elem_seen (provides_in e.group) p.elements j) 1 || nat_le (count_seen elem_seen (requires_in e.group) p.elements j) 1) p.elements) ∙ all_seen elem_seen (one_seen (map elem_seen p.elements)) p.elements
+    ones = (λ j. list_all (λ (e : ElemPlan). nat_le (count_seen elem_seen (provides_in e.group) p.elements j) 1 || nat_le (count_seen elem_seen (requires_in e.group) p.elements j) 1) p.elements) ∙ sym (list_all-map (one_seen (map elem_seen p.elements)) elem_seen p.elements)
 
 -- ---- what agrees
 

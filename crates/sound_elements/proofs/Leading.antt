@@ -1,5 +1,6 @@
 -- The groups of a plan: no element is before the least one of its group.
-use Rattle.std.proofs.Common.{◌≡◌, ℕ, ◌≤◌, List, [], ◌∷◌, map, true, Option, Some, None, option_map, refl, sym, ap, subst, ◌∙◌, arith, slice_get}
+use Rattle.std.proofs.Common.{◌≡◌, ℕ, ◌≤◌, List, map, true, Option, Some, None, option_map, refl, sym, ap, subst, ◌∙◌, arith, slice_get}
+use mathlib.Core.List.{map-map}
 use Rattle.description_types.specs.declared.description.Description.{Description}
 use Rattle.composition_flatten.specs.declared.flat.End.{End}
 use Rattle.composition_flatten.specs.declared.flat.Flat.{Flat}
@@ -59,14 +60,10 @@ module _ (d : Description) (f : Flat) where
   pub leaders_low : AreLow (leaders d f)
   leaders_low n l is = let p = get_map (leader_of f.joins keys) (elements_of d f) n l is in subst (λ m. m ≤ n) p.2 (leads_low n p.0 p.1)
 
-map_map : {X Y Z : Type 0} (g : Y → Z) (h : X → Y) (xs : List X) → map g (map h xs) ≡ map (λ x. g (h x)) xs
-map_map g h [] = refl
-map_map g h (x ∷ xs) = ap (λ ys. g (h x) ∷ ys) (map_map g h xs)
-
 pub groups_sound : (d : Description) (f : Flat) (p : BusPlan) (m : Mapping) → IsWhole d f p m → groups_fit (plan_of p) ≡ true
 groups_sound d f p m w = groups_kept (λ (e : ElemPlan). e.group) p.elements (leaders d f) (leaders_low d f) same p.groups (groups_are d f p m w)
   where
     same : map (λ (e : ElemPlan). e.group) p.elements ≡ map (group_number (leaders d f)) (leaders d f)
-    same = sym (map_map (λ (e : Elem). e.group) elem_seen p.elements) ∙ ap (map (λ (e : Elem). e.group)) (elements_are d f p m w)
-        ∙ map_map (λ (e : Elem). e.group) (λ (s : Site). element_of d f (group_of d f s) s) (elements_of d f)
-        ∙ sym (map_map (group_number (leaders d f)) (leader_of f.joins (keys d f)) (elements_of d f))
+    same = sym (map-map (λ (e : Elem). e.group) elem_seen p.elements) ∙ ap (map (λ (e : Elem). e.group)) (elements_are d f p m w)
+        ∙ map-map (λ (e : Elem). e.group) (λ (s : Site). element_of d f (group_of d f s) s) (elements_of d f)
+        ∙ sym (map-map (group_number (leaders d f)) (leader_of f.joins (keys d f)) (elements_of d f))

@@ -1,5 +1,5 @@
 -- What is in a list that is made of others, by its positions too, and what a test of such a list says of each of its items.
-use Rattle.std.proofs.Common.{◌≡◌, ℕ, zero, suc, ◌+◌, ◌<◌, List, [], ◌∷◌, ◌++◌, length, map, filter, Bool, true, false, cond, ◌&&◌, ◌||◌, Some, ◌⊎◌, inl, inr, ⊎_elim, refl, sym, ap, subst, ◌∙◌, true≢false, arith, slice_get}
+use Rattle.std.proofs.Common.{◌≡◌, ℕ, zero, suc, ◌+◌, ◌<◌, List, [], ◌∷◌, ◌++◌, length, map, filter, Bool, true, false, cond, ◌||◌, Some, ◌⊎◌, inl, inr, ⊎_elim, refl, sym, ap, subst, ◌∙◌, true≢false, arith, slice_get}
 use Rattle.std.proofs.lemmas.Bool.{and_from, and_parts, or_cases, or_left, or_parts, or_right}
 use Rattle.std.specs.List.{find, flat_map, list_all, list_any}
 use Rattle.composition_tables.specs.Members.{Among}
@@ -30,11 +30,6 @@ module _ {X : Type 0} where
   place x [] h = absurd h
   place x (y ∷ xs) (inl e) = (0, ap (λ z. Some z) (sym e))
   place x (y ∷ xs) (inr h) = let p = place x xs h in (suc p.0, p.1)
-
-  pub within : (xs : List X) (n : ℕ) (x : X) → slice_get xs n ≡ Some x → n < length xs
-  within [] n x h = cc
-  within (y ∷ xs) zero x h = omega arith
-  within (y ∷ xs) (suc n) x h = omega (arith, within xs n x h)
 
   pub there : (xs : List X) (n : ℕ) → n < length xs → (x : X) × (slice_get xs n ≡ Some x)
   there [] n h = absurd (omega arith)
@@ -116,10 +111,6 @@ module _ {X Y : Type 0} (f : X → Y) where
   get_map (x ∷ xs) (suc n) y h = get_map xs n y h
 
   -- tests of what is seen of the items
-  pub all_seen : (test : Y → Bool) (xs : List X) → list_all (λ x. test (f x)) xs ≡ list_all test (map f xs)
-  all_seen test [] = refl
-  all_seen test (x ∷ xs) = ap (λ b. test (f x) && b) (all_seen test xs)
-
   pub any_seen : (test : Y → Bool) (xs : List X) → list_any (λ x. test (f x)) xs ≡ list_any test (map f xs)
   any_seen test [] = refl
   any_seen test (x ∷ xs) = ap (λ b. test (f x) || b) (any_seen test xs)

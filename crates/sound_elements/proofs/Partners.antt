@@ -1,5 +1,6 @@
 -- The partners of a data element: elements of the other side that agree with it, in groups that are stars by rule 15.
 use Rattle.std.proofs.Common.{◌≡◌, List, [], ◌∷◌, Bool, true, false, not, if◌then◌else◌, Some, None, option_map, ◌⊎◌, inl, inr, ⊎_elim, refl, sym, ap, subst, ◌∙◌}
+use Rattle.std.proofs.lemmas.Option.{slice_get_within}
 use Rattle.description_types.specs.declared.description.Description.{Description}
 use Rattle.compatibility.specs.Joins.{is_many_to_many, providers, requirers}
 use Rattle.compatibility.specs.Refusals.{refusal}
@@ -21,7 +22,7 @@ use Rattle.sound_elements.proofs.Elems.{is_element_of}
 use Rattle.sound_elements.proofs.Ends.{HasPorts, has_ports, traits}
 use Rattle.sound_elements.proofs.Fair.{all_compatible, fair_there, one_single, provider, requirer}
 use Rattle.sound_elements.proofs.Joined.{JoinSites, of_provided, of_required}
-use Rattle.sound_elements.proofs.Lists.{cases, flat, left, right, unflat, unkept, within}
+use Rattle.sound_elements.proofs.Lists.{cases, flat, left, right, unflat, unkept}
 use Rattle.sound_elements.proofs.Numbers.{key_is, same_end_is, same_end_refl}
 use Rattle.sound_elements.proofs.Sites.{AtPort, IsVariable, is_site, sites_apart}
 use Rattle.sound_elements.proofs.Stars.{Single, Touch}
@@ -168,7 +169,7 @@ module _ (d : Description) (w : IsWellFormed d) (f : Flat) (flat : IsFlatOf d f)
           let side : provides_at t.owner p.port.kind ≡ false = sym (ap is_provided q.kind) ∙ ap is_provided requires in
           let there : end_of t ≡ Some (end_at t.owner p.k t.item) = ap (option_map (λ port. end_at t.owner port t.item)) p.at in
           let same : end_at t.owner p.k t.item ≡ r = cc in
-          ap (is_many_to_many f.joins) (sym same) ∙ fair_there d f fair t.owner p.k p.port p.interface q.among t.item p.has_port side p.has_interface q.is (within q.among t.item q.element q.there)
+          ap (is_many_to_many f.joins) (sym same) ∙ fair_there d f fair t.owner p.k p.port p.interface q.among t.item p.has_port side p.has_interface q.is (slice_get_within q.among t.item q.element q.there)
 
   star_of : (j : Join) → Among j f.joins → JoinSites d f j → Single (partners f.joins) j.provided ⊎ Single (partners f.joins) j.required
   star_of j among r = ⊎_elim

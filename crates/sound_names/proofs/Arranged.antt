@@ -2,6 +2,7 @@
 use Rattle.std.proofs.Common.{◌≡◌, ℕ, ◌+◌, ◌*◌, [], ◌∷◌, map, length, slice_get, true, cond, Option, Some, None, is_none, ⊎_elim, refl, sym, ap, subst, ◌∙◌, arith}
 use Rattle.std.proofs.lemmas.Bool.{and_from}
 use Rattle.std.proofs.lemmas.List.{map-append}
+use mathlib.Core.List.{map-map}
 use Rattle.std.specs.Option.{option_map_or, unwrap_or}
 use Rattle.description_types.specs.declared.component.Component.{Component}
 use Rattle.description_types.specs.declared.description.Description.{Description}
@@ -30,7 +31,7 @@ use Rattle.plan_services.specs.Services.{server_of}
 use Rattle.event_mapping.specs.Planned.{areas, area_of, areas_at, named_areas, plan_of, seen}
 use Rattle.sound_descriptions.specs.WellFormed.{IsWellFormed}
 use Rattle.sound_names.proofs.Homes.{event_home}
-use Rattle.sound_names.proofs.Lists.{map_map, map_same, mapped, pieces}
+use Rattle.sound_names.proofs.Lists.{map_same, mapped, pieces}
 use Rattle.sound_names.proofs.Numbers.{in_component}
 use Rattle.sound_names.proofs.Rising.{Rises, higher, join, level, lower, all_rise, rising, some_rise, steps_rise}
 use Rattle.sound_names.proofs.Seen.{names_count, elements_are, servers_are, areas_are, machines_are, mode_ports_are, events_are, runnables_are}
@@ -100,9 +101,9 @@ module _ (d : Description) (f : Flat) where
         let by_seen : Elem → ℕ = (λ e. rank (bus.plan_of p) e.instance * 2 + cond (variable_kind e.kind) 1 0) in
         ap is_rising (
         map_same (λ (e : ElemPlan). rank (bus.plan_of p) e.instance * 2 + cond (is_variable e) 1 0) (λ e. by_seen (elem_seen e)) p.elements (λ e h. ap (λ b. rank (bus.plan_of p) e.instance * 2 + cond b 1 0) (variable_is e))
-        ∙ sym (map_map by_seen elem_seen p.elements)
+        ∙ sym (map-map by_seen elem_seen p.elements)
         ∙ ap (map by_seen) (elements_are d f p is)
-        ∙ map_map by_seen (λ s. element_of d f (group_of d f s) s) (elements_of d f)
+        ∙ map-map by_seen (λ s. element_of d f (group_of d f s) s) (elements_of d f)
         ∙ map_same (λ s. by_seen (element_of d f (group_of d f s) s)) graded (elements_of d f) (λ s h. ap (λ b. rank (bus.plan_of p) s.owner * 2 + cond b 1 0) (no_port_is d f s)))
         ∙ rising 0 (length f.instances * 2) (map graded (elements_of d f)) (some_rise graded (λ (s : Site). is_element s.kind) 0 (length f.instances * 2) (sites d f) sites_grade)
 
@@ -136,14 +137,14 @@ module _ (d : Description) (f : Flat) where
     unfolding ranked
     machines_rise =
         ap (λ l. is_rising (map (λ (n : MachinePlan). rank (bus.plan_of p) n.instance) l)) (machines_are d f p is)
-        ∙ ap is_rising (map_map (λ (n : MachinePlan). rank (bus.plan_of p) n.instance) (λ (s : Site). machine_at d f s.owner (unwrap_or s.port 0)) (machines_of d f))
+        ∙ ap is_rising (map-map (λ (n : MachinePlan). rank (bus.plan_of p) n.instance) (λ (s : Site). machine_at d f s.owner (unwrap_or s.port 0)) (machines_of d f))
         ∙ rising 0 (length f.instances) (map ranked (machines_of d f)) (some_rise ranked (λ (s : Site). is_machine s.kind) 0 (length f.instances) (sites d f) sites_rank)
 
     mode_ports_rise : is_rising (map (λ (t : ModePortPlan). rank (bus.plan_of p) t.instance) p.mode_ports) ≡ true
     unfolding ranked
     mode_ports_rise =
         ap (λ l. is_rising (map (λ (t : ModePortPlan). rank (bus.plan_of p) t.instance) l)) (mode_ports_are d f p is)
-        ∙ ap is_rising (map_map (λ (t : ModePortPlan). rank (bus.plan_of p) t.instance) (λ (s : Site). mode_port_at d f s.owner (unwrap_or s.port 0)) (mode_ports_of d f))
+        ∙ ap is_rising (map-map (λ (t : ModePortPlan). rank (bus.plan_of p) t.instance) (λ (s : Site). mode_port_at d f s.owner (unwrap_or s.port 0)) (mode_ports_of d f))
         ∙ rising 0 (length f.instances) (map ranked (mode_ports_of d f))
         (some_rise ranked (has_machine f.joins) 0 (length f.instances) (of_kind is_mode_port d f) (some_rise ranked (λ (s : Site). is_mode_port s.kind) 0 (length f.instances) (sites d f) sites_rank))
 
@@ -152,7 +153,7 @@ module _ (d : Description) (f : Flat) where
     servers_rise =
         ap (λ l. is_rising (map (λ (s : ServerPlan). s.instance) l)) (servers_are d f p is)
         ∙ ap is_rising (
-        map_map (λ (s : ServerPlan). s.instance) (server_of d f) (servers_of d f)
+        map-map (λ (s : ServerPlan). s.instance) (server_of d f) (servers_of d f)
         ∙ map_same (λ s. (server_of d f s).instance) ranked (servers_of d f) (λ s h. ap (rank (bus.plan_of p)) (server_owner d f s (server_site d f s h))))
         ∙ rising 0 (length f.instances) (map ranked (servers_of d f)) (some_rise ranked (λ (s : Site). is_server s.kind) 0 (length f.instances) (sites d f) sites_rank)
 

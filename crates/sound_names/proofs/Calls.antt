@@ -1,5 +1,6 @@
 -- The calls of a description that breaks no rule on components: each names an operation that its owner requires.
 use Rattle.std.proofs.Common.{◌≡◌, ℕ, zero, suc, ◌+◌, ◌<◌, List, [], ◌∷◌, map, length, slice_get, Bool, true, false, cond, Option, Some, None, option_map, ⊎_elim, refl, sym, ap, subst, ◌∙◌, arith, true≢false}
+use Rattle.std.proofs.lemmas.Option.{slice_get_within}
 use Rattle.std.specs.Option.{option_map_or, option_or}
 use Rattle.runnable_lang.specs.declared.program.AccessKind.{AccessKind}
 use Rattle.runnable_lang.specs.declared.program.AccessKind.TheVariants as kind
@@ -34,7 +35,7 @@ use Rattle.plan_numbers.specs.Sites.{provides_at, root_ports}
 use Rattle.plan_services.specs.declared.callings.Calling.{Calling}
 use Rattle.plan_services.specs.Callings.{calling_of, callings_in, callings_of_component, operation_count, operations_at, outer_calling, outer_callings, callings, owner_of}
 use Rattle.event_mapping.specs.Refusals.{IsRefusal}
-use Rattle.sound_names.proofs.Lists.{among_get, and_then_some, cases, get_below, map_some, mapped, pieces, position_in, unflat}
+use Rattle.sound_names.proofs.Lists.{among_get, and_then_some, cases, map_some, mapped, pieces, position_in, unflat}
 use Rattle.sound_names.proofs.Numbers.{of_instances_is}
 use Rattle.sound_names.proofs.Sites.{PortAt, ComponentAt, ports_are}
 
@@ -119,7 +120,7 @@ operation_item types (SenderReceiver es) n h =
     cc
 operation_item types (ClientServer os) n h =
     let r = map_some (λ (o : declared.Operation). Operation) (slice_get os n) Operation h in
-    (os, refl, get_below os n r.0 r.1)
+    (os, refl, slice_get_within os n r.0 r.1)
 operation_item types (ModeSwitch e) n h =
     let r = map_some (λ (g : ModeGroup). Modes (length g.modes)) (slice_get types.mode_groups e.of_type) Operation h in
     let other = r.2 in
@@ -156,7 +157,7 @@ module _ (d : Description) (f : Flat) (kept : IsRefusal d f None) where
         interface = o.1;
         below = o.2;
         requires = ap (provides_at (Some i)) is_required;
-        caller = (at, get_below at.component.behavior.runnables m r at_r);
+        caller = (at, slice_get_within at.component.behavior.runnables m r at_r);
       }
 
   of_calling : (i m k : ℕ) (at : ComponentAt d f i) (r : Runnable) (a : Access) (c : Calling) → slice_get at.component.behavior.runnables m ≡ Some r → slice_get r.accesses k ≡ Some a → Among c (calling_of i m a) → CallAt d f c

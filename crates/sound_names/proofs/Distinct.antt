@@ -1,6 +1,7 @@
 -- Within an instance, and of one kind, no two things have one name.
 use Rattle.std.proofs.Common.{◌≡◌, ℕ, ◌+◌, List, [], ◌∷◌, map, slice_get, true, Option, Some, None, refl, sym, ap, subst, ◌∙◌}
 use Rattle.std.proofs.lemmas.Bool.{and_from}
+use mathlib.Core.List.{map-map}
 use Rattle.std.specs.List.{list_all}
 use Rattle.std.specs.Option.{option_map_or, unwrap_or}
 use Rattle.description_types.specs.declared.component.Component.{Component}
@@ -37,7 +38,7 @@ use Rattle.sound_descriptions.specs.WellFormed.{IsWellFormed}
 use Rattle.sound_names.proofs.Apart.{all_apart, apart_filter, apart_finer, apart_map, distinct_apart, once}
 use Rattle.sound_names.proofs.Homes.{event_home}
 use Rattle.sound_names.proofs.Keeping.{of_component}
-use Rattle.sound_names.proofs.Lists.{all_from, filtered, map_from, map_map, mapped}
+use Rattle.sound_names.proofs.Lists.{all_from, filtered, map_from, mapped}
 use Rattle.sound_names.proofs.NamesFit.{areas_named, modes_named}
 use Rattle.sound_names.proofs.Numbers.{in_component}
 use Rattle.sound_names.proofs.Owners.{site_owns}
@@ -65,9 +66,9 @@ module _ (d : Description) (f : Flat) (whole : IsWellFormed d) (p : BusPlan) (is
       let by_seen : Elem → Named = (λ e. (rank (bus.plan_of p) e.instance, e.name)) in
       let by_site : Site → Named = (λ s. (rank (bus.plan_of p) s.owner, site_name d f s)) in
       ap named_once (
-      sym (map_map by_seen elem_seen p.elements)
+      sym (map-map by_seen elem_seen p.elements)
       ∙ ap (map by_seen) (elements_are d f p is)
-      ∙ map_map by_seen (λ s. element_of d f (group_of d f s) s) (elements_of d f))
+      ∙ map-map by_seen (λ s. element_of d f (group_of d f s) s) (elements_of d f))
       ∙ once (map by_site (elements_of d f))
       (apart_map by_site (elements_of d f)
       (λ s t in_s in_t same.
@@ -83,7 +84,7 @@ module _ (d : Description) (f : Flat) (whole : IsWellFormed d) (p : BusPlan) (is
       let by_site : Site → Named = (λ s. ((server_of d f s).instance, (server_of d f s).name)) in
       ap named_once (
       ap (map (λ (s : ServerPlan). (s.instance, s.name))) (servers_are d f p is)
-      ∙ map_map (λ (s : ServerPlan). (s.instance, s.name)) (server_of d f) (servers_of d f))
+      ∙ map-map (λ (s : ServerPlan). (s.instance, s.name)) (server_of d f) (servers_of d f))
       ∙ once (map by_site (servers_of d f))
       (apart_map by_site (servers_of d f)
       (λ s t in_s in_t same.
@@ -100,7 +101,7 @@ module _ (d : Description) (f : Flat) (whole : IsWellFormed d) (p : BusPlan) (is
       let by_site : Site → Named = (λ s. (rank (bus.plan_of p) s.owner, (machine_at d f s.owner (unwrap_or s.port 0)).name)) in
       ap named_once (
       ap (map (λ (n : MachinePlan). (rank (bus.plan_of p) n.instance, n.name))) (machines_are d f p is)
-      ∙ map_map (λ (n : MachinePlan). (rank (bus.plan_of p) n.instance, n.name)) plan_at (machines_of d f))
+      ∙ map-map (λ (n : MachinePlan). (rank (bus.plan_of p) n.instance, n.name)) plan_at (machines_of d f))
       ∙ once (map by_site (machines_of d f))
       (apart_map by_site (machines_of d f)
       (λ s t in_s in_t same.
@@ -119,7 +120,7 @@ module _ (d : Description) (f : Flat) (whole : IsWellFormed d) (p : BusPlan) (is
       let by_site : Site → Named = (λ s. (rank (bus.plan_of p) s.owner, (mode_port_at d f s.owner (unwrap_or s.port 0)).name)) in
       ap named_once (
       ap (map (λ (t : ModePortPlan). (rank (bus.plan_of p) t.instance, t.name))) (mode_ports_are d f p is)
-      ∙ map_map (λ (t : ModePortPlan). (rank (bus.plan_of p) t.instance, t.name)) plan_at (mode_ports_of d f))
+      ∙ map-map (λ (t : ModePortPlan). (rank (bus.plan_of p) t.instance, t.name)) plan_at (mode_ports_of d f))
       ∙ once (map by_site (mode_ports_of d f))
       (apart_map by_site (mode_ports_of d f)
       (λ s t in_s in_t same.
@@ -158,13 +159,13 @@ module _ (d : Description) (f : Flat) (whole : IsWellFormed d) (p : BusPlan) (is
       let m = mapped (area_of i) a.0 (areas_at d x) a.1 in
       ap (λ (n : Named). n.0) a.2 ∙ ap (λ (a : AreaPlan). a.instance) m.2)
       (λ i x at.
-      subst AllApart (sym (map_map by_plan (area_of i) (areas_at d x)))
+      subst AllApart (sym (map-map by_plan (area_of i) (areas_at d x)))
       (apart_map (λ t. by_plan (area_of i t)) (areas_at d x) (λ a b in_a in_b same. ap (λ (n : Named). n.1) same) (distinct_apart (areas_at d x) (areas_named d f whole x).once))))
 
   events_apart : (i : ℕ) (x : Instance) (o : Option Component) (name : EventPlan → Named) → ((v : EventPlan) → (name v).1 ≡ v.name) → slice_get d.components x.component ≡ o → AllApart (map name (option_map_or (events_of_component d f i) o []))
   events_apart i x None name names at = tt
   events_apart i x (Some c) name names at =
-      subst AllApart (sym (map_map name (event_of d f i) c.behavior.events))
+      subst AllApart (sym (map-map name (event_of d f i) c.behavior.events))
       (apart_finer (λ (e : Event). e.short_name) (λ e. name (event_of d f i e)) c.behavior.events
       (λ a b same. sym (names (event_of d f i a)) ∙ ap (λ (n : Named). n.1) same ∙ names (event_of d f i b))
       (distinct_apart (map (λ (e : Event). e.short_name) c.behavior.events) (of_component d whole x.component c at).event_names.once))

@@ -1,6 +1,8 @@
 -- The instances that a plan names are its instances.
 use Rattle.std.proofs.Common.{◌≡◌, ℕ, [], ◌∷◌, length, true, Option, Some, None, ⊎_elim, refl, sym, ap, subst, ◌∙◌, arith}
 use Rattle.std.proofs.lemmas.Bool.{lt-ltb, and_from}
+use Rattle.std.proofs.lemmas.List.Folds.{list_all-map}
+use Rattle.std.proofs.lemmas.Option.{slice_get_within}
 use Rattle.std.specs.List.{list_all}
 use Rattle.std.specs.Option.{unwrap_or}
 use Rattle.description_types.specs.declared.description.Description.{Description}
@@ -25,7 +27,7 @@ use Rattle.plan_runnables.specs.Started.{runnable_of, runnables_of_component, ru
 use Rattle.plan_services.specs.Modes.{machine_at, machines, mode_port_at, mode_ports}
 use Rattle.plan_services.specs.Services.{server_of, servers}
 use Rattle.event_mapping.specs.Planned.{areas, areas_at, area_of, named_areas, plan_of, seen}
-use Rattle.sound_names.proofs.Lists.{all_from, all_map, filtered, get_below, mapped, pieces}
+use Rattle.sound_names.proofs.Lists.{all_from, filtered, mapped, pieces}
 use Rattle.sound_names.proofs.Numbers.{of_instances_is}
 use Rattle.sound_names.proofs.Owners.{Owns, instance_owns, site_owns}
 use Rattle.sound_names.proofs.Seen.{names_count, elements_are, servers_are, areas_are, machines_are, mode_ports_are, runnables_are}
@@ -43,7 +45,7 @@ module _ (d : Description) (f : Flat) where
   area_is a h =
       let x = pieces (λ i (x : Instance). named_areas i (areas_at d x)) f.instances a h in
       let m = mapped (area_of x.0) a (areas_at d x.1) x.3 in
-      (x.0, ap (λ (a : AreaPlan). a.instance) m.2, get_below f.instances x.0 x.1 x.2)
+      (x.0, ap (λ (a : AreaPlan). a.instance) m.2, slice_get_within f.instances x.0 x.1 x.2)
 
   module _ (p : BusPlan) (is : seen p ≡ plan_of d f) where
     exists : (o : Option ℕ) → Owns f o → instance_exists (bus.plan_of p) o ≡ true
@@ -52,7 +54,7 @@ module _ (d : Description) (f : Flat) where
 
     elements_exist : list_all (λ (e : ElemPlan). instance_exists (bus.plan_of p) e.instance) p.elements ≡ true
     elements_exist =
-        sym (all_map (λ (e : Elem). instance_exists (bus.plan_of p) e.instance) elem_seen p.elements)
+        sym (list_all-map (λ (e : Elem). instance_exists (bus.plan_of p) e.instance) elem_seen p.elements)
         ∙ ap (list_all (λ (e : Elem). instance_exists (bus.plan_of p) e.instance)) (elements_are d f p is)
         ∙ all_from (λ (e : Elem). instance_exists (bus.plan_of p) e.instance) (elements d f)
         (λ e h.

@@ -1,5 +1,5 @@
 -- What is in lists that are made of others.
-use Rattle.std.proofs.Common.{◌≡◌, ℕ, zero, suc, ◌+◌, ◌<◌, ◌≤◌, List, [], ◌∷◌, ◌++◌, length, map, filter, slice_get, Bool, true, false, cond, ◌&&◌, Option, Some, None, option_map, option_and_then, ◌⊎◌, inl, inr, ⊎_elim, refl, sym, ap, subst, ◌∙◌, arith, true≢false}
+use Rattle.std.proofs.Common.{◌≡◌, ℕ, zero, suc, ◌+◌, ◌<◌, ◌≤◌, List, [], ◌∷◌, ◌++◌, length, map, filter, slice_get, Bool, true, false, cond, Option, Some, None, option_map, option_and_then, ◌⊎◌, inl, inr, ⊎_elim, refl, sym, ap, subst, ◌∙◌, arith, true≢false}
 use Rattle.std.proofs.lemmas.Bool.{and_parts, and_from, or_from, or_left, or_right, cases_eq}
 use Rattle.std.proofs.lemmas.List.{map-append}
 use Rattle.std.specs.List.{list_all, list_any, flat_map, find, position_from}
@@ -30,11 +30,6 @@ module _ {X : Type 0} where
   get_among (y ∷ xs) zero x h = inl cc
   get_among (y ∷ xs) (suc k) x h = inr (get_among xs k x h)
 
-  pub get_below : (xs : List X) (k : ℕ) (x : X) → slice_get xs k ≡ Some x → k < length xs
-  get_below [] k x h = cc
-  get_below (y ∷ xs) zero x h = omega arith
-  get_below (y ∷ xs) (suc k) x h = omega (arith, get_below xs k x h)
-
   pub get_some : (xs : List X) (k : ℕ) → k < length xs → (x : X) × (slice_get xs k ≡ Some x)
   get_some [] k h = absurd (omega arith)
   get_some (y ∷ xs) zero h = (y, refl)
@@ -58,19 +53,10 @@ module _ {X Y : Type 0} (f : X → Y) where
   map_has x (y ∷ xs) (inl e) = inl (ap f e)
   map_has x (y ∷ xs) (inr h) = inr (map_has x xs h)
 
-  pub get_map : (xs : List X) (k : ℕ) → slice_get (map f xs) k ≡ option_map f (slice_get xs k)
-  get_map [] k = refl
-  get_map (x ∷ xs) zero = refl
-  get_map (x ∷ xs) (suc k) = get_map xs k
-
   pub unmap : (xs : List X) (k : ℕ) (y : Y) → slice_get (map f xs) k ≡ Some y → (x : X) × (slice_get xs k ≡ Some x) × (f x ≡ y)
   unmap [] k y h = cc
   unmap (x ∷ xs) zero y h = (x, refl, cc)
   unmap (x ∷ xs) (suc k) y h = unmap xs k y h
-
-pub map_map : {X Y Z : Type 0} (g : Y → Z) (f : X → Y) (xs : List X) → map g (map f xs) ≡ map (λ x. g (f x)) xs
-map_map g f [] = refl
-map_map g f (x ∷ xs) = ap (λ l. g (f x) ∷ l) (map_map g f xs)
 
 pub map_same : {X Y : Type 0} (f g : X → Y) (xs : List X) → ((x : X) → Among x xs → f x ≡ g x) → map f xs ≡ map g xs
 map_same f g [] same = refl
@@ -127,10 +113,6 @@ module _ {X : Type 0} (test : X → Bool) where
   pub found : (x : X) (xs : List X) → find test xs ≡ Some x → Among x xs × (test x ≡ true)
   found x [] h = cc
   found x (y ∷ xs) h = ⊎_elim (λ (l : (x ≡ y) × (test x ≡ true)). (inl l.0, l.1)) (λ r. let p = found x xs r in (inr p.0, p.1)) (first (test y) x y xs refl h)
-
-pub all_map : {X Y : Type 0} (test : Y → Bool) (f : X → Y) (xs : List X) → list_all test (map f xs) ≡ list_all (λ x. test (f x)) xs
-all_map test f [] = refl
-all_map test f (x ∷ xs) = ap (λ b. test (f x) && b) (all_map test f xs)
 
 -- ---- pieces
 

@@ -2,6 +2,7 @@
 use Rattle.std.proofs.Common.{◌≡◌, ℕ, ◌<◌, [], length, slice_get, true, false, ◌&&◌, nat_eq, nat_lt, Option, Some, None, option_map, option_and_then, is_some, refl, sym, ap, subst, ◌∙◌, arith, true≢false}
 use Rattle.std.proofs.lemmas.Bool.{and_parts, eqb-true, lt-ltb}
 use Rattle.std.proofs.lemmas.List.{length-map}
+use Rattle.std.proofs.lemmas.Option.{slice_get-map}
 use Rattle.std.specs.List.{find, list_all}
 use Rattle.std.specs.Option.{option_eq, option_map_or, unwrap_or}
 use Rattle.interface_types.specs.declared.interface.Interface.{Interface}
@@ -37,7 +38,7 @@ use Rattle.plan_ports.specs.Ports as plan
 use Rattle.plan_ports.specs.Things.{has_machine, machine_for, machine_number, machines_of, mode_ports_of}
 use Rattle.plan_services.specs.Modes.{machine_at, machines, mode_port_at, mode_ports}
 use Rattle.event_mapping.specs.Planned.{plan_of, seen}
-use Rattle.sound_names.proofs.Lists.{all_from, filter_has, filtered, found, get_map, map_has, map_some, mapped}
+use Rattle.sound_names.proofs.Lists.{all_from, filter_has, filtered, found, map_has, map_some, mapped}
 use Rattle.sound_names.proofs.Numbers.{key_below}
 use Rattle.sound_names.proofs.Owners.{component_at}
 use Rattle.sound_names.proofs.Placed.{IsProvider, inner, outer, place_type, provider_is, stand_kind}
@@ -92,7 +93,7 @@ module _ (d : Description) (f : Flat) (flat : IsFlatOf d f) where
       let m = map_some (λ (place : Place). record { path = place.path; port = k }) (slice_get (places d) i) s h in
       let place = m.0 in
       let listed : slice_get f.instances i ≡ Some (instance_at d place) =
-      ap (λ l. slice_get l i) flat.instances_listed ∙ get_map (instance_at d) (places d) i ∙ ap (option_map (instance_at d)) m.1 in
+      ap (λ l. slice_get l i) flat.instances_listed ∙ slice_get-map (instance_at d) (places d) i ∙ ap (option_map (instance_at d)) m.1 in
       record {
         type = of.Component place.component;
         typed = ap (λ (s : Stand). type_at d (of.Composition d.root) s.path) (sym m.2) ∙ place_type d i place m.1;

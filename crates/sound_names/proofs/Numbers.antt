@@ -1,6 +1,7 @@
 -- Numbers of pairs and keys, and what stands at them.
 use Rattle.std.proofs.Common.{◌≡◌, ℕ, ◌+◌, ◌<◌, List, [], ◌∷◌, length, map, slice_get, true, ◌&&◌, nat_eq, Option, Some, None, refl, sym, ap, subst, ◌∙◌, arith}
 use Rattle.std.proofs.lemmas.Bool.{and_parts, and_from, eqb-true, eq-eqb}
+use Rattle.std.proofs.lemmas.Option.{slice_get-map, slice_get_within}
 use Rattle.std.specs.Option.{option_map, option_map_or, option_eq, unwrap_or}
 use Rattle.description_types.specs.declared.component.Component.{Component}
 use Rattle.description_types.specs.declared.component.Runnable as declared
@@ -13,7 +14,7 @@ use Rattle.plan_numbers.specs.Keys.{Key, same_key, number_in, same_pair, pair_nu
 use Rattle.plan_numbers.specs.Lists.{positions, from}
 use Rattle.plan_numbers.specs.Parts.{of_instances, numbered, runnables_of}
 use Rattle.plan_runnables.specs.Started.{runnable_of, runnables_of_component, runnables}
-use Rattle.sound_names.proofs.Lists.{position_found, get_below, pieces, in_pieces, map_has, in_positions, map_from, from_same, get_map, unmap}
+use Rattle.sound_names.proofs.Lists.{position_found, pieces, in_pieces, map_has, in_positions, map_from, from_same, unmap}
 use Rattle.sound_names.proofs.Sites.{ComponentAt}
 
 pair_is : (a b : ℕ × ℕ) → same_pair a b ≡ true → a ≡ b
@@ -41,7 +42,7 @@ key_below keys k h =
     let itself = and_from (option_eq nat_eq k.0 k.0 && option_eq nat_eq k.1 k.1) (nat_eq k.2 k.2) (and_from (option_eq nat_eq k.0 k.0) (option_eq nat_eq k.1 k.1) (option_itself k.0) (option_itself k.1)) (eq-eqb k.2 k.2 refl) in
     let r = position_found (same_key k) 0 k keys h itself in
     let number : number_in keys k ≡ 0 + r.0 = ap (λ o. unwrap_or o 0) r.2 in
-    let below = get_below keys r.0 r.1 r.3 in
+    let below = slice_get_within keys r.0 r.1 r.3 in
     omega (arith, number)
 
 -- ---- what instances have
@@ -92,5 +93,5 @@ module _ (d : Description) (f : Flat) where
       let n = pair_number (runnables_of d f) (i, m) in
       let pair = pair_at (runnables_of d f) (i, m) (in_runnables i m at below) in
       let there : slice_get (map (λ (r : Runnable). r.instance) (runnables d f)) n ≡ Some i =
-      ap (λ l. slice_get l n) instances_of_runnables ∙ get_map (λ (x : ℕ × ℕ). x.0) (runnables_of d f) n ∙ ap (option_map (λ (x : ℕ × ℕ). x.0)) pair in
+      ap (λ l. slice_get l n) instances_of_runnables ∙ slice_get-map (λ (x : ℕ × ℕ). x.0) (runnables_of d f) n ∙ ap (option_map (λ (x : ℕ × ℕ). x.0)) pair in
       unmap (λ (r : Runnable). r.instance) (runnables d f) n i there

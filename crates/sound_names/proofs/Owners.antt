@@ -1,5 +1,6 @@
 -- Who owns what: instances that there are, or the environment.
 use Rattle.std.proofs.Common.{◌≡◌, ℕ, ◌<◌, [], length, slice_get, Option, Some, None, ⊎_elim, refl, sym, subst}
+use Rattle.std.proofs.lemmas.Option.{slice_get_within}
 use Rattle.std.specs.Option.{option_map_or}
 use Rattle.description_types.specs.declared.component.Component.{Component}
 use Rattle.description_types.specs.declared.component.Port.{Port}
@@ -11,7 +12,7 @@ use Rattle.plan_numbers.specs.declared.site.Site.{Site}
 use Rattle.plan_numbers.specs.Parts.{component_of}
 use Rattle.plan_numbers.specs.Sites.{sites}
 use Rattle.plan_ports.specs.Ports.{ports_of}
-use Rattle.sound_names.proofs.Lists.{and_then_some, get_below}
+use Rattle.sound_names.proofs.Lists.{and_then_some}
 use Rattle.sound_names.proofs.Sites.{PortAt, ComponentAt, ItemAt, VariableAt, site_is}
 
 abbrev pub Owns : Flat → Option ℕ → Type 0
@@ -31,7 +32,7 @@ module _ (d : Description) (f : Flat) where
       record { instance = x.0; component = c.0; at_instance = x.1; at_component = x.2 }
 
   pub instance_owns : (i : ℕ) → ComponentAt d f i → Owns f (Some i)
-  instance_owns i at = get_below f.instances i at.instance at.at_instance
+  instance_owns i at = slice_get_within f.instances i at.instance at.at_instance
 
   pub port_owns : (o : Option ℕ) (k : ℕ) → PortAt d f o k → Owns f o
   port_owns None k here = tt

@@ -3,6 +3,7 @@ use Rattle.std.proofs.Common.{◌≡◌, ℕ, zero, suc, ◌+◌, ◌<◌, List,
 use Rattle.std.proofs.lemmas.Bool.{and_from, cases_Bool, le-leb}
 use Rattle.std.proofs.lemmas.List.{append_cancel_left, length-map, map-append, map-id}
 use Rattle.std.proofs.lemmas.Slice.Eq.{bytes_eq-Decides}
+use mathlib.Core.List.{map-map}
 use Rattle.std.specs.List.{enumerate_from, flat_map, list_all}
 use Rattle.std.specs.Option.{option_map_or}
 use Rattle.std.specs.Str.{bytes_eq}
@@ -26,7 +27,7 @@ use Rattle.event_mapping.specs.Planned.{plan_of, seen}
 use Rattle.sound_descriptions.specs.WellFormed.{IsWellFormed}
 use Rattle.sound_names.proofs.Apart.{apart_append, apart_map, distinct_apart}
 use Rattle.sound_names.proofs.Keeping.{Names, of_composition}
-use Rattle.sound_names.proofs.Lists.{all_from, all_at, any_has, map_has, map_map, map_same, mapped, unflat}
+use Rattle.sound_names.proofs.Lists.{all_from, all_at, any_has, map_has, map_same, mapped, unflat}
 use Rattle.sound_names.proofs.Seen.{names_are, names_count}
 use Rattle.sound_names.proofs.Texts.{name_free, parts_join, parts_whole, same_is}
 
@@ -63,7 +64,7 @@ module _ (d : Description) where
       deeper c (q ∷ path) typed
       ∙ map_same (λ u. prefix_at d (q ∷ path) ++ u) (λ u. prefix_at d path ++ (name ++ 47 ∷ u)) (tails d n c)
       (λ u h. ap (λ w. (w ++ codes "/") ++ u) is ∙ append_assoc (prefix_at d path ++ name) (codes "/") u ∙ append_assoc (prefix_at d path) name (codes "/" ++ u))
-      ∙ sym (map_map (λ u. prefix_at d path ++ u) (λ u. name ++ 47 ∷ u) (tails d n c))
+      ∙ sym (map-map (λ u. prefix_at d path ++ u) (λ u. name ++ 47 ∷ u) (tails d n c))
 
   places_written : (n c : ℕ) (path : List ℕ) → type_at d (of.Composition d.root) path ≡ Some (of.Composition c) → map (λ (x : Place). written d x.path) (places_below d n c path) ≡ map (λ u. prefix_at d path ++ u) (tails d n c)
   places_written zero c path typed = refl
@@ -80,7 +81,7 @@ module _ (d : Description) where
       ∙ sym (map_flat (λ u. prefix_at d path ++ u) (λ (p : Prototype). tails_of (tails d n) p.short_name p.of_type) (prototypes_of d c))
 
   pub paths_are : map (λ (x : Instance). x.path) (instances d) ≡ tails d 8 d.root
-  paths_are = map_map (λ (x : Instance). x.path) (instance_at d) (places d) ∙ places_written 8 d.root [] refl ∙ map-id (tails d 8 d.root)
+  paths_are = map-map (λ (x : Instance). x.path) (instance_at d) (places d) ∙ places_written 8 d.root [] refl ∙ map-id (tails d 8 d.root)
 
   -- ---- their parts
 

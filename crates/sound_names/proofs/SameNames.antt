@@ -2,6 +2,7 @@
 use Rattle.std.proofs.Common.{◌≡◌, ℕ, ◌<◌, List, [], ◌∷◌, map, length, slice_get, true, ◌&&◌, nat_eq, Option, Some, None, option_map, ◌⊎◌, inl, inr, refl, sym, ap, subst, ◌∙◌, arith, true≢false}
 use Rattle.std.specs.List.{list_all}
 use Rattle.std.proofs.lemmas.Bool.{and_parts}
+use Rattle.std.proofs.lemmas.Option.{slice_get-map}
 use Rattle.std.specs.Option.{option_map_or}
 use Rattle.interface_types.specs.declared.interface.DataElement.{DataElement}
 use Rattle.interface_types.specs.declared.interface.Interface.{Interface}
@@ -26,7 +27,7 @@ use Rattle.sound_descriptions.specs.WellFormed.{item_count, kind_fits, names_fit
 use Rattle.sound_names.proofs.Apart.{distinct_apart, one_place}
 use Rattle.sound_names.proofs.ItemNames.{item_named, item_site_name, port_named, site_text_fits, text_is, variable_fits, variable_site_name}
 use Rattle.sound_names.proofs.Keeping.{Names, names_from, of_component, of_interface, of_ports}
-use Rattle.sound_names.proofs.Lists.{get_map, get_some}
+use Rattle.sound_names.proofs.Lists.{get_some}
 use Rattle.sound_names.proofs.Owners.{Owns}
 use Rattle.sound_names.proofs.Seen.{names_count}
 use Rattle.sound_names.proofs.SiteKinds.{item_below}
@@ -39,7 +40,7 @@ module _ {X : Type 0} (name : X → List ℕ) where
   pub place_of : (xs : List X) (i j : ℕ) (x y : X) → Names (map name xs) → slice_get xs i ≡ Some x → slice_get xs j ≡ Some y → name x ≡ name y → i ≡ j
   place_of xs i j x y names at_i at_j same =
       one_place (map name xs) i j (name x) (distinct_apart (map name xs) names.once)
-      (get_map name xs i ∙ ap (option_map name) at_i) (get_map name xs j ∙ ap (option_map name) at_j ∙ ap (λ n. Some n) (sym same))
+      (slice_get-map name xs i ∙ ap (option_map name) at_i) (slice_get-map name xs j ∙ ap (option_map name) at_j ∙ ap (λ n. Some n) (sym same))
 
   pub name_place : (xs : List X) (i j : ℕ) → Names (map name xs) → i < length xs → j < length xs → option_map_or name (slice_get xs i) [] ≡ option_map_or name (slice_get xs j) [] → i ≡ j
   name_place xs i j names below_i below_j same =

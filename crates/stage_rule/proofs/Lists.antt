@@ -1,5 +1,5 @@
 -- Lists that are made of others: they have no item where each part has none, and a test passes where it passes at each part.
-use Rattle.std.proofs.Common.{◌≡◌, ℕ, zero, suc, ◌+◌, Bool, true, false, cond, ◌&&◌, ◌==◌, refl, sym, ◌∙◌, ap, subst, arith, List, [], ◌∷◌, ◌++◌, map, filter, length, Option, Some, None, option_map, slice_get}
+use Rattle.std.proofs.Common.{◌≡◌, ℕ, zero, suc, ◌+◌, Bool, true, false, cond, ◌==◌, refl, sym, ◌∙◌, ap, subst, arith, List, [], ◌∷◌, ◌++◌, map, filter, length, Option, Some, None, option_map, slice_get}
 use Rattle.std.specs.Cmp.{unsigned_Decides}
 use Rattle.std.specs.List.{list_all, flat_map}
 use Rattle.std.specs.Option.{option_or}
@@ -25,10 +25,6 @@ all_at test (y ∷ xs) (suc k) x all at = all_at test xs k x (and_parts (test y)
 pub all_mapped : {X Y : Type 0} (test : Y → Bool) (f : X → Y) (xs : List X) → ((k : ℕ) (x : X) → slice_get xs k ≡ Some x → test (f x) ≡ true) → list_all test (map f xs) ≡ true
 all_mapped test f [] each = refl
 all_mapped test f (x ∷ xs) each = and_from (test (f x)) (list_all test (map f xs)) (each 0 x refl) (all_mapped test f xs (λ k y at. each (suc k) y at))
-
-pub all_seen : {X Y : Type 0} (test : Y → Bool) (f : X → Y) (xs : List X) → list_all (λ x. test (f x)) xs ≡ list_all test (map f xs)
-all_seen test f [] = refl
-all_seen test f (x ∷ xs) = ap (λ b. test (f x) && b) (all_seen test f xs)
 
 pub all_from : {X Y : Type 0} (test : Y → Bool) (g : ℕ → X → List Y) (xs : List X) → ((k : ℕ) (x : X) → slice_get xs k ≡ Some x → (i : ℕ) → list_all test (g i x) ≡ true) → (i : ℕ) → list_all test (from i g xs) ≡ true
 all_from test g [] each i = refl

@@ -1,5 +1,6 @@
 -- The plan of a description of this stage that breaks no rule is plain.
-use Rattle.std.proofs.Common.{◌≡◌, ℕ, List, [], map, true, not, refl, ap, ◌∙◌, Option, Some, None}
+use Rattle.std.proofs.Common.{◌≡◌, ℕ, List, [], map, true, not, refl, ap, ◌∙◌, Option, Some, None, sym}
+use Rattle.std.proofs.lemmas.List.Folds.{list_all-map}
 use Rattle.std.specs.List.{list_all}
 use Rattle.std.specs.Option.{unwrap_or}
 use Rattle.description_types.specs.declared.description.Description.{Description}
@@ -22,7 +23,6 @@ use Rattle.core_turn.specs.Plans.{IsPlainPlan}
 use Rattle.stage_rule.specs.Stage.{is_in_stage}
 use Rattle.stage_rule.proofs.Interfaces.{stage_parts}
 use Rattle.stage_rule.proofs.Kept.{all_explicit, none_area, none_call}
-use Rattle.stage_rule.proofs.Lists.{all_seen}
 use Rattle.stage_rule.proofs.Numbered.{none_of_kind, none_queued, queued}
 
 before_none : (o : Option (ℕ × List ℕ)) (later : Option (ℕ × List ℕ) → Type 0) → IsAfter o later None → o ≡ None
@@ -52,7 +52,7 @@ module _ (d : Description) (f : Flat) (p : BusPlan) (m : Mapping) (stage : is_in
   explicit = ap (λ q. list_all (λ (r : Runnable). list_all is_explicit_access r.accesses) q.runnables) w.is_plan ∙ all_explicit d (stage_parts d stage).1 w.well_formed.components f
 
   plan_unqueued : IsUnqueuedPlan (plan_of p)
-  plan_unqueued = record { unqueued = all_seen (λ (e : Elem). not (queued e.kind)) elem_seen p.elements ∙ unqueued; servers = no_servers; areas = no_areas; machines = no_machines }
+  plan_unqueued = record { unqueued = sym (list_all-map (λ (e : Elem). not (queued e.kind)) elem_seen p.elements) ∙ unqueued; servers = no_servers; areas = no_areas; machines = no_machines }
 
   pub plan_plain : IsPlainPlan (plan_of p)
   plan_plain = record { unqueued = plan_unqueued; points = no_points; explicit = explicit }

@@ -6,6 +6,3 @@ mod stage;
 
 pub use laws::plans_of_the_stage_are_plain;
 pub use stage::is_in_stage;
-
-#[cfg(test)]
-mod tests;

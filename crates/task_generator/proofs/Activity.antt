@@ -4,7 +4,7 @@ use Rattle.std.specs.Prelude.{slice_get, ◌==◌, not}
 use Rattle.std.specs.List.{list_all}
 use Rattle.std.specs.Option.{option_map}
 use Rattle.std.proofs.Math.Seq.{get_or-append_seam}
-use Rattle.std.proofs.lemmas.Bool.{false≢true}
+use Rattle.std.proofs.lemmas.Bool.{and_parts, false≢true}
 use Rattle.std.proofs.lemmas.List.{length-replicate}
 use Rattle.std.proofs.lemmas.Option.{slice_get-get_or, slice_get_past, slice_get-map}
 use Rattle.rte_value.specs.Values.{words_of}
@@ -26,7 +26,7 @@ use Rattle.task_generator.specs.Bounds.{steps_of_body, loops_of_body}
 use Rattle.task_generator.specs.Shapes.{Shape, shape_of_body, shape_of}
 use Rattle.task_generator.specs.Promise.{is_explicit_body, is_explicit_access, IsPlain, AsksAsPlanned}
 use Rattle.task_generator.proofs.Following.{Keeps, Follows, asked_from, joined, call_runs}
-use Rattle.task_generator.proofs.Simulation.{HasAt, has_front, has_back, both_true, body_runs}
+use Rattle.task_generator.proofs.Simulation.{HasAt, has_front, has_back, body_runs}
 
 -- all instructions stand at their places
 has_all : (is pre : List Instruction) → HasAt (pre ++ is) (length pre) is
@@ -95,15 +95,15 @@ no_fetch : (sigs : List AccessSig) (xs : List ℕ) (s : State) (ds : List Deed) 
 no_fetch [] xs s ds plain = refl
 no_fetch (a ∷ sigs) [] s ds plain = refl
 no_fetch (a ∷ sigs) (x ∷ xs) s ds plain =
-    let parts = both_true (is_explicit_access a) (list_all is_explicit_access sigs) plain in
-    passed_over (is_read_early a.kind) _ (fetching sigs xs) s ds (both_true (not (is_read_early a.kind)) (not (is_written_late a.kind)) parts.0).0 (no_fetch sigs xs s ds parts.1)
+    let parts = and_parts (is_explicit_access a) (list_all is_explicit_access sigs) plain in
+    passed_over (is_read_early a.kind) _ (fetching sigs xs) s ds (and_parts (not (is_read_early a.kind)) (not (is_written_late a.kind)) parts.0).0 (no_fetch sigs xs s ds parts.1)
 
 no_publication : (sigs : List AccessSig) (xs : List ℕ) (s : State) (ds : List Deed) → list_all is_explicit_access sigs ≡ true → publishing sigs xs s ds ≡ Go s ds
 no_publication [] xs s ds plain = refl
 no_publication (a ∷ sigs) [] s ds plain = refl
 no_publication (a ∷ sigs) (x ∷ xs) s ds plain =
-    let parts = both_true (is_explicit_access a) (list_all is_explicit_access sigs) plain in
-    passed_over (is_written_late a.kind) _ (publishing sigs xs) s ds (both_true (not (is_read_early a.kind)) (not (is_written_late a.kind)) parts.0).1 (no_publication sigs xs s ds parts.1)
+    let parts = and_parts (is_explicit_access a) (list_all is_explicit_access sigs) plain in
+    passed_over (is_written_late a.kind) _ (publishing sigs xs) s ds (and_parts (not (is_read_early a.kind)) (not (is_written_late a.kind)) parts.0).1 (no_publication sigs xs s ds parts.1)
 
 no_admission : (p : Plan) (event : ℕ) (s : State) (ds : List Deed) → disabling_of p event ≡ None → admitting p event s ds ≡ Go s ds
 no_admission p event s ds enabled = rw enabled refl

@@ -2,7 +2,7 @@
 use Rattle.std.proofs.Common.{◌≡◌, ◌≢◌, ℕ, zero, suc, ◌+◌, ◌-◌, ◌*◌, ◌<◌, ◌≤◌, ℤ, pos, List, [], ◌∷◌, length, set, get_or, Bool, true, false, if◌then◌else◌, Option, Some, None, refl, ap, ◌∙◌, subst, arith}
 use Rattle.std.specs.Prelude.{slice_get, ◌==◌}
 use Rattle.std.specs.Ordering.{int_eq}
-use Rattle.std.proofs.lemmas.Bool.{eqb-true}
+use Rattle.std.proofs.lemmas.Bool.{eqb-true, false_from_ne_true}
 use Rattle.std.proofs.lemmas.List.{get_or-set_same, get_or-set_other, length-set}
 use Rattle.runnable_lang.specs.Trees.{ExprTree}
 use Rattle.runnable_lang.specs.Expressions.{worth}
@@ -46,10 +46,6 @@ pub record Arrives (code : List Instruction) (event : ℕ) (P : List ℕ → Typ
 abbrev pub Follows : List Instruction → (event : ℕ) → (P : List ℕ → Type 0) → (n a e : ℕ) → State → List ℕ → List Deed → Outcome → Type 0
 Follows code event P n a e s cs ds (Stop w) = (k : ℕ) → n ≤ k → asked_from code event k a s cs ds ≡ Some w
 Follows code event P n a e s cs ds (Go t es) = (k m : ℕ) → n + m ≤ k → Arrives code event P k m a e s cs ds t es
-
-is_false : (b : Bool) → (b ≡ true → ⊥) → b ≡ false
-is_false true never = absurd (never refl)
-is_false false never = refl
 
 module _ (code : List Instruction) (event : ℕ) where
   -- ---- joining
@@ -122,7 +118,7 @@ module _ (code : List Instruction) (event : ℕ) where
   silent k a b s t cs us ds i some at is = ap (λ x. wanted_at code event (after code ds x)) (decided k a s cs i some at ∙ is)
 
   positive : (k : ℕ) → 1 ≤ k → (k == 0) ≡ false
-  positive k some = is_false (k == 0) (λ e. let zero : k ≡ 0 = eqb-true k 0 e in absurd (omega arith))
+  positive k some = false_from_ne_true (k == 0) (λ e. let zero : k ≡ 0 = eqb-true k 0 e in absurd (omega arith))
 
   -- a call that waits for its answer
   pub waits : (k a : ℕ) (s : State) (cs : List ℕ) (w : ℕ → State → Wanted) (change : Deed → State → State) (passes : Deed → ℕ) → 1 ≤ k → slice_get code a ≡ Some (call w change passes)

@@ -1,8 +1,8 @@
 -- The body of a program does what the program does: by recursion on the statements.
-use Rattle.std.proofs.Common.{◌≡◌, ℕ, ◌+◌, ◌≤◌, pos, List, [], ◌∷◌, ◌++◌, length, Bool, true, false, Some, refl, subst, arith, length-append}
-use Rattle.std.specs.Prelude.{slice_get, ◌&&◌}
+use Rattle.std.proofs.Common.{◌≡◌, ℕ, ◌+◌, ◌≤◌, pos, List, [], ◌∷◌, ◌++◌, length, true, false, Some, refl, subst, arith, length-append}
+use Rattle.std.specs.Prelude.{slice_get}
 use Rattle.std.specs.Ordering.{int_eq}
-use Rattle.std.proofs.lemmas.Bool.{false≢true}
+use Rattle.std.proofs.lemmas.Bool.{and_parts, false≢true}
 use Rattle.runnable_lang.specs.declared.program.AccessKind.TheVariants as kind
 use Rattle.runnable_lang.specs.Trees.{StmtTree, sets, chooses, repeats, in_area, writes, reads, invalidates, asks_updated, sends, receives, writes_late, reads_early, writes_variable, reads_variable, writes_variable_late, reads_variable_early, calls, calls_and_goes_on, takes_result, switches, asks_mode, BodyTree, done, next}
 use Rattle.runnable_lang.specs.Expressions.{worth}
@@ -32,10 +32,6 @@ has_back code a (i ∷ xs) ys h =
     let e : a + 1 + length xs ≡ a + length (i ∷ xs) = omega arith in
     subst (λ n. HasAt code n ys) e (has_back code (a + 1) xs ys h.1)
 
-pub both_true : (a b : Bool) → (a && b) ≡ true → (a ≡ true) × (b ≡ true)
-both_true true b h = (refl, h)
-both_true false b h = absurd (false≢true h)
-
 module _ (code : List Instruction) (event : ℕ) (r : Runnable) where
   -- a single call
   one_call : (d a : ℕ) (s : State) (cs : List ℕ) (ds : List Deed) (w : State → Wanted) (change : Deed → State → State)
@@ -50,7 +46,7 @@ module _ (code : List Instruction) (event : ℕ) (r : Runnable) where
     stmt_runs (chooses c first second) d a s cs ds plain has room =
         let x = code_of_body r d first in
         let y = code_of_body r d second in
-        let parts = both_true (is_explicit_body first) (is_explicit_body second) plain in
+        let parts = and_parts (is_explicit_body first) (is_explicit_body second) plain in
         let behind = has_back code (a + 1) x (skip (length y) ∷ y) has.1 in
         let end : a + 1 + length x + 1 + length y ≡ a + length (code_of r d (chooses c first second)) = omega (arith, length-append x (skip (length y) ∷ y)) in
         ends_at code event (Keeps d cs) (steps (chooses c first second)) a _ _ s cs ds (running r (chooses c first second) s ds) end
@@ -113,7 +109,7 @@ module _ (code : List Instruction) (event : ℕ) (r : Runnable) where
     body_runs (next st body) d a s cs ds plain has room =
         let x = code_of r d st in
         let y = code_of_body r d body in
-        let parts = both_true (is_explicit st) (is_explicit_body body) plain in
+        let parts = and_parts (is_explicit st) (is_explicit_body body) plain in
         let end : a + length x + length y ≡ a + length (x ++ y) = omega (arith, length-append x y) in
         ends_at code event (Keeps d cs) (steps st + steps_of_body body) a (a + length x + length y) (a + length (x ++ y)) s cs ds (running_body r (next st body) s ds) end
         (joined code event (Keeps d cs) (Keeps d cs) (steps st) (steps_of_body body) a (a + length x) (a + length x + length y) s cs ds (running r st s ds) (running_body r body)

@@ -1,3 +1,2 @@
 pub mod Answered
 pub mod Most
-pub mod Settling

@@ -13,6 +13,3 @@ pub use instr::{Body, Instr, Request, Taken, TaskSet};
 
 /// There was no memory for what a call makes.
 pub type Memory = std::alloc::AllocError;
-
-#[cfg(test)]
-mod tests;

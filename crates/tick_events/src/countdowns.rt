@@ -88,6 +88,3 @@ impl Countdowns {
         settle_above(&mut self.best, &self.countdowns, self.ticks, at);
     }
 }
-
-#[cfg(test)]
-mod tests;

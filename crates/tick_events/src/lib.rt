@@ -12,6 +12,3 @@ pub use clock::Clock;
 
 /// There was no memory for what a call makes.
 pub type Memory = std::alloc::AllocError;
-
-#[cfg(test)]
-mod tests;

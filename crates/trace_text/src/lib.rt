@@ -10,6 +10,3 @@ mod lines;
 mod names;
 
 pub use lines::{header, idle_line, run_line, unsettled_line, write_entry};
-
-#[cfg(test)]
-mod tests;

@@ -1,6 +1,6 @@
 use Rattle.std.proofs.Common.{◌≡◌, ◌<◌, refl, sym, ◌∙◌, ap, subst, arith, [], ◌∷◌, ◌++◌, length, map, set}
 use Rattle.std.specs.Vec.{with_item}
-use Rattle.std.proofs.lemmas.Option.{slice_get_within}
+use Rattle.std.proofs.lemmas.Option.{same_Some, slice_get_within}
 use Rattle.bus_semantics.specs.declared.entries.Stamped.{Stamped}
 use Rattle.bus_semantics.specs.Plan.{plan_of}
 use Rattle.port_objects.specs.Objects.{ArePlans}
@@ -9,7 +9,7 @@ use Rattle.core_runtime.specs.Nodes.{HasRoom}
 use Rattle.core_runtime.specs.Watching.{IsAfter, IsWatch}
 use Rattle.core_runtime.proofs.Places.{found_at}
 use Rattle.core_runtime.proofs.Turned.{after_step, awake_on, clock_there, events_kept, seated_on}
-use Rattle.core_runtime.proofs.Stepping.{makes, rests, last_is, both_some}
+use Rattle.core_runtime.proofs.Stepping.{makes, rests, last_is}
 use Rattle.core_runtime.proofs.step.step.Goals as goal
 use Rattle.core_runtime.proofs.step.step.Goals.{in-Some, in_default}
 
@@ -22,7 +22,7 @@ returns-in-NothingNow c = record {
       let turned = c.in-NothingNow.ensures.turned in
       let before = c.args.b.now.objects in
       let events = ap (λ (k : CoreState). map events_of_slot k.slots) turned.same in
-      subst (λ os. IsWatch (plan_of c.args.p.now) os (set cores c.args.number c.turn_of_awake.new.c) (record { awake = with_item c.args.w.now.awake c.args.number c.turn_of_awake.new.a; seats = c.args.w.now.seats })) (sym (both_some turned.objects.1))
+      subst (λ os. IsWatch (plan_of c.args.p.now) os (set cores c.args.number c.turn_of_awake.new.c) (record { awake = with_item c.args.w.now.awake c.args.number c.turn_of_awake.new.a; seats = c.args.w.now.seats })) (sym (same_Some _ _ turned.objects.1))
       (record {
         awake = awake_on (plan_of c.args.p.now) before cores c.args.w.now.awake.items c.args.w.now.seats.items c.args.number c.args.c.now c.turn_of_awake.new.c c.turn_of_awake.new.c c.turn_of_awake.new.a found refl events
             c.in-NothingNow.ensures.fits c.in-NothingNow.ensures.held watch.awake;
@@ -37,7 +37,7 @@ returns-after-last-clause-stepped c =
     let last = last_is c.trace.result.now c.args.c.now.trace turned.0 _ c.requires.core_room.trace (c.trace.ensures ∙ turned.1.trace) c.last.ensures.value in
     elim c.match-last.branch [
       | in-Some w ↦
-          let made : w.in-Some.made.now ≡ turned.0 = both_some (ap Rattle.std.specs.Option.option_copied (sym w.in-Some.is) ∙ last) in
+          let made : w.in-Some.made.now ≡ turned.0 = same_Some _ _ (ap Rattle.std.specs.Option.option_copied (sym w.in-Some.is) ∙ last) in
           makes (plan_of c.args.p.now) c.args.t.now c.args.c.now c.args.b.now c.turn_of_awake.new.b c.args.entries.now.items c.turn_of_awake.new.c c.clear.new.self turned.0 c.match-last.entries.items turned.1
           (record { number = c.clear.ensures.number; slots = c.clear.ensures.slots })
           (ap (λ (v : _). v.items) w.entries-is ∙ w.push_reserved.ensures.items ∙ ap (λ s. c.args.entries.now.items ++ s ∷ []) made)
@@ -99,7 +99,7 @@ returns-after-last-clause-watched c = λ cores found watch.
     let events = ap (map events_of_slot) steps.slots ∙ events_kept c.args.c.now.slots steps.at steps.slot steps.stepped steps.there steps.step.events in
     elim c.match-last.branch [
       | in-Some w ↦
-          let made : w.in-Some.made.now ≡ turned.0 = both_some (ap Rattle.std.specs.Option.option_copied (sym w.in-Some.is) ∙ last) in
+          let made : w.in-Some.made.now ≡ turned.0 = same_Some _ _ (ap Rattle.std.specs.Option.option_copied (sym w.in-Some.is) ∙ last) in
           let is_after = after_step p c.args.t.now c.args.c.now c.turn_of_awake.new.c c.args.b.now c.turn_of_awake.new.b turned.0 steps in
           let after_made = subst (λ (s : Stamped). IsAfter p before w.objects.result.now s.entry) (sym made) (subst (λ os. IsAfter p before os turned.0.entry) (sym w.objects.ensures.objects) is_after) in
           subst (IsWatch p c.turn_of_awake.new.b.objects (set cores c.args.number c.clear.new.self)) (sym w.w-is)

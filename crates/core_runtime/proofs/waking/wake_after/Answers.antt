@@ -1,7 +1,7 @@
 use Rattle.std.proofs.Common.{◌≡◌, sym, ◌∙◌, ap, subst, Some, None}
+use Rattle.std.proofs.lemmas.Option.{same_Some}
 use Rattle.std.specs.List.{Contains, slice_get}
 use Rattle.bus_semantics.specs.Plan.{plan_of}
-use Rattle.port_objects.specs.declared.object.Object.{Object}
 use Rattle.port_objects.specs.Objects.{kept_of}
 use Rattle.port_objects.specs.Waking.{woken_in}
 use Rattle.core_runtime.specs.Watching.{AreSeated, IsSeen, tables_of}
@@ -31,14 +31,11 @@ returns-in-Some-get c = λ cores before after watch.
           let number : Some n ≡ Some t.object = c.in-Some.ensures.object t.actor t.by on ∙ t.touching in
           let place : n ≡ t.object = cc in
           let found = found_at c.args.objects.now n object c.in-Some-get.ensures.lookup.3.0 c.in-Some-get.ensures.lookup.1 in
-          let same : t.new ≡ object = some_is (sym (set_here before t.object t.old t.new t.found) ∙ sym (ap (slice_get c.args.objects.now) place ∙ ap (λ os. slice_get os t.object) t.others) ∙ found) in
+          let same : t.new ≡ object = same_Some _ _ (sym (set_here before t.object t.old t.new t.found) ∙ sym (ap (slice_get c.args.objects.now) place ∙ ap (λ os. slice_get os t.object) t.others) ∙ found) in
           subst (λ o. IsSeen (kept_of o) c.wake_events.new.w.awake.items event s) (sym same)
           (c.wake_events.ensures.seen event s (subst (λ events. Contains events event) (sym c.woken.ensures) (subst (λ o. Contains (woken_in o) event) same told)) at));
       seated = subst (λ (v : _). AreSeated (tables_of cores) v.items) (sym c.wake_events.ensures.seats) watch.seated;
     }
-  where
-    some_is : {x y : Object} → Some x ≡ Some y → x ≡ y
-    some_is e = cc
 
 pub returns-in-None : goal.returns-in-None
 returns-in-None c = λ cores before after watch. record {

@@ -1,4 +1,5 @@
-use Rattle.std.proofs.Common.{◌≡◌, sym, ◌∙◌, ap, Some}
+use Rattle.std.proofs.Common.{◌≡◌, sym, ◌∙◌, ap}
+use Rattle.std.proofs.lemmas.Option.{same_Some}
 use Rattle.std.specs.Prelude.{Vec}
 use Rattle.std.specs.Global.{Global}
 use Rattle.std.specs.List.{slice_get}
@@ -21,8 +22,5 @@ pub returns-in-Some-clause-seen : goal.returns-in-Some-clause-seen
 returns-in-Some-clause-seen c = λ s at.
     let row = c.in-Some.seats.now in
     let found = ap (λ rs. slice_get rs c.args.event) (sym c.deref.ensures.value) ∙ found_at c.deref.result.now c.args.event row c.in-Some.ensures.lookup.3.0 c.in-Some.ensures.lookup.1 in
-    let same : at.row ≡ row = some_is (sym at.row_is ∙ found) in
+    let same : at.row ≡ row = same_Some _ _ (sym at.row_is ∙ found) in
     c.wake_seats.ensures.seen at.at s (ap (λ xs. slice_get xs at.at) (c.as_slice.ensures.value ∙ ap (λ (v : Vec Seat Global). v.items) (sym same)) ∙ at.is)
-  where
-    some_is : {x y : Vec Seat Global} → Some x ≡ Some y → x ≡ y
-    some_is e = cc

@@ -1,7 +1,7 @@
 use Rattle.std.proofs.Common.{◌≡◌, ◌<◌, inl, inr, refl, length, get_or, sym, ◌∙◌, ap, subst, arith, Some}
 use Rattle.std.specs.List.{slice_get}
 use Rattle.std.proofs.lemmas.Bool.{cases_lt}
-use Rattle.std.proofs.lemmas.Option.{slice_get-get_or}
+use Rattle.std.proofs.lemmas.Option.{same_Some, slice_get-get_or}
 use Rattle.port_objects.specs.Objects.{kept_of}
 use Rattle.core_runtime.specs.Watching.{IsAt, IsSeen}
 use Rattle.core_runtime.proofs.Wakes.{are_same, are_then, there_still, seen_still}
@@ -25,14 +25,11 @@ loop-event-preserved c = record {
     | inr after ↦
         let place : k ≡ c.loop-event.event-index = omega arith in
         let is = slice_get-get_or c.args.events.now c.loop-event.event-index 0 c.loop-event-test.true in
-        let same : get_or c.args.events.now c.loop-event.event-index 0 ≡ e = some_is (sym is ∙ sym (ap (slice_get c.args.events.now) place) ∙ found) in
+        let same : get_or c.args.events.now c.loop-event.event-index 0 ≡ e = same_Some _ _ (sym is ∙ sym (ap (slice_get c.args.events.now) place) ∙ found) in
         subst (λ n. IsSeen (kept_of c.args.object.now) c.wake_event.new.w.awake.items n s) same
         (c.wake_event.ensures.seen s (subst (λ n. IsAt c.loop-event.w.seats.items n s) (sym same) (subst (λ (v : _). IsAt v.items e s) (sym c.loop-event.invariant.seats) at)))
   ];
 }
-  where
-    some_is : {X : Type 0} {x y : X} → Some x ≡ Some y → x ≡ y
-    some_is e = cc
 
 pub returns-clause-seen : goal.returns-clause-seen
 returns-clause-seen c = λ e s contains at.

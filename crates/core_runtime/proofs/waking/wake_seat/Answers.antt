@@ -1,5 +1,5 @@
-use Rattle.std.proofs.Common.{◌≡◌, ◌<◌, [], get_or, length, sym, ◌∙◌, subst, set, Some}
-use Rattle.std.proofs.lemmas.Option.{slice_get_within}
+use Rattle.std.proofs.Common.{◌≡◌, ◌<◌, [], get_or, length, sym, ◌∙◌, subst, set}
+use Rattle.std.proofs.lemmas.Option.{same_Some, slice_get_within}
 use Rattle.port_objects.specs.Objects.{kept_of}
 use Rattle.core_turn.specs.Awake.{AwakeState}
 use Rattle.core_runtime.specs.Watching.{IsSeen}
@@ -23,13 +23,10 @@ returns-then-may_start-clause-seen c =
     let a = c.index_mut-core.result.now in
     let within : s.core < length xs = slice_get_within xs s.core c.requires.there.core c.requires.there.core_is in
     let found = found_at xs s.core a within c.index_mut-core.ensures.value in
-    let same : c.requires.there.core ≡ a = some_is (sym c.requires.there.core_is ∙ found) in
+    let same : c.requires.there.core ≡ a = same_Some _ _ (sym c.requires.there.core_is ∙ found) in
     seen_awake (kept_of c.args.object.now) (set xs s.core c.wake.new.self) c.args.event s c.wake.new.self (set_here xs s.core a c.wake.new.self found)
     (awake_now a c.wake.new.self s.slot s.place c.wake.ensures.slots c.wake.ensures.events (subst (λ (x : AwakeState). s.slot < length x.slots) same c.requires.there.slot)
     (subst (λ (x : AwakeState). s.place < length (get_or x.events s.slot [])) same c.requires.there.place))
-  where
-    some_is : {x y : AwakeState} → Some x ≡ Some y → x ≡ y
-    some_is e = cc
 
 pub returns-else-not-is_awake-clause-seen : goal.returns-else-not-is_awake-clause-seen
 returns-else-not-is_awake-clause-seen c =

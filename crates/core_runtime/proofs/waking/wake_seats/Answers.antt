@@ -1,7 +1,7 @@
-use Rattle.std.proofs.Common.{◌≡◌, ◌<◌, inl, inr, length, get_or, sym, ◌∙◌, ap, subst, arith, Some}
+use Rattle.std.proofs.Common.{◌≡◌, ◌<◌, inl, inr, length, get_or, sym, ◌∙◌, ap, subst, arith}
 use Rattle.std.specs.List.{slice_get}
 use Rattle.std.proofs.lemmas.Bool.{cases_lt}
-use Rattle.std.proofs.lemmas.Option.{slice_get-get_or, slice_get_within}
+use Rattle.std.proofs.lemmas.Option.{same_Some, slice_get-get_or, slice_get_within}
 use Rattle.port_objects.specs.Objects.{kept_of}
 use Rattle.core_runtime.specs.declared.seats.Seat.{Seat}
 use Rattle.core_runtime.specs.Watching.{IsSeen}
@@ -30,13 +30,10 @@ loop-seat-preserved c = record {
     | inr after ↦
         let at : k ≡ c.loop-seat.seat-index = omega arith in
         let is = slice_get-get_or c.args.seats.now c.loop-seat.seat-index nowhere c.loop-seat-test.true in
-        let same : get_or c.args.seats.now c.loop-seat.seat-index nowhere ≡ s = some_is (sym is ∙ sym (ap (slice_get c.args.seats.now) at) ∙ found) in
+        let same : get_or c.args.seats.now c.loop-seat.seat-index nowhere ≡ s = same_Some _ _ (sym is ∙ sym (ap (slice_get c.args.seats.now) at) ∙ found) in
         subst (IsSeen (kept_of c.args.object.now) c.wake_seat.new.awake.items c.args.event) same c.wake_seat.ensures.seen
   ];
 }
-  where
-    some_is : {x y : Seat} → Some x ≡ Some y → x ≡ y
-    some_is e = cc
 
 pub returns-clause-seen : goal.returns-clause-seen
 returns-clause-seen c = λ k s found.

@@ -1,6 +1,7 @@
-use Rattle.std.proofs.Common.{◌≡◌, ◌<◌, ◌∙◌, refl, true≢false, arith, Bool, Some, All, List, length, map, set, subst, sym, ap}
+use Rattle.std.proofs.Common.{◌≡◌, ◌<◌, ◌∙◌, refl, true≢false, arith, All, List, length, map, set, subst, sym, ap}
 use Rattle.std.specs.Prelude.{count_by}
 use Rattle.std.proofs.lemmas.List.{length-map, length-set}
+use Rattle.std.proofs.lemmas.Option.{same_Some}
 use Rattle.latches.specs.Latches.{Latch, after_set}
 use Rattle.tick_events.specs.Countdowns.{Countdown, whole}
 use Rattle.tick_events.specs.Running.{IsWithin, settled_timer}
@@ -21,11 +22,8 @@ loop-ended-init c = record {
   named = c.requires.named;
   room = c.requires.room;
   capacity = refl;
-  told = λ event name was now named. absurd (true≢false (same (sym now ∙ was)));
+  told = λ event name was now named. absurd (true≢false (same_Some _ _ (sym now ∙ was)));
 }
-  where
-    same : {x y : Bool} → Some x ≡ Some y → x ≡ y
-    same e = cc
 
 pub loop-ended-preserved : goal.loop-ended-preserved
 loop-ended-preserved c =

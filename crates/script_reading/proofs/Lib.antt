@@ -1,0 +1,5 @@
+pub mod Carrying
+pub mod Cutting
+pub mod Decimals
+pub mod Indexed
+pub mod Steps

@@ -1,0 +1,82 @@
+//! Reading a script.
+
+ghost use Rattle.std.specs.Prelude.{◌≡◌, ℕ, List, [], ◌++◌, IfSome, Some, map, OnOk};
+ghost use Rattle.bus_semantics.specs.Plan.{plan_of};
+ghost use Rattle.script_reading.specs.Meaning.{asked_of};
+ghost use Rattle.script_reading.specs.Pieces.{saying_of};
+ghost use Rattle.script_reading.specs.Reading.{IfBadLine, IfRead, IsScript, asked_by, first_bad};
+ghost use Rattle.script_reading.specs.Texts.{lines_of};
+
+use crate::counts::Counts;
+use crate::environment::Environment;
+use crate::fields::split_line;
+use crate::line::{Said, read_line_of};
+use bus_semantics::{BusPlan, Line, Script};
+use rte_text::{Memory, Seq};
+use std::alloc::Global;
+
+/// What a script's bytes are.
+#[derive(Drop)]
+pub enum ScriptRead {
+    /// A script.
+    Read(Script),
+    /// No script. `line` is the number of its first bad line, counted from 1 with empty lines and comments, and `cause`
+    /// the least of those that it has: 1, it has none of the forms; 2, there is no such port, element or kind; 3, the
+    /// value has another word count or a word outside the limits; 4, it passes 100,000 lines, 1,000,000 ticks in all or
+    /// 1,000 run lines.
+    BadLine { line: u64, cause: u8 },
+    /// Memory ran out.
+    Memory,
+}
+
+/// Reads a script over a plan: lines `tick N`, `run`, `write P.E V` and `read P.E`. Empty lines and lines that begin
+/// with `#` give no `Line`; all others give one each, in order.
+pub fn read_script(alloc: Global, p: &BusPlan, bytes: &[u8]) -> ScriptRead
+    ensures read { IfRead result (λ lines. IsScript (plan_of p.now) bytes.now lines) }
+    ensures bad_line { IfBadLine result (λ line cause. first_bad (plan_of p.now) [] (lines_of bytes.now) ≡ Some (line, cause)) }
+{
+    match Environment::of(alloc, p) {
+        Ok(environment) => read_lines(alloc, &environment, bytes),
+        Err(_) => ScriptRead::Memory,
+    }
+}
+
+/// Appends what a line asks for.
+fn push_line(lines: &mut Vec<Line>, said: &Said) -> Result<(), Memory>
+    ensures { OnOk result (map asked_of lines.new.items ≡ map asked_of lines.old.items ++ asked_by (saying_of said.now)) }
+{
+    if let Said::Line(line) = said {
+        lines.push(*line)?;
+    }
+    Ok(())
+}
+
+fn read_lines(alloc: Global, environment: &Environment, bytes: &[u8]) -> ScriptRead
+    ensures read { IfRead result (λ lines. IsScript (plan_of environment.now.plan.now) bytes.now lines) }
+    ensures bad_line { IfBadLine result (λ line cause. first_bad (plan_of environment.now.plan.now) [] (lines_of bytes.now) ≡ Some (line, cause)) }
+{
+    let mut lines = Vec::new(alloc);
+    let mut counts = Counts::none();
+    let mut rest = bytes;
+    while !rest.is_empty() {
+        let (text, after) = split_line(rest);
+        let said = read_line_of(environment, text);
+        let more = match counts.judge(&said) {
+            Ok(more) => more,
+            Err(cause) => {
+                return ScriptRead::BadLine {
+                    line: counts.lines + 1,
+                    cause,
+                };
+            }
+        };
+        if push_line(&mut lines, &said).is_err() {
+            return ScriptRead::Memory;
+        }
+        counts = more;
+        rest = after;
+    }
+    ScriptRead::Read(Script {
+        lines: Seq::of(lines),
+    })
+}

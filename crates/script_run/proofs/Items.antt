@@ -1,0 +1,67 @@
+-- A session and entries of runnables and machines that follow it inside a run line.
+use Rattle.std.proofs.Common.{◌≡◌, ℕ, suc, ◌+◌, Bool, true, false, not, ◌&&◌, List, [], ◌∷◌, ◌++◌, length, refl, sym, ap, ◌∙◌, subst, append_assoc, append-nil, arith}
+use Rattle.bus_semantics.specs.declared.entries.Entry.{Entry}
+use Rattle.bus_semantics.specs.declared.entries.Stamped.{Stamped}
+use Rattle.bus_semantics.specs.declared.script.Mapping.{Mapping}
+use Rattle.bus_semantics.specs.Plan.{Plan}
+use Rattle.bus_semantics.specs.History.{History, is_environment}
+use Rattle.bus_semantics.specs.Legal.{IsLegal}
+use Rattle.bus_semantics.specs.Run.{Session, made, history_of, is_inside, is_placed, made_in_line, orders_of}
+use Rattle.bus_semantics.specs.Spelling.{entry_text, spelling_of}
+use Rattle.core_runtime.specs.After.{after, are_within}
+use Rattle.script_run.specs.Legal.{IsLegalFrom}
+use Rattle.script_run.specs.Texts.{entries_text}
+
+-- the session and then these entries, of which the oldest comes first
+abbrev pub items_after : List Stamped → Session → Session
+items_after [] s = s
+items_after (e ∷ more) s = items_after more (made e.entry ∷ s)
+
+pub history-items : (es : List Stamped) (s : Session) (h : History) → history_of (items_after es s) ++ h ≡ after es (history_of s ++ h)
+history-items [] s h = refl
+history-items (e ∷ es) s h = history-items es (made e.entry ∷ s) h
+
+pub spelling-items : (p : Plan) (es : List Stamped) (s : Session) → spelling_of p (items_after es s) ≡ spelling_of p s ++ entries_text p es
+spelling-items p [] s = sym (append-nil (spelling_of p s))
+spelling-items p (e ∷ es) s = spelling-items p es (made e.entry ∷ s) ∙ append_assoc (spelling_of p s) (entry_text p e.entry) (entries_text p es)
+
+legal_before : (p : Plan) (es : List Stamped) (g : History) → IsLegal p (after es g) → IsLegal p g
+legal_before p [] g legal = legal
+legal_before p (e ∷ es) g legal = (legal_before p es (e.entry ∷ g) legal).0
+
+pub legal-items : (p : Plan) (m : Mapping) (h : History) (es : List Stamped) (s : Session) → IsLegalFrom p m h s → IsLegal p (after es (history_of s ++ h)) → IsLegalFrom p m h (items_after es s)
+legal-items p m h [] s legal all = legal
+legal-items p m h (e ∷ es) s legal all =
+    legal-items p m h es (made e.entry ∷ s) (legal, (legal_before p es (e.entry ∷ (history_of s ++ h)) all).1) all
+
+pub inside-items : (es : List Stamped) (s : Session) → is_inside (items_after es s) ≡ is_inside s
+inside-items [] s = refl
+inside-items (e ∷ es) s = inside-items es (made e.entry ∷ s)
+
+within_both : (a b : Bool) → (not a && b) ≡ true → (a ≡ false) × (b ≡ true)
+within_both false b h = (refl, h)
+within_both true b h = absurd (cc)
+
+placed_inside : (e : Entry) (s : Session) → is_environment e.actor ≡ false → is_placed s ≡ true → is_inside s ≡ true → is_placed (made e ∷ s) ≡ true
+placed_inside e s env placed inside = rw (env, placed, inside) refl
+
+pub placed-items : (es : List Stamped) (s : Session) → are_within es ≡ true → is_placed s ≡ true → is_inside s ≡ true → is_placed (items_after es s) ≡ true
+placed-items [] s within placed inside = placed
+placed-items (e ∷ es) s within placed inside =
+    let both = within_both (is_environment e.entry.actor) (are_within es) within in
+    placed-items es (made e.entry ∷ s) both.1 (placed_inside e.entry s both.0 placed inside) inside
+
+pub orders-items : (es : List Stamped) (s : Session) → are_within es ≡ true → orders_of (items_after es s) ≡ orders_of s
+orders-items [] s within = refl
+orders-items (e ∷ es) s within =
+    let both = within_both (is_environment e.entry.actor) (are_within es) within in
+    let none : orders_of (made e.entry ∷ s) ≡ orders_of s = rw both.0 (append-nil (orders_of s)) in
+    orders-items es (made e.entry ∷ s) both.1 ∙ none
+
+pub made-items : (es : List Stamped) (s : Session) → are_within es ≡ true → made_in_line (items_after es s) ≡ made_in_line s + length es
+made-items [] s within = omega arith
+made-items (e ∷ es) s within =
+    let both = within_both (is_environment e.entry.actor) (are_within es) within in
+    let one : made_in_line (made e.entry ∷ s) ≡ suc (made_in_line s) = rw both.0 refl in
+    let more = made-items es (made e.entry ∷ s) both.1 in
+    omega (arith, one, more)

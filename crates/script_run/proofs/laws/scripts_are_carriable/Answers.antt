@@ -1,5 +1,0 @@
-use Rattle.script_run.proofs.Carrying.{script_is_carriable}
-use Rattle.script_run.proofs.laws.scripts_are_carriable.Goals as goal
-
-pub returns : goal.returns
-returns c = script_is_carriable

@@ -1,0 +1,21 @@
+use Rattle.std.proofs.Common.{◌+◌, ◌≤◌, [], length, ap, arith}
+use Rattle.script_run.specs.Standing.{inside}
+use Rattle.script_run.proofs.Sessions as by
+use Rattle.script_run.proofs.run_line.put_lap.Goals as goal
+
+pub returns-in-Finished-clause-carries : goal.returns-in-Finished-clause-carries
+returns-in-Finished-clause-carries g c =
+    let told = g.K.Sink.told in
+    let made = c.args.made in
+    let mid = c.put_round.new.n in
+    let same = ap length c.entries.ensures in
+    let few : c.saturating_add.result ≤ made + length mid.entries = omega (arith, c.saturating_add.ensures, same) in
+    by.lap_then c.put_pass.result made c.saturating_add.result c.args.n.now mid c.put_pass.new.n (told c.args.out.now) (told c.put_round.new.out) (told c.put_pass.new.out)
+    (by.fewer [] (inside made) (made + length mid.entries) c.saturating_add.result c.args.n.now mid (told c.args.out.now) (told c.put_round.new.out) few (c.in-Finished.ensures.carries made))
+    c.put_pass.ensures.carries
+
+pub returns-in-Failed-clause-carries : goal.returns-in-Failed-clause-carries
+returns-in-Failed-clause-carries g c = c.in-Failed.ensures.carries c.args.made
+
+pub returns-in-Memory-clause-carries : goal.returns-in-Memory-clause-carries
+returns-in-Memory-clause-carries g c = c.in-Memory.ensures.carries c.args.made

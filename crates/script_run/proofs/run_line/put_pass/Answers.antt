@@ -1,0 +1,49 @@
+use Rattle.std.proofs.Common.{◌≡◌, ◌+◌, ◌≤◌, ◌==◌, true, [], ◌∷◌, List, length, refl, sym, ap, ◌∙◌, subst, arith}
+use Rattle.std.proofs.lemmas.Bool.{eqb-true}
+use Rattle.rte_text.specs.Sinks.{ToldAfter}
+use Rattle.rte_text.specs.declared.sink.Put.TheVariants.{Done, Failed}
+use Rattle.bus_semantics.specs.declared.entries.Stamped.{Stamped}
+use Rattle.bus_semantics.specs.History.{History}
+use Rattle.bus_semantics.specs.Plan.{plan_of}
+use Rattle.core_runtime.specs.After.{after}
+use Rattle.core_runtime.specs.Nodes.{IsLawfulNode}
+use Rattle.script_run.specs.Texts.{entries_text}
+use Rattle.script_run.proofs.Sessions as by
+use Rattle.script_run.proofs.run_line.put_pass.Goals as goal
+
+none : (es : List Stamped) → (length es == 0) ≡ true → es ≡ []
+none [] h = refl
+none (e ∷ es) h = let zero : length (e ∷ es) ≡ 0 = eqb-true (length (e ∷ es)) 0 h in absurd (omega arith)
+
+pub returns-then-is_empty-clause-carries : goal.returns-then-is_empty-clause-carries
+returns-then-is_empty-clause-carries g c =
+    let told = g.K.Sink.told in
+    let new = c.serial_pass.new.n in
+    let passed = c.serial_pass.ensures in
+    let no_entry : new.entries ≡ [] = sym c.entries.ensures ∙ none c.entries.result.now (sym c.is_empty.ensures ∙ c.if-is_empty.true) in
+    let lawful : (h : History) → IsLawfulNode c.args.n.now h → IsLawfulNode new h = λ h before. subst (λ xs. IsLawfulNode new (after xs h)) no_entry (passed.lawful h before) in
+    rw c.came_of.ensures
+    (by.idle_carries c.args.n.now new c.put.result (told c.args.out.now) (told c.put.new.self) c.args.made
+    passed.plan passed.mapping lawful (passed.rest no_entry)
+    (subst (ToldAfter c.put.result (told c.args.out.now) (told c.put.new.self)) c.idle_line.ensures c.put.ensures.told))
+
+pub returns-in-Done-clause-carries : goal.returns-in-Done-clause-carries
+returns-in-Done-clause-carries g c =
+    let told = g.K.Sink.told in
+    let new = c.serial_pass.new.n in
+    let passed = c.serial_pass.ensures in
+    let same = ap length c.entries-in-Done.ensures in
+    let few : c.saturating_add.result ≤ c.args.made + length new.entries = omega (arith, c.saturating_add.ensures, same) in
+    by.entries_carry c.args.n.now new new.entries Done (told c.args.out.now) (told c.put_entries.new.out) (plan_of c.plan.result.now) c.args.made c.saturating_add.result
+    passed.plan passed.mapping passed.within few passed.lawful (ap plan_of c.plan.ensures.plan)
+    (subst (λ (xs : List Stamped). ToldAfter Done (told c.args.out.now) (told c.put_entries.new.out) (entries_text (plan_of c.plan.result.now) xs)) c.entries-2.ensures c.in-Done.ensures.told)
+
+pub returns-in-Failed-clause-carries : goal.returns-in-Failed-clause-carries
+returns-in-Failed-clause-carries g c =
+    let told = g.K.Sink.told in
+    let new = c.serial_pass.new.n in
+    let passed = c.serial_pass.ensures in
+    let few : c.args.made ≤ c.args.made + length new.entries = omega arith in
+    by.entries_carry c.args.n.now new new.entries Failed (told c.args.out.now) (told c.put_entries.new.out) (plan_of c.plan.result.now) c.args.made c.args.made
+    passed.plan passed.mapping passed.within few passed.lawful (ap plan_of c.plan.ensures.plan)
+    (subst (λ (xs : List Stamped). ToldAfter Failed (told c.args.out.now) (told c.put_entries.new.out) (entries_text (plan_of c.plan.result.now) xs)) c.entries-2.ensures c.in-Failed.ensures.told)

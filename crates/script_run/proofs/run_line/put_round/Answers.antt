@@ -1,0 +1,24 @@
+use Rattle.std.proofs.Common.{◌+◌, ◌≤◌, [], List, length, refl, ap, subst, arith}
+use Rattle.rte_text.specs.Sinks.{ToldAfter}
+use Rattle.bus_semantics.specs.declared.entries.Stamped.{Stamped}
+use Rattle.bus_semantics.specs.Plan.{plan_of}
+use Rattle.script_run.specs.declared.script.ScriptRun.TheVariants.{Memory}
+use Rattle.script_run.specs.Standing.{inside}
+use Rattle.script_run.specs.Texts.{entries_text}
+use Rattle.script_run.proofs.Sessions as by
+use Rattle.script_run.proofs.run_line.put_round.Goals as goal
+
+pub returns-in-Ran-clause-carries : goal.returns-in-Ran-clause-carries
+returns-in-Ran-clause-carries g c = λ made.
+    let told = g.K.Sink.told in
+    let ran = c.in-Ran.ensures in
+    let es = c.run_round.new.n.entries in
+    let enough : made + length es ≤ made + length es = omega arith in
+    let put = subst (λ (xs : List Stamped). ToldAfter c.put_entries.result (told c.args.out.now) (told c.put_entries.new.out) (entries_text (plan_of c.plan.result.now) xs)) c.entries.ensures c.put_entries.ensures.told in
+    rw c.came_of.ensures
+    (by.entries_carry c.args.n.now c.run_round.new.n es c.put_entries.result (told c.args.out.now) (told c.put_entries.new.out) (plan_of c.plan.result.now) made (made + length es)
+    ran.plan ran.mapping (ran.within refl) enough (ran.lawful refl) (ap plan_of c.plan.ensures.plan) put)
+
+pub returns-in-Memory-clause-carries : goal.returns-in-Memory-clause-carries
+returns-in-Memory-clause-carries g c = λ made.
+    by.stops Memory [] (inside made) (inside (made + length c.run_round.new.n.entries)) c.args.n.now c.run_round.new.n (g.K.Sink.told c.args.out.now) (λ e. cc)

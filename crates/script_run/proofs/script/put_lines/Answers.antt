@@ -1,0 +1,47 @@
+use Rattle.std.proofs.Common.{◌++◌, suc, take, drop, subst, ◌∙◌}
+use Rattle.bus_semantics.specs.Run.{orders_of_line, orders_of_script}
+use Rattle.script_run.specs.declared.script.ScriptRun.TheVariants.{Finished, Failed, Memory}
+use Rattle.script_run.specs.Standing.{Carries, outside}
+use Rattle.script_run.proofs.Sessions as by
+use Rattle.script_run.proofs.script.put_lines.Goals as goal
+
+pub returns-in-Failed-clause-carries : goal.returns-in-Failed-clause-carries
+returns-in-Failed-clause-carries g c =
+    let ls = c.args.script_lines.now in
+    let i = c.loop-script_line.script_line-index in
+    let l = c.script_line-item.result in
+    let left = orders_of_script (drop (suc i) ls) in
+    let told = g.K.Sink.told in
+    subst (λ os. Carries Failed os outside outside c.args.n.now c.put_line.new.n (told c.args.out.now) (told c.put_line.new.out)) (by.orders-whole ls i l c.loop-script_line-test.true c.script_line-item.is)
+    (by.carries_then Failed (orders_of_script (take i ls)) (orders_of_line l ++ left) outside outside outside c.args.n.now c.loop-script_line.n c.put_line.new.n
+    (told c.args.out.now) (told c.loop-script_line.out) (told c.put_line.new.out) c.loop-script_line.invariant.carries
+    (by.cut_before Failed (orders_of_line l) left outside outside outside c.loop-script_line.n c.put_line.new.n (told c.loop-script_line.out) (told c.put_line.new.out) (λ e. cc) c.in-Failed.ensures.carries))
+
+pub returns-in-Memory-clause-carries : goal.returns-in-Memory-clause-carries
+returns-in-Memory-clause-carries g c =
+    let ls = c.args.script_lines.now in
+    let i = c.loop-script_line.script_line-index in
+    let l = c.script_line-item.result in
+    let left = orders_of_script (drop (suc i) ls) in
+    let told = g.K.Sink.told in
+    subst (λ os. Carries Memory os outside outside c.args.n.now c.put_line.new.n (told c.args.out.now) (told c.put_line.new.out)) (by.orders-whole ls i l c.loop-script_line-test.true c.script_line-item.is)
+    (by.carries_then Memory (orders_of_script (take i ls)) (orders_of_line l ++ left) outside outside outside c.args.n.now c.loop-script_line.n c.put_line.new.n
+    (told c.args.out.now) (told c.loop-script_line.out) (told c.put_line.new.out) c.loop-script_line.invariant.carries
+    (by.cut_before Memory (orders_of_line l) left outside outside outside c.loop-script_line.n c.put_line.new.n (told c.loop-script_line.out) (told c.put_line.new.out) (λ e. cc) c.in-Memory.ensures.carries))
+
+pub loop-script_line-preserved : goal.loop-script_line-preserved
+loop-script_line-preserved g c =
+    let ls = c.args.script_lines.now in
+    let i = c.loop-script_line.script_line-index in
+    let l = c.script_line-item.result in
+    let told = g.K.Sink.told in
+    let so_far = c.loop-script_line.invariant in
+    let done = c.in-Finished.ensures in
+    record {
+      plan = done.plan ∙ so_far.plan;
+      mapping = done.mapping ∙ so_far.mapping;
+      carries = subst (λ os. Carries Finished os outside outside c.args.n.now c.put_line.new.n (told c.args.out.now) (told c.put_line.new.out)) (by.orders-next ls i l c.loop-script_line-test.true c.script_line-item.is)
+          (by.carries_then Finished (orders_of_script (take i ls)) (orders_of_line l) outside outside outside c.args.n.now c.loop-script_line.n c.put_line.new.n
+          (told c.args.out.now) (told c.loop-script_line.out) (told c.put_line.new.out) so_far.carries done.carries);
+      faults = done.faults ∙ so_far.faults;
+    }

@@ -1,0 +1,39 @@
+-- What a run of a script on a node puts, where the node has a history.
+use Rattle.std.specs.Prelude.{◌≡◌, ℕ, List, ◌++◌, Option}
+use Rattle.rte_text.specs.Counts.{Rose}
+use Rattle.rte_text.specs.Sinks.{AppendsWhereTold, AppendsPrefixWhereTold}
+use Rattle.bus_semantics.specs.declared.script.Line.{Line}
+use Rattle.bus_semantics.specs.declared.script.Mapping.{Mapping}
+use Rattle.bus_semantics.specs.Plan.{Plan}
+use Rattle.bus_semantics.specs.History.{History}
+use Rattle.bus_semantics.specs.Run.{Session, history_of, IsSessionOf, IsBeginningOf}
+use Rattle.bus_semantics.specs.Spelling.{Spells}
+use Rattle.core_runtime.specs.Nodes.{NodeState, IsLawfulNode}
+use Rattle.script_run.specs.declared.script.ScriptRun.{ScriptRun}
+use Rattle.script_run.specs.declared.script.ScriptRun.TheVariants.{Finished, Failed, Memory}
+use Rattle.script_run.specs.Legal.{IsLegalFrom}
+
+-- the bytes put are the text of a run of the script that goes on from the history, and the node is lawful for both
+pub record PrintsRun (p : Plan) (m : Mapping) (h : History) (script : List Line) (now : NodeState) (before after : Option (List ℕ)) : Type 0 where
+  pub session : Session
+  pub bytes : List ℕ
+  pub of_script : IsSessionOf script session
+  pub legal : IsLegalFrom p m h session
+  pub lawful : IsLawfulNode now (history_of session ++ h)
+  pub spelled : Spells p bytes session
+  pub put : AppendsWhereTold before after bytes
+
+-- the bytes put are a prefix of the text of a begun run that goes on from the history
+pub record PrintsBeginning (p : Plan) (m : Mapping) (h : History) (script : List Line) (before after : Option (List ℕ)) : Type 0 where
+  pub session : Session
+  pub bytes : List ℕ
+  pub of_script : IsBeginningOf script session
+  pub legal : IsLegalFrom p m h session
+  pub spelled : Spells p bytes session
+  pub put : AppendsPrefixWhereTold before after bytes
+
+-- a put that failed raised the count of faults, and nothing else changes it
+abbrev pub FaultsAfter : ScriptRun → ℕ → ℕ → Type 0
+FaultsAfter Finished before after = after ≡ before
+FaultsAfter Failed before after = Rose before after
+FaultsAfter Memory before after = after ≡ before

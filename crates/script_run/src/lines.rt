@@ -1,0 +1,56 @@
+//! Lines of the trace, each put at once.
+
+ghost use Rattle.std.specs.Prelude.{◌≡◌};
+ghost use Rattle.rte_text.specs.Sinks.{SinkFaultsAfter, ToldAfter};
+ghost use Rattle.bus_semantics.specs.declared.script.Mapping.{Mapping};
+ghost use Rattle.bus_semantics.specs.Plan.{plan_of};
+ghost use Rattle.bus_semantics.specs.Sound.{IsSound};
+ghost use Rattle.bus_semantics.specs.Spelling.{entry_text};
+ghost use Rattle.script_run.specs.Standing.{came_of};
+ghost use Rattle.script_run.specs.Texts.{entries_text};
+
+use crate::script::ScriptRun;
+use bus_semantics::{BusPlan, Entry, Stamped};
+use rte_text::{LineBuf, Put, Sink};
+use trace_text::write_entry;
+
+/// What came of a run whose last put answered so.
+pub(crate) fn came_of(put: Put) -> ScriptRun
+    ensures { result ≡ came_of put }
+{
+    match put {
+        Put::Done => ScriptRun::Finished,
+        Put::Failed => ScriptRun::Failed,
+    }
+}
+
+/// Puts the line of an entry. `line` is only room for it.
+pub(crate) fn put_entry<K: Sink>(p: &BusPlan, e: &Entry, out: &mut K, line: &mut LineBuf) -> Put
+    requires { (m : Mapping) × IsSound (plan_of p.now) m }
+    ensures told { ToldAfter result (K.told out.old) (K.told out.new) (entry_text (plan_of p.now) e.now) }
+    ensures faults { SinkFaultsAfter result (K.faults out.old) (K.faults out.new) }
+{
+    line.clear();
+    write_entry(p, e, line);
+    out.put(line.bytes())
+}
+
+/// Puts the lines of entries, in order, up to the first put that fails.
+pub(crate) fn put_entries<K: Sink>(
+    p: &BusPlan,
+    entries: &[Stamped],
+    out: &mut K,
+    line: &mut LineBuf,
+) -> Put
+    requires { (m : Mapping) × IsSound (plan_of p.now) m }
+    ensures told { ToldAfter result (K.told out.old) (K.told out.new) (entries_text (plan_of p.now) entries.now) }
+    ensures faults { SinkFaultsAfter result (K.faults out.old) (K.faults out.new) }
+{
+    for stamped in entries {
+        match put_entry(p, &stamped.entry, out, line) {
+            Put::Done => {}
+            Put::Failed => return Put::Failed,
+        }
+    }
+    Put::Done
+}

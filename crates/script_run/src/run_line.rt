@@ -1,0 +1,122 @@
+//! Run lines: rounds of the cores, until nothing may come.
+
+ghost use Rattle.std.specs.Prelude.{◌≡◌, ◌+◌, ◌<◌, ◌≤◌, ℕ, [], ◌∷◌, length};
+ghost use Rattle.bus_semantics.specs.Run.{a_run};
+ghost use Rattle.script_run.specs.declared.script.ScriptRun.TheVariants.{Finished};
+ghost use Rattle.script_run.specs.Running.{FaultsAfter};
+ghost use Rattle.script_run.specs.Standing.{Carries, CarriesLap, LapFaults, LapRises, inside, outside};
+
+use crate::lines::{came_of, put_entries};
+use crate::script::ScriptRun;
+use core_runtime::{Node, RoundRun, run_round, serial_pass};
+use rte_text::{Gate, LineBuf, Put, Sink};
+use std::alloc::Global;
+use std::thread::Threads;
+use trace_text::{idle_line, run_line, unsettled_line};
+
+/// So many entries since its mark end a run line that nothing else ends.
+const MOST_MADE: u64 = 100_000;
+
+/// What came of a round and the serial pass after it.
+#[derive(Clone, Copy)]
+pub(crate) enum Lap {
+    /// Entries: so many in all since the mark of the run line, as far as a `u64` counts. Nothing closes the line yet.
+    Made(u64),
+    /// The end: the line is closed, or the whole run was cut off.
+    Ended(ScriptRun),
+}
+
+/// Makes a round and puts its entries.
+fn put_round<R: Threads + Sync, K: Sink, G: Gate>(
+    rt: &R,
+    alloc: Global,
+    n: &mut Node,
+    out: &mut K,
+    line: &mut LineBuf,
+    gate: &G,
+) -> ScriptRun
+    ensures plan { n.new.plan ≡ n.old.plan }
+    ensures mapping { n.new.mapping ≡ n.old.mapping }
+    ensures room { result ≡ Finished → n.new.mapping.cores ≤ n.new.spare }
+    ensures carries { (made : ℕ) → Carries result [] (inside made) (inside (made + length n.new.entries)) n.old n.new (K.told out.old) (K.told out.new) }
+    ensures faults { FaultsAfter result (K.faults out.old) (K.faults out.new) }
+{
+    match run_round(rt, alloc, n, gate) {
+        RoundRun::Ran => came_of(put_entries(n.plan(), n.entries(), out, line)),
+        RoundRun::Memory => ScriptRun::Memory,
+    }
+}
+
+/// Makes a serial pass after so many entries, and puts its entries; or closes the run line at rest, where there are none.
+fn put_pass<K: Sink>(n: &mut Node, made: u64, out: &mut K, line: &mut LineBuf) -> Lap
+    requires { n.old.mapping.cores ≤ n.old.spare }
+    ensures plan { n.new.plan ≡ n.old.plan }
+    ensures mapping { n.new.mapping ≡ n.old.mapping }
+    ensures carries { CarriesLap result made n.old n.new (K.told out.old) (K.told out.new) }
+    ensures rises { LapRises result made }
+    ensures faults { LapFaults result (K.faults out.old) (K.faults out.new) }
+{
+    serial_pass(n);
+    if n.entries().is_empty() {
+        return Lap::Ended(came_of(out.put(idle_line())));
+    }
+    match put_entries(n.plan(), n.entries(), out, line) {
+        Put::Done => Lap::Made(made.saturating_add(n.entries().len() as u64)),
+        Put::Failed => Lap::Ended(ScriptRun::Failed),
+    }
+}
+
+/// Makes a round and a serial pass, after so many entries since the mark of the run line.
+fn put_lap<R: Threads + Sync, K: Sink, G: Gate>(
+    rt: &R,
+    alloc: Global,
+    n: &mut Node,
+    made: u64,
+    out: &mut K,
+    line: &mut LineBuf,
+    gate: &G,
+) -> Lap
+    ensures plan { n.new.plan ≡ n.old.plan }
+    ensures mapping { n.new.mapping ≡ n.old.mapping }
+    ensures carries { CarriesLap result made n.old n.new (K.told out.old) (K.told out.new) }
+    ensures rises { LapRises result made }
+    ensures faults { LapFaults result (K.faults out.old) (K.faults out.new) }
+{
+    match put_round(rt, alloc, n, out, line, gate) {
+        ScriptRun::Finished => {
+            put_pass(n, made.saturating_add(n.entries().len() as u64), out, line)
+        }
+        ScriptRun::Failed => Lap::Ended(ScriptRun::Failed),
+        ScriptRun::Memory => Lap::Ended(ScriptRun::Memory),
+    }
+}
+
+/// A run line: its mark, then rounds and serial passes until a pass makes no entry, or 100,000 entries were made.
+pub(crate) fn put_run<R: Threads + Sync, K: Sink, G: Gate>(
+    rt: &R,
+    alloc: Global,
+    n: &mut Node,
+    out: &mut K,
+    line: &mut LineBuf,
+    gate: &G,
+) -> ScriptRun
+    ensures plan { n.new.plan ≡ n.old.plan }
+    ensures mapping { n.new.mapping ≡ n.old.mapping }
+    ensures carries { Carries result (a_run ∷ []) outside outside n.old n.new (K.told out.old) (K.told out.new) }
+    ensures faults { FaultsAfter result (K.faults out.old) (K.faults out.new) }
+{
+    match out.put(run_line()) {
+        Put::Done => {}
+        Put::Failed => return ScriptRun::Failed,
+    }
+    let mut made: u64 = 0;
+    'laps: loop {
+        match put_lap(rt, alloc, n, made, out, line, gate) {
+            Lap::Made(more) => made = more,
+            Lap::Ended(answer) => return answer,
+        }
+        if MOST_MADE <= made {
+            return came_of(out.put(unsettled_line()));
+        }
+    }
+}

@@ -1,0 +1,143 @@
+//! Running a script on a node.
+
+ghost use Rattle.std.specs.Prelude.{◌≡◌, ◌≢◌, [], ◌∷◌, replicate, true, All};
+ghost use Rattle.bus_semantics.specs.declared.entries.Actor.TheVariants.{Env};
+ghost use Rattle.bus_semantics.specs.Fitting.{wish_fits};
+ghost use Rattle.bus_semantics.specs.History.{History};
+ghost use Rattle.bus_semantics.specs.Plan.{plan_of};
+ghost use Rattle.bus_semantics.specs.Run.{a_call, orders_of_line, orders_of_script};
+ghost use Rattle.bus_semantics.specs.Wanted.{to_tick, wanted_of};
+ghost use Rattle.script_reading.specs.Carried.{IsCarriable};
+ghost use Rattle.core_runtime.specs.Nodes.{IsLawfulNode};
+ghost use Rattle.script_run.specs.declared.script.ScriptRun.TheVariants.{Finished};
+ghost use Rattle.script_run.specs.Running.{FaultsAfter, PrintsBeginning, PrintsRun};
+ghost use Rattle.script_run.specs.Standing.{Carries, outside};
+
+use crate::lines::{came_of, put_entry};
+use crate::run_line::put_run;
+use bus_semantics::{Line, Script, Wish};
+use core_runtime::Node;
+use rte_text::{Gate, LineBuf, Put, Sink};
+use std::alloc::Global;
+use std::thread::Threads;
+use trace_text::header;
+
+/// How far a script was carried out.
+#[derive(Clone, Copy, Debug, PartialEq, Eq)]
+pub enum ScriptRun {
+    /// To its end.
+    Finished,
+    /// Up to a put that failed.
+    Failed,
+    /// Up to a round for which there was no memory. All that came before it is put.
+    Memory,
+}
+
+/// One call of the environment.
+fn put_call<K: Sink>(n: &mut Node, wish: &Wish, out: &mut K, line: &mut LineBuf) -> ScriptRun
+    requires { wish_fits (plan_of n.old.plan) Env (wanted_of wish.now) ≡ true }
+    ensures plan { n.new.plan ≡ n.old.plan }
+    ensures mapping { n.new.mapping ≡ n.old.mapping }
+    ensures carries { Carries result (a_call (wanted_of wish.now) ∷ []) outside outside n.old n.new (K.told out.old) (K.told out.new) }
+    ensures faults { FaultsAfter result (K.faults out.old) (K.faults out.new) }
+{
+    let entry = n.environment(wish);
+    came_of(put_entry(n.plan(), &entry, out, line))
+}
+
+/// So many ticks.
+fn put_ticks<K: Sink>(n: &mut Node, count: u32, out: &mut K, line: &mut LineBuf) -> ScriptRun
+    ensures plan { n.new.plan ≡ n.old.plan }
+    ensures mapping { n.new.mapping ≡ n.old.mapping }
+    ensures carries { Carries result (replicate count (a_call to_tick)) outside outside n.old n.new (K.told out.old) (K.told out.new) }
+    ensures faults { FaultsAfter result (K.faults out.old) (K.faults out.new) }
+{
+    for i in 0..count {
+        match put_call(n, &Wish::Tick, out, line) {
+            ScriptRun::Finished => {}
+            ScriptRun::Failed => return ScriptRun::Failed,
+            ScriptRun::Memory => return ScriptRun::Memory,
+        }
+    }
+    ScriptRun::Finished
+}
+
+/// One line of the script.
+fn put_line<R: Threads + Sync, K: Sink, G: Gate>(
+    rt: &R,
+    alloc: Global,
+    n: &mut Node,
+    script_line: &Line,
+    out: &mut K,
+    line: &mut LineBuf,
+    gate: &G,
+) -> ScriptRun
+    requires { IsCarriable (plan_of n.old.plan) script_line.now }
+    ensures plan { n.new.plan ≡ n.old.plan }
+    ensures mapping { n.new.mapping ≡ n.old.mapping }
+    ensures carries { Carries result (orders_of_line script_line.now) outside outside n.old n.new (K.told out.old) (K.told out.new) }
+    ensures faults { FaultsAfter result (K.faults out.old) (K.faults out.new) }
+{
+    match script_line {
+        Line::Tick(count) => put_ticks(n, *count, out, line),
+        Line::Run => put_run(rt, alloc, n, out, line, gate),
+        Line::Call(wish) => put_call(n, wish, out, line),
+    }
+}
+
+/// Lines of the script, in order.
+fn put_lines<R: Threads + Sync, K: Sink, G: Gate>(
+    rt: &R,
+    alloc: Global,
+    n: &mut Node,
+    script_lines: &[Line],
+    out: &mut K,
+    line: &mut LineBuf,
+    gate: &G,
+) -> ScriptRun
+    requires { All (IsCarriable (plan_of n.old.plan)) script_lines.now }
+    ensures plan { n.new.plan ≡ n.old.plan }
+    ensures mapping { n.new.mapping ≡ n.old.mapping }
+    ensures carries { Carries result (orders_of_script script_lines.now) outside outside n.old n.new (K.told out.old) (K.told out.new) }
+    ensures faults { FaultsAfter result (K.faults out.old) (K.faults out.new) }
+{
+    for script_line in script_lines {
+        match put_line(rt, alloc, n, script_line, out, line, gate) {
+            ScriptRun::Finished => {}
+            ScriptRun::Failed => return ScriptRun::Failed,
+            ScriptRun::Memory => return ScriptRun::Memory,
+        }
+    }
+    ScriptRun::Finished
+}
+
+/// Runs the script on the node, which goes on from what has happened to it, and puts the trace, one put a line: the header,
+/// then for each line of the script what comes of it. A line of ticks or a call makes the environment's entries. A run line
+/// puts its mark, then makes rounds, each with a serial pass after it, and puts their entries; `idle` closes it after a pass
+/// without an entry, and `unsettled` where at least 100,000 entries were made since the mark. Each line of the script is one
+/// that the environment may carry out.
+///
+/// It ends at the first put that fails, and at a round for which there is no memory.
+pub fn run_script<R: Threads + Sync, K: Sink, G: Gate>(
+    rt: &R,
+    alloc: Global,
+    n: &mut Node,
+    s: &Script,
+    out: &mut K,
+    gate: &G,
+) -> ScriptRun
+    requires fits { All (IsCarriable (plan_of n.old.plan)) s.now.lines }
+    ensures plan { n.new.plan ≡ n.old.plan }
+    ensures mapping { n.new.mapping ≡ n.old.mapping }
+    ensures finished { result ≡ Finished → (h : History) → IsLawfulNode n.old h
+        → PrintsRun (plan_of n.old.plan) n.old.mapping h s.now.lines n.new (K.told out.old) (K.told out.new) }
+    ensures cut { result ≢ Finished → (h : History) → IsLawfulNode n.old h
+        → PrintsBeginning (plan_of n.old.plan) n.old.mapping h s.now.lines (K.told out.old) (K.told out.new) }
+    ensures faults { FaultsAfter result (K.faults out.old) (K.faults out.new) }
+{
+    let mut line = LineBuf::new();
+    match out.put(header()) {
+        Put::Done => put_lines(rt, alloc, n, s.lines.items(), out, &mut line, gate),
+        Put::Failed => ScriptRun::Failed,
+    }
+}

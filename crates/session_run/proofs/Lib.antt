@@ -1,3 +1,0 @@
-pub mod EntryTexts
-pub mod Items
-pub mod Sessions

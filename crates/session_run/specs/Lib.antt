@@ -1,4 +1,0 @@
-pub mod Legal
-pub mod Texts
-pub mod Running
-pub mod Standing
