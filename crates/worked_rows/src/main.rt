@@ -1,0 +1,56 @@
+//! Goes through a table of commands and prints each with what it answers, as a shell does.
+//!
+//! The table is read from standard input. A blank line, or one that begins with `#`, is printed as it is. Each other
+//! line is a row: it is printed after `$ `, then what was told, then the status. See `Row` for the kinds of rows.
+#![tactic(auto)]
+
+mod carry;
+mod edit;
+mod fault;
+mod notation;
+mod row;
+mod summary;
+
+use carry::{Answer, carry_out};
+use fault::Fault;
+use row::Row;
+use std::io::{self, BufRead, BufReader, Write};
+use std::rt::Files;
+use std::sync::Wait;
+use std::thread::Threads;
+
+/// Reads the row of a line, and carries it out.
+fn answer_line<R: Files + Print + AllocGlobal + Clone + Drop + Threads + Wait + Sync>(
+    rt: &R,
+    line: &str,
+) -> Result<Answer, Fault> {
+    let row = Row::read(line).ok_or(Fault::NoRow)?;
+    carry_out(rt, row)
+}
+
+/// Prints a row, what it tells and its status, or why it was not carried out.
+fn print_row<R: Files + Print + AllocGlobal + Clone + Drop + Threads + Wait + Sync>(
+    rt: &R,
+    line: &str,
+) -> io::Result<()> {
+    println!(rt; "$ {line}")?;
+    match answer_line(rt, line) {
+        Ok(answer) => {
+            io::writer(rt).write_all(answer.text.as_slice())?;
+            println!(rt; "status {}", answer.status as u8)
+        }
+        Err(fault) => println!(rt; "{fault}"),
+    }
+}
+
+fn main(rt: HostRuntime) -> io::Result<()> {
+    for line in BufReader::new(rt.alloc(), rt.reader())?.lines(rt.alloc()) {
+        let line = line?;
+        if line.is_empty() || line.starts_with('#') {
+            println!(rt; "{line}")?;
+        } else {
+            print_row(&rt, line.as_str())?;
+        }
+    }
+    Ok(())
+}
