@@ -1,0 +1,115 @@
+#!/usr/bin/env bash
+# Writes docs/EVIDENCE.md to standard output, from the log of a whole run of the gate, made in one of two ways:
+#
+#     tools/gate_times.py >gate.log 2>&1
+#     { time rt ci; } >gate.log 2>&1
+#
+# and then: tools/evidence.sh gate.log >evidence.md && mv evidence.md docs/EVIDENCE.md
+#
+# The log has to have the line 'N passed, 0 failed' of a run with no names, and its time: the minutes before the last line of rt,
+# or the line 'real XmYs'. What the gate read must be committed. The hash is that of the program that `./rte run` built, if it
+# is of this commit.
+set -euo pipefail
+
+top=$(dirname -- "$(dirname -- "$(readlink -f -- "${BASH_SOURCE[0]}")")")
+log=${1:?usage: tools/evidence.sh LOG}
+
+fail() {
+    printf 'evidence: %s\n' "$1" >&2
+    exit 1
+}
+
+# ---- what the log says
+
+[ -r "$log" ] || fail "cannot read $log"
+result=$(grep -E '^[0-9]+ passed, [0-9]+ failed' -- "$log" | tail -n 1) || fail "no line 'N passed, M failed' in $log"
+[[ $result =~ ^([0-9]+)\ passed,\ 0\ failed$ ]] || fail "this is no whole run that passed: $result"
+passed=${BASH_REMATCH[1]}
+time=$(grep -E '^real[[:space:]]+[0-9]+m|^ *[0-9]+\.[0-9]+ rt: ' -- "$log" | tail -n 1) || fail "$log tells no time"
+if [[ $time =~ ^real[[:space:]]+([0-9]+)m([0-9]+) ]]; then
+    minutes=$(((10#${BASH_REMATCH[1]} * 60 + 10#${BASH_REMATCH[2]} + 30) / 60))
+else
+    minutes=$(awk '{ printf "%.0f", $1 }' <<<"$time")
+fi
+done_in_run=$(sed -nE 's/^( *[0-9.]+ )?rt: ok; //p' -- "$log" | tail -n 1)
+
+# ---- what was tried, and where
+
+[ -z "$(git -C "$top" status --porcelain -- crates crates.txt HANDLES)" ] || fail "crates/ has changes that are not committed"
+commit=$(git -C "$top" rev-parse HEAD)
+program=$top/crates/rte/out/rte
+hash='not built by `./rte run` at this commit'
+if [ -x "$program" ] && [ "$(sed -n 's/^commit //p' -- "$top/crates/rte/out/built_from" 2>/dev/null)" = "$commit" ]; then
+    hash=$(sha256sum -- "$program")
+    hash="\`sha256 ${hash%% *}\`"
+fi
+processor=$(awk -F ': ' '/^model name/ { print $2; exit }' /proc/cpuinfo)
+memory=$(awk '/^MemTotal/ { printf "%d", $2 / 1048576 + 0.5 }' /proc/meminfo)
+
+# ---- which wrong body stands for which sentence of the headline
+
+wrong_bodies() {
+    cat <<'END'
+C breaks none of rules 1 to 30|compatibility/accepts_many_to_many description_stages/leaves_joins_unchecked event_mapping/passes_over_components
+nothing of C is out of this stage (rule 0)|rte_program/forgets_rule_0
+S is a script over the plan of C|script_reading/accepts_a_word_past_the_limits
+the bytes are the text of a run|script_run/puts_no_run_mark script_run/puts_no_entries_of_the_round rte_text/drops_the_last_byte
+the run has the script's calls and run lines, all of them, in order|script_reading/skips_a_line script_run/hides_a_call script_run/skips_run_lines
+each entry is one that may come after those before it|port_objects/starts_what_is_not_pending core_turn/appends_what_was_not_made
+an entry of an activation is the next call of its program, given the answers before|core_turn/forgets_the_answer core_turn/runs_on_after_the_end task_machine/hears_a_refused_call task_generator/jumps_one_short
+each answer is what the bus gives from the earlier entries|port_objects/keeps_another_value port_objects/answers_invalid_where_it_is_valid port_objects/forgets_the_initial_values
+this holds in whatever order the cores took their turns|core_runtime/gives_entries_in_another_order core_runtime/keeps_no_entry
+`idle` holds only if nothing may step any more|core_turn/starts_nothing core_runtime/wakes_nobody_after_a_write core_runtime/begins_at_the_second_core script_run/closes_before_the_serial_pass
+`unsettled` holds only after 100,000 entries of runnables|script_run/gives_up_at_99_999
+status 0 comes only then|rte_program/done_after_a_failed_fetch rte_program/done_after_a_failed_put
+each other status comes only if its cause is there|rte_program/always_words rte_program/always_refused rte_program/always_script rte_program/always_not_read rte_program/always_not_written
+the least broken rule is named|compatibility/names_a_later_rule description_stages/maps_before_the_joins_are_checked
+END
+}
+
+table() {
+    local sentence bodies body crate cell
+    while IFS='|' read -r sentence bodies; do
+        cell=''
+        for body in $bodies; do
+            crate=${body%/*}
+            [ -f "$top/crates/$crate/must-fail/${body#*/}.edit" ] || fail "there is no wrong body $body"
+            cell+="${cell:+, }[\`$body\`](../crates/$crate/must-fail/${body#*/}.edit)"
+        done
+        printf '| %s | %s |\n' "$sentence" "$cell"
+    done < <(wrong_bodies)
+}
+
+rows=$(table)
+crates=$(find "$top"/crates/*/must-fail -name '*.edit' -printf '%h\n' | sort -u | wc -l)
+
+cat <<END
+# Evidence
+
+What the last whole run of the gate said. \`tools/evidence.sh\` wrote this page from its log.
+
+| | |
+|---|---|
+| Commit | \`$commit\` |
+| Toolchain | \`$(rt version)\` |
+| Result | \`$result\` |
+| Done in this run | ${done_in_run:-not told} |
+| Time | $minutes minutes |
+| Machine | $(nproc) processors ($processor), $memory GB of memory |
+| Program | $hash |
+
+The $passed that passed are the crates, each proved with its tests, and the wrong bodies, each refused. Two compilers built the
+programs, and what each printed was compared byte for byte. To see it yourself, check out the commit and run \`rt ci\`; its last
+line has to be the same.
+
+## Which wrong body stands for which sentence
+
+The sentences are those of [the headline](PROVED.md#the-headline). A wrong body changes a line or two of the code. The prover has
+to refuse it; if it did not, the gate would fail.
+
+| Sentence | Wrong bodies |
+|---|---|
+$rows
+
+Other wrong bodies stand in the folders \`must-fail\`, which $crates crates have.
+END

@@ -1,0 +1,88 @@
+#!/usr/bin/env python3
+"""Runs the program and explains its refusal.
+
+    tools/explain.py DESCRIPTION SCRIPT
+
+What the program prints is printed unchanged. Where it refuses, the line that it names follows with a caret, the rule or
+cause and its mend, as docs/FORMAT.md has them, and what else can be said.
+
+The status is the program's. With --said the program is not run: what it printed is read from a file, and the status is
+the one that belongs to it.
+"""
+
+from __future__ import annotations
+
+import argparse
+import os
+import shutil
+import subprocess
+import sys
+from pathlib import Path
+from typing import IO
+
+from rte_tools.explaining import explain
+from rte_tools.refusal import Refusal, read_refusal
+
+LAUNCHER = Path(__file__).resolve().parents[1] / "rte"
+LONGEST_REFUSAL = 4096  # bytes of a first line that may be a refusal
+
+
+def arguments() -> argparse.Namespace:
+    parser = argparse.ArgumentParser(description=__doc__, formatter_class=argparse.RawDescriptionHelpFormatter)
+    parser.add_argument("description", help="the description, a JSON file")
+    parser.add_argument("script", help="the script")
+    parser.add_argument(
+        "--program",
+        default=os.environ.get("RTE", str(LAUNCHER)),
+        help="the program to run; otherwise the variable RTE names it, or it is ./rte of the repository",
+    )
+    parser.add_argument("--said", metavar="FILE", help="a file with what the program printed; - is standard input")
+    return parser.parse_args()
+
+
+def pass_through(printed: IO[bytes]) -> Refusal | None:
+    """Prints unchanged what the program prints, and gives its refusal, if it is one."""
+    first = printed.readline(LONGEST_REFUSAL)
+    sys.stdout.buffer.write(first)
+    shutil.copyfileobj(printed, sys.stdout.buffer)
+    sys.stdout.buffer.flush()
+    return read_refusal(first.decode("utf-8", errors="replace").rstrip("\n"))
+
+
+def run(program: str, description: str, script: str) -> tuple[Refusal | None, int]:
+    """Runs the program; gives its refusal and its status."""
+    with subprocess.Popen([program, "run", description, script], stdout=subprocess.PIPE) as process:
+        refusal = pass_through(process.stdout) if process.stdout else None
+    return refusal, process.returncode
+
+
+def read_said(path: str) -> tuple[Refusal | None, int]:
+    """Reads what the program printed."""
+    if path == "-":
+        refusal = pass_through(sys.stdin.buffer)
+    else:
+        with open(path, "rb") as file:
+            refusal = pass_through(file)
+    return refusal, refusal.status if refusal else 0
+
+
+def main() -> int:
+    words = arguments()
+    try:
+        if words.said is None:
+            refusal, status = run(words.program, words.description, words.script)
+        else:
+            refusal, status = read_said(words.said)
+        if refusal and refusal.status == status:
+            explained = "\n".join(explain(refusal, words.description, words.script)) + "\n"
+            sys.stdout.buffer.write(explained.encode("utf-8", errors="replace"))
+    except BrokenPipeError:
+        return 4
+    except OSError as error:
+        print(f"explain.py: {error}", file=sys.stderr)
+        return 126
+    return status
+
+
+if __name__ == "__main__":
+    sys.exit(main())

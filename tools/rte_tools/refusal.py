@@ -1,0 +1,66 @@
+"""The lines by which the program refuses, and where in a file the places stand that they name."""
+
+from __future__ import annotations
+
+import re
+from dataclasses import dataclass
+
+from rte_tools.description import Component, Description, Port
+
+LINE = re.compile(
+    r"refused rule (?P<rule>\d+) at (?P<place>\S+)"
+    r"|script refused line (?P<line>\d+) cause (?P<cause>\d+)"
+    r"|not read (?P<file>[12])"
+    r"|(?P<words>words refused)"
+)
+
+
+@dataclass(frozen=True)
+class Refusal:
+    """One of the four kinds: a rule at a place, a script line with a cause, a file that was not read, or the words."""
+
+    kind: str  # "rule", "script", "not read" or "words"
+    number: int = 0  # of the rule, of the cause, or of the file
+    place: str = ""
+    line: int = 0
+
+    @property
+    def status(self) -> int:
+        """The status with which the program says it."""
+        return {"rule": 1, "words": 2, "not read": 3, "script": 5}[self.kind]
+
+
+def read_refusal(text: str) -> Refusal | None:
+    """The refusal that a line is, or none."""
+    found = LINE.fullmatch(text)
+    if not found:
+        return None
+    if found["rule"]:
+        return Refusal("rule", int(found["rule"]), found["place"])
+    if found["cause"]:
+        return Refusal("script", int(found["cause"]), line=int(found["line"]))
+    if found["file"]:
+        return Refusal("not read", int(found["file"]))
+    return Refusal("words")
+
+
+def pointer_of(description: Description, place: str) -> str:
+    """The JSON pointer of a place that is a name, as from rule 14 on: `r.i.v`, `r.E`, `r:Look`, `env.m.g`."""
+    instance, separator, rest = place.partition(":" if ":" in place else ".")
+    node = description.instance("" if instance == "env" else instance)
+    if node and separator == "." and "." in rest:
+        port = node.type.ports.get(rest.split(".")[0])
+        return port.place if port else "/"
+    if node and isinstance(node.type, Component):
+        held = (node.type.runnables if separator == ":" else node.type.events).get(rest)
+        return held.place if held else "/"
+    return "/"
+
+
+def port_at(description: Description, place: str) -> tuple[str, Port] | None:
+    """The instance and the port that a name of an item names."""
+    parts = place.split(".")
+    node = description.instance("" if parts[0] == "env" else parts[0])
+    if node is None or len(parts) != 3 or parts[1] not in node.type.ports:
+        return None
+    return node.path, node.type.ports[parts[1]]

@@ -1,0 +1,80 @@
+"""A trace, line by line. Both versions are read, and a line of an unknown kind is kept as it is."""
+
+from __future__ import annotations
+
+from dataclasses import dataclass
+from typing import Iterable
+
+HEADER = "rte-trace "
+RUN = "run"
+CLOSINGS = ("idle", "unsettled", "waiting")
+
+# What stands behind each verb.
+PARTS = {
+    "start": ("event",),
+    "admit": ("answer",),
+    "fetch": ("target", "value"),
+    "write": ("target", "value", "code"),
+    "read": ("target", "code", "value"),
+    "invalidate": ("target", "code"),
+    "isUpdated": ("target", "answer"),
+    "send": ("target", "value", "code"),
+    "receive": ("target", "code", "value"),
+    "ask": ("target", "value", "code"),
+    "answer": ("target", "code", "value"),
+    "result": ("target", "code", "value"),
+    "return": ("code", "value"),
+    "enter": ("target",),
+    "exit": ("target",),
+    "switch": ("target", "mode", "code"),
+    "mode": ("target", "mode"),
+    "phase": ("step", "mode"),
+    "publish": ("target", "value"),
+}
+
+
+class NotATrace(Exception):
+    """The text is not a trace."""
+
+
+@dataclass(frozen=True)
+class Line:
+    """A line of a trace. A run line and its closing word have no actor; their word is the verb."""
+
+    number: int  # in the file, from 1
+    text: str
+    actor: str
+    verb: str
+    fields: tuple[str, ...]
+
+    def part(self, name: str) -> str:
+        """A part that the verb has, such as its code, or nothing."""
+        names = PARTS.get(self.verb, ())
+        at = names.index(name) if name in names else len(self.fields)
+        return self.fields[at] if at < len(self.fields) else ""
+
+    @property
+    def is_tick(self) -> bool:
+        return self.verb == "tick" and self.actor == "env"
+
+
+@dataclass(frozen=True)
+class Trace:
+    version: str
+    lines: list[Line]
+
+
+def read_trace(texts: Iterable[str]) -> Trace:
+    """The trace that the lines are. Raises NotATrace where the first one is not a header."""
+    numbered = enumerate((text.rstrip("\n") for text in texts), 1)
+    _, first = next(numbered, (1, ""))
+    if not first.startswith(HEADER):
+        raise NotATrace(f"the first line is `{first[:80]}` and not `{HEADER}1` or `{HEADER}2`")
+    return Trace(first[len(HEADER) :], [read_line(number, text) for number, text in numbered if text])
+
+
+def read_line(number: int, text: str) -> Line:
+    fields = text.split(" ")
+    if fields[0] == RUN or fields[0] in CLOSINGS:
+        return Line(number, text, "", fields[0], tuple(fields[1:]))
+    return Line(number, text, fields[0], fields[1] if len(fields) > 1 else "", tuple(fields[2:]))
