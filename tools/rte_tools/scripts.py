@@ -8,9 +8,10 @@ from typing import Iterator
 
 from rte_tools.description import Description, Port
 from rte_tools.names import nearest
-from rte_tools.reference import section
+from rte_tools.reference import read_format, section
 
 WORD = re.compile(r"^\| `([a-z]+)[ `]", re.MULTILINE)
+NEED = re.compile(r"^\| `([a-z]+) P\.[EO][^|]*\| (an? [^|]+?) \|", re.MULTILINE)
 UNREADABLE = (
     ("\ufeff", "The script begins with a byte order mark. Save it as UTF-8 without one."),
     (
@@ -42,7 +43,7 @@ def remark(cause: int, line: str, path: str, words: list[str], description: Desc
     start = line.index(" ") + 1
     target = line[start:].split(" ")[0]
     if cause == 2:
-        return Remark(start, start + len(target), outer_ports(description, target))
+        return Remark(start, start + len(target), outer_ports(description, line[: start - 1], target))
     if cause == 3:
         begin = start + len(target) + 1
         return Remark(begin, len(line), type_of(description, target))
@@ -69,13 +70,19 @@ def script_words(text: str) -> list[str]:
     return list(dict.fromkeys(WORD.findall(section(text, "The script"))))
 
 
-def outer_ports(description: Description, target: str) -> str:
-    """Which outer ports there are."""
+def needs(text: str) -> dict[str, str]:
+    """What the lines that name a thing of an outer port need, by their words, by docs/FORMAT.md."""
+    return dict(NEED.findall(section(text, "The script")))
+
+
+def outer_ports(description: Description, verb: str, target: str) -> str:
+    """Which outer ports there are, or what the line needs."""
     root = description.compositions.get(description.root)
     names = {f"{port.name}.{item}": port for port in root.ports.values() for item in description.items(port)}
     if target in names:
         side = "a P-port, which is read" if names[target].provides else "an R-port, which is written"
-        return f"`{target}` belongs to {side}."
+        need = needs(read_format()).get(verb)
+        return f"`{target}` belongs to {side}." + (f" `{verb}` needs {need}." if need else "")
     return (
         f"There is no `{target}`{nearest(target, names)}. {listed('write', names, False)} {listed('read', names, True)}"
     )

@@ -93,11 +93,17 @@ class Refusals(WithFolder):
 
 
 class ScriptLines(WithFolder):
-    """The lines of the table of causes, each tried over door_control."""
+    """The lines of the table of causes, each tried over door_control. Those with a dagger are of another plan."""
 
     def lines(self) -> list[tuple[str, str]]:
         found = CAUSES.findall(section(read_format(), "The script"))
-        return [(line, cause) for cause, cell in found if cause != "4" for line in re.findall("`([^`]+)`", cell)]
+        return [
+            (line, cause)
+            for cause, cell in found
+            if cause != "4"
+            for line, is_other in re.findall("`([^`]+)`( †)?", cell)
+            if not is_other
+        ]
 
     def test_each_is_explained(self) -> None:
         description = str(DATA / "examples" / "door_control" / "description.json")

@@ -1,9 +1,12 @@
-//! Tests of what no row reaches: files and output that fail, files at their limit, and the edge to the system.
+//! Tests of what no row reaches: files and output that fail, files at their limit, the edge to the system, and scripts over
+//! plans that no description brings yet.
 #![tactic(auto)]
 
 #[cfg(test)]
 mod answers;
 #[cfg(test)]
 mod faults;
+#[cfg(test)]
+mod scripts;
 #[cfg(test)]
 mod system;

@@ -12,7 +12,7 @@ use Rattle.std.specs.Str.{IsUtf8, IsAscii}
 use Rattle.std.specs.Str.Parse.{IsNumeral, ParsesSigned, ParsesUnsigned, digits_value, signed_digits_value, without_leading_plus, without_leading_sign}
 use Rattle.script_reading.specs.Numbers.{is_digit, is_held, is_negated, is_number, is_word}
 
-digit_range : (c : ℕ) → is_digit c ≡ true → IsInRange 48 57 c
+pub digit_range : (c : ℕ) → is_digit c ≡ true → IsInRange 48 57 c
 digit_range c h = let two = and_parts (nat_le 48 c) (nat_le c 57) h in (leb-true 48 c two.0, leb-true c 57 two.1)
 
 pub tells_digits : IsDigitsTest (λ ds. list_all is_digit ds ≡ true)
@@ -39,7 +39,7 @@ first_digit (c ∷ cs) h = digit_range c (and_parts (is_digit c) (list_all is_di
 
 -- ---- no sign
 
-no_plus : (t : List ℕ) → is_number t ≡ true → without_leading_plus t ≡ t
+pub no_plus : (t : List ℕ) → is_number t ≡ true → without_leading_plus t ≡ t
 no_plus t h = let r = first_digit t h in without_leading_plus_none t (λ e. omega arith)
 
 pub number_parsed : {E : Type 0} (t : List ℕ) (r : Result ℕ E) → is_number t ≡ true → ParsesUnsigned 32 10 t r → OkIff r (IsNumeral 10 t × (digits_value 10 t < 2 ^ 32)) (digits_value 10 t)
@@ -47,7 +47,7 @@ number_parsed {E} t r h p = subst (λ ds. OkIff r (IsNumeral 10 ds × (digits_va
 
 -- ---- a sign
 
-negated_is_number : (t : List ℕ) → is_negated t ≡ true → is_number t ≡ true
+pub negated_is_number : (t : List ℕ) → is_negated t ≡ true → is_number t ≡ true
 negated_is_number [] h = absurd (cc)
 negated_is_number (c ∷ cs) h = (and_parts (is_number (c ∷ cs)) _ h).0
 

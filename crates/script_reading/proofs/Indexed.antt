@@ -1,17 +1,32 @@
--- One more element, before those that an index has.
-use Rattle.std.proofs.Common.{◌≡◌, ℕ, suc, ◌+◌, ◌<◌, ◌&&◌, cond, List, bytes_eq, drop, length, get_or, Some, Bor, sym, ap, ◌∙◌}
-use Rattle.std.proofs.lemmas.List.{at_drop_more}
+-- One more thing, before those that an index has, and one more mode, behind those that were looked at.
+use Rattle.std.proofs.Common.{◌≡◌, ℕ, suc, ◌+◌, ◌-◌, ◌<◌, false, cond, List, bytes_eq, length, get_or, Some, Bor, refl, sym, ap, ◌∙◌, arith}
+use Rattle.std.specs.List.{slice_get}
+use Rattle.std.proofs.lemmas.Option.{slice_get_read}
 use Rattle.indexmap.specs.IndexMap.{IndexMap, get_by}
-use Rattle.bus_semantics.specs.declared.plan.ElemPlan.{ElemPlan}
-use Rattle.script_reading.specs.declared.environment.Role.{Role}
-use Rattle.script_reading.specs.Meaning.{element_from, has_role}
+use Rattle.bus_semantics.specs.Plan.{Plan}
+use Rattle.bus_semantics.specs.Spelling.{Letters}
+use Rattle.script_reading.specs.declared.forms.Form.{Form}
+use Rattle.script_reading.specs.Offers.{first_from, goes_by, offered}
 use Rattle.script_reading.specs.Index.{IsNoted}
 
-pub noted : {S : Type 0} (r : Role) (es : List ElemPlan) (j : ℕ) (e : ElemPlan) (m n : IndexMap (Bor (List ℕ)) ℕ S) → j < length es → e ≡ get_or es j e → IsNoted r e j m n
-    → ((q : List ℕ) → get_by (λ k. bytes_eq q k.now) m ≡ element_from r (suc j) (drop (j + 1) es) q)
-    → (q : List ℕ) → get_by (λ k. bytes_eq q k.now) n ≡ element_from r j (drop j es) q
-noted r es j e m n h is put before q =
+pub noted : {S : Type 0} (f : Form) (p : Plan) (count j left : ℕ) (m n : IndexMap (Bor (List ℕ)) ℕ S) → j < count → left ≡ j + 1 → IsNoted (offered f p j) j m n
+    → ((q : List ℕ) → get_by (λ k. bytes_eq q k.now) m ≡ first_from (λ x. goes_by q (offered f p x)) (count - left) left)
+    → (q : List ℕ) → get_by (λ k. bytes_eq q k.now) n ≡ first_from (λ x. goes_by q (offered f p x)) (count - j) j
+noted f p count j left m n h is put before q =
+    let after : left ≡ suc j = omega arith in
+    let more : count - j ≡ suc (count - left) = omega arith in
     put q
-    ∙ ap (λ rest. cond (has_role r e && bytes_eq e.name q) (Some j) rest) (before q)
-    ∙ ap (λ x. cond (has_role r x && bytes_eq x.name q) (Some j) (element_from r (suc j) (drop (j + 1) es) q)) is
-    ∙ sym (at_drop_more (λ xs. element_from r j xs q) es j e h)
+    ∙ ap (λ rest. cond (goes_by q (offered f p j)) (Some j) rest) (before q ∙ ap (λ s. first_from (λ x. goes_by q (offered f p x)) (count - left) s) after)
+    ∙ sym (ap (λ k. first_from (λ x. goes_by q (offered f p x)) k j) more)
+
+-- a mode that has another name
+pub mode_passed : (modes : List Letters) (name mode : Letters) (k : ℕ) → k < length modes → mode ≡ get_or modes k mode → bytes_eq mode name ≡ false
+    → first_from (λ x. goes_by name (slice_get modes x)) (length modes - k) k ≡ first_from (λ x. goes_by name (slice_get modes x)) (length modes - (k + 1)) (k + 1)
+mode_passed modes name mode k h is other =
+    let here : length modes - k ≡ suc (length modes - (k + 1)) = omega arith in
+    let next : suc k ≡ k + 1 = omega arith in
+    let place : slice_get modes k ≡ Some mode = slice_get_read modes (length modes) k mode refl h is in
+    let passed : goes_by name (slice_get modes k) ≡ false = ap (goes_by name) place ∙ other in
+    ap (λ n. first_from (λ x. goes_by name (slice_get modes x)) n k) here
+    ∙ ap (λ b. cond b (Some k) (first_from (λ x. goes_by name (slice_get modes x)) (length modes - (k + 1)) (suc k))) passed
+    ∙ ap (λ n. first_from (λ x. goes_by name (slice_get modes x)) (length modes - (k + 1)) n) next

@@ -20,11 +20,11 @@ pub record HasRead (p : Plan) (bytes : Letters) (lines : List Line) (c : Counts)
   pub ticks_are : c.ticks ≡ ticks_in p seen
   pub runs_are : c.runs ≡ runs_in p seen
 
-ticks_in-more : (p : Plan) (ts : List Letters) (t : Letters) → ticks_in p (ts ++ t ∷ []) ≡ ticks_in p ts + ticks_said (saying p t)
+pub ticks_in-more : (p : Plan) (ts : List Letters) (t : Letters) → ticks_in p (ts ++ t ∷ []) ≡ ticks_in p ts + ticks_said (saying p t)
 ticks_in-more p [] t = omega arith
 ticks_in-more p (x ∷ xs) t = let h = ticks_in-more p xs t in omega arith
 
-runs_in-more : (p : Plan) (ts : List Letters) (t : Letters) → runs_in p (ts ++ t ∷ []) ≡ runs_in p ts + runs_said (saying p t)
+pub runs_in-more : (p : Plan) (ts : List Letters) (t : Letters) → runs_in p (ts ++ t ∷ []) ≡ runs_in p ts + runs_said (saying p t)
 runs_in-more p [] t = omega arith
 runs_in-more p (x ∷ xs) t = let h = runs_in-more p xs t in omega arith
 

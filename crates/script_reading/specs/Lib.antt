@@ -1,8 +1,12 @@
 pub mod Texts
 pub mod Numbers
+pub mod Forms
+pub mod Offers
 pub mod Meaning
 pub mod Limits
 pub mod Reading
 pub mod Pieces
 pub mod Index
+pub mod Sentences
+pub mod Scripts
 pub mod Carried

@@ -1,20 +1,17 @@
--- What a line of a script means over a plan. The script and its causes are this project's own; the calls are those of SWS_RTE,
--- made by the environment at the outer ports of the root.
-use Rattle.std.specs.Prelude.{ℕ, suc, ℤ, List, [], ◌∷◌, length, Bool, false, not, ◌&&◌, ◌==◌, int_le, is_some, bytes_eq, codes, if◌then◌else◌, Option, Some, None}
-use Rattle.std.specs.List.{list_all}
-use Rattle.rte_value.specs.declared.kinds.Limits.{Limits}
-use Rattle.bus_semantics.specs.declared.plan.ElemPlan.{ElemPlan}
-use Rattle.bus_semantics.specs.Owners.{is_unqueued}
-use Rattle.bus_semantics.specs.Plan.{Plan, look}
-use Rattle.bus_semantics.specs.SoundPlan.{is_in}
-use Rattle.script_reading.specs.Texts.{parts, is_pair_name}
-use Rattle.bus_semantics.specs.Spelling.{Letters}
-use Rattle.bus_semantics.specs.Wanted.{Wanted, to_write, to_read, wanted_of}
+-- What a line of a script asks for over a plan, or the cause for which it is bad. The script and its causes are this project's own.
+use Rattle.std.specs.Prelude.{ℕ, ℤ, List, [], ◌∷◌, ◌==◌, if◌then◌else◌, Option, Some, None}
 use Rattle.bus_semantics.specs.declared.script.Line.{Line}
 use Rattle.bus_semantics.specs.declared.script.Line.TheVariants as line
-use Rattle.script_reading.specs.declared.environment.Role.{Role}
-use Rattle.script_reading.specs.declared.environment.Role.TheVariants.{Written, Read}
-use Rattle.script_reading.specs.Numbers.{is_number, number_in, is_value, words_in, are_held}
+use Rattle.bus_semantics.specs.Plan.{Plan}
+use Rattle.bus_semantics.specs.Spelling.{Letters}
+use Rattle.bus_semantics.specs.Wanted.{Wanted, to_write, to_send, to_read, to_receive, to_ask, to_take_result, to_switch, to_see_mode, wanted_of}
+use Rattle.script_reading.specs.declared.forms.Form.{Form}
+use Rattle.script_reading.specs.declared.forms.Form.TheVariants.{Write, Send, Read, Receive, Ask, TakeResult, SeeMode}
+use Rattle.script_reading.specs.declared.forms.Follows.{Follows}
+use Rattle.script_reading.specs.declared.forms.Follows.TheVariants as follow
+use Rattle.script_reading.specs.Forms.{Phrase, to_wait, to_run, to_call, behind, phrase_in}
+use Rattle.script_reading.specs.Numbers.{words_in}
+use Rattle.script_reading.specs.Offers.{mode_of, number_of, takes}
 
 -- what a line asks for: ticks, a run line, or a call of the environment
 pub data Asked : Type 0 where
@@ -39,7 +36,7 @@ pub data Saying : Type 0 where
 abbrev pub no_form : ℕ
 no_form = 1
 
--- there is no such port, element or kind
+-- the environment has no such thing of that kind, or the machine no such mode
 abbrev pub no_such : ℕ
 no_such = 2
 
@@ -47,68 +44,50 @@ no_such = 2
 abbrev pub not_of_type : ℕ
 not_of_type = 3
 
--- ---- what the environment has: the elements of the root's outer ports
+-- ---- calls, by what stands behind the name
 
--- It writes the unqueued ones of R-ports, which it provides to the instances (Rte_Write), and reads those of P-ports, which they
--- provide to it (Rte_Read).
-abbrev pub has_role : Role → ElemPlan → Bool
-has_role Written e = not (is_some e.instance) && (is_unqueued e && e.provided)
-has_role Read e = not (is_some e.instance) && (is_unqueued e && not e.provided)
+abbrev pub plain_call : Form → ℕ → Saying
+plain_call Read x = asks (a_call (to_read x))
+plain_call Receive x = asks (a_call (to_receive x))
+plain_call TakeResult x = asks (a_call (to_take_result x))
+plain_call SeeMode x = asks (a_call (to_see_mode x))
+plain_call _ x = is_bad no_form
 
--- the number of the first that has this name, PORT.ELEMENT, where the elements are numbered from this number on
-abbrev pub element_from : Role → ℕ → List ElemPlan → Letters → Option ℕ
-element_from r i [] name = None
-element_from r i (e ∷ es) name = if has_role r e && bytes_eq e.name name then Some i else element_from r (suc i) es name
+abbrev pub call_with : Form → ℕ → List ℤ → Saying
+call_with Write x ws = asks (a_call (to_write x ws))
+call_with Send x ws = asks (a_call (to_send x ws))
+call_with Ask x ws = asks (a_call (to_ask x ws))
+call_with _ x ws = is_bad no_form
 
-abbrev pub element_of : Role → List ElemPlan → Letters → Option ℕ
-element_of r es name = element_from r 0 es name
+abbrev pub value_call : Plan → Form → ℕ → List ℤ → Saying
+value_call p f x ws = if takes f p x ws then call_with f x ws else is_bad not_of_type
 
-abbrev pub is_within : Limits → ℤ → Bool
-is_within l x = int_le l.low x && int_le x l.high
+abbrev pub switch_call : ℕ → Option ℕ → Saying
+switch_call m None = is_bad no_such
+switch_call m (Some mode) = asks (a_call (to_switch m mode))
 
--- the words are as many as the element's, and each within its limits
-abbrev pub is_of_type : ElemPlan → List ℤ → Bool
-is_of_type e ws = are_held ws && ((length ws == e.words) && list_all (is_within e.limits) ws)
+abbrev pub call_at : Plan → Form → Follows → ℕ → (third : Option Letters) → Saying
+call_at p f follow.Nothing x third = plain_call f x
+call_at p f follow.Value x (Some t) = value_call p f x (words_in t)
+call_at p f follow.Mode x (Some t) = switch_call x (mode_of p x t)
+call_at p f _ x None = is_bad no_form
 
--- ---- one line
+abbrev pub named_call : Plan → Form → (third : Option Letters) → Option ℕ → Saying
+named_call p f third None = is_bad no_such
+named_call p f third (Some x) = call_at p f (behind f) x third
 
--- tick N
-abbrev pub tick_line : Letters → Saying
-tick_line t = if is_number t && is_in 1 100000 (number_in t) then asks (ticks (number_in t)) else is_bad no_form
+-- ---- lines
 
--- read P.E
-abbrev pub read_of : Option ℕ → Saying
-read_of None = is_bad no_such
-read_of (Some x) = asks (a_call (to_read x))
+abbrev pub meaning : Plan → Phrase → Saying
+meaning p (to_wait n) = asks (ticks n)
+meaning p to_run = asks a_run
+meaning p (to_call f name third) = named_call p f third (number_of f p name)
 
-abbrev pub read_line : Plan → Letters → Saying
-read_line p name = if is_pair_name name then read_of (element_of Read p.elements name) else is_bad no_form
+abbrev pub meaning_in : Plan → Option Phrase → Saying
+meaning_in p None = is_bad no_form
+meaning_in p (Some phrase) = meaning p phrase
 
--- write P.E V
-abbrev pub write_of : Plan → Option ℕ → List ℤ → Saying
-write_of p None ws = is_bad no_such
-write_of p (Some x) ws = if look p.elements x (λ (e : ElemPlan). is_of_type e ws) false then asks (a_call (to_write x ws)) else is_bad not_of_type
-
-abbrev pub write_line : Plan → Letters → Letters → Saying
-write_line p name value = if is_pair_name name && is_value value then write_of p (element_of Written p.elements name) (words_in value) else is_bad no_form
-
--- the forms of one, two and three fields
-abbrev pub one_field : Letters → Saying
-one_field form = if bytes_eq form (codes "run") then asks a_run else is_bad no_form
-
-abbrev pub two_fields : Plan → Letters → Letters → Saying
-two_fields p form x = if bytes_eq form (codes "tick") then tick_line x else (if bytes_eq form (codes "read") then read_line p x else is_bad no_form)
-
-abbrev pub three_fields : Plan → Letters → Letters → Letters → Saying
-three_fields p form x value = if bytes_eq form (codes "write") then write_line p x value else is_bad no_form
-
-abbrev pub by_fields : Plan → List Letters → Saying
-by_fields p (form ∷ []) = one_field form
-by_fields p (form ∷ x ∷ []) = two_fields p form x
-by_fields p (form ∷ x ∷ y ∷ []) = three_fields p form x y
-by_fields p _ = is_bad no_form
-
--- an empty line and one that begins with `#` say nothing; the fields of any other are separated by one space
+-- an empty line and one that begins with `#` say nothing
 abbrev pub saying : Plan → Letters → Saying
 saying p [] = nothing
-saying p (c ∷ cs) = if c == 35 then nothing else by_fields p (parts 32 (c ∷ cs))
+saying p (c ∷ cs) = if c == 35 then nothing else meaning_in p (phrase_in (c ∷ cs))

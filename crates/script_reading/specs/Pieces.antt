@@ -1,5 +1,5 @@
 -- What the pieces of a line are, and what code makes of them.
-use Rattle.std.specs.Prelude.{◌≡◌, ℕ, ℤ, ◌+◌, ◌≤◌, List, [], ◌∷◌, ◌++◌, length, Bool, true, false, ◌⊎◌, MatchOption, Option, Some, None, MatchResult, Result}
+use Rattle.std.specs.Prelude.{◌≡◌, ℕ, ℤ, ◌+◌, ◌≤◌, List, [], ◌∷◌, ◌++◌, length, Bool, true, false, ◌⊎◌, MatchOption, Option, Some, None, MatchResult, Result, option_copied}
 use Rattle.std.specs.Borrow.{Bor}
 use Rattle.script_reading.specs.Texts.{parts}
 use Rattle.bus_semantics.specs.Spelling.{Letters}
@@ -8,6 +8,9 @@ use Rattle.script_reading.specs.declared.fields.Fields.{Fields}
 use Rattle.script_reading.specs.declared.fields.Fields.TheVariants.{One, Two, Three, More}
 use Rattle.script_reading.specs.declared.line.Said.{Said}
 use Rattle.script_reading.specs.declared.line.Said.TheVariants as said
+use Rattle.script_reading.specs.declared.phrases.Parsed.{Parsed}
+use Rattle.script_reading.specs.declared.phrases.Parsed.TheVariants as parsed
+use Rattle.script_reading.specs.Forms.{Phrase, to_wait, to_run, to_call}
 use Rattle.script_reading.specs.declared.counts.Counts.{Counts}
 use Rattle.script_reading.specs.Limits.{are_too_many, runs_said, ticks_said}
 use Rattle.script_reading.specs.Reading.{least_cause}
@@ -22,6 +25,11 @@ AreFields ts (One a) = ts ≡ a.now ∷ []
 AreFields ts (Two a b) = ts ≡ a.now ∷ b.now ∷ []
 AreFields ts (Three a b c) = ts ≡ a.now ∷ b.now ∷ c.now ∷ []
 AreFields ts More = 4 ≤ length ts
+
+abbrev pub phrase_of : Parsed → Phrase
+phrase_of (parsed.Wait n) = to_wait n
+phrase_of parsed.Run = to_run
+phrase_of (parsed.Call f name third) = to_call f name.now (option_copied third)
 
 abbrev pub saying_of : Said → Saying
 saying_of said.Nothing = nothing

@@ -1,73 +1,72 @@
-//! What the environment can name: the elements of the root's outer ports.
+//! A plan with what its environment has, by name.
 
-ghost use Rattle.std.specs.Prelude.{◌≡◌, IfOk, OnOk};
-ghost use Rattle.script_reading.specs.Meaning.{element_of, has_role};
-ghost use Rattle.script_reading.specs.Index.{IsIndex, IsNoted};
-ghost use Rattle.script_reading.specs.declared.environment.Role.TheVariants.{Read, Written};
+ghost use Rattle.std.specs.Prelude.{◌≡◌, IfOk, OnOk, option_copied, true};
+ghost use Rattle.std.specs.List.{list_all};
+ghost use Rattle.bus_semantics.specs.Plan.{plan_of};
+ghost use Rattle.script_reading.specs.Index.{IsIndex, IsNoted, has_few_modes};
+ghost use Rattle.script_reading.specs.Offers.{mode_in, mode_of, number_of};
+ghost use Rattle.script_reading.specs.declared.forms.Form.TheVariants.{Ask, Read, Receive, SeeMode, Send, Switch, Write};
 
-use bus_semantics::{BusPlan, ElemKind, ElemPlan};
+use crate::forms::Form;
+use crate::offers::{how_many, offered};
+use bus_semantics::{BusPlan, MachinePlan};
 use indexmap::IndexMap;
 use rte_text::Memory;
 use std::alloc::{AllocError, Global};
 
-/// What the environment does with an element of an outer port.
-#[derive(Clone, Copy)]
-pub enum Role {
-    /// It writes an unqueued element of an R-port, which it provides to the instances (SWS_RTE: Rte_Write).
-    Written,
-    /// It reads an unqueued element of a P-port, which the instances provide to it (SWS_RTE: Rte_Read).
-    Read,
+/// The elements of the environment by name, found by hash.
+#[derive(Drop)]
+struct Elements<'p> {
+    plan: &'p BusPlan,
+    written: IndexMap<&'p [u8], u32>,
+    sent: IndexMap<&'p [u8], u32>,
+    read: IndexMap<&'p [u8], u32>,
+    received: IndexMap<&'p [u8], u32>,
+    ghost written_known: { IsIndex Write (plan_of plan.now) written },
+    ghost sent_known: { IsIndex Send (plan_of plan.now) sent },
+    ghost read_known: { IsIndex Read (plan_of plan.now) read },
+    ghost received_known: { IsIndex Receive (plan_of plan.now) received },
 }
 
-/// A plan with the elements of its environment by name, found by hash.
+/// A plan with what its environment has by name, found by hash.
 #[derive(Drop)]
 pub struct Environment<'p> {
     pub plan: &'p BusPlan,
-    written: IndexMap<&'p [u8], u32>,
-    read: IndexMap<&'p [u8], u32>,
-    ghost written_known: { IsIndex Written plan.now.elements written },
-    ghost read_known: { IsIndex Read plan.now.elements read },
+    elements: Elements<'p>,
+    points: IndexMap<&'p [u8], u32>,
+    machines: IndexMap<&'p [u8], u32>,
+    mode_ports: IndexMap<&'p [u8], u32>,
+    ghost few_modes: { list_all has_few_modes plan.now.machines ≡ true },
+    ghost of_plan: { elements.plan.now ≡ plan.now },
+    ghost points_known: { IsIndex Ask (plan_of plan.now) points },
+    ghost machines_known: { IsIndex Switch (plan_of plan.now) machines },
+    ghost mode_ports_known: { IsIndex SeeMode (plan_of plan.now) mode_ports },
 }
 
-/// Whether the environment does so with the element.
-fn has_role(role: Role, element: &ElemPlan) -> bool
-    ensures { result ≡ has_role role element.now }
-{
-    if element.instance.is_some() {
-        return false;
-    }
-    match (role, element.kind) {
-        (Role::Written, ElemKind::Unqueued) => element.provided,
-        (Role::Read, ElemKind::Unqueued) => !element.provided,
-        _ => false,
-    }
-}
-
-/// Puts the element into the index where it has the role.
+/// Puts the number into the index under the name, if there is one.
 fn note<'p>(
     index: &mut IndexMap<&'p [u8], u32>,
     number: u32,
-    element: &'p ElemPlan,
-    role: Role,
+    name: Option<&'p [u8]>,
 ) -> Result<(), Memory>
-    ensures { OnOk result (IsNoted role element.now number index.old index.new) }
+    ensures { OnOk result (IsNoted (option_copied name.entry) number index.old index.new) }
 {
-    if has_role(role, element) {
-        index.insert(element.name.bytes(), number)?;
+    if let Some(name) = name {
+        index.insert(name, number)?;
     }
     Ok(())
 }
 
-/// The elements of this role by name, the first one's number where a name is doubled. More than a `u32` can number
-/// count as want of memory.
+/// The things that the form is for by name, the first one's number where a name is doubled. More than a `u32` can
+/// number count as want of memory.
 fn index_of<'p>(
     alloc: Global,
-    elements: &'p [ElemPlan],
-    role: Role,
+    plan: &'p BusPlan,
+    form: Form,
 ) -> Result<IndexMap<&'p [u8], u32>, Memory>
-    ensures { IfOk result (λ index. IsIndex role elements.now index) }
+    ensures { IfOk result (λ index. IsIndex form (plan_of plan.now) index) }
 {
-    let count = match u32::try_from(elements.len()) {
+    let count = match u32::try_from(how_many(plan, form)) {
         Ok(count) => count,
         Err(_) => return Err(AllocError),
     };
@@ -75,32 +74,94 @@ fn index_of<'p>(
     let mut left = count;
     while left > 0 {
         left -= 1;
-        note(&mut places, left, &elements[left as usize], role)?;
+        note(&mut places, left, offered(plan, form, left as usize))?;
     }
     Ok(places)
 }
 
+/// Whether the modes of each machine can be numbered by a `u32`.
+fn have_few_modes(machines: &[MachinePlan]) -> bool
+    ensures { result ≡ list_all has_few_modes machines.now }
+{
+    machines
+        .iter()
+        .all(|machine| machine.modes.len() <= 4_294_967_295)
+}
+
+/// The number of the machine's first mode that has the name.
+fn mode_in(machine: &MachinePlan, name: &[u8]) -> Option<u32>
+    requires { has_few_modes machine.now ≡ true }
+    ensures { result ≡ mode_in machine.now.modes name.now }
+{
+    for (at, mode) in machine.modes.items().iter().enumerate() {
+        if mode.bytes() == name {
+            return Some(at as u32);
+        }
+    }
+    None
+}
+
+impl<'p> Elements<'p> {
+    fn of(alloc: Global, plan: &'p BusPlan) -> Result<Elements<'p>, Memory>
+        ensures { IfOk result (λ elements. elements.plan.now ≡ plan.now) }
+    {
+        let written = index_of(alloc, plan, Form::Write)?;
+        let sent = index_of(alloc, plan, Form::Send)?;
+        let read = index_of(alloc, plan, Form::Read)?;
+        let received = index_of(alloc, plan, Form::Receive)?;
+        Ok(Elements {
+            plan,
+            written,
+            sent,
+            read,
+            received,
+        })
+    }
+}
+
 impl<'p> Environment<'p> {
-    /// What the environment of the plan can name.
+    /// What the environment of the plan has. More modes of a machine than a `u32` can number count as want of memory.
     pub fn of(alloc: Global, plan: &'p BusPlan) -> Result<Environment<'p>, Memory>
         ensures { IfOk result (λ environment. environment.plan.now ≡ plan.now) }
     {
-        let written = index_of(alloc, plan.elements.items(), Role::Written)?;
-        let read = index_of(alloc, plan.elements.items(), Role::Read)?;
+        if !have_few_modes(plan.machines.items()) {
+            return Err(AllocError);
+        }
+        let elements = Elements::of(alloc, plan)?;
+        let points = index_of(alloc, plan, Form::Ask)?;
+        let machines = index_of(alloc, plan, Form::Switch)?;
+        let mode_ports = index_of(alloc, plan, Form::SeeMode)?;
         Ok(Environment {
             plan,
-            written,
-            read,
+            elements,
+            points,
+            machines,
+            mode_ports,
         })
     }
 
-    /// The number of the element with this role and name.
-    pub fn find(&self, role: Role, name: &[u8]) -> Option<u32>
-        ensures { result ≡ element_of role self.now.plan.now.elements name.now }
+    /// The number of the first thing that the form is for and that goes by this name.
+    pub fn find(&self, form: Form, name: &[u8]) -> Option<u32>
+        ensures { result ≡ number_of form (plan_of self.now.plan.now) name.now }
     {
-        match role {
-            Role::Written => self.written.get(name).copied(),
-            Role::Read => self.read.get(name).copied(),
+        match form {
+            Form::Write => self.elements.written.get(name).copied(),
+            Form::Send => self.elements.sent.get(name).copied(),
+            Form::Read => self.elements.read.get(name).copied(),
+            Form::Receive => self.elements.received.get(name).copied(),
+            Form::Ask => self.points.get(name).copied(),
+            Form::TakeResult => self.points.get(name).copied(),
+            Form::Switch => self.machines.get(name).copied(),
+            Form::SeeMode => self.mode_ports.get(name).copied(),
+        }
+    }
+    /// The number of the first mode of the machine of this number that has the name.
+    pub fn mode(&self, machine: u32, name: &[u8]) -> Option<u32>
+        ensures { result ≡ mode_of (plan_of self.now.plan.now) machine name.now }
+    {
+        match self.plan.machines.items().get(machine as usize) {
+            Some(machine) => mode_in(machine, name),
+            None => None,
         }
     }
 }

@@ -1,13 +1,40 @@
-//! A law of scripts.
+//! Laws of scripts.
 
-ghost use Rattle.std.specs.Prelude.{List, All};
+ghost use Rattle.std.specs.Prelude.{◌≡◌, ◌↔◌, ℕ, List, All, Some};
 ghost use Rattle.bus_semantics.specs.declared.script.Line.{Line};
+ghost use Rattle.bus_semantics.specs.declared.script.Mapping.{Mapping};
 ghost use Rattle.bus_semantics.specs.Plan.{Plan};
+ghost use Rattle.bus_semantics.specs.Sound.{IsSound};
 ghost use Rattle.bus_semantics.specs.Spelling.{Letters};
 ghost use Rattle.script_reading.specs.Carried.{IsCarriable};
-ghost use Rattle.script_reading.specs.Reading.{IsScript};
+ghost use Rattle.script_reading.specs.Meaning.{Asked, asks, saying};
+ghost use Rattle.script_reading.specs.Reading.{IsScript, cause_of};
+ghost use Rattle.script_reading.specs.Scripts.{SpellsScript};
+ghost use Rattle.script_reading.specs.Sentences.{AsksFor, IsCauseOf, IsSpelling};
 
 /// Each line of a script over a plan is one that the environment may carry out.
 pub fn scripts_are_carriable()
     ensures { (p : Plan) (bytes : Letters) (lines : List Line) → IsScript p bytes lines → All (IsCarriable p) lines }
+{}
+
+/// A line that asks for something is the spelling of it, and the environment may ask for it. In a sound plan a line asks
+/// for something exactly where it is the spelling of it and the environment may ask for it, and for nothing else. In
+/// others the first of those with one name is meant.
+pub fn lines_spell_what_they_ask()
+    ensures asked { (p : Plan) (t : Letters) (a : Asked) → saying p t ≡ asks a → AsksFor p t a }
+    ensures exactly { (p : Plan) (m : Mapping) (t : Letters) (a : Asked) → IsSound p m → (saying p t ≡ asks a) ↔ IsSpelling p t a }
+    ensures once { (p : Plan) (m : Mapping) (t : Letters) (a b : Asked) → IsSound p m → IsSpelling p t a → IsSpelling p t b → a ≡ b }
+{}
+
+/// The least cause of a line is this one exactly where its sentence holds: it has none of the forms; it has one, but
+/// names nothing that there is; it names such a thing, but gives it no value that it takes; or a limit is passed.
+pub fn causes_are_sentences()
+    ensures { (p : Plan) (before : List Letters) (t : Letters) (cause : ℕ) → cause_of p before t ≡ Some cause ↔ IsCauseOf p before t cause }
+{}
+
+/// In a sound plan bytes are a script of these lines exactly where they spell them: without blank lines and comments the
+/// lines of the text are the spellings of what these ask for, in order, the environment may ask for each, and no limit
+/// is passed.
+pub fn scripts_spell_their_lines()
+    ensures { (p : Plan) (m : Mapping) (bytes : Letters) (lines : List Line) → IsSound p m → IsScript p bytes lines ↔ SpellsScript p bytes lines }
 {}

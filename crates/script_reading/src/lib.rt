@@ -1,19 +1,25 @@
 //! Scripts: what their lines ask of a bus, in order, or the first bad line with its cause.
 //!
-//! A script is lines of text. `read_script` reads it over the plan of a bus in a time that is linear in the bytes: the
-//! elements of the environment are found by hash, in an index that is built once for a script.
+//! A script is lines of text. `read_script` reads it over the plan of a bus in a time that is linear in the bytes: what
+//! the environment has is found by hash, in indices that are built once for a script.
 #![tactic(auto)]
 
 mod counts;
 mod environment;
 mod fields;
+mod forms;
 mod laws;
 mod limits;
 mod line;
 mod names;
 mod numbers;
+mod offers;
+mod phrases;
 mod script_read;
 mod values;
 
-pub use laws::scripts_are_carriable;
+pub use laws::{
+    causes_are_sentences, lines_spell_what_they_ask, scripts_are_carriable,
+    scripts_spell_their_lines,
+};
 pub use script_read::{ScriptRead, read_script};

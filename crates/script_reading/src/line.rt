@@ -1,33 +1,31 @@
 //! One line of a script.
 
-ghost use Rattle.std.specs.Prelude.{◌≡◌, ℕ, List, Some, true};
+ghost use Rattle.std.specs.Prelude.{◌≡◌, IfSome, IfNone, option_copied, true, false};
 ghost use Rattle.std.specs.List.{list_all};
 ghost use Rattle.rte_value.specs.Values.{words_of};
 ghost use Rattle.bus_semantics.specs.Plan.{plan_of};
-ghost use Rattle.bus_semantics.specs.Spelling.{Letters};
-ghost use Rattle.script_reading.specs.Meaning.{is_of_type, is_within, one_field, by_fields, read_line, saying, three_fields, tick_line, two_fields, write_line, write_of};
-ghost use Rattle.script_reading.specs.Numbers.{are_held};
-ghost use Rattle.script_reading.specs.Pieces.{AreFields, saying_of};
+ghost use Rattle.bus_semantics.specs.SoundElements.{is_within};
+ghost use Rattle.script_reading.specs.Forms.{behind, is_phrase, phrase_in, third_fits};
+ghost use Rattle.script_reading.specs.Meaning.{call_at, call_with, meaning, meaning_in, plain_call, saying, switch_call, value_call};
+ghost use Rattle.script_reading.specs.Numbers.{are_held, is_value, words_in};
+ghost use Rattle.script_reading.specs.Offers.{are_within, elem_takes, mode_of, takes};
+ghost use Rattle.script_reading.specs.Pieces.{phrase_of, saying_of};
 
-use crate::environment::{Environment, Role};
-use crate::fields::{Fields, split_fields};
-use crate::names::is_pair_name;
-use crate::numbers::{is_number, number_in};
-use crate::values::{is_value, value_in};
-use bus_semantics::{ElemPlan, Line, Wish};
+use crate::environment::Environment;
+use crate::forms::{Follows, Form, behind};
+use crate::phrases::{Parsed, parse};
+use crate::values::value_in;
+use bus_semantics::{BusPlan, ElemPlan, Line, Wish};
 use rte_value::{Limits, Value};
 
 /// The cause of a line that has none of the forms.
 pub const NO_FORM: u8 = 1;
 
-/// The cause of a line that names no port, element or kind that there is.
+/// The cause of a line that names no port, element, operation or mode that there is.
 pub const NO_SUCH: u8 = 2;
 
 /// The cause of a value with another word count, or with a word outside the limits.
 pub const NOT_OF_TYPE: u8 = 3;
-
-/// The most ticks of one line.
-const MOST_TICKS: u32 = 100_000;
 
 /// What a line says.
 #[derive(Clone, Copy)]
@@ -40,34 +38,8 @@ pub enum Said {
     Bad(u8),
 }
 
-/// `tick N`.
-fn tick_line(number: &[u8]) -> Said
-    ensures { saying_of result ≡ tick_line number.now }
-{
-    if !is_number(number) {
-        return Said::Bad(NO_FORM);
-    }
-    match number_in(number) {
-        Some(count) if 1 <= count && count <= MOST_TICKS => Said::Line(Line::Tick(count)),
-        _ => Said::Bad(NO_FORM),
-    }
-}
-
-/// `read P.E`.
-fn read_line(environment: &Environment, name: &[u8]) -> Said
-    ensures { saying_of result ≡ read_line (plan_of environment.now.plan.now) name.now }
-{
-    if !is_pair_name(name) {
-        return Said::Bad(NO_FORM);
-    }
-    match environment.find(Role::Read, name) {
-        Some(elem) => Said::Line(Line::Call(Wish::Read { elem })),
-        None => Said::Bad(NO_SUCH),
-    }
-}
-
 /// Whether all words lie within the limits.
-fn are_within(words: &[i64], limits: &Limits) -> bool
+fn are_all_within(words: &[i64], limits: &Limits) -> bool
     ensures { result ≡ list_all (is_within limits.now) words.now }
 {
     words
@@ -76,85 +48,144 @@ fn are_within(words: &[i64], limits: &Limits) -> bool
 }
 
 /// Whether the value is one of the element's type.
-fn is_of_type(element: &ElemPlan, value: &Value) -> bool
+fn elem_takes(element: &ElemPlan, value: &Value) -> bool
+    ensures { result ≡ elem_takes element.now (words_of value.now) }
+{
+    value.words().len() == element.words as usize && are_all_within(value.words(), &element.limits)
+}
+
+/// Whether there are as many words as limits, each within its own.
+fn are_within(limits: &[Limits], words: &[i64]) -> bool
+    ensures { result ≡ are_within limits.now words.now }
+{
+    match limits {
+        [] => words.is_empty(),
+        [first, limits @ ..] => match words {
+            [] => false,
+            [word, words @ ..] => {
+                first.low <= *word && *word <= first.high && are_within(limits, words)
+            }
+        },
+    }
+}
+
+/// Whether the value may be given to the element, or the operation, of this number.
+fn takes(plan: &BusPlan, form: Form, number: u32, value: &Value) -> bool
     requires { are_held (words_of value.now) ≡ true }
-    ensures { result ≡ is_of_type element.now (words_of value.now) }
+    ensures { result ≡ takes form (plan_of plan.now) number (words_of value.now) }
 {
-    value.words().len() == element.words as usize && are_within(value.words(), &element.limits)
-}
-
-/// A write of this value to the element of this number, where the value is one of its type.
-fn write_of(environment: &Environment, elem: u32, value: Value) -> Said
-    requires { are_held (words_of value) ≡ true }
-    ensures { saying_of result ≡ write_of (plan_of environment.now.plan.now) (Some elem) (words_of value) }
-{
-    match environment.plan.elements.items().get(elem as usize) {
-        Some(element) if is_of_type(element, &value) => {
-            Said::Line(Line::Call(Wish::Write { elem, value }))
-        }
-        _ => Said::Bad(NOT_OF_TYPE),
+    match form {
+        Form::Write | Form::Send => match plan.elements.items().get(number as usize) {
+            Some(element) => elem_takes(element, value),
+            None => false,
+        },
+        Form::Ask => match plan.points.items().get(number as usize) {
+            Some(point) => are_within(point.ins.items(), value.words()),
+            None => false,
+        },
+        _ => false,
     }
 }
 
-/// `write P.E V`.
-fn write_line(environment: &Environment, name: &[u8], text: &[u8]) -> Said
-    ensures { saying_of result ≡ write_line (plan_of environment.now.plan.now) name.now text.now }
+/// A call with this value.
+fn call_with(form: Form, number: u32, value: Value) -> Said
+    ensures { saying_of result ≡ call_with form number (words_of value) }
 {
-    if !is_pair_name(name) || !is_value(text) {
-        return Said::Bad(NO_FORM);
-    }
-    let Some(elem) = environment.find(Role::Written, name) else {
-        return Said::Bad(NO_SUCH);
+    let wish = match form {
+        Form::Write => Wish::Write {
+            elem: number,
+            value,
+        },
+        Form::Send => Wish::Send {
+            elem: number,
+            value,
+        },
+        Form::Ask => Wish::Ask {
+            point: number,
+            value,
+        },
+        _ => return Said::Bad(NO_FORM),
     };
-    match value_in(text) {
-        Some(value) => write_of(environment, elem, value),
-        None => Said::Bad(NOT_OF_TYPE),
-    }
+    Said::Line(Line::Call(wish))
 }
 
-/// A line of one field: `run`.
-fn one_field(form: &[u8]) -> Said
-    ensures { saying_of result ≡ one_field form.now }
+/// A call with the value that the text is.
+fn value_call(environment: &Environment, form: Form, number: u32, text: &[u8]) -> Said
+    requires { is_value text.now ≡ true }
+    ensures { saying_of result ≡ value_call (plan_of environment.now.plan.now) form number (words_in text.now) }
 {
-    if form == b"run".as_slice() {
-        Said::Line(Line::Run)
+    let Some(value) = value_in(text) else {
+        return Said::Bad(NOT_OF_TYPE);
+    };
+    if takes(environment.plan, form, number, &value) {
+        call_with(form, number, value)
     } else {
-        Said::Bad(NO_FORM)
+        Said::Bad(NOT_OF_TYPE)
     }
 }
 
-/// A line of two fields: `tick N` or `read P.E`.
-fn two_fields(environment: &Environment, form: &[u8], field: &[u8]) -> Said
-    ensures { saying_of result ≡ two_fields (plan_of environment.now.plan.now) form.now field.now }
+/// A call with nothing behind the name.
+fn plain_call(form: Form, number: u32) -> Said
+    ensures { saying_of result ≡ plain_call form number }
 {
-    if form == b"tick".as_slice() {
-        tick_line(field)
-    } else if form == b"read".as_slice() {
-        read_line(environment, field)
-    } else {
-        Said::Bad(NO_FORM)
+    let wish = match form {
+        Form::Read => Wish::Read { elem: number },
+        Form::Receive => Wish::Receive { elem: number },
+        Form::TakeResult => Wish::TakeResult { point: number },
+        Form::SeeMode => Wish::Mode { port: number },
+        _ => return Said::Bad(NO_FORM),
+    };
+    Said::Line(Line::Call(wish))
+}
+
+/// A switch of the machine to the mode of this name.
+fn switch_call(environment: &Environment, number: u32, name: &[u8]) -> Said
+    ensures { saying_of result ≡ switch_call number (mode_of (plan_of environment.now.plan.now) number name.now) }
+{
+    match environment.mode(number, name) {
+        Some(mode) => Said::Line(Line::Call(Wish::Switch {
+            machine: number,
+            mode,
+        })),
+        None => Said::Bad(NO_SUCH),
     }
 }
 
-/// A line of three fields: `write P.E V`.
-fn three_fields(environment: &Environment, form: &[u8], name: &[u8], value: &[u8]) -> Said
-    ensures { saying_of result ≡ three_fields (plan_of environment.now.plan.now) form.now name.now value.now }
+/// The call of this form at the thing of this number.
+fn call_at(environment: &Environment, form: Form, number: u32, third: Option<&[u8]>) -> Said
+    requires { third_fits (behind form) (option_copied third) ≡ true }
+    ensures { saying_of result ≡ call_at (plan_of environment.now.plan.now) form (behind form) number (option_copied third.entry) }
 {
-    if form == b"write".as_slice() {
-        write_line(environment, name, value)
-    } else {
-        Said::Bad(NO_FORM)
+    match (behind(form), third) {
+        (Follows::Nothing, _) => plain_call(form, number),
+        (Follows::Value, Some(text)) => value_call(environment, form, number, text),
+        (Follows::Mode, Some(name)) => switch_call(environment, number, name),
+        _ => Said::Bad(NO_FORM),
     }
 }
 
-fn by_fields(environment: &Environment, fields: &Fields) -> Said
-    ensures { (ts : List Letters) → AreFields ts fields.now → saying_of result ≡ by_fields (plan_of environment.now.plan.now) ts }
+/// What the parts of a line ask for.
+fn meaning(environment: &Environment, parsed: &Parsed) -> Said
+    requires { is_phrase (phrase_of parsed.now) ≡ true }
+    ensures { saying_of result ≡ meaning (plan_of environment.now.plan.now) (phrase_of parsed.now) }
 {
-    match fields {
-        Fields::One(form) => one_field(form),
-        Fields::Two(form, field) => two_fields(environment, form, field),
-        Fields::Three(form, name, value) => three_fields(environment, form, name, value),
-        Fields::More => Said::Bad(NO_FORM),
+    match *parsed {
+        Parsed::Wait(count) => Said::Line(Line::Tick(count)),
+        Parsed::Run => Said::Line(Line::Run),
+        Parsed::Call(form, name, third) => match environment.find(form, name) {
+            Some(number) => call_at(environment, form, number, third),
+            None => Said::Bad(NO_SUCH),
+        },
+    }
+}
+
+/// What a line that is not blank says.
+fn meaning_in(environment: &Environment, text: &[u8]) -> Said
+    ensures { saying_of result ≡ meaning_in (plan_of environment.now.plan.now) (phrase_in text.now) }
+{
+    match parse(text) {
+        Some(parsed) => meaning(environment, &parsed),
+        None => Said::Bad(NO_FORM),
     }
 }
 
@@ -164,6 +195,6 @@ pub fn read_line_of(environment: &Environment, text: &[u8]) -> Said
 {
     match text {
         [] | [b'#', ..] => Said::Nothing,
-        _ => by_fields(environment, &split_fields(text)),
+        _ => meaning_in(environment, text),
     }
 }

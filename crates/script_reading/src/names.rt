@@ -1,4 +1,4 @@
-//! The names of outer ports and of their elements.
+//! The names of outer ports, of what they have, and of modes.
 
 ghost use Rattle.std.specs.Prelude.{◌≡◌};
 ghost use Rattle.std.specs.List.{list_all};
@@ -26,7 +26,7 @@ fn are_name_parts(text: &[u8]) -> bool
 }
 
 /// Whether the text is a name: 1 to 32 bytes, a letter, then letters, digits and `_`, all ASCII.
-fn is_name(text: &[u8]) -> bool
+pub fn is_name(text: &[u8]) -> bool
     ensures { result ≡ is_name text.now }
 {
     match text {

@@ -21,16 +21,17 @@ pub enum ScriptRead {
     /// A script.
     Read(Script),
     /// No script. `line` is the number of its first bad line, counted from 1 with empty lines and comments, and `cause`
-    /// the least of those that it has: 1, it has none of the forms; 2, there is no such port, element or kind; 3, the
-    /// value has another word count or a word outside the limits; 4, it passes 100,000 lines, 1,000,000 ticks in all or
-    /// 1,000 run lines.
+    /// the least of those that it has: 1, it has none of the forms; 2, there is no such port, element, operation, mode or
+    /// kind; 3, the value has another word count or a word outside the limits; 4, it passes 100,000 lines, 1,000,000
+    /// ticks in all or 1,000 run lines.
     BadLine { line: u64, cause: u8 },
     /// Memory ran out.
     Memory,
 }
 
-/// Reads a script over a plan: lines `tick N`, `run`, `write P.E V` and `read P.E`. Empty lines and lines that begin
-/// with `#` give no `Line`; all others give one each, in order.
+/// Reads a script over a plan. Empty lines and lines that begin with `#` give no `Line`; all others give one each, in
+/// order: `tick N`, `run`, `write P.E V`, `send P.E V`, `read P.E`, `receive P.E`, `ask P.O V`, `result P.O`,
+/// `switch P.O MODE` and `mode P.O`.
 pub fn read_script(alloc: Global, p: &BusPlan, bytes: &[u8]) -> ScriptRead
     ensures read { IfRead result (λ lines. IsScript (plan_of p.now) bytes.now lines) }
     ensures bad_line { IfBadLine result (λ line cause. first_bad (plan_of p.now) [] (lines_of bytes.now) ≡ Some (line, cause)) }

@@ -1,0 +1,184 @@
+-- A text has one of the forms exactly where it is the text of a phrase, and that phrase is the only one.
+use Rattle.std.proofs.Common.{◌≡◌, ℕ, zero, suc, ◌+◌, ◌^◌, ◌<◌, lit<, lit≤, ◌≤◌, Bool, true, false, not, ◌&&◌, ◌||◌, cond, ◌==◌, List, [], ◌∷◌, ◌++◌, length, get_or, bytes_eq, codes, decimal, Option, Some, None, refl, sym, ap, ◌∙◌, subst, append_assoc, arith, nat_le}
+use Rattle.std.specs.List.{list_all}
+use Rattle.std.proofs.lemmas.Bool.{and_parts, and_from, leb-true, eqb-true, eq-eqb}
+use Rattle.std.proofs.lemmas.Fmt.{decimal_digit, decimal-digits_value, decimal_nonempty, digits_decimal, digits_value-decimal, first_decimal}
+use Rattle.std.proofs.lemmas.List.{append-nil}
+use Rattle.std.proofs.lemmas.Slice.Eq.{bytes_eq-Decides}
+use Rattle.bus_semantics.specs.SoundPlan.{is_in}
+use Rattle.bus_semantics.specs.Spelling.{Letters, spaced}
+use Rattle.script_reading.specs.declared.forms.Form.{Form}
+use Rattle.script_reading.specs.declared.forms.Form.TheVariants.{Write, Send, Read, Receive, Ask, TakeResult, Switch, SeeMode}
+use Rattle.script_reading.specs.declared.forms.Follows.{Follows}
+use Rattle.script_reading.specs.declared.forms.Follows.TheVariants as follow
+use Rattle.script_reading.specs.Forms.{Phrase, to_wait, to_run, to_call, behind, by_fields, call_phrase, form_of, is_phrase, keyword, phrase_in, phrase_text, third_fits, third_text, tick_phrase}
+use Rattle.script_reading.specs.Numbers.{is_digit, is_empty, is_number, number_in}
+use Rattle.script_reading.specs.Texts.{is_pair_name, parts}
+use Rattle.script_reading.specs.Sentences.{HasForm}
+use Rattle.script_reading.proofs.Decimals.{number_digits, own}
+use Rattle.script_reading.proofs.Joining.{joined, joined-parts, lacks, parts-join, parts-one}
+use Rattle.script_reading.proofs.Spaces.{name_lacks, number_lacks, pair_lacks, value_lacks}
+
+-- ---- numbers
+
+-- a number of at most 64 bits is what its value is in decimal
+pub number_spelt : (t : Letters) → is_number t ≡ true → number_in t < 2 ^ 64 → decimal (number_in t) ≡ t
+number_spelt t h less = let d = number_digits t h in decimal-digits_value own t d.1 d.0 (one_zero t h) less
+  where
+    of_rest : (c : ℕ) (cs : Letters) → (b : Bool) → (c == 48) ≡ b → (list_all is_digit (c ∷ cs) && (not b || is_empty cs)) ≡ true → c ≡ 48 → length (c ∷ cs) ≡ 1
+    of_rest c [] b is h e = refl
+    of_rest c (d ∷ cs) true is h e = let none : false ≡ true = (and_parts (list_all is_digit (c ∷ d ∷ cs)) false h).1 in absurd (cc)
+    of_rest c (d ∷ cs) false is h e = let yes : (c == 48) ≡ true = eq-eqb c 48 e in absurd (cc)
+
+    one_zero : (t : Letters) → is_number t ≡ true → get_or t 0 0 ≡ 48 → length t ≡ 1
+    one_zero [] h e = absurd (cc)
+    one_zero (c ∷ cs) h e = of_rest c cs (c == 48) refl h e
+
+-- and decimals are numbers
+pub decimal_is_number : (n : ℕ) → n < 2 ^ 64 → is_number (decimal n) ≡ true
+decimal_is_number n h = by (decimal n) (digits_decimal own n h) (decimal_nonempty n h) (leading n h)
+  where
+    -- a leading 0 is the only digit
+    leading : (n : ℕ) → n < 2 ^ 64 → get_or (decimal n) 0 0 ≡ 48 → length (decimal n) ≤ 1
+    leading zero h e = let one : decimal 0 ≡ (48 + 0) ∷ [] = decimal_digit 0 (lit< tt) in rw one (lit≤ tt)
+    leading (suc m) h e = let above : 48 < get_or (decimal (suc m)) 0 0 = first_decimal (suc m) (omega arith) h in absurd (omega arith)
+
+    by : (t : Letters) → list_all is_digit t ≡ true → 0 < length t → (get_or t 0 0 ≡ 48 → length t ≤ 1) → is_number t ≡ true
+    by [] d some lead = absurd (omega arith)
+    by (c ∷ cs) d some lead = and_from (list_all is_digit (c ∷ cs)) _ d (last cs (c == 48) refl lead)
+      where
+        last : (cs : Letters) (b : Bool) → (c == 48) ≡ b → (c ≡ 48 → length (c ∷ cs) ≤ 1) → (not b || is_empty cs) ≡ true
+        last cs false is lead = refl
+        last [] true is lead = refl
+        last (d ∷ cs) true is lead = let short : length (c ∷ d ∷ cs) ≤ 1 = lead (eqb-true c 48 is) in absurd (omega arith)
+
+pub decimal_back : (n : ℕ) → n < 2 ^ 64 → number_in (decimal n) ≡ n
+decimal_back n h = digits_value-decimal own n h
+
+-- so few ticks have few digits
+few : (n : ℕ) → is_in 1 100000 n ≡ true → n < 2 ^ 64
+few n h = let top : n ≤ 100000 = leb-true n 100000 (and_parts (nat_le 1 n) (nat_le n 100000) h).1 in omega arith
+
+-- ---- words
+
+same_text : (t u : Letters) → bytes_eq t u ≡ true → t ≡ u
+same_text t u h = (bytes_eq-Decides t u).0 h
+
+-- what a choice between some phrase and none, or further choices, comes from
+if_some : {X : Type 0} (b : Bool) (x y : X) → cond b (Some x) None ≡ Some y → (b ≡ true) × (x ≡ y)
+if_some {X} true x y h = (refl, cc)
+if_some {X} false x y h = absurd (cc)
+
+one_form : (t : Letters) (g f : Form) (other : Option Form) → (other ≡ Some f → t ≡ keyword f) → cond (bytes_eq t (keyword g)) (Some g) other ≡ Some f → t ≡ keyword f
+one_form t g f other later h = step (bytes_eq t (keyword g)) refl h
+  where
+    step : (b : Bool) → bytes_eq t (keyword g) ≡ b → cond b (Some g) other ≡ Some f → t ≡ keyword f
+    step true is h = let same : g ≡ f = cc in same_text t (keyword g) is ∙ ap keyword same
+    step false is h = later h
+
+form_is : (t : Letters) (f : Form) → form_of t ≡ Some f → t ≡ keyword f
+form_is t f h = one_form t Write f _ (λ h. one_form t Send f _ (λ h. one_form t Read f _ (λ h. one_form t Receive f _ (λ h. one_form t Ask f _ (λ h. one_form t TakeResult f _
+    (λ h. one_form t Switch f _ (λ h. one_form t SeeMode f None (λ h. absurd (cc)) h) h) h) h) h) h) h) h
+
+keyword_form : (f : Form) → form_of (keyword f) ≡ Some f
+keyword_form Write = refl
+keyword_form Send = refl
+keyword_form Read = refl
+keyword_form Receive = refl
+keyword_form Ask = refl
+keyword_form TakeResult = refl
+keyword_form Switch = refl
+keyword_form SeeMode = refl
+
+keyword_lacks : (f : Form) → lacks 32 (keyword f) ≡ true
+keyword_lacks Write = refl
+keyword_lacks Send = refl
+keyword_lacks Read = refl
+keyword_lacks Receive = refl
+keyword_lacks Ask = refl
+keyword_lacks TakeResult = refl
+keyword_lacks Switch = refl
+keyword_lacks SeeMode = refl
+
+keyword_no_tick : (f : Form) → bytes_eq (keyword f) (codes "tick") ≡ false
+keyword_no_tick Write = refl
+keyword_no_tick Send = refl
+keyword_no_tick Read = refl
+keyword_no_tick Receive = refl
+keyword_no_tick Ask = refl
+keyword_no_tick TakeResult = refl
+keyword_no_tick Switch = refl
+keyword_no_tick SeeMode = refl
+
+-- ---- from a text to its phrase
+
+tick_back : (w x : Letters) (ph : Phrase) → bytes_eq w (codes "tick") ≡ true → tick_phrase x ≡ Some ph → HasForm (joined 32 (w ∷ x ∷ [])) ph
+tick_back w x ph is h =
+    let found = if_some (is_number x && is_in 1 100000 (number_in x)) (to_wait (number_in x)) ph h in
+    let two = and_parts (is_number x) (is_in 1 100000 (number_in x)) found.0 in
+    let spelt : decimal (number_in x) ≡ x = number_spelt x two.0 (few (number_in x) two.1) in
+    subst (λ p. HasForm (joined 32 (w ∷ x ∷ [])) p) found.1 (record {
+      fits = two.1;
+      text = ap (λ t. t ++ 32 ∷ (x ++ [])) (same_text w (codes "tick") is) ∙ ap (λ t. codes "tick" ++ 32 ∷ t) (append-nil x ∙ sym spelt);
+    })
+
+call_back : (w x : Letters) (third : Option Letters) (ph : Phrase) (o : Option Form) → (o ≡ form_of w) → call_phrase o x third ≡ Some ph → HasForm (w ++ spaced x ++ third_text third) ph
+call_back w x third ph None is h = absurd (cc)
+call_back w x third ph (Some f) is h =
+    let found = if_some (is_phrase (to_call f x third)) (to_call f x third) ph h in
+    subst (λ p. HasForm (w ++ spaced x ++ third_text third) p) found.1 (record {
+      fits = found.0;
+      text = ap (λ t. t ++ spaced x ++ third_text third) (form_is w f (sym is));
+    })
+
+fields_back : (ts : List Letters) (ph : Phrase) → by_fields ts ≡ Some ph → HasForm (joined 32 ts) ph
+fields_back [] ph h = absurd (cc)
+fields_back (w ∷ []) ph h =
+    let found = if_some (bytes_eq w (codes "run")) to_run ph h in
+    subst (λ p. HasForm (joined 32 (w ∷ [])) p) found.1 (record { fits = refl; text = append-nil w ∙ same_text w (codes "run") found.0 })
+fields_back (w ∷ x ∷ []) ph h = step (bytes_eq w (codes "tick")) refl h
+  where
+    step : (b : Bool) → bytes_eq w (codes "tick") ≡ b → cond b (tick_phrase x) (call_phrase (form_of w) x None) ≡ Some ph → HasForm (joined 32 (w ∷ x ∷ [])) ph
+    step true is h = tick_back w x ph is h
+    step false is h = subst (λ t. HasForm t ph) (append_assoc w (spaced x) []) (call_back w x None ph (form_of w) refl h)
+fields_back (w ∷ x ∷ y ∷ []) ph h =
+    subst (λ t. HasForm t ph) (append_assoc w (spaced x) (spaced y) ∙ ap (λ t. w ++ 32 ∷ (x ++ 32 ∷ t)) (sym (append-nil y))) (call_back w x (Some y) ph (form_of w) refl h)
+fields_back (w ∷ x ∷ y ∷ z ∷ more) ph h = absurd (cc)
+
+pub phrase_found : (t : Letters) (ph : Phrase) → phrase_in t ≡ Some ph → HasForm t ph
+phrase_found t ph h = subst (λ u. HasForm u ph) (joined-parts 32 t) (fields_back (parts 32 t) ph h)
+
+-- ---- from a phrase to its text, and back
+
+kind_lacks : (k : Follows) (t : Letters) → third_fits k (Some t) ≡ true → lacks 32 t ≡ true
+kind_lacks follow.Nothing t h = absurd (cc)
+kind_lacks follow.Value t h = value_lacks t h
+kind_lacks follow.Mode t h = name_lacks t h
+
+call_parts : (f : Form) (name : Letters) (third : Option Letters) → is_phrase (to_call f name third) ≡ true → by_fields (parts 32 (phrase_text (to_call f name third))) ≡ call_phrase (form_of (keyword f)) name third
+call_parts f name None h =
+    let named = pair_lacks name (and_parts (is_pair_name name) _ h).0 in
+    ap (λ t. by_fields (parts 32 t)) (append-nil (keyword f ++ spaced name))
+    ∙ ap by_fields (parts-join 32 (keyword f) name (keyword_lacks f) ∙ ap (λ ts. keyword f ∷ ts) (parts-one 32 name named))
+    ∙ ap (λ b. cond b (tick_phrase name) (call_phrase (form_of (keyword f)) name None)) (keyword_no_tick f)
+call_parts f name (Some t) h =
+    let two = and_parts (is_pair_name name) (third_fits (behind f) (Some t)) h in
+    ap (λ u. by_fields (parts 32 u)) (append_assoc (keyword f) (spaced name) (spaced t))
+    ∙ ap by_fields (parts-join 32 (keyword f) (name ++ 32 ∷ t) (keyword_lacks f)
+    ∙ ap (λ ts. keyword f ∷ ts) (parts-join 32 name t (pair_lacks name two.0) ∙ ap (λ ts. name ∷ ts) (parts-one 32 t (kind_lacks (behind f) t two.1))))
+
+pub phrase_back : (ph : Phrase) → is_phrase ph ≡ true → phrase_in (phrase_text ph) ≡ Some ph
+phrase_back (to_wait n) h =
+    let less = few n h in
+    let number = decimal_is_number n less in
+    ap by_fields (parts-join 32 (codes "tick") (decimal n) refl ∙ ap (λ ts. codes "tick" ∷ ts) (parts-one 32 (decimal n) (number_lacks 32 refl (decimal n) number)))
+    ∙ ap (λ v. cond (is_number (decimal n) && is_in 1 100000 v) (Some (to_wait v)) None) (decimal_back n less)
+    ∙ ap (λ b. cond b (Some (to_wait n)) None) (and_from (is_number (decimal n)) (is_in 1 100000 n) number h)
+phrase_back to_run h = refl
+phrase_back (to_call f name third) h =
+    call_parts f name third h
+    ∙ ap (λ o. call_phrase o name third) (keyword_form f)
+    ∙ ap (λ b. cond b (Some (to_call f name third)) None) h
+
+pub only_phrase : (t : Letters) (ph : Phrase) → HasForm t ph → phrase_in t ≡ Some ph
+only_phrase t ph h = ap phrase_in h.text ∙ phrase_back ph h.fits

@@ -1,0 +1,10 @@
+use Rattle.std.proofs.Common.{◌≡◌, [], Some, subst}
+use Rattle.bus_semantics.specs.Plan.{plan_of}
+use Rattle.script_reading.specs.Reading.{IfBadLine, first_bad}
+use Rattle.script_reading.specs.Texts.{lines_of}
+use Rattle.script_reading.proofs.script_read.read_script.Goals as goal
+
+pub returns-in-Ok-clause-bad_line : goal.returns-in-Ok-clause-bad_line
+returns-in-Ok-clause-bad_line c =
+    subst (λ p. IfBadLine c.read_lines.result (λ line cause. first_bad (plan_of p) [] (lines_of c.args.bytes.now) ≡ Some (line, cause))) c.in-Ok.ensures
+    c.read_lines.ensures.bad_line
