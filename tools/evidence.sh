@@ -94,7 +94,7 @@ What the last whole run of the gate said. \`tools/evidence.sh\` wrote this page 
 | Toolchain | \`$(rt version)\` |
 | Result | \`$result\` |
 | Done in this run | ${done_in_run:-not told} |
-| Time | $minutes minutes |
+| Time | $minutes min |
 | Machine | $(nproc) processors ($processor), $memory GB of memory |
 | Program | $hash |
 
