@@ -56,6 +56,8 @@ def main() -> int:
         lines, status = [f"lint.py: {error}"], 2
     for line in lines:
         print(line)
+    if status == 1:
+        print("If the program refuses this description, mend that first, with tools/explain.py: what is refused looks unused here.")
     return status
 
 

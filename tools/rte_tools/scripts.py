@@ -60,6 +60,8 @@ def form_remarks(line: str, path: str, words: list[str]) -> Iterator[Remark]:
         at = 0 if line[0] == " " else len(line.rstrip())
         yield Remark(at, at + 1, "There is a space before or after the fields.")
     word = line.split(" ")[0]
+    if word == "tick" and line.count(" ") == 1:
+        yield Remark(len("tick "), len(line), "A tick is a millisecond, and N is a whole number from 1 to 100,000.")
     if word not in words:
         known = ", ".join(f"`{name}`" for name in words)
         yield Remark(0, len(word), f"A line begins with one of {known}, or with `#`{nearest(word, words)}.")

@@ -44,7 +44,7 @@ IN_DESCRIPTIONS = {
     "iread, which is not run yet": Mistake(
         "refused rule 0 at /",
         '["iread","i","v"]',
-        ("`Look` of `R` has an access `iread`", "Mend: use unqueued elements, `read` and `write`"),
+        ("`Look` of `R` has an access `iread`", "Mend: write `read` for `iread`"),
         ((READS, '"accesses":[["iread","i","v"]],\n     "program":[["iread","i","v",["x"]]]'),),
     ),
     "the wrong direction": Mistake(
