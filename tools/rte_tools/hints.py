@@ -8,7 +8,7 @@ from __future__ import annotations
 import json
 from dataclasses import dataclass
 from functools import cached_property
-from typing import Any, Callable, Iterator
+from typing import Any, Callable, Iterator, Sequence
 
 from rte_tools.description import Component, DataType, Description, Item, Named, described
 from rte_tools.joins import End, Joins
@@ -21,6 +21,8 @@ from rte_tools.source import Source
 
 MOST_FAULTS = 3  # how many faults of shape are told at one place
 ITEM_KINDS = {"data": "unqueued element", "operation": "operation", "mode": "mode element"}
+GIVING = {"write", "invalidate", "iwrite", "send", "switch"}  # accesses of P-ports
+TAKING = {"read", "isUpdated", "iread", "receive", "call", "acall", "result", "mode"}  # accesses of R-ports
 
 
 @dataclass
@@ -153,10 +155,19 @@ def missing_access(case: Case) -> Iterator[str]:
         where = case.line(runnable + "/accesses" if "accesses" in held else runnable)
         spelled = json.dumps(access, separators=(",", ":"))
         yield f"The `accesses` of `{held['shortName']}` ({where}) lack {spelled}."
+        yield from other_side(case, access)
         return
     type_held = case.data_type(touched(case, statement))
     if type_held:
         yield f"Its access is declared. It gives or takes {type_held.words} words, as its type `{type_held.name}` has."
+
+
+def other_side(case: Case, access: Sequence[str]) -> Iterator[str]:
+    """That an access would not fit its port, so that declaring it is no mend."""
+    port = case.component().ports.get(access[1])
+    if port and access[0] in GIVING | TAKING and port.provides != (access[0] in GIVING):
+        has, needs = ("a P-port", "an R-port") if port.provides else ("an R-port", "a P-port")
+        yield f"But `{port.name}` is {has}, and `{access[0]}` needs {needs}: name another port, or write another statement."
 
 
 def touched(case: Case, statement: list) -> Item | Named | None:

@@ -53,6 +53,12 @@ IN_DESCRIPTIONS = {
         ("`i` is an R-port, which requires the unqueued element `v`.", "Mend: use the access of the port's side"),
         ((READS, '"accesses":[["write","i","v"]],\n     "program":[["write","i","v",[7],"s"]]'),),
     ),
+    "the wrong direction, in the statement alone": Mistake(
+        "refused rule 17 at /components/1/behavior/runnables/0/program/0",
+        '["write","i","v",[7],"s"]',
+        ("But `i` is an R-port, and `write` needs a P-port", "Mend: "),
+        ((READS, '"accesses":[["read","i","v"]],\n     "program":[["write","i","v",[7],"s"]]'),),
+    ),
     "a connector turned round": Mistake(
         "refused rule 11 at /compositions/0/connectors/0",
         '"provider":["r","i"]',
