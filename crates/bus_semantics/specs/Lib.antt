@@ -5,9 +5,8 @@ pub mod Objects
 pub mod Owners
 pub mod Fitting
 pub mod State
+pub mod Accesses
 pub mod Programs
-pub mod Interpreted
-pub mod Bounds
 pub mod Activations
 pub mod Actor
 pub mod Unqueued
@@ -21,7 +20,11 @@ pub mod Phases
 pub mod Due
 pub mod Legal
 pub mod Locality
+pub mod Matching
+pub mod Pasts
+pub mod Asked
 pub mod Rest
+pub mod Quiet
 pub mod Run
 pub mod Spelling
 pub mod Reading
@@ -33,4 +36,3 @@ pub mod SoundAccesses
 pub mod SoundPrograms
 pub mod SoundEvents
 pub mod Sound
-pub mod OneWriter

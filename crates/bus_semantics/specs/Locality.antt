@@ -1,4 +1,4 @@
--- What the bus answers to an entry looks only at the earlier entries of the object that the entry touches.
+-- What the bus answers to an entry looks only at the earlier entries of the object that the entry touches. Entries stand the newest first.
 use Rattle.std.specs.Prelude.{◌≡◌, Bool, true, ◌&&◌, Some}
 use Rattle.rte_value.specs.Values.{same_number}
 use Rattle.bus_semantics.specs.declared.entries.Actor.{Actor}

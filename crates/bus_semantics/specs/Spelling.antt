@@ -1,4 +1,5 @@
--- The spelling of a session in a trace of version 1, which is this project's own: a header, then one line for each item. The oldest item comes first, so each new line stands at the end.
+-- The spelling of a session in a trace, which is this project's own: a header, then one line for each item. A session has its newest item
+-- first, and a trace its oldest; so each new line stands at the end. The versions differ in the header and in how modes are spelled.
 use Rattle.std.specs.Prelude.{◌≡◌, ℕ, ℤ, List, [], ◌∷◌, ◌++◌, codes, decimal, if◌then◌else◌, Option, Some, None}
 use Rattle.std.specs.Fmt.{signed_decimal}
 use Rattle.rte_value.specs.declared.kinds.ActKey.{ActKey}
@@ -17,7 +18,10 @@ use Rattle.bus_semantics.specs.declared.entries.Actor.TheVariants.{Env, Machine,
 use Rattle.bus_semantics.specs.declared.entries.Deed.{Deed}
 use Rattle.bus_semantics.specs.declared.entries.Deed.TheVariants as deed
 use Rattle.bus_semantics.specs.declared.entries.Entry.{Entry}
-use Rattle.bus_semantics.specs.Plan.{Plan, Runnable, look}
+use Rattle.bus_semantics.specs.declared.version.Version.{Version}
+use Rattle.bus_semantics.specs.declared.version.Version.TheVariants.{One, Two}
+use Rattle.bus_semantics.specs.Plan.{Plan, Runnable, look, machine_of_port}
+use Rattle.bus_semantics.specs.Objects.{machine_itself}
 use Rattle.bus_semantics.specs.Run.{Closing, idle, unsettled, Item, made, run_begins, run_closes, Session}
 
 abbrev pub Letters : Type 0
@@ -97,57 +101,68 @@ abbrev pub from_text : Plan → Option ℕ → Value → Letters
 from_text p None value = []
 from_text p (Some q) value = codes " from " ++ point_text p q ++ spaced (value_text value)
 
-abbrev pub phase_text : Step → Letters
-phase_text (step.Close mode) = codes "phase close " ++ decimal mode
-phase_text step.Exit = codes "phase exit"
-phase_text step.Transition = codes "phase transition"
-phase_text step.Entry = codes "phase entry"
-phase_text step.Stable = codes "phase stable"
+-- a mode of a machine: its number in version one, its name in version two. The transition value has no name
+abbrev pub mode_text : Version → Plan → (machine : Option ℕ) → (mode : ℕ) → Letters
+mode_text One p m mode = decimal mode
+mode_text Two p m mode = look (modes_at m) mode (λ (t : Letters). t) (codes "-")
+  where
+    modes_at : Option ℕ → List Letters
+    modes_at None = []
+    modes_at (Some i) = look p.machines i (λ (n : MachinePlan). n.modes) []
 
-abbrev pub deed_text : Plan → Deed → Letters
-deed_text p deed.Tick = codes "tick"
-deed_text p (deed.Start event point value) = codes "start " ++ event_name p event ++ from_text p point value
-deed_text p (deed.Admit admitted) = if admitted then codes "admit yes" else codes "admit no"
-deed_text p (deed.Fetch x value) = codes "fetch " ++ elem_name p x ++ spaced (value_text value)
-deed_text p (deed.Write x value) = codes "write " ++ elem_name p x ++ spaced (value_text value) ++ codes " 0"
-deed_text p (deed.Read x code value) = codes "read " ++ elem_name p x ++ spaced (decimal code) ++ spaced (value_text value)
-deed_text p (deed.Invalidate x) = codes "invalidate " ++ elem_name p x ++ codes " 0"
-deed_text p (deed.IsUpdated x updated) = codes "isUpdated " ++ elem_name p x ++ (if updated then codes " 1" else codes " 0")
-deed_text p (deed.Send x value code) = codes "send " ++ elem_name p x ++ spaced (value_text value) ++ spaced (decimal code)
-deed_text p (deed.Receive x code value) = codes "receive " ++ elem_name p x ++ spaced (decimal code) ++ spaced (value_text value)
-deed_text p (deed.Ask q value code) = codes "ask " ++ point_name p q ++ spaced (value_text value) ++ spaced (decimal code)
-deed_text p (deed.Answer q code value) = codes "answer " ++ point_name p q ++ spaced (decimal code) ++ spaced (value_text value)
-deed_text p (deed.TakeResult q code value) = codes "result " ++ point_name p q ++ spaced (decimal code) ++ spaced (value_text value)
-deed_text p (deed.Return code value) = codes "return " ++ decimal code ++ spaced (value_text value)
-deed_text p (deed.Enter x) = codes "enter " ++ area_name p x
-deed_text p (deed.Leave x) = codes "exit " ++ area_name p x
-deed_text p (deed.Switch m mode code) = codes "switch " ++ machine_name p m ++ spaced (decimal mode) ++ spaced (decimal code)
-deed_text p (deed.Mode port mode) = codes "mode " ++ mode_port_name p port ++ spaced (decimal mode)
-deed_text p (deed.Phase s) = phase_text s
-deed_text p (deed.Publish x value) = codes "publish " ++ elem_name p x ++ spaced (value_text value)
-deed_text p deed.End = codes "end"
+abbrev pub phase_text : Version → Plan → Actor → Step → Letters
+phase_text v p a (step.Close mode) = codes "phase close " ++ mode_text v p (machine_itself a) mode
+phase_text v p a step.Exit = codes "phase exit"
+phase_text v p a step.Transition = codes "phase transition"
+phase_text v p a step.Entry = codes "phase entry"
+phase_text v p a step.Stable = codes "phase stable"
+
+-- what an actor did
+abbrev pub deed_text : Version → Plan → Actor → Deed → Letters
+deed_text v p a deed.Tick = codes "tick"
+deed_text v p a (deed.Start event point value) = codes "start " ++ event_name p event ++ from_text p point value
+deed_text v p a (deed.Admit admitted) = if admitted then codes "admit yes" else codes "admit no"
+deed_text v p a (deed.Fetch x value) = codes "fetch " ++ elem_name p x ++ spaced (value_text value)
+deed_text v p a (deed.Write x value) = codes "write " ++ elem_name p x ++ spaced (value_text value) ++ codes " 0"
+deed_text v p a (deed.Read x code value) = codes "read " ++ elem_name p x ++ spaced (decimal code) ++ spaced (value_text value)
+deed_text v p a (deed.Invalidate x) = codes "invalidate " ++ elem_name p x ++ codes " 0"
+deed_text v p a (deed.IsUpdated x updated) = codes "isUpdated " ++ elem_name p x ++ (if updated then codes " 1" else codes " 0")
+deed_text v p a (deed.Send x value code) = codes "send " ++ elem_name p x ++ spaced (value_text value) ++ spaced (decimal code)
+deed_text v p a (deed.Receive x code value) = codes "receive " ++ elem_name p x ++ spaced (decimal code) ++ spaced (value_text value)
+deed_text v p a (deed.Ask q value code) = codes "ask " ++ point_name p q ++ spaced (value_text value) ++ spaced (decimal code)
+deed_text v p a (deed.Answer q code value) = codes "answer " ++ point_name p q ++ spaced (decimal code) ++ spaced (value_text value)
+deed_text v p a (deed.TakeResult q code value) = codes "result " ++ point_name p q ++ spaced (decimal code) ++ spaced (value_text value)
+deed_text v p a (deed.Return code value) = codes "return " ++ decimal code ++ spaced (value_text value)
+deed_text v p a (deed.Enter x) = codes "enter " ++ area_name p x
+deed_text v p a (deed.Leave x) = codes "exit " ++ area_name p x
+deed_text v p a (deed.Switch m mode code) = codes "switch " ++ machine_name p m ++ spaced (mode_text v p (Some m) mode) ++ spaced (decimal code)
+deed_text v p a (deed.Mode port mode) = codes "mode " ++ mode_port_name p port ++ spaced (mode_text v p (machine_of_port p port) mode)
+deed_text v p a (deed.Phase s) = phase_text v p a s
+deed_text v p a (deed.Publish x value) = codes "publish " ++ elem_name p x ++ spaced (value_text value)
+deed_text v p a deed.End = codes "end"
 
 -- ---- lines
 
-abbrev pub entry_text : Plan → Entry → Letters
-entry_text p e = actor_text p e.actor ++ spaced (deed_text p e.deed) ++ codes "\n"
+abbrev pub entry_text : Version → Plan → Entry → Letters
+entry_text v p e = actor_text p e.actor ++ spaced (deed_text v p e.actor e.deed) ++ codes "\n"
 
 abbrev pub closing_text : Closing → Letters
 closing_text idle = codes "idle\n"
 closing_text unsettled = codes "unsettled\n"
 
-abbrev pub item_text : Plan → Item → Letters
-item_text p (made e) = entry_text p e
-item_text p run_begins = codes "run\n"
-item_text p (run_closes word) = closing_text word
+abbrev pub item_text : Version → Plan → Item → Letters
+item_text v p (made e) = entry_text v p e
+item_text v p run_begins = codes "run\n"
+item_text v p (run_closes word) = closing_text word
 
-abbrev pub header : Letters
-header = codes "rte-trace 1\n"
+abbrev pub header : Version → Letters
+header One = codes "rte-trace 1\n"
+header Two = codes "rte-trace 2\n"
 
-abbrev pub spelling_of : Plan → Session → Letters
-spelling_of p [] = header
-spelling_of p (i ∷ s) = spelling_of p s ++ item_text p i
+abbrev pub spelling_of : Version → Plan → Session → Letters
+spelling_of v p [] = header v
+spelling_of v p (i ∷ s) = spelling_of v p s ++ item_text v p i
 
 -- the bytes are the header and one line for each item
-abbrev pub Spells : Plan → Letters → Session → Type 0
-Spells p bytes s = bytes ≡ spelling_of p s
+abbrev pub Spells : Version → Plan → Letters → Session → Type 0
+Spells v p bytes s = bytes ≡ spelling_of v p s

@@ -1,9 +1,9 @@
-//! What a plan says of a number. A number out of range has nothing.
+//! What a plan says of a number.
 
 ghost use Rattle.std.specs.Prelude.{◌≡◌};
-ghost use Rattle.bus_semantics.specs.Plan.{plan_of, group_of, server_of, machine_of_port};
+ghost use Rattle.bus_semantics.specs.Plan.{plan_of, group_of, kind_of, server_of, machine_of_port};
 
-use crate::plan::BusPlan;
+use crate::plan::{BusPlan, EventKind};
 
 impl BusPlan {
     /// The group of an element.
@@ -13,6 +13,16 @@ impl BusPlan {
         match self.elements.items().get(elem as usize) {
             Some(element) => Some(element.group),
             None => None,
+        }
+    }
+
+    /// The kind of an event. One that there is not counts as an InitEvent.
+    pub fn kind_of(&self, event: u32) -> EventKind
+        ensures { result ≡ kind_of (plan_of self.now) event }
+    {
+        match self.events.items().get(event as usize) {
+            Some(event) => event.kind,
+            None => EventKind::Init,
         }
     }
 

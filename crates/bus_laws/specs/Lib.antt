@@ -1,0 +1,4 @@
+pub mod Bounds
+pub mod Happened
+pub mod Interpreted
+pub mod Waiting

@@ -1,0 +1,4 @@
+pub mod PhaseStuck
+pub mod RowRuns
+pub mod RowSound
+pub mod RowPasts

@@ -1,0 +1,42 @@
+use Rattle.std.specs.Prelude.{◌≡◌, true, refl}
+use Rattle.std.specs.Fmt.{digits}
+use Rattle.std.proofs.lemmas.Bool.{false≢true}
+use Rattle.bus_semantics.specs.Legal.{is_legal}
+use Rattle.bus_semantics.specs.Run.{history_of}
+use Rattle.bus_laws.proofs.Resting.{could}
+use Rattle.bus_rows.specs.OneWriter.{ten_ticks_and_run}
+use Rattle.bus_rows.specs.ImplicitAccess.{early_reader, two_tasks, fetched_kept}
+use Rattle.bus_semantics.specs.Plan.{positions}
+use Rattle.bus_rows.proofs.RowPasts.{pasts_of}
+use Rattle.bus_rows.proofs.RowRuns.{words_hold, run_of}
+use Rattle.bus_rows.proofs.RowSound.{sound_of, unordered}
+use Rattle.bus_rows.proofs.rows.implicit_read_keeps_the_fetched_value.Goals as goal
+
+legal : is_legal early_reader (history_of fetched_kept) ≡ true
+legal = refl
+
+closed : words_hold early_reader two_tasks fetched_kept ≡ true
+unfolding could
+closed = refl
+
+pub returns-clause-runs : goal.returns-clause-runs
+returns-clause-runs c = run_of early_reader two_tasks ten_ticks_and_run fetched_kept legal closed (record { orders = refl; placed = refl; closed = refl })
+
+pub returns-clause-spelled : goal.returns-clause-spelled
+unfolding digits
+returns-clause-spelled c = refl
+
+pub returns-clause-legal : goal.returns-clause-legal
+returns-clause-legal c = legal
+
+pub returns-clause-sound : goal.returns-clause-sound
+returns-clause-sound c = sound_of early_reader two_tasks refl (unordered early_reader two_tasks (λ a n w. absurd (false≢true w)))
+
+pub returns-clause-quiet : goal.returns-clause-quiet
+returns-clause-quiet c = record { none = refl; due = refl; machines = refl }
+
+pub returns-clause-parted : goal.returns-clause-parted
+returns-clause-parted c = pasts_of early_reader fetched_kept (positions early_reader.objects) refl
+
+pub returns-clause-wrong : goal.returns-clause-wrong
+returns-clause-wrong c = record { before = refl; fit = refl; broken = refl }

@@ -1,0 +1,14 @@
+pub mod RowParts
+pub mod SoundFacts
+pub mod OneWriter
+pub mod Queues
+pub mod ImplicitAccess
+pub mod AreaHeld
+pub mod OutsideCall
+pub mod DirectCall
+pub mod QueuedCalls
+pub mod ModeSwitch
+pub mod TwoMachines
+pub mod WaitingSwitch
+pub mod AcknowledgedSwitch
+pub mod UnsoundPlans

@@ -1,0 +1,16 @@
+//! Worked rows as theorems: each is a legal run of its script, by computing, and wrong variants of it are refused by the clause that
+//! should refuse them. And plans that are not sound, each for one fact that it lacks.
+#![tactic(auto)]
+
+mod rows;
+mod unsound;
+
+pub use rows::{
+    acknowledged_mode_switch, area_is_held_until_it_is_left, asynchronous_mode_switch,
+    direct_server_runs_within_its_call, environment_asks_a_server,
+    implicit_read_keeps_the_fetched_value, implicit_write_is_published_at_the_end,
+    mode_switch_on_three_cores, mode_switch_that_waits, queue_of_two_loses_the_third,
+    server_serves_in_the_order_of_calls, ten_ticks_write_then_read, two_machines_go_on_apart,
+    two_receivers_one_full,
+};
+pub use unsound::{plans_that_lack_one_fact_are_not_sound, sound_plans_break_no_fact};

@@ -1,9 +1,0 @@
-use Rattle.std.proofs.Common.{◌≡◌}
-use Rattle.bus_semantics.specs.Plan.{runnable_of}
-use Rattle.bus_semantics.specs.State.{is_to, found, access}
-use Rattle.bus_semantics.proofs.interpreter.find_access.Given as goal
-
-abbrev pub invariant-loop-access : goal.invariant-loop-access
-invariant-loop-access l =
-    found (is_to l.kind l.port l.item) l.access-iterator.a.rest.now l.access-iterator.b.rest.now
-    ≡ access (runnable_of l.runnable) l.kind l.port l.item

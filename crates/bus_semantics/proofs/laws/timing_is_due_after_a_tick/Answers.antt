@@ -1,5 +1,0 @@
-use Rattle.bus_semantics.proofs.DueLaws as by
-use Rattle.bus_semantics.proofs.laws.timing_is_due_after_a_tick.Goals as goal
-
-pub returns : goal.returns
-returns c = record { due = by.timing_due }
