@@ -1,5 +1,5 @@
 -- Mode machines, and who requires them (Software Component Template: ModeDeclarationGroupPrototype).
-use Rattle.std.specs.Prelude.{ℕ, List, [], map, Option, None, option_and_then, slice_get}
+use Rattle.std.specs.Prelude.{ℕ, List, [], map, true, Option, None, option_and_then, slice_get}
 use Rattle.std.specs.Option.{option_map_or, unwrap_or}
 use Rattle.interface_types.specs.declared.interface.InterfaceKind.{InterfaceKind}
 use Rattle.interface_types.specs.declared.interface.InterfaceKind.TheVariants.{ModeSwitch}
@@ -19,6 +19,7 @@ group_in d _ = None
 abbrev pub group_at : Description → Flat → Option ℕ → ℕ → Option ModeGroup
 group_at d f owner k = option_and_then (group_in d) (interface_of d f owner k)
 
+-- it waits: no description here says that a user supports an asynchronous mode switch
 abbrev pub machine_at : Description → Flat → Option ℕ → ℕ → MachinePlan
 machine_at d f owner k = record {
   instance = owner;
@@ -26,6 +27,7 @@ machine_at d f owner k = record {
   modes = option_map_or (λ g. g.modes) (group_at d f owner k) [];
   initial = option_map_or (λ g. g.initial_mode) (group_at d f owner k) 0;
   queue = queue_length_of d f owner k 0;
+  waits = true;
 }
 
 abbrev pub machines : Description → Flat → List MachinePlan

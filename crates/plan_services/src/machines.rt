@@ -79,6 +79,7 @@ fn machine_at(
         modes,
         initial: initial_at(source, owner, port),
         queue: source.queue_length_of(owner, port, 0),
+        waits: true,
     })
 }
 

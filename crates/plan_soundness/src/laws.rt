@@ -9,8 +9,8 @@ ghost use Rattle.bus_semantics.specs.Sound.{IsSound};
 ghost use Rattle.planned_descriptions.specs.Whole.{IsWhole};
 
 use sound_behavior::{
-    direct_servers_fit, events_fit, points_fit_their_servers, points_stand_by_caller,
-    runnables_fit, servers_serve, tasks_fit, waits_never_return,
+    direct_servers_fit, events_fit, points_are_named_once, points_fit_their_servers,
+    points_stand_by_caller, runnables_fit, servers_serve, tasks_fit, waits_are_ordered,
 };
 use sound_elements::{
     elements_of_plans_are_sound, groups_of_plans_fit, joined_elements_of_plans_agree,
@@ -18,6 +18,7 @@ use sound_elements::{
 };
 use sound_names::{
     mode_ports_have_machines, names_of_plans_fit, plans_are_arranged, plans_name_their_instances,
+    ports_stand_together, things_of_plans_are_named_once,
 };
 
 /// The plan of a description that breaks none of the thirty rules is sound with its mapping.
@@ -25,6 +26,9 @@ pub fn plans_are_sound()
     ensures { (d : Description) (f : Flat) (p : BusPlan) (m : Mapping) → IsWhole d f p m → IsSound (plan_of p) m }
 {
     names_of_plans_fit();
+    things_of_plans_are_named_once();
+    points_are_named_once();
+    ports_stand_together();
     plans_are_arranged();
     plans_name_their_instances();
     groups_of_plans_fit();
@@ -41,5 +45,5 @@ pub fn plans_are_sound()
     direct_servers_fit();
     queues_of_plans_are_bounded();
     tasks_fit();
-    waits_never_return();
+    waits_are_ordered();
 }

@@ -25,3 +25,4 @@ pub mod Arranged
 pub mod Operations
 pub mod Uses
 pub mod Runnables
+mod PointNames

@@ -1,15 +1,19 @@
--- Points fit: an operation that is called without waiting has no other caller in its instance; a joined point has its server's arguments.
+-- Points fit: an operation that is called without waiting has no other caller in its instance; a point has few arguments, of limits in range, and a joined one its server's.
 use Rattle.std.proofs.Common.{◌≡◌, ℕ, ◌+◌, Bool, true, false, cond, ◌&&◌, ◌||◌, not, ◌==◌, refl, sym, ◌∙◌, ap, subst, arith, append_assoc, codes, List, [], ◌∷◌, ◌++◌, map, filter, length, Option, Some, None, option_map, option_and_then, ◌⊎◌, inl, inr}
 use Rattle.std.specs.Prelude.{nat_le}
 use Rattle.std.specs.List.{slice_get, list_all}
 use Rattle.std.specs.Option.{option_map_or}
 use Rattle.std.proofs.lemmas.Bool.{and_from, and_parts, eq-eqb, false≢true, or_cases, or_left, or_right}
 use Rattle.std.proofs.lemmas.Bool.Decides.{Decides-int_eq}
+use Rattle.std.proofs.lemmas.List.{length-map}
+use Rattle.std.proofs.lemmas.List.Filters.{length-filter_both}
 use Rattle.std.proofs.lemmas.Option.{same_Some}
 use Rattle.rte_value.specs.declared.kinds.Limits.{Limits}
 use Rattle.rte_value.specs.Values.{same_number, same_words}
 use Rattle.runnable_lang.specs.declared.program.AccessKind.{AccessKind}
 use Rattle.runnable_lang.specs.declared.program.AccessKind.TheVariants as kind
+use Rattle.interface_types.specs.declared.base_type.DataType.{DataType}
+use Rattle.interface_types.specs.declared.interface.ApplicationError.{ApplicationError}
 use Rattle.interface_types.specs.declared.interface.Argument.{Argument}
 use Rattle.interface_types.specs.declared.interface.Direction.{Direction}
 use Rattle.interface_types.specs.declared.interface.Direction.TheVariants.{In, Out}
@@ -17,6 +21,7 @@ use Rattle.interface_types.specs.declared.interface.Interface.{Interface}
 use Rattle.interface_types.specs.declared.interface.InterfaceKind.{InterfaceKind}
 use Rattle.interface_types.specs.declared.interface.InterfaceKind.TheVariants.{ClientServer}
 use Rattle.interface_types.specs.declared.interface.Operation as declared_operation
+use Rattle.interface_types.specs.Refusals.{has_distinct_codes, is_sound, is_sound_argument}
 use Rattle.description_types.specs.declared.component.Component.{Component}
 use Rattle.description_types.specs.declared.component.Port.{Port}
 use Rattle.description_types.specs.declared.component.PortKind.TheVariants.{Required}
@@ -31,9 +36,9 @@ use Rattle.bus_semantics.specs.declared.plan.ServerPlan.{ServerPlan}
 use Rattle.bus_semantics.specs.declared.script.Mapping.{Mapping}
 use Rattle.bus_semantics.specs.Plan.{plan_of, look, every_from, instance_of}
 use Rattle.bus_semantics.specs.SoundAccesses.{same_operation, points_fit}
-use Rattle.bus_semantics.specs.SoundElements.{argument_limits, same_limits}
+use Rattle.bus_semantics.specs.SoundElements.{argument_limits, limits_fit, same_limits}
 use Rattle.bus_semantics.specs.SoundNames.{is_letter, is_name_part, is_name}
-use Rattle.bus_semantics.specs.SoundPlan.{same_numbers}
+use Rattle.bus_semantics.specs.SoundPlan.{is_in, same_numbers}
 use Rattle.component_rules.specs.declared.items.Item.TheVariants.{Operation}
 use Rattle.component_rules.specs.Items.{item_at}
 use Rattle.component_rules.specs.Signatures.{arguments_of, goes, limits_of}
@@ -48,12 +53,12 @@ use Rattle.plan_services.specs.Callings.{callings, owner_of, outer_calling}
 use Rattle.plan_services.specs.Services.{argument_of, is_out, operation_in, point_of, point_words, points, server_at, servers}
 use Rattle.sound_descriptions.specs.WellFormed as formed
 use Rattle.planned_descriptions.specs.Whole.{IsWhole}
-use Rattle.sound_behavior.proofs.Lists.{clash, not_some, option_same, all_if, all_at, every_if, looked, map_at, MapAt, mapped, append_at, Later}
+use Rattle.sound_behavior.proofs.Lists.{clash, not_some, option_same, all_if, all_at, every_if, looked, map_at, MapAt, mapped, kept_at, append_at, Later}
 use Rattle.sound_behavior.proofs.Members.{numbers_equal, names_apart}
 use Rattle.sound_behavior.proofs.Parts.{Home, component_home, same_home}
 use Rattle.sound_behavior.proofs.Rules.{planned, plan_is, ports_formed, access_kept}
 use Rattle.sound_behavior.proofs.Serving.{invoked_by, server_there}
-use Rattle.sound_behavior.proofs.Servers.{operation_is}
+use Rattle.sound_behavior.proofs.Servers.{argument_fits, operation_is, operation_kept}
 use Rattle.sound_behavior.proofs.Providers.{operation_by}
 use Rattle.sound_behavior.proofs.Points.{Calls, waits, goes_on, inner, outer, InnerCall, inner_call, OuterCall, outer_call, call_place, called_once}
 use Rattle.sound_behavior.proofs.Callers.{goes_is, home_of}
@@ -123,6 +128,20 @@ out_limits d (a ∷ xs) = by a.direction (out_limits d xs)
         ≡ map (λ (x : Argument). limits_of d.types.data_types x.of_type) (cond (goes Out (record { short_name = a.short_name; of_type = a.of_type; direction = way })) (a ∷ filter (goes Out) xs) (filter (goes Out) xs))
     by In e = e
     by Out e = ap (λ l. limits_of d.types.data_types a.of_type ∷ l) e
+
+-- each argument goes one way
+goes_other : (a : Argument) → goes Out a ≡ not (goes In a)
+goes_other a = by a.direction
+  where
+    by : (way : Direction) → goes Out (record { short_name = a.short_name; of_type = a.of_type; direction = way }) ≡ not (goes In (record { short_name = a.short_name; of_type = a.of_type; direction = way }))
+    by In = refl
+    by Out = refl
+
+arguments_count : (types : List DataType) (xs : List Argument) → length (arguments_of types In xs) + length (arguments_of types Out xs) ≡ length xs
+arguments_count types xs =
+    let ins : length (arguments_of types In xs) ≡ length (filter (goes In) xs) = length-map (filter (goes In) xs) (λ (a : Argument). limits_of types a.of_type) in
+    let outs : length (arguments_of types Out xs) ≡ length (filter (goes Out) xs) = length-map (filter (goes Out) xs) (λ (a : Argument). limits_of types a.of_type) in
+    (λ j. ins j + outs j) ∙ length-filter_both (goes In) (goes Out) goes_other xs
 
 module _ (d : Description) (f : Flat) (p : BusPlan) (m : Mapping) (w : IsWhole d f p m) where
   -- ---- the names of operations
@@ -229,6 +248,33 @@ module _ (d : Description) (f : Flat) (p : BusPlan) (m : Mapping) (w : IsWhole d
   words_are way y x = ap (λ o. option_map_or (λ (z : declared_operation.Operation). arguments_of d.types.data_types way z.arguments) (option_and_then (λ kind. operation_in kind y.item) o) []) x.is
       ∙ ap (λ o. option_map_or (λ (z : declared_operation.Operation). arguments_of d.types.data_types way z.arguments) o []) x.there
 
+  -- ---- the limits of a point
+
+  limits_kept : (way : Direction) (xs : List Argument) → list_all (is_sound_argument d.types.data_types) xs ≡ true → list_all limits_fit (arguments_of d.types.data_types way xs) ≡ true
+  limits_kept way xs each = all_if limits_fit (arguments_of d.types.data_types way xs)
+      (λ j l at.
+      let y = map_at (λ (a : Argument). limits_of d.types.data_types a.of_type) (filter (goes way) xs) j l at in
+      let x = kept_at (goes way) xs j y.item y.there in
+      subst (λ u. limits_fit u ≡ true) (sym y.is) (argument_fits d f p m w y.item (all_at (is_sound_argument d.types.data_types) xs x.place y.item each x.there)))
+
+  abbrev few_words : List Limits → List Limits → Bool
+  few_words ins outs = nat_le (length ins + length outs) 16 && (list_all limits_fit ins && list_all limits_fit outs)
+
+  few_arguments : (xs : List Argument) → nat_le (length xs) 16 ≡ true → list_all (is_sound_argument d.types.data_types) xs ≡ true → few_words (arguments_of d.types.data_types In xs) (arguments_of d.types.data_types Out xs) ≡ true
+  few_arguments xs few each =
+      and_from (nat_le (length (arguments_of d.types.data_types In xs) + length (arguments_of d.types.data_types Out xs)) 16) _
+      (ap (λ n. nat_le n 16) (arguments_count d.types.data_types xs) ∙ few)
+      (and_from (list_all limits_fit (arguments_of d.types.data_types In xs)) (list_all limits_fit (arguments_of d.types.data_types Out xs)) (limits_kept In xs each) (limits_kept Out xs each))
+
+  few_here : (y : Calling) → OperationAt (owner_of y) y.port y.item → few_words (point_words d f In y) (point_words d f Out y) ≡ true
+  few_here y x =
+      let h = port_has (owner_of y) y.port (ClientServer x.all) x.is in
+      let kept = operation_kept d f p m w h.port.interface h.interface x.all y.item x.operation h.has h.is x.there in
+      let sound = (and_parts (is_sound d.types.data_types x.operation) (list_all (λ (e : ApplicationError). is_in 1 63 e.code) x.operation.errors) kept).0 in
+      let parts = and_parts (nat_le (length x.operation.arguments) 16) (list_all (is_sound_argument d.types.data_types) x.operation.arguments && has_distinct_codes x.operation.errors) sound in
+      let each = (and_parts (list_all (is_sound_argument d.types.data_types) x.operation.arguments) (has_distinct_codes x.operation.errors) parts.1).0 in
+      (λ j. few_words (words_are In y x j) (words_are Out y x j)) ∙ few_arguments x.operation.arguments parts.0 each
+
   module _ (es : List ElemPlan) where
     abbrev of_runnable : Option ℕ → Option ℕ
     of_runnable None = None
@@ -242,39 +288,52 @@ module _ (d : Description) (f : Flat) (p : BusPlan) (m : Mapping) (w : IsWhole d
 
     -- ---- one operation, one caller
 
+    -- two calls of an instance by one name: the component, the port and the item are the same
+    pub record SameCalled (i j : ℕ) (y u : Calling) (z : InnerCall d f i y) (v : InnerCall d f j u) : Type 0 where
+      pub home : z.i ≡ v.i
+      pub component : z.c ≡ v.c
+      pub port : z.access.port ≡ v.access.port
+      pub item : z.access.item ≡ v.access.item
+
+    pub same_called : (i j : ℕ) (y u : Calling) (z : InnerCall d f i y) (v : InnerCall d f j u) → z.i ≡ v.i → same_numbers (point_of d f y).name (point_of d f u).name ≡ true → SameCalled i j y u z v
+    same_called i j y u z v homes same =
+        let text : item_text d f (Some z.i) z.access.port z.access.item ≡ item_text d f (Some z.i) v.access.port v.access.item =
+        ap (λ (c : Calling). (point_of d f c).name) (sym z.is.is) ∙ numbers_equal (point_of d f y).name (point_of d f u).name same ∙ ap (λ (c : Calling). (point_of d f c).name) v.is.is ∙ ap (λ n. item_text d f (Some n) v.access.port v.access.item) (sym homes) in
+        let at_v : OperationAt (Some z.i) v.access.port v.access.item = subst (λ n. OperationAt (Some n) v.access.port v.access.item) (sym homes) (inner_operation j u v) in
+        let operation = names_one (Some z.i) z.access.port v.access.port z.access.item v.access.item (inner_operation i y z) at_v text in
+        record { home = homes; component = same_home d f v.i z.c v.c (subst (λ n. Home d f n z.c) homes z.home) v.home; port = operation.0; item = operation.1 }
+
+    -- and where they stand at one access of one runnable, they are one call
+    pub same_access : (i j : ℕ) (y u : Calling) (z : InnerCall d f i y) (v : InnerCall d f j u) → SameCalled i j y u z v → (z.m ≡ v.m) × (z.j ≡ v.j) → i ≡ j
+    same_access i j y u z v x same =
+        let there : slice_get z.c.behavior.runnables v.m ≡ Some v.runnable = subst (λ (c : Component). slice_get c.behavior.runnables v.m ≡ Some v.runnable) (sym x.component) v.there in
+        let runnable : z.runnable ≡ v.runnable = same_Some z.runnable v.runnable (sym z.there ∙ ap (slice_get z.c.behavior.runnables) same.0 ∙ there) in
+        z.place ∙ (λ t. call_place d f (x.home t) (x.component t) (same.0 t) (runnable t) (same.1 t)) ∙ sym v.place
+
     same_inner : (i j : ℕ) (y u : Calling) (z : InnerCall d f i y) (v : InnerCall d f j u) → same_operation (planned d f es) (point_of d f y) (point_of d f u) ≡ true → (y.asynchronous || u.asynchronous) ≡ true → i ≡ j
     same_inner i j y u z v same goes =
         let two = and_parts (same_numbers (point_of d f y).name (point_of d f u).name) (same_number (of_runnable (point_of d f y).runnable) (of_runnable (point_of d f u).runnable)) same in
         let homes : z.i ≡ v.i = same_Some z.i v.i (sym (inner_home i y z) ∙ option_same (of_runnable (point_of d f y).runnable) (of_runnable (point_of d f u).runnable) two.1 ∙ inner_home j u v) in
-        let text : item_text d f (Some z.i) z.access.port z.access.item ≡ item_text d f (Some z.i) v.access.port v.access.item =
-        ap (λ (c : Calling). (point_of d f c).name) (sym z.is.is) ∙ numbers_equal (point_of d f y).name (point_of d f u).name two.0 ∙ ap (λ (c : Calling). (point_of d f c).name) v.is.is ∙ ap (λ n. item_text d f (Some n) v.access.port v.access.item) (sym homes) in
-        let at_v : OperationAt (Some z.i) v.access.port v.access.item = subst (λ n. OperationAt (Some n) v.access.port v.access.item) (sym homes) (inner_operation j u v) in
-        let operation = names_one (Some z.i) z.access.port v.access.port z.access.item v.access.item (inner_operation i y z) at_v text in
-        let comp : z.c ≡ v.c = same_home d f v.i z.c v.c (subst (λ n. Home d f n z.c) homes z.home) v.home in
-        let there : slice_get z.c.behavior.runnables v.m ≡ Some v.runnable = subst (λ (c : Component). slice_get c.behavior.runnables v.m ≡ Some v.runnable) (sym comp) v.there in
-        by_goes (or_cases y.asynchronous u.asynchronous goes) homes comp there operation.0 operation.1
+        let x = same_called i j y u z v homes two.0 in
+        let there : slice_get z.c.behavior.runnables v.m ≡ Some v.runnable = subst (λ (c : Component). slice_get c.behavior.runnables v.m ≡ Some v.runnable) (sym x.component) v.there in
+        by_goes (or_cases y.asynchronous u.asynchronous goes) x there
       where
-        place : (homes : z.i ≡ v.i) (comp : z.c ≡ v.c) → slice_get z.c.behavior.runnables v.m ≡ Some v.runnable → (z.m ≡ v.m) × (z.j ≡ v.j) → i ≡ j
-        place homes comp there same =
-            let runnable : z.runnable ≡ v.runnable = same_Some z.runnable v.runnable (sym z.there ∙ ap (slice_get z.c.behavior.runnables) same.0 ∙ there) in
-            z.place ∙ (λ t. call_place d f (homes t) (comp t) (same.0 t) (runnable t) (same.1 t)) ∙ sym v.place
-
         goes_on_at : (k : AccessKind) (b : Bool) → Calls k b → b ≡ true → k ≡ kind.ACall
         goes_on_at k b calls is = goes_is k (subst (λ x. Calls k x) is calls)
 
-        by_goes : (y.asynchronous ≡ true) ⊎ (u.asynchronous ≡ true) → z.i ≡ v.i → z.c ≡ v.c → slice_get z.c.behavior.runnables v.m ≡ Some v.runnable → z.access.port ≡ v.access.port → z.access.item ≡ v.access.item → i ≡ j
-        by_goes (inl a) homes comp there port item =
-            place homes comp there (called_once d f p m w z.home.instance.component z.c z.home.has z.m v.m z.runnable v.runnable z.there there z.j v.j z.access v.access z.here v.here
-            (goes_on_at z.access.kind z.is.asynchronous z.is.calls (ap (λ (c : Calling). c.asynchronous) (sym z.is.is) ∙ a)) v.is.asynchronous v.is.calls port item)
-        by_goes (inr a) homes comp there port item =
+        by_goes : (y.asynchronous ≡ true) ⊎ (u.asynchronous ≡ true) → SameCalled i j y u z v → slice_get z.c.behavior.runnables v.m ≡ Some v.runnable → i ≡ j
+        by_goes (inl a) x there =
+            same_access i j y u z v x (called_once d f p m w z.home.instance.component z.c z.home.has z.m v.m z.runnable v.runnable z.there there z.j v.j z.access v.access z.here v.here
+            (goes_on_at z.access.kind z.is.asynchronous z.is.calls (ap (λ (c : Calling). c.asynchronous) (sym z.is.is) ∙ a)) v.is.asynchronous v.is.calls x.port x.item)
+        by_goes (inr a) x there =
             let back = called_once d f p m w z.home.instance.component z.c z.home.has v.m z.m v.runnable z.runnable there z.there v.j z.j v.access z.access v.here z.here
-            (goes_on_at v.access.kind v.is.asynchronous v.is.calls (ap (λ (c : Calling). c.asynchronous) (sym v.is.is) ∙ a)) z.is.asynchronous z.is.calls (sym port) (sym item) in
-            place homes comp there (sym back.0, sym back.1)
+            (goes_on_at v.access.kind v.is.asynchronous v.is.calls (ap (λ (c : Calling). c.asynchronous) (sym v.is.is) ∙ a)) z.is.asynchronous z.is.calls (sym x.port) (sym x.item) in
+            same_access i j y u z v x (sym back.0, sym back.1)
 
-    same_outer : (i j : ℕ) (y u : Calling) → OuterCall d f i y → OuterCall d f j u → same_operation (planned d f es) (point_of d f y) (point_of d f u) ≡ true → i ≡ j
+    -- the environment has one point of a name
+    pub same_outer : (i j : ℕ) (y u : Calling) → OuterCall d f i y → OuterCall d f j u → same_numbers (point_of d f y).name (point_of d f u).name ≡ true → i ≡ j
     same_outer i j y u z v same =
-        let two = and_parts (same_numbers (point_of d f y).name (point_of d f u).name) (same_number (of_runnable (point_of d f y).runnable) (of_runnable (point_of d f u).runnable)) same in
-        let text : item_text d f None z.k z.n ≡ item_text d f None v.k v.n = ap (λ (c : Calling). (point_of d f c).name) (sym z.is) ∙ numbers_equal (point_of d f y).name (point_of d f u).name two.0 ∙ ap (λ (c : Calling). (point_of d f c).name) v.is in
+        let text : item_text d f None z.k z.n ≡ item_text d f None v.k v.n = ap (λ (c : Calling). (point_of d f c).name) (sym z.is) ∙ numbers_equal (point_of d f y).name (point_of d f u).name same ∙ ap (λ (c : Calling). (point_of d f c).name) v.is in
         let operation = names_one None z.k v.k z.n v.n (outer_at i y z) (outer_at j u v) text in
         z.place ∙ (λ t. length (inner d f) + (Rattle.sound_behavior.proofs.Lists.before (Rattle.plan_services.specs.Callings.outer_callings d) 0 (root_ports d) (operation.0 t) + operation.1 t)) ∙ sym v.place
 
@@ -286,7 +345,8 @@ module _ (d : Description) (f : Flat) (p : BusPlan) (m : Mapping) (w : IsWhole d
 
         by : (slice_get (inner d f) i ≡ Some y) ⊎ Later Calling (inner d f) (outer d f) i y → (slice_get (inner d f) j ≡ Some u) ⊎ Later Calling (inner d f) (outer d f) j u → i ≡ j
         by (inl a) (inl b) = same_inner i j y u (inner_call d f i y a) (inner_call d f j u b) same goes
-        by (inr a) (inr b) = same_outer i j y u (outer_call d f i y a) (outer_call d f j u b) same
+        by (inr a) (inr b) = same_outer i j y u (outer_call d f i y a) (outer_call d f j u b)
+            (and_parts (same_numbers (point_of d f y).name (point_of d f u).name) (same_number (of_runnable (point_of d f y).runnable) (of_runnable (point_of d f u).runnable)) same).0
         by (inl a) (inr b) = let z = inner_call d f i y a in not_some z.i (sym (outer_home j u (outer_call d f j u b)) ∙ sym homes ∙ inner_home i y z)
         by (inr a) (inl b) = let z = inner_call d f j u b in not_some z.i (sym (outer_home i y (outer_call d f i y a)) ∙ homes ∙ inner_home j u z)
 
@@ -327,20 +387,22 @@ module _ (d : Description) (f : Flat) (p : BusPlan) (m : Mapping) (w : IsWhole d
         (limits_same (point_words d f In y) (argument_limits false s.arguments) (words_are In y x ∙ sym (by.serves.arguments In) ∙ sym (in_limits d by.provides.operation.arguments) ∙ ap (argument_limits false) (sym arguments)))
         (limits_same (point_words d f Out y) (argument_limits true s.arguments) (words_are Out y x ∙ sym (by.serves.arguments Out) ∙ sym (out_limits d by.provides.operation.arguments) ∙ ap (argument_limits true) (sym arguments)))
 
-    arguments_here : (q : ℕ) (t : PointPlan) → slice_get (points d f) q ≡ Some t → arguments_fit t t.server ≡ true
+    abbrev are_few : PointPlan → Bool
+    are_few t = few_words t.ins t.outs
+
+    point_fits : (y : Calling) → OperationAt (owner_of y) y.port y.item → (are_few (point_of d f y) && arguments_fit (point_of d f y) (point_of d f y).server) ≡ true
+    point_fits y x =
+        and_from (are_few (point_of d f y)) (arguments_fit (point_of d f y) (point_of d f y).server) (few_here y x)
+        (server_arguments y x (provider_of f.joins (end_at (owner_of y) y.port y.item)) refl)
+
+    arguments_here : (q : ℕ) (t : PointPlan) → slice_get (points d f) q ≡ Some t → (are_few t && arguments_fit t t.server) ≡ true
     arguments_here q t at =
         let y = map_at (point_of d f) (callings d f) q t at in
-        subst (λ (u : PointPlan). arguments_fit u u.server ≡ true) (sym y.is) (by y.item (append_at (inner d f) (outer d f) q y.item y.there))
+        subst (λ (u : PointPlan). (are_few u && arguments_fit u u.server) ≡ true) (sym y.is) (by y.item (append_at (inner d f) (outer d f) q y.item y.there))
       where
-        by : (y : Calling) → (slice_get (inner d f) q ≡ Some y) ⊎ Later Calling (inner d f) (outer d f) q y → arguments_fit (point_of d f y) (point_of d f y).server ≡ true
-        by y (inl a) =
-            let z = inner_call d f q y a in
-            let x : OperationAt (owner_of y) y.port y.item = subst (λ (u : Calling). OperationAt (owner_of u) u.port u.item) (sym z.is.is) (inner_operation q y z) in
-            server_arguments y x (provider_of f.joins (end_at (owner_of y) y.port y.item)) refl
-        by y (inr l) =
-            let z = outer_call d f q y l in
-            let x : OperationAt (owner_of y) y.port y.item = subst (λ (u : Calling). OperationAt (owner_of u) u.port u.item) (sym z.is) (outer_at q y z) in
-            server_arguments y x (provider_of f.joins (end_at (owner_of y) y.port y.item)) refl
+        by : (y : Calling) → (slice_get (inner d f) q ≡ Some y) ⊎ Later Calling (inner d f) (outer d f) q y → (are_few (point_of d f y) && arguments_fit (point_of d f y) (point_of d f y).server) ≡ true
+        by y (inl a) = let z = inner_call d f q y a in point_fits y (subst (λ (u : Calling). OperationAt (owner_of u) u.port u.item) (sym z.is.is) (inner_operation q y z))
+        by y (inr l) = let z = outer_call d f q y l in point_fits y (subst (λ (u : Calling). OperationAt (owner_of u) u.port u.item) (sym z.is) (outer_at q y z))
 
     all_fit : points_fit (planned d f es) ≡ true
     all_fit =
@@ -351,7 +413,7 @@ module _ (d : Description) (f : Flat) (p : BusPlan) (m : Mapping) (w : IsWhole d
         (every_if (λ j (c : PointPlan). (i == j) || (not (same_operation (planned d f es) a c) || not (a.asynchronous || c.asynchronous))) 0 (points d f)
         (λ j c t. let nought : j ≡ 0 + j = omega arith in
         subst (λ k. ((i == k) || (not (same_operation (planned d f es) a c) || not (a.asynchronous || c.asynchronous))) ≡ true) nought (one_caller i a s j c t)))))
-        (all_if (λ (t : PointPlan). arguments_fit t t.server) (points d f) arguments_here)
+        (all_if (λ (t : PointPlan). are_few t && arguments_fit t t.server) (points d f) arguments_here)
 
 pub operations_sound : (d : Description) (f : Flat) (p : BusPlan) (m : Mapping) → IsWhole d f p m → points_fit (plan_of p) ≡ true
 operations_sound d f p m w = (λ j. points_fit (plan_is d f p w.is_plan j)) ∙ all_fit d f p m w p.elements

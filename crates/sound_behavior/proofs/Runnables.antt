@@ -1,11 +1,13 @@
 -- Runnables are sound: their accesses, their programs, and the arguments of what they serve.
-use Rattle.std.proofs.Common.{◌≡◌, ℕ, zero, suc, ◌+◌, Bool, true, false, cond, ◌&&◌, ◌||◌, not, ◌==◌, refl, sym, ◌∙◌, ap, subst, arith, List, [], ◌∷◌, ◌++◌, map, length, Option, Some, None, option_map, option_and_then}
-use Rattle.std.proofs.lemmas.Bool.{and_from, and_parts, eq-eqb, ne_eqb}
+use Rattle.std.proofs.Common.{◌≡◌, ℕ, zero, suc, ◌+◌, ◌<◌, Bool, true, false, cond, ◌&&◌, ◌||◌, not, ◌==◌, refl, sym, ◌∙◌, ap, subst, arith, List, [], ◌∷◌, ◌++◌, map, length, Option, Some, None, option_map, option_and_then}
+use Rattle.std.proofs.lemmas.Bool.{and_from, and_parts, eq-eqb, false≢true, lt-ltb, ltb-true, ne_eqb}
 use Rattle.std.proofs.lemmas.List.{length-map}
 use Rattle.std.proofs.lemmas.Option.{same_Some}
 use Rattle.std.specs.Prelude.{nat_lt, nat_le, is_none}
 use Rattle.std.specs.List.{slice_get, list_any, list_all}
 use Rattle.std.specs.Option.{option_map_or}
+use Rattle.runnable_lang.specs.declared.program.AccessKind.{AccessKind}
+use Rattle.runnable_lang.specs.declared.program.AccessKind.TheVariants as kind
 use Rattle.runnable_lang.specs.declared.program.AccessSig.{AccessSig}
 use Rattle.runnable_lang.specs.Costs.{body_cost}
 use Rattle.runnable_lang.specs.Places.{first}
@@ -32,6 +34,7 @@ use Rattle.bus_semantics.specs.Plan.{Runnable, plan_of, look, every_from}
 use Rattle.bus_semantics.specs.SoundAccesses as sound
 use Rattle.bus_semantics.specs.SoundAccesses.{access_sound, each_access}
 use Rattle.bus_semantics.specs.SoundPrograms.{is_well_formed, body_sound, has_arguments, runnable_sound}
+use Rattle.bus_semantics.specs.State.{same_kind}
 use Rattle.component_rules.specs.Programs.{program_refusal, path_of}
 use Rattle.component_rules.specs.Signatures.{access_sig, signature}
 use Rattle.plan_elements.specs.Elements.{elem_seen, elements}
@@ -40,15 +43,15 @@ use Rattle.plan_runnables.specs.Started.{target_of, served_by, served_number, ru
 use Rattle.plan_services.specs.Services.{argument_of, server_at, servers}
 use Rattle.sound_descriptions.specs.WellFormed as formed
 use Rattle.planned_descriptions.specs.Whole.{IsWhole}
-use Rattle.sound_behavior.proofs.Lists.{not_some, every_if, looked}
-use Rattle.sound_behavior.proofs.Parts.{RunnableAt, runnable_at}
+use Rattle.sound_behavior.proofs.Lists.{not_some, all_at, every_if, looked}
+use Rattle.sound_behavior.proofs.Parts.{Home, RunnableAt, area_count, number_is, pairs_in, runnable_at, start}
 use Rattle.sound_behavior.proofs.Rules.{planned, plan_is, program_kept, runnable_formed, serves_formed}
 use Rattle.sound_behavior.proofs.Serving.{Provides, provided_by, server_there}
 use Rattle.sound_behavior.proofs.Servers.{served_is, alone, operation_is}
 use Rattle.sound_behavior.proofs.Events.{elements_seen}
 use Rattle.sound_behavior.proofs.Uses.{use_sound}
 
--- what is said of accepted programs (laws of `bus_semantics`)
+-- what is said of accepted programs (laws of `bus_laws`)
 pub record Accepted : Type 0 where
   pub statements : (r : Runnable) → program.refusal r.accesses r.program ≡ None → is_well_formed r.program ≡ true → body_sound r r.program.body [] ≡ true
   pub cost : (r : Runnable) → program.refusal r.accesses r.program ≡ None → nat_le (body_cost r.program.body) 100000 ≡ true
@@ -99,6 +102,41 @@ any_same types c a (b ∷ xs) = ap (λ r. formed.same_access a b || r) (any_same
 same_distinct : (types : TypeTable) (c : Component) (xs : List Access) → sound.accesses_distinct (map (access_sig types c) xs) ≡ formed.accesses_distinct xs
 same_distinct types c [] = refl
 same_distinct types c (a ∷ xs) = λ j. not (any_same types c a xs j) && same_distinct types c xs j
+
+-- ---- areas
+
+enters_is : (k : AccessKind) → same_kind k kind.Enter ≡ true → k ≡ kind.Enter
+enters_is kind.Enter e = refl
+enters_is k e = absurd (false≢true e)
+
+module _ (d : Description) (f : Flat) (i : ℕ) (c : Component) (home : Home d f i c) (m : ℕ) where
+  area_within : (a : Access) → formed.access_fits d.types c a ≡ true → same_kind a.kind kind.Enter ≡ true → a.item < length c.behavior.exclusive_areas
+  area_within a fits enters = ltb-true a.item (length c.behavior.exclusive_areas) (subst (λ k. formed.access_fits d.types c (record { kind = k; port = a.port; item = a.item }) ≡ true) (enters_is a.kind enters) fits)
+
+  -- the number of an area is the instance's first plus its position
+  area_number : (a : Access) → formed.access_fits d.types c a ≡ true → same_kind a.kind kind.Enter ≡ true → target_of d f i m a ≡ start d f (pairs_in d f area_count) i + a.item
+  area_number a fits enters =
+      ap (λ k. target_of d f i m (record { kind = k; port = a.port; item = a.item })) (enters_is a.kind enters)
+      ∙ number_is d f area_count i c home a.item (area_within a fits enters)
+
+  area_rises : (a b : Access) → formed.access_fits d.types c a ≡ true → formed.access_fits d.types c b ≡ true → sound.rises_to (access_sig d.types c a) (target_of d f i m a) (access_sig d.types c b) (target_of d f i m b) ≡ true
+  area_rises a b fits_a fits_b = by (same_kind a.kind kind.Enter) (same_kind b.kind kind.Enter) (nat_lt a.item b.item) refl refl refl
+    where
+      by : (u v l : Bool) → same_kind a.kind kind.Enter ≡ u → same_kind b.kind kind.Enter ≡ v → nat_lt a.item b.item ≡ l → (not ((u && v) && l) || nat_lt (target_of d f i m a) (target_of d f i m b)) ≡ true
+      by true true true enters_a enters_b less =
+          let x : target_of d f i m a ≡ start d f (pairs_in d f area_count) i + a.item = area_number a fits_a enters_a in
+          let y : target_of d f i m b ≡ start d f (pairs_in d f area_count) i + b.item = area_number b fits_b enters_b in
+          let before : a.item < b.item = ltb-true a.item b.item less in
+          lt-ltb (target_of d f i m a) (target_of d f i m b) (omega arith)
+      by true true false enters_a enters_b less = refl
+      by true false l enters_a enters_b less = refl
+      by false v l enters_a enters_b less = refl
+
+  all_rise : (xs : List Access) → list_all (formed.access_fits d.types c) xs ≡ true → sound.areas_rise (map (access_sig d.types c) xs) (map (target_of d f i m) xs) ≡ true
+  all_rise xs fits =
+      each_mapped (λ a t. each_access (sound.rises_to a t) (map (access_sig d.types c) xs) (map (target_of d f i m) xs)) (access_sig d.types c) (target_of d f i m) xs
+      (λ j a at_a. each_mapped (sound.rises_to (access_sig d.types c a) (target_of d f i m a)) (access_sig d.types c) (target_of d f i m) xs
+      (λ k b at_b. area_rises a b (all_at (formed.access_fits d.types c) xs j a fits at_a) (all_at (formed.access_fits d.types c) xs k b fits at_b)))
 
 module _ (d : Description) (f : Flat) (p : BusPlan) (m : Mapping) (w : IsWhole d f p m) where
   -- ---- the arguments of what a runnable serves
@@ -184,7 +222,8 @@ module _ (d : Description) (f : Flat) (p : BusPlan) (m : Mapping) (w : IsWhole d
           (and_from (each_access (access_sound (planned d f es) q (Some x.i)) (map (access_sig d.types x.c) x.runnable.accesses) (map (target_of d f x.i x.m) x.runnable.accesses)) _
           (each_mapped (access_sound (planned d f es) q (Some x.i)) (access_sig d.types x.c) (target_of d f x.i x.m) x.runnable.accesses
           (λ j a at. subst (λ k. access_sound (planned d f es) k (Some x.i) (access_sig d.types x.c a) (target_of d f x.i x.m a) ≡ true) x.number (use_sound d f p m w es seen_as x.i x.c x.home x.m x.runnable x.there j a at)))
-          (and_from (sound.accesses_distinct (map (access_sig d.types x.c) x.runnable.accesses)) _ (same_distinct d.types x.c x.runnable.accesses ∙ fits.1)
+          (and_from (sound.accesses_distinct (map (access_sig d.types x.c) x.runnable.accesses) && sound.areas_rise (map (access_sig d.types x.c) x.runnable.accesses) (map (target_of d f x.i x.m) x.runnable.accesses)) _
+          (and_from (sound.accesses_distinct (map (access_sig d.types x.c) x.runnable.accesses)) _ (same_distinct d.types x.c x.runnable.accesses ∙ fits.1) (all_rise d f x.i x.c x.home x.m x.runnable.accesses fits.0))
           (and_from (body_sound mine mine.program.body []) _ (accepted.statements mine program_accepted fits.2)
           (and_from (nat_le (body_cost mine.program.body) 100000) _ (accepted.cost mine program_accepted)
           (and_from (nat_le mine.program.vars 256) (has_arguments (planned d f es) mine) (accepted.vars mine program_accepted)

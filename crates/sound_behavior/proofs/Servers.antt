@@ -141,7 +141,7 @@ module _ (d : Description) (f : Flat) (p : BusPlan) (m : Mapping) (w : IsWhole d
       let kept : formed.kind_fits d.types (ClientServer all) ≡ true = subst (λ k. formed.kind_fits d.types k ≡ true) is (all_at (λ (i : Interface). formed.kind_fits d.types i.kind) d.types.interfaces i x kinds at) in
       all_at (formed.operation_fits d.types.data_types) all n o (and_parts (formed.names_fit (map (λ (o : Operation). o.short_name) all)) (list_all (formed.operation_fits d.types.data_types) all) kept).1 there
 
-  argument_fits : (a : Argument) → is_sound_argument d.types.data_types a ≡ true → limits_fit (limits_of d.types.data_types a.of_type) ≡ true
+  pub argument_fits : (a : Argument) → is_sound_argument d.types.data_types a ≡ true → limits_fit (limits_of d.types.data_types a.of_type) ≡ true
   argument_fits a e = by (slice_get d.types.data_types a.of_type) refl (and_parts (one_word (slice_get d.types.data_types a.of_type)) _ e).0
     where
       by : (o : Option DataType) → slice_get d.types.data_types a.of_type ≡ o → one_word o ≡ true → limits_fit (option_map_or (λ (t : DataType). t.limits) o (record { low = pos 0; high = pos 0 })) ≡ true

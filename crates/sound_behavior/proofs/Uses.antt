@@ -262,8 +262,10 @@ module _ (d : Description) (f : Flat) (p : BusPlan) (m : Mapping) (w : IsWhole d
             and_from (switch_fits (planned d f es) (Some i) (machine_number d f (Some i, Some port, 0)) 0) _
             (looked (machines d f) (machine_number d f (Some i, Some port, 0)) (machine_at d f (Some i) port) (λ (n : MachinePlan). same_number n.instance (Some i) && nat_lt 0 (length n.modes)) false machine
             ∙ and_from (same_number (Some i) (Some i)) (nat_lt 0 (length (machine_at d f (Some i) port).modes)) (same_option (Some i) (Some i) refl) (ap (λ ms. nat_lt 0 (length ms)) modes ∙ many))
+            (and_from (option_map_or (λ (z : PortKind × Item). signatures.mode_count z.1) (item_at d.types c.ports port n) 0 == modes_of (planned d f es) (machine_number d f (Some i, Some port, 0))) (n == 0)
             (eq-eqb (option_map_or (λ (z : PortKind × Item). signatures.mode_count z.1) (item_at d.types c.ports port n) 0) (modes_of (planned d f es) (machine_number d f (Some i, Some port, 0)))
             (count_found kind.Switch x x.needed.0 x.needed.2 ∙ sym count))
+            (and_parts (nat_lt port (length c.ports)) (n == 0) (fit kind.Switch at)).1)
           where
             some_modes : (n : ℕ) → is_in 1 32 n ≡ true → nat_lt 0 n ≡ true
             some_modes n e = let l = leb-true 1 n (and_parts (nat_le 1 n) (nat_le n 32) e).0 in lt-ltb 0 n (omega arith)

@@ -1,5 +1,5 @@
--- No chain of waiting calls comes back: a wait in the plan is one in the description, whose tasks have an order.
-use Rattle.std.proofs.Common.{◌≡◌, ℕ, zero, suc, ◌+◌, ◌≤◌, Bool, true, false, cond, ◌&&◌, not, ◌==◌, nat_eq, refl, sym, ◌∙◌, ap, subst, arith, List, [], ◌∷◌, length, Option, Some, None, option_map, option_and_then, ◌⊎◌, inl, inr}
+-- The tasks have an order along waiting calls: a wait in the plan is one in the description, whose tasks have one.
+use Rattle.std.proofs.Common.{◌≡◌, ℕ, zero, suc, ◌+◌, Bool, true, false, cond, ◌&&◌, not, ◌==◌, nat_eq, refl, sym, ◌∙◌, ap, subst, arith, List, [], ◌∷◌, length, Option, Some, None, option_map, option_and_then, ◌⊎◌, inl, inr}
 use Rattle.std.specs.Prelude.{is_some}
 use Rattle.std.specs.List.{slice_get, list_any, flat_map}
 use Rattle.std.specs.Option.{option_map_or}
@@ -207,14 +207,10 @@ module _ (d : Description) (f : Flat) (p : BusPlan) (m : Mapping) (w : IsWhole d
             let e2 = subst (λ u. (not (point_of d f u).asynchronous && (is_in_task a (point_of d f u).runnable && is_in_task b (sound.server_runnable (planned d f es) (point_of d f u).server))) ≡ true) z.is e in
             absurd (false≢true e2)
 
-    -- ---- chains
+    -- ---- the order
 
-    rises : (n a c : ℕ) → sound.Chain (planned d f es) (mapping_of d f) n a c → w.has_order.0 a + n ≤ w.has_order.0 c
-    rises zero a c is = let same : w.has_order.0 a ≡ w.has_order.0 c = ap w.has_order.0 is in omega arith
-    rises (suc n) a c chain = let up = w.has_order.1 a chain.0 (wait_is a chain.0 chain.1) in let more = rises n chain.0 c chain.2 in omega arith
+    pub order : sound.WaitOrder (planned d f es) (mapping_of d f)
+    order = record { rank = w.has_order.0; later = λ a c waits. w.has_order.1 a c (wait_is a c waits) }
 
-    pub no_circle : (t n : ℕ) → sound.Chain (planned d f es) (mapping_of d f) (suc n) t t → ⊥
-    no_circle t n chain = let up = rises (suc n) t t chain in omega arith
-
-pub chains_sound : (d : Description) (f : Flat) (p : BusPlan) (m : Mapping) → IsWhole d f p m → (t n : ℕ) → sound.Chain (plan_of p) m (suc n) t t → ⊥
-chains_sound d f p m w t n = subst (λ (P : Plan). sound.Chain P m (suc n) t t → ⊥) (sym (plan_is d f p w.is_plan)) (subst (λ u. sound.Chain (planned d f p.elements) u (suc n) t t → ⊥) (sym w.is_mapping) (no_circle d f p m w p.elements t n))
+pub order_sound : (d : Description) (f : Flat) (p : BusPlan) (m : Mapping) → IsWhole d f p m → sound.WaitOrder (plan_of p) m
+order_sound d f p m w = subst (λ (P : Plan). sound.WaitOrder P m) (sym (plan_is d f p w.is_plan)) (subst (sound.WaitOrder (planned d f p.elements)) (sym w.is_mapping) (order d f p m w p.elements))

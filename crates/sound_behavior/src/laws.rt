@@ -1,18 +1,20 @@
 //! Laws of sound plans, each a field of `IsSound`.
 
-ghost use Rattle.std.specs.Prelude.{◌≡◌, ℕ, suc, true, ◌&&◌, length, nat_le};
+ghost use Rattle.std.specs.Prelude.{◌≡◌, true, ◌&&◌, length, map, nat_le};
 ghost use Rattle.description_types.specs.declared.description.Description.{Description};
 ghost use Rattle.composition_flatten.specs.declared.flat.Flat.{Flat};
 ghost use Rattle.bus_semantics.specs.declared.plan.BusPlan.{BusPlan};
+ghost use Rattle.bus_semantics.specs.declared.plan.PointPlan.{PointPlan};
 ghost use Rattle.bus_semantics.specs.declared.script.Mapping.{Mapping};
 ghost use Rattle.bus_semantics.specs.Plan.{plan_of, every_from};
-ghost use Rattle.bus_semantics.specs.Sound.{Chain, mapping_fits};
+ghost use Rattle.bus_semantics.specs.Sound.{WaitOrder, mapping_fits};
 ghost use Rattle.bus_semantics.specs.SoundAccesses.{points_arranged, points_fit};
+ghost use Rattle.bus_semantics.specs.SoundNames.{caller_rank, named_once};
 ghost use Rattle.bus_semantics.specs.SoundPrograms.{runnable_sound};
 ghost use Rattle.bus_semantics.specs.SoundEvents.{direct_sound, event_sound, server_served, serves_back};
 ghost use Rattle.planned_descriptions.specs.Whole.{IsWhole};
 
-use bus_semantics::accepted_programs_are_sound;
+use bus_laws::accepted_programs_are_sound;
 
 /// The tasks fit the plan (SWS_RTE, RteEventToTaskMapping): cores, names and events are in range, each event is mapped
 /// as often as it is owed, a server's where it has a queue, and the events of a runnable are in one task.
@@ -46,22 +48,30 @@ pub fn points_stand_by_caller()
 {}
 
 /// An operation that an instance or the environment calls without waiting has no other point there (Software Component
-/// Template, AsynchronousServerCallPoint); a point that is joined to a server has its arguments, word for word.
+/// Template, AsynchronousServerCallPoint). A point has at most 16 arguments, each with limits of a base type's range; one
+/// that is joined to a server has its arguments, word for word.
 pub fn points_fit_their_servers()
     ensures { (d : Description) (f : Flat) (p : BusPlan) (m : Mapping) → IsWhole d f p m → points_fit (plan_of p) ≡ true }
 {}
 
+/// No runnable, and not the environment, has two points of one name (Software Component Template, ServerCallPoint).
+pub fn points_are_named_once()
+    ensures { (d : Description) (f : Flat) (p : BusPlan) (m : Mapping) → IsWhole d f p m →
+        named_once (map (λ (t : PointPlan). (caller_rank (plan_of p) t, t.name)) (plan_of p).points) ≡ true }
+{}
+
 /// Runnables are sound (Software Component Template, RunnableEntity): what an access names is there, of the instance, and
-/// takes its words; the accesses are distinct; each statement of the program has its access and stands where it may; the
-/// program costs at most 100,000 and has at most 256 variables, and a server's has one for each argument and one more.
+/// takes its words; the accesses are distinct; of two areas the one that is declared later has the greater number; each
+/// statement of the program has its access and stands where it may; the program costs at most 100,000 and has at most 256
+/// variables, and a server's has one for each argument and one more.
 pub fn runnables_fit()
     ensures { (d : Description) (f : Flat) (p : BusPlan) (m : Mapping) → IsWhole d f p m → every_from 0 (runnable_sound (plan_of p)) (plan_of p).runnables ≡ true }
 {
     accepted_programs_are_sound();
 }
 
-/// No chain of waiting calls leads from a task back to it (SWS_RTE, synchronous calls): each call of a queued server by
-/// `call` goes from a task to one that stands later in an order of the tasks.
-pub fn waits_never_return()
-    ensures { (d : Description) (f : Flat) (p : BusPlan) (m : Mapping) → IsWhole d f p m → (t n : ℕ) → Chain (plan_of p) m (suc n) t t → ⊥ }
+/// Waiting calls have an order (SWS_RTE, synchronous calls): each call of a queued server by `call` goes from a task to one
+/// of a greater rank, so no chain of them leads back to its task.
+pub fn waits_are_ordered()
+    ensures { (d : Description) (f : Flat) (p : BusPlan) (m : Mapping) → IsWhole d f p m → WaitOrder (plan_of p) m }
 {}

@@ -6,6 +6,6 @@
 mod laws;
 
 pub use laws::{
-    direct_servers_fit, events_fit, points_fit_their_servers, points_stand_by_caller,
-    runnables_fit, servers_serve, tasks_fit, waits_never_return,
+    direct_servers_fit, events_fit, points_are_named_once, points_fit_their_servers,
+    points_stand_by_caller, runnables_fit, servers_serve, tasks_fit, waits_are_ordered,
 };

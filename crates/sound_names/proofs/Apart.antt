@@ -73,7 +73,7 @@ module _ {X Y : Type 0} (number : Y → ℕ) (f : ℕ → X → List Y) where
 
 -- ---- names within instances
 
-named_is : (a b : Named) → same_named a b ≡ true → a ≡ b
+pub named_is : (a b : Named) → same_named a b ≡ true → a ≡ b
 named_is a b h =
     let p = and_parts (nat_eq a.0 b.0) (same_numbers a.1 b.1) h in
     let number : a.0 ≡ b.0 = eqb-true a.0 b.0 p.0 in

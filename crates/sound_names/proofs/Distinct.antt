@@ -1,6 +1,5 @@
 -- Within an instance, and of one kind, no two things have one name.
 use Rattle.std.proofs.Common.{◌≡◌, ℕ, ◌+◌, List, [], ◌∷◌, map, slice_get, true, Option, Some, None, refl, sym, ap, subst, ◌∙◌}
-use Rattle.std.proofs.lemmas.Bool.{and_from}
 use mathlib.Core.List.{map-map}
 use Rattle.std.specs.List.{list_all}
 use Rattle.std.specs.Option.{option_map_or, unwrap_or}
@@ -21,7 +20,7 @@ use Rattle.bus_semantics.specs.declared.plan.ModePortPlan.{ModePortPlan}
 use Rattle.bus_semantics.specs.declared.plan.ServerPlan.{ServerPlan}
 use Rattle.bus_semantics.specs.Plan as bus
 use Rattle.bus_semantics.specs.Plan.{Runnable, instance_of}
-use Rattle.bus_semantics.specs.SoundNames.{Named, named_once, names_distinct}
+use Rattle.bus_semantics.specs.SoundNames.{Named, named_once}
 use Rattle.bus_semantics.specs.SoundPlan.{rank}
 use Rattle.plan_numbers.specs.declared.site.Site.{Site}
 use Rattle.plan_numbers.specs.Keys.{is_element, is_machine, is_mode_port, is_server, of_kind}
@@ -56,12 +55,12 @@ abbrev declared_named : ℕ → declared.Runnable → Named
 declared_named i r = (i, r.short_name)
 
 module _ (d : Description) (f : Flat) (whole : IsWellFormed d) (p : BusPlan) (is : seen p ≡ plan_of d f) where
-  names_once : IsFlatOf d f → named_once (map (λ t. (0, t)) p.names) ≡ true
+  pub names_once : IsFlatOf d f → named_once (map (λ t. (0, t)) p.names) ≡ true
   names_once flat = once (map (λ t. (0, t)) p.names) (apart_map (λ t. (0, t)) p.names (λ a b in_a in_b same. ap (λ (n : Named). n.1) same) (names_apart d f flat p is whole))
 
   -- ---- by sites
 
-  elements_once : named_once (map (λ (e : ElemPlan). (rank (bus.plan_of p) e.instance, e.name)) p.elements) ≡ true
+  pub elements_once : named_once (map (λ (e : ElemPlan). (rank (bus.plan_of p) e.instance, e.name)) p.elements) ≡ true
   elements_once =
       let by_seen : Elem → Named = (λ e. (rank (bus.plan_of p) e.instance, e.name)) in
       let by_site : Site → Named = (λ s. (rank (bus.plan_of p) s.owner, site_name d f s)) in
@@ -79,7 +78,7 @@ module _ (d : Description) (f : Flat) (whole : IsWellFormed d) (p : BusPlan) (is
       (ap (λ (n : Named). n.1) same))
       (apart_filter (λ (s : Site). is_element s.kind) (sites d f) (sites_apart d f)))
 
-  servers_once : named_once (map (λ (s : ServerPlan). (s.instance, s.name)) p.servers) ≡ true
+  pub servers_once : named_once (map (λ (s : ServerPlan). (s.instance, s.name)) p.servers) ≡ true
   servers_once =
       let by_site : Site → Named = (λ s. ((server_of d f s).instance, (server_of d f s).name)) in
       ap named_once (
@@ -95,7 +94,7 @@ module _ (d : Description) (f : Flat) (whole : IsWellFormed d) (p : BusPlan) (is
       (sym (server_name d f s x) ∙ ap (λ (n : Named). n.1) same ∙ server_name d f t y))
       (apart_filter (λ (s : Site). is_server s.kind) (sites d f) (sites_apart d f)))
 
-  machines_once : named_once (map (λ (n : MachinePlan). (rank (bus.plan_of p) n.instance, n.name)) p.machines) ≡ true
+  pub machines_once : named_once (map (λ (n : MachinePlan). (rank (bus.plan_of p) n.instance, n.name)) p.machines) ≡ true
   machines_once =
       let plan_at : Site → MachinePlan = (λ s. machine_at d f s.owner (unwrap_or s.port 0)) in
       let by_site : Site → Named = (λ s. (rank (bus.plan_of p) s.owner, (machine_at d f s.owner (unwrap_or s.port 0)).name)) in
@@ -114,7 +113,7 @@ module _ (d : Description) (f : Flat) (whole : IsWellFormed d) (p : BusPlan) (is
       (sym (machine_name d f s x) ∙ ap (λ (n : Named). n.1) same ∙ machine_name d f t y))
       (apart_filter (λ (s : Site). is_machine s.kind) (sites d f) (sites_apart d f)))
 
-  mode_ports_once : named_once (map (λ (t : ModePortPlan). (rank (bus.plan_of p) t.instance, t.name)) p.mode_ports) ≡ true
+  pub mode_ports_once : named_once (map (λ (t : ModePortPlan). (rank (bus.plan_of p) t.instance, t.name)) p.mode_ports) ≡ true
   mode_ports_once =
       let plan_at : Site → ModePortPlan = (λ s. mode_port_at d f s.owner (unwrap_or s.port 0)) in
       let by_site : Site → Named = (λ s. (rank (bus.plan_of p) s.owner, (mode_port_at d f s.owner (unwrap_or s.port 0)).name)) in
@@ -133,7 +132,7 @@ module _ (d : Description) (f : Flat) (whole : IsWellFormed d) (p : BusPlan) (is
       (sym (mode_port_name d f s x) ∙ ap (λ (n : Named). n.1) same ∙ mode_port_name d f t y))
       (apart_filter (has_machine f.joins) (of_kind is_mode_port d f) (apart_filter (λ (s : Site). is_mode_port s.kind) (sites d f) (sites_apart d f))))
 
-  modes_once : list_all (λ (n : MachinePlan). named_once (map (λ t. (0, t)) n.modes)) p.machines ≡ true
+  pub modes_once : list_all (λ (n : MachinePlan). named_once (map (λ t. (0, t)) n.modes)) p.machines ≡ true
   modes_once =
       ap (list_all (λ (n : MachinePlan). named_once (map (λ t. (0, t)) n.modes))) (machines_are d f p is)
       ∙ all_from (λ (n : MachinePlan). named_once (map (λ t. (0, t)) n.modes)) (machines d f)
@@ -146,7 +145,7 @@ module _ (d : Description) (f : Flat) (whole : IsWellFormed d) (p : BusPlan) (is
 
   -- ---- by instances
 
-  areas_once : named_once (map (λ (a : AreaPlan). (a.instance, a.name)) p.areas) ≡ true
+  pub areas_once : named_once (map (λ (a : AreaPlan). (a.instance, a.name)) p.areas) ≡ true
   areas_once =
       let by_plan : AreaPlan → Named = (λ a. (a.instance, a.name)) in
       ap named_once (
@@ -170,7 +169,7 @@ module _ (d : Description) (f : Flat) (whole : IsWellFormed d) (p : BusPlan) (is
       (λ a b same. sym (names (event_of d f i a)) ∙ ap (λ (n : Named). n.1) same ∙ names (event_of d f i b))
       (distinct_apart (map (λ (e : Event). e.short_name) c.behavior.events) (of_component d whole x.component c at).event_names.once))
 
-  events_once : named_once (map (λ (v : EventPlan). (rank (bus.plan_of p) (instance_of (bus.plan_of p) v.runnable), v.name)) p.events) ≡ true
+  pub events_once : named_once (map (λ (v : EventPlan). (rank (bus.plan_of p) (instance_of (bus.plan_of p) v.runnable), v.name)) p.events) ≡ true
   events_once =
       let by_plan : EventPlan → Named = (λ v. (rank (bus.plan_of p) (instance_of (bus.plan_of p) v.runnable), v.name)) in
       ap named_once (
@@ -201,7 +200,7 @@ module _ (d : Description) (f : Flat) (whole : IsWellFormed d) (p : BusPlan) (is
       let m = mapped (declared_named i) n c.behavior.runnables (subst (Among n) (runnables_named i c 0 c.behavior.runnables) h) in
       ap (λ (n : Named). n.0) m.2
 
-  runnables_once : named_once (map (λ (r : Runnable). (r.instance, r.name)) (bus.plan_of p).runnables) ≡ true
+  pub runnables_once : named_once (map (λ (r : Runnable). (r.instance, r.name)) (bus.plan_of p).runnables) ≡ true
   runnables_once =
       let by_plan : Runnable → Named = plan_named in
       ap named_once (
@@ -211,8 +210,3 @@ module _ (d : Description) (f : Flat) (whole : IsWellFormed d) (p : BusPlan) (is
       (all_apart (λ (n : Named). n.0) (λ i (x : Instance). map by_plan (option_map_or (runnables_of_component d f i) (slice_get d.components x.component) [])) f.instances
       (λ i x n at h. runnables_home i (slice_get d.components x.component) n h)
       (λ i x at. runnables_apart i x (slice_get d.components x.component) refl))
-
-  pub all_distinct : IsFlatOf d f → names_distinct (bus.plan_of p) ≡ true
-  all_distinct flat =
-      and_from _ _ (names_once flat) (and_from _ _ elements_once (and_from _ _ servers_once (and_from _ _ areas_once (and_from _ _ machines_once
-      (and_from _ _ modes_once (and_from _ _ mode_ports_once (and_from _ _ events_once runnables_once)))))))

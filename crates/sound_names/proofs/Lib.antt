@@ -23,3 +23,4 @@ mod Distinct
 mod PortUses
 mod Placed
 mod Machines
+mod Together

@@ -67,7 +67,7 @@ module _ (d : Description) (f : Flat) (whole : IsWellFormed d) (p : BusPlan) (is
       first_part_is (item_text d f owner k n) here.port.short_name (item_name here.interface.kind n ∷ [])
       (ap (parts 46) (text_is d f owner k n here) ∙ pair_parts here.port.short_name (item_name here.interface.kind n) (port_named d f whole owner k here) (item_named d f whole owner k n here below))
 
-  item_port : (s : Site) (item : ItemAt d f s) → port_of (item_text d f s.owner item.k s.item) ≡ item.here.port.short_name
+  pub item_port : (s : Site) (item : ItemAt d f s) → port_of (item_text d f s.owner item.k s.item) ≡ item.here.port.short_name
   item_port s item = text_port s.owner item.k s.item item.here (item_below s.owner item.here.port.kind item.here.interface.kind s.item item.below)
 
   -- ---- data elements

@@ -25,6 +25,9 @@ module _ (types : TypeTable) (owner : Option ℕ) where
   shaped_port k port s None h = absurd h
   shaped_port k port s (Some i) h = ap (λ (s : Site). s.port) (mapped (λ n. site owner (Some k) n (kind_at owner port.kind i.kind)) s (positions 0 (count_at owner port.kind i.kind)) h).2
 
+  pub at_port : (k : ℕ) (port : Port) (s : Site) → Among s (sites_at types owner k port) → s.port ≡ Some k
+  at_port k port s h = shaped_port k port s (slice_get types.interfaces port.interface) h
+
   shaped_apart : (k : ℕ) (port : Port) (o : Option Interface) → AllApart (shaped k port o)
   shaped_apart k port None = tt
   shaped_apart k port (Some i) =
@@ -32,12 +35,12 @@ module _ (types : TypeTable) (owner : Option ℕ) where
       (λ a b in_a in_b same. ap (λ (s : Site). s.item) same) (apart_positions 0 (count_at owner port.kind i.kind))
 
   pub has_port : (ports : List Port) (s : Site) → Among s (sites_of_ports types owner ports) → (k : ℕ) × (s.port ≡ Some k)
-  has_port ports s h = let p = pieces (sites_at types owner) ports s h in (p.0, shaped_port p.0 p.1 s (slice_get types.interfaces p.1.interface) p.3)
+  has_port ports s h = let p = pieces (sites_at types owner) ports s h in (p.0, at_port p.0 p.1 s p.3)
 
   pub ports_apart : (ports : List Port) → AllApart (sites_of_ports types owner ports)
   ports_apart ports =
       all_apart (λ (s : Site). unwrap_or s.port 0) (sites_at types owner) ports
-      (λ k port s at h. ap (λ o. unwrap_or o 0) (shaped_port k port s (slice_get types.interfaces port.interface) h))
+      (λ k port s at h. ap (λ o. unwrap_or o 0) (at_port k port s h))
       (λ k port at. shaped_apart k port (slice_get types.interfaces port.interface))
 
 module _ (d : Description) (f : Flat) where

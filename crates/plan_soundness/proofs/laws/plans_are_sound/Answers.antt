@@ -1,8 +1,20 @@
+use Rattle.std.proofs.lemmas.Bool.{and_from}
 use Rattle.plan_soundness.proofs.laws.plans_are_sound.Goals as goal
 
 pub returns : goal.returns
 returns c = λ d f p m whole. record {
-  names = c.names_of_plans_fit.ensures d f p m whole;
+  names = and_from _ _ (c.names_of_plans_fit.ensures.fit d f p m whole)
+      (and_from _ _ (and_from _ _ (c.things_of_plans_are_named_once.ensures.instances d f p m whole)
+      (and_from _ _ (c.things_of_plans_are_named_once.ensures.elements d f p m whole)
+      (and_from _ _ (c.points_are_named_once.ensures d f p m whole)
+      (and_from _ _ (c.things_of_plans_are_named_once.ensures.servers d f p m whole)
+      (and_from _ _ (c.things_of_plans_are_named_once.ensures.areas d f p m whole)
+      (and_from _ _ (c.things_of_plans_are_named_once.ensures.machines d f p m whole)
+      (and_from _ _ (c.things_of_plans_are_named_once.ensures.modes d f p m whole)
+      (and_from _ _ (c.things_of_plans_are_named_once.ensures.mode_ports d f p m whole)
+      (and_from _ _ (c.things_of_plans_are_named_once.ensures.events d f p m whole) (c.things_of_plans_are_named_once.ensures.runnables d f p m whole))))))))))
+      (and_from _ _ (c.names_of_plans_fit.ensures.env d f p m whole) (c.names_of_plans_fit.ensures.ports d f p m whole)));
+  ports = c.ports_stand_together.ensures d f p m whole;
   arranged = c.plans_are_arranged.ensures d f p m whole;
   instances = c.plans_name_their_instances.ensures d f p m whole;
   groups = c.groups_of_plans_fit.ensures d f p m whole;
@@ -19,5 +31,5 @@ returns c = λ d f p m whole. record {
   direct = c.direct_servers_fit.ensures d f p m whole;
   lengths = c.queues_of_plans_are_bounded.ensures d f p m whole;
   tasks = c.tasks_fit.ensures d f p m whole;
-  chains = c.waits_never_return.ensures d f p m whole;
+  order = c.waits_are_ordered.ensures d f p m whole;
 }
