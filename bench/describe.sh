@@ -10,7 +10,7 @@ work=$(mktemp -d)
 trap 'rm -rf -- "$work"' EXIT
 
 mkdir -p "$work/crates"
-for name in rte_text rte_value runnable_lang interface_types bus_semantics description_types declared_names \
+for name in rte_text rte_value runnable_lang interface_types bus_semantics bus_laws description_types declared_names \
     description_places program_reading program_copy component_model composition_tables end_search end_crossing \
     composition_flatten compatibility component_rules plan_numbers mapping_rules plan_ports plan_elements plan_services \
     plan_runnables event_mapping sound_descriptions planned_descriptions sound_names sound_elements sound_behavior \

@@ -1,32 +1,30 @@
--- A whole activation asks what the actor rule wants.
-use Rattle.std.proofs.Common.{◌≡◌, ℕ, zero, suc, ◌+◌, ◌-◌, ◌<◌, ◌≤◌, ℤ, pos, List, [], ◌∷◌, ◌++◌, length, map, replicate, Bool, true, false, if◌then◌else◌, Option, Some, None, refl, sym, ap, ◌∙◌, subst, arith, append_assoc, length-append}
-use Rattle.std.specs.Prelude.{slice_get, ◌==◌, not}
-use Rattle.std.specs.List.{list_all}
-use Rattle.std.specs.Option.{option_map}
+-- A whole activation does what the activity does.
+use Rattle.std.proofs.Common.{◌≡◌, ℕ, zero, suc, ◌+◌, ◌*◌, ◌<◌, ◌≤◌, List, [], ◌∷◌, ◌++◌, length, Bool, true, false, if◌then◌else◌, Option, Some, None, refl, sym, ap, ◌∙◌, subst, arith, append_assoc, length-append}
+use Rattle.std.specs.Prelude.{slice_get, ◌==◌, is_some}
 use Rattle.std.proofs.Math.Seq.{get_or-append_seam}
-use Rattle.std.proofs.lemmas.Bool.{and_parts, false≢true}
-use Rattle.std.proofs.lemmas.List.{length-replicate}
-use Rattle.std.proofs.lemmas.Option.{slice_get-get_or, slice_get_past, slice_get-map}
-use Rattle.rte_value.specs.Values.{words_of}
-use Rattle.runnable_lang.specs.declared.program.AccessSig.{AccessSig}
+use Rattle.std.proofs.lemmas.Option.{slice_get-get_or, slice_get_past}
 use Rattle.bus_semantics.specs.declared.entries.Deed.{Deed}
+use Rattle.bus_semantics.specs.declared.plan.Disabling.{Disabling}
 use Rattle.bus_semantics.specs.Plan.{Plan, Runnable, disabling_of}
-use Rattle.bus_semantics.specs.Wanted.{Wanted, to_end}
+use Rattle.bus_semantics.specs.Wanted.{to_admit}
 use Rattle.bus_semantics.specs.State.{State}
-use Rattle.bus_semantics.specs.Programs.{Outcome, Stop, Go, Running, goes_on, both, takes_nothing, run_program}
-use Rattle.bus_semantics.specs.Activations.{is_read_early, is_written_late, admitting, fetching, publishing, returning, ending, activity, state_at_start, wanted_next, next_of_activity}
-use Rattle.task_machine.specs.declared.instr.Body.{Body}
-use Rattle.task_machine.specs.declared.instr.TaskSet.{TaskSet}
-use Rattle.task_machine.specs.Instructions.{Instruction}
-use Rattle.task_machine.specs.Machine.{Spot, silently, settled, wanted_by, wanted_at, answered_by, after}
-use Rattle.task_machine.specs.Spots.{state_with, no_spot}
-use Rattle.task_machine.specs.Frames.{code_from, spot_from}
-use Rattle.task_generator.specs.Code.{code_of_body, ending_code, activity_code}
+use Rattle.bus_semantics.specs.Programs.{Outcome, Stop, Go, Running, goes_on, both, calling, takes_nothing, run_program}
+use Rattle.bus_semantics.specs.Activations.{admitting, returning, ending, activity, wanted_next}
+use Rattle.implicit_buffers.specs.Buffers.{fetched_by, published_by, fetching_each, publishing_each}
+use Rattle.implicit_buffers.proofs.Ordering.{fetches, publications}
+use Rattle.task_machine.specs.declared.instr.Taken.TheVariants as taken
+use Rattle.task_machine.specs.Store.{Store}
+use Rattle.task_machine.specs.Instructions.{Instruction, change_of}
+use Rattle.task_machine.specs.Machine.{Spot, silently, settled, wanted_by, wanted_at, heard_by}
+use Rattle.task_generator.specs.Servers.{served}
+use Rattle.task_generator.specs.Code.{code_of_body, fetching_code, publishing_code, returning_code, ending_code, activity_code}
 use Rattle.task_generator.specs.Bounds.{steps_of_body, loops_of_body}
-use Rattle.task_generator.specs.Shapes.{Shape, shape_of_body, shape_of}
-use Rattle.task_generator.specs.Promise.{is_explicit_body, is_explicit_access, IsPlain, AsksAsPlanned}
-use Rattle.task_generator.proofs.Following.{Keeps, Follows, asked_from, joined, call_runs}
+use Rattle.task_generator.specs.Shapes.{budget_of}
+use Rattle.task_generator.proofs.Slots.{all_have_slots}
+use Rattle.task_generator.proofs.Agreeing.{Slots, store_in}
+use Rattle.task_generator.proofs.Following.{Keeps, Keeps-itself, Keeps-further, Fit, Follows, asked_from, after_hearing, with_more, ends_at, keeping, joined, call_runs}
 use Rattle.task_generator.proofs.Simulation.{HasAt, has_front, has_back, body_runs}
+use Rattle.task_generator.proofs.Surrounding.{returning_is, fetching_runs, publishing_runs, returning_runs, ending_runs}
 
 -- all instructions stand at their places
 has_all : (is pre : List Instruction) → HasAt (pre ++ is) (length pre) is
@@ -46,135 +44,174 @@ same_either true x = refl
 same_either false x = refl
 
 module _ (code : List Instruction) (event : ℕ) where
-  settled_end : (k e : ℕ) (s : State) (cs : List ℕ) → slice_get code e ≡ None → settled code k e s cs ≡ record { left = k; place = e; state = s; counters = cs }
-  settled_end zero e s cs none = refl
-  settled_end (suc n) e s cs none = ap (λ o. silently o (settled code n) e s cs (record { left = suc n; place = e; state = s; counters = cs })) none
+  settled_end : (k e : ℕ) (m : Store) (cs : List ℕ) → slice_get code e ≡ None → settled code k e m cs ≡ record { left = k; place = e; store = m; counters = cs }
+  settled_end zero e m cs none = refl
+  settled_end (suc n) e m cs none = ap (λ o. silently o (settled code n) e m cs (record { left = suc n; place = e; store = m; counters = cs })) none
 
-  stays : (k e : ℕ) (s : State) (cs : List ℕ) (ds : List Deed) → slice_get code e ≡ None → after code ds (record { left = k; place = e; state = s; counters = cs }) ≡ record { left = k; place = e; state = s; counters = cs }
-  stays k e s cs [] none = refl
-  stays k e s cs (d ∷ ds) none =
-      let here : Spot = record { left = k; place = e; state = s; counters = cs } in
-      ap (after code ds) (ap (λ o. if k == 0 then here else answered_by code o d here) none ∙ same_either (k == 0) here)
-      ∙ stays k e s cs ds none
+  stays : (k e : ℕ) (m : Store) (cs : List ℕ) (ds : List Deed) → slice_get code e ≡ None → after_hearing code ds (record { left = k; place = e; store = m; counters = cs }) ≡ record { left = k; place = e; store = m; counters = cs }
+  stays k e m cs [] none = refl
+  stays k e m cs (d ∷ ds) none =
+      let here : Spot = record { left = k; place = e; store = m; counters = cs } in
+      ap (after_hearing code ds) (ap (λ o. if k == 0 then here else heard_by code o d here) none ∙ same_either (k == 0) here)
+      ∙ stays k e m cs ds none
 
-  over : (k e : ℕ) (s : State) (cs : List ℕ) (ds : List Deed) → slice_get code e ≡ None → asked_from code event k e s cs ds ≡ None
-  over k e s cs ds none =
-      ap (λ x. wanted_at code event (after code ds x)) (settled_end k e s cs none)
-      ∙ ap (wanted_at code event) (stays k e s cs ds none)
-      ∙ ap (λ o. if k == 0 then None else wanted_by o event s) none
+  over : (k e : ℕ) (m : Store) (cs : List ℕ) (ds : List Deed) → slice_get code e ≡ None → asked_from code event k e m cs ds ≡ None
+  over k e m cs ds none =
+      ap (λ x. wanted_at code event (after_hearing code ds x)) (settled_end k e m cs none)
+      ∙ ap (wanted_at code event) (stays k e m cs ds none)
+      ∙ ap (λ o. if k == 0 then None else wanted_by o event m) none
       ∙ same_either (k == 0) None
 
   -- a stretch to the end asks what its outcome wants
-  asks_outcome : (P : List ℕ → Type 0) (n a e : ℕ) (s : State) (cs : List ℕ) (ds : List Deed) (o : Outcome) → slice_get code e ≡ None
-      → Follows code event P n a e s cs ds o → asked_from code event n a s cs ds ≡ wanted_next o
-  asks_outcome P n a e s cs ds (Stop w) none f = f n (omega arith)
-  asks_outcome P n a e s cs ds (Go t es) none f = let x = f n 0 (omega arith) in x.is ∙ over x.left e t x.counters es none
+  asks_outcome : (fs ps : List ℕ) (P : List ℕ → Type 0) (n a e : ℕ) (m : Store) (cs : List ℕ) (ds : List Deed) (o : Outcome) → slice_get code e ≡ None
+      → Follows code event fs ps P n a e m cs ds o → asked_from code event n a m cs ds ≡ wanted_next o
+  asks_outcome fs ps P n a e m cs ds (Stop w) none f = f n (omega arith)
+  asks_outcome fs ps P n a e m cs ds (Go t es) none f = let x = f n 0 (omega arith) in x.is ∙ over x.left e (store_in t x.slots) x.counters es none
 
--- the whole body
-whole : (r : Runnable) (event : ℕ) (s : State) (cs : List ℕ) (ds : List Deed) → is_explicit_body r.program.body ≡ true → loops_of_body r.program.body ≤ length cs
-    → asked_from (activity_code r) event (steps_of_body r.program.body + 1) 0 s cs ds ≡ wanted_next (goes_on (ending event) (run_program r r.program.body s ds))
-whole r event s cs ds plain room =
-    let code = activity_code r in
-    let x = code_of_body r 0 r.program.body in
-    let all : HasAt code 0 code = has_all code [] in
-    let last = has_back code 0 x ending_code all in
-    let end : slice_get code (0 + length x + 1) ≡ None = slice_get_past code (0 + length x + 1) (omega (arith, length-append x ending_code)) in
-    asks_outcome code event (Keeps 0 cs) (steps_of_body r.program.body + 1) 0 (0 + length x + 1) s cs ds (goes_on (ending event) (run_program r r.program.body s ds)) end
-    (joined code event (Keeps 0 cs) (Keeps 0 cs) (steps_of_body r.program.body) 1 0 (0 + length x) (0 + length x + 1) s cs ds (run_program r r.program.body s ds) (ending event)
-    (body_runs code event r r.program.body 0 0 s cs ds plain (has_front code 0 x ending_code all) (omega arith))
-    (λ t es us kept. call_runs code event (Keeps 0 cs) (0 + length x) t us es (λ event s. to_end event) takes_nothing last.0 kept))
+-- ---- the lengths
 
--- ---- what the actor rule wants of a plain runnable
+fetching_long : (all xs : List ℕ) → length (fetching_code all xs) ≡ length xs
+fetching_long all [] = refl
+fetching_long all (x ∷ xs) = ap (λ n. suc n) (fetching_long all xs)
 
--- what is not to be done
-passed_over : (b : Bool) (f g : Running) (s : State) (ds : List Deed) → not b ≡ true → g s ds ≡ Go s ds → (if b then f else g) s ds ≡ Go s ds
-passed_over true f g s ds never is = absurd (false≢true never)
-passed_over false f g s ds never is = is
+publishing_long : (all xs : List ℕ) → length (publishing_code all xs) ≡ 2 * length xs
+publishing_long all [] = refl
+publishing_long all (x ∷ xs) = let rest = publishing_long all xs in omega (arith, rest)
 
-no_fetch : (sigs : List AccessSig) (xs : List ℕ) (s : State) (ds : List Deed) → list_all is_explicit_access sigs ≡ true → fetching sigs xs s ds ≡ Go s ds
-no_fetch [] xs s ds plain = refl
-no_fetch (a ∷ sigs) [] s ds plain = refl
-no_fetch (a ∷ sigs) (x ∷ xs) s ds plain =
-    let parts = and_parts (is_explicit_access a) (list_all is_explicit_access sigs) plain in
-    passed_over (is_read_early a.kind) _ (fetching sigs xs) s ds (and_parts (not (is_read_early a.kind)) (not (is_written_late a.kind)) parts.0).0 (no_fetch sigs xs s ds parts.1)
+-- ---- an activity, by the elements that it fetches and publishes
 
-no_publication : (sigs : List AccessSig) (xs : List ℕ) (s : State) (ds : List Deed) → list_all is_explicit_access sigs ≡ true → publishing sigs xs s ds ≡ Go s ds
-no_publication [] xs s ds plain = refl
-no_publication (a ∷ sigs) [] s ds plain = refl
-no_publication (a ∷ sigs) (x ∷ xs) s ds plain =
-    let parts = and_parts (is_explicit_access a) (list_all is_explicit_access sigs) plain in
-    passed_over (is_written_late a.kind) _ (publishing sigs xs) s ds (and_parts (not (is_read_early a.kind)) (not (is_written_late a.kind)) parts.0).1 (no_publication sigs xs s ds parts.1)
+module _ (p : Plan) (r : Runnable) (event : ℕ) where
+  abbrev pub behind : Running
+  behind = both (run_program r r.program.body) (both (publishing_each (published_by r)) (both (returning p r) (ending event)))
 
-no_admission : (p : Plan) (event : ℕ) (s : State) (ds : List Deed) → disabling_of p event ≡ None → admitting p event s ds ≡ Go s ds
-no_admission p event s ds enabled = rw enabled refl
+  abbrev pub begun : Running
+  begun = both (fetching_each (fetched_by r)) behind
 
--- the parts after the program
-tail_is : (p : Plan) (r : Runnable) (event : ℕ) (o : Outcome) → list_all is_explicit_access r.accesses ≡ true → ((s : State) (ds : List Deed) → returning p r s ds ≡ Go s ds)
-    → goes_on (both (publishing r.accesses r.targets) (both (returning p r) (ending event))) o ≡ goes_on (ending event) o
-tail_is p r event (Stop w) plain returns = refl
-tail_is p r event (Go s ds) plain returns =
-    ap (goes_on (both (returning p r) (ending event))) (no_publication r.accesses r.targets s ds plain)
-    ∙ ap (goes_on (ending event)) (returns s ds)
+  activity_is : activity p r event ≡ both (admitting p event) begun
+  activity_is = λ i. both (admitting p event) (both (fetches r.accesses r.targets i) (both (run_program r r.program.body) (both (publications r.accesses r.targets i) (both (returning p r) (ending event)))))
 
-activity_is : (p : Plan) (r : Runnable) (event : ℕ) (s : State) (ds : List Deed) → list_all is_explicit_access r.accesses ≡ true → disabling_of p event ≡ None → ((s : State) (ds : List Deed) → returning p r s ds ≡ Go s ds)
-    → activity p r event s ds ≡ goes_on (ending event) (run_program r r.program.body s ds)
-activity_is p r event s ds plain enabled returns =
-    ap (goes_on (both (fetching r.accesses r.targets) (both (run_program r r.program.body) (both (publishing r.accesses r.targets) (both (returning p r) (ending event)))))) (no_admission p event s ds enabled)
-    ∙ ap (goes_on (both (run_program r r.program.body) (both (publishing r.accesses r.targets) (both (returning p r) (ending event))))) (no_fetch r.accesses r.targets s ds plain)
-    ∙ tail_is p r event (run_program r r.program.body s ds) plain returns
+  admits_all : (s : State) (ds : List Deed) → disabling_of p event ≡ None → activity p r event s ds ≡ begun s ds
+  admits_all s ds enabled = ap (λ (f : Running). f s ds) activity_is ∙ ap (goes_on begun) (no_admission enabled)
+    where
+      no_admission : disabling_of p event ≡ None → admitting p event s ds ≡ Go s ds
+      no_admission enabled = rw enabled refl
 
--- without an operation
-without : Runnable → Runnable
-without r = record { instance = r.instance; name = r.name; program = r.program; accesses = r.accesses; targets = r.targets; server = None }
+  asks_admission : (s : State) (ds : List Deed) (d : Disabling) → disabling_of p event ≡ Some d → activity p r event s ds ≡ goes_on begun (calling (to_admit event) takes_nothing s ds)
+  asks_admission s ds d disabled = ap (λ (f : Running). f s ds) activity_is ∙ ap (goes_on begun) (admission disabled)
+    where
+      admission : disabling_of p event ≡ Some d → admitting p event s ds ≡ calling (to_admit event) takes_nothing s ds
+      admission disabled = rw disabled refl
 
-is_without : (r : Runnable) → r.server ≡ None → r ≡ without r
-unfolding without
-is_without r none = λ i. record { instance = r.instance; name = r.name; program = r.program; accesses = r.accesses; targets = r.targets; server = none i }
+  -- ---- the parts at their places
 
-returns_nothing : (p : Plan) (r : Runnable) (s : State) (ds : List Deed) → returning p (without r) s ds ≡ Go s ds
-unfolding without
-returns_nothing p r s ds = refl
+  abbrev pub code : List Instruction
+  code = activity_code p r
 
-starts_empty : (p : Plan) (r : Runnable) (ws : List ℤ) → state_at_start p (without r) ws ≡ state_with (replicate r.program.vars (pos 0))
-unfolding without
-starts_empty p r ws = let all : r.program.vars - 0 ≡ r.program.vars = omega arith in ap (λ n. state_with (replicate n (pos 0))) all
+  abbrev pub fs : List ℕ
+  fs = fetched_by r
 
-planned : (p : Plan) (r : Runnable) (event : ℕ) (ws : List ℤ) (answers : List Deed) → IsPlain p r event
-    → next_of_activity p r event ws answers ≡ wanted_next (goes_on (ending event) (run_program r r.program.body (state_with (replicate r.program.vars (pos 0))) answers))
-planned p r event ws answers plain =
-    let same = is_without r plain.server in
-    let returns : (s : State) (ds : List Deed) → returning p r s ds ≡ Go s ds =
-    λ s ds. subst (λ q. returning p q s ds ≡ Go s ds) (sym same) (returns_nothing p r s ds) in
-    let starts : state_at_start p r ws ≡ state_with (replicate r.program.vars (pos 0)) =
-    ap (λ q. state_at_start p q ws) same ∙ starts_empty p r ws in
-    ap (λ s. wanted_next (activity p r event s answers)) starts
-    ∙ ap wanted_next (activity_is p r event (state_with (replicate r.program.vars (pos 0))) answers plain.accesses plain.enabled returns)
+  abbrev pub ps : List ℕ
+  ps = published_by r
 
--- ---- the set
+  abbrev pub fetching : List Instruction
+  fetching = fetching_code fs fs
 
--- what a body of a shape asks
-shape_asks : Option Shape → (event : ℕ) → List Deed → Option Wanted
-shape_asks None event answers = wanted_at [] event (after [] answers no_spot)
-shape_asks (Some x) event answers = asked_from x.code event x.budget 0 (state_with (replicate x.vars (pos 0))) (replicate x.counters 0) answers
+  abbrev pub program : List Instruction
+  program = code_of_body r 0 r.program.body
 
-asks_by_shape : (o : Option Body) (event : ℕ) (answers : List Deed) → wanted_at (code_from o) event (after (code_from o) answers (spot_from o)) ≡ shape_asks (option_map shape_of_body o) event answers
-unfolding shape_asks
-asks_by_shape None event answers = refl
-asks_by_shape (Some b) event answers = refl
+  abbrev pub publishing : List Instruction
+  publishing = publishing_code ps ps
 
-some_asks : (p : Plan) (r : Runnable) (event : ℕ) (ws : List ℤ) (answers : List Deed) → IsPlain p r event → shape_asks (Some (shape_of r)) event answers ≡ next_of_activity p r event ws answers
-unfolding shape_asks
-some_asks p r event ws answers plain =
-    let counters = replicate (loops_of_body r.program.body) 0 in
-    let long : length counters ≡ loops_of_body r.program.body = length-replicate (loops_of_body r.program.body) 0 in
-    whole r event (state_with (replicate r.program.vars (pos 0))) counters answers plain.statements (omega arith)
-    ∙ sym (planned p r event ws answers plain)
+  abbrev pub return : List Instruction
+  return = returning_code (served p.servers r.server)
 
--- bodies of the shapes of the plan's runnables
-pub asks_as_planned : (p : Plan) (t : TaskSet) → map shape_of_body t.bodies ≡ map shape_of p.runnables → AsksAsPlanned p t
-asks_as_planned p t same k r event point value answers at plain =
-    let body : option_map shape_of_body (slice_get t.bodies k.runnable) ≡ Some (shape_of r) =
-    sym (slice_get-map shape_of_body t.bodies k.runnable) ∙ ap (λ xs. slice_get xs k.runnable) same ∙ slice_get-map shape_of p.runnables k.runnable ∙ ap (option_map shape_of) at in
-    asks_by_shape (slice_get t.bodies k.runnable) event answers
-    ∙ ap (λ o. shape_asks o event answers) body
-    ∙ some_asks p r event (words_of value) answers plain
+  all : HasAt code 0 code
+  all = has_all code []
+
+  from_program : HasAt code (0 + 1 + length fetching) (program ++ (publishing ++ (return ++ ending_code)))
+  from_program = has_back code (0 + 1) fetching (program ++ (publishing ++ (return ++ ending_code))) all.1
+
+  from_publishing : HasAt code (0 + 1 + length fetching + length program) (publishing ++ (return ++ ending_code))
+  from_publishing = has_back code (0 + 1 + length fetching) program (publishing ++ (return ++ ending_code)) from_program
+
+  from_return : HasAt code (0 + 1 + length fetching + length program + length publishing) (return ++ ending_code)
+  from_return = has_back code (0 + 1 + length fetching + length program) publishing (return ++ ending_code) from_publishing
+
+  abbrev pub end : ℕ
+  end = 0 + 1 + length fetching + length program + length publishing + length return
+
+  from_end : HasAt code end ending_code
+  from_end = has_back code (0 + 1 + length fetching + length program + length publishing) return ending_code from_return
+
+  nothing_behind : slice_get code (end + 1) ≡ None
+  nothing_behind = slice_get_past code (end + 1) (omega (
+    arith,
+    length-append fetching (program ++ (publishing ++ (return ++ ending_code))),
+    length-append program (publishing ++ (return ++ ending_code)),
+    length-append publishing (return ++ ending_code),
+    length-append return ending_code,
+  ))
+
+  -- ---- from the last part to the first
+
+  module _ (cs : List ℕ) (room : loops_of_body r.program.body ≤ length cs) where
+    abbrev pub Same : List ℕ → Type 0
+    Same = Keeps 0 cs
+
+    return_on : (s : State) (c : Slots) (us : List ℕ) (ds : List Deed) → Fit code event fs ps s c → Same us
+        → Follows code event fs ps Same 2 (0 + 1 + length fetching + length program + length publishing) (end + 1) (store_in s c) us ds (both (returning p r) (ending event) s ds)
+    return_on s c us ds fit keeps =
+        joined code event fs ps Same Same 1 1 (0 + 1 + length fetching + length program + length publishing) end (end + 1) (store_in s c) us ds (returning p r s ds) (ending event)
+        (subst (Follows code event fs ps Same 1 (0 + 1 + length fetching + length program + length publishing) end (store_in s c) us ds) (sym (returning_is p r s ds))
+        (returning_runs code event fs ps Same (served p.servers r.server) (0 + 1 + length fetching + length program + length publishing) s c us ds
+        (has_front code (0 + 1 + length fetching + length program + length publishing) return ending_code from_return) fit keeps))
+        (λ t e es ws fits kept. ending_runs code event fs ps Same end t e ws es from_end fits kept)
+
+    publish_on : (s : State) (c : Slots) (us : List ℕ) (ds : List Deed) → Fit code event fs ps s c → Same us
+        → Follows code event fs ps Same (2 * length ps + 2) (0 + 1 + length fetching + length program) (end + 1) (store_in s c) us ds (both (publishing_each ps) (both (returning p r) (ending event)) s ds)
+    publish_on s c us ds fit keeps =
+        let here = 0 + 1 + length fetching + length program in
+        let there : here + 2 * length ps ≡ here + length publishing = omega (arith, publishing_long ps ps) in
+        joined code event fs ps Same Same (2 * length ps) 2 here (here + length publishing) (end + 1) (store_in s c) us ds (publishing_each ps s ds) (both (returning p r) (ending event))
+        (ends_at code event fs ps Same (2 * length ps) here (here + 2 * length ps) (here + length publishing) (store_in s c) us ds (publishing_each ps s ds) there
+        (publishing_runs code event fs ps Same ps here s c us ds (all_have_slots ps) (has_front code here publishing (return ++ ending_code) from_publishing) fit keeps))
+        (λ t e es ws fits kept. return_on t e ws es fits kept)
+
+    program_on : (s : State) (c : Slots) (us : List ℕ) (ds : List Deed) → Fit code event fs ps s c → Same us
+        → Follows code event fs ps Same (steps_of_body r.program.body + (2 * length ps + 2)) (0 + 1 + length fetching) (end + 1) (store_in s c) us ds (behind s ds)
+    program_on s c us ds fit keeps =
+        let here = 0 + 1 + length fetching in
+        let long = keeps.long in
+        joined code event fs ps Same Same (steps_of_body r.program.body) (2 * length ps + 2) here (here + length program) (end + 1) (store_in s c) us ds (run_program r r.program.body s ds)
+        (both (publishing_each ps) (both (returning p r) (ending event)))
+        (keeping code event fs ps (Keeps 0 us) Same (steps_of_body r.program.body) here (here + length program) (store_in s c) us ds (run_program r r.program.body s ds)
+        (λ ws more. Keeps-further 0 0 cs us ws (omega arith) keeps more)
+        (body_runs code event r r.program.body 0 here s c us ds fit (has_front code here program (publishing ++ (return ++ ending_code)) from_program) (omega arith)))
+        (λ t e es ws fits kept. publish_on t e ws es fits kept)
+
+    fetch_on : (s : State) (c : Slots) (us : List ℕ) (ds : List Deed) → Fit code event fs ps s c → Same us
+        → Follows code event fs ps Same (length fs + (steps_of_body r.program.body + (2 * length ps + 2))) (0 + 1) (end + 1) (store_in s c) us ds (begun s ds)
+    fetch_on s c us ds fit keeps =
+        let there : 0 + 1 + length fs ≡ 0 + 1 + length fetching = omega (arith, fetching_long fs fs) in
+        joined code event fs ps Same Same (length fs) (steps_of_body r.program.body + (2 * length ps + 2)) (0 + 1) (0 + 1 + length fetching) (end + 1) (store_in s c) us ds (fetching_each fs s ds) behind
+        (ends_at code event fs ps Same (length fs) (0 + 1) (0 + 1 + length fs) (0 + 1 + length fetching) (store_in s c) us ds (fetching_each fs s ds) there
+        (fetching_runs code event fs ps Same fs (0 + 1) s c us ds (all_have_slots fs) (has_front code (0 + 1) fetching (program ++ (publishing ++ (return ++ ending_code))) all.1) fit keeps))
+        (λ t e es ws fits kept. program_on t e ws es fits kept)
+
+    admit_on : (s : State) (c : Slots) (ds : List Deed) (o : Option Disabling) → disabling_of p event ≡ o → Fit code event fs ps s c
+        → Follows code event fs ps Same (budget_of r) (if is_some o then 0 else 1) (end + 1) (store_in s c) cs ds (activity p r event s ds)
+    admit_on s c ds None enabled fit =
+        subst (Follows code event fs ps Same (budget_of r) 1 (end + 1) (store_in s c) cs ds) (sym (admits_all s ds enabled))
+        (with_more code event fs ps Same (length fs + (steps_of_body r.program.body + (2 * length ps + 2))) (budget_of r) 1 (end + 1) (store_in s c) cs ds (begun s ds) (omega arith)
+        (fetch_on s c cs ds fit (Keeps-itself 0 cs)))
+    admit_on s c ds (Some d) disabled fit =
+        subst (Follows code event fs ps Same (budget_of r) 0 (end + 1) (store_in s c) cs ds) (sym (asks_admission s ds d disabled))
+        (joined code event fs ps Same Same 1 (length fs + (steps_of_body r.program.body + (2 * length ps + 2))) 0 (0 + 1) (end + 1) (store_in s c) cs ds (calling (to_admit event) takes_nothing s ds) begun
+        (call_runs code event fs ps Same 0 s c cs ds (λ event m. to_admit event) (change_of taken.Nothing) takes_nothing (λ d. refl) (λ d. fit) all.0 (Keeps-itself 0 cs))
+        (λ t e es ws fits kept. fetch_on t e ws es fits kept))
+
+    -- the whole body
+    pub whole : (s : State) (c : Slots) (ds : List Deed) (o : Option Disabling) → disabling_of p event ≡ o → Fit code event fs ps s c
+        → asked_from code event (budget_of r) (if is_some o then 0 else 1) (store_in s c) cs ds ≡ wanted_next (activity p r event s ds)
+    whole s c ds o is fit =
+        asks_outcome code event fs ps Same (budget_of r) (if is_some o then 0 else 1) (end + 1) (store_in s c) cs ds (activity p r event s ds) nothing_behind (admit_on s c ds o is fit)

@@ -3,8 +3,8 @@ use Rattle.std.proofs.Common.{◌≡◌, ℕ, zero, suc, ◌<◌, Bool, true, fa
 use Rattle.runnable_lang.specs.declared.program.AccessKind.{AccessKind}
 use Rattle.runnable_lang.specs.declared.program.AccessSig.{AccessSig}
 use Rattle.runnable_lang.specs.Accesses.{kind_number}
-use Rattle.bus_semantics.specs.declared.interpreter.Access as declared_access
-use Rattle.bus_semantics.specs.Interpreted.{access_of}
+use Rattle.bus_semantics.specs.declared.accesses.Access as declared_access
+use Rattle.bus_semantics.specs.Accesses.{access_of}
 use Rattle.bus_semantics.specs.State.{is_to, found}
 use Rattle.task_generator.specs.Found.{Key, same_key, access_in}
 

@@ -1,8 +1,15 @@
 pub mod Bounding
+pub mod Slots
+pub mod Agreeing
 pub mod Following
 pub mod Simulation
+pub mod Arguments
+pub mod Surrounding
 pub mod Activity
+pub mod Promising
+pub mod Going
 pub mod Patching
+pub mod Placing
+pub mod Publications
 pub mod Views
-pub mod Explicit
 pub mod Finding

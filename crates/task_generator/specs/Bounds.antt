@@ -1,6 +1,6 @@
 -- How many instructions a program executes at most, and how deep its loops stand within one another.
 use Rattle.std.specs.Prelude.{ℕ, ◌+◌, ◌*◌, max}
-use Rattle.runnable_lang.specs.Trees.{StmtTree, chooses, repeats, in_area, writes_late, reads_early, writes_variable_late, reads_variable_early, calls, BodyTree, done, next}
+use Rattle.runnable_lang.specs.Trees.{StmtTree, chooses, repeats, in_area, calls, BodyTree, done, next}
 
 -- the instructions that a statement executes at most; of a choice both sides are counted
 abbrev mutual
@@ -9,10 +9,6 @@ abbrev mutual
   steps (repeats turns body) = 1 + turns * (steps_of_body body + 1)
   steps (in_area x body) = 2 + steps_of_body body
   steps (calls port item es vs status) = 2
-  steps (writes_late port item es) = 0
-  steps (reads_early port item vs) = 0
-  steps (writes_variable_late item es) = 0
-  steps (reads_variable_early item vs) = 0
   steps _ = 1
 
   pub steps_of_body : BodyTree → ℕ

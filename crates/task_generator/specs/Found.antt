@@ -3,8 +3,8 @@ use Rattle.std.specs.Prelude.{◌≡◌, ℕ, [], Bool, ◌&&◌, nat_eq, Option
 use Rattle.indexmap.specs.IndexMap.{IndexMap, get}
 use Rattle.runnable_lang.specs.declared.program.AccessKind.{AccessKind}
 use Rattle.runnable_lang.specs.Accesses.{kind_number}
-use Rattle.bus_semantics.specs.declared.interpreter.Access as declared_access
-use Rattle.bus_semantics.specs.Interpreted.{access_of}
+use Rattle.bus_semantics.specs.declared.accesses.Access as declared_access
+use Rattle.bus_semantics.specs.Accesses.{access_of}
 use Rattle.bus_semantics.specs.Plan.{Runnable}
 use Rattle.bus_semantics.specs.State.{Access, access}
 

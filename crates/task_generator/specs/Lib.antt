@@ -1,3 +1,5 @@
+pub mod Slots
+pub mod Servers
 pub mod Code
 pub mod Calls
 pub mod Bounds

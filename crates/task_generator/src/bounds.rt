@@ -20,8 +20,6 @@ fn steps(stmt: &Stmt) -> Option<u64>
             .checked_add(1),
         Stmt::Area { body, .. } => steps_of_body(body)?.checked_add(2),
         Stmt::Call { .. } => Some(2),
-        Stmt::IWrite { .. } | Stmt::IRead { .. } | Stmt::IrvIWrite { .. } | Stmt::IrvIRead { .. } =>
-            Some(0),
         _ => Some(1),
     }
 }

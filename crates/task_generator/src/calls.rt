@@ -4,11 +4,12 @@ ghost use Rattle.std.specs.Prelude.{◌≡◌, ◌++◌, ◌∷◌, [], IfOk, On
 ghost use Rattle.runnable_lang.specs.Trees.{exprs, stmt_tree, reads_variable, sends, calls, switches};
 ghost use Rattle.bus_semantics.specs.Plan.{runnable_of};
 ghost use Rattle.bus_semantics.specs.Wanted.{to_write, to_ask};
-ghost use Rattle.bus_semantics.specs.State.{State, access, given};
-ghost use Rattle.bus_semantics.specs.Programs.{takes_words};
+ghost use Rattle.bus_semantics.specs.State.{access};
+ghost use Rattle.task_machine.specs.declared.instr.Taken.TheVariants as taken;
+ghost use Rattle.task_machine.specs.Store.{Store};
 ghost use Rattle.task_machine.specs.Words.{words_given};
-ghost use Rattle.task_machine.specs.Instructions.{instruction_of, call, requested, change_of, passes_of, passes_nothing};
-ghost use Rattle.task_generator.specs.Code.{code_of};
+ghost use Rattle.task_machine.specs.Instructions.{instruction_of, call, requested, change_of, passes_of};
+ghost use Rattle.task_generator.specs.Code.{given_over, code_of};
 ghost use Rattle.task_generator.specs.Calls.{bus_call_code, other_call_code};
 
 use crate::Memory;
@@ -36,7 +37,7 @@ impl Generator<'_, '_> {
         item: u32,
         values: &[Expr],
     ) -> Result<Vec<GivenWord>, Memory>
-        ensures { IfOk result (λ words. (s : State) → words_given s.vars words.items ≡ given (access (runnable_of self.now.accesses.now.runnable.now) kind port item) (exprs values.now) s) }
+        ensures { IfOk result (λ words. (m : Store) → words_given m.vars words.items ≡ given_over (access (runnable_of self.now.accesses.now.runnable.now) kind port item) (exprs values.now) m) }
     {
         let access = self.accesses.find(kind, port, item);
         let mut words = Vec::new(self.alloc);
@@ -51,14 +52,14 @@ impl Generator<'_, '_> {
     }
 
     /// The words that a statement gives. More than 16, which no sound plan has, count as no memory.
-    fn given(
+    pub fn given(
         &self,
         kind: AccessKind,
         port: u32,
         item: u32,
         values: &[Expr],
     ) -> Result<Given, Memory>
-        ensures { IfOk result (λ g. (s : State) → words_given s.vars g.words.items ≡ given (access (runnable_of self.now.accesses.now.runnable.now) kind port item) (exprs values.now) s) }
+        ensures { IfOk result (λ g. (m : Store) → words_given m.vars g.words.items ≡ given_over (access (runnable_of self.now.accesses.now.runnable.now) kind port item) (exprs values.now) m) }
     {
         let words = self.given_words(kind, port, item, values)?;
         match Given::new(words) {
@@ -78,7 +79,7 @@ impl Generator<'_, '_> {
         taken: Taken,
     ) -> Result<(), Memory>
         ensures { OnOk result (let a = access (runnable_of self.now.accesses.now.runnable.now) kind port item in
-            map instruction_of code.new.items ≡ map instruction_of code.old.items ++ call (λ event s. to_write a.target (given a (exprs values.now) s)) (change_of taken) (passes_of taken) ∷ []) }
+            map instruction_of code.new.items ≡ map instruction_of code.old.items ++ call (λ event m. to_write a.target (given_over a (exprs values.now) m)) (change_of taken) (passes_of taken) ∷ []) }
     {
         let given = self.given(kind, port, item, values)?;
         let elem = self.target(kind, port, item);
@@ -112,7 +113,7 @@ impl Generator<'_, '_> {
         taken: Taken,
     ) -> Result<(), Memory>
         ensures { OnOk result (let a = access (runnable_of self.now.accesses.now.runnable.now) kind port item in
-            map instruction_of code.new.items ≡ map instruction_of code.old.items ++ call (λ event s. to_ask a.target (given a (exprs values.now) s)) (change_of taken) (passes_of taken) ∷ []) }
+            map instruction_of code.new.items ≡ map instruction_of code.old.items ++ call (λ event m. to_ask a.target (given_over a (exprs values.now) m)) (change_of taken) (passes_of taken) ∷ []) }
     {
         let given = self.given(kind, port, item, values)?;
         let point = self.target(kind, port, item);
@@ -147,7 +148,7 @@ impl Generator<'_, '_> {
         vars: &[u32],
         status: u32,
     ) -> Result<(), Memory>
-        ensures { OnOk result (map instruction_of code.new.items ≡ map instruction_of code.old.items ++ call (requested request) (takes_words vars.now status) passes_nothing ∷ []) }
+        ensures { OnOk result (map instruction_of code.new.items ≡ map instruction_of code.old.items ++ call (requested request) (change_of (taken.Words vars.now status)) (passes_of (taken.Words vars.now status)) ∷ []) }
     {
         let vars = copy_numbers(self.alloc, vars)?;
         put_call(code, request, Taken::Words(vars, status))
@@ -266,7 +267,7 @@ impl Generator<'_, '_> {
                 let port = self.target(Kind::Mode, *port, 0);
                 put_call(code, Request::Mode { port }, Taken::Number(*var))
             }
-            _ => Ok(()),
+            _ => self.implicit(code, stmt),
         }
     }
 }

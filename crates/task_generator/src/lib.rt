@@ -2,15 +2,15 @@
 #![tactic(auto)]
 
 mod accesses;
+mod around;
 mod bounds;
 mod calls;
 mod code;
 mod copies;
 mod generator;
-mod laws;
+mod implicit;
 mod set;
 
-pub use laws::sound_programs_are_explicit;
 pub use set::generate;
 
 /// There was no memory for what a call makes.

@@ -1,88 +1,164 @@
 //! The bodies of all runnables.
 
-ghost use Rattle.std.specs.Prelude.{◌≡◌, ◌+◌, IfOk, IfSome, map};
-ghost use Rattle.runnable_lang.specs.Trees.{program_tree};
+ghost use Rattle.std.specs.Prelude.{◌≡◌, IfOk, IfSome, [], map, get_or, is_some};
+ghost use Rattle.bus_semantics.specs.declared.plan.EventPlan.{EventPlan};
 ghost use Rattle.bus_semantics.specs.Plan.{plan_of, runnable_of};
-ghost use Rattle.task_generator.specs.Shapes.{shape_of_body, shape_of};
+ghost use Rattle.implicit_buffers.specs.Buffers.{fetched_by, published_by};
 ghost use Rattle.task_machine.specs.Instructions.{instruction_of};
+ghost use Rattle.task_generator.specs.Servers.{served, arguments_in};
+ghost use Rattle.task_generator.specs.Shapes.{shape_of_body, shape_of, budget_of};
 ghost use Rattle.task_generator.specs.Code.{activity_code};
-ghost use Rattle.task_generator.specs.Bounds.{steps_of_body};
 ghost use Rattle.task_generator.specs.Promise.{AsksAsPlanned};
 
 use crate::Memory;
 use crate::accesses::Accesses;
+use crate::around::{in_places, put_fetches, put_publications, put_return, served};
 use crate::bounds::{loops_of_body, steps_of_body};
 use crate::code::put_call;
 use crate::generator::Generator;
-use bus_semantics::{BusPlan, Mapping, RunnablePlan};
+use bus_semantics::{ArgPlan, BusPlan, EventPlan, Mapping, RunnablePlan};
+use implicit_buffers::{BufferPlan, plan_buffers};
 use rte_text::Seq;
 use std::alloc::{AllocError, Global};
 use task_machine::{Body, Instr, Request, Taken, TaskSet};
 
-/// The instructions of an activation.
-fn code_of(alloc: Global, runnable: &RunnablePlan) -> Result<Vec<Instr>, Memory>
-    ensures { IfOk result (λ code. map instruction_of code.items ≡ activity_code (runnable_of runnable.now)) }
+/// The instructions of an activation of a runnable, which fetches and publishes these elements.
+fn code_of(
+    alloc: Global,
+    p: &BusPlan,
+    runnable: &RunnablePlan,
+    fetched: &[u32],
+    published: &[u32],
+) -> Result<Vec<Instr>, Memory>
+    requires fetched { fetched.now ≡ fetched_by (runnable_of runnable.now) }
+    requires published { published.now ≡ published_by (runnable_of runnable.now) }
+    ensures { IfOk result (λ code. map instruction_of code.items ≡ activity_code (plan_of p.now) (runnable_of runnable.now)) }
 {
     let mut code = Vec::new(alloc);
-    let accesses = Accesses::of(alloc, runnable)?;
+    let accesses = Accesses::of(alloc, runnable, fetched, published)?;
     let generator = Generator {
         alloc,
         accesses: &accesses,
     };
+    put_call(&mut code, Request::Admit, Taken::Nothing)?;
+    put_fetches(&mut code, &accesses)?;
     generator.body(&mut code, 0, &runnable.program.body)?;
+    put_publications(&mut code, &accesses)?;
+    put_return(alloc, &mut code, served(p.servers.items(), runnable.server))?;
     put_call(&mut code, Request::End, Taken::Nothing)?;
     Ok(code)
 }
 
-/// The budget of an activation: the instructions of the program, and one for the end.
-fn budget_of(runnable: &RunnablePlan) -> Option<u64>
-    ensures { IfSome result (λ n. n ≡ steps_of_body (program_tree runnable.now.program).body + 1) }
+/// The budget of an activation, whose runnable has so many elements to fetch and to publish.
+fn budget_of(runnable: &RunnablePlan, fetched: &[u32], published: &[u32]) -> Option<u64>
+    requires fetched { fetched.now ≡ fetched_by (runnable_of runnable.now) }
+    requires published { published.now ≡ published_by (runnable_of runnable.now) }
+    ensures { IfSome result (λ n. n ≡ budget_of (runnable_of runnable.now)) }
 {
-    steps_of_body(&runnable.program.body)?.checked_add(1)
+    let publications = (published.len() as u64).checked_mul(2)?;
+    steps_of_body(&runnable.program.body)?
+        .checked_add(fetched.len() as u64)?
+        .checked_add(publications)?
+        .checked_add(3)
 }
 
-/// The body of a runnable. A number beyond its bits counts as no memory.
-fn body_of(alloc: Global, runnable: &RunnablePlan) -> Result<Body, Memory>
-    ensures { IfOk result (λ b. shape_of_body b ≡ shape_of (runnable_of runnable.now)) }
+/// The arguments of the operation that a runnable serves, in declared order.
+fn arguments_of<'p>(p: &'p BusPlan, runnable: &RunnablePlan) -> &'p [ArgPlan]
+    ensures { result.now ≡ arguments_in (served (plan_of p.now).servers (runnable_of runnable.now).server) }
+{
+    match served(p.servers.items(), runnable.server) {
+        Some(server) => server.arguments.items(),
+        None => &[],
+    }
+}
+
+/// The body of a runnable, which fetches and publishes these elements. A number beyond its bits counts as no memory.
+fn body_of(
+    alloc: Global,
+    p: &BusPlan,
+    runnable: &RunnablePlan,
+    fetched: &[u32],
+    published: &[u32],
+) -> Result<Body, Memory>
+    requires fetched { fetched.now ≡ fetched_by (runnable_of runnable.now) }
+    requires published { published.now ≡ published_by (runnable_of runnable.now) }
+    ensures { IfOk result (λ b. shape_of_body b ≡ shape_of (plan_of p.now) (runnable_of runnable.now)) }
 {
     let Some(counters) = loops_of_body(&runnable.program.body) else {
         return Err(AllocError);
     };
-    let Some(budget) = budget_of(runnable) else {
+    let Some(budget) = budget_of(runnable, fetched, published) else {
         return Err(AllocError);
     };
-    let code = code_of(alloc, runnable)?;
+    let arguments = arguments_of(p, runnable);
+    let Ok(count) = u32::try_from(arguments.len()) else {
+        return Err(AllocError);
+    };
+    let places = in_places(alloc, arguments)?;
+    let code = code_of(alloc, p, runnable, fetched, published)?;
     Ok(Body {
-        vars: runnable.program.vars,
+        vars: runnable.program.vars.max(count),
+        arguments: Seq::of(places),
+        fetched: fetched.len(),
+        written: published.len(),
         counters,
         budget,
         code: Seq::of(code),
     })
 }
 
+/// The elements at a place, and none where there is no such place.
+fn elements_at(lists: &[Seq<u32>], place: usize) -> &[u32]
+    ensures { result.now ≡ get_or lists.now place [] }
+{
+    match lists.get(place) {
+        Some(list) => list.items(),
+        None => &[],
+    }
+}
+
 /// The bodies of the runnables, each at the place of its number.
-fn bodies_of(alloc: Global, runnables: &[RunnablePlan]) -> Result<Vec<Body>, Memory>
-    ensures { IfOk result (λ bodies. map shape_of_body bodies.items ≡ map shape_of (map runnable_of runnables.now)) }
+#[tactic(auto, using(crate::proofs::Placing::listed))]
+fn bodies_of(alloc: Global, p: &BusPlan, buffers: &BufferPlan) -> Result<Vec<Body>, Memory>
+    requires fetched { buffers.now.fetched ≡ map fetched_by (plan_of p.now).runnables }
+    requires published { buffers.now.published ≡ map published_by (plan_of p.now).runnables }
+    ensures { IfOk result (λ bodies. map shape_of_body bodies.items ≡ map (shape_of (plan_of p.now)) (plan_of p.now).runnables) }
 {
     let mut bodies = Vec::new(alloc);
-    for runnable in runnables {
-        let body = body_of(alloc, runnable)?;
+    for (place, runnable) in p.runnables.items().iter().enumerate() {
+        let fetched = elements_at(buffers.fetched.items(), place);
+        let published = elements_at(buffers.published.items(), place);
+        let body = body_of(alloc, p, runnable, fetched, published)?;
         bodies.push(body)?;
     }
     Ok(bodies)
 }
 
-/// Makes the bodies of the plan's runnables (SWS_RTE: runnable activation).
+/// For each event whether some mode disables it.
+fn disabled_of(alloc: Global, events: &[EventPlan]) -> Result<Vec<bool>, Memory>
+    ensures { IfOk result (λ disabled. disabled.items ≡ map (λ (v : EventPlan). is_some v.disabled) events.now) }
+{
+    let mut disabled = Vec::new(alloc);
+    for event in events {
+        disabled.push(event.disabled.is_some())?;
+    }
+    Ok(disabled)
+}
+
+/// Makes the bodies of the plan's runnables (SWS_RTE: runnable activation, implicit access, ModeDisablingDependency).
 ///
-/// An activation begun by any Start, and fed any answers, asks what the actor rule wants next, and is over exactly where it
-/// wants nothing. For now this is promised for runnables without implicit access that serve no operation, started by an
-/// event that no mode disables. An error says that there was no memory. It comes too for a call that gives more than 16
-/// words, and where 32 bits do not hold a jump or 64 bits the budget of a body.
+/// An activation begun by any Start, and fed any answers, asks what the actor rule wants next, up to its End or an admission
+/// that was refused, and nothing after that. It is over exactly where the actor rule wants nothing. An error says that there
+/// was no memory. It comes too for a call that gives more than 16 words, for a server with more than 16 arguments, and if 32 bits
+/// do not hold a jump or 64 bits the budget of a body.
 pub fn generate(alloc: Global, p: &BusPlan, _m: &Mapping) -> Result<TaskSet, Memory>
     ensures { IfOk result (λ t. AsksAsPlanned (plan_of p.now) t) }
 {
-    let bodies = bodies_of(alloc, p.runnables.items())?;
+    let buffers = plan_buffers(alloc, p)?;
+    let bodies = bodies_of(alloc, p, &buffers)?;
+    let disabled = disabled_of(alloc, p.events.items())?;
     Ok(TaskSet {
         bodies: Seq::of(bodies),
+        disabled: Seq::of(disabled),
     })
 }

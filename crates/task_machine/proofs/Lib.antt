@@ -1,2 +1,4 @@
 pub mod Answered
 pub mod Most
+pub mod Settling
+pub mod Returning

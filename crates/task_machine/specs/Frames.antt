@@ -1,6 +1,7 @@
 -- What a frame stands for: a key, the Start of its activation, and the answers so far.
-use Rattle.std.specs.Prelude.{◌≡◌, ℕ, ◌≤◌, max, List, [], ◌∷◌, Option, Some, None, slice_get}
+use Rattle.std.specs.Prelude.{◌≡◌, ℕ, ℤ, ◌≤◌, max, List, [], ◌∷◌, get_or, false, if◌then◌else◌, Option, Some, None, slice_get}
 use Rattle.rte_value.specs.declared.kinds.ActKey.{ActKey}
+use Rattle.rte_value.specs.Values.{words_of}
 use Rattle.bus_semantics.specs.declared.entries.Deed.{Deed}
 use Rattle.bus_semantics.specs.declared.entries.Deed.TheVariants as deed
 use Rattle.bus_semantics.specs.Wanted.{Wanted, wanted_of}
@@ -23,18 +24,27 @@ code_from (Some b) = code_in b
 abbrev pub code_of : TaskSet → (runnable : ℕ) → List Instruction
 code_of t r = code_from (slice_get t.bodies r)
 
-abbrev pub spot_from : Option Body → Spot
-spot_from None = no_spot
-spot_from (Some b) = first_spot b
-
 -- the event of a Start
 abbrev pub event_in : Deed → ℕ
 event_in (deed.Start event point value) = event
 event_in _ = 0
 
+-- the values of the `in` arguments of a Start
+abbrev pub words_started : Deed → List ℤ
+words_started (deed.Start event point value) = words_of value
+words_started _ = []
+
+-- an activation asks first whether it is admitted; one whose event no mode disables begins behind that
+abbrev pub first_place : TaskSet → (event : ℕ) → ℕ
+first_place t event = if get_or t.disabled event false then 0 else 1
+
+abbrev pub spot_from : TaskSet → (start : Deed) → Option Body → Spot
+spot_from t start None = no_spot
+spot_from t start (Some b) = first_spot b (first_place t (event_in start)) (words_started start)
+
 -- where the activation stands that began with this Start, after these answers
 abbrev pub spot_after : TaskSet → ActKey → (start : Deed) → (answers : List Deed) → Spot
-spot_after t k start answers = after (code_of t k.runnable) answers (spot_from (slice_get t.bodies k.runnable))
+spot_after t k start answers = after (code_of t k.runnable) answers (spot_from t start (slice_get t.bodies k.runnable))
 
 -- what it asks; none where it is over
 abbrev pub asks : TaskSet → ActKey → (start : Deed) → (answers : List Deed) → Option Wanted
@@ -55,8 +65,10 @@ most f (b ∷ bs) = max (f b) (most f bs)
 
 -- a frame has the room that each body of these takes
 pub record IsMadeFor (t : TaskSet) (f : Standing) : Type 0 where
-  pub vars : most (λ (b : Body). b.vars) t.bodies ≤ f.vars_room
+  pub vars : most (λ (b : Body). b.vars) t.bodies ≤ f.room.vars
   pub counters : most (λ (b : Body). b.counters) t.bodies ≤ f.counters_room
+  pub fetched : most (λ (b : Body). b.fetched) t.bodies ≤ f.room.fetched
+  pub written : most (λ (b : Body). b.written) t.bodies ≤ f.room.written
 
 -- what an answer of `next_call` asks
 abbrev pub wanted_in : Next → Option Wanted

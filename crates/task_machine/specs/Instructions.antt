@@ -1,10 +1,10 @@
 -- What the instructions of a body mean.
-use Rattle.std.specs.Prelude.{ℕ, zero, suc, pos, ◌==◌, if◌then◌else◌}
+use Rattle.std.specs.Prelude.{ℕ, zero, suc, ℤ, pos, List, length, get_or, set, ◌==◌, if◌then◌else◌}
 use Rattle.runnable_lang.specs.Trees.{ExprTree, expr_tree}
 use Rattle.bus_semantics.specs.declared.entries.Deed.{Deed}
-use Rattle.bus_semantics.specs.Wanted.{Wanted, to_write, to_read, to_invalidate, to_see_updated, to_send, to_receive, to_ask, to_hear, to_take_result, to_enter, to_leave, to_switch, to_see_mode, to_end}
-use Rattle.bus_semantics.specs.State.{State, put, code_in}
-use Rattle.bus_semantics.specs.Programs.{takes_nothing, takes_zero, takes_code, takes_number, takes_value, takes_words}
+use Rattle.bus_semantics.specs.Wanted.{Wanted, to_write, to_read, to_invalidate, to_see_updated, to_send, to_receive, to_ask, to_hear, to_take_result, to_enter, to_leave, to_switch, to_see_mode, to_end, to_admit, to_fetch, to_publish, to_return}
+use Rattle.bus_semantics.specs.State.{stored, code_in, words_in, number_in}
+use Rattle.bus_semantics.specs.Activations.{declared_code, results}
 use Rattle.task_machine.specs.declared.instr.Request.{Request}
 use Rattle.task_machine.specs.declared.instr.Request.TheVariants as request
 use Rattle.task_machine.specs.declared.instr.Taken.{Taken}
@@ -12,51 +12,60 @@ use Rattle.task_machine.specs.declared.instr.Taken.TheVariants as taken
 use Rattle.task_machine.specs.declared.instr.Instr.{Instr}
 use Rattle.task_machine.specs.declared.instr.Instr.TheVariants as instr
 use Rattle.task_machine.specs.Words.{words_given}
+use Rattle.task_machine.specs.Store.{Store, with_vars, with_fetched, written_in, words_or_none}
 
--- an instruction. A call is what it wants of the bus, in an activation that an event started and in a state; what it takes of the
+-- an instruction. A call is what it wants of the bus, in an activation that an event started and over a store; what it takes of the
 -- answer; and how many instructions the answer passes over
 pub data Instruction : Type 0 where
   assign : (var : ℕ) → ExprTree → Instruction
+  load : (vars : List ℕ) → (slot : ℕ) → Instruction
+  keep : (slot : ℕ) → (Store → List ℤ) → Instruction
   unless : ExprTree → (past : ℕ) → Instruction
+  unwritten : (slot : ℕ) → (past : ℕ) → Instruction
   skip : (past : ℕ) → Instruction
   begin_loop : (counter : ℕ) → (turns : ℕ) → (past : ℕ) → Instruction
   end_loop : (counter : ℕ) → (back : ℕ) → Instruction
-  call : ((event : ℕ) → State → Wanted) → (Deed → State → State) → (Deed → ℕ) → Instruction
+  call : ((event : ℕ) → Store → Wanted) → (Deed → Store → Store) → (Deed → ℕ) → Instruction
 
--- what a call wants
-abbrev pub requested : Request → (event : ℕ) → State → Wanted
-requested (request.Write x given) event s = to_write x (words_given s.vars given.words.items)
-requested (request.Read x) event s = to_read x
-requested (request.Invalidate x) event s = to_invalidate x
-requested (request.IsUpdated x) event s = to_see_updated x
-requested (request.Send x given) event s = to_send x (words_given s.vars given.words.items)
-requested (request.Receive x) event s = to_receive x
-requested (request.Ask q given) event s = to_ask q (words_given s.vars given.words.items)
-requested (request.Answer q) event s = to_hear q
-requested (request.TakeResult q) event s = to_take_result q
-requested (request.Enter x) event s = to_enter x
-requested (request.Leave x) event s = to_leave x
-requested (request.Switch m n) event s = to_switch m n
-requested (request.Mode port) event s = to_see_mode port
-requested request.End event s = to_end event
+-- what a call wants. A return is of the `out` arguments, which are among the first variables; the variable after them is `error`
+abbrev pub requested : Request → (event : ℕ) → Store → Wanted
+requested request.Admit event m = to_admit event
+requested (request.Fetch x) event m = to_fetch x
+requested (request.Write x given) event m = to_write x (words_given m.vars given.words.items)
+requested (request.Read x) event m = to_read x
+requested (request.Invalidate x) event m = to_invalidate x
+requested (request.IsUpdated x) event m = to_see_updated x
+requested (request.Send x given) event m = to_send x (words_given m.vars given.words.items)
+requested (request.Receive x) event m = to_receive x
+requested (request.Ask q given) event m = to_ask q (words_given m.vars given.words.items)
+requested (request.Answer q) event m = to_hear q
+requested (request.TakeResult q) event m = to_take_result q
+requested (request.Enter x) event m = to_enter x
+requested (request.Leave x) event m = to_leave x
+requested (request.Switch n mode) event m = to_switch n mode
+requested (request.Mode port) event m = to_see_mode port
+requested (request.Publish x slot) event m = to_publish x (words_or_none (written_in slot m))
+requested (request.Return r) event m = to_return (declared_code r.errors (get_or m.vars (length r.arguments.items) (pos 0))) (results r.arguments.items m.vars)
+requested request.End event m = to_end event
 
 -- an ask that was refused puts its code into the status
-abbrev pub refused : (status : ℕ) → (code : ℕ) → State → State
-refused status zero s = s
-refused status (suc code) s = put status (pos (suc code)) s
+abbrev pub refused : (status : ℕ) → (code : ℕ) → Store → Store
+refused status zero m = m
+refused status (suc code) m = with_vars (set m.vars status (pos (suc code))) m
 
-abbrev pub takes_refusal : (status : ℕ) → Deed → State → State
-takes_refusal status d s = refused status (code_in d) s
+abbrev pub takes_refusal : (status : ℕ) → Deed → Store → Store
+takes_refusal status d m = refused status (code_in d) m
 
 -- what is taken of an answer
-abbrev pub change_of : Taken → Deed → State → State
-change_of taken.Nothing = takes_nothing
-change_of (taken.Zero status) = takes_zero status
-change_of (taken.Code status) = takes_code status
-change_of (taken.Number v) = takes_number v
-change_of (taken.Value vs) = takes_value vs
-change_of (taken.Words vs status) = takes_words vs status
-change_of (taken.Refusal status) = takes_refusal status
+abbrev pub change_of : Taken → Deed → Store → Store
+change_of taken.Nothing d m = m
+change_of (taken.Zero status) d m = with_vars (set m.vars status (pos 0)) m
+change_of (taken.Code status) d m = with_vars (set m.vars status (pos (code_in d))) m
+change_of (taken.Number v) d m = with_vars (set m.vars v (pos (number_in d))) m
+change_of (taken.Value vs) d m = with_vars (stored vs (words_in d) m.vars) m
+change_of (taken.Words vs status) d m = with_vars (set (stored vs (words_in d) m.vars) status (pos (code_in d))) m
+change_of (taken.Refusal status) d m = takes_refusal status d m
+change_of (taken.Slot slot) d m = with_fetched slot (words_in d) m
 
 -- an answer passes over nothing; but a refused ask over what would hear the answer of the operation
 abbrev pub passes_nothing : Deed → ℕ
@@ -71,7 +80,10 @@ passes_of _ = passes_nothing
 
 abbrev pub instruction_of : Instr → Instruction
 instruction_of (instr.Set v e) = assign v (expr_tree e)
+instruction_of (instr.Load vs slot) = load vs slot
+instruction_of (instr.Keep slot given) = keep slot (λ m. words_given m.vars given.words.items)
 instruction_of (instr.Unless c past) = unless (expr_tree c) past
+instruction_of (instr.Unwritten slot past) = unwritten slot past
 instruction_of (instr.Skip past) = skip past
 instruction_of (instr.Repeat c n past) = begin_loop c n past
 instruction_of (instr.Again c back) = end_loop c back

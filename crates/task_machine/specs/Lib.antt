@@ -1,4 +1,5 @@
 pub mod Words
+pub mod Store
 pub mod Instructions
 pub mod Machine
 pub mod Spots

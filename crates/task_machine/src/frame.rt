@@ -6,12 +6,13 @@ ghost use Rattle.bus_semantics.specs.declared.entries.Deed.{Deed};
 ghost use Rattle.bus_semantics.specs.Wanted.{wanted_of};
 ghost use Rattle.task_machine.specs.declared.instr.Body.{Body};
 ghost use Rattle.task_machine.specs.Instructions.{instruction_of, requested};
-ghost use Rattle.task_machine.specs.Spots.{state_with};
-ghost use Rattle.task_machine.specs.Frames.{code_of, event_in, most, asks, Stands, IsMadeFor, wanted_in};
+ghost use Rattle.task_machine.specs.Spots.{store_of};
+ghost use Rattle.task_machine.specs.Frames.{code_of, event_in, words_started, first_place, most, asks, Stands, IsMadeFor, wanted_in};
 
 use crate::Memory;
 use crate::instr::{Body, Instr, Request, TaskSet};
 use crate::place::Place;
+use crate::store::Store;
 use bus_semantics::{Deed, Wish};
 use rte_value::{ActKey, Word};
 use std::alloc::Global;
@@ -36,12 +37,12 @@ pub struct Frame {
 
 impl Model for Frame {
     ghost use Rattle.std.specs.Vec.{vec_capacity};
-    ghost use Rattle.task_machine.specs.Spots.{spot_of};
+    ghost use Rattle.task_machine.specs.Spots.{spot_of, room_of};
     ghost use Rattle.task_machine.specs.Standing.{Standing};
 
     ghost Value = { Standing };
 
-    ghost view = { λ f. record { key = f.key; event = f.event; at = spot_of f.at; vars_room = vec_capacity f.at.vars; counters_room = vec_capacity f.at.counters } };
+    ghost view = { λ f. record { key = f.key; event = f.event; at = spot_of f.at; room = room_of f.at.store; counters_room = vec_capacity f.at.counters } };
 }
 
 /// The most variables that a body has.
@@ -68,6 +69,30 @@ fn most_counters(bodies: &[Body]) -> u32
     found
 }
 
+/// The most slots for fetched values that a body has.
+#[tactic(auto, using(crate::proofs::Most::most_turn, crate::proofs::Most::most_end))]
+fn most_fetched(bodies: &[Body]) -> usize
+    ensures { result ≡ most (λ (b : Body). b.fetched) bodies.now }
+{
+    let mut found = 0;
+    for body in bodies {
+        found = found.max(body.fetched);
+    }
+    found
+}
+
+/// The most slots for values to publish that a body has.
+#[tactic(auto, using(crate::proofs::Most::most_turn, crate::proofs::Most::most_end))]
+fn most_written(bodies: &[Body]) -> usize
+    ensures { result ≡ most (λ (b : Body). b.written) bodies.now }
+{
+    let mut found = 0;
+    for body in bodies {
+        found = found.max(body.written);
+    }
+    found
+}
+
 /// The event of a Start, and 0 for another deed.
 fn event_of(start: &Deed) -> u32
     ensures { result ≡ event_in start.now }
@@ -75,6 +100,26 @@ fn event_of(start: &Deed) -> u32
     match start {
         Deed::Start { event, .. } => *event,
         _ => 0,
+    }
+}
+
+/// The values that a Start gives, and none for another deed.
+fn words_of_start(start: &Deed) -> &[Word]
+    ensures { result.now ≡ words_started start.now }
+{
+    match start {
+        Deed::Start { value, .. } => value.words(),
+        _ => &[],
+    }
+}
+
+/// Where an activation that this event starts begins in its body.
+fn first_place(t: &TaskSet, event: u32) -> usize
+    ensures { result ≡ first_place t.now event }
+{
+    match t.disabled.items().get(event as usize) {
+        Some(true) => 0,
+        _ => 1,
     }
 }
 
@@ -88,26 +133,28 @@ fn code_of(t: &TaskSet, runnable: u32) -> &[Instr]
     }
 }
 
-/// What a call asks, in an activation that this event started, over these variables.
-fn wish_of(request: &Request, event: u32, vars: &[Word]) -> Wish
-    ensures { wanted_of result ≡ requested request.now event (state_with vars.now) }
+/// What a call asks, in an activation that this event started, over this store.
+fn wish_of(request: &Request, event: u32, store: &Store) -> Wish
+    ensures { wanted_of result ≡ requested request.now event (store_of store.now) }
 {
     match request {
+        Request::Admit => Wish::Admit { event },
+        Request::Fetch { elem } => Wish::Fetch { elem: *elem },
         Request::Write { elem, given } => Wish::Write {
             elem: *elem,
-            value: given.value(vars),
+            value: given.value(&store.vars),
         },
         Request::Read { elem } => Wish::Read { elem: *elem },
         Request::Invalidate { elem } => Wish::Invalidate { elem: *elem },
         Request::IsUpdated { elem } => Wish::IsUpdated { elem: *elem },
         Request::Send { elem, given } => Wish::Send {
             elem: *elem,
-            value: given.value(vars),
+            value: given.value(&store.vars),
         },
         Request::Receive { elem } => Wish::Receive { elem: *elem },
         Request::Ask { point, given } => Wish::Ask {
             point: *point,
-            value: given.value(vars),
+            value: given.value(&store.vars),
         },
         Request::Answer { point } => Wish::Answer { point: *point },
         Request::TakeResult { point } => Wish::TakeResult { point: *point },
@@ -118,6 +165,14 @@ fn wish_of(request: &Request, event: u32, vars: &[Word]) -> Wish
             mode: *mode,
         },
         Request::Mode { port } => Wish::Mode { port: *port },
+        Request::Publish { elem, slot } => Wish::Publish {
+            elem: *elem,
+            value: store.published(*slot),
+        },
+        Request::Return(returned) => Wish::Return {
+            code: returned.code(&store.vars),
+            value: returned.value(&store.vars),
+        },
         Request::End => Wish::End { event },
     }
 }
@@ -130,6 +185,8 @@ impl Frame {
         let bodies = t.bodies.items();
         let vars = Vec::with_capacity(alloc, most_vars(bodies) as usize)?;
         let counters = Vec::with_capacity(alloc, most_counters(bodies) as usize)?;
+        let fetched = Vec::with_capacity(alloc, most_fetched(bodies))?;
+        let written = Vec::with_capacity(alloc, most_written(bodies))?;
         Ok(Frame {
             key: ActKey {
                 runnable: 0,
@@ -139,7 +196,11 @@ impl Frame {
             at: Place {
                 left: 0,
                 place: 0,
-                vars,
+                store: Store {
+                    vars,
+                    fetched,
+                    written,
+                },
                 counters,
             },
         })
@@ -149,13 +210,16 @@ impl Frame {
     pub fn begin(&mut self, t: &TaskSet, key: ActKey, start: &Deed)
         requires made_for { IsMadeFor t.now self.old }
         ensures stands { Stands t.now key start.now [] self.new }
-        ensures vars_room { self.new.vars_room ≡ self.old.vars_room }
+        ensures room { self.new.room ≡ self.old.room }
         ensures counters_room { self.new.counters_room ≡ self.old.counters_room }
     {
         self.key = key;
         self.event = event_of(start);
         match t.bodies.items().get(key.runnable as usize) {
-            Some(body) => self.at.begin(body),
+            Some(body) => {
+                let place = first_place(t, self.event);
+                self.at.begin(body, place, words_of_start(start));
+            }
             None => self.at.begin_nowhere(),
         }
     }
@@ -169,7 +233,7 @@ impl Frame {
         }
         match code_of(t, self.key.runnable).get(self.at.place) {
             Some(Instr::Call { request, .. }) => {
-                Next::Call(wish_of(request, self.event, &self.at.vars))
+                Next::Call(wish_of(request, self.event, &self.at.store))
             }
             _ => Next::Over,
         }
@@ -178,7 +242,7 @@ impl Frame {
     /// The bus has answered the call that `next_call` gave. Where the activation is over nothing changes.
     pub fn feed(&mut self, t: &TaskSet, answer: &Deed)
         ensures stands { (k : ActKey) (start : Deed) (answers : List Deed) → Stands t.now k start answers self.old → Stands t.now k start (answers ++ answer.now ∷ []) self.new }
-        ensures vars_room { self.new.vars_room ≡ self.old.vars_room }
+        ensures room { self.new.room ≡ self.old.room }
         ensures counters_room { self.new.counters_room ≡ self.old.counters_room }
     {
         self.at.feed(code_of(t, self.key.runnable), answer);

@@ -1,6 +1,7 @@
 //! The words that a call gives.
 
 ghost use Rattle.std.specs.Prelude.{◌≡◌, ◌≤◌, ◌↔◌, length, IsSome, IfSome};
+ghost use Rattle.rte_value.specs.Arithmetic.{clamped};
 ghost use Rattle.rte_value.specs.Values.{words_of};
 ghost use Rattle.task_machine.specs.Words.{words_given};
 
@@ -22,6 +23,13 @@ pub struct Given {
     ghost short: { length words.items ≤ 16 },
 }
 
+/// The word itself where it lies within the limits, and else the nearest one, or the least where there is none.
+pub fn nearest(word: Word, limits: &Limits) -> Word
+    ensures { result ≡ clamped limits.now word }
+{
+    limits.low.max(word.min(limits.high))
+}
+
 impl Given {
     /// A list of these words. None exactly where there are more than 16. It takes no memory.
     pub fn new(words: Vec<GivenWord>) -> Option<Given>
@@ -41,7 +49,7 @@ impl Given {
         let mut words: ArrayVec<Word, 16> = ArrayVec::new();
         for word in &self.words {
             let worth = word.value.value(vars);
-            words.push(word.limits.low.max(worth.min(word.limits.high)));
+            words.push(nearest(worth, &word.limits));
         }
         match Value::new(words.as_slice()) {
             Some(value) => value,

@@ -5,11 +5,14 @@ mod frame;
 mod given;
 mod instr;
 mod place;
+mod returned;
+mod store;
 mod taking;
 
 pub use frame::{Frame, Next};
 pub use given::{Given, GivenWord};
 pub use instr::{Body, Instr, Request, Taken, TaskSet};
+pub use returned::Returned;
 
 /// There was no memory for what a call makes.
 pub type Memory = std::alloc::AllocError;

@@ -1,14 +1,14 @@
 //! Where an activation stands in its body.
 
-ghost use Rattle.std.specs.Prelude.{◌≡◌, ◌≤◌, ◌<◌, ◌^◌, ℕ, zero, pos, List, map, replicate, set, Bool, true, false, if◌then◌else◌, Some};
+ghost use Rattle.std.specs.Prelude.{◌≡◌, ◌≤◌, ◌<◌, ◌^◌, ℕ, map, set, false, if◌then◌else◌, Some};
 ghost use Rattle.std.specs.Vec.{vec_capacity};
-ghost use Rattle.bus_semantics.specs.State.{State};
 ghost use Rattle.task_machine.specs.Instructions.{instruction_of};
 ghost use Rattle.task_machine.specs.Machine.{Spot, Rest, silently, settled, answered};
-ghost use Rattle.task_machine.specs.Spots.{state_with, spot_of, first_spot, no_spot};
+ghost use Rattle.task_machine.specs.Spots.{store_of, room_of, spot_of, first_spot, no_spot};
 
 use crate::instr::{Body, Instr};
-use crate::taking::put;
+use crate::store::{Store, refill};
+use crate::taking::is_over;
 use bus_semantics::Deed;
 use rte_value::Word;
 
@@ -19,36 +19,10 @@ pub struct Place {
     pub left: u64,
     /// The place of the next instruction.
     pub place: usize,
-    /// Its variables, each at the place of its number.
-    pub vars: Vec<Word>,
+    /// What it works on.
+    pub store: Store,
     /// The counters of its loops.
     pub counters: Vec<u32>,
-}
-
-/// So many zeros, in the room that there is.
-#[tactic(auto, using(std::proofs::lemmas::List::replicate_more))]
-fn clear_words(words: &mut Vec<Word>, count: u32)
-    requires room { count ≤ vec_capacity words.old }
-    ensures zeros { words.new.items ≡ replicate count (pos 0) }
-    ensures room { vec_capacity words.new ≡ vec_capacity words.old }
-{
-    words.clear();
-    for _ in 0..count {
-        words.push_reserved(0);
-    }
-}
-
-/// So many zeros, in the room that there is.
-#[tactic(auto, using(std::proofs::lemmas::List::replicate_more))]
-fn clear_counters(counters: &mut Vec<u32>, count: u32)
-    requires room { count ≤ vec_capacity counters.old }
-    ensures zeros { counters.new.items ≡ replicate count 0 }
-    ensures room { vec_capacity counters.new ≡ vec_capacity counters.old }
-{
-    counters.clear();
-    for _ in 0..count {
-        counters.push_reserved(0);
-    }
 }
 
 /// The counter takes the number. One that there is not takes nothing.
@@ -65,21 +39,37 @@ impl Place {
     /// Executes an instruction that asks nothing of the bus. Answers whether it is one; a call changes nothing.
     fn step(&mut self, instr: &Instr) -> bool
         requires within { self.old.place < 2 ^ 63 }
-        ensures stepped { (rest : Rest) (here : Spot) → silently (Some (instruction_of instr.now)) rest self.old.place (state_with self.old.vars.items) self.old.counters.items here
-            ≡ (if result then rest self.new.place (state_with self.new.vars.items) self.new.counters.items else here) }
+        ensures stepped { (rest : Rest) (here : Spot) → silently (Some (instruction_of instr.now)) rest self.old.place (store_of self.old.store) self.old.counters.items here
+            ≡ (if result then rest self.new.place (store_of self.new.store) self.new.counters.items else here) }
         ensures budget { self.new.left ≡ self.old.left }
         ensures call { result ≡ false → spot_of self.new ≡ spot_of self.old }
-        ensures vars_room { vec_capacity self.new.vars ≡ vec_capacity self.old.vars }
+        ensures room { room_of self.new.store ≡ room_of self.old.store }
         ensures counters_room { vec_capacity self.new.counters ≡ vec_capacity self.old.counters }
     {
         match instr {
             Instr::Set { var, value } => {
-                let word = value.value(&self.vars);
-                put(&mut self.vars, *var, word);
+                let word = value.value(&self.store.vars);
+                self.store.put(*var, word);
+                self.place += 1;
+            }
+            Instr::Load { vars, slot } => {
+                self.store.load(vars.items(), *slot);
+                self.place += 1;
+            }
+            Instr::Keep { slot, given } => {
+                let value = given.value(&self.store.vars);
+                self.store.keep(*slot, value);
                 self.place += 1;
             }
             Instr::Unless { cond, past } => {
-                if cond.value(&self.vars) == 0 {
+                if cond.value(&self.store.vars) == 0 {
+                    self.place += 1 + *past as usize;
+                } else {
+                    self.place += 1;
+                }
+            }
+            Instr::Unwritten { slot, past } => {
+                if self.store.is_unwritten(*slot) {
                     self.place += 1 + *past as usize;
                 } else {
                     self.place += 1;
@@ -114,8 +104,8 @@ impl Place {
 
     /// Executes the instructions that ask nothing of the bus, one after the other, while the budget lasts.
     fn settle(&mut self, code: &[Instr])
-        ensures settled { spot_of self.new ≡ settled (map instruction_of code.now) self.old.left self.old.place (state_with self.old.vars.items) self.old.counters.items }
-        ensures vars_room { vec_capacity self.new.vars ≡ vec_capacity self.old.vars }
+        ensures settled { spot_of self.new ≡ settled (map instruction_of code.now) self.old.left self.old.place (store_of self.old.store) self.old.counters.items }
+        ensures room { room_of self.new.store ≡ room_of self.old.store }
         ensures counters_room { vec_capacity self.new.counters ≡ vec_capacity self.old.counters }
     {
         while self.left > 0 {
@@ -131,44 +121,52 @@ impl Place {
         }
     }
 
-    /// An activation begins in this body.
-    pub fn begin(&mut self, body: &Body)
-        requires vars { body.now.vars ≤ vec_capacity self.old.vars }
+    /// An activation begins at a place in this body, with these values of the `in` arguments.
+    pub fn begin(&mut self, body: &Body, place: usize, words: &[Word])
+        requires vars { body.now.vars ≤ vec_capacity self.old.store.vars }
         requires counters { body.now.counters ≤ vec_capacity self.old.counters }
-        ensures first { spot_of self.new ≡ first_spot body.now }
-        ensures vars_room { vec_capacity self.new.vars ≡ vec_capacity self.old.vars }
+        requires fetched { body.now.fetched ≤ vec_capacity self.old.store.fetched }
+        requires written { body.now.written ≤ vec_capacity self.old.store.written }
+        ensures first { spot_of self.new ≡ first_spot body.now place words.now }
+        ensures room { room_of self.new.store ≡ room_of self.old.store }
         ensures counters_room { vec_capacity self.new.counters ≡ vec_capacity self.old.counters }
     {
         self.left = body.budget;
-        self.place = 0;
-        clear_words(&mut self.vars, body.vars);
-        clear_counters(&mut self.counters, body.counters);
+        self.place = place;
+        self.store.begin(body, words);
+        refill(&mut self.counters, body.counters as usize, 0);
         self.settle(body.code.items());
     }
 
     /// An activation begins where there is no body, and is over.
     pub fn begin_nowhere(&mut self)
         ensures first { spot_of self.new ≡ no_spot }
-        ensures vars_room { vec_capacity self.new.vars ≡ vec_capacity self.old.vars }
+        ensures room { room_of self.new.store ≡ room_of self.old.store }
         ensures counters_room { vec_capacity self.new.counters ≡ vec_capacity self.old.counters }
     {
         self.left = 0;
         self.place = 0;
-        self.vars.clear();
+        self.store.vars.clear();
+        self.store.fetched.clear();
+        self.store.written.clear();
         self.counters.clear();
     }
 
-    /// Takes the answer to the call where it stands, and goes on to the next one.
+    /// Takes the answer to the call where it stands, and goes on to the next one, or is over with this answer.
     pub fn feed(&mut self, code: &[Instr], answer: &Deed)
         ensures answered { spot_of self.new ≡ answered (map instruction_of code.now) answer.now (spot_of self.old) }
-        ensures vars_room { vec_capacity self.new.vars ≡ vec_capacity self.old.vars }
+        ensures room { room_of self.new.store ≡ room_of self.old.store }
         ensures counters_room { vec_capacity self.new.counters ≡ vec_capacity self.old.counters }
     {
+        if is_over(answer) {
+            self.left = 0;
+            return;
+        }
         if self.left == 0 {
             return;
         }
         if let Some(Instr::Call { taken, .. }) = code.get(self.place) {
-            taken.take(answer, &mut self.vars);
+            taken.take(answer, &mut self.store);
             self.place += 1 + taken.passes(answer);
             self.left -= 1;
             self.settle(code);

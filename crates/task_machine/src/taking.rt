@@ -1,57 +1,65 @@
 //! What a body takes of an answer.
 
 ghost use Rattle.std.specs.Prelude.{◌≡◌};
-ghost use Rattle.std.specs.Vec.{vec_capacity};
-ghost use Rattle.bus_semantics.specs.State.{put, put_all};
+ghost use Rattle.rte_value.specs.Values.{words_of};
+ghost use Rattle.bus_semantics.specs.State.{words_in};
+ghost use Rattle.bus_semantics.specs.History.{is_over};
 ghost use Rattle.task_machine.specs.Instructions.{change_of, passes_of};
-ghost use Rattle.task_machine.specs.Spots.{state_with};
+ghost use Rattle.task_machine.specs.Spots.{store_of, room_of};
 
 use crate::instr::Taken;
+use crate::store::Store;
 use bus_semantics::{Deed, code_of, number_of, words_of_answer};
-use rte_value::Word;
+use rte_value::{Value, Word};
 
-/// The variable takes the word. One that there is not takes nothing.
-pub fn put(vars: &mut Vec<Word>, var: u32, word: Word)
-    ensures vars { state_with vars.new.items ≡ put var word (state_with vars.old.items) }
-    ensures room { vec_capacity vars.new ≡ vec_capacity vars.old }
+/// Whether an activation is over with this deed: its End, or an admission that was refused.
+pub fn is_over(answer: &Deed) -> bool
+    ensures { result ≡ is_over answer.now }
 {
-    if let Some(place) = vars.get_mut(var as usize) {
-        *place = word;
+    match answer {
+        Deed::End => true,
+        Deed::Admit { yes } => !*yes,
+        _ => false,
     }
 }
 
-/// The words go into the variables of these numbers from left to right. Where there are fewer words, the others stay.
-fn put_all(vars: &mut Vec<Word>, numbers: &[u32], words: &[Word])
-    ensures vars { state_with vars.new.items ≡ put_all numbers.now words.now (state_with vars.old.items) }
-    ensures room { vec_capacity vars.new ≡ vec_capacity vars.old }
+/// The value in an answer, and the empty one where it gives none.
+fn value_of_answer(answer: &Deed) -> Value
+    ensures { words_of result ≡ words_in answer.now }
 {
-    for (number, word) in numbers.iter().zip(words) {
-        put(vars, *number, *word);
+    match answer {
+        Deed::Fetch { value, .. }
+        | Deed::Read { value, .. }
+        | Deed::Receive { value, .. }
+        | Deed::Answer { value, .. }
+        | Deed::TakeResult { value, .. } => *value,
+        _ => Value::empty(),
     }
 }
 
 impl Taken {
-    /// The variables take what is taken of the answer.
-    pub fn take(&self, answer: &Deed, vars: &mut Vec<Word>)
-        ensures vars { state_with vars.new.items ≡ change_of self.now answer.now (state_with vars.old.items) }
-        ensures room { vec_capacity vars.new ≡ vec_capacity vars.old }
+    /// The store takes what is taken of the answer.
+    pub fn take(&self, answer: &Deed, store: &mut Store)
+        ensures store { store_of store.new ≡ change_of self.now answer.now (store_of store.old) }
+        ensures room { room_of store.new ≡ room_of store.old }
     {
         match self {
             Taken::Nothing => {}
-            Taken::Zero(status) => put(vars, *status, 0),
-            Taken::Code(status) => put(vars, *status, code_of(answer) as Word),
-            Taken::Number(var) => put(vars, *var, number_of(answer) as Word),
-            Taken::Value(numbers) => put_all(vars, numbers.items(), words_of_answer(answer)),
+            Taken::Zero(status) => store.put(*status, 0),
+            Taken::Code(status) => store.put(*status, code_of(answer) as Word),
+            Taken::Number(var) => store.put(*var, number_of(answer) as Word),
+            Taken::Value(numbers) => store.put_all(numbers.items(), words_of_answer(answer)),
             Taken::Words(numbers, status) => {
-                put_all(vars, numbers.items(), words_of_answer(answer));
-                put(vars, *status, code_of(answer) as Word);
+                store.put_all(numbers.items(), words_of_answer(answer));
+                store.put(*status, code_of(answer) as Word);
             }
             Taken::Refusal(status) => {
                 let code = code_of(answer);
                 if code != 0 {
-                    put(vars, *status, code as Word);
+                    store.put(*status, code as Word);
                 }
             }
+            Taken::Slot(slot) => store.fetch(*slot, value_of_answer(answer)),
         }
     }
 

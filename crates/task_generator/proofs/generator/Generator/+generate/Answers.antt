@@ -4,8 +4,8 @@ use Rattle.std.proofs.lemmas.List.{length-map}
 use Rattle.runnable_lang.specs.Trees.{expr_tree, stmt_tree, body_tree, chooses}
 use Rattle.bus_semantics.specs.Plan.{runnable_of}
 use Rattle.bus_semantics.specs.Wanted.{to_enter, to_leave}
-use Rattle.bus_semantics.specs.Programs.{takes_nothing}
-use Rattle.task_machine.specs.Instructions.{instruction_of, skip, call, passes_nothing}
+use Rattle.task_machine.specs.declared.instr.Taken.TheVariants as taken
+use Rattle.task_machine.specs.Instructions.{instruction_of, skip, call, change_of, passes_nothing}
 use Rattle.task_generator.specs.Code.{looping_code, code_of, code_of_body}
 use Rattle.task_generator.proofs.Patching.{around_more}
 use Rattle.task_generator.proofs.Views.{tree_of_if}
@@ -17,7 +17,7 @@ area-returns t c =
     let old = map instruction_of c.args.code.now.items in
     let body = code_of_body r c.args.depth (body_tree c.args.body.now) in
     around_more _ _ _ _ body _ _ c.in_ok-put_call.ensures c.in_ok-body.ensures c.in_ok-put_call-2.ensures
-    ∙ ap (λ x. old ++ (call (λ event s. to_enter x) takes_nothing passes_nothing ∷ (body ++ call (λ event s. to_leave x) takes_nothing passes_nothing ∷ []))) c.target-area.ensures
+    ∙ ap (λ x. old ++ (call (λ event m. to_enter x) (change_of taken.Nothing) passes_nothing ∷ (body ++ call (λ event m. to_leave x) (change_of taken.Nothing) passes_nothing ∷ []))) c.target-area.ensures
 
 pub repeat-returns : goal.repeat-returns
 repeat-returns t c =

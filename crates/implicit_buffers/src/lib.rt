@@ -1,0 +1,11 @@
+//! What each runnable fetches at its start and publishes at its end.
+#![tactic(auto)]
+
+mod laws;
+mod planning;
+
+pub use laws::{runnables_fetch_in_declared_order, runnables_publish_in_declared_order};
+pub use planning::{BufferPlan, plan_buffers};
+
+/// There was no memory for what a call makes.
+pub type Memory = std::alloc::AllocError;

@@ -1,0 +1,12 @@
+use Rattle.std.proofs.Common.{ℤ, List, Option, Some, ap}
+use Rattle.std.specs.Option.{option_map}
+use Rattle.std.proofs.lemmas.List.{map-set}
+use Rattle.rte_value.specs.Values.{words_of}
+use Rattle.task_machine.specs.Store.{Store}
+use Rattle.task_machine.specs.Spots.{store_of}
+use Rattle.task_machine.proofs.store.Store.keep.Goals as goal
+
+pub returns-in-Some-clause-store : goal.returns-in-Some-clause-store
+returns-in-Some-clause-store c =
+    let m : Store = store_of c.args.self.now in
+    ap (λ (w : List (Option (List ℤ))). let n : Store = record { vars = m.vars; fetched = m.fetched; written = w } in n) (map-set (option_map words_of) c.args.self.now.written.items c.args.slot (Some c.args.value))
