@@ -13,17 +13,19 @@ use Rattle.bus_semantics.specs.declared.script.Mapping.{Mapping}
 use Rattle.bus_semantics.specs.Plan.{Plan}
 use Rattle.bus_semantics.specs.Wanted.{Wanted, to_start, to_admit, to_end}
 use Rattle.bus_semantics.specs.History.{History, is_environment, needs_event, started_before, note, noted}
-use Rattle.bus_semantics.specs.Objects.{clock, object_of, touched_by, touches, entries_of}
+use Rattle.bus_semantics.specs.Objects.{clock, object_of, touched_by, touches, entries_of, touched, IsObject}
 use Rattle.bus_semantics.specs.Fitting.{wish_fits, fits}
 use Rattle.bus_semantics.specs.Actor.{follows_program}
 use Rattle.bus_semantics.specs.Legal.{Answers, MayFollow, IsLegal}
 use Rattle.bus_semantics.specs.Locality.{starts_its_own}
 use Rattle.bus_semantics.specs.Sound.{IsSound}
+use Rattle.bus_semantics.specs.Pasts.{Follows}
+use Rattle.bus_semantics.specs.Asked.{is_start, event_of, noted_for}
 use Rattle.port_objects.specs.declared.object.Object.{Object}
-use Rattle.port_objects.specs.Objects.{kept_of, touched, IsObject, IsOfPlan}
-use Rattle.port_objects.specs.Standing.{Follows, Stands}
-use Rattle.port_objects.specs.Coming.{MayAsk, IsTheOne, is_start}
-use Rattle.port_objects.specs.Answers.{event_of, noted_for, IsMade}
+use Rattle.port_objects.specs.Objects.{kept_of, IsOfPlan}
+use Rattle.port_objects.specs.Standing.{Stands}
+use Rattle.port_objects.specs.Coming.{MayAsk, IsTheOne}
+use Rattle.port_objects.specs.Answers.{IsMade}
 use Rattle.port_objects.specs.Leading.{lead}
 use Rattle.task_machine.specs.declared.instr.TaskSet.{TaskSet}
 use Rattle.core_turn.specs.Cores.{CoreState}

@@ -8,12 +8,11 @@ use Rattle.std.proofs.lemmas.List.{length-set}
 use Rattle.std.proofs.lemmas.Option.{same_Some, slice_get_within}
 use Rattle.bus_semantics.specs.declared.entries.Stamped.{Stamped}
 use Rattle.bus_semantics.specs.Plan.{Plan}
-use Rattle.bus_semantics.specs.Objects.{clock, object_of}
+use Rattle.bus_semantics.specs.Objects.{clock, object_of, IsObject}
 use Rattle.bus_semantics.specs.Rest.{Try}
+use Rattle.bus_semantics.specs.Asked.{event_of, noted_for}
 use Rattle.port_objects.specs.declared.object.Object.{Object}
-use Rattle.port_objects.specs.Answers.{event_of, noted_for}
 use Rattle.port_objects.specs.Benches.{Plain}
-use Rattle.port_objects.specs.Objects.{IsObject}
 use Rattle.port_objects.specs.Plans.{HasObjects}
 use Rattle.task_machine.specs.declared.instr.TaskSet.{TaskSet}
 use Rattle.core_turn.specs.declared.slot.Slot.{Slot}

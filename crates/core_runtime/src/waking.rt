@@ -3,11 +3,11 @@
 ghost use Rattle.std.specs.Prelude.{◌≡◌, ℕ, List, true, false, None, Some, slice_get};
 ghost use Rattle.std.specs.List.{Contains};
 ghost use Rattle.bus_semantics.specs.declared.entries.Actor.{Actor};
-ghost use Rattle.bus_semantics.specs.Objects.{clock, object_of};
+ghost use Rattle.bus_semantics.specs.Objects.{clock, object_of, IsObject};
 ghost use Rattle.bus_semantics.specs.Plan.{Plan, plan_of};
 ghost use Rattle.bus_semantics.specs.Wanted.{wanted_by};
 ghost use Rattle.port_objects.specs.declared.object.Object.{Object};
-ghost use Rattle.port_objects.specs.Objects.{ArePlans, IsObject, IsOfPlan, kept_of};
+ghost use Rattle.port_objects.specs.Objects.{ArePlans, IsOfPlan, kept_of};
 ghost use Rattle.port_objects.specs.Waking.{wakes};
 ghost use Rattle.core_turn.specs.Cores.{CoreState};
 ghost use Rattle.core_runtime.specs.Watching.{AreWoken, IsAfter, IsAt, IsSeen, IsThere, IsWatch};

@@ -1,4 +1,5 @@
 -- A whole activation of such a plan: it asks for data and then for its end, and until that end it always asks something.
+-- (For unqueued data alone; the laws of `activation_laws` for every sound plan are to take its place.)
 use Rattle.std.proofs.Common.{◌≡◌, ℕ, Bool, true, false, not, if◌then◌else◌, refl, sym, ◌∙◌, ap, subst, List, [], ◌∷◌, ◌++◌, ◌⊎◌, inl, inr, ℤ, Some, None}
 use Rattle.std.specs.List.{list_all, slice_get}
 use Rattle.std.proofs.lemmas.Bool.{and_parts, false≢true}
@@ -10,8 +11,7 @@ use Rattle.bus_semantics.specs.Wanted.{Wanted, to_end}
 use Rattle.bus_semantics.specs.State.{State}
 use Rattle.bus_semantics.specs.Programs.{Outcome, Stop, Go, Running, goes_on, both, run_program}
 use Rattle.bus_semantics.specs.Activations.{is_read_early, is_written_late, admitting, fetching, publishing, returning, ending, activity, state_at_start, wanted_next, next_of_activity}
-use Rattle.task_generator.specs.Promise.{is_explicit_access}
-use Rattle.core_turn.specs.Plans.{IsBuilt}
+use Rattle.core_turn.specs.Plans.{is_explicit_access, IsBuilt}
 use Rattle.core_turn.proofs.Basics as basics
 use Rattle.core_turn.proofs.Tame.{Run, IsShort, TameAt, Tame, going}
 use Rattle.core_turn.proofs.Wishes.{IsData, program_tame}

@@ -1,5 +1,5 @@
 -- A slot after a start by one of its events.
-use Rattle.std.proofs.Common.{◌≡◌, ℕ, ◌<◌, ◌≤◌, Bool, true, false, ◌||◌, ◌==◌, refl, sym, ◌∙◌, ap, subst, List, [], ◌∷◌, length, Some, None}
+use Rattle.std.proofs.Common.{◌≡◌, ℕ, ◌<◌, Bool, true, false, ◌||◌, ◌==◌, refl, sym, ◌∙◌, ap, subst, List, [], ◌∷◌, length, Some, None}
 use Rattle.std.specs.Prelude.{nat_lt}
 use Rattle.std.specs.List.{list_all, list_any, slice_get}
 use Rattle.std.proofs.lemmas.Bool.{and_from, eqb-true, false≢true, or_left, or_right}
@@ -15,9 +15,8 @@ use Rattle.bus_semantics.specs.History.{History}
 use Rattle.bus_semantics.specs.Fitting.{wish_fits, answer_fits, fits}
 use Rattle.bus_semantics.specs.Locality.{is_proper}
 use Rattle.bus_semantics.specs.Rest.{plain_key}
-use Rattle.task_machine.specs.declared.instr.Body.{Body}
 use Rattle.task_machine.specs.declared.instr.TaskSet.{TaskSet}
-use Rattle.task_machine.specs.Frames.{Stands, most, IsMadeFor}
+use Rattle.task_machine.specs.Frames.{Stands, IsMadeFor}
 use Rattle.core_turn.specs.declared.slot.Slot.{Slot}
 use Rattle.core_turn.specs.Plans.{IsBuilt}
 use Rattle.core_turn.specs.Slots.{starts, is_key_of}
@@ -28,6 +27,7 @@ use Rattle.core_turn.specs.Turning.{StepFollows, SlotStep, BegunBy}
 use Rattle.core_turn.proofs.Basics.{same_option}
 use Rattle.core_turn.proofs.Activities.{AsksOn, asks_first}
 use Rattle.core_turn.proofs.Facts.{Started, started, event_known, start_touches, start_fits, enabled, serves_none}
+use Rattle.core_turn.proofs.Until.{still_made}
 use Rattle.core_turn.proofs.Histories.{entry_by, IsStartOf, start_is, start_follows, start_stands}
 
 -- one of the events starts the runnable that this one of them starts
@@ -62,10 +62,7 @@ module _ (p : Plan) (m : Mapping) (built : IsBuilt p m) (t : TaskSet) (old : Slo
   own = one_starts p by.event by.runnable by.starts old.events.items by.mapped
 
   made_still : IsMadeFor t new.frame
-  made_still = record {
-    vars = subst (λ n. most (λ (b : Body). b.vars) t.bodies ≤ n) (sym begun.vars_room) ready.made.vars;
-    counters = subst (λ n. most (λ (b : Body). b.counters) t.bodies ≤ n) (sym begun.counters_room) ready.made.counters;
-  }
+  made_still = still_made t old.frame new.frame begun.room begun.counters_room ready.made
 
   stands_now : Stands t (plain_key by.runnable) (deed.Start by.event deed_is.point deed_is.value) [] new.frame
   stands_now = subst (λ d. Stands t (plain_key by.runnable) d [] new.frame) deed_is.is (begun.stands (plain_key by.runnable) by.entry.actor)

@@ -1,7 +1,6 @@
 -- The next call of a running activation: it may be tried, and its entry follows each history for which the task stands.
 use Rattle.std.proofs.Common.{◌≡◌, ℕ, ◌<◌, true, refl, sym, ◌∙◌, ap, subst, List, [], ◌∷◌, length, map, Option, Some, None}
 use Rattle.std.specs.Prelude.{is_none, IfSome}
-use Rattle.std.specs.List.{list_all, slice_get}
 use Rattle.std.proofs.lemmas.Bool.{and_parts, false≢true}
 use Rattle.std.proofs.lemmas.Option.{slice_get_within}
 use Rattle.rte_value.specs.declared.kinds.ActKey.{ActKey}
@@ -11,26 +10,25 @@ use Rattle.bus_semantics.specs.declared.entries.Actor.TheVariants.{Act}
 use Rattle.bus_semantics.specs.declared.entries.Deed.{Deed}
 use Rattle.bus_semantics.specs.declared.entries.Deed.TheVariants as deed
 use Rattle.bus_semantics.specs.declared.script.Mapping.{Mapping}
-use Rattle.bus_semantics.specs.Plan.{Plan, Runnable}
+use Rattle.bus_semantics.specs.Plan.{Plan, runnable_of_event}
 use Rattle.bus_semantics.specs.Wanted.{Wanted, to_write, to_read, to_invalidate, to_see_updated, to_end}
-use Rattle.bus_semantics.specs.Objects.{object_of}
+use Rattle.bus_semantics.specs.Objects.{object_of, IsObject}
 use Rattle.bus_semantics.specs.Fitting.{wish_fits}
 use Rattle.bus_semantics.specs.Rest.{plain_key, option_list}
-use Rattle.port_objects.specs.Coming.{asks_its_own}
-use Rattle.port_objects.specs.Objects.{IsObject}
-use Rattle.port_objects.specs.Answers.{event_of}
+use Rattle.bus_semantics.specs.Asked.{asks_its_own, event_of}
 use Rattle.task_machine.specs.declared.instr.TaskSet.{TaskSet}
 use Rattle.task_machine.specs.Standing.{Standing}
 use Rattle.task_machine.specs.Frames.{asks, Stands, code_of}
 use Rattle.task_machine.specs.Machine.{wanted_at}
-use Rattle.task_generator.specs.Promise.{is_explicit_access, is_explicit_body, IsPlain, AsksAsPlanned}
+use Rattle.task_generator.specs.Promise.{AsksAsPlanned}
 use Rattle.core_turn.specs.declared.look.Look.{Look}
 use Rattle.core_turn.specs.declared.slot.Slot.{Slot}
 use Rattle.core_turn.specs.Plans.{IsBuilt}
 use Rattle.core_turn.specs.Slots.{asked_by, tries_of, slot_tries, looks_of, looks}
 use Rattle.core_turn.specs.Ready.{IsBegun, IsBegunIn, IsReadySlot}
 use Rattle.core_turn.specs.Looking.{IsTried, IsFree, Told, Looked}
-use Rattle.core_turn.proofs.Basics.{all_at, looked}
+use Rattle.core_turn.proofs.Until.{wants_still}
+use Rattle.core_turn.proofs.Basics.{looked, same_option}
 use Rattle.core_turn.proofs.Wishes.{IsData}
 use Rattle.core_turn.proofs.Activities.{Asked, the_end, some_data, asked}
 use Rattle.core_turn.proofs.Facts.{event_known, data_touches, end_touches, enabled, serves_none, end_fits, data_fits}
@@ -62,18 +60,12 @@ data_event p home (to_invalidate x) is = refl
 data_event p home (to_see_updated x) is = refl
 data_event p home w is = absurd (false≢true is)
 
-module _ (p : Plan) (m : Mapping) (built : IsBuilt p m) (t : TaskSet) (bodies : AsksAsPlanned p t)
-    (explicit : (i : ℕ) (r : Runnable) → slice_get p.runnables i ≡ Some r → list_all is_explicit_access r.accesses ≡ true → is_explicit_body r.program.body ≡ true) where
-  pub plain_at : (i : ℕ) (r : Runnable) (event : ℕ) → slice_get p.runnables i ≡ Some r → IsPlain p r event
-  plain_at i r event there =
-      let plain = all_at (λ (r : Runnable). list_all is_explicit_access r.accesses) p.runnables i r built.plain.explicit there in
-      record { accesses = plain; statements = explicit i r there plain; server = serves_none p m built i r there; enabled = enabled p m built event }
-
+module _ (p : Plan) (m : Mapping) (built : IsBuilt p m) (t : TaskSet) (bodies : AsksAsPlanned p t) where
   module _ (events : List ℕ) (f : Standing) (k : ActKey) (b : IsBegun p t events f k) where
     pub asked_is : asked_by t f ≡ Some b.wish
     asked_is =
         asked_asks t k (deed.Start b.event b.point b.value) b.answers f b.stands
-        ∙ bodies k b.runnable b.event b.point b.value b.answers b.there (plain_at k.runnable b.runnable b.event b.there)
+        ∙ bodies k b.runnable b.event b.point b.value b.answers b.there
         ∙ b.next
 
     pub asks_is : asks t k (deed.Start b.event b.point b.value) b.answers ≡ Some b.wish
@@ -86,7 +78,7 @@ module _ (p : Plan) (m : Mapping) (built : IsBuilt p m) (t : TaskSet) (bodies : 
     plain = keyed k (and_parts (is_none k.point) _ b.own).0
 
     pub what : Asked p b.runnable b.event (words_of b.value) b.answers b.wish
-    what = asked p m built k.runnable b.runnable b.there b.event (enabled p m built b.event) (serves_none p m built k.runnable b.runnable b.there) (words_of b.value) b.answers b.wish b.next
+    what = asked p m built k.runnable b.runnable b.there b.event (enabled p m built b.event) (serves_none p m built k.runnable b.runnable b.there) (words_of b.value) b.answers b.wish (wants_still p b.runnable b.event (words_of b.value) b.answers b.wish b.next).next
 
     tried_as : ((a : Actor) (w : Wanted) → wish_fits p a w ≡ true → IfSome (object_of p a w) (IsObject p)) → Asked p b.runnable b.event (words_of b.value) b.answers b.wish → IsTried p (Act k) b.wish
     tried_as objects (the_end is) =
@@ -95,7 +87,7 @@ module _ (p : Plan) (m : Mapping) (built : IsBuilt p m) (t : TaskSet) (bodies : 
         subst (λ w. wish_fits p (Act k) w ≡ true) (sym is) (subst (λ j. wish_fits p (Act j) (to_end b.event) ≡ true) (sym plain) (end_fits p m built b.event k.runnable b.runnable known b.starts b.there inside)) in
         record {
           fits = fit;
-          own = subst (λ w. asks_its_own p (Act k) w ≡ true) (sym is) refl;
+          own = subst (λ w. asks_its_own p (Act k) w ≡ true) (sym is) (same_option (runnable_of_event p b.event) (Some k.runnable) b.starts);
           there = objects (Act k) b.wish fit;
           free = subst (λ w. IsFree (object_of p (Act k) w) w) (sym is) (subst (λ o. IsFree o (to_end b.event)) (sym (end_touches p m built (Act k) b.event)) tt);
         }

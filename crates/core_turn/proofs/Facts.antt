@@ -1,5 +1,6 @@
 -- Facts of a sound plan without queues, calls, areas, modes and implicit access: each start and each datum touches an object, an end touches
 -- none, and what an activation of a task wants fits.
+-- (For unqueued data alone; the laws of `activation_laws` for every sound plan are to take its place.)
 use Rattle.std.proofs.Common.{◌≡◌, ℕ, zero, suc, ◌+◌, ◌<◌, Bool, true, false, ◌&&◌, not, ◌==◌, refl, sym, ◌∙◌, ap, subst, arith, List, [], ◌∷◌, length, Option, Some, None}
 use Rattle.std.specs.Prelude.{nat_lt, nat_le, option_map}
 use Rattle.std.specs.List.{list_all, list_any, slice_get}

@@ -1,7 +1,8 @@
 -- A core that makes nothing runs nothing: in a plan of unqueued data without implicit access each next call may come.
+-- (For unqueued data alone; the laws of `history_laws` for every sound plan are to take its place.)
 use Rattle.std.proofs.Common.{◌≡◌, ℕ, ◌≤◌, ◌-◌, ℤ, pos, true, false, not, ◌&&◌, refl, sym, ◌∙◌, ap, subst, arith, List, [], ◌∷◌, length, map, take, replicate, Option, Some, None}
 use Rattle.std.specs.Prelude.{unwrap_or, nat_le, IfSome}
-use Rattle.std.specs.List.{list_all, list_any, slice_get}
+use Rattle.std.specs.List.{list_any, slice_get}
 use Rattle.std.proofs.lemmas.Bool.{and_parts, eqb-true, false≢true}
 use Rattle.std.proofs.lemmas.Bool.Decides.{nat_tests}
 use Rattle.std.proofs.Math.Seq.{take-append_seam}
@@ -20,21 +21,22 @@ use Rattle.bus_semantics.specs.declared.script.Task.{Task}
 use Rattle.bus_semantics.specs.Plan.{Plan, Runnable, runnable_of_event}
 use Rattle.bus_semantics.specs.Wanted.{Wanted, to_write, to_read, to_invalidate, to_see_updated, wanted_of, wanted_by}
 use Rattle.bus_semantics.specs.History.{History, Noted, Past, runs, last_started}
-use Rattle.bus_semantics.specs.Objects.{object_of, entries_of}
+use Rattle.bus_semantics.specs.Objects.{object_of, entries_of, touched, IsObject}
 use Rattle.bus_semantics.specs.Owners.{is_writable, holds}
 use Rattle.bus_semantics.specs.Fitting.{wish_fits}
 use Rattle.bus_semantics.specs.SoundElements.{elem_sound}
 use Rattle.bus_semantics.specs.Rest.{plain_key, option_list, event_runs, is_free}
+use Rattle.bus_semantics.specs.Asked.{is_start}
 use Rattle.port_objects.specs.declared.object.Object.{Object}
 use Rattle.port_objects.specs.declared.acting.Shown.{Shown}
-use Rattle.port_objects.specs.Coming.{is_start, MayAsk}
-use Rattle.port_objects.specs.Objects.{kept_of, touched, IsObject}
+use Rattle.port_objects.specs.Coming.{MayAsk}
+use Rattle.port_objects.specs.Objects.{kept_of}
 use Rattle.port_objects.specs.Answers as answers
 use Rattle.port_objects.specs.Answers.{why_held}
 use Rattle.port_objects.specs.Standing.{Stands}
 use Rattle.port_objects.specs.Leading.{lead}
 use Rattle.task_machine.specs.declared.instr.TaskSet.{TaskSet}
-use Rattle.task_generator.specs.Promise.{is_explicit_access, is_explicit_body, AsksAsPlanned}
+use Rattle.task_generator.specs.Promise.{AsksAsPlanned}
 use Rattle.core_turn.specs.declared.slot.Slot.{Slot}
 use Rattle.core_turn.specs.Plans.{IsBuilt}
 use Rattle.core_turn.specs.Slots.{tries_of, slot_tries}
@@ -119,7 +121,6 @@ module _ (p : Plan) (m : Mapping) (built : IsBuilt p m) where
         waits_not a by.wish (ap is_start by.is ∙ no_start (Some r.instance) w is) (subst (IsTried p a) (sym by.is) fit) (subst (λ v. IsHeld p objects (a, v)) (sym by.is) held)
 
     module _ (ts : TaskSet) (bodies : AsksAsPlanned p ts)
-        (explicit : (i : ℕ) (r : Runnable) → slice_get p.runnables i ≡ Some r → list_all is_explicit_access r.accesses ≡ true → is_explicit_body r.program.body ≡ true)
         (there : (a : Actor) (w : Wanted) → wish_fits p a w ≡ true → IfSome (object_of p a w) (IsObject p)) where
       pub runs_nothing : (s : Slot) → IsReadySlot p ts s → AllHeld p objects (slot_tries p ts s) → s.running ≡ None
       runs_nothing s ready held = of_running s.running refl
@@ -129,9 +130,9 @@ module _ (p : Plan) (m : Mapping) (built : IsBuilt p m) where
           of_running (Some k) is =
               let b = begun_of p ts s k is ready in
               let tries : slot_tries p ts s ≡ (Act k, b.wish) ∷ [] =
-              ap (tries_of p ts s.events.items s.frame) is ∙ ap (λ o. map (λ w. (Act k, w)) (option_list o)) (asked_is p m built ts bodies explicit s.events.items s.frame k b) in
-              absurd (asked_comes (Act k) b.wish b.runnable b.event (words_of b.value) b.answers (what p m built ts bodies explicit s.events.items s.frame k b)
-              (tried p m built ts bodies explicit s.events.items s.frame k b there) (subst (AllHeld p objects) tries held).0)
+              ap (tries_of p ts s.events.items s.frame) is ∙ ap (λ o. map (λ w. (Act k, w)) (option_list o)) (asked_is p m built ts bodies s.events.items s.frame k b) in
+              absurd (asked_comes (Act k) b.wish b.runnable b.event (words_of b.value) b.answers (what p m built ts bodies s.events.items s.frame k b)
+              (tried p m built ts bodies s.events.items s.frame k b there) (subst (AllHeld p objects) tries held).0)
 
 -- ---- a free core
 

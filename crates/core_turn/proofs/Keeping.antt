@@ -16,15 +16,17 @@ use Rattle.bus_semantics.specs.declared.script.Mapping.{Mapping}
 use Rattle.bus_semantics.specs.Plan.{Plan}
 use Rattle.bus_semantics.specs.Wanted.{Wanted, wanted_by}
 use Rattle.bus_semantics.specs.History.{History, Past, needs_event, started_before, note, noted}
-use Rattle.bus_semantics.specs.Objects.{machine_object, object_of, touched_by, touches, entries_of}
+use Rattle.bus_semantics.specs.Objects.{machine_object, object_of, touched_by, touches, entries_of, touched}
 use Rattle.bus_semantics.specs.Fitting.{wish_fits, answer_fits, activation_fits, fits}
 use Rattle.bus_semantics.specs.Legal.{Answers}
 use Rattle.bus_semantics.specs.Locality.{is_proper, starts_its_own}
+use Rattle.bus_semantics.specs.Pasts.{Follows}
+use Rattle.bus_semantics.specs.Asked.{asks_its_own, event_of, noted_for}
 use Rattle.port_objects.specs.declared.object.Object.{Object}
-use Rattle.port_objects.specs.Objects.{kept_of, touched}
-use Rattle.port_objects.specs.Standing.{Follows, Stands}
-use Rattle.port_objects.specs.Coming.{asks_its_own, MayAsk, IsTheOne}
-use Rattle.port_objects.specs.Answers.{event_of, noted_for, IsMade}
+use Rattle.port_objects.specs.Objects.{kept_of}
+use Rattle.port_objects.specs.Standing.{Stands}
+use Rattle.port_objects.specs.Coming.{MayAsk, IsTheOne}
+use Rattle.port_objects.specs.Answers.{IsMade}
 use Rattle.port_objects.specs.Benches.{MadeOn}
 use Rattle.task_machine.specs.declared.instr.TaskSet.{TaskSet}
 use Rattle.core_turn.specs.Plans.{IsBuilt}

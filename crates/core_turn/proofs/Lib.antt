@@ -5,6 +5,7 @@ pub mod Wishes
 pub mod Activities
 pub mod Facts
 pub mod Histories
+pub mod Until
 pub mod Tries
 pub mod Begun
 pub mod Stepping

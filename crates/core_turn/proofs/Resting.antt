@@ -1,7 +1,7 @@
 -- A core of whose slots nothing may come is at rest.
 use Rattle.std.proofs.Common.{◌≡◌, ℕ, zero, suc, Bool, true, false, not, ◌&&◌, ◌==◌, if◌then◌else◌, refl, sym, ◌∙◌, ap, subst, List, [], ◌∷◌, ◌++◌, map, Option, Some, None}
 use Rattle.std.specs.Prelude.{is_some, is_none, unwrap_or}
-use Rattle.std.specs.List.{list_all, list_any, slice_get}
+use Rattle.std.specs.List.{list_any, slice_get}
 use Rattle.std.proofs.lemmas.Bool.{and_from, and_parts, eq-eqb, eqb-true, false≢true}
 use Rattle.std.proofs.lemmas.Map.Keys.{any_passes_from_place}
 use Rattle.std.proofs.lemmas.Option.{same_Some}
@@ -11,20 +11,21 @@ use Rattle.bus_semantics.specs.declared.entries.Actor.TheVariants.{Act}
 use Rattle.bus_semantics.specs.declared.entries.Entry.{Entry}
 use Rattle.bus_semantics.specs.declared.script.Mapping.{Mapping}
 use Rattle.bus_semantics.specs.declared.script.Task.{Task}
-use Rattle.bus_semantics.specs.Plan.{Plan, Runnable, runnable_of_event}
+use Rattle.bus_semantics.specs.Plan.{Plan, runnable_of_event}
 use Rattle.bus_semantics.specs.Wanted.{Wanted, wanted_by}
 use Rattle.bus_semantics.specs.History.{History, Noted, Past, needs_event, started_before, note, runs, last_started}
 use Rattle.bus_semantics.specs.Objects.{object_of, touched_by, touches, entries_of}
 use Rattle.bus_semantics.specs.Actor.{next_wish}
 use Rattle.bus_semantics.specs.Legal.{IsLegal}
 use Rattle.bus_semantics.specs.Rest.{Try, plain_key, option_list, gathered, event_runs, start_try, IsStuck, AllStuck}
+use Rattle.bus_semantics.specs.Pasts.{Follows, IsPastOf}
 use Rattle.port_objects.specs.declared.object.Object.{Object}
 use Rattle.port_objects.specs.Kept.{Kept}
 use Rattle.port_objects.specs.Objects.{kept_of}
-use Rattle.port_objects.specs.Standing.{Follows, IsPastOf, Stands}
+use Rattle.port_objects.specs.Standing.{Stands}
 use Rattle.port_objects.specs.Leading.{lead}
 use Rattle.task_machine.specs.declared.instr.TaskSet.{TaskSet}
-use Rattle.task_generator.specs.Promise.{is_explicit_access, is_explicit_body, AsksAsPlanned}
+use Rattle.task_generator.specs.Promise.{AsksAsPlanned}
 use Rattle.core_turn.specs.declared.slot.Slot.{Slot}
 use Rattle.core_turn.specs.Plans.{IsBuilt}
 use Rattle.core_turn.specs.Slots.{starts, is_key_of, tries_of, slot_tries}
@@ -117,7 +118,6 @@ module _ (p : Plan) (m : Mapping) (built : IsBuilt p m) (h : History) (legal : I
 -- ---- a slot
 
 module _ (p : Plan) (m : Mapping) (built : IsBuilt p m) (ts : TaskSet) (bodies : AsksAsPlanned p ts)
-    (explicit : (i : ℕ) (r : Runnable) → slice_get p.runnables i ≡ Some r → list_all is_explicit_access r.accesses ≡ true → is_explicit_body r.program.body ≡ true)
     (h : History) (s : Slot) where
   calls_stuck : (es : List ℕ) → ((i e r : ℕ) (w : Wanted) → slice_get es i ≡ Some e → runnable_of_event p e ≡ Some r → next_wish p h (plain_key r) ≡ Some w → IsStuck p h (Act (plain_key r), w)) → AllStuck p h (gathered (calls_by p h) es)
   calls_stuck es each =
@@ -139,9 +139,9 @@ module _ (p : Plan) (m : Mapping) (built : IsBuilt p m) (ts : TaskSet) (bodies :
     -- the event of the running activation runs
     busy : event_runs p h b.event ≡ true
     busy =
-        let is = plain p m built ts bodies explicit s.events.items s.frame k b in
+        let is = plain p m built ts bodies s.events.items s.frame k b in
         let goes : runs k h ≡ true = stands.one k b.own ∙ same_keys k k refl in
-        let last : last_started k h ≡ Some b.event = last_event k h stands.frame.activation stands.frame.current ∙ ap (λ n. Some n) (wants p m built ts bodies explicit s k b h stands).event in
+        let last : last_started k h ≡ Some b.event = last_event k h stands.frame.activation stands.frame.current ∙ ap (λ n. Some n) (wants p m built ts bodies s k b h stands).event in
         let both_are : (runs (plain_key k.runnable) h && same_number (last_started (plain_key k.runnable) h) (Some b.event)) ≡ true =
         subst (λ j. (runs j h && same_number (last_started j h) (Some b.event)) ≡ true) is (and_from (runs k h) _ goes (same_option (last_started k h) (Some b.event) last)) in
         rw b.starts both_are
@@ -156,7 +156,7 @@ module _ (p : Plan) (m : Mapping) (built : IsBuilt p m) (ts : TaskSet) (bodies :
         of_call : (r : ℕ) (w : Wanted) → next_wish p h (plain_key r) ≡ Some w → is_key_of p s.events.items (plain_key r) ≡ true → IsStuck p h (Act (plain_key r), w)
         of_call r w next own =
             let here : plain_key r ≡ k = key_same (plain_key r) k (sym (stands.one (plain_key r) own) ∙ wanting_runs p h (plain_key r) w next) in
-            let wish : Some b.wish ≡ Some w = sym (wants p m built ts bodies explicit s k b h stands).next ∙ ap (next_wish p h) (sym here) ∙ next in
+            let wish : Some b.wish ≡ Some w = sym (wants p m built ts bodies s k b h stands).next ∙ ap (next_wish p h) (sym here) ∙ next in
             subst (λ j. IsStuck p h (Act j, w)) (sym here) (subst (λ v. IsStuck p h (Act k, v)) (same_Some _ _ wish) stuck)
 
         listed : list_any (λ d. d == b.event) s.events.items ≡ true
@@ -181,13 +181,12 @@ module _ (p : Plan) (m : Mapping) (built : IsBuilt p m) (ts : TaskSet) (bodies :
       of_running (Some k) is =
           let b = begun_of p ts s k is ready in
           let tries : slot_tries p ts s ≡ (Act k, b.wish) ∷ [] =
-          ap (tries_of p ts s.events.items s.frame) is ∙ ap (λ o. map (λ w. (Act k, w)) (option_list o)) (asked_is p m built ts bodies explicit s.events.items s.frame k b) in
+          ap (tries_of p ts s.events.items s.frame) is ∙ ap (λ o. map (λ w. (Act k, w)) (option_list o)) (asked_is p m built ts bodies s.events.items s.frame k b) in
           back (running_stuck k b (subst (λ o. TaskStands p ts h s.events.items o s.frame) is stands) task at same (subst (AllStuck p h) tries stuck).0)
 
 -- ---- a core
 
 module _ (p : Plan) (m : Mapping) (ts : TaskSet) (bodies : AsksAsPlanned p ts)
-    (explicit : (i : ℕ) (r : Runnable) → slice_get p.runnables i ≡ Some r → list_all is_explicit_access r.accesses ≡ true → is_explicit_body r.program.body ≡ true)
     (h : History) (c : CoreState) where
   pub core_rests : IsReady p m ts c → CoreStands p ts h c → AllStuck p h (gathered (slot_tries p ts) c.slots) → CoreRests p m h c.number
   core_rests ready stands stuck = stuck_each p h (tries_of_task p h) (tasks_of_core m c.number) (λ i task found. of_task i task found)
@@ -197,5 +196,5 @@ module _ (p : Plan) (m : Mapping) (ts : TaskSet) (bodies : AsksAsPlanned p ts)
           let slot = together events_of_slot (λ (t : Task). t.events) c.slots (tasks_of_core m c.number) i task ready.tasks found in
           let s = slot.from in
           let place = slot.at.place in
-          slot_stuck p m ready.built ts bodies explicit h s task (kept_from (λ (t : Task). t.core == c.number) m.tasks i task found).at (sym slot.is)
+          slot_stuck p m ready.built ts bodies h s task (kept_from (λ (t : Task). t.core == c.number) m.tasks i task found).at (sym slot.is)
           (ready.each place s slot.at.found) (stands place s slot.at.found) (stuck_at p h (slot_tries p ts) c.slots place s slot.at.found stuck)

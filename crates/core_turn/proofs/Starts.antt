@@ -11,10 +11,9 @@ use Rattle.bus_semantics.specs.declared.script.Mapping.{Mapping}
 use Rattle.bus_semantics.specs.Plan.{Plan, runnable_of_event}
 use Rattle.bus_semantics.specs.Wanted.{Wanted, to_start}
 use Rattle.bus_semantics.specs.History.{count}
-use Rattle.bus_semantics.specs.Objects.{object_of}
+use Rattle.bus_semantics.specs.Objects.{object_of, IsObject}
 use Rattle.bus_semantics.specs.Fitting.{wish_fits}
 use Rattle.bus_semantics.specs.Rest.{plain_key, option_list, gathered, start_try}
-use Rattle.port_objects.specs.Objects.{IsObject}
 use Rattle.core_turn.specs.declared.look.Look.{Look}
 use Rattle.core_turn.specs.declared.look.Look.TheVariants.{Made, Nothing, Contended}
 use Rattle.core_turn.specs.Plans.{IsBuilt}

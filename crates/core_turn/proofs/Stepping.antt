@@ -1,8 +1,8 @@
 -- A slot after an entry of its running activation.
-use Rattle.std.proofs.Common.{◌≡◌, ℕ, ◌≤◌, true, ◌&&◌, if◌then◌else◌, refl, sym, ◌∙◌, ap, subst, List, [], ◌∷◌, ◌++◌, length, Option, Some, None}
+use Rattle.std.proofs.Common.{◌≡◌, ℕ, true, ◌&&◌, if◌then◌else◌, refl, sym, ◌∙◌, ap, subst, List, [], ◌∷◌, ◌++◌, length, Option, Some, None}
 use Rattle.std.proofs.lemmas.Bool.{and_from}
 use Rattle.std.specs.Prelude.{nat_lt, is_none, option_and_then, unwrap_or}
-use Rattle.std.specs.List.{list_all, slice_get}
+use Rattle.std.specs.List.{list_all}
 use Rattle.rte_value.specs.declared.kinds.ActKey.{ActKey}
 use Rattle.rte_value.specs.Values.{words_of}
 use Rattle.bus_semantics.specs.declared.entries.Actor.TheVariants.{Act}
@@ -21,11 +21,10 @@ use Rattle.bus_semantics.specs.Legal.{Answers, admission_allows}
 use Rattle.bus_semantics.specs.Locality.{is_proper, starts_its_own}
 use Rattle.bus_semantics.specs.Actor.{Activation, activation_of, wanted_in, next_wish}
 use Rattle.bus_semantics.specs.Activations.{next_of_activity}
-use Rattle.port_objects.specs.Answers.{event_of}
-use Rattle.task_machine.specs.declared.instr.Body.{Body}
+use Rattle.bus_semantics.specs.Asked.{event_of}
 use Rattle.task_machine.specs.declared.instr.TaskSet.{TaskSet}
-use Rattle.task_machine.specs.Frames.{asks, Stands, most, IsMadeFor}
-use Rattle.task_generator.specs.Promise.{is_explicit_access, is_explicit_body, AsksAsPlanned}
+use Rattle.task_machine.specs.Frames.{asks, Stands, IsMadeFor}
+use Rattle.task_generator.specs.Promise.{AsksAsPlanned}
 use Rattle.core_turn.specs.declared.slot.Slot.{Slot}
 use Rattle.core_turn.specs.Plans.{IsBuilt}
 use Rattle.core_turn.specs.Slots.{is_key_of}
@@ -37,8 +36,9 @@ use Rattle.core_turn.proofs.Basics.{looked, same_keys}
 use Rattle.core_turn.proofs.Wishes.{IsData}
 use Rattle.core_turn.proofs.Activities.{AsksOn, Asked, the_end, some_data}
 use Rattle.core_turn.proofs.Facts.{data_touches, key_is, data_fits}
+use Rattle.core_turn.proofs.Until.{wants_still, wants_further, still_made}
 use Rattle.core_turn.proofs.Histories.{entry_by, IsDatum, datum, end_is, data_follows, end_follows, last_event, datum_stands, end_stands}
-use Rattle.core_turn.proofs.Begun.{asked_asks, plain_at, asked_is, inside, plain, what, data_event}
+use Rattle.core_turn.proofs.Begun.{asked_asks, asked_is, inside, plain, what, data_event}
 
 -- no clause speaks of an end
 pub end_answers : (p : Plan) (g : History) (k : ActKey) → Answers p (noted g) (note g (entry_by k deed.End))
@@ -49,7 +49,6 @@ end_answers p g k = record { unqueued = refl; queued = refl; calls = refl; areas
     of_event (Some e) = refl
 
 module _ (p : Plan) (m : Mapping) (built : IsBuilt p m) (t : TaskSet) (bodies : AsksAsPlanned p t)
-    (explicit : (i : ℕ) (r : Runnable) → slice_get p.runnables i ≡ Some r → list_all is_explicit_access r.accesses ≡ true → is_explicit_body r.program.body ≡ true)
     (old : Slot) (k : ActKey) (b : IsBegun p t old.events.items old.frame k) where
   -- the actor rule wants what the activation asks
   pub record Wants (g : History) (a : Activation) : Type 0 where
@@ -60,8 +59,9 @@ module _ (p : Plan) (m : Mapping) (built : IsBuilt p m) (t : TaskSet) (bodies : 
   wants g s =
       let a = s.frame.activation in
       let fed = s.frame.stands in
-      let asking : asks t k (deed.Start a.event s.frame.point s.frame.value) a.deeds ≡ Some b.wish = sym (asked_asks t k (deed.Start a.event s.frame.point s.frame.value) a.deeds old.frame fed) ∙ asked_is p m built t bodies explicit old.events.items old.frame k b in
-      let planned : next_of_activity p b.runnable a.event (words_of s.frame.value) a.deeds ≡ Some b.wish = sym (bodies k b.runnable a.event s.frame.point s.frame.value a.deeds b.there (plain_at p m built t bodies explicit k.runnable b.runnable a.event b.there)) ∙ asking in
+      let asking : asks t k (deed.Start a.event s.frame.point s.frame.value) a.deeds ≡ Some b.wish = sym (asked_asks t k (deed.Start a.event s.frame.point s.frame.value) a.deeds old.frame fed) ∙ asked_is p m built t bodies old.events.items old.frame k b in
+      let planned : next_of_activity p b.runnable a.event (words_of s.frame.value) a.deeds ≡ Some b.wish =
+      (wants_still p b.runnable a.event (words_of s.frame.value) a.deeds b.wish (sym (bodies k b.runnable a.event s.frame.point s.frame.value a.deeds b.there) ∙ asking)).next in
       let goes : runs k g ≡ true = s.one k b.own ∙ same_keys k k refl in
       let found : wanted_in p k a ≡ next_of_activity p b.runnable a.event a.start a.deeds = looked p.runnables k.runnable b.runnable (λ (r : Runnable). next_of_activity p r a.event a.start a.deeds) None b.there in
       let given : next_of_activity p b.runnable a.event a.start a.deeds ≡ Some b.wish = ap (λ ws. next_of_activity p b.runnable a.event ws a.deeds) (sym s.frame.words) ∙ planned in
@@ -71,10 +71,10 @@ module _ (p : Plan) (m : Mapping) (built : IsBuilt p m) (t : TaskSet) (bodies : 
       }
 
   key_is_fit : key_fits p k ≡ true
-  key_is_fit = subst (λ j. key_fits p j ≡ true) (sym (plain p m built t bodies explicit old.events.items old.frame k b)) (key_is p m built k.runnable b.runnable b.there (inside p m built t bodies explicit old.events.items old.frame k b))
+  key_is_fit = subst (λ j. key_fits p j ≡ true) (sym (plain p m built t bodies old.events.items old.frame k b)) (key_is p m built k.runnable b.runnable b.there (inside p m built t bodies old.events.items old.frame k b))
 
   data_is_fit : IsData p (Some b.runnable.instance) b.wish → wish_fits p (Act k) b.wish ≡ true
-  data_is_fit is = subst (λ j. wish_fits p (Act j) b.wish ≡ true) (sym (plain p m built t bodies explicit old.events.items old.frame k b)) (data_fits p m built k.runnable b.runnable b.wish b.there (inside p m built t bodies explicit old.events.items old.frame k b) is)
+  data_is_fit is = subst (λ j. wish_fits p (Act j) b.wish ≡ true) (sym (plain p m built t bodies old.events.items old.frame k b)) (data_fits p m built k.runnable b.runnable b.wish b.there (inside p m built t bodies old.events.items old.frame k b) is)
 
   -- the task after an entry, seen as the slot after it
   seen : (e : Entry) (g : History) (new : Slot) (running : Option ActKey) → new.events ≡ old.events → new.running ≡ running → TaskStands p t (e ∷ g) old.events.items running new.frame → SlotStands p t (e ∷ g) new
@@ -139,7 +139,7 @@ module _ (p : Plan) (m : Mapping) (built : IsBuilt p m) (t : TaskSet) (bodies : 
             value = b.value;
             answers = b.answers ++ d ∷ [];
             wish = more.wish;
-            next = more.next;
+            next = wants_further p b.runnable b.event (words_of b.value) b.answers d more.wish (wants_still p b.runnable b.event (words_of b.value) b.answers b.wish b.next).ongoing a.over more.next;
             stands = fed k (deed.Start b.event b.point b.value) b.answers b.stands;
           });
         };
@@ -163,18 +163,14 @@ module _ (p : Plan) (m : Mapping) (built : IsBuilt p m) (t : TaskSet) (bodies : 
 
   -- ---- what was heard
 
-  made_still : (new : Slot) → new.frame.vars_room ≡ old.frame.vars_room → new.frame.counters_room ≡ old.frame.counters_room → IsMadeFor t old.frame → IsMadeFor t new.frame
-  made_still new vars counters made =
-      record { vars = subst (λ n. most (λ (b : Body). b.vars) t.bodies ≤ n) (sym vars) made.vars; counters = subst (λ n. most (λ (b : Body). b.counters) t.bodies ≤ n) (sym counters) made.counters }
-
   pub heard_step : (s : Stamped) (new : Slot) → IsEntryOf p (Act k) b.wish s → old.running ≡ Some k → IsReadySlot p t old → Heard t s.entry.deed old new → SlotStep p t old new s
-  heard_step s new is running ready heard = of_wish (what p m built t bodies explicit old.events.items old.frame k b)
+  heard_step s new is running ready heard = of_wish (what p m built t bodies old.events.items old.frame k b)
     where
       entry : s.entry ≡ entry_by k s.entry.deed
       entry = λ i. record { actor = is.actor i; deed = s.entry.deed }
 
       made : IsMadeFor t new.frame
-      made = made_still new heard.vars_room heard.counters_room ready.made
+      made = still_made t old.frame new.frame heard.room heard.counters_room ready.made
 
       of_wish : Asked p b.runnable b.event (words_of b.value) b.answers b.wish → SlotStep p t old new s
       of_wish (the_end w) =

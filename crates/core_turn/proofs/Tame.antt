@@ -1,4 +1,5 @@
 -- Runs that ask for what they may and use up one answer at a time: after the answer to what one asks, it asks again or has used up all.
+-- (For unqueued data alone; the laws of `activation_laws` for every sound plan are to take its place.)
 use Rattle.std.proofs.Common.{◌≡◌, ℕ, zero, suc, Bool, true, false, if◌then◌else◌, refl, sym, ◌∙◌, ap, subst, List, [], ◌∷◌, ◌++◌}
 use Rattle.bus_semantics.specs.declared.entries.Deed.{Deed}
 use Rattle.bus_semantics.specs.Wanted.{Wanted}

@@ -7,10 +7,10 @@ use Rattle.bus_semantics.specs.declared.entries.Stamped.{Stamped}
 use Rattle.bus_semantics.specs.Plan.{Plan}
 use Rattle.bus_semantics.specs.Wanted.{Wanted, to_end}
 use Rattle.bus_semantics.specs.Objects.{object_of}
+use Rattle.bus_semantics.specs.Asked.{event_of}
 use Rattle.port_objects.specs.declared.object.Object.{Object}
 use Rattle.port_objects.specs.declared.acting.Shown.{Shown}
 use Rattle.port_objects.specs.declared.bench.Benched.TheVariants.{Done, NotYet}
-use Rattle.port_objects.specs.Answers.{event_of}
 use Rattle.port_objects.specs.Benches.{IsFurther, StampAfter, IsStampedFor, ObjectsAfter, stamped_alone}
 use Rattle.core_turn.specs.declared.look.Look.TheVariants as look
 use Rattle.core_turn.specs.Looking.{IsEnd, IsFree, event_for, IsEntryOf, IsHeldAt, MadeAt, ObjectsLooked, Told, Looked}

@@ -1,5 +1,6 @@
 -- What the program of a sound plan without queues, calls, areas, modes and implicit access asks: it writes, reads, invalidates and looks
 -- whether there was an update, and each of these wishes fits.
+-- (For unqueued data alone; the laws of `activation_laws` for every sound plan are to take its place.)
 use Rattle.std.proofs.Common.{◌≡◌, ℕ, ◌+◌, ◌<◌, ℤ, pos, Bool, true, false, ◌&&◌, not, ◌==◌, refl, sym, ◌∙◌, ap, subst, arith, List, [], ◌∷◌, length, map, replicate, Option, Some, None}
 use Rattle.std.specs.Prelude.{nat_lt}
 use Rattle.std.specs.Ordering.{int_eq}
@@ -29,7 +30,7 @@ use Rattle.bus_semantics.specs.Programs.{takes_nothing, takes_zero, takes_number
 use Rattle.bus_semantics.specs.SoundElements.{same_limits}
 use Rattle.bus_semantics.specs.SoundPlan.{is_variable}
 use Rattle.bus_semantics.specs.SoundAccesses as accesses
-use Rattle.bus_semantics.specs.SoundAccesses.{access_sound, each_access, accesses_distinct, point_takes, mode_count}
+use Rattle.bus_semantics.specs.SoundAccesses.{access_sound, each_access, accesses_distinct, areas_rise, point_takes, mode_count}
 use Rattle.bus_semantics.specs.SoundPrograms.{is_in_range, is_declared_after, calls_outside, each_in, each_of, body_sound, runnable_sound}
 use Rattle.core_turn.specs.Plans.{IsBuilt}
 use Rattle.core_turn.proofs.Basics.{clash, Sought, sought, no_look, all_at, at_place}
@@ -113,7 +114,9 @@ module _ (p : Plan) (m : Mapping) (built : IsBuilt p m) (i : ℕ) (r : Runnable)
   sound_accesses = (and_parts (each_access (access_sound p i (Some r.instance)) r.accesses r.targets) _ whole).0
 
   distinct : accesses_distinct r.accesses ≡ true
-  distinct = (and_parts (accesses_distinct r.accesses) _ (and_parts (each_access (access_sound p i (Some r.instance)) r.accesses r.targets) _ whole).1).0
+  distinct =
+      let after = and_parts (accesses_distinct r.accesses && areas_rise r.accesses r.targets) _ (and_parts (each_access (access_sound p i (Some r.instance)) r.accesses r.targets) _ whole).1 in
+      (and_parts (accesses_distinct r.accesses) (areas_rise r.accesses r.targets) after.0).0
 
   serving : (k : AccessKind) (port item : ℕ) (values vars : Option ℕ) → list_any (serves k port item values vars) r.accesses ≡ true
       → Serving (access_sound p i (Some r.instance)) (serves k port item values vars) k (access r k port item)
@@ -274,5 +277,5 @@ module _ (p : Plan) (m : Mapping) (built : IsBuilt p m) (i : ℕ) (r : Runnable)
   pub program_tame : (s : State) → Tame (IsData p (Some r.instance)) (running_body r r.program.body s)
   program_tame s =
       let a = and_parts (each_access (access_sound p i (Some r.instance)) r.accesses r.targets) _ whole in
-      let b = and_parts (accesses_distinct r.accesses) _ a.1 in
+      let b = and_parts (accesses_distinct r.accesses && areas_rise r.accesses r.targets) _ a.1 in
       body_tame r.program.body [] (and_parts (body_sound r r.program.body []) _ b.1).0 s

@@ -9,4 +9,3 @@ pub mod Turning
 pub mod Awake
 pub mod Lawful
 pub mod Resting
-pub mod Small

@@ -9,12 +9,11 @@ use Rattle.bus_semantics.specs.Plan.{Plan, runnable_of_event}
 use Rattle.bus_semantics.specs.Wanted.{Wanted, to_start, to_end, wanted_by}
 use Rattle.bus_semantics.specs.History.{Noted}
 use Rattle.bus_semantics.specs.Fitting.{wish_fits, answer_fits}
-use Rattle.bus_semantics.specs.Objects.{object_of}
+use Rattle.bus_semantics.specs.Objects.{object_of, IsObject}
 use Rattle.bus_semantics.specs.Rest.{Try, plain_key}
+use Rattle.bus_semantics.specs.Asked.{asks_its_own, event_of}
 use Rattle.port_objects.specs.declared.object.Object.{Object}
-use Rattle.port_objects.specs.Coming.{asks_its_own}
-use Rattle.port_objects.specs.Objects.{IsObject, kept_of}
-use Rattle.port_objects.specs.Answers.{event_of}
+use Rattle.port_objects.specs.Objects.{kept_of}
 use Rattle.port_objects.specs.Leading.{lead}
 use Rattle.port_objects.specs.Benches.{Work, IsFurther, StampAfter, MadeOn}
 use Rattle.core_turn.specs.declared.look.Look.{Look}
@@ -31,7 +30,8 @@ abbrev pub IsFree : Option ℕ → Wanted → Type 0
 IsFree None w = IsEnd w
 IsFree (Some object) w = Unit {0}
 
--- the wish fits its actor, a start is of the actor's own runnable, and what is touched is one of the plan's objects
+-- the wish fits its actor, a start, an admission and an end are by an event of the actor's own runnable, and what is touched is one of the
+-- plan's objects
 pub record IsTried (p : Plan) (a : Actor) (w : Wanted) : Type 0 where
   pub fits : wish_fits p a w ≡ true
   pub own : asks_its_own p a w ≡ true

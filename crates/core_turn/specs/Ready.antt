@@ -9,10 +9,10 @@ use Rattle.bus_semantics.specs.declared.entries.Deed.{Deed}
 use Rattle.bus_semantics.specs.declared.entries.Deed.TheVariants as deed
 use Rattle.bus_semantics.specs.Plan.{Plan, Runnable, runnable_of_event}
 use Rattle.bus_semantics.specs.Wanted.{Wanted}
-use Rattle.bus_semantics.specs.Activations.{next_of_activity}
 use Rattle.task_machine.specs.declared.instr.TaskSet.{TaskSet}
 use Rattle.task_machine.specs.Standing.{Standing}
 use Rattle.task_machine.specs.Frames.{Stands, IsMadeFor}
+use Rattle.task_generator.specs.Promise.{next_until_over}
 use Rattle.core_turn.specs.declared.slot.Slot.{Slot}
 use Rattle.core_turn.specs.Slots.{is_key_of}
 use Rattle.core_turn.specs.Cores.{CoreState, HasTasks}
@@ -29,7 +29,7 @@ pub record IsBegun (p : Plan) (t : TaskSet) (events : List ℕ) (f : Standing) (
   pub value : Value
   pub answers : List Deed
   pub wish : Wanted
-  pub next : next_of_activity p runnable event (words_of value) answers ≡ Some wish
+  pub next : next_until_over p runnable event (words_of value) answers ≡ Some wish
   pub stands : Stands t k (deed.Start event point value) answers f
 
 abbrev pub IsBegunIn : Plan → TaskSet → (events : List ℕ) → Standing → Option ActKey → Type 0

@@ -52,7 +52,7 @@ pub record SlotStep (p : Plan) (t : TaskSet) (slot after : Slot) (s : Stamped) :
 pub record Heard (t : TaskSet) (d : Deed) (old new : Slot) : Type 0 where
   pub events : new.events ≡ old.events
   pub running : new.running ≡ (if is_end d then None else old.running)
-  pub vars_room : new.frame.vars_room ≡ old.frame.vars_room
+  pub room : new.frame.room ≡ old.frame.room
   pub counters_room : new.frame.counters_room ≡ old.frame.counters_room
   pub stands : is_end d ≡ false → (k : ActKey) (start : Deed) (answers : List Deed) → Stands t k start answers old.frame → Stands t k start (answers ++ d ∷ []) new.frame
 
@@ -60,7 +60,7 @@ pub record Heard (t : TaskSet) (d : Deed) (old new : Slot) : Type 0 where
 pub record BegunBy (t : TaskSet) (e : Entry) (old new : Slot) : Type 0 where
   pub events : new.events ≡ old.events
   pub running : (k : ActKey) → e.actor ≡ Act k → new.running ≡ Some k
-  pub vars_room : new.frame.vars_room ≡ old.frame.vars_room
+  pub room : new.frame.room ≡ old.frame.room
   pub counters_room : new.frame.counters_room ≡ old.frame.counters_room
   pub stands : (k : ActKey) → e.actor ≡ Act k → Stands t k e.deed [] new.frame
 

@@ -16,7 +16,6 @@ use crate::trying::try_wish;
 use bus_semantics::{Actor, BusPlan, Deed};
 use port_objects::{Bench, sound_plans_have_objects};
 use rte_value::ActKey;
-use task_generator::sound_programs_are_explicit;
 use task_machine::{Next, TaskSet};
 
 /// The running activation of a slot hears the bus's answer to its call. It is over with its end.
@@ -50,7 +49,6 @@ pub(crate) fn go_on<B: Bench>(
         (record { room = B.room bench.new; next = B.next bench.new; objects = B.objects bench.new; work = B.work bench.new }) result }
     ensures slot { SlotLooked (plan_of p.now) t.now slot.old slot.new result }
 {
-    sound_programs_are_explicit();
     sound_plans_have_objects();
     match slot.frame.next_call(t) {
         Next::Over => unreachable!(),

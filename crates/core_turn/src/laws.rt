@@ -24,7 +24,6 @@ use port_objects::{
     answers_are_what_may_come, leads_miss_nothing, legal_histories_part_into_objects,
     only_starts_wait, sound_plans_have_objects,
 };
-use task_generator::sound_programs_are_explicit;
 
 /// For every history for which cores and objects are lawful, the entry of a turn over a bench that tells these objects
 /// keeps it legal, and the cores, with this one as it is after the turn, and the objects are lawful for the longer
@@ -59,7 +58,6 @@ pub fn nothing_now_is_rest_of_the_core()
 {
     legal_histories_part_into_objects();
     leads_miss_nothing();
-    sound_programs_are_explicit();
 }
 
 /// In a plan of unqueued data without implicit access only starts wait: where cores and objects are lawful for a history, and
@@ -71,7 +69,6 @@ pub fn nothing_now_frees_the_core()
 {
     only_starts_wait();
     sound_plans_have_objects();
-    sound_programs_are_explicit();
 }
 
 /// Where each core of the mapping rests after a legal history, this is at rest; and where no activation of their tasks

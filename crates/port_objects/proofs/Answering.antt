@@ -15,6 +15,7 @@ use Rattle.explicit_ports.specs.Kept as data_kept
 use Rattle.tick_events.specs.Kept as clock_kept
 use Rattle.bus_semantics.specs.Plan.{Plan, kind_of}
 use Rattle.bus_semantics.specs.Wanted.{Wanted}
+use Rattle.bus_semantics.specs.Asked.{event_of}
 use Rattle.port_objects.specs.declared.group.Group.{Group}
 use Rattle.port_objects.specs.declared.ticks.Ticks.{Ticks}
 use Rattle.port_objects.specs.declared.object.Object.{Object}
@@ -24,7 +25,7 @@ use Rattle.port_objects.specs.Kept.{of_group, of_clock}
 use Rattle.port_objects.specs.Leading.{given, is_set, lead_of_group, lead_of_start, lead_of_clock, lead}
 use Rattle.port_objects.specs.Acting.{is_bare, LeadsGroup, HoldsGroup, LeadsClock, HoldsClock}
 use Rattle.port_objects.specs.Objects.{GroupOfPlan, ClockOfPlan, HasRoom, IsOfPlan}
-use Rattle.port_objects.specs.Answers.{event_of, IsMade, IsHeld, why_held}
+use Rattle.port_objects.specs.Answers.{IsMade, IsHeld, why_held}
 use Rattle.port_objects.specs.declared.acting.Shown.{Shown}
 use Rattle.port_objects.specs.Rising.{is_rising}
 use Rattle.port_objects.proofs.Rising.{rising_positions}

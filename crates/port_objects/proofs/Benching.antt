@@ -8,11 +8,11 @@ use Rattle.std.proofs.lemmas.List.{length-set}
 use Rattle.bus_semantics.specs.declared.entries.Actor.{Actor}
 use Rattle.bus_semantics.specs.Plan.{Plan}
 use Rattle.bus_semantics.specs.Wanted.{Wanted}
-use Rattle.bus_semantics.specs.Objects.{clock, object_of}
+use Rattle.bus_semantics.specs.Objects.{clock, object_of, touched, IsObject}
 use Rattle.port_objects.specs.declared.object.Object.{Object}
 use Rattle.port_objects.specs.declared.acting.Acted.{Acted}
 use Rattle.port_objects.specs.declared.acting.Acted.TheVariants as acted
-use Rattle.port_objects.specs.Objects.{touched, IsOfPlan, IsObject, ArePlans}
+use Rattle.port_objects.specs.Objects.{IsOfPlan, ArePlans}
 use Rattle.port_objects.specs.Plans.{HasObjects}
 use Rattle.port_objects.specs.Answers.{IsAnswer}
 use Rattle.port_objects.specs.Benches.{ActedOn}

@@ -27,8 +27,9 @@ use Rattle.bus_semantics.specs.SoundPlan.{is_distinct}
 use Rattle.tick_events.specs.Kept.{Kept, Timer, ticked, started, timers_after, after_tick, after_timing, after_init}
 use Rattle.tick_events.specs.Kept as clock_kept
 use Rattle.port_objects.specs.Layout.{events_of, is_timing, is_init, period_in, place}
-use Rattle.port_objects.specs.Matching.{start_matches}
-use Rattle.port_objects.specs.Standing.{Follows, due_after, timer_after, ClockKeeps}
+use Rattle.bus_semantics.specs.Matching.{start_matches}
+use Rattle.bus_semantics.specs.Pasts.{Follows}
+use Rattle.port_objects.specs.Standing.{due_after, timer_after, ClockKeeps}
 use Rattle.port_objects.specs.Leading.{is_set, is_timer_due, lead_of_start, lead_of_clock}
 use Rattle.port_objects.proofs.Placing.{clash, given_some, all_filter, map_all, place_at, mapped_at, all_at, set_all, distinct_positions}
 use Rattle.port_objects.proofs.GroupLeads.{noting, answer_part, admitted, flag_set}

@@ -12,16 +12,17 @@ use Rattle.bus_semantics.specs.declared.entries.Entry.{Entry}
 use Rattle.bus_semantics.specs.Plan.{Plan, instance_of}
 use Rattle.bus_semantics.specs.Wanted.{Wanted, to_admit, to_end, wanted_by}
 use Rattle.bus_semantics.specs.History.{Past, needs_event}
-use Rattle.bus_semantics.specs.Objects.{object_of, touched_by, touches}
+use Rattle.bus_semantics.specs.Objects.{object_of, touched_by, touches, touched}
 use Rattle.bus_semantics.specs.Owners.{key_fits, event_fits}
 use Rattle.bus_semantics.specs.Fitting.{wish_fits, activation_fits, answer_fits}
 use Rattle.bus_semantics.specs.Locality.{starts_its_own, is_proper}
+use Rattle.bus_semantics.specs.Asked.{event_of, noted_for, asks_its_own, NoneMayCome}
 use Rattle.port_objects.specs.Leading.{lead}
-use Rattle.port_objects.specs.Objects.{kept_of, touched}
+use Rattle.port_objects.specs.Objects.{kept_of}
 use Rattle.port_objects.specs.declared.object.Object.{Object}
 use Rattle.port_objects.specs.declared.acting.Shown.{Shown}
-use Rattle.port_objects.specs.Answers.{event_of, noted_for, IsMade, IsHeld}
-use Rattle.port_objects.specs.Coming.{asks_its_own, MayAsk, IsTheOne, NoneMayCome}
+use Rattle.port_objects.specs.Answers.{IsMade, IsHeld}
+use Rattle.port_objects.specs.Coming.{MayAsk, IsTheOne}
 use Rattle.port_objects.proofs.Complete.{leads_on}
 use Rattle.port_objects.proofs.Leads.{lead_follows, lead_stands}
 use Rattle.port_objects.proofs.Plain.{is_plain, plain_deed}

@@ -29,11 +29,12 @@ use Rattle.bus_semantics.specs.Due.{is_due, is_due_kind}
 use Rattle.bus_semantics.specs.Legal.{same_bool, Answers}
 use Rattle.bus_semantics.specs.Locality.{is_proper}
 use Rattle.bus_semantics.specs.Sound.{IsSound}
+use Rattle.bus_semantics.specs.Pasts.{Follows}
 use Rattle.explicit_ports.specs.Kept as data_kept
 use Rattle.tick_events.specs.Kept as clock_kept
 use Rattle.port_objects.specs.Kept.{Kept, of_group, of_clock}
 use Rattle.port_objects.specs.Layout.{members_of, events_of, waits_for_data, is_timing, is_init, place}
-use Rattle.port_objects.specs.Standing.{Follows, due_after, GroupKeeps, ClockKeeps, Keeps, Stands}
+use Rattle.port_objects.specs.Standing.{due_after, GroupKeeps, ClockKeeps, Keeps, Stands}
 use Rattle.port_objects.specs.Leading.{given, read_code_in, has_value, is_set, has_flag, is_timer_due, lead_of_group, lead_of_clock, lead}
 use Rattle.port_objects.specs.Plans.{IsUnqueuedPlan}
 use Rattle.port_objects.proofs.ClockLeads.{timings_all, timer_at}

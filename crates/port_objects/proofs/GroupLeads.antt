@@ -23,7 +23,7 @@ use Rattle.bus_semantics.specs.History.{Noted, Past, newest, needs_event}
 use Rattle.bus_semantics.specs.Objects.{touches}
 use Rattle.bus_semantics.specs.Fitting.{fits, wish_fits, activation_fits, answer_fits, start_fits}
 use Rattle.bus_semantics.specs.Unqueued.{is_in_group, stored_in, last_stored, value_at, validity, is_invalid, elem_read_code, read_code, update, is_updated}
-use Rattle.bus_semantics.specs.Queued.{accepts_next}
+use Rattle.bus_semantics.specs.Queued.{sent_in}
 use Rattle.bus_semantics.specs.Calls.{starts_request}
 use Rattle.bus_semantics.specs.Owed.{is_start_by}
 use Rattle.bus_semantics.specs.Due.{follows_last, brings_data, is_due_kind, is_due}
@@ -32,8 +32,9 @@ use Rattle.bus_semantics.specs.Locality.{is_proper, starts_its_own}
 use Rattle.bus_semantics.specs.SoundPlan.{is_distinct}
 use Rattle.explicit_ports.specs.Kept.{Kept, after_write, after_invalidation, after_read, after_start}
 use Rattle.port_objects.specs.Layout.{members_of, initial_of, events_of, waits_for_data, place}
-use Rattle.port_objects.specs.Matching.{start_matches}
-use Rattle.port_objects.specs.Standing.{Follows, due_after, GroupKeeps}
+use Rattle.bus_semantics.specs.Matching.{start_matches}
+use Rattle.bus_semantics.specs.Pasts.{Follows}
+use Rattle.port_objects.specs.Standing.{due_after, GroupKeeps}
 use Rattle.port_objects.specs.Leading.{given, read_code_by, read_code_in, has_value, is_set, has_flag, lead_of_group}
 use Rattle.port_objects.proofs.Placing.{clash, given_some, then_some, all_filter, map_all, filled_all, place_at, mapped_at, all_at, set_all, distinct_positions}
 
@@ -98,14 +99,20 @@ due_now p g e n l waits other stores =
     let now = stores m.elem m.group in
     due_kind p e w.element (n ∷ l) w.kind ∙ rw (other, found, now) refl
 
+-- the deed neither stores nor sends a value in the group
+abbrev BringsNone : Plan → (group : ℕ) → Deed → Type 0
+BringsNone p g d = (stored_in p g d ≡ None) × (sent_in p g d ≡ None)
+
 due_same : (p : Plan) (g e : ℕ) (n : Noted) (l : Past) → waits_for_data p g (kind_of p e) ≡ true → is_start_by e n ≡ false
-    → ((v : ElemPlan) (y : ℕ) → v.group ≡ g → (is_some (stored_in p v.group n.entry.deed) || accepts_next p y v l n.entry.deed) ≡ false) → due_after p (n ∷ l) e ≡ due_after p l e
+    → ((h : ℕ) → h ≡ g → BringsNone p h n.entry.deed) → due_after p (n ∷ l) e ≡ due_after p l e
 due_same p g e n l waits other quiet =
     let w = waiting_for p g (kind_of p e) waits in
     let m = member_of p g w.element w.inside in
     let found = m.found in
-    let now = quiet m.elem w.element m.group in
-    let brings : brings_data p w.element n l ≡ false = rw found now in
+    let none = quiet m.elem.group m.group in
+    let stored = none.0 in
+    let sent = none.1 in
+    let brings : brings_data p w.element n l ≡ false = rw (found, stored, sent) refl in
     due_kind p e w.element (n ∷ l) w.kind
     ∙ (λ i. not (other i) && (brings i || follows_last (is_start_by e) (brings_data p w.element) l))
     ∙ sym (due_kind p e w.element l w.kind)
@@ -199,7 +206,7 @@ module _ (p : Plan) (g : ℕ) (events : List ℕ) (k : Kept) (l : Past) (keeps :
     }
 
   -- an entry that brings no data and starts nothing
-  due_kept : (d : Deed) → ((e : ℕ) → is_start_by e (noting a d event) ≡ false) → ((v : ElemPlan) (y : ℕ) → v.group ≡ g → (is_some (stored_in p v.group d) || accepts_next p y v l d) ≡ false)
+  due_kept : (d : Deed) → ((e : ℕ) → is_start_by e (noting a d event) ≡ false) → ((h : ℕ) → h ≡ g → BringsNone p h d)
       → k.due ≡ map (due_after p (noting a d event ∷ l)) events
   due_kept d starts_none quiet = keeps.due
       ∙ subst (λ es. map (due_after p l) es ≡ map (due_after p (noting a d event ∷ l)) es) (sym keeps.waiting)
@@ -231,7 +238,7 @@ module _ (p : Plan) (g : ℕ) (events : List ℕ) (k : Kept) (l : Past) (keeps :
     stored = keeps.stored;
     invalid = sym (ap (λ b. not (unwrap_or (option_or (if b then Some false else None) (newest (λ (m : Noted). validity p g m.entry.deed) l)) true)) inside);
     updated = updated_kept (deed.Invalidate x) (λ y h same. refl);
-    due = due_kept (deed.Invalidate x) (λ e. refl) (λ v y group. refl);
+    due = due_kept (deed.Invalidate x) (λ e. refl) (λ h group. (refl, refl));
   }
 
   fetch_keeps : (x : ℕ) (value : Value) → GroupKeeps p g events k (noting a (deed.Fetch x value) event ∷ l)
@@ -242,7 +249,7 @@ module _ (p : Plan) (g : ℕ) (events : List ℕ) (k : Kept) (l : Past) (keeps :
     stored = keeps.stored;
     invalid = keeps.invalid;
     updated = updated_kept (deed.Fetch x value) (λ y h same. refl);
-    due = due_kept (deed.Fetch x value) (λ e. refl) (λ v y group. refl);
+    due = due_kept (deed.Fetch x value) (λ e. refl) (λ h group. (refl, refl));
   }
 
   see_keeps : (x : ℕ) (b : Bool) → GroupKeeps p g events k (noting a (deed.IsUpdated x b) event ∷ l)
@@ -253,7 +260,7 @@ module _ (p : Plan) (g : ℕ) (events : List ℕ) (k : Kept) (l : Past) (keeps :
     stored = keeps.stored;
     invalid = keeps.invalid;
     updated = updated_kept (deed.IsUpdated x b) (λ y h same. refl);
-    due = due_kept (deed.IsUpdated x b) (λ e. refl) (λ v y group. refl);
+    due = due_kept (deed.IsUpdated x b) (λ e. refl) (λ h group. (refl, refl));
   }
 
   read_keeps : (x r : ℕ) (code : ℕ) (value : Value) → is_in_group p g x ≡ true → place x (members_of p g) ≡ Some r → GroupKeeps p g events (after_read r k) (noting a (deed.Read x code value) event ∷ l)
@@ -267,7 +274,7 @@ module _ (p : Plan) (g : ℕ) (events : List ℕ) (k : Kept) (l : Past) (keeps :
         ∙ set_all (is_in_group p g) (λ y. is_updated p y l) (λ y. is_updated p y (noting a (deed.Read x code value) event ∷ l)) false x (members_of p g) r (members_all p g) (members_once p g) there
         (updated_now p g x (noting a (deed.Read x code value) event) l false inside (λ v group. ap (λ b. if b then Some false else None) (eq-eqb x x refl)))
         (λ y within other. sym (updated_same p g y (noting a (deed.Read x code value) event) l within (λ v group. ap (λ b. if b then Some false else None) other)));
-    due = due_kept (deed.Read x code value) (λ e. refl) (λ v y group. refl);
+    due = due_kept (deed.Read x code value) (λ e. refl) (λ h group. (refl, refl));
   }
 
   start_keeps : (e i : ℕ) (point : Option ℕ) (value : Value) → place e events ≡ Some i → GroupKeeps p g events (after_start i k) (noting a (deed.Start e point value) event ∷ l)
@@ -282,7 +289,7 @@ module _ (p : Plan) (g : ℕ) (events : List ℕ) (k : Kept) (l : Past) (keeps :
         (subst (λ es. list_all (λ f. waits_for_data p g (kind_of p f)) es ≡ true) (sym keeps.waiting) (events_all p g))
         (subst (λ es. is_distinct es ≡ true) (sym keeps.waiting) (events_once p g)) there
         (due_started p g e (noting a (deed.Start e point value) event) l waits (eq-eqb e e refl))
-        (λ f wait other. sym (due_same p g f (noting a (deed.Start e point value) event) l wait (flipped f other) (λ v y group. refl)));
+        (λ f wait other. sym (due_same p g f (noting a (deed.Start e point value) event) l wait (flipped f other) (λ h group. (refl, refl))));
   }
     where
       waits : waits_for_data p g (kind_of p e) ≡ true

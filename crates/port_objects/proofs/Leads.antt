@@ -4,8 +4,9 @@ use Rattle.bus_semantics.specs.Plan.{Plan}
 use Rattle.bus_semantics.specs.History.{Noted, Past}
 use Rattle.bus_semantics.specs.Objects.{touches}
 use Rattle.bus_semantics.specs.Locality.{is_proper}
+use Rattle.bus_semantics.specs.Pasts.{Follows}
 use Rattle.port_objects.specs.Kept.{Kept, of_group, of_clock}
-use Rattle.port_objects.specs.Standing.{Follows, Keeps, Stands}
+use Rattle.port_objects.specs.Standing.{Keeps, Stands}
 use Rattle.port_objects.specs.Leading.{lead, lead_of_group, lead_of_clock}
 use Rattle.port_objects.proofs.Placing.{mapped_some}
 use Rattle.port_objects.proofs.GroupLeads.{group_led}

@@ -1,4 +1,5 @@
 -- The entries of a legal history that touch an object follow one after the other.
+-- (For unqueued data alone; the laws of `history_laws` for every sound plan are to take its place.)
 use Rattle.std.proofs.Common.{◌≡◌, ℕ, Bool, true, false, refl, sym, ◌∙◌, ap, if◌then◌else◌, [], ◌∷◌, Option, Some, None}
 use Rattle.std.specs.Prelude.{filter}
 use Rattle.std.specs.List.{list_all}
@@ -12,8 +13,8 @@ use Rattle.bus_semantics.specs.Objects.{touched_by, touches, entries_of}
 use Rattle.bus_semantics.specs.Legal.{Answers, IsLegal}
 use Rattle.bus_semantics.specs.Locality.{is_proper, SameAnswers}
 use Rattle.bus_semantics.specs.Sound.{IsSound}
+use Rattle.bus_semantics.specs.Pasts.{Follows, IsPastOf}
 use Rattle.port_objects.specs.Plans.{IsUnqueuedPlan}
-use Rattle.port_objects.specs.Standing.{Follows, IsPastOf}
 use Rattle.port_objects.proofs.Plain.{touching_matches}
 
 -- the laws of objects

@@ -23,7 +23,7 @@ use Rattle.bus_semantics.specs.Owners.{is_queued, key_fits, elem_fits, area_fits
 use Rattle.bus_semantics.specs.Fitting.{fits, wish_fits, answer_fits, environment_may_want, activation_may_want, machine_may_want}
 use Rattle.bus_semantics.specs.Locality.{is_proper, starts_its_own}
 use Rattle.bus_semantics.specs.Sound.{IsSound}
-use Rattle.port_objects.specs.Matching.{matches, start_matches}
+use Rattle.bus_semantics.specs.Matching.{matches, start_matches}
 use Rattle.port_objects.specs.Plans.{IsUnqueuedPlan}
 use Rattle.port_objects.proofs.GroupLeads.{noting}
 use Rattle.port_objects.proofs.Placing.{clash}

@@ -162,7 +162,7 @@ module _ (p : Plan) (m : Mapping) (sound : IsSound p m) where
       let has = at.gives in
       let joined : PointPlan = record { runnable = t.runnable; name = t.name; server = Some s; asynchronous = t.asynchronous; ins = t.ins; outs = t.outs } in
       let same : t ≡ joined = λ i. record { runnable = t.runnable; name = t.name; server = has i; asynchronous = t.asynchronous; ins = t.ins; outs = t.outs } in
-      (sought p.servers s _ (has_with _ p.points q t joined (and_parts _ _ sound.operations).1 at.found same)).within
+      (sought p.servers s _ (and_parts _ _ (has_with _ p.points q t joined (and_parts _ _ sound.operations).1 at.found same)).1).within
 
   pub port_machine : (port n : ℕ) → machine_of_port p port ≡ Some n → n < length p.machines
   port_machine port n is =

@@ -1,4 +1,5 @@
 -- Of one wish at most one entry may come.
+-- (For unqueued data alone; the laws of `history_laws` for every sound plan are to take its place.)
 use Rattle.std.proofs.Common.{◌≡◌, ℕ, ℤ, Bool, true, false, ◌&&◌, ◌==◌, refl, sym, ◌∙◌, ap, subst, List, [], Option, Some, None}
 use Rattle.std.proofs.lemmas.Bool.{and_parts, eqb-true, false≢true}
 use Rattle.rte_value.specs.declared.value.Value.{Value}
@@ -18,8 +19,8 @@ use Rattle.bus_semantics.specs.Unqueued.{value_at, read_code, is_updated}
 use Rattle.bus_semantics.specs.Legal.{same_bool, unqueued_allows}
 use Rattle.bus_semantics.specs.Locality.{is_proper}
 use Rattle.bus_semantics.specs.Sound.{IsSound}
+use Rattle.bus_semantics.specs.Pasts.{Follows}
 use Rattle.port_objects.specs.Plans.{IsUnqueuedPlan}
-use Rattle.port_objects.specs.Standing.{Follows}
 use Rattle.port_objects.proofs.GroupLeads.{noting, answer_part}
 use Rattle.port_objects.proofs.Plain.{is_plain, Starting, at_time, at_init, at_data, plain_start, plain_deed}
 

@@ -15,12 +15,11 @@ use Rattle.bus_semantics.specs.declared.entries.Actor.{Actor}
 use Rattle.bus_semantics.specs.declared.entries.Actor.TheVariants.{Env, Machine, Act}
 use Rattle.bus_semantics.specs.Plan.{Plan, every_from, group_of, kind_of, instance_of, server_of, machine_of_port}
 use Rattle.bus_semantics.specs.Wanted.{Wanted, to_tick, to_start, to_admit, to_fetch, to_write, to_read, to_invalidate, to_see_updated, to_send, to_receive, to_ask, to_hear, to_take_result, to_return, to_enter, to_leave, to_switch, to_see_mode, to_move_on, to_publish, to_end}
-use Rattle.bus_semantics.specs.Objects.{first_server, first_area, first_machine, clock, object_of, object_of_kind, disabler_of, machine_of_event, owing, served_by}
+use Rattle.bus_semantics.specs.Objects.{first_server, first_area, first_machine, clock, object_of, object_of_kind, disabler_of, machine_of_event, owing, served_by, IsObject}
 use Rattle.bus_semantics.specs.Owners.{area_fits, switch_fits}
 use Rattle.bus_semantics.specs.Fitting.{wish_fits}
 use Rattle.bus_semantics.specs.SoundEvents.{event_sound, kind_sound}
 use Rattle.bus_semantics.specs.Sound.{IsSound}
-use Rattle.port_objects.specs.Objects.{IsObject}
 use Rattle.port_objects.specs.Plans.{HasObjects, has_period}
 use Rattle.port_objects.proofs.Opened.{group_within}
 use Rattle.port_objects.proofs.Plain.{by_actor}

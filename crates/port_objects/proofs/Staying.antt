@@ -21,13 +21,14 @@ use Rattle.port_objects.specs.declared.object.Object.{Object}
 use Rattle.port_objects.specs.declared.object.Object.TheVariants.{Unqueued, Clock}
 use Rattle.port_objects.specs.declared.acting.Acted.{Acted}
 use Rattle.port_objects.specs.declared.acting.Acted.TheVariants.{Done, NotYet}
-use Rattle.port_objects.specs.Objects.{kept_of, touched, HasRoom, IsOfPlan}
-use Rattle.port_objects.specs.Answers.{noted_for, IsAnswer}
+use Rattle.port_objects.specs.Objects.{kept_of, HasRoom, IsOfPlan}
+use Rattle.port_objects.specs.Answers.{IsAnswer}
 use Rattle.bus_semantics.specs.declared.script.Mapping.{Mapping}
 use Rattle.bus_semantics.specs.History.{Past}
-use Rattle.bus_semantics.specs.Objects.{object_of}
+use Rattle.bus_semantics.specs.Objects.{object_of, touched}
+use Rattle.bus_semantics.specs.Asked.{noted_for, NoneMayCome}
 use Rattle.port_objects.specs.declared.acting.Shown.{Shown}
-use Rattle.port_objects.specs.Coming.{MayAsk, IsTheOne, NoneMayCome}
+use Rattle.port_objects.specs.Coming.{MayAsk, IsTheOne}
 use Rattle.port_objects.proofs.Coming.{made_is_one, held_is_none}
 use Rattle.port_objects.proofs.Opened.{events_in, inits_in, data_in, clock_in, is_group}
 use Rattle.port_objects.proofs.Placing.{given_some, then_some, mapped_some}

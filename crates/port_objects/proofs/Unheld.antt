@@ -1,4 +1,5 @@
 -- In a sound plan of unqueued data only a start may have to wait.
+-- (For unqueued data alone; the laws of `history_laws` for every sound plan are to take its place.)
 use Rattle.std.proofs.Common.{◌≡◌, ℕ, ◌<◌, Bool, true, false, ◌&&◌, not, ◌==◌, refl, sym, ◌∙◌, ap, List, length, Option, Some, None, is_some}
 use Rattle.std.specs.Prelude.{option_map}
 use Rattle.std.specs.List.{slice_get}
@@ -15,11 +16,12 @@ use Rattle.bus_semantics.specs.declared.entries.Wish.TheVariants as wish
 use Rattle.bus_semantics.specs.Plan.{Plan, server_of, instance_of, machine_of_port}
 use Rattle.bus_semantics.specs.Wanted.{Wanted, to_tick, to_start, to_fetch, to_write, to_read, to_invalidate, to_see_updated, to_publish, to_send, to_receive, to_enter, to_leave, to_switch, to_move_on, wanted_of, wanted_by}
 use Rattle.bus_semantics.specs.History.{Past}
-use Rattle.bus_semantics.specs.Objects.{clock, object_of, disabler_of, machine_of_event, served_by}
+use Rattle.bus_semantics.specs.Objects.{clock, object_of, disabler_of, machine_of_event, served_by, touched}
 use Rattle.bus_semantics.specs.Owners.{is_queued}
 use Rattle.bus_semantics.specs.Fitting.{wish_fits}
 use Rattle.bus_semantics.specs.Unqueued.{is_updated}
 use Rattle.bus_semantics.specs.Sound.{IsSound}
+use Rattle.bus_semantics.specs.Asked.{is_start}
 use Rattle.explicit_ports.specs.Kept as data_kept
 use Rattle.tick_events.specs.Kept as clock_kept
 use Rattle.port_objects.specs.declared.object.Object.{Object}
@@ -27,11 +29,11 @@ use Rattle.port_objects.specs.declared.acting.Shown.{Shown}
 use Rattle.port_objects.specs.Kept.{Kept, of_group, of_clock}
 use Rattle.port_objects.specs.Layout.{members_of, initial_of, place}
 use Rattle.port_objects.specs.Leading.{given, read_code_in, has_value, has_flag, lead_of_group, lead_of_clock, lead}
-use Rattle.port_objects.specs.Objects.{kept_of, touched}
+use Rattle.port_objects.specs.Objects.{kept_of}
 use Rattle.port_objects.specs.Plans.{IsUnqueuedPlan}
 use Rattle.port_objects.specs.Standing.{GroupKeeps, Keeps}
 use Rattle.port_objects.specs.Answers.{IsHeld}
-use Rattle.port_objects.specs.Coming.{is_start, MayAsk}
+use Rattle.port_objects.specs.Coming.{MayAsk}
 use Rattle.port_objects.proofs.Complete.{member_placed, flag_here, not_clock, not_group, then_where, given_where, mapped_where}
 use Rattle.port_objects.proofs.GroupLeads.{noting}
 use Rattle.port_objects.proofs.GroupTaking.{has_itself, flag_itself}

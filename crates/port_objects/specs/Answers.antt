@@ -1,12 +1,13 @@
 -- What `act` answers, by the lead: the entry of the wish by which what the object kept leads to what it keeps, or that no entry of the
 -- wish leads anywhere.
-use Rattle.std.specs.Prelude.{◌≡◌, ℕ, true, Option, Some, None, unwrap_or}
+use Rattle.std.specs.Prelude.{◌≡◌, ℕ, true, Some, None, unwrap_or}
 use Rattle.bus_semantics.specs.declared.entries.Actor.{Actor}
 use Rattle.bus_semantics.specs.declared.entries.Entry.{Entry}
 use Rattle.bus_semantics.specs.Plan.{Plan}
 use Rattle.bus_semantics.specs.History.{Noted}
-use Rattle.bus_semantics.specs.Wanted.{Wanted, to_start, to_admit, to_end, wanted_by}
+use Rattle.bus_semantics.specs.Wanted.{Wanted, to_start, wanted_by}
 use Rattle.bus_semantics.specs.Fitting.{answer_fits}
+use Rattle.bus_semantics.specs.Asked.{event_of, noted_for}
 use Rattle.port_objects.specs.declared.object.Object.{Object}
 use Rattle.port_objects.specs.declared.acting.Acted.{Acted}
 use Rattle.port_objects.specs.declared.acting.Acted.TheVariants.{Done, NotYet}
@@ -15,16 +16,6 @@ use Rattle.port_objects.specs.declared.acting.Shown.TheVariants.{NotDue, Unmatch
 use Rattle.port_objects.specs.Leading.{lead}
 use Rattle.port_objects.specs.Objects.{kept_of}
 use Rattle.port_objects.specs.Waking.{Tells}
-
--- the event that a wish names for the entry: of an Admit or End
-abbrev pub event_of : Wanted → Option ℕ
-event_of (to_admit event) = Some event
-event_of (to_end event) = Some event
-event_of w = None
-
--- an entry with the event that its wish names
-abbrev pub noted_for : Wanted → Entry → Noted
-noted_for w e = record { entry = e; event = event_of w }
 
 -- the entry is the actor's and of the wish, what it names as an answer fits, what was kept leads by it to what is kept, and the starts that
 -- came are told

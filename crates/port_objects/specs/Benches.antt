@@ -7,20 +7,20 @@ use Rattle.bus_semantics.specs.declared.plan.BusPlan.{BusPlan}
 use Rattle.bus_semantics.specs.Plan.{Plan}
 use Rattle.bus_semantics.specs.Wanted.{Wanted, wanted_by}
 use Rattle.bus_semantics.specs.Fitting.{wish_fits, answer_fits}
-use Rattle.bus_semantics.specs.Objects.{object_of}
+use Rattle.bus_semantics.specs.Objects.{object_of, IsObject}
+use Rattle.bus_semantics.specs.Asked.{event_of, asks_its_own}
 use Rattle.port_objects.specs.declared.object.Object.{Object}
 use Rattle.port_objects.specs.declared.acting.Shown.{Shown}
 use Rattle.port_objects.specs.declared.acting.Acted.{Acted}
 use Rattle.port_objects.specs.declared.acting.Acted.TheVariants as acted
 use Rattle.port_objects.specs.declared.bench.Benched.{Benched}
 use Rattle.port_objects.specs.declared.bench.Benched.TheVariants.{Done, NotYet, Contended}
-use Rattle.port_objects.specs.Objects.{IsObject}
-use Rattle.port_objects.specs.Answers.{event_of, IsMade, IsHeld}
-use Rattle.port_objects.specs.Coming.{asks_its_own}
+use Rattle.port_objects.specs.Answers.{IsMade, IsHeld}
 
 -- ---- what may be asked
 
--- the wish fits its actor and touches the object, which is one of the plan's; a start is of the actor's own runnable
+-- the wish fits its actor and touches the object, which is one of the plan's; a start, an admission and an end are by an event of the actor's
+-- own runnable
 pub record IsAsked (p : Plan) (object : ℕ) (a : Actor) (w : Wanted) : Type 0 where
   pub touching : object_of p a w ≡ Some object
   pub there : IsObject p object

@@ -1,6 +1,5 @@
 pub mod Layout
 pub mod Kept
-pub mod Matching
 pub mod Standing
 pub mod Leading
 pub mod Rising

@@ -1,10 +1,8 @@
 -- The objects of a plan, as the code has them: what each keeps as plain data, and all in it that no call changes.
-use Rattle.std.specs.Prelude.{◌≡◌, ℕ, suc, ◌<◌, ◌≤◌, List, map, length, slice_get, Some, unwrap_or}
+use Rattle.std.specs.Prelude.{◌≡◌, ℕ, suc, ◌<◌, ◌≤◌, List, map, length, slice_get, Some}
 use Rattle.std.specs.Vec.{vec_capacity}
-use Rattle.bus_semantics.specs.declared.entries.Actor.{Actor}
 use Rattle.bus_semantics.specs.Plan.{Plan, kind_of}
-use Rattle.bus_semantics.specs.Wanted.{Wanted}
-use Rattle.bus_semantics.specs.Objects.{clock, object_of}
+use Rattle.bus_semantics.specs.Objects.{clock}
 use Rattle.tick_events.specs.Kept.{Timer}
 use Rattle.port_objects.specs.declared.group.Group.{Group}
 use Rattle.port_objects.specs.declared.ticks.Ticks.{Ticks}
@@ -42,15 +40,7 @@ abbrev pub IsOfPlan : Plan → (object : ℕ) → Object → Type 0
 IsOfPlan p object (Unqueued g) = GroupOfPlan p object g
 IsOfPlan p object (Clock t) = ClockOfPlan p object t
 
--- the object that a wish touches
-abbrev pub touched : Plan → Actor → Wanted → ℕ
-touched p a w = unwrap_or (object_of p a w) 0
-
 -- they are the plan's objects, each at its number
 pub record ArePlans (p : Plan) (objects : List Object) : Type 0 where
   pub count : length objects ≡ suc (clock p)
   pub each : (i : ℕ) (o : Object) → slice_get objects i ≡ Some o → IsOfPlan p i o
-
--- the number is one of an object
-abbrev pub IsObject : Plan → (object : ℕ) → Type 0
-IsObject p object = object < p.objects

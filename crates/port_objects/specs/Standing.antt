@@ -1,31 +1,17 @@
--- What an object stands for: a list of entries that touch it alone, each of which fits, is what the bus answers after those before it, and
--- matches them. What it keeps is what the definitions give from that list.
-use Rattle.std.specs.Prelude.{◌≡◌, ℕ, ◌<◌, ◌%◌, List, [], ◌∷◌, map, length, Bool, true, option_map}
+-- What an object stands for: a past of it, and what it keeps is what the definitions give from that past.
+use Rattle.std.specs.Prelude.{◌≡◌, ℕ, ◌<◌, ◌%◌, List, map, length, Bool, option_map}
 use Rattle.rte_value.specs.Values.{words_of}
 use Rattle.bus_semantics.specs.declared.entries.Actor.TheVariants.{Env}
 use Rattle.bus_semantics.specs.Plan.{Plan, kind_of}
-use Rattle.bus_semantics.specs.History.{Noted, Past}
-use Rattle.bus_semantics.specs.Objects.{clock, touches}
+use Rattle.bus_semantics.specs.History.{Past}
+use Rattle.bus_semantics.specs.Objects.{clock}
+use Rattle.bus_semantics.specs.Pasts.{IsPastOf}
 use Rattle.bus_semantics.specs.Unqueued.{last_stored, is_invalid, is_updated}
 use Rattle.bus_semantics.specs.Due.{ticks, is_due}
-use Rattle.bus_semantics.specs.Legal.{Answers}
-use Rattle.bus_semantics.specs.Locality.{is_proper}
 use Rattle.explicit_ports.specs.Kept as data_kept
 use Rattle.tick_events.specs.Kept as clock_kept
 use Rattle.port_objects.specs.Layout.{members_of, initial_of, events_of, waits_for_data, is_timing, is_init, period_in, receiver_of}
 use Rattle.port_objects.specs.Kept.{Kept, of_group, of_clock}
-use Rattle.port_objects.specs.Matching.{matches}
-
--- an entry may follow the earlier entries of its object
-pub record Follows (p : Plan) (object : ℕ) (l : Past) (n : Noted) : Type 0 where
-  pub touching : touches p object n ≡ true
-  pub proper : is_proper p n ≡ true
-  pub answers : Answers p l n
-  pub matching : matches p l n ≡ true
-
-abbrev pub IsPastOf : Plan → (object : ℕ) → Past → Type 0
-IsPastOf p object [] = Unit {0}
-IsPastOf p object (n ∷ l) = IsPastOf p object l × Follows p object l n
 
 -- whether an event is due after these entries. What is due for data and by the clock goes by no actor
 abbrev pub due_after : Plan → Past → (event : ℕ) → Bool

@@ -4,14 +4,15 @@ ghost use Rattle.std.specs.Prelude.{◌≡◌, true, Some};
 ghost use Rattle.bus_semantics.specs.Plan.{plan_of};
 ghost use Rattle.bus_semantics.specs.SoundPlan.{groups_fit};
 ghost use Rattle.bus_semantics.specs.Wanted.{wanted_of};
-ghost use Rattle.bus_semantics.specs.Objects.{object_of};
+ghost use Rattle.bus_semantics.specs.Objects.{object_of, touched};
 ghost use Rattle.bus_semantics.specs.declared.script.Mapping.{Mapping};
 ghost use Rattle.bus_semantics.specs.declared.entries.Entry.{Entry};
 ghost use Rattle.bus_semantics.specs.History.{Past};
+ghost use Rattle.bus_semantics.specs.Asked.{NoneMayCome};
 ghost use Rattle.port_objects.specs.declared.acting.Shown.{Shown};
 ghost use Rattle.port_objects.specs.declared.acting.Acted.TheVariants.{Done, NotYet};
-ghost use Rattle.port_objects.specs.Objects.{HasRoom, IsOfPlan, kept_of, touched};
-ghost use Rattle.port_objects.specs.Coming.{MayAsk, IsTheOne, NoneMayCome};
+ghost use Rattle.port_objects.specs.Objects.{HasRoom, IsOfPlan, kept_of};
+ghost use Rattle.port_objects.specs.Coming.{MayAsk, IsTheOne};
 ghost use Rattle.port_objects.specs.Answers.{IsAnswer, why_held};
 
 use crate::object::Object;

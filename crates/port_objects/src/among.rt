@@ -3,8 +3,8 @@
 ghost use Rattle.std.specs.Prelude.{◌≡◌, Some};
 ghost use Rattle.bus_semantics.specs.Plan.{plan_of};
 ghost use Rattle.bus_semantics.specs.Wanted.{wanted_of};
-ghost use Rattle.bus_semantics.specs.Objects.{object_of};
-ghost use Rattle.port_objects.specs.Objects.{IsObject, ArePlans};
+ghost use Rattle.bus_semantics.specs.Objects.{object_of, IsObject};
+ghost use Rattle.port_objects.specs.Objects.{ArePlans};
 ghost use Rattle.port_objects.specs.Plans.{HasObjects};
 ghost use Rattle.port_objects.specs.Benches.{ActedOn};
 

@@ -8,21 +8,11 @@ use crate::Memory;
 use bus_semantics::{BusPlan, EventKind};
 use std::alloc::Global;
 
-/// The kind of an event. One that there is not counts as an InitEvent.
-pub(crate) fn kind_at(p: &BusPlan, event: u32) -> EventKind
-    ensures { result ≡ kind_of (plan_of p.now) event }
-{
-    match p.events.items().get(event as usize) {
-        Some(plan) => plan.kind,
-        None => EventKind::Init,
-    }
-}
-
 /// The element of a DataReceivedEvent; 0 for another event.
 pub(crate) fn element_at(p: &BusPlan, event: u32) -> u32
     ensures { result ≡ element_in (kind_of (plan_of p.now) event) }
 {
-    match kind_at(p, event) {
+    match p.kind_of(event) {
         EventKind::DataReceived(elem) => elem,
         _ => 0,
     }
@@ -32,7 +22,7 @@ pub(crate) fn element_at(p: &BusPlan, event: u32) -> u32
 fn period_at(p: &BusPlan, event: u32) -> u64
     ensures { result ≡ period_in (kind_of (plan_of p.now) event) }
 {
-    match kind_at(p, event) {
+    match p.kind_of(event) {
         EventKind::Timing(period) => period,
         _ => 0,
     }
@@ -42,7 +32,7 @@ fn period_at(p: &BusPlan, event: u32) -> u64
 fn is_timing(p: &BusPlan, event: u32) -> bool
     ensures { result ≡ is_timing (kind_of (plan_of p.now) event) }
 {
-    match kind_at(p, event) {
+    match p.kind_of(event) {
         EventKind::Timing(_) => true,
         _ => false,
     }
@@ -52,7 +42,7 @@ fn is_timing(p: &BusPlan, event: u32) -> bool
 fn is_init(p: &BusPlan, event: u32) -> bool
     ensures { result ≡ is_init (kind_of (plan_of p.now) event) }
 {
-    match kind_at(p, event) {
+    match p.kind_of(event) {
         EventKind::Init => true,
         _ => false,
     }

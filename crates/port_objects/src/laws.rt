@@ -8,23 +8,25 @@ ghost use Rattle.bus_semantics.specs.Plan.{Plan};
 ghost use Rattle.bus_semantics.specs.declared.entries.Wish.{Wish};
 ghost use Rattle.bus_semantics.specs.Wanted.{Wanted, wanted_of, wanted_by};
 ghost use Rattle.bus_semantics.specs.History.{History, Noted, Past, noted, note};
-ghost use Rattle.bus_semantics.specs.Objects.{clock, object_of, touches, entries_of};
+ghost use Rattle.bus_semantics.specs.Objects.{clock, object_of, touches, entries_of, touched, IsObject};
 ghost use Rattle.bus_semantics.specs.Fitting.{wish_fits};
 ghost use Rattle.bus_semantics.specs.Legal.{Answers, IsLegal};
 ghost use Rattle.bus_semantics.specs.Locality.{is_proper};
 ghost use Rattle.bus_semantics.specs.Sound.{IsSound};
+ghost use Rattle.bus_semantics.specs.Asked.{is_start, NoneMayCome};
+ghost use Rattle.bus_semantics.specs.Pasts.{Follows, IsPastOf};
 ghost use Rattle.port_objects.specs.Kept.{Kept};
 ghost use Rattle.port_objects.specs.declared.object.Object.{Object};
 ghost use Rattle.port_objects.specs.declared.acting.Shown.{Shown};
-ghost use Rattle.port_objects.specs.Objects.{kept_of, touched, IsObject};
+ghost use Rattle.port_objects.specs.Objects.{kept_of};
 ghost use Rattle.port_objects.specs.Answers.{IsMade, IsHeld};
-ghost use Rattle.port_objects.specs.Coming.{is_start, MayAsk, IsTheOne, NoneMayCome};
+ghost use Rattle.port_objects.specs.Coming.{MayAsk, IsTheOne};
 ghost use Rattle.port_objects.specs.Opening.{opening_group, opening_clock};
 ghost use Rattle.port_objects.specs.Plans.{IsUnqueuedPlan, HasObjects};
-ghost use Rattle.port_objects.specs.Standing.{Follows, IsPastOf, Stands};
+ghost use Rattle.port_objects.specs.Standing.{Stands};
 ghost use Rattle.port_objects.specs.Leading.{lead};
 
-use bus_semantics::answers_look_at_one_object;
+use bus_laws::answers_look_at_one_object;
 
 /// Where an object stands for a list of entries, and the lead of a further entry gives something, that entry is what the bus
 /// answers after the list and matches it, and what the lead gives stands for the list and the entry. The entry touches the
@@ -51,6 +53,7 @@ pub fn leads_miss_nothing()
         Stands p object before l → Follows p object l n → is_some (lead p object before n) ≡ true }
 {}
 
+// (`history_laws` says this of every sound plan, and is to take its place.)
 /// Of one wish of an actor at most one entry may follow the entries of its object. (`by` is the event that started the
 /// activation.)
 pub fn one_entry_of_a_wish()
@@ -59,6 +62,7 @@ pub fn one_entry_of_a_wish()
         wanted_by by b.entry.deed ≡ wanted_by by a.entry.deed → b.entry ≡ a.entry }
 {}
 
+// (`history_laws` says this of every sound plan, and is to take its place.)
 /// The entries of a legal history that touch an object follow one after the other; so each matches those before it. And what
 /// follows these is what the bus answers after the whole history.
 pub fn legal_histories_part_into_objects()
@@ -88,6 +92,7 @@ pub fn answers_are_what_may_come()
         IsHeld p (touched p a w) w old new shown → NoneMayCome p a w l }
 {}
 
+// (`history_laws` says this of every sound plan, and is to take its place.)
 /// In a plan of unqueued data only a start may have to wait: every other wish that fits has an entry that may come.
 pub fn only_starts_wait()
     ensures { (p : Plan) (m : Mapping) (a : Actor) (w : Wish) (old new : Object) (l : Past) (shown : Shown) →

@@ -13,12 +13,12 @@ mod object;
 mod plain_bench;
 mod threads;
 mod ticks;
-mod touching;
 mod waiting;
 mod waking;
 
 pub use acting::{Acted, Shown, act};
 pub use bench::{Bench, Benched};
+pub use bus_semantics::object_of;
 pub use group::Group;
 pub use laws::{
     answers_are_what_may_come, first_objects_stand_for_nothing, leads_are_legal,
@@ -29,7 +29,6 @@ pub use making::make_objects;
 pub use object::Object;
 pub use plain_bench::PlainBench;
 pub use ticks::Ticks;
-pub use touching::object_of;
 pub use waking::{held_starts_lead_nowhere, may_start, other_entries_wake_nothing, woken};
 
 /// There was no memory for what a call makes.

@@ -8,7 +8,6 @@ ghost use Rattle.port_objects.specs.Layout.{events_of, waits_for_data};
 ghost use Rattle.port_objects.specs.Gathered.{listed_at};
 
 use crate::Memory;
-use crate::events::kind_at;
 use bus_semantics::{BusPlan, EventKind};
 use std::alloc::Global;
 use std::mem;
@@ -39,7 +38,7 @@ fn append_to(lists: &mut Vec<Vec<u32>>, group: u32, event: u32) -> Result<(), Me
 fn awaited_group(p: &BusPlan, event: u32) -> Option<u32>
     ensures { (group : ℕ) → waits_for_data (plan_of p.now) group (kind_of (plan_of p.now) event) ≡ same_number result (Some group) }
 {
-    match kind_at(p, event) {
+    match p.kind_of(event) {
         EventKind::DataReceived(elem) => p.group_of(elem),
         _ => None,
     }

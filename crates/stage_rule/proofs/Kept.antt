@@ -35,7 +35,7 @@ use Rattle.plan_services.specs.Callings.{calling_of, callings, callings_in, call
 use Rattle.plan_runnables.specs.Started.{runnable_of, runnables, runnables_of_component}
 use Rattle.event_mapping.specs.Planned.{areas, areas_at, named_areas}
 use Rattle.sound_descriptions.specs.WellFormed as formed
-use Rattle.task_generator.specs.Promise.{is_explicit_access}
+use Rattle.core_turn.specs.Plans.{is_explicit_access}
 use Rattle.stage_rule.specs.Stage.{has_explicit_accesses, has_plain_behavior, is_explicit}
 use Rattle.stage_rule.proofs.Interfaces.{ArePlain, by_interface}
 use Rattle.stage_rule.proofs.Lists.{all_at, all_from, all_mapped, clash, empty, flat_none, from_none, none_at, none_map, none_or, unless_none}

@@ -18,8 +18,7 @@ use Rattle.plan_services.specs.Services.{point_of, server_of}
 use Rattle.event_mapping.specs.Refusals.{IsOfSize, IsThen}
 use Rattle.planned_descriptions.specs.Whole.{IsWhole}
 use Rattle.port_objects.specs.Plans.{IsUnqueuedPlan}
-use Rattle.task_generator.specs.Promise.{is_explicit_access}
-use Rattle.core_turn.specs.Plans.{IsPlainPlan}
+use Rattle.core_turn.specs.Plans.{is_explicit_access, IsPlainPlan}
 use Rattle.stage_rule.specs.Stage.{is_in_stage}
 use Rattle.stage_rule.proofs.Interfaces.{stage_parts}
 use Rattle.stage_rule.proofs.Kept.{all_explicit, none_area, none_call}

@@ -2,7 +2,9 @@ use Rattle.std.proofs.Common.{◌≡◌, ◌-◌, ◌<◌, length, sym, ◌∙�
 use Rattle.std.specs.List.{slice_get}
 use Rattle.bus_semantics.specs.Plan.{plan_of}
 use Rattle.core_turn.specs.Cores.{CoreState}
+use Rattle.core_turn.specs.Awake.{HeldTold}
 use Rattle.core_turn.proofs.Stepped.{ready_on, back_steps, front_steps, nothing_comes, pass_at, made_within, behind_all, before_all}
+use Rattle.core_turn.proofs.Unchanged.{unchanged_by}
 use Rattle.core_turn.proofs.awake_turn.turn_of_awake.Goals as goal
 
 pub look_through-requires-clause-ready : goal.look_through-requires-clause-ready
@@ -57,6 +59,14 @@ returns-in-Made-look_through-clause-turned g c =
           (c.note-in-Made-look_through.ensures.trace ∙ ap (λ (k : CoreState). k.trace ++ c.in-Made-look_through.stamped ∷ []) c.c.view_is)
           (sym (ap (λ (k : CoreState). k.room) c.c.view_is) ∙ c.note-in-Made-look_through.ensures.room) _ _ _ before back pass,
     )
+
+pub returns-in-Made-look_through-clause-held : goal.returns-in-Made-look_through-clause-held
+returns-in-Made-look_through-clause-held g c =
+    let p = plan_of c.args.p.now in
+    let awake = c.look_through-in-Nothing.new.a in
+    let same = unchanged_by p _ _ _ _ c.requires.work c.in-Nothing.ensures.pass.1 in
+    subst (λ objects. HeldTold p objects c.note-in-Made-look_through.new.self.slots awake) same.objects
+    (subst (λ slots. HeldTold p (g.B.Bench.objects c.look_through.new.bench) slots awake) (sym c.note-in-Made-look_through.ensures.slots) c.in-Made-look_through.ensures.held)
 
 pub returns-in-Nothing-look_through-clause-turned : goal.returns-in-Nothing-look_through-clause-turned
 returns-in-Nothing-look_through-clause-turned g c =

@@ -13,5 +13,4 @@ returns c = λ p m t cores i old new objects before now h bodies lawful is told 
     subst (CoreIsFree p m h) (lawful.number i old is)
     (core_is_free p m t h old ready (lawful.stands i old is) (λ n s found.
     runs_nothing p m ready.built h objects lawful.stand (λ a w x y l shown touching ask held. c.only_starts_wait.ensures p m a w x y l shown touching ask held) t bodies
-    (λ k r there plain. c.sound_programs_are_explicit.ensures p m k r ready.built.sound there plain)
     (λ a w fit. c.sound_plans_have_objects.ensures.touched p m a w ready.built.sound fit) s (ready.each n s found) (held_at p objects (slot_tries p t) old.slots n s found held.0)))

@@ -12,4 +12,4 @@ returns c = λ p m t cores i old new objects before now h bodies lawful is told 
     (λ g object legal. c.legal_histories_part_into_objects.ensures.parts p m g object ready.built.sound ready.built.plain.unqueued legal)
     (λ object before l n stands follows. c.leads_miss_nothing.ensures p m object before l n ready.built.sound ready.built.plain.unqueued stands follows) _ held.0 in
     subst (CoreRests p m h) (lawful.number i old is)
-    (core_rests p m t bodies (λ k r there plain. c.sound_programs_are_explicit.ensures p m k r ready.built.sound there plain) h old ready (lawful.stands i old is) stuck)
+    (core_rests p m t bodies h old ready (lawful.stands i old is) stuck)

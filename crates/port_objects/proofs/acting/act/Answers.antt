@@ -1,6 +1,6 @@
 use Rattle.bus_semantics.specs.Plan.{plan_of}
 use Rattle.bus_semantics.specs.Wanted.{wanted_of}
-use Rattle.port_objects.specs.Objects.{touched}
+use Rattle.bus_semantics.specs.Objects.{touched}
 use Rattle.port_objects.proofs.Staying.{stays_planned, done_is_one, not_yet_is_none}
 use Rattle.port_objects.proofs.acting.act.Goals as goal
 

@@ -1,8 +1,9 @@
 use Rattle.std.proofs.Common.{sym, subst}
 use Rattle.bus_semantics.specs.Plan.{plan_of}
 use Rattle.bus_semantics.specs.Wanted.{wanted_of}
+use Rattle.bus_semantics.specs.Objects.{touched}
 use Rattle.port_objects.specs.declared.object.Object.TheVariants.{Unqueued, Clock}
-use Rattle.port_objects.specs.Objects.{HasRoom, IsOfPlan, touched}
+use Rattle.port_objects.specs.Objects.{HasRoom, IsOfPlan}
 use Rattle.port_objects.proofs.Answering.{group_made, group_held, clock_made, clock_held, has_room, group_room, clock_room, timings_rise, inits_rise}
 use Rattle.port_objects.proofs.acting.act_by_kind.Goals as goal
 

@@ -1,9 +1,9 @@
 use Rattle.std.proofs.Common.{◌≡◌, true, sym, ap, subst, length}
 use Rattle.bus_semantics.specs.Plan.{plan_of, kind_of}
 use Rattle.bus_semantics.specs.Wanted.{wanted_of}
+use Rattle.bus_semantics.specs.Objects.{touched}
 use Rattle.port_objects.specs.Acting.{LeadsGroup}
 use Rattle.port_objects.specs.Layout.{waits_for_data}
-use Rattle.port_objects.specs.Objects.{touched}
 use Rattle.port_objects.specs.Rising.{is_rising}
 use Rattle.port_objects.proofs.Rising.{rising_positions}
 use Rattle.port_objects.proofs.group.Group.act.Goals as goal
