@@ -83,6 +83,7 @@ fn machine(alloc: Global, instance: Option<u32>, name: &[u8]) -> Result<MachineP
         modes: Seq::of(vec![in alloc; off, on]?),
         initial: 0,
         queue: 1,
+        waits: true,
     })
 }
 

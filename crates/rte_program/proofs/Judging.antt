@@ -8,7 +8,7 @@ use Rattle.rte_text.specs.Shelves.{ToldFiles, ShelfCounts}
 use Rattle.bus_semantics.specs.Plan.{Plan, plan_of}
 use Rattle.bus_semantics.specs.Spelling.{Letters}
 use Rattle.script_reading.specs.Reading.{bad_or, cause_of, first_bad}
-use Rattle.script_reading.specs.Texts.{lines_of, onto_first}
+use Rattle.line_fields.specs.Texts.{lines_of, onto_first}
 use Rattle.rte_program.specs.declared.stop.Stop.{Stop}
 use Rattle.rte_program.specs.declared.stop.Stop.TheVariants as stop
 use Rattle.description_stages.specs.Plans.{IsPlanRefusalOf}

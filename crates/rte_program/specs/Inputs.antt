@@ -10,7 +10,7 @@ use Rattle.description_stages.specs.declared.planning.PlannedDescription.{Planne
 use Rattle.description_stages.specs.Plans.{IsPlannedOf, IsPlanRefusalOf}
 use Rattle.stage_rule.specs.Stage.{is_in_stage}
 use Rattle.script_reading.specs.Reading.{IsScript, first_bad}
-use Rattle.script_reading.specs.Texts.{lines_of}
+use Rattle.line_fields.specs.Texts.{lines_of}
 use Rattle.rte_program.specs.declared.stop.Stop.{Stop}
 use Rattle.rte_program.specs.declared.stop.Stop.TheVariants as stop
 

@@ -1,4 +1,4 @@
--- What was put spells a run of the script, or the beginning of one.
+-- What was put spells a run of the script, or the beginning of one, in the version that is written.
 use Rattle.std.specs.Prelude.{ℕ, List, Option}
 use Rattle.rte_text.specs.Sinks.{AppendsWhereTold, AppendsPrefixWhereTold}
 use Rattle.bus_semantics.specs.declared.script.Line.{Line}
@@ -6,13 +6,14 @@ use Rattle.bus_semantics.specs.declared.script.Mapping.{Mapping}
 use Rattle.bus_semantics.specs.Plan.{Plan}
 use Rattle.bus_semantics.specs.Run.{Session, IsRunOf, IsBegunRunOf}
 use Rattle.bus_semantics.specs.Spelling.{Spells}
+use Rattle.rte_program.specs.declared.run.TheConstants.{WRITTEN_VERSION}
 
 -- the bytes put are the text of a run of the script over the plan
 pub record PrintsRun (p : Plan) (m : Mapping) (script : List Line) (before after : Option (List ℕ)) : Type 0 where
   pub session : Session
   pub bytes : List ℕ
   pub run : IsRunOf p m script session
-  pub spelled : Spells p bytes session
+  pub spelled : Spells WRITTEN_VERSION p bytes session
   pub put : AppendsWhereTold before after bytes
 
 -- the bytes put are a prefix of the text of a begun run
@@ -20,5 +21,5 @@ pub record PrintsBeginning (p : Plan) (m : Mapping) (script : List Line) (before
   pub session : Session
   pub bytes : List ℕ
   pub run : IsBegunRunOf p m script session
-  pub spelled : Spells p bytes session
+  pub spelled : Spells WRITTEN_VERSION p bytes session
   pub put : AppendsPrefixWhereTold before after bytes

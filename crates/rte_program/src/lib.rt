@@ -8,5 +8,6 @@ mod status;
 mod stop;
 mod top;
 
+pub use run::WRITTEN_VERSION;
 pub use status::Status;
 pub use top::rte_top;

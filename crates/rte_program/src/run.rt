@@ -8,6 +8,7 @@ ghost use Rattle.rte_program.specs.Running.{PrintsBeginning, PrintsRun};
 
 use crate::prepare::Prepared;
 use crate::status::Status;
+use bus_semantics::Version;
 use core_runtime::Node;
 use rte_text::{Gate, Sink};
 use script_reading::scripts_are_carriable;
@@ -16,6 +17,9 @@ use stage_rule::plans_of_the_stage_are_plain;
 use std::alloc::{AllocError, Global};
 use std::thread::Threads;
 use task_generator::generate;
+
+/// The version of the trace that a run writes.
+pub const WRITTEN_VERSION: Version = Version::One;
 
 /// Runs the script on a new node of the plan, and puts the trace. Want of memory may come before the first line is put or within a
 /// run line.
@@ -50,7 +54,7 @@ pub fn run_prepared<R: Threads + Sync, K: Sink, G: Gate>(
         Ok(node) => node,
         Err(_) => return Status::Memory,
     };
-    match run_script(rt, alloc, &mut node, &script, out, gate) {
+    match run_script(rt, alloc, &mut node, &script, WRITTEN_VERSION, out, gate) {
         ScriptRun::Finished => Status::Done,
         ScriptRun::Failed => Status::NotWritten,
         ScriptRun::Memory => Status::Memory,

@@ -1,5 +1,5 @@
 -- In a sound plan, whatever the environment may ask for has a spelling that is read as just that.
-use Rattle.std.proofs.Common.{◌≡◌, ◌↔◌, ℕ, zero, suc, ◌<◌, ◌≤◌, Bool, true, false, not, ◌&&◌, ◌||◌, cond, ◌==◌, List, [], ◌∷◌, ◌++◌, length, map, get_or, is_none, nat_lt, codes, ℤ, Option, Some, None, inl, inr, refl, sym, ap, ◌∙◌, subst, arith}
+use Rattle.std.proofs.Common.{◌≡◌, ◌↔◌, ℕ, ◌<◌, ◌≤◌, Bool, true, false, not, ◌&&◌, ◌||◌, cond, ◌==◌, List, [], ◌∷◌, ◌++◌, length, map, get_or, is_none, nat_lt, codes, ℤ, Option, Some, None, inl, inr, refl, sym, ap, ◌∙◌, subst, arith}
 use Rattle.std.specs.List.{list_all, slice_get}
 use Rattle.std.specs.Option.{option_map_or}
 use Rattle.std.proofs.lemmas.Bool.{and_parts, and_from, ltb-true, or_left, or_right}
@@ -25,16 +25,16 @@ use Rattle.script_reading.specs.declared.forms.Form.{Form}
 use Rattle.script_reading.specs.declared.forms.Form.TheVariants.{Write, Send, Read, Receive, Ask, TakeResult, Switch, SeeMode}
 use Rattle.script_reading.specs.Forms.{to_wait, to_run, to_call, behind, phrase_text, third_fits}
 use Rattle.script_reading.specs.Meaning.{Asked, ticks, a_run, a_call, Saying, asks, is_bad, not_of_type, call_at, call_with, named_call, saying, switch_call}
-use Rattle.script_reading.specs.Numbers.{are_held, is_value, words_in}
+use Rattle.line_fields.specs.Numbers.{are_held, is_value, words_in}
 use Rattle.script_reading.specs.Offers.{elem_offered, is_for, machine_offered, mode_in, mode_of, mode_port_offered, named_if, offered, point_offered, takes}
 use Rattle.script_reading.specs.Sentences.{IsSpelling, AsksOfFirst, IsFirst, IsFirstMode, IsOfFirst, may_ask, may_call, mode_name, text_of}
-use Rattle.script_reading.specs.Texts.{is_pair_name, parts}
-use Rattle.script_reading.proofs.Apart.{AreDistinct, are_distinct, elem_apart, machine_apart, mode_port_apart, modes_apart}
+use Rattle.line_fields.specs.Texts.{is_pair_name, parts}
+use Rattle.plan_names.proofs.Distinct.{all_at}
+use Rattle.script_reading.proofs.Apart.{AreDistinct, are_distinct, elem_apart, machine_apart, mode_port_apart, modes_apart, point_apart}
 use Rattle.script_reading.proofs.Asking.{at_place, saying_asks}
-use Rattle.script_reading.proofs.ApartPoints.{point_first}
 use Rattle.script_reading.proofs.Causes.{form_says}
 use Rattle.script_reading.proofs.Naming.{mode_is, named_is}
-use Rattle.script_reading.proofs.Words.{value_back}
+use Rattle.line_fields.proofs.Words.{value_back}
 
 -- ---- the names of a sound plan
 
@@ -76,11 +76,6 @@ are_names p h =
     let machines = and_parts _ _ areas.1 in
     let mode_ports = and_parts _ _ machines.1 in
     record { elements = elements.0; points = points.0; machines = machines.0; mode_ports = mode_ports.0 }
-
-all_at : {X : Type 0} (test : X → Bool) (xs : List X) (i : ℕ) (x : X) → list_all test xs ≡ true → slice_get xs i ≡ Some x → test x ≡ true
-all_at {X} test [] i x h e = absurd (cc)
-all_at {X} test (y ∷ ys) zero x h e = let same : y ≡ x = cc in subst (λ z. test z ≡ true) same (and_parts (test y) (list_all test ys) h).0
-all_at {X} test (y ∷ ys) (suc i) x h e = all_at {X = X} test ys i x (and_parts (test y) (list_all test ys) h).1 e
 
 -- ---- what is there
 
@@ -136,9 +131,9 @@ read_real e h = no_variable e (or_right (is_queued e) (is_unqueued e) (and_parts
 receive_real : (e : ElemPlan) → is_for Receive e ≡ true → is_variable e ≡ false
 receive_real e h = no_variable e (or_left (is_queued e) (is_unqueued e) (and_parts (is_queued e) _ h).0)
 
-point_named : (p : Plan) (n : AreNames p) (q : ℕ) → (nat_lt q (length p.points) && same_number (caller_of p q) None) ≡ true
-    → (look p.points q point_offered None ≡ Some (point_name p q)) × (is_pair_name (point_name p q) ≡ true)
-point_named p n q h =
+-- a point of the environment's own
+own_there : (p : Plan) (q : ℕ) → (nat_lt q (length p.points) && same_number (caller_of p q) None) ≡ true → IsThere p.points q (λ (t : PointPlan). is_none t.runnable)
+own_there p q h =
     let two = and_parts (nat_lt q (length p.points)) (same_number (caller_of p q) None) h in
     let within : q < length p.points = ltb-true q (length p.points) two.0 in
     elim (slice_get_cases p.points q).1 [
@@ -146,13 +141,22 @@ point_named p n q h =
       | inr past ↦ (let far : length p.points ≤ q = past.0 in absurd (omega arith))
     ]
   where
-    found : (t : PointPlan) → slice_get p.points q ≡ Some t → same_number (caller_of p q) None ≡ true → (look p.points q point_offered None ≡ Some (point_name p q)) × (is_pair_name (point_name p q) ≡ true)
-    found t place home =
-        let own : point_name p q ≡ t.name = at_place p.points q t place (λ (v : PointPlan). v.name) [] in
-        let free : same_number t.runnable None ≡ true = sym (ap (λ o. same_number o None) (at_place p.points q t place (λ (v : PointPlan). v.runnable) None)) ∙ home in (
-          at_place p.points q t place point_offered None ∙ ap (λ b. named_if b t.name) (is_home t.runnable free) ∙ ap (λ u. Some u) (sym own),
-          subst (λ u. is_pair_name u ≡ true) (sym own) (same_pair t.name (all_at (λ (v : PointPlan). sound.is_pair_name v.name) p.points q t n.points place)),
-        )
+    found : (t : PointPlan) → slice_get p.points q ≡ Some t → same_number (caller_of p q) None ≡ true → IsThere p.points q (λ (t : PointPlan). is_none t.runnable)
+    found t place home = record {
+      item = t;
+      place = place;
+      holds_of = is_home t.runnable (sym (ap (λ o. same_number o None) (at_place p.points q t place (λ (v : PointPlan). v.runnable) None)) ∙ home);
+    }
+
+point_named : (p : Plan) (n : AreNames p) (q : ℕ) → (nat_lt q (length p.points) && same_number (caller_of p q) None) ≡ true
+    → (look p.points q point_offered None ≡ Some (point_name p q)) × (is_pair_name (point_name p q) ≡ true)
+point_named p n q h =
+    let there = own_there p q h in
+    let t = there.item in
+    let own : point_name p q ≡ t.name = at_place p.points q t there.place (λ (v : PointPlan). v.name) [] in (
+      at_place p.points q t there.place point_offered None ∙ ap (λ b. named_if b t.name) there.holds_of ∙ ap (λ u. Some u) (sym own),
+      subst (λ u. is_pair_name u ≡ true) (sym own) (same_pair t.name (all_at (λ (v : PointPlan). sound.is_pair_name v.name) p.points q t n.points there.place)),
+    )
 
 mode_port_named : (p : Plan) (n : AreNames p) (x : ℕ) → look p.mode_ports x (λ (t : ModePortPlan). same_number t.instance None) false ≡ true
     → (look p.mode_ports x mode_port_offered None ≡ Some (mode_port_name p x)) × (is_pair_name (mode_port_name p x) ≡ true)
@@ -276,24 +280,31 @@ mode_port_first p d x h y less is =
     mode_port_apart p d x there.item there.place (is_home there.item.instance there.holds_of) y less
     (is ∙ ap (λ t. Some t) (at_place p.mode_ports x there.item there.place (λ (v : ModePortPlan). v.name) []))
 
-call_first : (p : Plan) (m : Mapping) → IsSound p m → AreDistinct p → (w : Wanted) → may_call p w ≡ true → IsOfFirst p w
-call_first p m s d (to_write x ws) may = elem_first p d Write x (λ v. (is_unqueued v && v.provided) && holds ws v) (and_parts (wish_fits p Env (to_write x ws)) (takes Write p x ws) may).0
-call_first p m s d (to_send x ws) may = elem_first p d Send x (λ v. (is_queued v && v.provided) && holds ws v) (and_parts (wish_fits p Env (to_send x ws)) (takes Send p x ws) may).0
-call_first p m s d (to_read x) may = elem_first p d Read x (λ v. is_unqueued v && not v.provided) may
-call_first p m s d (to_receive x) may = elem_first p d Receive x (λ v. is_queued v && not v.provided) may
-call_first p m s d (to_ask q ws) may = point_first p m s q (and_parts (wish_fits p Env (to_ask q ws)) (takes Ask p q ws) may).0
-call_first p m s d (to_take_result q) may = point_first p m s q may
-call_first p m s d (to_switch machine mode) may = switch_first p d machine mode may
-call_first p m s d (to_see_mode port) may = mode_port_first p d port may
-call_first p m s d w may = absurd (cc)
+point_first : (p : Plan) (d : AreDistinct p) (q : ℕ) → (nat_lt q (length p.points) && same_number (caller_of p q) None) ≡ true → (y : ℕ) → y < q → look p.points y point_offered None ≡ Some (point_name p q) → ⊥
+point_first p d q h y less is =
+    let there = own_there p q h in
+    point_apart p d q there.item there.place there.holds_of y less (is ∙ ap (λ t. Some t) (at_place p.points q there.item there.place (λ (v : PointPlan). v.name) []))
 
-asks_first : (p : Plan) (m : Mapping) → IsSound p m → (a : Asked) → may_ask p a ≡ true → AsksOfFirst p a
-asks_first p m s (ticks n) may = tt
-asks_first p m s a_run may = tt
-asks_first p m s (a_call w) may = call_first p m s (are_distinct p (and_parts (names_distinct p) _ (and_parts (names_fit p) _ s.names).1).0) w may
+call_first : (p : Plan) (d : AreDistinct p) → (w : Wanted) → may_call p w ≡ true → IsOfFirst p w
+call_first p d (to_write x ws) may = elem_first p d Write x (λ v. (is_unqueued v && v.provided) && holds ws v) (and_parts (wish_fits p Env (to_write x ws)) (takes Write p x ws) may).0
+call_first p d (to_send x ws) may = elem_first p d Send x (λ v. (is_queued v && v.provided) && holds ws v) (and_parts (wish_fits p Env (to_send x ws)) (takes Send p x ws) may).0
+call_first p d (to_read x) may = elem_first p d Read x (λ v. is_unqueued v && not v.provided) may
+call_first p d (to_receive x) may = elem_first p d Receive x (λ v. is_queued v && not v.provided) may
+call_first p d (to_ask q ws) may = point_first p d q (and_parts (wish_fits p Env (to_ask q ws)) (takes Ask p q ws) may).0
+call_first p d (to_take_result q) may = point_first p d q may
+call_first p d (to_switch machine mode) may = switch_first p d machine mode may
+call_first p d (to_see_mode port) may = mode_port_first p d port may
+call_first p d w may = absurd (cc)
+
+asks_first : (p : Plan) (d : AreDistinct p) (a : Asked) → may_ask p a ≡ true → AsksOfFirst p a
+asks_first p d (ticks n) may = tt
+asks_first p d a_run may = tt
+asks_first p d (a_call w) may = call_first p d w may
 
 pub asks_said : (p : Plan) (m : Mapping) (t : Letters) (a : Asked) → IsSound p m → IsSpelling p t a → saying p t ≡ asks a
-asks_said p m t a s h = ap (saying p) h.text ∙ said p (are_names p (and_parts (names_fit p) _ s.names).0) a h.may (asks_first p m s a h.may)
+asks_said p m t a s h =
+    let names = and_parts (names_fit p) _ s.names in
+    ap (saying p) h.text ∙ said p (are_names p names.0) a h.may (asks_first p (are_distinct p (and_parts (names_distinct p) _ names.1).0) a h.may)
 
 pub asks_exactly : (p : Plan) (m : Mapping) (t : Letters) (a : Asked) → IsSound p m → (saying p t ≡ asks a) ↔ IsSpelling p t a
 asks_exactly p m t a s = (λ h. (saying_asks p t a h).spelling, λ h. asks_said p m t a s h)

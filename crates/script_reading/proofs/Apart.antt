@@ -1,53 +1,22 @@
 -- In a sound plan no two things of the environment that one form is for have one name, and no two modes of a machine.
-use Rattle.std.proofs.Common.{◌≡◌, ℕ, zero, suc, ◌<◌, Bool, true, false, not, ◌&&◌, ◌==◌, List, [], ◌∷◌, map, is_none, Option, Some, None, refl, sym, ap, ◌∙◌, subst, arith}
-use Rattle.std.specs.List.{list_all, list_any, slice_get}
-use Rattle.std.specs.Option.{option_map}
-use Rattle.std.proofs.lemmas.Bool.{and_parts, and_from, eq-eqb, or_parts}
-use Rattle.std.proofs.lemmas.Option.{slice_get-map}
+use Rattle.std.proofs.Common.{◌≡◌, ℕ, ◌<◌, true, ◌&&◌, List, map, length, is_none, unwrap_or, Option, Some, None, refl, sym, ap, ◌∙◌}
+use Rattle.std.specs.List.{list_all, slice_get}
+use Rattle.std.proofs.lemmas.Bool.{and_parts}
 use Rattle.bus_semantics.specs.declared.plan.ElemPlan.{ElemPlan}
+use Rattle.bus_semantics.specs.declared.plan.PointPlan.{PointPlan}
 use Rattle.bus_semantics.specs.declared.plan.MachinePlan.{MachinePlan}
 use Rattle.bus_semantics.specs.declared.plan.ModePortPlan.{ModePortPlan}
 use Rattle.bus_semantics.specs.Plan.{Plan, look}
-use Rattle.bus_semantics.specs.SoundNames.{Named, named_once, names_distinct, same_named}
-use Rattle.bus_semantics.specs.SoundPlan.{rank, same_numbers}
+use Rattle.bus_semantics.specs.SoundNames.{Named, caller_rank, named_once, names_distinct}
+use Rattle.bus_semantics.specs.SoundPlan.{rank}
 use Rattle.bus_semantics.specs.Spelling.{Letters}
 use Rattle.script_reading.specs.declared.forms.Form.{Form}
-use Rattle.script_reading.specs.Offers.{elem_offered, is_for, machine_offered, mode_port_offered}
+use Rattle.script_reading.specs.Offers.{elem_offered, is_for, machine_offered, mode_port_offered, point_offered}
+use Rattle.plan_names.proofs.Distinct.{labels_apart}
 use Rattle.script_reading.proofs.Asking.{if_named}
 use Rattle.script_reading.proofs.Naming.{looked_up}
 
--- ---- lists of names
-
-pub not_true : (b : Bool) → not b ≡ true → b ≡ false
-not_true true h = absurd (cc)
-not_true false h = refl
-
-any_at : {X : Type 0} (f : X → Bool) (xs : List X) → list_any f xs ≡ false → (i : ℕ) (x : X) → slice_get xs i ≡ Some x → f x ≡ false
-any_at {X} f [] h i x e = absurd (cc)
-any_at {X} f (y ∷ ys) h zero x e = let same : y ≡ x = cc in subst (λ z. f z ≡ false) same (or_parts (f y) (list_any f ys) h).0
-any_at {X} f (y ∷ ys) h (suc i) x e = any_at {X = X} f ys (or_parts (f y) (list_any f ys) h).1 i x e
-
-named_apart : (ns : List Named) → named_once ns ≡ true → (y x : ℕ) → y < x → (a b : Named) → slice_get ns y ≡ Some a → slice_get ns x ≡ Some b → same_named a b ≡ false
-named_apart [] h y x less a b e f = absurd (cc)
-named_apart (n ∷ ns) h zero zero less a b e f = absurd (omega arith)
-named_apart (n ∷ ns) h zero (suc x) less a b e f =
-    let same : n ≡ a = cc in
-    subst (λ m. same_named m b ≡ false) same (any_at (same_named n) ns (not_true (list_any (same_named n) ns) (and_parts (not (list_any (same_named n) ns)) (named_once ns) h).0) x b f)
-named_apart (n ∷ ns) h (suc y) zero less a b e f = absurd (omega arith)
-named_apart (n ∷ ns) h (suc y) (suc x) less a b e f = named_apart ns (and_parts (not (list_any (same_named n) ns)) (named_once ns) h).1 y x (omega arith) a b e f
-
-pub same_self : (t : List ℕ) → same_numbers t t ≡ true
-same_self [] = refl
-same_self (n ∷ ns) = and_from (n == n) (same_numbers ns ns) (eq-eqb n n refl) (same_self ns)
-
--- two things with one label
-labels_apart : {X : Type 0} (label : X → Named) (xs : List X) → named_once (map label xs) ≡ true → (y x : ℕ) → y < x → (u v : X) → slice_get xs y ≡ Some u → slice_get xs x ≡ Some v → label u ≡ label v → ⊥
-labels_apart {X} label xs once y x less u v e f same =
-    let apart = named_apart (map label xs) once y x less (label u) (label v) (slice_get-map label xs y ∙ ap (option_map label) e) (slice_get-map label xs x ∙ ap (option_map label) f) in
-    let alike : same_named (label u) (label v) ≡ true = subst (λ n. same_named (label u) n ≡ true) same (and_from ((label u).0 == (label u).0) _ (eq-eqb (label u).0 (label u).0 refl) (same_self (label u).1)) in
-    cc
-
-pub no_home_is : (o : Option ℕ) → is_none o ≡ true → o ≡ None
+no_home_is : (o : Option ℕ) → is_none o ≡ true → o ≡ None
 no_home_is None h = refl
 no_home_is (Some i) h = absurd (cc)
 
@@ -59,6 +28,7 @@ same_label p i j t u h k e = ap (λ o. (rank p o, t)) (no_home_is i h ∙ sym (n
 -- the names of a sound plan are distinct
 pub record AreDistinct (p : Plan) : Type 0 where
   pub elements : named_once (map (λ (e : ElemPlan). (rank p e.instance, e.name)) p.elements) ≡ true
+  pub points : named_once (map (λ (t : PointPlan). (caller_rank p t, t.name)) p.points) ≡ true
   pub machines : named_once (map (λ (n : MachinePlan). (rank p n.instance, n.name)) p.machines) ≡ true
   pub modes : list_all (λ (n : MachinePlan). named_once (map (λ t. (0, t)) n.modes)) p.machines ≡ true
   pub mode_ports : named_once (map (λ (t : ModePortPlan). (rank p t.instance, t.name)) p.mode_ports) ≡ true
@@ -67,12 +37,13 @@ pub are_distinct : (p : Plan) → names_distinct p ≡ true → AreDistinct p
 are_distinct p h =
     let a = and_parts _ _ h in
     let elements = and_parts _ _ a.1 in
-    let servers = and_parts _ _ elements.1 in
+    let points = and_parts _ _ elements.1 in
+    let servers = and_parts _ _ points.1 in
     let areas = and_parts _ _ servers.1 in
     let machines = and_parts _ _ areas.1 in
     let modes = and_parts _ _ machines.1 in
     let mode_ports = and_parts _ _ modes.1 in
-    record { elements = elements.0; machines = machines.0; modes = modes.0; mode_ports = mode_ports.0 }
+    record { elements = elements.0; points = points.0; machines = machines.0; modes = modes.0; mode_ports = mode_ports.0 }
 
 pub elem_apart : (p : Plan) (d : AreDistinct p) (f : Form) (x : ℕ) (v : ElemPlan) → slice_get p.elements x ≡ Some v → is_none v.instance ≡ true
     → (y : ℕ) → y < x → look p.elements y (elem_offered f) None ≡ Some v.name → ⊥
@@ -81,6 +52,17 @@ elem_apart p d f x v there home y less h =
     let n = if_named (is_none l.item.instance && is_for f l.item) l.item.name v.name l.gives in
     labels_apart (λ (e : ElemPlan). (rank p e.instance, e.name)) p.elements d.elements y x less l.item v l.at_is there
     (same_label p l.item.instance v.instance l.item.name v.name (and_parts (is_none l.item.instance) (is_for f l.item) n.0).0 home n.1)
+
+same_caller : (p : Plan) (t u : PointPlan) → is_none t.runnable ≡ true → is_none u.runnable ≡ true → t.name ≡ u.name → (let a : Named = (caller_rank p t, t.name) in a) ≡ (caller_rank p u, u.name)
+same_caller p t u h k e = ap (λ o. (unwrap_or o (length p.runnables), t.name)) (no_home_is t.runnable h ∙ sym (no_home_is u.runnable k)) ∙ ap (λ n. (caller_rank p u, n)) e
+
+pub point_apart : (p : Plan) (d : AreDistinct p) (x : ℕ) (v : PointPlan) → slice_get p.points x ≡ Some v → is_none v.runnable ≡ true
+    → (y : ℕ) → y < x → look p.points y point_offered None ≡ Some v.name → ⊥
+point_apart p d x v there home y less h =
+    let l = looked_up p.points y point_offered v.name h in
+    let n = if_named (is_none l.item.runnable) l.item.name v.name l.gives in
+    labels_apart (λ (t : PointPlan). (caller_rank p t, t.name)) p.points d.points y x less l.item v l.at_is there
+    (same_caller p l.item v n.0 home n.1)
 
 pub machine_apart : (p : Plan) (d : AreDistinct p) (x : ℕ) (v : MachinePlan) → slice_get p.machines x ≡ Some v → is_none v.instance ≡ true
     → (y : ℕ) → y < x → look p.machines y machine_offered None ≡ Some v.name → ⊥

@@ -19,12 +19,12 @@ use Rattle.script_reading.specs.declared.forms.Form.{Form}
 use Rattle.script_reading.specs.declared.forms.Form.TheVariants.{Write, Send, Read, Receive, Ask, TakeResult, Switch, SeeMode}
 use Rattle.script_reading.specs.Forms.{Phrase, to_wait, to_run, to_call, behind, is_phrase, phrase_in, phrase_text, third_fits}
 use Rattle.script_reading.specs.Meaning.{Asked, ticks, a_run, a_call, nothing, asks, is_bad, not_of_type, call_at, meaning, meaning_in, named_call, saying, switch_call}
-use Rattle.script_reading.specs.Numbers.{are_held, words_in}
+use Rattle.line_fields.specs.Numbers.{are_held, words_in}
 use Rattle.script_reading.specs.Offers.{elem_offered, elem_takes, is_for, machine_offered, mode_in, mode_of, mode_port_offered, named_if, number_of, point_offered, takes}
 use Rattle.script_reading.specs.Sentences.{AsksFor, AsksOfFirst, IsFirst, IsFirstMode, IsNamed, may_ask, mode_name, text_of}
 use Rattle.script_reading.proofs.Naming.{is_named, looked_up, mode_found, none_before}
 use Rattle.script_reading.proofs.Phrasing.{phrase_found}
-use Rattle.script_reading.proofs.Words.{value_spelt}
+use Rattle.line_fields.proofs.Words.{value_spelt}
 
 -- ---- names
 

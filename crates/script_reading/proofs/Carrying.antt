@@ -16,7 +16,7 @@ use Rattle.script_reading.specs.Meaning.{Asked, ticks, a_run, a_call, asked_of, 
 use Rattle.script_reading.specs.Offers.{takes}
 use Rattle.script_reading.specs.Reading.{IsScript, asked_by, asked_in}
 use Rattle.script_reading.specs.Sentences.{may_ask, may_call}
-use Rattle.script_reading.specs.Texts.{lines_of}
+use Rattle.line_fields.specs.Texts.{lines_of}
 use Rattle.script_reading.proofs.Asking.{saying_asks}
 
 -- the environment may carry out what is asked for

@@ -12,7 +12,7 @@ use Rattle.script_reading.specs.declared.forms.Follows.TheVariants as follow
 use Rattle.script_reading.specs.Forms.{Phrase, to_wait, to_run, to_call, behind, phrase_in, phrase_text, third_fits}
 use Rattle.script_reading.specs.Limits.{are_too_many, runs_in, runs_said, ticks_in, ticks_said}
 use Rattle.script_reading.specs.Meaning.{Asked, a_call, Saying, nothing, asks, is_bad, no_form, no_such, not_of_type, call_at, call_with, meaning, meaning_in, named_call, saying, switch_call}
-use Rattle.script_reading.specs.Numbers.{words_in}
+use Rattle.line_fields.specs.Numbers.{words_in}
 use Rattle.script_reading.specs.Offers.{mode_in, mode_of, number_of, offered, takes}
 use Rattle.script_reading.specs.Reading.{cause_of, least_cause, passes, too_many}
 use Rattle.script_reading.specs.Sentences.{GivesNoValue, HasForm, HasNoForm, IsBadItself, IsCauseOf, IsModeOf, IsNamed, NamesNoMode, NamesNothing, pass_limit}

@@ -1,16 +1,10 @@
 pub mod Answered
 pub mod Apart
-pub mod ApartPoints
 pub mod Asking
 pub mod Carrying
 pub mod Causes
-pub mod Cutting
-pub mod Decimals
 pub mod Indexed
-pub mod Joining
 pub mod Naming
 pub mod Phrasing
 pub mod Scripts
-pub mod Spaces
 pub mod Steps
-pub mod Words

@@ -13,12 +13,12 @@ use Rattle.script_reading.specs.declared.forms.Form.TheVariants.{Write, Send, Re
 use Rattle.script_reading.specs.Forms.{Phrase, to_wait, to_run, to_call, behind, phrase_in}
 use Rattle.script_reading.specs.Limits.{runs_in, ticks_in}
 use Rattle.script_reading.specs.Meaning.{Asked, Saying, nothing, asks, is_bad, not_of_type, asked_of, call_at, meaning_in, named_call, saying, switch_call}
-use Rattle.script_reading.specs.Numbers.{words_in}
+use Rattle.line_fields.specs.Numbers.{words_in}
 use Rattle.script_reading.specs.Offers.{mode_of, number_of, takes}
 use Rattle.script_reading.specs.Reading.{IsScript, asked_by, asked_in, bad_or, cause_of, first_bad, least_cause, passes}
 use Rattle.script_reading.specs.Scripts.{SpellsScript, spoken}
 use Rattle.script_reading.specs.Sentences.{is_blank, may_ask, pass_limit, text_of}
-use Rattle.script_reading.specs.Texts.{lines_of}
+use Rattle.line_fields.specs.Texts.{lines_of}
 use Rattle.script_reading.proofs.Answered.{asks_said}
 use Rattle.script_reading.proofs.Asking.{saying_asks}
 use Rattle.script_reading.proofs.Causes.{passes_is}

@@ -5,7 +5,7 @@ use Rattle.bus_semantics.specs.declared.script.Line.{Line}
 use Rattle.bus_semantics.specs.Plan.{Plan}
 use Rattle.bus_semantics.specs.Spelling.{Letters}
 use Rattle.script_reading.specs.declared.counts.Counts.{Counts}
-use Rattle.script_reading.specs.Texts.{lines_of}
+use Rattle.line_fields.specs.Texts.{lines_of}
 use Rattle.script_reading.specs.Meaning.{Saying, asked_of, saying}
 use Rattle.script_reading.specs.Limits.{ticks_said, runs_said, ticks_in, runs_in}
 use Rattle.script_reading.specs.Pieces.{AreCountedWith, cause_after}

@@ -7,8 +7,8 @@ use Rattle.script_reading.specs.declared.forms.Form.{Form}
 use Rattle.script_reading.specs.declared.forms.Form.TheVariants.{Write, Send, Read, Receive, Ask, TakeResult, Switch, SeeMode}
 use Rattle.script_reading.specs.declared.forms.Follows.{Follows}
 use Rattle.script_reading.specs.declared.forms.Follows.TheVariants as follow
-use Rattle.script_reading.specs.Numbers.{is_number, is_value, number_in}
-use Rattle.script_reading.specs.Texts.{is_pair_name, parts}
+use Rattle.line_fields.specs.Numbers.{is_number, is_value, number_in}
+use Rattle.line_fields.specs.Texts.{is_pair_name, parts}
 
 -- ---- the forms that name a thing of an outer port: the first word, and what stands behind the name
 

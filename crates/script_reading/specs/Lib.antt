@@ -1,5 +1,3 @@
-pub mod Texts
-pub mod Numbers
 pub mod Forms
 pub mod Offers
 pub mod Meaning

@@ -10,7 +10,7 @@ use Rattle.script_reading.specs.declared.forms.Form.TheVariants.{Write, Send, Re
 use Rattle.script_reading.specs.declared.forms.Follows.{Follows}
 use Rattle.script_reading.specs.declared.forms.Follows.TheVariants as follow
 use Rattle.script_reading.specs.Forms.{Phrase, to_wait, to_run, to_call, behind, phrase_in}
-use Rattle.script_reading.specs.Numbers.{words_in}
+use Rattle.line_fields.specs.Numbers.{words_in}
 use Rattle.script_reading.specs.Offers.{mode_of, number_of, takes}
 
 -- what a line asks for: ticks, a run line, or a call of the environment

@@ -13,7 +13,7 @@ use Rattle.bus_semantics.specs.SoundElements.{is_within}
 use Rattle.bus_semantics.specs.Spelling.{Letters}
 use Rattle.script_reading.specs.declared.forms.Form.{Form}
 use Rattle.script_reading.specs.declared.forms.Form.TheVariants.{Write, Send, Read, Receive, Ask, TakeResult, Switch, SeeMode}
-use Rattle.script_reading.specs.Numbers.{are_held}
+use Rattle.line_fields.specs.Numbers.{are_held}
 
 -- ---- names
 

@@ -1,9 +1,6 @@
 -- What the pieces of a line are, and what code makes of them.
-use Rattle.std.specs.Prelude.{◌≡◌, ℕ, ℤ, ◌+◌, ◌≤◌, List, [], ◌∷◌, ◌++◌, length, Bool, true, false, ◌⊎◌, MatchOption, Option, Some, None, MatchResult, Result, option_copied}
-use Rattle.std.specs.Borrow.{Bor}
-use Rattle.script_reading.specs.Texts.{parts}
+use Rattle.std.specs.Prelude.{◌≡◌, ℕ, ◌+◌, ◌≤◌, List, [], ◌∷◌, length, Option, Some, None, MatchResult, Result, option_copied}
 use Rattle.bus_semantics.specs.Spelling.{Letters}
-use Rattle.script_reading.specs.Numbers.{is_held}
 use Rattle.script_reading.specs.declared.fields.Fields.{Fields}
 use Rattle.script_reading.specs.declared.fields.Fields.TheVariants.{One, Two, Three, More}
 use Rattle.script_reading.specs.declared.line.Said.{Said}
@@ -15,10 +12,6 @@ use Rattle.script_reading.specs.declared.counts.Counts.{Counts}
 use Rattle.script_reading.specs.Limits.{are_too_many, runs_said, ticks_said}
 use Rattle.script_reading.specs.Reading.{least_cause}
 use Rattle.script_reading.specs.Meaning.{Saying, nothing, asks, is_bad, asked_of}
-
--- the first part, and what stands after the separator
-abbrev pub IsCut : (separator : ℕ) → Letters → Bor Letters × Option (Bor Letters) → Type 0
-IsCut s t r = MatchOption r.1 (parts s t ≡ r.0.now ∷ []) (λ rest. parts s t ≡ r.0.now ∷ parts s rest.now)
 
 abbrev pub AreFields : List Letters → Fields → Type 0
 AreFields ts (One a) = ts ≡ a.now ∷ []
@@ -35,11 +28,6 @@ abbrev pub saying_of : Said → Saying
 saying_of said.Nothing = nothing
 saying_of (said.Line l) = asks (asked_of l)
 saying_of (said.Bad cause) = is_bad cause
-
--- the word was appended; where not, it has more than 64 bits, or there are 16 words
-abbrev pub HasTaken : List ℤ → List ℤ → ℤ → Bool → Type 0
-HasTaken old new x true = (new ≡ old ++ x ∷ []) × (is_held x ≡ true)
-HasTaken old new x false = (is_held x ≡ false) ⊎ (16 ≤ length old)
 
 -- the counts with one more line
 abbrev pub AreCountedWith : Counts → Saying → Counts → Type 0

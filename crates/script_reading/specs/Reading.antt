@@ -5,7 +5,7 @@ use Rattle.bus_semantics.specs.Spelling.{Letters}
 use Rattle.bus_semantics.specs.declared.script.Line.{Line}
 use Rattle.script_reading.specs.declared.script_read.ScriptRead.{ScriptRead}
 use Rattle.script_reading.specs.declared.script_read.ScriptRead.TheVariants as answer
-use Rattle.script_reading.specs.Texts.{lines_of}
+use Rattle.line_fields.specs.Texts.{lines_of}
 use Rattle.script_reading.specs.Meaning.{Asked, asked_of, Saying, nothing, asks, is_bad, saying}
 use Rattle.script_reading.specs.Limits.{ticks_said, runs_said, ticks_in, runs_in, are_too_many}
 

@@ -6,7 +6,7 @@ use Rattle.bus_semantics.specs.Plan.{Plan}
 use Rattle.bus_semantics.specs.Spelling.{Letters}
 use Rattle.script_reading.specs.Meaning.{asked_of}
 use Rattle.script_reading.specs.Sentences.{is_blank, may_ask, pass_limit, text_of}
-use Rattle.script_reading.specs.Texts.{lines_of}
+use Rattle.line_fields.specs.Texts.{lines_of}
 
 -- the lines that are not blank
 abbrev pub spoken : List Letters → List Letters

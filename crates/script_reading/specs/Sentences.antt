@@ -14,7 +14,7 @@ use Rattle.script_reading.specs.declared.forms.Follows.TheVariants as follow
 use Rattle.script_reading.specs.Forms.{Phrase, to_call, behind, is_phrase, phrase_text}
 use Rattle.script_reading.specs.Limits.{are_too_many, runs_in, ticks_in}
 use Rattle.script_reading.specs.Meaning.{Asked, ticks, a_run, a_call, no_form, no_such, not_of_type}
-use Rattle.script_reading.specs.Numbers.{words_in}
+use Rattle.line_fields.specs.Numbers.{words_in}
 use Rattle.script_reading.specs.Offers.{offered, takes}
 use Rattle.script_reading.specs.Reading.{too_many}
 

@@ -11,12 +11,9 @@ mod forms;
 mod laws;
 mod limits;
 mod line;
-mod names;
-mod numbers;
 mod offers;
 mod phrases;
 mod script_read;
-mod values;
 
 pub use laws::{
     causes_are_sentences, lines_spell_what_they_ask, scripts_are_carriable,

@@ -7,15 +7,15 @@ ghost use Rattle.bus_semantics.specs.Plan.{plan_of};
 ghost use Rattle.bus_semantics.specs.SoundElements.{is_within};
 ghost use Rattle.script_reading.specs.Forms.{behind, is_phrase, phrase_in, third_fits};
 ghost use Rattle.script_reading.specs.Meaning.{call_at, call_with, meaning, meaning_in, plain_call, saying, switch_call, value_call};
-ghost use Rattle.script_reading.specs.Numbers.{are_held, is_value, words_in};
+ghost use Rattle.line_fields.specs.Numbers.{are_held, is_value, words_in};
 ghost use Rattle.script_reading.specs.Offers.{are_within, elem_takes, mode_of, takes};
 ghost use Rattle.script_reading.specs.Pieces.{phrase_of, saying_of};
 
 use crate::environment::Environment;
 use crate::forms::{Follows, Form, behind};
 use crate::phrases::{Parsed, parse};
-use crate::values::value_in;
 use bus_semantics::{BusPlan, ElemPlan, Line, Wish};
+use line_fields::value_in;
 use rte_value::{Limits, Value};
 
 /// The cause of a line that has none of the forms.

@@ -7,9 +7,7 @@ ghost use Rattle.script_reading.specs.Pieces.{AreFields, phrase_of};
 
 use crate::fields::{Fields, split_fields};
 use crate::forms::{Follows, Form, behind, form_of};
-use crate::names::{is_name, is_pair_name};
-use crate::numbers::{is_number, number_in};
-use crate::values::is_value;
+use line_fields::{is_name, is_number, is_pair_name, is_value, number_in};
 
 /// The most ticks of one line.
 const MOST_TICKS: u32 = 100_000;

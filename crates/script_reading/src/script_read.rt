@@ -5,13 +5,13 @@ ghost use Rattle.bus_semantics.specs.Plan.{plan_of};
 ghost use Rattle.script_reading.specs.Meaning.{asked_of};
 ghost use Rattle.script_reading.specs.Pieces.{saying_of};
 ghost use Rattle.script_reading.specs.Reading.{IfBadLine, IfRead, IsScript, asked_by, first_bad};
-ghost use Rattle.script_reading.specs.Texts.{lines_of};
+ghost use Rattle.line_fields.specs.Texts.{lines_of};
 
 use crate::counts::Counts;
 use crate::environment::Environment;
-use crate::fields::split_line;
 use crate::line::{Said, read_line_of};
 use bus_semantics::{BusPlan, Line, Script};
+use line_fields::split_line;
 use rte_text::{Memory, Seq};
 use std::alloc::Global;
 

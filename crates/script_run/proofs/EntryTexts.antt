@@ -1,45 +1,46 @@
 -- The lines of entries, one after the other.
-use Rattle.std.proofs.Common.{◌≡◌, ℕ, suc, ◌+◌, ◌<◌, ◌≤◌, List, [], ◌∷◌, ◌++◌, length, take, drop, get_or, Option, refl, sym, ap, ◌∙◌, subst, append_assoc, append-nil, drop-cons, arith}
+use Rattle.std.proofs.Common.{◌≡◌, ℕ, suc, ◌+◌, ◌<◌, List, [], ◌∷◌, ◌++◌, length, take, drop, get_or, Option, refl, sym, ap, ◌∙◌, subst, append_assoc, append-nil, drop-cons}
 use Rattle.std.proofs.lemmas.List.{take_more, take-append-drop}
 use Rattle.rte_text.specs.Sinks.{AppendsWhereTold, AppendsPrefixWhereTold}
 use Rattle.rte_text.specs.Told.{appends_both, prefix_after, prefix_first}
 use Rattle.bus_semantics.specs.declared.entries.Stamped.{Stamped}
+use Rattle.bus_semantics.specs.declared.version.Version.{Version}
 use Rattle.bus_semantics.specs.Plan.{Plan}
 use Rattle.bus_semantics.specs.Spelling.{entry_text}
 use Rattle.script_run.specs.Texts.{entries_text}
 
-texts-append : (p : Plan) (a b : List Stamped) → entries_text p (a ++ b) ≡ entries_text p a ++ entries_text p b
-texts-append p [] b = refl
-texts-append p (e ∷ a) b = ap (λ t. entry_text p e.entry ++ t) (texts-append p a b) ∙ sym (append_assoc (entry_text p e.entry) (entries_text p a) (entries_text p b))
+texts-append : (v : Version) (p : Plan) (a b : List Stamped) → entries_text v p (a ++ b) ≡ entries_text v p a ++ entries_text v p b
+texts-append v p [] b = refl
+texts-append v p (e ∷ a) b = ap (λ t. entry_text v p e.entry ++ t) (texts-append v p a b) ∙ sym (append_assoc (entry_text v p e.entry) (entries_text v p a) (entries_text v p b))
 
 -- the lines so far and one more
-pub texts-next : (p : Plan) (es : List Stamped) (i : ℕ) (e : Stamped) → i < length es → e ≡ get_or es i e
-    → entries_text p (take i es) ++ entry_text p e.entry ≡ entries_text p (take (i + 1) es)
-texts-next p es i e h is =
+pub texts-next : (v : Version) (p : Plan) (es : List Stamped) (i : ℕ) (e : Stamped) → i < length es → e ≡ get_or es i e
+    → entries_text v p (take i es) ++ entry_text v p e.entry ≡ entries_text v p (take (i + 1) es)
+texts-next v p es i e h is =
     let one : take (i + 1) es ≡ take i es ++ e ∷ [] = take_more es i e h ∙ ap (λ (x : Stamped). take i es ++ x ∷ []) (sym is) in
-    sym (ap (entries_text p) one ∙ texts-append p (take i es) (e ∷ []) ∙ ap (λ t. entries_text p (take i es) ++ t) (append-nil (entry_text p e.entry)))
+    sym (ap (entries_text v p) one ∙ texts-append v p (take i es) (e ∷ []) ∙ ap (λ t. entries_text v p (take i es) ++ t) (append-nil (entry_text v p e.entry)))
 
 -- the lines so far, one more, and the rest are all of them
-texts-whole : (p : Plan) (es : List Stamped) (i : ℕ) (e : Stamped) → i < length es → e ≡ get_or es i e
-    → (entries_text p (take i es) ++ entry_text p e.entry) ++ entries_text p (drop (suc i) es) ≡ entries_text p es
-texts-whole p es i e h is =
+texts-whole : (v : Version) (p : Plan) (es : List Stamped) (i : ℕ) (e : Stamped) → i < length es → e ≡ get_or es i e
+    → (entries_text v p (take i es) ++ entry_text v p e.entry) ++ entries_text v p (drop (suc i) es) ≡ entries_text v p es
+texts-whole v p es i e h is =
     let rest : drop i es ≡ e ∷ drop (suc i) es = drop-cons es i e h ∙ ap (λ (x : Stamped). x ∷ drop (suc i) es) (sym is) in
-    append_assoc (entries_text p (take i es)) (entry_text p e.entry) (entries_text p (drop (suc i) es))
-    ∙ sym (texts-append p (take i es) (e ∷ drop (suc i) es))
-    ∙ ap (λ xs. entries_text p (take i es ++ xs)) (sym rest)
-    ∙ ap (entries_text p) (take-append-drop i es)
+    append_assoc (entries_text v p (take i es)) (entry_text v p e.entry) (entries_text v p (drop (suc i) es))
+    ∙ sym (texts-append v p (take i es) (e ∷ drop (suc i) es))
+    ∙ ap (λ xs. entries_text v p (take i es ++ xs)) (sym rest)
+    ∙ ap (entries_text v p) (take-append-drop i es)
 
 -- a fault in the line after those so far leaves a prefix of all
-pub texts_cut : (p : Plan) (es : List Stamped) (i : ℕ) (e : Stamped) {between after : Option (List ℕ)} (before : Option (List ℕ)) → i < length es → e ≡ get_or es i e
-    → AppendsWhereTold before between (entries_text p (take i es)) → AppendsPrefixWhereTold between after (entry_text p e.entry)
-    → AppendsPrefixWhereTold before after (entries_text p es)
-texts_cut p es i e {between} {after} before h is put cut =
-    subst (AppendsPrefixWhereTold before after) (texts-whole p es i e h is)
-    (prefix_first (entries_text p (drop (suc i) es)) (prefix_after before (entries_text p (take i es)) put cut))
+pub texts_cut : (v : Version) (p : Plan) (es : List Stamped) (i : ℕ) (e : Stamped) {between after : Option (List ℕ)} (before : Option (List ℕ)) → i < length es → e ≡ get_or es i e
+    → AppendsWhereTold before between (entries_text v p (take i es)) → AppendsPrefixWhereTold between after (entry_text v p e.entry)
+    → AppendsPrefixWhereTold before after (entries_text v p es)
+texts_cut v p es i e {between} {after} before h is put cut =
+    subst (AppendsPrefixWhereTold before after) (texts-whole v p es i e h is)
+    (prefix_first (entries_text v p (drop (suc i) es)) (prefix_after before (entries_text v p (take i es)) put cut))
 
-pub texts_more : (p : Plan) (es : List Stamped) (i : ℕ) (e : Stamped) (before between after : Option (List ℕ)) → i < length es → e ≡ get_or es i e
-    → AppendsWhereTold before between (entries_text p (take i es)) → AppendsWhereTold between after (entry_text p e.entry)
-    → AppendsWhereTold before after (entries_text p (take (i + 1) es))
-texts_more p es i e before between after h is put more =
-    subst (AppendsWhereTold before after) (texts-next p es i e h is)
-    (appends_both before between after (entries_text p (take i es)) (entry_text p e.entry) put more)
+pub texts_more : (v : Version) (p : Plan) (es : List Stamped) (i : ℕ) (e : Stamped) (before between after : Option (List ℕ)) → i < length es → e ≡ get_or es i e
+    → AppendsWhereTold before between (entries_text v p (take i es)) → AppendsWhereTold between after (entry_text v p e.entry)
+    → AppendsWhereTold before after (entries_text v p (take (i + 1) es))
+texts_more v p es i e before between after h is put more =
+    subst (AppendsWhereTold before after) (texts-next v p es i e h is)
+    (appends_both before between after (entries_text v p (take i es)) (entry_text v p e.entry) put more)

@@ -1,8 +1,9 @@
 -- A session and entries of runnables and machines that follow it inside a run line.
-use Rattle.std.proofs.Common.{◌≡◌, ℕ, suc, ◌+◌, Bool, true, false, not, ◌&&◌, List, [], ◌∷◌, ◌++◌, length, refl, sym, ap, ◌∙◌, subst, append_assoc, append-nil, arith}
+use Rattle.std.proofs.Common.{◌≡◌, suc, ◌+◌, Bool, true, false, not, ◌&&◌, List, [], ◌∷◌, ◌++◌, length, refl, sym, ◌∙◌, append_assoc, append-nil, arith}
 use Rattle.bus_semantics.specs.declared.entries.Entry.{Entry}
 use Rattle.bus_semantics.specs.declared.entries.Stamped.{Stamped}
 use Rattle.bus_semantics.specs.declared.script.Mapping.{Mapping}
+use Rattle.bus_semantics.specs.declared.version.Version.{Version}
 use Rattle.bus_semantics.specs.Plan.{Plan}
 use Rattle.bus_semantics.specs.History.{History, is_environment}
 use Rattle.bus_semantics.specs.Legal.{IsLegal}
@@ -21,9 +22,9 @@ pub history-items : (es : List Stamped) (s : Session) (h : History) → history_
 history-items [] s h = refl
 history-items (e ∷ es) s h = history-items es (made e.entry ∷ s) h
 
-pub spelling-items : (p : Plan) (es : List Stamped) (s : Session) → spelling_of p (items_after es s) ≡ spelling_of p s ++ entries_text p es
-spelling-items p [] s = sym (append-nil (spelling_of p s))
-spelling-items p (e ∷ es) s = spelling-items p es (made e.entry ∷ s) ∙ append_assoc (spelling_of p s) (entry_text p e.entry) (entries_text p es)
+pub spelling-items : (v : Version) (p : Plan) (es : List Stamped) (s : Session) → spelling_of v p (items_after es s) ≡ spelling_of v p s ++ entries_text v p es
+spelling-items v p [] s = sym (append-nil (spelling_of v p s))
+spelling-items v p (e ∷ es) s = spelling-items v p es (made e.entry ∷ s) ∙ append_assoc (spelling_of v p s) (entry_text v p e.entry) (entries_text v p es)
 
 legal_before : (p : Plan) (es : List Stamped) (g : History) → IsLegal p (after es g) → IsLegal p g
 legal_before p [] g legal = legal

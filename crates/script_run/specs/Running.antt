@@ -4,6 +4,7 @@ use Rattle.rte_text.specs.Counts.{Rose}
 use Rattle.rte_text.specs.Sinks.{AppendsWhereTold, AppendsPrefixWhereTold}
 use Rattle.bus_semantics.specs.declared.script.Line.{Line}
 use Rattle.bus_semantics.specs.declared.script.Mapping.{Mapping}
+use Rattle.bus_semantics.specs.declared.version.Version.{Version}
 use Rattle.bus_semantics.specs.Plan.{Plan}
 use Rattle.bus_semantics.specs.History.{History}
 use Rattle.bus_semantics.specs.Run.{Session, history_of, IsSessionOf, IsBeginningOf}
@@ -13,23 +14,23 @@ use Rattle.script_run.specs.declared.script.ScriptRun.{ScriptRun}
 use Rattle.script_run.specs.declared.script.ScriptRun.TheVariants.{Finished, Failed, Memory}
 use Rattle.script_run.specs.Legal.{IsLegalFrom}
 
--- the bytes put are the text of a run of the script that goes on from the history, and the node is lawful for both
-pub record PrintsRun (p : Plan) (m : Mapping) (h : History) (script : List Line) (now : NodeState) (before after : Option (List ℕ)) : Type 0 where
+-- the bytes put are the text, in a version, of a run of the script that goes on from the history, and the node is lawful for both
+pub record PrintsRun (v : Version) (p : Plan) (m : Mapping) (h : History) (script : List Line) (now : NodeState) (before after : Option (List ℕ)) : Type 0 where
   pub session : Session
   pub bytes : List ℕ
   pub of_script : IsSessionOf script session
   pub legal : IsLegalFrom p m h session
   pub lawful : IsLawfulNode now (history_of session ++ h)
-  pub spelled : Spells p bytes session
+  pub spelled : Spells v p bytes session
   pub put : AppendsWhereTold before after bytes
 
--- the bytes put are a prefix of the text of a begun run that goes on from the history
-pub record PrintsBeginning (p : Plan) (m : Mapping) (h : History) (script : List Line) (before after : Option (List ℕ)) : Type 0 where
+-- the bytes put are a prefix of the text, in a version, of a begun run that goes on from the history
+pub record PrintsBeginning (v : Version) (p : Plan) (m : Mapping) (h : History) (script : List Line) (before after : Option (List ℕ)) : Type 0 where
   pub session : Session
   pub bytes : List ℕ
   pub of_script : IsBeginningOf script session
   pub legal : IsLegalFrom p m h session
-  pub spelled : Spells p bytes session
+  pub spelled : Spells v p bytes session
   pub put : AppendsPrefixWhereTold before after bytes
 
 -- a put that failed raised the count of faults, and nothing else changes it

@@ -1,9 +1,10 @@
 -- Where a node stands within a run of a script, and how its lines carry it on.
-use Rattle.std.specs.Prelude.{◌≡◌, ◌≤◌, ◌+◌, ◌-◌, ◌^◌, min, ℕ, List, [], ◌∷◌, ◌++◌, Bool, true, false, Option}
+use Rattle.std.specs.Prelude.{◌≡◌, ◌≤◌, ◌+◌, ◌-◌, ◌^◌, min, ℕ, List, [], ◌++◌, true, false, Option}
 use Rattle.rte_text.specs.declared.sink.Put.{Put}
 use Rattle.rte_text.specs.declared.sink.Put.TheVariants as putting
 use Rattle.rte_text.specs.Sinks.{AppendsWhereTold, AppendsPrefixWhereTold}
 use Rattle.bus_semantics.specs.declared.script.Mapping.{Mapping}
+use Rattle.bus_semantics.specs.declared.version.Version.{Version}
 use Rattle.bus_semantics.specs.Plan.{Plan, plan_of}
 use Rattle.bus_semantics.specs.History.{History}
 use Rattle.bus_semantics.specs.Run.{Session, history_of, Ordered, orders_of, is_placed, is_inside, made_in_line}
@@ -26,7 +27,7 @@ IsAt outside s = is_inside s ≡ false
 IsAt (inside n) s = (is_inside s ≡ true) × (n ≤ made_in_line s)
 
 -- a legal run that goes on from the history and did these orders was put after `base`, and the node is lawful for both
-pub record Stands (p : Plan) (m : Mapping) (h : History) (orders : List Ordered) (place : Place) (base : Option (List ℕ)) (n : NodeState) (told : Option (List ℕ)) : Type 0 where
+pub record Stands (v : Version) (p : Plan) (m : Mapping) (h : History) (orders : List Ordered) (place : Place) (base : Option (List ℕ)) (n : NodeState) (told : Option (List ℕ)) : Type 0 where
   pub session : Session
   pub did : orders_of session ≡ orders
   pub placed : is_placed session ≡ true
@@ -35,21 +36,21 @@ pub record Stands (p : Plan) (m : Mapping) (h : History) (orders : List Ordered)
   pub plan : plan_of n.plan ≡ p
   pub mapping : n.mapping ≡ m
   pub lawful : IsLawfulNode n (history_of session ++ h)
-  pub text : AppendsWhereTold base told (spelling_of p session)
+  pub text : AppendsWhereTold base told (spelling_of v p session)
 
 -- a prefix of the text of a legal run that did some of these orders was put
-pub record IsCut (p : Plan) (m : Mapping) (h : History) (orders : List Ordered) (base told : Option (List ℕ)) : Type 0 where
+pub record IsCut (v : Version) (p : Plan) (m : Mapping) (h : History) (orders : List Ordered) (base told : Option (List ℕ)) : Type 0 where
   pub session : Session
   pub left : List Ordered
   pub did : orders_of session ++ left ≡ orders
   pub placed : is_placed session ≡ true
   pub legal : IsLegalFrom p m h session
-  pub text : AppendsPrefixWhereTold base told (spelling_of p session)
+  pub text : AppendsPrefixWhereTold base told (spelling_of v p session)
 
-abbrev pub GoesOn : ScriptRun → Plan → Mapping → History → List Ordered → Place → Option (List ℕ) → NodeState → Option (List ℕ) → Type 0
-GoesOn run.Finished p m h orders place base n told = Stands p m h orders place base n told
-GoesOn run.Failed p m h orders place base n told = IsCut p m h orders base told
-GoesOn run.Memory p m h orders place base n told = IsCut p m h orders base told
+abbrev pub GoesOn : Version → ScriptRun → Plan → Mapping → History → List Ordered → Place → Option (List ℕ) → NodeState → Option (List ℕ) → Type 0
+GoesOn v run.Finished p m h orders place base n told = Stands v p m h orders place base n told
+GoesOn v run.Failed p m h orders place base n told = IsCut v p m h orders base told
+GoesOn v run.Memory p m h orders place base n told = IsCut v p m h orders base told
 
 -- what came of a run whose last put was this one
 abbrev pub came_of : Put → ScriptRun
@@ -57,14 +58,14 @@ came_of putting.Done = run.Finished
 came_of putting.Failed = run.Failed
 
 -- from wherever the node stands, these orders carry it from the one place to the other
-abbrev pub Carries : ScriptRun → List Ordered → (from to : Place) → NodeState → NodeState → Option (List ℕ) → Option (List ℕ) → Type 0
-Carries answer more from to old new before after = (p : Plan) (m : Mapping) (h : History) (orders : List Ordered) (base : Option (List ℕ))
-    → Stands p m h orders from base old before → GoesOn answer p m h (orders ++ more) to base new after
+abbrev pub Carries : Version → ScriptRun → List Ordered → (from to : Place) → NodeState → NodeState → Option (List ℕ) → Option (List ℕ) → Type 0
+Carries v answer more from to old new before after = (p : Plan) (m : Mapping) (h : History) (orders : List Ordered) (base : Option (List ℕ))
+    → Stands v p m h orders from base old before → GoesOn v answer p m h (orders ++ more) to base new after
 
 -- a round and a pass carry it on within a run line, or to its end
-abbrev pub CarriesLap : Lap → (made : ℕ) → NodeState → NodeState → Option (List ℕ) → Option (List ℕ) → Type 0
-CarriesLap (lap.Made more) made old new before after = Carries run.Finished [] (inside made) (inside more) old new before after
-CarriesLap (lap.Ended answer) made old new before after = Carries answer [] (inside made) outside old new before after
+abbrev pub CarriesLap : Version → Lap → (made : ℕ) → NodeState → NodeState → Option (List ℕ) → Option (List ℕ) → Type 0
+CarriesLap v (lap.Made more) made old new before after = Carries v run.Finished [] (inside made) (inside more) old new before after
+CarriesLap v (lap.Ended answer) made old new before after = Carries v answer [] (inside made) outside old new before after
 
 -- more entries than before, as far as a `u64` counts
 abbrev pub LapRises : Lap → (made : ℕ) → Type 0

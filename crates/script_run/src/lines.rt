@@ -10,7 +10,7 @@ ghost use Rattle.script_run.specs.Standing.{came_of};
 ghost use Rattle.script_run.specs.Texts.{entries_text};
 
 use crate::script::ScriptRun;
-use bus_semantics::{BusPlan, Entry, Stamped};
+use bus_semantics::{BusPlan, Entry, Stamped, Version};
 use rte_text::{LineBuf, Put, Sink};
 use trace_text::write_entry;
 
@@ -25,13 +25,19 @@ pub(crate) fn came_of(put: Put) -> ScriptRun
 }
 
 /// Puts the line of an entry. `line` is only room for it.
-pub(crate) fn put_entry<K: Sink>(p: &BusPlan, e: &Entry, out: &mut K, line: &mut LineBuf) -> Put
+pub(crate) fn put_entry<K: Sink>(
+    p: &BusPlan,
+    e: &Entry,
+    v: Version,
+    out: &mut K,
+    line: &mut LineBuf,
+) -> Put
     requires { (m : Mapping) × IsSound (plan_of p.now) m }
-    ensures told { ToldAfter result (K.told out.old) (K.told out.new) (entry_text (plan_of p.now) e.now) }
+    ensures told { ToldAfter result (K.told out.old) (K.told out.new) (entry_text v (plan_of p.now) e.now) }
     ensures faults { SinkFaultsAfter result (K.faults out.old) (K.faults out.new) }
 {
     line.clear();
-    write_entry(p, e, line);
+    write_entry(p, e, v, line);
     out.put(line.bytes())
 }
 
@@ -39,15 +45,16 @@ pub(crate) fn put_entry<K: Sink>(p: &BusPlan, e: &Entry, out: &mut K, line: &mut
 pub(crate) fn put_entries<K: Sink>(
     p: &BusPlan,
     entries: &[Stamped],
+    v: Version,
     out: &mut K,
     line: &mut LineBuf,
 ) -> Put
     requires { (m : Mapping) × IsSound (plan_of p.now) m }
-    ensures told { ToldAfter result (K.told out.old) (K.told out.new) (entries_text (plan_of p.now) entries.now) }
+    ensures told { ToldAfter result (K.told out.old) (K.told out.new) (entries_text v (plan_of p.now) entries.now) }
     ensures faults { SinkFaultsAfter result (K.faults out.old) (K.faults out.new) }
 {
     for stamped in entries {
-        match put_entry(p, &stamped.entry, out, line) {
+        match put_entry(p, &stamped.entry, v, out, line) {
             Put::Done => {}
             Put::Failed => return Put::Failed,
         }

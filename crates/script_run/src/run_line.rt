@@ -8,6 +8,7 @@ ghost use Rattle.script_run.specs.Standing.{Carries, CarriesLap, LapFaults, LapR
 
 use crate::lines::{came_of, put_entries};
 use crate::script::ScriptRun;
+use bus_semantics::Version;
 use core_runtime::{Node, RoundRun, run_round, serial_pass};
 use rte_text::{Gate, LineBuf, Put, Sink};
 use std::alloc::Global;
@@ -31,6 +32,7 @@ fn put_round<R: Threads + Sync, K: Sink, G: Gate>(
     rt: &R,
     alloc: Global,
     n: &mut Node,
+    v: Version,
     out: &mut K,
     line: &mut LineBuf,
     gate: &G,
@@ -38,21 +40,21 @@ fn put_round<R: Threads + Sync, K: Sink, G: Gate>(
     ensures plan { n.new.plan ≡ n.old.plan }
     ensures mapping { n.new.mapping ≡ n.old.mapping }
     ensures room { result ≡ Finished → n.new.mapping.cores ≤ n.new.spare }
-    ensures carries { (made : ℕ) → Carries result [] (inside made) (inside (made + length n.new.entries)) n.old n.new (K.told out.old) (K.told out.new) }
+    ensures carries { (made : ℕ) → Carries v result [] (inside made) (inside (made + length n.new.entries)) n.old n.new (K.told out.old) (K.told out.new) }
     ensures faults { FaultsAfter result (K.faults out.old) (K.faults out.new) }
 {
     match run_round(rt, alloc, n, gate) {
-        RoundRun::Ran => came_of(put_entries(n.plan(), n.entries(), out, line)),
+        RoundRun::Ran => came_of(put_entries(n.plan(), n.entries(), v, out, line)),
         RoundRun::Memory => ScriptRun::Memory,
     }
 }
 
 /// Makes a serial pass after so many entries, and puts its entries; or closes the run line at rest, where there are none.
-fn put_pass<K: Sink>(n: &mut Node, made: u64, out: &mut K, line: &mut LineBuf) -> Lap
+fn put_pass<K: Sink>(n: &mut Node, made: u64, v: Version, out: &mut K, line: &mut LineBuf) -> Lap
     requires { n.old.mapping.cores ≤ n.old.spare }
     ensures plan { n.new.plan ≡ n.old.plan }
     ensures mapping { n.new.mapping ≡ n.old.mapping }
-    ensures carries { CarriesLap result made n.old n.new (K.told out.old) (K.told out.new) }
+    ensures carries { CarriesLap v result made n.old n.new (K.told out.old) (K.told out.new) }
     ensures rises { LapRises result made }
     ensures faults { LapFaults result (K.faults out.old) (K.faults out.new) }
 {
@@ -60,7 +62,7 @@ fn put_pass<K: Sink>(n: &mut Node, made: u64, out: &mut K, line: &mut LineBuf) -
     if n.entries().is_empty() {
         return Lap::Ended(came_of(out.put(idle_line())));
     }
-    match put_entries(n.plan(), n.entries(), out, line) {
+    match put_entries(n.plan(), n.entries(), v, out, line) {
         Put::Done => Lap::Made(made.saturating_add(n.entries().len() as u64)),
         Put::Failed => Lap::Ended(ScriptRun::Failed),
     }
@@ -72,19 +74,26 @@ fn put_lap<R: Threads + Sync, K: Sink, G: Gate>(
     alloc: Global,
     n: &mut Node,
     made: u64,
+    v: Version,
     out: &mut K,
     line: &mut LineBuf,
     gate: &G,
 ) -> Lap
     ensures plan { n.new.plan ≡ n.old.plan }
     ensures mapping { n.new.mapping ≡ n.old.mapping }
-    ensures carries { CarriesLap result made n.old n.new (K.told out.old) (K.told out.new) }
+    ensures carries { CarriesLap v result made n.old n.new (K.told out.old) (K.told out.new) }
     ensures rises { LapRises result made }
     ensures faults { LapFaults result (K.faults out.old) (K.faults out.new) }
 {
-    match put_round(rt, alloc, n, out, line, gate) {
+    match put_round(rt, alloc, n, v, out, line, gate) {
         ScriptRun::Finished => {
-            put_pass(n, made.saturating_add(n.entries().len() as u64), out, line)
+            put_pass(
+                n,
+                made.saturating_add(n.entries().len() as u64),
+                v,
+                out,
+                line,
+            )
         }
         ScriptRun::Failed => Lap::Ended(ScriptRun::Failed),
         ScriptRun::Memory => Lap::Ended(ScriptRun::Memory),
@@ -96,13 +105,14 @@ pub(crate) fn put_run<R: Threads + Sync, K: Sink, G: Gate>(
     rt: &R,
     alloc: Global,
     n: &mut Node,
+    v: Version,
     out: &mut K,
     line: &mut LineBuf,
     gate: &G,
 ) -> ScriptRun
     ensures plan { n.new.plan ≡ n.old.plan }
     ensures mapping { n.new.mapping ≡ n.old.mapping }
-    ensures carries { Carries result (a_run ∷ []) outside outside n.old n.new (K.told out.old) (K.told out.new) }
+    ensures carries { Carries v result (a_run ∷ []) outside outside n.old n.new (K.told out.old) (K.told out.new) }
     ensures faults { FaultsAfter result (K.faults out.old) (K.faults out.new) }
 {
     match out.put(run_line()) {
@@ -111,7 +121,7 @@ pub(crate) fn put_run<R: Threads + Sync, K: Sink, G: Gate>(
     }
     let mut made: u64 = 0;
     'laps: loop {
-        match put_lap(rt, alloc, n, made, out, line, gate) {
+        match put_lap(rt, alloc, n, made, v, out, line, gate) {
             Lap::Made(more) => made = more,
             Lap::Ended(answer) => return answer,
         }

@@ -15,7 +15,7 @@ ghost use Rattle.script_run.specs.Standing.{Carries, outside};
 
 use crate::lines::{came_of, put_entry};
 use crate::run_line::put_run;
-use bus_semantics::{Line, Script, Wish};
+use bus_semantics::{Line, Script, Version, Wish};
 use core_runtime::Node;
 use rte_text::{Gate, LineBuf, Put, Sink};
 use std::alloc::Global;
@@ -34,26 +34,38 @@ pub enum ScriptRun {
 }
 
 /// One call of the environment.
-fn put_call<K: Sink>(n: &mut Node, wish: &Wish, out: &mut K, line: &mut LineBuf) -> ScriptRun
+fn put_call<K: Sink>(
+    n: &mut Node,
+    wish: &Wish,
+    v: Version,
+    out: &mut K,
+    line: &mut LineBuf,
+) -> ScriptRun
     requires { wish_fits (plan_of n.old.plan) Env (wanted_of wish.now) ≡ true }
     ensures plan { n.new.plan ≡ n.old.plan }
     ensures mapping { n.new.mapping ≡ n.old.mapping }
-    ensures carries { Carries result (a_call (wanted_of wish.now) ∷ []) outside outside n.old n.new (K.told out.old) (K.told out.new) }
+    ensures carries { Carries v result (a_call (wanted_of wish.now) ∷ []) outside outside n.old n.new (K.told out.old) (K.told out.new) }
     ensures faults { FaultsAfter result (K.faults out.old) (K.faults out.new) }
 {
     let entry = n.environment(wish);
-    came_of(put_entry(n.plan(), &entry, out, line))
+    came_of(put_entry(n.plan(), &entry, v, out, line))
 }
 
 /// So many ticks.
-fn put_ticks<K: Sink>(n: &mut Node, count: u32, out: &mut K, line: &mut LineBuf) -> ScriptRun
+fn put_ticks<K: Sink>(
+    n: &mut Node,
+    count: u32,
+    v: Version,
+    out: &mut K,
+    line: &mut LineBuf,
+) -> ScriptRun
     ensures plan { n.new.plan ≡ n.old.plan }
     ensures mapping { n.new.mapping ≡ n.old.mapping }
-    ensures carries { Carries result (replicate count (a_call to_tick)) outside outside n.old n.new (K.told out.old) (K.told out.new) }
+    ensures carries { Carries v result (replicate count (a_call to_tick)) outside outside n.old n.new (K.told out.old) (K.told out.new) }
     ensures faults { FaultsAfter result (K.faults out.old) (K.faults out.new) }
 {
     for i in 0..count {
-        match put_call(n, &Wish::Tick, out, line) {
+        match put_call(n, &Wish::Tick, v, out, line) {
             ScriptRun::Finished => {}
             ScriptRun::Failed => return ScriptRun::Failed,
             ScriptRun::Memory => return ScriptRun::Memory,
@@ -68,6 +80,7 @@ fn put_line<R: Threads + Sync, K: Sink, G: Gate>(
     alloc: Global,
     n: &mut Node,
     script_line: &Line,
+    v: Version,
     out: &mut K,
     line: &mut LineBuf,
     gate: &G,
@@ -75,13 +88,13 @@ fn put_line<R: Threads + Sync, K: Sink, G: Gate>(
     requires { IsCarriable (plan_of n.old.plan) script_line.now }
     ensures plan { n.new.plan ≡ n.old.plan }
     ensures mapping { n.new.mapping ≡ n.old.mapping }
-    ensures carries { Carries result (orders_of_line script_line.now) outside outside n.old n.new (K.told out.old) (K.told out.new) }
+    ensures carries { Carries v result (orders_of_line script_line.now) outside outside n.old n.new (K.told out.old) (K.told out.new) }
     ensures faults { FaultsAfter result (K.faults out.old) (K.faults out.new) }
 {
     match script_line {
-        Line::Tick(count) => put_ticks(n, *count, out, line),
-        Line::Run => put_run(rt, alloc, n, out, line, gate),
-        Line::Call(wish) => put_call(n, wish, out, line),
+        Line::Tick(count) => put_ticks(n, *count, v, out, line),
+        Line::Run => put_run(rt, alloc, n, v, out, line, gate),
+        Line::Call(wish) => put_call(n, wish, v, out, line),
     }
 }
 
@@ -91,6 +104,7 @@ fn put_lines<R: Threads + Sync, K: Sink, G: Gate>(
     alloc: Global,
     n: &mut Node,
     script_lines: &[Line],
+    v: Version,
     out: &mut K,
     line: &mut LineBuf,
     gate: &G,
@@ -98,11 +112,11 @@ fn put_lines<R: Threads + Sync, K: Sink, G: Gate>(
     requires { All (IsCarriable (plan_of n.old.plan)) script_lines.now }
     ensures plan { n.new.plan ≡ n.old.plan }
     ensures mapping { n.new.mapping ≡ n.old.mapping }
-    ensures carries { Carries result (orders_of_script script_lines.now) outside outside n.old n.new (K.told out.old) (K.told out.new) }
+    ensures carries { Carries v result (orders_of_script script_lines.now) outside outside n.old n.new (K.told out.old) (K.told out.new) }
     ensures faults { FaultsAfter result (K.faults out.old) (K.faults out.new) }
 {
     for script_line in script_lines {
-        match put_line(rt, alloc, n, script_line, out, line, gate) {
+        match put_line(rt, alloc, n, script_line, v, out, line, gate) {
             ScriptRun::Finished => {}
             ScriptRun::Failed => return ScriptRun::Failed,
             ScriptRun::Memory => return ScriptRun::Memory,
@@ -111,7 +125,7 @@ fn put_lines<R: Threads + Sync, K: Sink, G: Gate>(
     ScriptRun::Finished
 }
 
-/// Runs the script on the node, which goes on from what has happened to it, and puts the trace, one put a line: the header,
+/// Runs the script on the node, which goes on from what has happened to it, and puts the trace of the version, one put a line: the header,
 /// then for each line of the script what comes of it. A line of ticks or a call makes the environment's entries. A run line
 /// puts its mark, then makes rounds, each with a serial pass after it, and puts their entries; `idle` closes it after a pass
 /// without an entry, and `unsettled` where at least 100,000 entries were made since the mark. Each line of the script is one
@@ -123,6 +137,7 @@ pub fn run_script<R: Threads + Sync, K: Sink, G: Gate>(
     alloc: Global,
     n: &mut Node,
     s: &Script,
+    v: Version,
     out: &mut K,
     gate: &G,
 ) -> ScriptRun
@@ -130,14 +145,14 @@ pub fn run_script<R: Threads + Sync, K: Sink, G: Gate>(
     ensures plan { n.new.plan ≡ n.old.plan }
     ensures mapping { n.new.mapping ≡ n.old.mapping }
     ensures finished { result ≡ Finished → (h : History) → IsLawfulNode n.old h
-        → PrintsRun (plan_of n.old.plan) n.old.mapping h s.now.lines n.new (K.told out.old) (K.told out.new) }
+        → PrintsRun v (plan_of n.old.plan) n.old.mapping h s.now.lines n.new (K.told out.old) (K.told out.new) }
     ensures cut { result ≢ Finished → (h : History) → IsLawfulNode n.old h
-        → PrintsBeginning (plan_of n.old.plan) n.old.mapping h s.now.lines (K.told out.old) (K.told out.new) }
+        → PrintsBeginning v (plan_of n.old.plan) n.old.mapping h s.now.lines (K.told out.old) (K.told out.new) }
     ensures faults { FaultsAfter result (K.faults out.old) (K.faults out.new) }
 {
     let mut line = LineBuf::new();
-    match out.put(header()) {
-        Put::Done => put_lines(rt, alloc, n, s.lines.items(), out, &mut line, gate),
+    match out.put(header(v)) {
+        Put::Done => put_lines(rt, alloc, n, s.lines.items(), v, out, &mut line, gate),
         Put::Failed => ScriptRun::Failed,
     }
 }

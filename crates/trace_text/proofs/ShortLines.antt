@@ -1,5 +1,5 @@
--- How long the lines of a sound plan may be.
-use Rattle.std.proofs.Common.{◌≡◌, ℕ, ◌≤◌, Bool, true, false, ◌&&◌, cond, ◌++◌, length, codes, Option, Some, None, length-append, arith}
+-- How long the lines of a plan with short names may be.
+use Rattle.std.proofs.Common.{◌≡◌, ℕ, zero, suc, ◌≤◌, Bool, true, false, ◌&&◌, cond, List, [], ◌∷◌, ◌++◌, length, codes, Option, Some, None, length-append, arith}
 use Rattle.std.proofs.lemmas.Bool.{and_parts}
 use Rattle.std.specs.List.{list_all}
 use Rattle.std.specs.Prelude.{nat_le}
@@ -12,19 +12,20 @@ use Rattle.bus_semantics.specs.declared.plan.AreaPlan.{AreaPlan}
 use Rattle.bus_semantics.specs.declared.plan.MachinePlan.{MachinePlan}
 use Rattle.bus_semantics.specs.declared.plan.ModePortPlan.{ModePortPlan}
 use Rattle.bus_semantics.specs.declared.plan.EventPlan.{EventPlan}
-use Rattle.bus_semantics.specs.declared.script.Mapping.{Mapping}
 use Rattle.bus_semantics.specs.declared.entries.Actor.{Actor}
 use Rattle.bus_semantics.specs.declared.entries.Actor.TheVariants.{Env, Machine, Act}
 use Rattle.bus_semantics.specs.declared.entries.Deed.{Deed}
 use Rattle.bus_semantics.specs.declared.entries.Deed.TheVariants as deed
 use Rattle.bus_semantics.specs.declared.entries.Entry.{Entry}
-use Rattle.bus_semantics.specs.Plan.{Plan, Runnable}
-use Rattle.bus_semantics.specs.Sound.{IsSound}
+use Rattle.bus_semantics.specs.Objects.{machine_itself}
+use Rattle.bus_semantics.specs.Plan.{Plan, Runnable, look, machine_of_port}
+use Rattle.bus_semantics.specs.declared.version.Version.{Version}
+use Rattle.bus_semantics.specs.declared.version.Version.TheVariants.{One, Two}
 use Rattle.bus_semantics.specs.declared.plan.ServerPlan.{ServerPlan}
 use Rattle.bus_semantics.specs.SoundNames.{is_name, is_pair_name, is_path, names_fit}
 use Rattle.bus_semantics.specs.SoundPlan.{is_variable}
-use Rattle.bus_semantics.specs.Spelling.{Letters, actor_text, area_name, caller_text, deed_text, elem_name, entry_text, event_name, from_text, instance_text, key_text, machine_name, machine_text, mode_port_name, phase_text, point_name, point_text, runnable_text}
-use Rattle.trace_text.specs.Short.{IsShort, IsShortFrom, IsShortStep}
+use Rattle.bus_semantics.specs.Spelling.{Letters, actor_text, area_name, caller_text, deed_text, elem_name, entry_text, event_name, from_text, instance_text, key_text, machine_name, machine_text, mode_port_name, mode_text, phase_text, point_name, point_text, runnable_text}
+use Rattle.trace_text.specs.Short.{IsShort, IsShortFrom, IsShortMode, IsShortStep}
 use Rattle.trace_text.proofs.ShortNames.{look_short, name_short, pair_short, path_short}
 
 -- ---- the tests that a sound plan's names pass
@@ -67,10 +68,9 @@ record NamesPass (p : Plan) : Type 0 where
   events : list_all test_event p.events ≡ true
   runnables : list_all test_runnable p.runnables ≡ true
 
-names_pass : (p : Plan) (m : Mapping) → IsSound p m → NamesPass p
-names_pass p m sound =
-    let fit = and_parts (names_fit p) _ sound.names in
-    let a = and_parts (nat_le (length p.names) 1024) _ fit.0 in
+names_pass : (p : Plan) → names_fit p ≡ true → NamesPass p
+names_pass p fit =
+    let a = and_parts (nat_le (length p.names) 1024) _ fit in
     let b = and_parts (list_all is_path p.names) _ a.1 in
     let c = and_parts (list_all test_elem p.elements) _ b.1 in
     let d = and_parts (list_all test_point p.points) _ c.1 in
@@ -150,43 +150,60 @@ module _ (p : Plan) (names : NamesPass p) where
   from_short None v h = omega arith
   from_short (Some q) v h = let point = point_short q in simp (length-append {A = ℕ}) (omega arith)
 
-phase_short : (s : Step) → IsShortStep s → length (phase_text s) ≤ 32
-phase_short (step.Close mode) h = omega arith
-phase_short step.Exit h = omega arith
-phase_short step.Transition h = omega arith
-phase_short step.Entry h = omega arith
-phase_short step.Stable h = omega arith
+-- ---- modes
+
+modes_short : (modes : List Letters) → list_all is_name modes ≡ true → (mode : ℕ) → length (look modes mode (λ (t : Letters). t) (codes "-")) ≤ 32
+modes_short [] h mode = omega arith
+modes_short (t ∷ ts) h zero = name_short t (and_parts (is_name t) (list_all is_name ts) h).0
+modes_short (t ∷ ts) h (suc mode) = modes_short ts (and_parts (is_name t) (list_all is_name ts) h).1 mode
+
+named_short : (ns : List MachinePlan) → list_all test_machine ns ≡ true → (m mode : ℕ) → length (look (look ns m (λ (n : MachinePlan). n.modes) []) mode (λ (t : Letters). t) (codes "-")) ≤ 32
+named_short [] h m mode = omega arith
+named_short (n ∷ ns) h zero mode = modes_short n.modes (and_parts (is_pair_name n.name) (list_all is_name n.modes) (and_parts (test_machine n) (list_all test_machine ns) h).0).1 mode
+named_short (n ∷ ns) h (suc m) mode = named_short ns (and_parts (test_machine n) (list_all test_machine ns) h).1 m mode
+
+mode_short : (v : Version) (p : Plan) → NamesPass p → (m : Option ℕ) (mode : ℕ) → IsShortMode v mode → length (mode_text v p m mode) ≤ 32
+mode_short One p names m mode h = omega arith
+mode_short Two p names None mode h = omega arith
+mode_short Two p names (Some i) mode h = named_short p.machines names.machines i mode
+
+phase_short : (v : Version) (p : Plan) → NamesPass p → (a : Actor) (s : Step) → IsShortStep v s → length (phase_text v p a s) ≤ 44
+phase_short v p names a (step.Close mode) h = let name = mode_short v p names (machine_itself a) mode h in omega arith
+phase_short v p names a step.Exit h = omega arith
+phase_short v p names a step.Transition h = omega arith
+phase_short v p names a step.Entry h = omega arith
+phase_short v p names a step.Stable h = omega arith
 
 -- ---- deeds and lines
 
-deed_short : (p : Plan) → NamesPass p → (d : Deed) → IsShort d → length (deed_text p d) ≤ 742
-deed_short p names deed.Tick h = omega arith
-deed_short p names (deed.Start event point value) h = let name = event_name_short p names event in let from = from_short p names point value h in simp (length-append {A = ℕ}) (omega arith)
-deed_short p names (deed.Admit true) h = omega arith
-deed_short p names (deed.Admit false) h = omega arith
-deed_short p names (deed.Fetch x value) h = let name = elem_name_short p names x in simp (length-append {A = ℕ}) (omega arith)
-deed_short p names (deed.Write x value) h = let name = elem_name_short p names x in simp (length-append {A = ℕ}) (omega arith)
-deed_short p names (deed.Read x code value) h = let name = elem_name_short p names x in simp (length-append {A = ℕ}) (omega arith)
-deed_short p names (deed.Invalidate x) h = let name = elem_name_short p names x in simp (length-append {A = ℕ}) (omega arith)
-deed_short p names (deed.IsUpdated x true) h = let name = elem_name_short p names x in simp (length-append {A = ℕ}) (omega arith)
-deed_short p names (deed.IsUpdated x false) h = let name = elem_name_short p names x in simp (length-append {A = ℕ}) (omega arith)
-deed_short p names (deed.Send x value code) h = let name = elem_name_short p names x in simp (length-append {A = ℕ}) (omega arith)
-deed_short p names (deed.Receive x code value) h = let name = elem_name_short p names x in simp (length-append {A = ℕ}) (omega arith)
-deed_short p names (deed.Ask q value code) h = let name = point_name_short p names q in simp (length-append {A = ℕ}) (omega arith)
-deed_short p names (deed.Answer q code value) h = let name = point_name_short p names q in simp (length-append {A = ℕ}) (omega arith)
-deed_short p names (deed.TakeResult q code value) h = let name = point_name_short p names q in simp (length-append {A = ℕ}) (omega arith)
-deed_short p names (deed.Return code value) h = simp (length-append {A = ℕ}) (omega arith)
-deed_short p names (deed.Enter x) h = let name = area_name_short p names x in simp (length-append {A = ℕ}) (omega arith)
-deed_short p names (deed.Leave x) h = let name = area_name_short p names x in simp (length-append {A = ℕ}) (omega arith)
-deed_short p names (deed.Switch m mode code) h = let name = machine_name_short p names m in simp (length-append {A = ℕ}) (omega arith)
-deed_short p names (deed.Mode port mode) h = let name = mode_port_name_short p names port in simp (length-append {A = ℕ}) (omega arith)
-deed_short p names (deed.Phase s) h = let phase = phase_short s h in omega arith
-deed_short p names (deed.Publish x value) h = let name = elem_name_short p names x in simp (length-append {A = ℕ}) (omega arith)
-deed_short p names deed.End h = omega arith
+deed_short : (v : Version) (p : Plan) → NamesPass p → (a : Actor) (d : Deed) → IsShort v d → length (deed_text v p a d) ≤ 742
+deed_short v p names a deed.Tick h = omega arith
+deed_short v p names a (deed.Start event point value) h = let name = event_name_short p names event in let from = from_short p names point value h in simp (length-append {A = ℕ}) (omega arith)
+deed_short v p names a (deed.Admit true) h = omega arith
+deed_short v p names a (deed.Admit false) h = omega arith
+deed_short v p names a (deed.Fetch x value) h = let name = elem_name_short p names x in simp (length-append {A = ℕ}) (omega arith)
+deed_short v p names a (deed.Write x value) h = let name = elem_name_short p names x in simp (length-append {A = ℕ}) (omega arith)
+deed_short v p names a (deed.Read x code value) h = let name = elem_name_short p names x in simp (length-append {A = ℕ}) (omega arith)
+deed_short v p names a (deed.Invalidate x) h = let name = elem_name_short p names x in simp (length-append {A = ℕ}) (omega arith)
+deed_short v p names a (deed.IsUpdated x true) h = let name = elem_name_short p names x in simp (length-append {A = ℕ}) (omega arith)
+deed_short v p names a (deed.IsUpdated x false) h = let name = elem_name_short p names x in simp (length-append {A = ℕ}) (omega arith)
+deed_short v p names a (deed.Send x value code) h = let name = elem_name_short p names x in simp (length-append {A = ℕ}) (omega arith)
+deed_short v p names a (deed.Receive x code value) h = let name = elem_name_short p names x in simp (length-append {A = ℕ}) (omega arith)
+deed_short v p names a (deed.Ask q value code) h = let name = point_name_short p names q in simp (length-append {A = ℕ}) (omega arith)
+deed_short v p names a (deed.Answer q code value) h = let name = point_name_short p names q in simp (length-append {A = ℕ}) (omega arith)
+deed_short v p names a (deed.TakeResult q code value) h = let name = point_name_short p names q in simp (length-append {A = ℕ}) (omega arith)
+deed_short v p names a (deed.Return code value) h = simp (length-append {A = ℕ}) (omega arith)
+deed_short v p names a (deed.Enter x) h = let name = area_name_short p names x in simp (length-append {A = ℕ}) (omega arith)
+deed_short v p names a (deed.Leave x) h = let name = area_name_short p names x in simp (length-append {A = ℕ}) (omega arith)
+deed_short v p names a (deed.Switch m mode code) h = let name = machine_name_short p names m in let text = mode_short v p names (Some m) mode h.0 in simp (length-append {A = ℕ}) (omega arith)
+deed_short v p names a (deed.Mode port mode) h = let name = mode_port_name_short p names port in let text = mode_short v p names (machine_of_port p port) mode h in simp (length-append {A = ℕ}) (omega arith)
+deed_short v p names a (deed.Phase s) h = let phase = phase_short v p names a s h in omega arith
+deed_short v p names a (deed.Publish x value) h = let name = elem_name_short p names x in simp (length-append {A = ℕ}) (omega arith)
+deed_short v p names a deed.End h = omega arith
 
-pub entry_short : (p : Plan) (m : Mapping) → IsSound p m → (e : Entry) → IsShort e.deed → length (entry_text p e) ≤ 2048
-entry_short p m sound e h =
-    let names = names_pass p m sound in
+pub entry_short : (v : Version) (p : Plan) → names_fit p ≡ true → (e : Entry) → IsShort v e.deed → length (entry_text v p e) ≤ 2048
+entry_short v p fit e h =
+    let names = names_pass p fit in
     let actor = actor_short p names e.actor in
-    let done = deed_short p names e.deed h in
+    let done = deed_short v p names e.actor e.deed h in
     simp (length-append {A = ℕ}) (omega arith)

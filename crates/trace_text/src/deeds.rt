@@ -1,15 +1,19 @@
 //! What was done, with what the bus answered.
 
-ghost use Rattle.std.specs.Prelude.{◌++◌, codes, decimal, if◌then◌else◌};
+ghost use Rattle.std.specs.Prelude.{◌≡◌, ◌++◌, codes, decimal, Some, if◌then◌else◌};
 ghost use Rattle.bus_semantics.specs.Plan.{plan_of};
-ghost use Rattle.bus_semantics.specs.Spelling.{deed_text, event_name, from_text, phase_text, spaced, value_text};
+ghost use Rattle.bus_semantics.specs.Spelling.{deed_text, event_name, from_text, machine_name, mode_port_name, mode_text, phase_text, spaced, value_text};
+ghost use Rattle.bus_semantics.specs.Plan.{machine_of_port};
+ghost use Rattle.bus_semantics.specs.Objects.{machine_itself};
 ghost use Rattle.trace_text.specs.Appending.{Appends};
-ghost use Rattle.trace_text.specs.Short.{IsShort, IsShortFrom, IsShortNumber, IsShortStep, IsShortValue};
+ghost use Rattle.trace_text.specs.Short.{IsShort, IsShortFrom, IsShortMode, IsShortNumber, IsShortStep, IsShortValue};
 
 use crate::actors::write_point;
 use crate::fields::{write_number, write_spaced_number, write_spaced_value, write_text};
-use crate::names::{area_name, elem_name, event_name, machine_name, mode_port_name, point_name};
-use bus_semantics::{BusPlan, Deed};
+use crate::names::{
+    area_name, elem_name, event_name, machine_name, mode_name, mode_port_name, point_name,
+};
+use bus_semantics::{Actor, BusPlan, Deed, Version};
 use rte_text::LineBuf;
 use rte_value::{Code, Step, Value};
 
@@ -139,37 +143,60 @@ fn write_return(code: Code, value: &Value, out: &mut LineBuf)
     write_spaced_value(value, out);
 }
 
+/// A mode of a machine: its number, or in version two its name.
+fn write_mode_of(p: &BusPlan, machine: Option<u32>, mode: u32, v: Version, out: &mut LineBuf)
+    ensures text { Appends out.old out.new (mode_text v (plan_of p.now) machine mode) }
+    ensures short { IsShortMode v mode }
+{
+    match v {
+        Version::One => write_number(mode, out),
+        Version::Two => write_text(mode_name(p, machine, mode), out),
+    }
+}
+
 /// `switch X N C`.
-fn write_switch(name: &[u8], mode: u32, code: Code, out: &mut LineBuf)
-    ensures text { Appends out.old out.new (codes "switch " ++ name.now ++ spaced (decimal mode) ++ spaced (decimal code)) }
-    ensures short_mode { IsShortNumber mode }
+fn write_switch(p: &BusPlan, machine: u32, mode: u32, code: Code, v: Version, out: &mut LineBuf)
+    ensures text { Appends out.old out.new (codes "switch " ++ machine_name (plan_of p.now) machine ++ spaced (mode_text v (plan_of p.now) (Some machine) mode) ++ spaced (decimal code)) }
+    ensures short_mode { IsShortMode v mode }
     ensures short_code { IsShortNumber code }
 {
     write_text(b"switch ", out);
-    write_text(name, out);
-    write_spaced_number(mode, out);
+    write_text(machine_name(p, machine), out);
+    write_text(b" ", out);
+    write_mode_of(p, Some(machine), mode, v, out);
     write_spaced_number(u32::from(code), out);
 }
 
 /// `mode X N`.
-fn write_mode(name: &[u8], mode: u32, out: &mut LineBuf)
-    ensures text { Appends out.old out.new (codes "mode " ++ name.now ++ spaced (decimal mode)) }
-    ensures short { IsShortNumber mode }
+fn write_mode(p: &BusPlan, port: u32, mode: u32, v: Version, out: &mut LineBuf)
+    ensures text { Appends out.old out.new (codes "mode " ++ mode_port_name (plan_of p.now) port ++ spaced (mode_text v (plan_of p.now) (machine_of_port (plan_of p.now) port) mode)) }
+    ensures short { IsShortMode v mode }
 {
     write_text(b"mode ", out);
-    write_text(name, out);
-    write_spaced_number(mode, out);
+    write_text(mode_port_name(p, port), out);
+    write_text(b" ", out);
+    write_mode_of(p, p.machine_of_port(port), mode, v, out);
+}
+
+/// The machine that an actor is.
+fn machine_itself(actor: Actor) -> Option<u32>
+    ensures { result ≡ machine_itself actor }
+{
+    match actor {
+        Actor::Machine(machine) => Some(machine),
+        _ => None,
+    }
 }
 
 /// `phase close N`, or `phase` with the step's name.
-fn write_phase(step: Step, out: &mut LineBuf)
-    ensures text { Appends out.old out.new (phase_text step) }
-    ensures short { IsShortStep step }
+fn write_phase(p: &BusPlan, actor: Actor, step: Step, v: Version, out: &mut LineBuf)
+    ensures text { Appends out.old out.new (phase_text v (plan_of p.now) actor step) }
+    ensures short { IsShortStep v step }
 {
     match step {
         Step::Close(mode) => {
             write_text(b"phase close ", out);
-            write_number(mode, out);
+            write_mode_of(p, machine_itself(actor), mode, v, out);
         }
         Step::Exit => write_text(b"phase exit", out),
         Step::Transition => write_text(b"phase transition", out),
@@ -178,10 +205,10 @@ fn write_phase(step: Step, out: &mut LineBuf)
     }
 }
 
-/// Writes what was done.
-pub fn write_deed(p: &BusPlan, deed: &Deed, out: &mut LineBuf)
-    ensures text { Appends out.old out.new (deed_text (plan_of p.now) deed.now) }
-    ensures short { IsShort deed.now }
+/// Writes what the actor did.
+pub fn write_deed(p: &BusPlan, actor: Actor, deed: &Deed, v: Version, out: &mut LineBuf)
+    ensures text { Appends out.old out.new (deed_text v (plan_of p.now) actor deed.now) }
+    ensures short { IsShort v deed.now }
 {
     match deed {
         Deed::Tick => write_text(b"tick", out),
@@ -249,9 +276,9 @@ pub fn write_deed(p: &BusPlan, deed: &Deed, out: &mut LineBuf)
             machine,
             mode,
             code,
-        } => write_switch(machine_name(p, *machine), *mode, *code, out),
-        Deed::Mode { port, mode } => write_mode(mode_port_name(p, *port), *mode, out),
-        Deed::Phase(step) => write_phase(*step, out),
+        } => write_switch(p, *machine, *mode, *code, v, out),
+        Deed::Mode { port, mode } => write_mode(p, *port, *mode, v, out),
+        Deed::Phase(step) => write_phase(p, actor, *step, v, out),
         Deed::Publish { elem, value } => write_named_value(
             b"publish ",
             elem_name(p, *elem),

@@ -1,10 +1,10 @@
 //! The lines of a trace.
 
-ghost use Rattle.std.specs.Prelude.{◌≡◌, []};
-ghost use Rattle.bus_semantics.specs.declared.script.Mapping.{Mapping};
+ghost use Rattle.std.specs.Prelude.{◌≡◌, [], true};
+ghost use Rattle.bus_semantics.specs.declared.version.Version.{Version};
 ghost use Rattle.bus_semantics.specs.Plan.{Plan, plan_of};
 ghost use Rattle.bus_semantics.specs.Run.{idle, run_begins, unsettled};
-ghost use Rattle.bus_semantics.specs.Sound.{IsSound};
+ghost use Rattle.bus_semantics.specs.SoundNames.{names_fit};
 ghost use Rattle.bus_semantics.specs.Spelling.{closing_text, entry_text, header, item_text};
 ghost use Rattle.trace_text.specs.Appending.{Appends};
 ghost use Rattle.trace_text.specs.Short.{IsShort};
@@ -12,19 +12,22 @@ ghost use Rattle.trace_text.specs.Short.{IsShort};
 use crate::actors::write_actor;
 use crate::deeds::write_deed;
 use crate::fields::write_text;
-use bus_semantics::{BusPlan, Entry};
+use bus_semantics::{BusPlan, Entry, Version};
 use rte_text::LineBuf;
 
-/// The first line of a trace of version 1.
-pub fn header() -> &'static [u8]
-    ensures { result.now ≡ header }
+/// The first line of a trace of the version.
+pub fn header(v: Version) -> &'static [u8]
+    ensures { result.now ≡ header v }
 {
-    b"rte-trace 1\n"
+    match v {
+        Version::One => b"rte-trace 1\n",
+        Version::Two => b"rte-trace 2\n",
+    }
 }
 
 /// The line with which a run line begins.
 pub fn run_line() -> &'static [u8]
-    ensures { (p : Plan) → result.now ≡ item_text p run_begins }
+    ensures { (v : Version) (p : Plan) → result.now ≡ item_text v p run_begins }
 {
     b"run\n"
 }
@@ -44,21 +47,22 @@ pub fn unsettled_line() -> &'static [u8]
 }
 
 /// Writes the line of the entry.
-pub fn write_line(p: &BusPlan, e: &Entry, out: &mut LineBuf)
-    ensures text { Appends out.old out.new (entry_text (plan_of p.now) e.now) }
-    ensures short { IsShort e.now.deed }
+fn write_line(p: &BusPlan, e: &Entry, v: Version, out: &mut LineBuf)
+    ensures text { Appends out.old out.new (entry_text v (plan_of p.now) e.now) }
+    ensures short { IsShort v e.now.deed }
 {
     write_actor(p, e.actor, out);
     write_text(b" ", out);
-    write_deed(p, &e.deed, out);
+    write_deed(p, e.actor, &e.deed, v, out);
     write_text(b"\n", out);
 }
 
-/// Writes the line of the entry, its newline included, into an empty line. It takes no memory.
-pub fn write_entry(p: &BusPlan, e: &Entry, out: &mut LineBuf)
-    requires sound { (m : Mapping) × IsSound (plan_of p.now) m }
+/// Writes the line of the entry in a trace of the version, its newline included, into an empty line. It takes no memory. The
+/// names of the plan have to be short, as a sound plan's are: then every line fits.
+pub fn write_entry(p: &BusPlan, e: &Entry, v: Version, out: &mut LineBuf)
+    requires names { names_fit (plan_of p.now) ≡ true }
     requires empty { out.old ≡ [] }
-    ensures { out.new ≡ entry_text (plan_of p.now) e.now }
+    ensures { out.new ≡ entry_text v (plan_of p.now) e.now }
 {
-    write_line(p, e, out);
+    write_line(p, e, v, out);
 }

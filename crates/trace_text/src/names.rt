@@ -1,10 +1,12 @@
 //! What a plan calls things. A number out of range has an empty name.
 
-ghost use Rattle.std.specs.Prelude.{◌≡◌};
-ghost use Rattle.bus_semantics.specs.Plan.{plan_of};
-ghost use Rattle.bus_semantics.specs.Spelling.{area_name, elem_name, event_name, instance_text, machine_name, mode_port_name, point_name};
+ghost use Rattle.std.specs.Prelude.{◌≡◌, codes};
+ghost use Rattle.bus_semantics.specs.declared.version.Version.TheVariants.{Two};
+ghost use Rattle.bus_semantics.specs.Plan.{look, plan_of};
+ghost use Rattle.bus_semantics.specs.Spelling.{Letters, area_name, elem_name, event_name, instance_text, machine_name, mode_port_name, mode_text, point_name};
 
 use bus_semantics::BusPlan;
+use rte_text::Text;
 
 /// The path of the instance, and `env` for the environment.
 pub fn instance_name(p: &BusPlan, instance: Option<u32>) -> &[u8]
@@ -76,5 +78,29 @@ pub fn event_name(p: &BusPlan, event: u32) -> &[u8]
     match p.events.items().get(event as usize) {
         Some(event) => event.name.bytes(),
         None => b"",
+    }
+}
+
+/// The name of one of these modes, and a dash for any other number.
+fn name_among(modes: &[Text], mode: u32) -> &[u8]
+    ensures { result.now ≡ look modes.now mode (λ (t : Letters). t) (codes "-") }
+{
+    match modes.get(mode as usize) {
+        Some(name) => name.bytes(),
+        None => b"-",
+    }
+}
+
+/// The name of a mode of the machine. The transition value has none: it is a dash, as is every number that is no mode of a
+/// machine.
+pub fn mode_name(p: &BusPlan, machine: Option<u32>, mode: u32) -> &[u8]
+    ensures { result.now ≡ mode_text Two (plan_of p.now) machine mode }
+{
+    match machine {
+        None => b"-",
+        Some(number) => match p.machines.items().get(number as usize) {
+            Some(machine) => name_among(machine.modes.items(), mode),
+            None => b"-",
+        },
     }
 }

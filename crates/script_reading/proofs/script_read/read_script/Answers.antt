@@ -1,7 +1,7 @@
 use Rattle.std.proofs.Common.{◌≡◌, [], Some, subst}
 use Rattle.bus_semantics.specs.Plan.{plan_of}
 use Rattle.script_reading.specs.Reading.{IfBadLine, first_bad}
-use Rattle.script_reading.specs.Texts.{lines_of}
+use Rattle.line_fields.specs.Texts.{lines_of}
 use Rattle.script_reading.proofs.script_read.read_script.Goals as goal
 
 pub returns-in-Ok-clause-bad_line : goal.returns-in-Ok-clause-bad_line

@@ -10,8 +10,8 @@ returns-in-Finished-clause-carries g c =
     let mid = c.put_round.new.n in
     let same = ap length c.entries.ensures in
     let few : c.saturating_add.result ≤ made + length mid.entries = omega (arith, c.saturating_add.ensures, same) in
-    by.lap_then c.put_pass.result made c.saturating_add.result c.args.n.now mid c.put_pass.new.n (told c.args.out.now) (told c.put_round.new.out) (told c.put_pass.new.out)
-    (by.fewer [] (inside made) (made + length mid.entries) c.saturating_add.result c.args.n.now mid (told c.args.out.now) (told c.put_round.new.out) few (c.in-Finished.ensures.carries made))
+    by.lap_then c.args.v c.put_pass.result made c.saturating_add.result c.args.n.now mid c.put_pass.new.n (told c.args.out.now) (told c.put_round.new.out) (told c.put_pass.new.out)
+    (by.fewer c.args.v [] (inside made) (made + length mid.entries) c.saturating_add.result c.args.n.now mid (told c.args.out.now) (told c.put_round.new.out) few (c.in-Finished.ensures.carries made))
     c.put_pass.ensures.carries
 
 pub returns-in-Failed-clause-carries : goal.returns-in-Failed-clause-carries

@@ -23,7 +23,7 @@ returns-then-is_empty-clause-carries g c =
     let no_entry : new.entries ≡ [] = sym c.entries.ensures ∙ none c.entries.result.now (sym c.is_empty.ensures ∙ c.if-is_empty.true) in
     let lawful : (h : History) → IsLawfulNode c.args.n.now h → IsLawfulNode new h = λ h before. subst (λ xs. IsLawfulNode new (after xs h)) no_entry (passed.lawful h before) in
     rw c.came_of.ensures
-    (by.idle_carries c.args.n.now new c.put.result (told c.args.out.now) (told c.put.new.self) c.args.made
+    (by.idle_carries c.args.v c.args.n.now new c.put.result (told c.args.out.now) (told c.put.new.self) c.args.made
     passed.plan passed.mapping lawful (passed.rest no_entry)
     (subst (ToldAfter c.put.result (told c.args.out.now) (told c.put.new.self)) c.idle_line.ensures c.put.ensures.told))
 
@@ -34,9 +34,9 @@ returns-in-Done-clause-carries g c =
     let passed = c.serial_pass.ensures in
     let same = ap length c.entries-in-Done.ensures in
     let few : c.saturating_add.result ≤ c.args.made + length new.entries = omega (arith, c.saturating_add.ensures, same) in
-    by.entries_carry c.args.n.now new new.entries Done (told c.args.out.now) (told c.put_entries.new.out) (plan_of c.plan.result.now) c.args.made c.saturating_add.result
+    by.entries_carry c.args.v c.args.n.now new new.entries Done (told c.args.out.now) (told c.put_entries.new.out) (plan_of c.plan.result.now) c.args.made c.saturating_add.result
     passed.plan passed.mapping passed.within few passed.lawful (ap plan_of c.plan.ensures.plan)
-    (subst (λ (xs : List Stamped). ToldAfter Done (told c.args.out.now) (told c.put_entries.new.out) (entries_text (plan_of c.plan.result.now) xs)) c.entries-2.ensures c.in-Done.ensures.told)
+    (subst (λ (xs : List Stamped). ToldAfter Done (told c.args.out.now) (told c.put_entries.new.out) (entries_text c.args.v (plan_of c.plan.result.now) xs)) c.entries-2.ensures c.in-Done.ensures.told)
 
 pub returns-in-Failed-clause-carries : goal.returns-in-Failed-clause-carries
 returns-in-Failed-clause-carries g c =
@@ -44,6 +44,6 @@ returns-in-Failed-clause-carries g c =
     let new = c.serial_pass.new.n in
     let passed = c.serial_pass.ensures in
     let few : c.args.made ≤ c.args.made + length new.entries = omega arith in
-    by.entries_carry c.args.n.now new new.entries Failed (told c.args.out.now) (told c.put_entries.new.out) (plan_of c.plan.result.now) c.args.made c.args.made
+    by.entries_carry c.args.v c.args.n.now new new.entries Failed (told c.args.out.now) (told c.put_entries.new.out) (plan_of c.plan.result.now) c.args.made c.args.made
     passed.plan passed.mapping passed.within few passed.lawful (ap plan_of c.plan.ensures.plan)
-    (subst (λ (xs : List Stamped). ToldAfter Failed (told c.args.out.now) (told c.put_entries.new.out) (entries_text (plan_of c.plan.result.now) xs)) c.entries-2.ensures c.in-Failed.ensures.told)
+    (subst (λ (xs : List Stamped). ToldAfter Failed (told c.args.out.now) (told c.put_entries.new.out) (entries_text c.args.v (plan_of c.plan.result.now) xs)) c.entries-2.ensures c.in-Failed.ensures.told)

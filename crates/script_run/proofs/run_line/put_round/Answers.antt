@@ -14,11 +14,11 @@ returns-in-Ran-clause-carries g c = λ made.
     let ran = c.in-Ran.ensures in
     let es = c.run_round.new.n.entries in
     let enough : made + length es ≤ made + length es = omega arith in
-    let put = subst (λ (xs : List Stamped). ToldAfter c.put_entries.result (told c.args.out.now) (told c.put_entries.new.out) (entries_text (plan_of c.plan.result.now) xs)) c.entries.ensures c.put_entries.ensures.told in
+    let put = subst (λ (xs : List Stamped). ToldAfter c.put_entries.result (told c.args.out.now) (told c.put_entries.new.out) (entries_text c.args.v (plan_of c.plan.result.now) xs)) c.entries.ensures c.put_entries.ensures.told in
     rw c.came_of.ensures
-    (by.entries_carry c.args.n.now c.run_round.new.n es c.put_entries.result (told c.args.out.now) (told c.put_entries.new.out) (plan_of c.plan.result.now) made (made + length es)
+    (by.entries_carry c.args.v c.args.n.now c.run_round.new.n es c.put_entries.result (told c.args.out.now) (told c.put_entries.new.out) (plan_of c.plan.result.now) made (made + length es)
     ran.plan ran.mapping (ran.within refl) enough (ran.lawful refl) (ap plan_of c.plan.ensures.plan) put)
 
 pub returns-in-Memory-clause-carries : goal.returns-in-Memory-clause-carries
 returns-in-Memory-clause-carries g c = λ made.
-    by.stops Memory [] (inside made) (inside (made + length c.run_round.new.n.entries)) c.args.n.now c.run_round.new.n (g.K.Sink.told c.args.out.now) (λ e. cc)
+    by.stops c.args.v Memory [] (inside made) (inside (made + length c.run_round.new.n.entries)) c.args.n.now c.run_round.new.n (g.K.Sink.told c.args.out.now) (λ e. cc)

@@ -10,7 +10,7 @@ invariant-laps g l = let told = g.K.Sink.told in let faults = g.K.Sink.faults in
   few : l.made < 100000;
   plan : l.n.plan ≡ l.fn.n.plan;
   mapping : l.n.mapping ≡ l.fn.n.mapping;
-  carries : Carries Finished (a_run ∷ []) outside (inside l.made) l.fn.n l.n (told l.fn.out) (told l.out);
+  carries : Carries l.v Finished (a_run ∷ []) outside (inside l.made) l.fn.n l.n (told l.fn.out) (told l.out);
   faults : faults l.out ≡ faults l.fn.out;
 }
 

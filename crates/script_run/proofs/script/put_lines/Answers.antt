@@ -12,10 +12,10 @@ returns-in-Failed-clause-carries g c =
     let l = c.script_line-item.result in
     let left = orders_of_script (drop (suc i) ls) in
     let told = g.K.Sink.told in
-    subst (λ os. Carries Failed os outside outside c.args.n.now c.put_line.new.n (told c.args.out.now) (told c.put_line.new.out)) (by.orders-whole ls i l c.loop-script_line-test.true c.script_line-item.is)
-    (by.carries_then Failed (orders_of_script (take i ls)) (orders_of_line l ++ left) outside outside outside c.args.n.now c.loop-script_line.n c.put_line.new.n
+    subst (λ os. Carries c.args.v Failed os outside outside c.args.n.now c.put_line.new.n (told c.args.out.now) (told c.put_line.new.out)) (by.orders-whole ls i l c.loop-script_line-test.true c.script_line-item.is)
+    (by.carries_then c.args.v Failed (orders_of_script (take i ls)) (orders_of_line l ++ left) outside outside outside c.args.n.now c.loop-script_line.n c.put_line.new.n
     (told c.args.out.now) (told c.loop-script_line.out) (told c.put_line.new.out) c.loop-script_line.invariant.carries
-    (by.cut_before Failed (orders_of_line l) left outside outside outside c.loop-script_line.n c.put_line.new.n (told c.loop-script_line.out) (told c.put_line.new.out) (λ e. cc) c.in-Failed.ensures.carries))
+    (by.cut_before c.args.v Failed (orders_of_line l) left outside outside outside c.loop-script_line.n c.put_line.new.n (told c.loop-script_line.out) (told c.put_line.new.out) (λ e. cc) c.in-Failed.ensures.carries))
 
 pub returns-in-Memory-clause-carries : goal.returns-in-Memory-clause-carries
 returns-in-Memory-clause-carries g c =
@@ -24,10 +24,10 @@ returns-in-Memory-clause-carries g c =
     let l = c.script_line-item.result in
     let left = orders_of_script (drop (suc i) ls) in
     let told = g.K.Sink.told in
-    subst (λ os. Carries Memory os outside outside c.args.n.now c.put_line.new.n (told c.args.out.now) (told c.put_line.new.out)) (by.orders-whole ls i l c.loop-script_line-test.true c.script_line-item.is)
-    (by.carries_then Memory (orders_of_script (take i ls)) (orders_of_line l ++ left) outside outside outside c.args.n.now c.loop-script_line.n c.put_line.new.n
+    subst (λ os. Carries c.args.v Memory os outside outside c.args.n.now c.put_line.new.n (told c.args.out.now) (told c.put_line.new.out)) (by.orders-whole ls i l c.loop-script_line-test.true c.script_line-item.is)
+    (by.carries_then c.args.v Memory (orders_of_script (take i ls)) (orders_of_line l ++ left) outside outside outside c.args.n.now c.loop-script_line.n c.put_line.new.n
     (told c.args.out.now) (told c.loop-script_line.out) (told c.put_line.new.out) c.loop-script_line.invariant.carries
-    (by.cut_before Memory (orders_of_line l) left outside outside outside c.loop-script_line.n c.put_line.new.n (told c.loop-script_line.out) (told c.put_line.new.out) (λ e. cc) c.in-Memory.ensures.carries))
+    (by.cut_before c.args.v Memory (orders_of_line l) left outside outside outside c.loop-script_line.n c.put_line.new.n (told c.loop-script_line.out) (told c.put_line.new.out) (λ e. cc) c.in-Memory.ensures.carries))
 
 pub loop-script_line-preserved : goal.loop-script_line-preserved
 loop-script_line-preserved g c =
@@ -40,8 +40,8 @@ loop-script_line-preserved g c =
     record {
       plan = done.plan ∙ so_far.plan;
       mapping = done.mapping ∙ so_far.mapping;
-      carries = subst (λ os. Carries Finished os outside outside c.args.n.now c.put_line.new.n (told c.args.out.now) (told c.put_line.new.out)) (by.orders-next ls i l c.loop-script_line-test.true c.script_line-item.is)
-          (by.carries_then Finished (orders_of_script (take i ls)) (orders_of_line l) outside outside outside c.args.n.now c.loop-script_line.n c.put_line.new.n
+      carries = subst (λ os. Carries c.args.v Finished os outside outside c.args.n.now c.put_line.new.n (told c.args.out.now) (told c.put_line.new.out)) (by.orders-next ls i l c.loop-script_line-test.true c.script_line-item.is)
+          (by.carries_then c.args.v Finished (orders_of_script (take i ls)) (orders_of_line l) outside outside outside c.args.n.now c.loop-script_line.n c.put_line.new.n
           (told c.args.out.now) (told c.loop-script_line.out) (told c.put_line.new.out) so_far.carries done.carries);
       faults = done.faults ∙ so_far.faults;
     }

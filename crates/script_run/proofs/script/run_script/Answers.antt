@@ -10,14 +10,14 @@ pub returns-in-Done-clause-finished : goal.returns-in-Done-clause-finished
 returns-in-Done-clause-finished g c =
     let told = g.K.Sink.told in
     let begun = subst (AppendsWhereTold (told c.args.out.now) (told c.put.new.self)) c.header.ensures c.in-Done.ensures.told in
-    let ran = subst (λ (ls : List Line). Carries c.put_lines.result (orders_of_script ls) outside outside c.args.n.now c.put_lines.new.n (told c.put.new.self) (told c.put_lines.new.out))
+    let ran = subst (λ (ls : List Line). Carries c.args.v c.put_lines.result (orders_of_script ls) outside outside c.args.n.now c.put_lines.new.n (told c.put.new.self) (told c.put_lines.new.out))
     c.items.ensures c.put_lines.ensures.carries in
-    by.finishes c.put_lines.result c.args.s.now.lines c.args.n.now c.put_lines.new.n (told c.args.out.now) (told c.put.new.self) (told c.put_lines.new.out) begun ran
+    by.finishes c.args.v c.put_lines.result c.args.s.now.lines c.args.n.now c.put_lines.new.n (told c.args.out.now) (told c.put.new.self) (told c.put_lines.new.out) begun ran
 
 pub returns-in-Done-clause-cut : goal.returns-in-Done-clause-cut
 returns-in-Done-clause-cut g c =
     let told = g.K.Sink.told in
     let begun = subst (AppendsWhereTold (told c.args.out.now) (told c.put.new.self)) c.header.ensures c.in-Done.ensures.told in
-    let ran = subst (λ (ls : List Line). Carries c.put_lines.result (orders_of_script ls) outside outside c.args.n.now c.put_lines.new.n (told c.put.new.self) (told c.put_lines.new.out))
+    let ran = subst (λ (ls : List Line). Carries c.args.v c.put_lines.result (orders_of_script ls) outside outside c.args.n.now c.put_lines.new.n (told c.put.new.self) (told c.put_lines.new.out))
     c.items.ensures c.put_lines.ensures.carries in
-    by.is_cut c.put_lines.result c.args.s.now.lines c.args.n.now c.put_lines.new.n (told c.args.out.now) (told c.put.new.self) (told c.put_lines.new.out) begun ran
+    by.is_cut c.args.v c.put_lines.result c.args.s.now.lines c.args.n.now c.put_lines.new.n (told c.args.out.now) (told c.put.new.self) (told c.put_lines.new.out) begun ran

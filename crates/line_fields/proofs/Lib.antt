@@ -1,0 +1,6 @@
+pub mod Cutting
+pub mod Decimals
+pub mod Joining
+pub mod Spaces
+pub mod Spelt
+pub mod Words
