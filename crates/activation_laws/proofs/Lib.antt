@@ -1,0 +1,12 @@
+pub mod Trails
+pub mod Runs
+pub mod Served
+pub mod Words
+pub mod Asked
+pub mod Accesses
+pub mod Entering
+pub mod Statements
+pub mod Wholes
+pub mod Fitting
+pub mod Asking
+pub mod SoundServers

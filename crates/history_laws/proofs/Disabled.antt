@@ -1,0 +1,164 @@
+-- No admitted activation runs whose event the machine's next mode disables.
+use Rattle.std.proofs.Common.{◌≡◌, ℕ, suc, ◌+◌, Bool, true, false, ◌||◌, not, ◌==◌, if◌then◌else◌, refl, sym, ◌∙◌, ap, subst, arith, List, [], ◌∷◌, Option, Some, None}
+use Rattle.std.proofs.lemmas.Bool.{and_from, and_parts, or_right, eqb-true, false≢true}
+use Rattle.std.specs.List.{slice_get}
+use Rattle.std.specs.Option.{option_map_or}
+use Rattle.rte_value.specs.declared.kinds.Step.{Step}
+use Rattle.rte_value.specs.declared.kinds.Step.TheVariants as step
+use Rattle.rte_value.specs.Values.{same_number}
+use Rattle.bus_semantics.specs.declared.plan.EventPlan.{EventPlan}
+use Rattle.bus_semantics.specs.declared.plan.Disabling.{Disabling}
+use Rattle.bus_semantics.specs.declared.entries.Actor.{Actor}
+use Rattle.bus_semantics.specs.declared.entries.Actor.TheVariants.{Env, Machine, Act}
+use Rattle.bus_semantics.specs.declared.entries.Deed.{Deed}
+use Rattle.bus_semantics.specs.declared.entries.Deed.TheVariants as deed
+use Rattle.bus_semantics.specs.Plan.{Plan, every_from, disabling_of}
+use Rattle.bus_semantics.specs.History.{History, Noted, Past, noted, note}
+use Rattle.bus_semantics.specs.Modes.{phase_of, stage_of, waits_of, closes_of, is_close, is_stable, next_of, settled_of}
+use Rattle.bus_semantics.specs.Admission.{disables, admitted_runs, mode_disables, none_runs_disabled, is_disabled_by, is_disabled}
+use Rattle.bus_semantics.specs.Phases.{phase_after}
+use Rattle.bus_semantics.specs.Legal.{modes_allow, admission_allows, IsLegal}
+use Rattle.bus_laws.proofs.Thinning.{noting, option_same, every_at}
+
+every_made : {X : Type 0} (f : ℕ → X → Bool) (i : ℕ) (xs : List X) → ((j k : ℕ) (x : X) → k ≡ i + j → slice_get xs j ≡ Some x → f k x ≡ true) → every_from i f xs ≡ true
+every_made f i [] each = refl
+every_made f i (x ∷ xs) each = and_from (f i x) (every_from (i + 1) f xs) (each 0 i x (omega arith) refl) (every_made f (i + 1) xs (λ j k y at found. each (suc j) k y (omega arith) found))
+
+module _ (p : Plan) (m : ℕ) where
+  -- of each event that the next mode disables no admitted activation runs
+  abbrev Quiet : Past → Type 0
+  Quiet l = (e : ℕ) (v : EventPlan) → slice_get p.events e ≡ Some v → mode_disables v.disabled m (next_of p m l) ≡ true → admitted_runs e l ≡ false
+
+  quiet_of : (l : Past) → none_runs_disabled p m l ≡ true → Quiet l
+  quiet_of l none e v there disables = by_test (mode_disables v.disabled m (next_of p m l)) (admitted_runs e l) disables
+      (every_at (λ e (v : EventPlan). not (mode_disables v.disabled m (next_of p m l)) || not (admitted_runs e l)) 0 p.events none e e v (omega arith) there)
+    where
+      by_test : (b c : Bool) → b ≡ true → (not b || not c) ≡ true → c ≡ false
+      by_test true true d n = absurd (false≢true n)
+      by_test true false d n = refl
+      by_test false c d n = absurd (false≢true d)
+
+  all_quiet : (l : Past) → Quiet l → none_runs_disabled p m l ≡ true
+  all_quiet l quiet = every_made (λ e (v : EventPlan). not (mode_disables v.disabled m (next_of p m l)) || not (admitted_runs e l)) 0 p.events
+      (λ j k v at found. by_test (mode_disables v.disabled m (next_of p m l)) (admitted_runs k l) (quiet k v (subst (λ n. slice_get p.events n ≡ Some v) (omega arith) found)))
+    where
+      by_test : (b c : Bool) → (b ≡ true → c ≡ false) → (not b || not c) ≡ true
+      by_test true c none = ap not (none refl)
+      by_test false c none = refl
+
+  -- ---- an event that the next mode disables is not admitted
+
+  settled_is_next : (l : Past) → is_stable m l ≡ true → settled_of p m l ≡ next_of p m l
+  settled_is_next [] stable = absurd (false≢true stable)
+  settled_is_next (n ∷ l) stable = by_phase (settled_is_next l) (phase_of m n) refl
+    where
+      by_phase : (is_stable m l ≡ true → settled_of p m l ≡ next_of p m l) → (o : Option Step) → phase_of m n ≡ o → settled_of p m (n ∷ l) ≡ next_of p m (n ∷ l)
+      by_phase before None is = rw is (before (rw is at stable))
+      by_phase before (Some step.Stable) is = rw is refl
+      by_phase before (Some (step.Close mode)) is = absurd (false≢true (rw is at stable))
+      by_phase before (Some step.Exit) is = absurd (false≢true (rw is at stable))
+      by_phase before (Some step.Transition) is = absurd (false≢true (rw is at stable))
+      by_phase before (Some step.Entry) is = absurd (false≢true (rw is at stable))
+
+  disabled_by : (d : Disabling) (l : Past) → m ≡ d.machine → disables d m (next_of p m l) ≡ true → is_disabled_by p d l ≡ true
+  disabled_by d l same by_next = subst (λ n. (if is_stable n l then disables d n (settled_of p n l) else disables d n (settled_of p n l) || disables d n (next_of p n l)) ≡ true) same (by_stable (is_stable m l) refl)
+    where
+      by_stable : (b : Bool) → is_stable m l ≡ b → (if b then disables d m (settled_of p m l) else disables d m (settled_of p m l) || disables d m (next_of p m l)) ≡ true
+      by_stable true is = ap (disables d m) (settled_is_next l is) ∙ by_next
+      by_stable false is = or_right (disables d m (settled_of p m l)) (disables d m (next_of p m l)) by_next
+
+  disabled_next : (e : ℕ) (v : EventPlan) (l : Past) → slice_get p.events e ≡ Some v → mode_disables v.disabled m (next_of p m l) ≡ true → is_disabled p e l ≡ true
+  disabled_next e v l there disabling = by_disabled v.disabled disabling (ap (λ (o : Option EventPlan). option_map_or (λ (w : EventPlan). w.disabled) o None) there)
+    where
+      by_disabled : (o : Option Disabling) → mode_disables o m (next_of p m l) ≡ true → disabling_of p e ≡ o → is_disabled p e l ≡ true
+      by_disabled None never is = absurd (false≢true never)
+      by_disabled (Some d) by_next is = let same : d.machine ≡ m = eqb-true d.machine m (and_parts (d.machine == m) _ by_next).0 in rw is (disabled_by d l (sym same) by_next)
+
+  -- ---- one entry more
+
+  admitted_more : (a : Actor) (d : Deed) (event : Option ℕ) (l : Past) (e : ℕ) → (admission_allows p l event d ≡ true → is_disabled p e l ≡ true) → admission_allows p l event d ≡ true
+      → is_disabled p e l ≡ true → admitted_runs e l ≡ false → admitted_runs e (noting a d event ∷ l) ≡ false
+  admitted_more a (deed.Admit true) event l e f allows disabled before = by_event (same_number event (Some e)) refl
+    where
+      by_event : (b : Bool) → same_number event (Some e) ≡ b → admitted_runs e (noting a (deed.Admit true) event ∷ l) ≡ false
+      by_event false is = rw is before
+      by_event true is =
+          let allowed : admission_allows p l (Some e) (deed.Admit true) ≡ true = subst (λ o. admission_allows p l o (deed.Admit true) ≡ true) (option_same event (Some e) is) allows in
+          absurd (false≢true (sym (ap not disabled) ∙ allowed))
+  admitted_more a deed.End event l e f allows disabled before = by_event (same_number event (Some e)) refl
+    where
+      by_event : (b : Bool) → same_number event (Some e) ≡ b → admitted_runs e (noting a deed.End event ∷ l) ≡ false
+      by_event false is = rw is before
+      by_event true is = rw is refl
+  admitted_more a d event l e f allows disabled before = before
+
+  quiet_more : (n : Noted) (l : Past) → next_of p m (n ∷ l) ≡ next_of p m l → admission_allows p l n.event n.entry.deed ≡ true → Quiet l → Quiet (n ∷ l)
+  quiet_more n l same allows quiet e v there by_next =
+      let before : mode_disables v.disabled m (next_of p m l) ≡ true = subst (λ x. mode_disables v.disabled m x ≡ true) same by_next in
+      let disabled = disabled_next e v l there before in
+      admitted_more n.entry.actor n.entry.deed n.event l e (λ _. disabled) allows disabled (quiet e v there before)
+
+  next_same : (n : Noted) (l : Past) → is_close (phase_of m n) ≡ false → next_of p m (n ∷ l) ≡ next_of p m l
+  next_same n l other = by_phase (phase_of m n) refl
+    where
+      by_phase : (o : Option Step) → phase_of m n ≡ o → next_of p m (n ∷ l) ≡ next_of p m l
+      by_phase None is = rw is refl
+      by_phase (Some (step.Close mode)) is = absurd (false≢true (sym (rw is at other)))
+      by_phase (Some step.Exit) is = rw is refl
+      by_phase (Some step.Transition) is = rw is refl
+      by_phase (Some step.Entry) is = rw is refl
+      by_phase (Some step.Stable) is = rw is refl
+
+  -- ---- histories
+
+  quiet_first : (h : History) → IsLegal p h → closes_of m (noted h) ≡ 0 → Quiet (noted h)
+  quiet_first [] legal none = λ e v there by_next. refl
+  quiet_first (e ∷ h) legal none = by_test (quiet_first h legal.0) (is_close (phase_of m (note h e))) refl none
+    where
+      by_test : (closes_of m (noted h) ≡ 0 → Quiet (noted h)) → (b : Bool) → is_close (phase_of m (note h e)) ≡ b → (if b then suc (closes_of m (noted h)) else closes_of m (noted h)) ≡ 0 → Quiet (noted (e ∷ h))
+      by_test before true is zeroes = absurd (cc zeroes)
+      by_test before false is zeroes = quiet_more (note h e) (noted h) (next_same (note h e) (noted h) is) legal.1.answers.admission (before zeroes)
+
+  -- what comes after a phase that is no Close, or is an Exit of a machine that waits
+  after : (l : Past) → waits_of p m ≡ true → (is_close (Some (stage_of m l)) ≡ false → Quiet l) → (stage s : Step) → stage_of m l ≡ stage → phase_after p m l stage s ≡ true → is_close (Some s) ≡ false → Quiet l
+  after l waits before (step.Close mode) step.Exit is may other = quiet_of l (rw waits at may)
+  after l waits before step.Exit step.Transition is may other = before (ap (λ x. is_close (Some x)) is)
+  after l waits before step.Transition step.Entry is may other = before (ap (λ x. is_close (Some x)) is)
+  after l waits before step.Entry step.Stable is may other = before (ap (λ x. is_close (Some x)) is)
+  after l waits before step.Stable (step.Close mode) is may other = absurd (false≢true (sym other))
+  after l waits before stage s is may other = absurd (false≢true may)
+
+  -- the phase that an entry is may come
+  phase_comes : (l : Past) (a : Actor) (d : Deed) (event : Option ℕ) (s : Step) → phase_of m (noting a d event) ≡ Some s → modes_allow p l a d ≡ true → phase_after p m l (stage_of m l) s ≡ true
+  phase_comes l (Machine n) (deed.Phase t) event s is allows = by_machine (m == n) refl
+    where
+      by_machine : (b : Bool) → (m == n) ≡ b → phase_after p m l (stage_of m l) s ≡ true
+      by_machine false other = absurd (cc (rw other at is))
+      by_machine true same =
+          let phase : t ≡ s = let e = rw same at is in cc e in
+          let machine : n ≡ m = sym (eqb-true m n same) in
+          subst (λ x. phase_after p m l (stage_of m l) x ≡ true) phase (subst (λ k. phase_after p k l (stage_of k l) t ≡ true) machine allows)
+  phase_comes l (Machine n) d event s is allows = no_phase (m == n) is
+    where
+      no_phase : (b : Bool) → (if b then None else None) ≡ Some s → phase_after p m l (stage_of m l) s ≡ true
+      no_phase true e = absurd (cc e)
+      no_phase false e = absurd (cc e)
+  phase_comes l Env d event s is allows = absurd (cc is)
+  phase_comes l (Act k) d event s is allows = absurd (cc is)
+
+  quiet_waiting : waits_of p m ≡ true → (h : History) → IsLegal p h → is_close (Some (stage_of m (noted h))) ≡ false → Quiet (noted h)
+  quiet_waiting waits [] legal other = λ e v there by_next. refl
+  quiet_waiting waits (e ∷ h) legal other = by_phase (quiet_waiting waits h legal.0) (phase_of m (note h e)) refl
+    where
+      by_phase : (is_close (Some (stage_of m (noted h))) ≡ false → Quiet (noted h)) → (o : Option Step) → phase_of m (note h e) ≡ o → Quiet (noted (e ∷ h))
+      by_phase before None is = quiet_more (note h e) (noted h) (next_same (note h e) (noted h) (ap is_close is)) legal.1.answers.admission (before (rw is at other))
+      by_phase before (Some s) is =
+          let left : is_close (Some s) ≡ false = rw is at other in
+          quiet_more (note h e) (noted h) (next_same (note h e) (noted h) (ap is_close is ∙ left)) legal.1.answers.admission
+          (after (noted h) waits before (stage_of m (noted h)) s refl (phase_comes (noted h) e.actor e.deed (note h e).event s is legal.1.answers.modes) left)
+
+pub waiting : (p : Plan) (h : History) (m : ℕ) → IsLegal p h → waits_of p m ≡ true → is_close (Some (stage_of m (noted h))) ≡ false → none_runs_disabled p m (noted h) ≡ true
+waiting p h m legal waits other = all_quiet p m (noted h) (quiet_waiting p m waits h legal other)
+
+pub before_the_first : (p : Plan) (h : History) (m : ℕ) → IsLegal p h → closes_of m (noted h) ≡ 0 → none_runs_disabled p m (noted h) ≡ true
+before_the_first p h m legal none = all_quiet p m (noted h) (quiet_first p m h legal none)

@@ -1,0 +1,36 @@
+-- Items of lists.
+use Rattle.std.proofs.Common.{◌≡◌, ℕ, zero, suc, ◌<◌, Bool, true, false, if◌then◌else◌, refl, ap, arith, List, [], ◌∷◌, ◌++◌, length, Option, Some, None}
+use Rattle.std.proofs.lemmas.Bool.{and_from, and_parts}
+use Rattle.std.proofs.lemmas.Option.{same_Some}
+use Rattle.std.specs.List.{slice_get, list_all}
+use Rattle.std.specs.Option.{option_or}
+use Rattle.bus_semantics.specs.History.{newest}
+
+pub there_is : {X : Type 0} (xs : List X) (n : ℕ) → n < length xs → (x : X) × (slice_get xs n ≡ Some x)
+there_is [] n less = absurd (omega arith)
+there_is (x ∷ xs) zero less = (x, refl)
+there_is (x ∷ xs) (suc n) less = there_is xs n (omega arith)
+
+-- an item of a longer list is the last, or stands before
+pub data AtEnd {X : Type 0} (xs : List X) (y : X) (i : ℕ) (x : X) : Type 0 where
+  earlier : slice_get xs i ≡ Some x → AtEnd xs y i x
+  last : y ≡ x → AtEnd xs y i x
+
+pub at_end : {X : Type 0} (xs : List X) (y : X) (i : ℕ) (x : X) → slice_get (xs ++ y ∷ []) i ≡ Some x → AtEnd xs y i x
+at_end [] y zero x e = last (same_Some y x e)
+at_end [] y (suc i) x e = absurd (cc e)
+at_end (z ∷ xs) y zero x e = earlier e
+at_end {X} (z ∷ xs) y (suc i) x e = longer (at_end xs y i x e)
+  where
+    longer : AtEnd xs y i x → AtEnd (z ∷ xs) y (suc i) x
+    longer (earlier there) = earlier there
+    longer (last there) = last there
+
+pub all_more : {X : Type 0} (f : X → Bool) (xs : List X) (x : X) → list_all f xs ≡ true → f x ≡ true → list_all f (xs ++ x ∷ []) ≡ true
+all_more f [] x all one = and_from (f x) true one refl
+all_more f (y ∷ xs) x all one = let parts = and_parts (f y) (list_all f xs) all in and_from (f y) (list_all f (xs ++ x ∷ [])) parts.0 (all_more f xs x parts.1 one)
+
+-- an item of which nothing is made, whether it is there or not
+pub skipped : {X B : Type 0} (f : X → Option B) (x : X) (xs : List X) (b : Bool) → f x ≡ None → newest f (if b then x ∷ xs else xs) ≡ newest f xs
+skipped f x xs true none = ap (λ o. option_or o (newest f xs)) none
+skipped f x xs false none = refl

@@ -1,0 +1,4 @@
+pub mod Running
+pub mod Holding
+pub mod Serving
+pub mod Coming

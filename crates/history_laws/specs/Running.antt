@@ -1,0 +1,36 @@
+-- A running activation in a history: what started it, what it did since, and what it wants next (SWS_RTE: runnable activation). Histories
+-- stand the newest first, the deeds of an activation the oldest first.
+use Rattle.std.specs.Prelude.{◌≡◌, ℕ, List, [], true, not, if◌then◌else◌, Some, slice_get}
+use Rattle.std.specs.List.{list_all}
+use Rattle.std.specs.Option.{option_map_or}
+use Rattle.rte_value.specs.declared.kinds.ActKey.{ActKey}
+use Rattle.bus_semantics.specs.declared.entries.Actor.TheVariants.{Act}
+use Rattle.bus_semantics.specs.Plan.{Plan, Runnable, runnable_of_event}
+use Rattle.bus_semantics.specs.Wanted.{Wanted}
+use Rattle.bus_semantics.specs.History.{History, is_over, runs, last_started}
+use Rattle.bus_semantics.specs.Owners.{key_fits}
+use Rattle.bus_semantics.specs.Fitting.{wish_fits}
+use Rattle.bus_semantics.specs.Asked.{asks_its_own}
+use Rattle.bus_semantics.specs.Actor.{Activation, activation_of, next_wish}
+use Rattle.activation_laws.specs.Followed.{AsksNext}
+use Rattle.activation_laws.specs.OpenAreas.{open_areas}
+
+-- it was started by an event of its runnable, was answered all that it asked since, and wants something that fits
+pub record GoesOn (p : Plan) (h : History) (k : ActKey) : Type 0 where
+  pub runnable : Runnable
+  pub activation : Activation
+  pub wish : Wanted
+  pub key : key_fits p k ≡ true
+  pub found : slice_get p.runnables k.runnable ≡ Some runnable
+  pub is : activation_of k h ≡ Some activation
+  pub started : last_started k h ≡ Some activation.event
+  pub own : runnable_of_event p activation.event ≡ Some k.runnable
+  pub asks : AsksNext p runnable activation.event activation.start activation.deeds wish
+  pub going : list_all (λ d. not (is_over d)) activation.deeds ≡ true
+  pub next : next_wish p h k ≡ Some wish
+  pub fits : wish_fits p (Act k) wish ≡ true
+  pub asked : asks_its_own p (Act k) wish ≡ true
+
+-- the areas that a running activation has entered and not left, the innermost first
+abbrev pub areas_of : ActKey → History → List ℕ
+areas_of k h = if runs k h then option_map_or (λ (a : Activation). open_areas a.deeds) (activation_of k h) [] else []
