@@ -1,0 +1,3 @@
+pub mod Disabling
+pub mod Kept
+pub mod Owed

@@ -1,0 +1,17 @@
+use Rattle.std.proofs.Common.{◌≡◌, ◌≤◌, ◌+◌, length, map}
+use Rattle.std.specs.List.{count_by}
+use Rattle.std.specs.Vec.{vec_capacity}
+use Rattle.latches.specs.Latches.{is_clear}
+use Rattle.queued_ports.proofs.Sending.{Tells, after_some, answer_so_far, lit_by}
+use Rattle.queued_ports.proofs.queues.Queues.send.Given as goal
+
+abbrev pub invariant-loop-receiver : goal.invariant-loop-receiver
+invariant-loop-receiver l = record {
+  words : l.self-inside.lanes.words ≡ l.initial.self-inside.lanes.words;
+  queues : l.self-inside.lanes.queues ≡ after_some l.receiver l.value l.initial.self-inside.lanes.queues;
+  lit : l.self-inside.due ≡ map (lit_by l.initial.self-inside.lanes.queues l.receiver) l.initial.self-inside.due;
+  code : l.code ≡ answer_so_far l.receiver l.initial.self-inside.lanes.queues;
+  tells : Tells l.names l.initial.self-inside.due l.self-inside.due l.woken.items;
+  room : length l.woken.items + count_by is_clear l.self-inside.due ≤ length l.initial.self-inside.due;
+  capacity : vec_capacity l.woken ≡ vec_capacity l.initial.woken;
+}
