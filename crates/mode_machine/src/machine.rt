@@ -198,9 +198,9 @@ impl Machine {
         tell_acks(&self.acks, ack_names, told);
     }
 
-    /// Makes the next phase, where it may come (mode switch procedure). The list is cleared, and then has the names of all events
-    /// that may start, among them those by which a start became possible; each mode switch event and each acknowledgement event has a name, at its place in its
-    /// list of names. A phase costs as much as there are such events.
+    /// Makes the next phase, where it may come (mode switch procedure). Among the names in the list are then those of the events by
+    /// which a start became possible (no clause says that it has no others); each mode switch event and each acknowledgement event
+    /// has a name, at its place in its list of names. A phase costs as much as there are such events.
     pub fn advance(&mut self, names: &[u32], ack_names: &[u32], woken: &mut Vec<u32>) -> Advanced
         requires named { length names.now ≡ length self.old.owed }
         requires acks_named { length ack_names.now ≡ length self.old.acks }

@@ -64,9 +64,9 @@ impl Queues {
     }
 
     /// Sends a value to each receiver whose queue has room, and discards it at each other (Rte_Send). The answer is 130
-    /// RTE_E_LIMIT exactly where one queue was full, else 0. The list is cleared, and then has the names of the events that
-    /// became pending; each event has a name, at its place in the list of names. The call costs as much as there are receivers,
-    /// and events that become pending.
+    /// RTE_E_LIMIT exactly where one queue was full, else 0. Among the names in the list are then those of the events that became
+    /// pending (no clause says that it has no others); each event has a name, at its place in the list of names. The call costs as
+    /// much as there are receivers, and events that become pending.
     pub fn send(&mut self, value: &Value, names: &[u32], woken: &mut Vec<u32>) -> Code
         requires fits { length (words_of value.now) ≡ self.old.words }
         requires named { length names.now ≡ length self.old.events }
