@@ -38,6 +38,13 @@ impl Area {
         Area { holder: None }
     }
 
+    /// The activation that is in the area.
+    pub fn holder(&self) -> Option<ActKey>
+        ensures { result ≡ self.now }
+    {
+        self.holder
+    }
+
     /// Enters the area for an activation (Rte_Enter). Where one is in it, also the same one, nothing changes and the answer
     /// names it.
     pub fn enter(&mut self, key: ActKey) -> Entered

@@ -1,12 +1,12 @@
 -- Flags of one group, seen as whether they are set.
-use Rattle.std.proofs.Common.{◌≡◌, ◌<◌, ◌==◌, ◌||◌, ℕ, zero, suc, refl, ◌∙◌, ap, Bool, true, false, List, [], ◌∷◌, length, get_or, map, replicate, Some}
+use Rattle.std.proofs.Common.{◌≡◌, ◌<◌, ◌==◌, ◌||◌, ℕ, zero, suc, refl, sym, ◌∙◌, ap, Bool, true, false, List, [], ◌∷◌, length, get_or, map, replicate, Some}
 use Rattle.std.specs.List.{slice_get}
 use Rattle.std.specs.Option.{option_map}
 use Rattle.std.proofs.lemmas.Bool.{eq-eqb}
 use Rattle.std.proofs.lemmas.List.Elements.{All-head, All-tail}
 use Rattle.std.proofs.lemmas.Option.{slice_get-get_or, slice_get-map}
-use Rattle.latches.specs.Latches.{Latch, clear_in, after_set}
-use Rattle.explicit_ports.specs.Flags.{are_set, AreOneGroup}
+use Rattle.latches.specs.Latches.{Latch, clear_in, after_set, IsNamedIn}
+use Rattle.explicit_ports.specs.Flags.{are_set, AreOneGroup, IsOfClear}
 
 pub all_set : (ls : List Latch) → AreOneGroup ls → are_set (map (after_set 0) ls) ≡ replicate (length (are_set ls)) true
 all_set [] one = refl
@@ -31,3 +31,11 @@ pub behind : (ls : List Latch) (at : ℕ) (b : Bool) → slice_get (are_set ls) 
 behind [] at b e = absurd (cc e)
 behind (l ∷ ls) zero b e = record { latch = l; is = refl; shown = cc }
 behind (l ∷ ls) (suc at) b e = let rest = behind ls at b e in record { latch = rest.latch; is = rest.is; shown = rest.shown }
+
+-- what is told of a clear flag of the group
+pub told_of : (ls : List Latch) (seen : List Bool) (group : ℕ) (names : List ℕ) (name : ℕ) → are_set ls ≡ seen → IsNamedIn group ls names name → IsOfClear seen names name
+told_of ls seen group names name shown of = record {
+  at = of.at;
+  clear = sym (ap (λ bs. slice_get bs of.at) shown) ∙ slice_get-map (λ (l : Latch). l.is_set) ls of.at ∙ ap (option_map (λ (l : Latch). l.is_set)) of.is ∙ ap (λ b. Some b) of.clear;
+  named = of.named;
+}

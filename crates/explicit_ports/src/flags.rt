@@ -1,8 +1,9 @@
 //! Flags that are set all at once.
 
-ghost use Rattle.std.specs.Prelude.{◌≡◌, ◌<◌, ◌≤◌, ◌+◌, ℕ, IfOk, Some, false, length, replicate, set, slice_get, true};
+ghost use Rattle.std.specs.Prelude.{◌≡◌, ◌<◌, ◌≤◌, ◌+◌, ◌⊎◌, ℕ, IfOk, Some, false, length, replicate, set, slice_get, true};
 ghost use Rattle.std.specs.List.{Contains};
 ghost use Rattle.std.specs.Vec.{vec_capacity};
+ghost use Rattle.explicit_ports.specs.Flags.{IsOfClear};
 
 use crate::Memory;
 use latches::Latches;
@@ -69,6 +70,7 @@ impl Flags {
         requires room { length told.old.items + length self.old ≤ vec_capacity told.old }
         ensures set { self.new ≡ replicate (length self.old) true }
         ensures told { (at name : ℕ) → slice_get self.old at ≡ Some false → slice_get names.now at ≡ Some name → Contains told.new.items name }
+        ensures only { (name : ℕ) → Contains told.new.items name → Contains told.old.items name ⊎ IsOfClear self.old names.now name }
         ensures capacity { vec_capacity told.new ≡ vec_capacity told.old }
     {
         self.latches.set_and_tell(ALL, names, told);

@@ -3,6 +3,7 @@
 ghost use Rattle.std.specs.Prelude.{◌≡◌, ◌<◌, ◌≤◌, ℕ, false, length, IfOk, slice_get, Some, is_some};
 ghost use Rattle.std.specs.List.{Contains};
 ghost use Rattle.std.specs.Vec.{vec_capacity};
+ghost use Rattle.explicit_ports.specs.Flags.{IsOfClear};
 ghost use Rattle.explicit_ports.specs.Kept.{fresh, after_write, after_invalidation, after_read, after_start, value_for};
 
 use crate::Memory;
@@ -65,14 +66,32 @@ impl Unqueued {
         })
     }
 
-    /// Stores a value that a provider writes (Rte_Write, Rte_IrvWrite). The list is cleared, and then has the names of the
-    /// events that were not pending before; each event has a name, at its place in the list of names. The call costs as much
-    /// as there are receivers not updated and events not pending.
-    pub fn write(&mut self, value: &Value, names: &[u32], woken: &mut Vec<u32>)
+    /// Stores a value that a provider writes (Rte_Write, Rte_IrvWrite). The call costs as much as there are receivers not updated
+    /// and events not pending.
+    pub fn write(&mut self, value: &Value)
+        ensures kept { self.new ≡ after_write value.now self.old }
+    {
+        self.stored = Some(*value);
+        self.invalid = false;
+        self.updated.set_all();
+        self.due.set_all();
+    }
+
+    /// Stores a value that a provider wrote implicitly, at the end of its activation (Rte_IWrite, Rte_IrvIWrite).
+    pub fn publish(&mut self, value: &Value)
+        ensures kept { self.new ≡ after_write value.now self.old }
+    {
+        self.write(value);
+    }
+
+    /// Stores a value as `write` does. The list is cleared, and then has the names of the events that were not pending before, and
+    /// no others; each event has a name, at its place in the list of names.
+    pub fn write_and_tell(&mut self, value: &Value, names: &[u32], woken: &mut Vec<u32>)
         requires named { length names.now ≡ length self.old.events }
         requires room { length self.old.events ≤ vec_capacity woken.old }
         ensures kept { self.new ≡ after_write value.now self.old }
         ensures woken { (event name : ℕ) → slice_get self.old.due event ≡ Some false → slice_get names.now event ≡ Some name → Contains woken.new.items name }
+        ensures only { (name : ℕ) → Contains woken.new.items name → IsOfClear self.old.due names.now name }
         ensures capacity { vec_capacity woken.new ≡ vec_capacity woken.old }
     {
         self.stored = Some(*value);
@@ -82,16 +101,16 @@ impl Unqueued {
         self.due.set_and_tell(names, woken);
     }
 
-    /// Stores a value that a provider wrote implicitly, at the end of its activation (Rte_IWrite, Rte_IrvIWrite). What is
-    /// woken is as after `write`.
-    pub fn publish(&mut self, value: &Value, names: &[u32], woken: &mut Vec<u32>)
+    /// Stores a value as `publish` does. What is woken is as after `write_and_tell`.
+    pub fn publish_and_tell(&mut self, value: &Value, names: &[u32], woken: &mut Vec<u32>)
         requires named { length names.now ≡ length self.old.events }
         requires room { length self.old.events ≤ vec_capacity woken.old }
         ensures kept { self.new ≡ after_write value.now self.old }
         ensures woken { (event name : ℕ) → slice_get self.old.due event ≡ Some false → slice_get names.now event ≡ Some name → Contains woken.new.items name }
+        ensures only { (name : ℕ) → Contains woken.new.items name → IsOfClear self.old.due names.now name }
         ensures capacity { vec_capacity woken.new ≡ vec_capacity woken.old }
     {
-        self.write(value, names, woken)
+        self.write_and_tell(value, names, woken)
     }
 
     /// Marks the group as invalid (Rte_Invalidate). No value, update flag or pending event changes.

@@ -1,9 +1,9 @@
 //! Flags in groups.
 
-ghost use Rattle.std.specs.Prelude.{◌≡◌, ◌<◌, ◌≤◌, ◌+◌, ℕ, All, IfOk, Some, count_by, false, length, map, slice_get, set};
+ghost use Rattle.std.specs.Prelude.{◌≡◌, ◌<◌, ◌≤◌, ◌+◌, ◌⊎◌, ℕ, All, IfOk, Some, count_by, false, length, map, slice_get, set};
 ghost use Rattle.std.specs.List.{Contains};
 ghost use Rattle.std.specs.Vec.{vec_capacity};
-ghost use Rattle.latches.specs.Latches.{Latch, after_set, clear_in, is_clear};
+ghost use Rattle.latches.specs.Latches.{IsNamedIn, Latch, after_set, clear_in, is_clear};
 ghost use Rattle.latches.specs.Noted.{AreNoted};
 
 use crate::Memory;
@@ -92,6 +92,7 @@ impl Latches {
         ensures set { self.new ≡ map (after_set group) self.old }
         ensures told { (at name : ℕ) (l : Latch) → slice_get self.old at ≡ Some l → l.group ≡ group → l.is_set ≡ false → slice_get names.now at ≡ Some name → Contains told.new.items name }
         ensures kept { (name : ℕ) → Contains told.old.items name → Contains told.new.items name }
+        ensures only { (name : ℕ) → Contains told.new.items name → Contains told.old.items name ⊎ IsNamedIn group self.old names.now name }
         ensures room { length told.new.items + count_by is_clear self.new ≤ length told.old.items + count_by is_clear self.old }
         ensures capacity { vec_capacity told.new ≡ vec_capacity told.old }
     {

@@ -1,9 +1,9 @@
 //! Setting the flags of a group.
 
-ghost use Rattle.std.specs.Prelude.{◌≡◌, ◌<◌, ◌≤◌, ◌+◌, ℕ, Some, count_by, false, length, map, set, slice_get};
+ghost use Rattle.std.specs.Prelude.{◌≡◌, ◌<◌, ◌≤◌, ◌+◌, ◌⊎◌, ℕ, Some, count_by, false, length, map, set, slice_get};
 ghost use Rattle.std.specs.List.{Contains};
 ghost use Rattle.std.specs.Vec.{vec_capacity};
-ghost use Rattle.latches.specs.Latches.{Latch, after_set, is_clear, set_in};
+ghost use Rattle.latches.specs.Latches.{IsNamedIn, Latch, after_set, is_clear, set_in};
 ghost use Rattle.latches.specs.Noted.{AreNoted};
 
 use crate::flag::Flag;
@@ -29,6 +29,7 @@ fn tell(flags: &mut [Flag], place: usize, names: &[u32], told: &mut Vec<u32>)
     ensures set { (l : Latch) → slice_get flags.old place ≡ Some l → flags.new ≡ set flags.old place (set_in l.group) }
     ensures told { (l : Latch) (name : ℕ) → slice_get flags.old place ≡ Some l → l.is_set ≡ false → slice_get names.now place ≡ Some name → Contains told.new.items name }
     ensures kept { (name : ℕ) → Contains told.old.items name → Contains told.new.items name }
+    ensures only { (l : Latch) (name : ℕ) → slice_get flags.old place ≡ Some l → Contains told.new.items name → Contains told.old.items name ⊎ ((l.is_set ≡ false) × (slice_get names.now place ≡ Some name)) }
     ensures room { length told.new.items + count_by is_clear flags.new ≤ length told.old.items + count_by is_clear flags.old }
     ensures capacity { vec_capacity told.new ≡ vec_capacity told.old }
 {
@@ -55,6 +56,7 @@ pub(crate) fn tell_flags(
     ensures noted { AreNoted flags.new cleared.new }
     ensures told { (at name : ℕ) (l : Latch) → slice_get flags.old at ≡ Some l → l.group ≡ group → l.is_set ≡ false → slice_get names.now at ≡ Some name → Contains told.new.items name }
     ensures kept { (name : ℕ) → Contains told.old.items name → Contains told.new.items name }
+    ensures only { (name : ℕ) → Contains told.new.items name → Contains told.old.items name ⊎ IsNamedIn group flags.old names.now name }
     ensures room { length told.new.items + count_by is_clear flags.new ≤ length told.old.items + count_by is_clear flags.old }
     ensures capacity { vec_capacity told.new ≡ vec_capacity told.old }
 {

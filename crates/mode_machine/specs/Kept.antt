@@ -1,10 +1,10 @@
 -- What a mode machine keeps, and what each call makes of it (SWS_RTE: mode switch procedure, Rte_Switch, Rte_Mode,
 -- SwcModeSwitchEvent, ModeSwitchedAckEvent, ModeDisablingDependency).
-use Rattle.std.specs.Prelude.{ℕ, List, [], ◌∷◌, ◌++◌, length, map, drop, set, replicate, position, Bool, true, false, ◌||◌, nat_lt, if◌then◌else◌, Option, Some, None, slice_get, slice_index_or}
+use Rattle.std.specs.Prelude.{◌≡◌, ℕ, List, [], ◌∷◌, ◌++◌, length, map, drop, set, replicate, position, Bool, true, false, ◌||◌, nat_lt, if◌then◌else◌, Option, Some, None, slice_get, slice_index_or}
 use Rattle.rte_value.specs.declared.kinds.Step.{Step}
 use Rattle.rte_value.specs.declared.kinds.Step.TheVariants as step
 use Rattle.mode_machine.specs.Disabling.{Dependency, has_mode, holds_back, idle_dependency}
-use Rattle.mode_machine.specs.Owed.{idle_event, never_owed, owed_by}
+use Rattle.mode_machine.specs.Owed.{idle_event, may_start, never_owed, owed_by}
 use Rattle.mode_machine.specs.declared.disabling.Admitted.{Admitted}
 use Rattle.mode_machine.specs.declared.disabling.Admitted.TheVariants.{Yes, No, Runs}
 use Rattle.mode_machine.specs.declared.machine.Advanced.{Advanced}
@@ -203,6 +203,22 @@ with_acks acks k = record {
 
 abbrev pub is_acked : (event : ℕ) → Kept → Bool
 is_acked e k = slice_index_or k.acks e false
+
+-- ---- what a phase tells
+
+-- a mode switch event with this name, at its place in the list of names, could not start before and may start now
+pub record IsStartable (names : List ℕ) (before now : Kept) (name : ℕ) : Type 0 where
+  pub event : ℕ
+  pub named : slice_get names event ≡ Some name
+  pub was : may_start (owed_at event before) ≡ false
+  pub is : may_start (owed_at event now) ≡ true
+
+-- an acknowledgement event with this name was not pending before and is pending now
+pub record IsAcknowledged (names : List ℕ) (before now : Kept) (name : ℕ) : Type 0 where
+  pub event : ℕ
+  pub named : slice_get names event ≡ Some name
+  pub was : is_acked event before ≡ false
+  pub is : is_acked event now ≡ true
 
 -- ---- admission
 

@@ -1,5 +1,5 @@
 -- The events that the phases of a machine owe (SWS_RTE: on-exit, on-transition and on-entry ExecutableEntities).
-use Rattle.std.specs.Prelude.{ℕ, Bool, true, false, not, ◌&&◌, ◌||◌, ◌==◌, if◌then◌else◌}
+use Rattle.std.specs.Prelude.{◌≡◌, ℕ, Bool, true, false, not, ◌&&◌, ◌||◌, ◌==◌, if◌then◌else◌, List, Some, slice_get}
 use Rattle.rte_value.specs.declared.kinds.Step.{Step}
 use Rattle.rte_value.specs.declared.kinds.Step.TheVariants as step
 use Rattle.mode_machine.specs.declared.owed.ModeEvent.{ModeEvent}
@@ -36,9 +36,19 @@ owed_by s settled next e = record { moment = e.moment; due = owes s settled next
 abbrev pub may_start : OwedEvent → Bool
 may_start e = e.due && not e.running
 
+-- a phase makes a start by an event possible that was not so before
+abbrev pub is_woken : Step → (settled : ℕ) → (next : ℕ) → OwedEvent → Bool
+is_woken s settled next e = not (may_start e) && may_start (owed_by s settled next e)
+
 abbrev pub after_owed_start : OwedEvent → OwedEvent
 after_owed_start e = if may_start e then record { moment = e.moment; due = false; running = true; begun = true; left = e.left } else e
 
 -- the end of an activation that was started since the last phase is what that phase owes
 abbrev pub after_end : OwedEvent → OwedEvent
 after_end e = if e.running then record { moment = e.moment; due = e.due; running = false; begun = e.begun; left = e.left && not e.begun } else e
+
+-- a place that passes has this name, at that place in the list of names
+pub record IsNamed (names : List ℕ) (test : (place : ℕ) → Bool) (name : ℕ) : Type 0 where
+  pub place : ℕ
+  pub named : slice_get names place ≡ Some name
+  pub passes : test place ≡ true

@@ -1,10 +1,10 @@
 //! A mode machine.
 
-ghost use Rattle.std.specs.Prelude.{◌≡◌, ◌<◌, ◌≤◌, ◌+◌, ◌^◌, ℕ, IfOk, None, Some, false, if◌then◌else◌, length, map, position, replicate, set, slice_get, true};
+ghost use Rattle.std.specs.Prelude.{◌≡◌, ◌<◌, ◌≤◌, ◌+◌, ◌^◌, ◌⊎◌, ◌&&◌, ℕ, IfOk, None, Some, false, if◌then◌else◌, length, map, position, replicate, set, slice_get, true};
 ghost use Rattle.std.specs.List.{Contains};
 ghost use Rattle.std.specs.Vec.{vec_capacity};
 ghost use Rattle.mode_machine.specs.Disabling.{holds_back, modes_in, row_of};
-ghost use Rattle.mode_machine.specs.Kept.{is_disabled, is_phase, unless_owed, unless_running, after_admit, after_advance, after_end_admitted, after_owed, after_step, after_switch, answer_to_admit, answer_to_advance, answer_to_switch, dependency_at, fresh, is_acked, mode_of, owed_at, with_acks};
+ghost use Rattle.mode_machine.specs.Kept.{IsAcknowledged, IsStartable, is_disabled, is_phase, is_stable, next_after, unless_owed, unless_running, after_admit, after_advance, after_end_admitted, after_owed, after_step, after_switch, answer_to_admit, answer_to_advance, answer_to_switch, dependency_at, fresh, is_acked, mode_of, owed_at, with_acks};
 ghost use Rattle.mode_machine.specs.Owed.{after_end, after_owed_start, may_start};
 
 use crate::Memory;
@@ -185,22 +185,47 @@ impl Machine {
         self.stage = Step::Stable;
     }
 
-    /// Appends the names of the mode switch events that may start, and of the acknowledgement events that are due.
-    fn tell(&self, names: &[u32], ack_names: &[u32], told: &mut Vec<u32>)
+    /// The mode to which the switch goes in a phase.
+    fn next_after(&self, step: Step) -> u32
+        ensures { result ≡ next_after step self.now }
+    {
+        match step {
+            Step::Close(mode) => mode,
+            Step::Exit | Step::Transition | Step::Entry | Step::Stable => self.next,
+        }
+    }
+
+    /// Whether a phase makes the acknowledgement events due.
+    fn acknowledges(&self, step: Step) -> bool
+        ensures { result ≡ (is_stable step && self.now.was_stable) }
+    {
+        match step {
+            Step::Stable => self.was_stable,
+            Step::Close(_) | Step::Exit | Step::Transition | Step::Entry => false,
+        }
+    }
+
+    /// Appends the names of the mode switch events by which a phase makes a start possible, and of the acknowledgement events that it
+    /// makes pending.
+    fn tell(&self, step: Step, names: &[u32], ack_names: &[u32], told: &mut Vec<u32>)
         requires named { length names.now ≡ length self.now.owed }
         requires acks_named { length ack_names.now ≡ length self.now.acks }
         requires room { length told.old.items + (length self.now.owed + length self.now.acks) ≤ vec_capacity told.old }
-        ensures owed { (event name : ℕ) → may_start (owed_at event self.now) ≡ true → slice_get names.now event ≡ Some name → Contains told.new.items name }
-        ensures acks { (event name : ℕ) → is_acked event self.now ≡ true → slice_get ack_names.now event ≡ Some name → Contains told.new.items name }
+        ensures owed { (event name : ℕ) → may_start (owed_at event self.now) ≡ false → may_start (owed_at event (after_step step self.now)) ≡ true → slice_get names.now event ≡ Some name → Contains told.new.items name }
+        ensures acks { (event name : ℕ) → is_acked event self.now ≡ false → is_acked event (after_step step self.now) ≡ true → slice_get ack_names.now event ≡ Some name → Contains told.new.items name }
+        ensures only { (name : ℕ) → Contains told.new.items name → Contains told.old.items name ⊎ (IsStartable names.now self.now (after_step step self.now) name ⊎ IsAcknowledged ack_names.now self.now (after_step step self.now) name) }
         ensures capacity { vec_capacity told.new ≡ vec_capacity told.old }
     {
-        tell_owed(&self.owed, names, told);
-        tell_acks(&self.acks, ack_names, told);
+        let next = self.next_after(step);
+        tell_owed(&self.owed, step, self.settled, next, names, told);
+        if self.acknowledges(step) {
+            tell_acks(&self.acks, ack_names, told);
+        }
     }
 
-    /// Makes the next phase, where it may come (mode switch procedure). Among the names in the list are then those of the events by
-    /// which a start became possible (no clause says that it has no others); each mode switch event and each acknowledgement event
-    /// has a name, at its place in its list of names. A phase costs as much as there are such events.
+    /// Makes the next phase, where it may come (mode switch procedure). The list then has the names of the mode switch events by
+    /// which a start became possible and of the acknowledgement events that became pending, and no others; each of these events has
+    /// a name, at its place in its list of names. A phase costs as much as there are such events.
     pub fn advance(&mut self, names: &[u32], ack_names: &[u32], woken: &mut Vec<u32>) -> Advanced
         requires named { length names.now ≡ length self.old.owed }
         requires acks_named { length ack_names.now ≡ length self.old.acks }
@@ -209,13 +234,14 @@ impl Machine {
         ensures kept { self.new ≡ after_advance result self.old }
         ensures woken { (event name : ℕ) → may_start (owed_at event self.old) ≡ false → may_start (owed_at event self.new) ≡ true → slice_get names.now event ≡ Some name → Contains woken.new.items name }
         ensures acked { (event name : ℕ) → is_acked event self.old ≡ false → is_acked event self.new ≡ true → slice_get ack_names.now event ≡ Some name → Contains woken.new.items name }
+        ensures only { (name : ℕ) → Contains woken.new.items name → IsStartable names.now self.old self.new name ⊎ IsAcknowledged ack_names.now self.old self.new name }
         ensures capacity { vec_capacity woken.new ≡ vec_capacity woken.old }
     {
         woken.clear();
         let advanced = self.next_phase();
         if let Advanced::Did(step) = advanced {
+            self.tell(step, names, ack_names, woken);
             self.make(step);
-            self.tell(names, ack_names, woken);
         }
         advanced
     }

@@ -1,7 +1,7 @@
 //! The events that the phases of a machine owe.
 
 ghost use Rattle.std.specs.Prelude.{◌≡◌, ◌<◌, IfOk, IfSome, map, length, position};
-ghost use Rattle.mode_machine.specs.Owed.{after_end, after_owed_start, may_start, never_owed, owed_by, owes};
+ghost use Rattle.mode_machine.specs.Owed.{after_end, after_owed_start, is_woken, may_start, never_owed, owed_by, owes};
 
 use crate::Memory;
 use rte_value::Step;
@@ -80,6 +80,13 @@ impl OwedEvent {
         ensures { result ≡ may_start self.now }
     {
         self.due && !self.running
+    }
+
+    /// Whether a phase makes a start by it possible that was not so before.
+    pub(crate) fn is_woken(&self, step: Step, settled: u32, next: u32) -> bool
+        ensures { result ≡ is_woken step settled next self.now }
+    {
+        !self.may_start() && self.after_phase(step, settled, next).may_start()
     }
 
     /// The event after a start by it, where one may come.

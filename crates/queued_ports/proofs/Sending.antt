@@ -5,7 +5,7 @@ use Rattle.std.specs.Option.{option_map, unwrap_or}
 use Rattle.std.proofs.lemmas.Bool.{cases_eq, eq-eqb, ne_eqb, false≢true, le-ltb, lt-ltb, ltb-false, ltb-true}
 use Rattle.std.proofs.lemmas.Option.{same_Some, slice_get-map, slice_get_past}
 use Rattle.rte_value.specs.declared.value.Value.{Value}
-use Rattle.latches.specs.Latches.{Latch, after_set}
+use Rattle.latches.specs.Latches.{IsNewlySet, Latch, after_set}
 use Rattle.queued_ports.specs.Kept.{Queue, after_arrival, due_after, has_room, takes}
 
 -- ---- the queues
@@ -182,3 +182,20 @@ all_told names old new told tells at name was now named = of_now (tells at name 
     of_now : (slice_get new at ≡ Some before.latch) ⊎ Contains told name → Contains told name
     of_now (inl still) = absurd (false≢true (sym before.shown ∙ ap (λ (l : Latch). l.is_set) (same_Some before.latch after.latch (sym still ∙ after.is)) ∙ after.shown))
     of_now (inr said) = said
+
+-- ---- and nothing else is told
+
+-- what is told are names that were there at first, and those of flags that were clear and are set
+abbrev pub IsOnly : (names : List ℕ) (old new : List Latch) (first told : List ℕ) → Type 0
+IsOnly names old new first told = (name : ℕ) → Contains told name → Contains first name ⊎ IsNewlySet old new names name
+
+pub only_told : (names : List ℕ) (old new : List Latch) (first told : List ℕ) → first ≡ [] → IsOnly names old new first told → (name : ℕ) → Contains told name → IsNewlySet old new names name
+only_told names old new (x ∷ first) told empty only name among = absurd (cc empty)
+only_told names old new [] told empty only name among = of_now (only name among)
+  where
+    of_now : Contains [] name ⊎ IsNewlySet old new names name → IsNewlySet old new names name
+    of_now (inl before) = let less = before.1 in absurd (omega arith)
+    of_now (inr newly) = newly
+
+pub shown : (latches : List Latch) (at : ℕ) (l : Latch) → slice_get latches at ≡ Some l → slice_get (map (λ (m : Latch). m.is_set) latches) at ≡ Some l.is_set
+shown latches at l is = slice_get-map (λ (m : Latch). m.is_set) latches at ∙ ap (option_map (λ (m : Latch). m.is_set)) is

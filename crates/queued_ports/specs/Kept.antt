@@ -1,5 +1,5 @@
 -- What the queues of joined queued elements keep, and what each call makes of it (SWS_RTE: Rte_Send, Rte_Receive, DataReceivedEvent).
-use Rattle.std.specs.Prelude.{ℕ, List, [], ◌∷◌, ◌++◌, length, map, drop, set, replicate, Bool, true, false, not, ◌||◌, nat_lt, if◌then◌else◌, Option, slice_get}
+use Rattle.std.specs.Prelude.{◌≡◌, ℕ, List, [], ◌∷◌, ◌++◌, length, map, drop, set, replicate, Bool, true, false, not, ◌||◌, nat_lt, if◌then◌else◌, Option, Some, slice_get}
 use Rattle.std.specs.List.{list_any}
 use Rattle.std.specs.Option.{option_map, unwrap_or}
 use Rattle.rte_value.specs.declared.value.Value.{Value}
@@ -100,3 +100,10 @@ answer_to_receive r k = option_map received_of (slice_get k.queues r)
 -- a start clears the pending event
 abbrev pub after_start : (event : ℕ) → Kept → Kept
 after_start e k = record { words = k.words; queues = k.queues; events = k.events; due = set k.due e false }
+
+-- an event with this name, at its place in the list of names, was not pending before and is pending now
+pub record IsWoken (names : List ℕ) (before now : Kept) (name : ℕ) : Type 0 where
+  pub event : ℕ
+  pub named : slice_get names event ≡ Some name
+  pub was : slice_get before.due event ≡ Some false
+  pub is : slice_get now.due event ≡ Some true

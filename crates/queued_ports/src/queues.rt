@@ -4,7 +4,7 @@ ghost use Rattle.std.specs.Prelude.{◌≡◌, ◌<◌, ◌≤◌, ◌^◌, ℕ,
 ghost use Rattle.std.specs.List.{Contains};
 ghost use Rattle.std.specs.Vec.{vec_capacity};
 ghost use Rattle.rte_value.specs.Values.{words_of};
-ghost use Rattle.queued_ports.specs.Kept.{after_receive, after_send, after_start, answer_to_receive, answer_to_send, fresh};
+ghost use Rattle.queued_ports.specs.Kept.{IsWoken, after_receive, after_send, after_start, answer_to_receive, answer_to_send, fresh};
 
 use crate::Memory;
 use crate::lanes::Lanes;
@@ -64,9 +64,9 @@ impl Queues {
     }
 
     /// Sends a value to each receiver whose queue has room, and discards it at each other (Rte_Send). The answer is 130
-    /// RTE_E_LIMIT exactly where one queue was full, else 0. Among the names in the list are then those of the events that became
-    /// pending (no clause says that it has no others); each event has a name, at its place in the list of names. The call costs as
-    /// much as there are receivers, and events that become pending.
+    /// RTE_E_LIMIT exactly where one queue was full, else 0. The list then has the names of the events that became pending, and
+    /// no others; each event has a name, at its place in the list of names. The call costs as much as there are receivers, and
+    /// events that become pending.
     pub fn send(&mut self, value: &Value, names: &[u32], woken: &mut Vec<u32>) -> Code
         requires fits { length (words_of value.now) ≡ self.old.words }
         requires named { length names.now ≡ length self.old.events }
@@ -74,6 +74,7 @@ impl Queues {
         ensures answer { result ≡ answer_to_send self.old }
         ensures kept { self.new ≡ after_send value.now self.old }
         ensures woken { (event name : ℕ) → slice_get self.old.due event ≡ Some false → slice_get self.new.due event ≡ Some true → slice_get names.now event ≡ Some name → Contains woken.new.items name }
+        ensures only { (name : ℕ) → Contains woken.new.items name → IsWoken names.now self.old self.new name }
         ensures capacity { vec_capacity woken.new ≡ vec_capacity woken.old }
     {
         woken.clear();

@@ -6,14 +6,14 @@ use Rattle.std.specs.Cmp.{unsigned_Decides}
 use Rattle.std.specs.Option.{option_map}
 use Rattle.std.proofs.Math.Nat.{mod_self, mod-eq_of_lt}
 use Rattle.std.proofs.lemmas.Bool.{cases_eq, cases_lt, eq-eqb, ne_eqb, or_left, or_right}
-use Rattle.std.proofs.lemmas.List.{get_or-map, get_or-set_other, get_or-set_same}
+use Rattle.std.proofs.lemmas.List.{get_or-map, get_or-set_other, get_or-set_same, length-map, length-set}
 use Rattle.std.proofs.lemmas.List.Elements.{All-head, All-map, All-set, All-tail}
 use Rattle.std.proofs.lemmas.List.Sums.{sum_by-set}
 use Rattle.std.proofs.lemmas.Option.{slice_get-map, slice_get_within, get_or_from_slice_get}
 use Rattle.latches.specs.Latches.{Latch, after_set}
 use Rattle.tick_events.specs.Countdowns.{Countdown, one_less, whole}
 use Rattle.tick_events.specs.Kept as kept
-use Rattle.tick_events.specs.Running.{IsWithin, countdown_of, kept_at, kept_timer, pending, settled_at, settled_timer}
+use Rattle.tick_events.specs.Running.{AreFit, IsRunning, IsWithin, countdown_of, kept_at, kept_timer, pending, settled_at, settled_timer}
 
 -- two that keep the same
 same_kept : (p q r : ℕ) (d e : Bool) → q ≡ r → d ≡ e → ◌≡◌ {A = kept.Timer} (record { period = p; passed = q; due = d }) (record { period = p; passed = r; due = e })
@@ -160,3 +160,31 @@ pending_after before now group event set due = of_flag (slice_get before event) 
 -- each flag has its countdown still
 pub there_still : (cs now : List Countdown) (ls : List Latch) (group : ℕ) → length now ≡ length cs → All (λ (l : Latch). l.group < length cs) ls → All (λ (l : Latch). l.group < length now) (map (after_set group) ls)
 there_still cs now ls group count there = All-map (λ (l : Latch). l.group < length now) (after_set group) ls (λ k d at. let below = there k d at in omega (arith, count))
+
+-- one countdown begun anew, and the flags of its group set
+module _ (cs new : List Countdown) (b : ℕ) (c : Countdown) (ls now : List Latch) (found : slice_get cs b ≡ Some c) where
+  pub fit_anew : new ≡ set cs b (whole c.period) → now ≡ map (after_set b) ls → AreFit cs ls → AreFit new now
+  fit_anew anew set_all fit = record {
+    within = subst (All IsWithin) (sym anew) (all_within cs b c found fit.within);
+    there = subst (All (λ (l : Latch). l.group < length new)) (sym set_all) (there_still cs new ls b (ap length anew ∙ length-set cs b (whole c.period)) fit.there);
+  }
+
+  pub settled_anew : c.left ≡ 0 → new ≡ set cs b (whole c.period) → now ≡ map (after_set b) ls → All IsWithin cs → map (settled_timer new) now ≡ map (settled_timer cs) ls
+  settled_anew ended anew set_all within =
+      (λ i. map (settled_timer (anew i)) (set_all i)) ∙ all_anew cs b c ls found ended (within_at cs b c found within)
+
+-- ---- the whole tick
+
+-- with one less left, each flag has its countdown
+pub fit_ticked : (cs new : List Countdown) (ls : List Latch) → new ≡ map one_less cs → IsRunning cs ls → AreFit new ls
+fit_ticked cs new ls ticked was =
+    subst (λ (ds : List Countdown). AreFit ds ls) (sym ticked)
+    (record { within = one_less_within cs was.fit.within; there = subst (λ n. All (λ (l : Latch). l.group < n) ls) (sym (length-map cs one_less)) was.fit.there })
+
+pub kept_ticked : (cs ticked new : List Countdown) (ls now : List Latch) → ticked ≡ map one_less cs → IsRunning cs ls → IsRunning new now → map (settled_timer new) now ≡ map (settled_timer ticked) ls
+    → map (kept_timer new) now ≡ map kept.ticked (map (kept_timer cs) ls)
+kept_ticked cs ticked new ls now less was running settled =
+    sym (all_settled new now running.fit.within running.going running.fit.there)
+    ∙ settled
+    ∙ ap (λ (ds : List Countdown). map (settled_timer ds) ls) less
+    ∙ all_ticked cs ls was.fit.within was.going was.fit.there

@@ -1,5 +1,5 @@
 -- What the clock keeps, and what each call makes of it (SWS_RTE: TimingEvent, InitEvent).
-use Rattle.std.specs.Prelude.{ℕ, suc, ◌%◌, ◌==◌, ◌||◌, List, map, replicate, set, Bool, true, false, Option, option_map, slice_get}
+use Rattle.std.specs.Prelude.{◌≡◌, ℕ, suc, ◌%◌, ◌==◌, ◌||◌, List, map, replicate, set, Bool, true, false, Option, Some, option_map, slice_get}
 use Rattle.std.specs.Option.{option_map_or}
 
 -- a TimingEvent: its period in ticks of one millisecond, how many ticks there were modulo the period, and whether a tick that
@@ -43,3 +43,10 @@ after_init e k = record { timers = k.timers; unstarted = set k.unstarted e false
 -- whether a TimingEvent is due; none for one that there is not
 abbrev pub is_due : (event : ℕ) → Kept → Option Bool
 is_due e k = option_map (λ (t : Timer). t.due) (slice_get k.timers e)
+
+-- a TimingEvent with this name, at its place in the list of names, was not pending before and is now
+pub record IsRung (names : List ℕ) (before now : Kept) (name : ℕ) : Type 0 where
+  pub event : ℕ
+  pub named : slice_get names event ≡ Some name
+  pub was : is_due event before ≡ Some false
+  pub is : is_due event now ≡ Some true

@@ -3,11 +3,11 @@
 ghost use Rattle.std.specs.Prelude.{◌≡◌, ◌<◌, ◌≤◌, ℕ, length, IfOk, slice_get, Some, true, false, All};
 ghost use Rattle.std.specs.List.{Contains};
 ghost use Rattle.std.specs.Vec.{vec_capacity};
-ghost use Rattle.tick_events.specs.Kept.{fresh, after_tick, after_timing, after_init, is_due};
+ghost use Rattle.tick_events.specs.Kept.{IsRung, fresh, after_tick, after_timing, after_init, is_due};
 
 use crate::Memory;
 use crate::countdowns::Countdowns;
-use crate::ringing::ring;
+use crate::ringing::{ring, ring_and_tell};
 use indexmap::IndexSet;
 use latches::Latches;
 use std::alloc::Global;
@@ -60,20 +60,29 @@ impl Clock {
         })
     }
 
-    /// One tick more, of one millisecond: each TimingEvent whose period is complete is pending. `rung` then has the name of
-    /// each that was not pending before; `names` has a name for each TimingEvent.
+    /// One tick more, of one millisecond: each TimingEvent whose period is complete is pending.
     ///
-    /// It looks at the countdowns that end, of which there is one for each distinct period, and at what it tells.
-    pub fn tick(&mut self, names: &[u32], rung: &mut Vec<u32>)
+    /// It looks at the countdowns that end, of which there is one for each distinct period, and at what they make pending.
+    pub fn tick(&mut self)
+        ensures kept { self.new ≡ after_tick self.old }
+    {
+        self.countdowns.tick();
+        ring(&mut self.pending, &mut self.countdowns);
+    }
+
+    /// A tick, at the same cost, after which `rung` has the names of the TimingEvents that it made pending; `names` has a
+    /// name for each TimingEvent.
+    pub fn tick_and_tell(&mut self, names: &[u32], rung: &mut Vec<u32>)
         requires named { length names.now ≡ length self.old.timers }
         requires room { length self.old.timers ≤ vec_capacity rung.old }
         ensures kept { self.new ≡ after_tick self.old }
         ensures rung { (event name : ℕ) → is_due event self.old ≡ Some false → is_due event self.new ≡ Some true → slice_get names.now event ≡ Some name → Contains rung.new.items name }
+        ensures only { (name : ℕ) → Contains rung.new.items name → IsRung names.now self.old self.new name }
         ensures capacity { vec_capacity rung.new ≡ vec_capacity rung.old }
     {
         rung.clear();
         self.countdowns.tick();
-        ring(&mut self.pending, &mut self.countdowns, names, rung);
+        ring_and_tell(&mut self.pending, &mut self.countdowns, names, rung);
     }
 
     /// Whether the TimingEvent is pending.

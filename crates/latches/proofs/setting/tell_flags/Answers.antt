@@ -7,7 +7,7 @@ use Rattle.latches.proofs.Grouped.{group_set}
 use Rattle.std.proofs.lemmas.List.Elements.{Contains-push}
 use Rattle.latches.proofs.Listed.{last_within, one_set, same_after, all_listed_set}
 use Rattle.latches.proofs.Places.{found_at}
-use Rattle.latches.proofs.Told.{Tells, tells_on, tells_all}
+use Rattle.latches.proofs.Told.{Stays, Tells, only_on, stays_on, tells_on, tells_all}
 use Rattle.latches.proofs.setting.tell_flags.Goals as goal
 
 pub tell-requires-clause-within : goal.tell-requires-clause-within
@@ -29,6 +29,8 @@ loop-place-preserved c =
       same = ap (map (after_set c.args.group)) now ∙ same_after c.args.group xs places p x last.is all ∙ c.loop-place.invariant.same;
       capacity = c.in-Some.ensures.capacity ∙ c.loop-place.invariant.capacity;
       tells = subst (λ ys. Tells c.args.group c.args.names.now c.args.flags.now ys c.tell.new.told.items) (sym now) (tells_on c.args.group c.args.names.now c.args.flags.now xs c.loop-place.told.items c.tell.new.told.items p (set_in x.group) c.loop-place.invariant.tells c.tell.ensures.told c.tell.ensures.kept);
+      stays = subst (Stays c.args.flags.now) (sym now) (stays_on c.args.flags.now xs p x.group c.loop-place.invariant.stays);
+      only = only_on c.args.group c.args.names.now c.args.flags.now xs c.args.told.now.items c.loop-place.told.items c.tell.new.told.items p x last.is last.group_is c.loop-place.invariant.stays c.loop-place.invariant.only (λ name. c.tell.ensures.only x name last.is);
       kept = λ name before. c.tell.ensures.kept name (c.loop-place.invariant.kept name before);
       room = omega (arith, c.tell.ensures.room, c.loop-place.invariant.room);
       told_capacity = c.tell.ensures.capacity ∙ c.loop-place.invariant.told_capacity;

@@ -1,12 +1,14 @@
-use Rattle.std.proofs.Common.{◌≡◌, ◌<◌, ◌≤◌, ◌+◌, ℕ, Some, true, false, length, get_or}
-use Rattle.std.specs.List.{Contains, slice_get}
+use Rattle.std.proofs.Common.{◌≡◌, ◌≤◌, ◌+◌, ℕ, false, not, length, get_or}
+use Rattle.std.specs.List.{Contains}
 use Rattle.std.specs.Vec.{vec_capacity}
+use Rattle.mode_machine.proofs.Told.{TellsBelow, TellsOnly}
 use Rattle.mode_machine.proofs.telling.tell_acks.Given as goal
 
 abbrev pub invariant-loop-at : goal.invariant-loop-at
 invariant-loop-at l = record {
-  told : (k name : ℕ) → k < l.at → get_or l.acks k false ≡ true → slice_get l.names k ≡ Some name → Contains l.told.items name;
+  told : TellsBelow l.names (λ k. not (get_or l.acks k false)) l.at l.told.items;
   kept : (other : ℕ) → Contains l.initial.told.items other → Contains l.told.items other;
+  only : TellsOnly l.names (λ k. not (get_or l.acks k false)) l.initial.told.items l.told.items;
   room : length l.told.items ≤ length l.initial.told.items + l.at;
   capacity : vec_capacity l.told ≡ vec_capacity l.initial.told;
 }

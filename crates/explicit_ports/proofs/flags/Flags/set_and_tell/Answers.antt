@@ -1,10 +1,10 @@
-use Rattle.std.proofs.Common.{◌≡◌, ◌∙◌, ap, sym, subst, length, replicate, true, false}
-use Rattle.std.specs.List.{slice_get}
+use Rattle.std.proofs.Common.{◌≡◌, ◌∙◌, ap, sym, subst, length, replicate, true, false, ℕ, ◌⊎◌, inl, inr}
+use Rattle.std.specs.List.{slice_get, Contains}
 use Rattle.std.proofs.lemmas.List.Elements.{All-map, All-get_or}
 use Rattle.std.proofs.lemmas.Option.{slice_get_within, get_or_from_slice_get}
-use Rattle.latches.specs.Latches.{Latch, after_set}
-use Rattle.explicit_ports.specs.Flags.{are_set, AreOneGroup}
-use Rattle.explicit_ports.proofs.OneGroup.{all_set, behind}
+use Rattle.latches.specs.Latches.{Latch, after_set, IsNamedIn}
+use Rattle.explicit_ports.specs.Flags.{are_set, AreOneGroup, IsOfClear}
+use Rattle.explicit_ports.proofs.OneGroup.{all_set, behind, told_of}
 use Rattle.explicit_ports.proofs.flags.Flags.set_and_tell.Goals as goal
 
 pub invariant_of-self : goal.invariant_of-self
@@ -19,3 +19,10 @@ returns-clause-told c = λ at name clear named.
     let flag = behind ls at false (ap (λ bs. slice_get bs at) c.self.view_is ∙ clear) in
     let one = All-get_or (λ (l : Latch). l.group ≡ 0) ls at flag.latch (slice_get_within ls at flag.latch flag.is) c.self.invariant in
     c.set_and_tell.ensures.told at name flag.latch flag.is (ap (λ (l : Latch). l.group) (sym (get_or_from_slice_get ls at flag.latch flag.latch flag.is)) ∙ one) flag.shown named
+
+pub returns-clause-only : goal.returns-clause-only
+returns-clause-only c = λ name among. by_case name (c.set_and_tell.ensures.only name among)
+  where
+    by_case : (name : ℕ) → Contains c.args.told.now.items name ⊎ IsNamedIn 0 c.self.inside.latches c.args.names.now name → Contains c.args.told.now.items name ⊎ IsOfClear c.args.self.now c.args.names.now name
+    by_case name (inl before) = inl before
+    by_case name (inr of) = inr (told_of c.self.inside.latches c.args.self.now 0 c.args.names.now name c.self.view_is of)
