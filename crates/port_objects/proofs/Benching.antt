@@ -10,13 +10,13 @@ use Rattle.bus_semantics.specs.Plan.{Plan}
 use Rattle.bus_semantics.specs.Wanted.{Wanted}
 use Rattle.bus_semantics.specs.Objects.{clock, object_of, touched, IsObject}
 use Rattle.port_objects.specs.declared.object.Object.{Object}
-use Rattle.port_objects.specs.declared.acting.Acted.{Acted}
-use Rattle.port_objects.specs.declared.acting.Acted.TheVariants as acted
+use Rattle.object_kinds.specs.declared.acted.Acted.{Acted}
+use Rattle.object_kinds.specs.declared.acted.Acted.TheVariants as acted
+use Rattle.object_kinds.proofs.Lists.{set_same}
 use Rattle.port_objects.specs.Objects.{IsOfPlan, ArePlans}
 use Rattle.port_objects.specs.Plans.{HasObjects}
 use Rattle.port_objects.specs.Answers.{IsAnswer}
 use Rattle.port_objects.specs.Benches.{ActedOn}
-use Rattle.port_objects.proofs.Taking.{set_same}
 
 pub touched_is : (p : Plan) (a : Actor) (w : Wanted) (n : ℕ) → object_of p a w ≡ Some n → touched p a w ≡ n
 touched_is p a w n e = ap (λ o. unwrap_or o 0) e
@@ -58,6 +58,6 @@ acted_on p n a w objects before now (acted.Done e) found made = record { before 
 acted_on p n a w objects before now (acted.NotYet shown) found held = record {
   before = before;
   found = found;
-  held = record { why = held.why; same = refl; none = held.none };
+  held = record { why = held.why; same = refl; none = held.none; flag = held.flag };
   same = ap (λ xs. Some xs) (ap (set objects n) held.same ∙ set_same objects n before found);
 }

@@ -1,23 +1,9 @@
-pub mod Placing
-pub mod GroupLeads
-pub mod ClockLeads
-pub mod Leads
-pub mod Rising
-pub mod Taking
-pub mod Members
-pub mod GroupTaking
-pub mod Answering
-pub mod Opening
-pub mod Opened
-pub mod Ranges
-pub mod Plain
-pub mod Complete
-pub mod Single
-pub mod Sounds
-pub mod Parts
-pub mod Coming
-pub mod Staying
-pub mod Benching
-pub mod Unheld
-pub mod Pending
-pub mod Telling
+mod Gate
+mod Rows
+mod Asking
+mod Answering
+mod Benching
+mod Opened
+mod Sounds
+mod Freeing
+mod Closed

@@ -1,6 +1,6 @@
 -- A sound plan has what its objects need, and a wish that fits touches an object that there is.
-use Rattle.std.proofs.Common.{◌≡◌, ℕ, zero, suc, ◌+◌, ◌<◌, Bool, true, ◌&&◌, ◌==◌, refl, ◌∙◌, ap, subst, arith, List, [], ◌∷◌, length, Option, Some, None}
-use Rattle.std.specs.Prelude.{IfSome, nat_lt, nat_le, option_map}
+use Rattle.std.proofs.Common.{◌≡◌, ℕ, zero, suc, ◌+◌, ◌<◌, ◌^◌, Bool, true, false, not, ◌&&◌, ◌==◌, refl, sym, ◌∙◌, ap, subst, arith, List, [], ◌∷◌, length, map, Option, Some, None}
+use Rattle.std.specs.Prelude.{IfSome, nat_lt, nat_le, option_map, sum}
 use Rattle.std.specs.List.{list_all, slice_get}
 use Rattle.std.proofs.lemmas.Bool.{and_parts, eqb-true, false≢true}
 use Rattle.std.proofs.lemmas.Bool.Decides.{nat_tests}
@@ -13,25 +13,68 @@ use Rattle.bus_semantics.specs.declared.plan.EventKind.TheVariants.{Timing, Init
 use Rattle.bus_semantics.specs.declared.script.Mapping.{Mapping}
 use Rattle.bus_semantics.specs.declared.entries.Actor.{Actor}
 use Rattle.bus_semantics.specs.declared.entries.Actor.TheVariants.{Env, Machine, Act}
-use Rattle.bus_semantics.specs.Plan.{Plan, every_from, group_of, kind_of, instance_of, server_of, machine_of_port}
-use Rattle.bus_semantics.specs.Wanted.{Wanted, to_tick, to_start, to_admit, to_fetch, to_write, to_read, to_invalidate, to_see_updated, to_send, to_receive, to_ask, to_hear, to_take_result, to_return, to_enter, to_leave, to_switch, to_see_mode, to_move_on, to_publish, to_end}
-use Rattle.bus_semantics.specs.Objects.{first_server, first_area, first_machine, clock, object_of, object_of_kind, disabler_of, machine_of_event, owing, served_by, IsObject}
+use Rattle.bus_semantics.specs.declared.entries.Deed.{Deed}
+use Rattle.bus_semantics.specs.declared.entries.Deed.TheVariants as deed
+use Rattle.bus_semantics.specs.Plan.{Plan, look, every_from, group_of, kind_of, instance_of, server_of, machine_of_port}
+use Rattle.bus_semantics.specs.Wanted.{Wanted, to_tick, to_start, to_admit, to_fetch, to_write, to_read, to_invalidate, to_see_updated, to_send, to_receive, to_ask, to_hear, to_take_result, to_return, to_enter, to_leave, to_switch, to_see_mode, to_move_on, to_publish, to_end, wanted_by}
+use Rattle.bus_semantics.specs.History.{Noted}
+use Rattle.bus_semantics.specs.Objects.{first_server, first_area, first_machine, clock, object_of, object_of_kind, disabler_of, machine_of_event, owing, served_by, touched_by, IsObject}
 use Rattle.bus_semantics.specs.Owners.{area_fits, switch_fits}
-use Rattle.bus_semantics.specs.Fitting.{wish_fits}
+use Rattle.bus_semantics.specs.Fitting.{wish_fits, answer_fits, fits}
 use Rattle.bus_semantics.specs.SoundEvents.{event_sound, kind_sound}
+use Rattle.bus_semantics.specs.Unqueued.{is_in_group}
+use Rattle.bus_semantics.specs.Queued.{places_at}
 use Rattle.bus_semantics.specs.Sound.{IsSound}
-use Rattle.port_objects.specs.Plans.{HasObjects, has_period}
-use Rattle.port_objects.proofs.Opened.{group_within}
-use Rattle.port_objects.proofs.Plain.{by_actor}
-use Rattle.port_objects.proofs.Ranges.{sought, kind_fits, invoked_server, switching_machine, acked_machine, disabling_machine, joined_server, port_machine, serving_server}
+use Rattle.queue_objects.specs.Layout.{receivers_of, is_queued_at, IsQueuedGroup}
+use Rattle.clock_objects.specs.Layout.{has_period}
+use Rattle.object_kinds.specs.Layout.{members_of}
+use Rattle.object_kinds.proofs.Lists.{all_at}
+use Rattle.object_kinds.proofs.Members.{group_within, member_placed, members_all}
+use Rattle.object_kinds.proofs.Placing.{place_at}
+use Rattle.object_kinds.proofs.Proper.{by_actor}
+use Rattle.object_kinds.proofs.Ranges.{sought, kind_fits, invoked_server, switching_machine, acked_machine, disabling_machine, joined_server, port_machine, serving_server}
+use Rattle.port_objects.specs.Plans.{has_queues, QueuesFit, IsOfOneKind, HasObjects}
 
 all_where : {X : Type 0} (test : X → Bool) (xs : List X) → ((i : ℕ) (x : X) → slice_get xs i ≡ Some x → test x ≡ true) → list_all test xs ≡ true
 all_where test [] each = refl
 all_where test (x ∷ xs) each = ap (λ b. b && list_all test xs) (each zero x refl) ∙ all_where test xs (λ i y there. each (suc i) y there)
 
-pub has_objects : (p : Plan) (m : Mapping) → IsSound p m → HasObjects p
-has_objects p m sound = record {
+-- a group of a sound plan with a queued element is a group of queued elements
+abbrev QueuedWhole : Plan → Type 0
+QueuedWhole p = (group elem : ℕ) → is_in_group p group elem ≡ true → is_queued_at p elem ≡ true → IsQueuedGroup p group
+
+-- so all its elements are of the kind of its first one
+by_first : (p : Plan) (g : ℕ) (xs : List ℕ) → members_of p g ≡ xs → QueuedWhole p → (x : ℕ) → is_in_group p g x ≡ true → is_queued_at p x ≡ true → look xs 0 (is_queued_at p) false ≡ true
+by_first p g [] none whole x inside queued = let at = member_placed p g x inside in absurd (cc (sym (ap (λ ys. slice_get ys at.at) none) ∙ place_at x (members_of p g) at.at at.is))
+by_first p g (y ∷ ys) first whole x inside queued =
+    (and_parts (is_queued_at p y) (list_all (is_queued_at p) ys) (sym (ap (list_all (is_queued_at p)) first) ∙ (whole g x inside queued).queued)).0
+
+one_kind : (p : Plan) (g : ℕ) → g < length p.groups → QueuedWhole p → (IsQueuedGroup p g → sum (map (places_at p) (receivers_of p g)) < 2 ^ 32) → (b : Bool) → has_queues p g ≡ b → IsOfOneKind p g b
+one_kind p g within whole few true is = by_members (members_of p g) refl is
+  where
+    by_members : (xs : List ℕ) → members_of p g ≡ xs → look xs 0 (is_queued_at p) false ≡ true → QueuesFit p g
+    by_members [] none first = absurd (false≢true first)
+    by_members (y ∷ ys) members first =
+        let inside : is_in_group p g y ≡ true = all_at (is_in_group p g) (members_of p g) 0 y (members_all p g) (ap (λ xs. slice_get xs 0) members) in
+        let queued = whole g y inside first in
+        record { queued = queued; places = few queued }
+one_kind p g within whole few false is = record { number = within; unqueued = none_queued (members_of p g) (members_all p g) }
+  where
+    is_unqueued : (x : ℕ) → is_in_group p g x ≡ true → (b : Bool) → is_queued_at p x ≡ b → not b ≡ true
+    is_unqueued x inside false queued = refl
+    is_unqueued x inside true queued = absurd (false≢true (sym is ∙ by_first p g (members_of p g) refl whole x inside queued))
+
+    none_queued : (xs : List ℕ) → list_all (is_in_group p g) xs ≡ true → list_all (λ x. not (is_queued_at p x)) xs ≡ true
+    none_queued [] all = refl
+    none_queued (x ∷ xs) all =
+        let parts = and_parts (is_in_group p g x) (list_all (is_in_group p g) xs) all in
+        λ i. is_unqueued x parts.0 (is_queued_at p x) refl i && none_queued xs parts.1 i
+
+pub has_objects : (p : Plan) (m : Mapping) → (sound : IsSound p m) → ((group elem : ℕ) → IsSound p m → is_in_group p group elem ≡ true → is_queued_at p elem ≡ true → IsQueuedGroup p group)
+    → ((group : ℕ) → IsSound p m → IsQueuedGroup p group → sum (map (places_at p) (receivers_of p group)) < 2 ^ 32) → HasObjects p
+has_objects p m sound whole few = record {
   groups = sound.groups;
+  kinds = λ g within. one_kind p g within (λ h x. whole h x sound) (few g sound) (has_queues p g) refl;
   counted = sound.objects;
   few_events = (and_parts (every_from 0 (event_sound p) p.events) (nat_le (length p.events) 16384) sound.events).1;
   periods = all_where (λ (v : EventPlan). has_period v.kind) p.events (λ i v there. of_kind i v.runnable (instance_of p v.runnable) v.kind (kind_fits p m sound i v there));
@@ -139,3 +182,13 @@ module _ (p : Plan) (m : Mapping) (sound : IsSound p m) where
       let less : n < length p.machines = grind (arith, nat_tests) in
       this_machine n less
   touches_an_object a (to_end e) fit = a_machine (machine_of_event p e) (matters e)
+
+  pub entry_touches_an_object : (n : Noted) → fits p n.entry ≡ true → IfSome (touched_by p n) (IsObject p)
+  entry_touches_an_object n fit = by_deed n.entry.actor n.entry.deed n.event fit
+    where
+      by_deed : (a : Actor) (d : Deed) (event : Option ℕ) → fits p (record { actor = a; deed = d }) ≡ true → IfSome (touched_by p (record { entry = record { actor = a; deed = d }; event = event })) (IsObject p)
+      by_deed a (deed.Admit admitted) None fit = tt
+      by_deed a (deed.Admit admitted) (Some e) fit = a_machine (disabler_of p e) (disabling_machine p m sound e)
+      by_deed a deed.End None fit = tt
+      by_deed a deed.End (Some e) fit = a_machine (machine_of_event p e) (matters e)
+      by_deed a d event fit = touches_an_object a (wanted_by 0 d) (and_parts (wish_fits p a (wanted_by 0 d)) (answer_fits p a d) fit).0

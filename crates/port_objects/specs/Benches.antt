@@ -10,9 +10,9 @@ use Rattle.bus_semantics.specs.Fitting.{wish_fits, answer_fits}
 use Rattle.bus_semantics.specs.Objects.{object_of, IsObject}
 use Rattle.bus_semantics.specs.Asked.{event_of, asks_its_own}
 use Rattle.port_objects.specs.declared.object.Object.{Object}
-use Rattle.port_objects.specs.declared.acting.Shown.{Shown}
-use Rattle.port_objects.specs.declared.acting.Acted.{Acted}
-use Rattle.port_objects.specs.declared.acting.Acted.TheVariants as acted
+use Rattle.object_kinds.specs.declared.acted.Shown.{Shown}
+use Rattle.object_kinds.specs.declared.acted.Acted.{Acted}
+use Rattle.object_kinds.specs.declared.acted.Acted.TheVariants as acted
 use Rattle.port_objects.specs.declared.bench.Benched.{Benched}
 use Rattle.port_objects.specs.declared.bench.Benched.TheVariants.{Done, NotYet, Contended}
 use Rattle.port_objects.specs.Answers.{IsMade, IsHeld}
@@ -70,21 +70,21 @@ pub record MadeOn (p : Plan) (object : ℕ) (a : Actor) (w : Wanted) (objects : 
   pub made : IsMade p object a w before now e
   pub others : after ≡ Some (set objects object now)
 
-pub record HeldOn (p : Plan) (object : ℕ) (w : Wanted) (objects : List Object) (after : Option (List Object)) (shown : Shown) : Type 0 where
+pub record HeldOn (p : Plan) (object : ℕ) (a : Actor) (w : Wanted) (objects : List Object) (after : Option (List Object)) (shown : Shown) : Type 0 where
   pub before : Object
   pub found : slice_get objects object ≡ Some before
-  pub held : IsHeld p object w before before shown
+  pub held : IsHeld p object a w before before shown
   pub same : after ≡ Some objects
 
 abbrev pub ActedOn : Plan → (object : ℕ) → Actor → Wanted → (old new : List Object) → Acted → Type 0
 ActedOn p n a w objects after (acted.Done e) = MadeOn p n a w objects (Some after) e
-ActedOn p n a w objects after (acted.NotYet shown) = HeldOn p n w objects (Some after) shown
+ActedOn p n a w objects after (acted.NotYet shown) = HeldOn p n a w objects (Some after) shown
 
 -- where it tells its objects, it never answers Contended
 abbrev pub ObjectsAfter : Plan → (object : ℕ) → Actor → Wanted → (old new : Option (List Object)) → Benched → Type 0
 ObjectsAfter p n a w None new r = new ≡ None
 ObjectsAfter p n a w (Some objects) new (Done s) = MadeOn p n a w objects new s.entry
-ObjectsAfter p n a w (Some objects) new (NotYet shown) = HeldOn p n w objects new shown
+ObjectsAfter p n a w (Some objects) new (NotYet shown) = HeldOn p n a w objects new shown
 ObjectsAfter p n a w (Some objects) new Contended = ⊥
 
 -- ---- its work, where it tells it
@@ -111,6 +111,30 @@ abbrev pub WorkAfter : Option Work → Option Work → Benched → Type 0
 WorkAfter old new (Done s) = IsFurther old new (s ∷ []) 0 0
 WorkAfter old new (NotYet shown) = IsFurther old new [] 1 0
 WorkAfter old new Contended = IsFurther old new [] 0 1
+
+-- ---- all that a bench tells
+
+-- how many entries it can still make, its next stamp, its objects, its work
+pub record Told : Type 0 where
+  pub room : ℕ
+  pub next : Option ℕ
+  pub objects : Option (List Object)
+  pub work : Option Work
+
+-- after a wish on an object
+pub record IsActed (p : Plan) (object : ℕ) (a : Actor) (w : Wanted) (old new : Told) (r : Benched) : Type 0 where
+  pub entry : EntryIsFor p a w r
+  pub room : RoomAfter old.room new.room r
+  pub next : StampAfter old.next new.next (added_by r)
+  pub objects : ObjectsAfter p object a w old.objects new.objects r
+  pub work : WorkAfter old.work new.work r
+
+-- after an entry that touches no object
+pub record IsStamped (old new : Told) (s : Stamped) : Type 0 where
+  pub room : old.room ≡ suc new.room
+  pub next : StampAfter old.next new.next (Some s)
+  pub objects : new.objects ≡ old.objects
+  pub work : IsFurther old.work new.work (s ∷ []) 0 0
 
 -- ---- a plain bench
 

@@ -12,12 +12,10 @@ use Rattle.bus_semantics.specs.Asked.{noted_for, asks_its_own, MayCome}
 use Rattle.bus_semantics.specs.Sound.{IsSound}
 use Rattle.port_objects.specs.Kept.{Kept}
 use Rattle.port_objects.specs.Standing.{Stands}
-use Rattle.port_objects.specs.Plans.{IsUnqueuedPlan}
 
--- the plan is a sound one of unqueued data, the wish fits its actor, and its object stands for these entries
+-- the plan is sound, the wish fits its actor, and its object stands for these entries
 pub record MayAsk (p : Plan) (m : Mapping) (a : Actor) (w : Wanted) (k : Kept) (l : Past) : Type 0 where
   pub sound : IsSound p m
-  pub unqueued : IsUnqueuedPlan p
   pub fits : wish_fits p a w ≡ true
   pub own : asks_its_own p a w ≡ true
   pub stands : Stands p (touched p a w) k l

@@ -1,9 +1,13 @@
--- What the objects keep, as plain data: each with the events of the plan that wait for it.
-use Rattle.std.specs.Prelude.{ℕ, List}
-use Rattle.explicit_ports.specs.Kept as data_kept
-use Rattle.tick_events.specs.Kept as clock_kept
+-- What the objects keep, as plain data: one case for each kind.
+use Rattle.data_objects.specs.Kept as groups
+use Rattle.queue_objects.specs.Kept as queues
+use Rattle.area_objects.specs.Kept as areas
+use Rattle.clock_objects.specs.Kept as clocks
 
--- a group of unqueued data elements, or the clock
 pub data Kept : Type 0 where
-  of_group : (events : List ℕ) → data_kept.Kept → Kept
-  of_clock : (timings : List ℕ) → (inits : List ℕ) → clock_kept.Kept → Kept
+  -- a group of unqueued data elements, or a variable
+  of_group : groups.Kept → Kept
+  -- a group of queued data elements
+  of_queues : queues.Kept → Kept
+  of_area : areas.Kept → Kept
+  of_clock : clocks.Kept → Kept

@@ -1,18 +1,21 @@
 -- What the objects of a plan keep before anything has happened.
-use Rattle.std.specs.Prelude.{ℕ, List, [], ◌∷◌, ◌++◌, map, length}
-use Rattle.bus_semantics.specs.Plan.{Plan, kind_of, positions}
-use Rattle.explicit_ports.specs.Kept as data_kept
-use Rattle.tick_events.specs.Kept as clock_kept
-use Rattle.port_objects.specs.Layout.{members_of, initial_of, events_of, waits_for_data, is_timing, is_init, period_in, receiver_of}
-use Rattle.port_objects.specs.Kept.{Kept, of_group, of_clock}
+use Rattle.std.specs.Prelude.{ℕ, List, [], ◌∷◌, ◌++◌, map, length, Bool, true, false}
+use Rattle.bus_semantics.specs.Plan.{Plan, positions}
+use Rattle.data_objects.specs.Kept as groups
+use Rattle.queue_objects.specs.Kept as queues
+use Rattle.area_objects.specs.Kept as areas
+use Rattle.clock_objects.specs.Kept as clocks
+use Rattle.port_objects.specs.Kept.{Kept, of_group, of_queues, of_area, of_clock}
+use Rattle.port_objects.specs.Plans.{has_queues}
 
-abbrev pub opening_group : Plan → (group : ℕ) → Kept
-opening_group p g = of_group (events_of p (waits_for_data p g))
-    (data_kept.fresh (map (initial_of p) (members_of p g)) (map (receiver_of p g) (events_of p (waits_for_data p g))))
+-- a group, by the kind of its elements
+abbrev pub opening_of_kind : Plan → (group : ℕ) → (queued : Bool) → Kept
+opening_of_kind p g true = of_queues (queues.opening p g)
+opening_of_kind p g false = of_group (groups.opening p g)
 
-abbrev pub opening_clock : Plan → Kept
-opening_clock p = of_clock (events_of p is_timing) (events_of p is_init) (clock_kept.fresh (map (λ e. period_in (kind_of p e)) (events_of p is_timing)) (length (events_of p is_init)))
+abbrev pub opening_of_group : Plan → (group : ℕ) → Kept
+opening_of_group p g = opening_of_kind p g (has_queues p g)
 
--- of a plan of unqueued data: its groups in order, and then the clock
+-- of a plan without servers and machines: its groups in order, then its areas, and then the clock
 abbrev pub opening : Plan → List Kept
-opening p = map (opening_group p) (positions (length p.groups)) ++ opening_clock p ∷ []
+opening p = map (opening_of_group p) (positions (length p.groups)) ++ map (λ x. of_area areas.opening) (positions (length p.areas)) ++ of_clock (clocks.opening p) ∷ []

@@ -1,29 +1,36 @@
 -- Of which plans the objects are made, and what is asked of them. A sound plan has what is asked.
-use Rattle.std.specs.Prelude.{◌≡◌, [], length, Bool, true, not, nat_le}
-use Rattle.std.specs.List.{list_all}
-use Rattle.bus_semantics.specs.declared.plan.ElemPlan.{ElemPlan}
-use Rattle.bus_semantics.specs.declared.plan.EventPlan.{EventPlan}
-use Rattle.bus_semantics.specs.declared.plan.EventKind.{EventKind}
-use Rattle.bus_semantics.specs.declared.plan.EventKind.TheVariants.{Timing}
-use Rattle.bus_semantics.specs.Plan.{Plan}
-use Rattle.bus_semantics.specs.Owners.{is_queued}
+use Rattle.std.specs.Prelude.{◌≡◌, ◌<◌, ◌^◌, ℕ, [], length, map, sum, Bool, true, false, nat_le}
+use Rattle.bus_semantics.specs.Plan.{Plan, look}
+use Rattle.bus_semantics.specs.Queued.{places_at}
 use Rattle.bus_semantics.specs.SoundPlan.{groups_fit, objects_counted}
+use Rattle.object_kinds.specs.Layout.{members_of}
+use Rattle.data_objects.specs.Layout.{IsUnqueuedGroup}
+use Rattle.queue_objects.specs.Layout.{receivers_of, is_queued_at, IsQueuedGroup}
+use Rattle.clock_objects.specs.Layout.{have_periods}
 
--- the plans built so far: their objects are groups of unqueued data, and the clock. Queues, servers, areas and machines are to come
-pub record IsUnqueuedPlan (p : Plan) : Type 0 where
-  pub unqueued : list_all (λ (e : ElemPlan). not (is_queued e)) p.elements ≡ true
+-- the plans whose objects are built so far: groups of data, areas, and the clock. Servers and machines are to come
+pub record IsMadePlan (p : Plan) : Type 0 where
   pub servers : p.servers ≡ []
-  pub areas : p.areas ≡ []
   pub machines : p.machines ≡ []
 
--- a TimingEvent's period is at least one millisecond
-abbrev pub has_period : EventKind → Bool
-has_period (Timing period) = nat_le 1 period
-has_period _ = true
+-- whether the first element of a group is queued
+abbrev pub has_queues : Plan → (group : ℕ) → Bool
+has_queues p g = look (members_of p g) 0 (is_queued_at p) false
 
--- groups list their elements, the objects and events are counted, and no period is empty
+-- each element of the group is queued, and its queues have few enough places
+pub record QueuesFit (p : Plan) (group : ℕ) : Type 0 where
+  pub queued : IsQueuedGroup p group
+  pub places : sum (map (places_at p) (receivers_of p group)) < 2 ^ 32
+
+-- the elements of a group are all queued, or none is: as its first one
+abbrev pub IsOfOneKind : Plan → (group : ℕ) → (queued : Bool) → Type 0
+IsOfOneKind p g true = QueuesFit p g
+IsOfOneKind p g false = IsUnqueuedGroup p g
+
+-- groups list their elements and are of one kind each, the objects and events are counted, and no period is empty
 pub record HasObjects (p : Plan) : Type 0 where
   pub groups : groups_fit p ≡ true
+  pub kinds : (group : ℕ) → group < length p.groups → IsOfOneKind p group (has_queues p group)
   pub counted : objects_counted p ≡ true
   pub few_events : nat_le (length p.events) 16384 ≡ true
-  pub periods : list_all (λ (v : EventPlan). has_period v.kind) p.events ≡ true
+  pub periods : have_periods p ≡ true

@@ -1,44 +1,57 @@
--- Which starts an object allows, which entries can make one come, and which starts the last entry can have made come.
-use Rattle.std.specs.Prelude.{◌≡◌, ℕ, List, Bool, true, false, Option, Some, None}
+-- Which starts an object allows, which entries can make one come, and which starts the last entry can have made come; and when an area is
+-- closed.
+use Rattle.std.specs.Prelude.{◌≡◌, ℕ, List, [], Bool, true, false, None, unwrap_or}
 use Rattle.std.specs.List.{Contains}
 use Rattle.bus_semantics.specs.declared.entries.Deed.{Deed}
 use Rattle.bus_semantics.specs.declared.entries.Deed.TheVariants as deed
-use Rattle.tick_events.specs.Kept as clock_kept
+use Rattle.bus_semantics.specs.Plan.{Plan}
+use Rattle.bus_semantics.specs.Wanted.{to_enter, wanted_by}
+use Rattle.bus_semantics.specs.History.{Noted}
+use Rattle.data_objects.specs.Kept as groups
+use Rattle.queue_objects.specs.Kept as queues
+use Rattle.area_objects.specs.Kept as areas
+use Rattle.clock_objects.specs.Kept as clocks
 use Rattle.port_objects.specs.declared.object.Object.{Object}
-use Rattle.port_objects.specs.declared.object.Object.TheVariants.{Unqueued, Clock}
-use Rattle.port_objects.specs.Layout.{place}
-use Rattle.port_objects.specs.Kept.{Kept, of_group, of_clock}
-use Rattle.port_objects.specs.Leading.{is_set, is_timer_due}
+use Rattle.port_objects.specs.declared.object.Object.TheVariants.{Unqueued, Queued, Area, Clock}
+use Rattle.port_objects.specs.Kept.{Kept, of_group, of_queues, of_area, of_clock}
+use Rattle.port_objects.specs.Leading.{lead}
 use Rattle.port_objects.specs.Objects.{kept_of}
-
--- the event at this place of a group is pending
-abbrev pub is_pending : (due : List Bool) → (at : Option ℕ) → Bool
-is_pending due None = false
-is_pending due (Some i) = is_set due i
-
--- a TimingEvent is due, else an InitEvent has not started
-abbrev pub is_pending_at : (timing : Option ℕ) → (init : Option ℕ) → clock_kept.Kept → Bool
-is_pending_at (Some i) init k = is_timer_due (clock_kept.is_due i k)
-is_pending_at None (Some i) k = is_set k.unstarted i
-is_pending_at None None k = false
 
 -- whether a start by an event may come where an object keeps this
 abbrev pub may_start_in : Kept → (event : ℕ) → Bool
-may_start_in (of_group events k) e = is_pending k.due (place e events)
-may_start_in (of_clock timings inits k) e = is_pending_at (place e timings) (place e inits) k
+may_start_in (of_group k) e = groups.may_start k e
+may_start_in (of_queues k) e = queues.may_start k e
+may_start_in (of_area k) e = areas.may_start k e
+may_start_in (of_clock k) e = clocks.may_start k e
 
--- an entry that can make a start come
+-- an entry that can make a start come: new data, a tick, a request, what ends one, and what moves a machine on
 abbrev pub wakes : Deed → Bool
 wakes (deed.Write x value) = true
 wakes (deed.Publish x value) = true
+wakes (deed.Send x value code) = true
 wakes deed.Tick = true
+wakes (deed.Ask q value code) = true
+wakes (deed.Return code value) = true
+wakes (deed.Phase step) = true
+wakes deed.End = true
 wakes _ = false
 
--- the events that the last write, publication or tick on an object made pending
+-- the events that the last entry on an object that can make a start come made pending
 abbrev pub woken_in : Object → List ℕ
-woken_in (Unqueued g) = g.woken.items
-woken_in (Clock t) = t.woken.items
+woken_in (Unqueued g) = g.woken
+woken_in (Queued g) = g.woken
+woken_in (Area a) = []
+woken_in (Clock t) = t.woken
 
 -- each start that an object came to allow is by one of these
 abbrev pub Tells : (before : Kept) → (now : Object) → Type 0
 Tells before now = (event : ℕ) → may_start_in before event ≡ false → may_start_in (kept_of now) event ≡ true → Contains (woken_in now) event
+
+-- what an activation does when it leaves an area (SWS_RTE: Rte_Exit)
+abbrev pub is_leave : Deed → Bool
+is_leave (deed.Leave area) = true
+is_leave _ = false
+
+-- where an object keeps this, nobody enters an area on it
+abbrev pub IsClosed : Plan → (object : ℕ) → Kept → Type 0
+IsClosed p object k = (n : Noted) (area : ℕ) → wanted_by (unwrap_or n.event 0) n.entry.deed ≡ to_enter area → lead p object k n ≡ None

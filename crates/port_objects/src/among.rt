@@ -1,16 +1,19 @@
 //! One entry on an object among all.
 
-ghost use Rattle.std.specs.Prelude.{◌≡◌, Some};
+ghost use Rattle.std.specs.Prelude.{◌≡◌, true, Some};
 ghost use Rattle.bus_semantics.specs.Plan.{plan_of};
 ghost use Rattle.bus_semantics.specs.Wanted.{wanted_of};
+ghost use Rattle.bus_semantics.specs.Fitting.{wish_fits};
+ghost use Rattle.bus_semantics.specs.Asked.{asks_its_own};
 ghost use Rattle.bus_semantics.specs.Objects.{object_of, IsObject};
 ghost use Rattle.port_objects.specs.Objects.{ArePlans};
 ghost use Rattle.port_objects.specs.Plans.{HasObjects};
 ghost use Rattle.port_objects.specs.Benches.{ActedOn};
 
-use crate::acting::{Acted, act};
+use crate::acting::act;
 use crate::object::Object;
 use bus_semantics::{Actor, BusPlan, Wish};
+use object_kinds::Acted;
 
 /// Makes the entry of a wish on the object of this number, where one may come.
 pub(crate) fn act_among(
@@ -23,6 +26,8 @@ pub(crate) fn act_among(
     requires sound { HasObjects (plan_of p.now) }
     requires planned { ArePlans (plan_of p.now) objects.old.items }
     requires touching { object_of (plan_of p.now) who.now (wanted_of wish.now) ≡ Some object }
+    requires fits { wish_fits (plan_of p.now) who.now (wanted_of wish.now) ≡ true }
+    requires own { asks_its_own (plan_of p.now) who.now (wanted_of wish.now) ≡ true }
     requires there { IsObject (plan_of p.now) object }
     ensures planned { ArePlans (plan_of p.now) objects.new.items }
     ensures on { ActedOn (plan_of p.now) object who.now (wanted_of wish.now) objects.old.items objects.new.items result }

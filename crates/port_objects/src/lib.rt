@@ -1,34 +1,34 @@
-//! The objects of the bus: what each keeps stands for the entries that touched it.
+//! The objects of the bus: what each keeps stands for the entries that touched it. Each kind of object is a crate of its own; here
+//! each call goes to the kind of its object, and what stands above never hears of kinds.
 #![tactic(auto)]
 
 mod acting;
 mod among;
 mod bench;
-mod events;
-mod find;
-mod group;
+mod closing;
+mod freed;
 mod laws;
 mod making;
 mod object;
 mod plain_bench;
 mod threads;
-mod ticks;
-mod waiting;
+mod touching;
 mod waking;
 
-pub use acting::{Acted, Shown, act};
+pub use acting::act;
 pub use bench::{Bench, Benched};
 pub use bus_semantics::object_of;
-pub use group::Group;
+pub use closing::{areas_are_closed_alike, only_a_leave_opens};
+pub use freed::free_deed;
 pub use laws::{
-    answers_are_what_may_come, first_objects_stand_for_nothing, leads_are_legal,
-    leads_miss_nothing, legal_histories_part_into_objects, one_entry_of_a_wish, only_starts_wait,
+    answers_are_what_may_come, free_deeds_are_legal, leads_are_legal, leads_miss_nothing,
     sound_plans_have_objects,
 };
 pub use making::make_objects;
 pub use object::Object;
+pub use object_kinds::{Acted, Shown};
 pub use plain_bench::PlainBench;
-pub use ticks::Ticks;
+pub use touching::touched_object;
 pub use waking::{held_starts_lead_nowhere, may_start, other_entries_wake_nothing, woken};
 
 /// There was no memory for what a call makes.

@@ -1,13 +1,19 @@
 //! The objects of the bus.
 
-use crate::group::Group;
-use crate::ticks::Ticks;
+use area_objects::AreaObject;
+use clock_objects::Ticks;
+use data_objects::Group;
+use queue_objects::QueueGroup;
 
-/// What calls of the bus share: at most one of these is touched by an entry.
+/// What calls of the bus share: at most one of these is touched by an entry. There is a case for each kind of object.
 #[derive(Drop)]
 pub enum Object {
     /// A group of joined unqueued data elements, or a variable.
     Unqueued(Group),
+    /// A group of joined queued data elements.
+    Queued(QueueGroup),
+    /// An exclusive area.
+    Area(AreaObject),
     /// The clock.
     Clock(Ticks),
 }

@@ -7,11 +7,11 @@ ghost use Rattle.bus_semantics.specs.Asked.{event_of};
 ghost use Rattle.port_objects.specs.Objects.{ArePlans};
 ghost use Rattle.port_objects.specs.Plans.{HasObjects};
 
-use crate::acting::Acted;
 use crate::among::act_among;
 use crate::bench::{Bench, Benched};
 use crate::object::Object;
 use bus_semantics::{Actor, BusPlan, Entry, Stamped, Wish};
+use object_kinds::Acted;
 use std::marker::Model;
 
 /// All objects of a plan, which one thread has to itself. It tells its objects and its next stamp, which begins
@@ -111,13 +111,7 @@ impl<'a> Bench for PlainBench<'a> {
 
     ghost plan = { λ b. plan_of b.plan };
 
-    ghost room = { λ b. b.room };
-
-    ghost next = { λ b. Some b.next };
-
-    ghost objects = { λ b. Some b.objects };
-
-    ghost work = { λ b. None };
+    ghost told = { λ b. record { room = b.room; next = Some b.next; objects = Some b.objects; work = None } };
 
     fn act(&mut self, object: u32, who: &Actor, wish: &Wish) -> Benched {
         match act_among(self.plan, &mut self.objects, object, who, wish) {

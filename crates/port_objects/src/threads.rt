@@ -1,14 +1,12 @@
 //! What passes between threads.
 
-use crate::{Acted, Benched, Group, Object, Shown, Ticks};
+use crate::{Acted, Benched, Object, Shown};
 
 /// Is called only where values of the type may be moved to and shared with other threads.
 fn passes<T: Send + Sync>() {}
 
 /// Objects and answers pass.
 fn show_what_passes() {
-    passes::<Group>();
-    passes::<Ticks>();
     passes::<Object>();
     passes::<Shown>();
     passes::<Acted>();

@@ -1,18 +1,24 @@
+use Rattle.std.proofs.Common.{subst}
 use Rattle.bus_semantics.specs.Plan.{plan_of}
 use Rattle.bus_semantics.specs.Wanted.{wanted_of}
 use Rattle.bus_semantics.specs.Objects.{touched}
-use Rattle.port_objects.proofs.Staying.{stays_planned, done_is_one, not_yet_is_none}
+use Rattle.port_objects.specs.Answers.{IsAnswer}
 use Rattle.port_objects.proofs.acting.act.Goals as goal
-
-pub returns-clause-planned : goal.returns-clause-planned
-returns-clause-planned c =
-    stays_planned (plan_of c.args.p.now) (touched (plan_of c.args.p.now) c.args.who.now (wanted_of c.args.wish.now)) c.args.who.now (wanted_of c.args.wish.now) c.args.object.now c.act_by_kind.new.object c.act_by_kind.result
-    c.requires.planned c.act_by_kind.ensures.room c.act_by_kind.ensures.lead
 
 pub returns-clause-done : goal.returns-clause-done
 returns-clause-done c = λ m l e ask is.
-    done_is_one (plan_of c.args.p.now) m c.args.who.now (wanted_of c.args.wish.now) c.args.object.now c.act_by_kind.new.object c.act_by_kind.result c.requires.touching c.act_by_kind.ensures.lead l e ask is
+    let p = plan_of c.args.p.now in
+    let a = c.args.who.now in
+    let w = wanted_of c.args.wish.now in
+    let old = c.args.object.now in
+    let new = c.act_by_kind.new.object in
+    c.answers_are_what_may_come.ensures.made p m a w old new l e c.requires.touching ask (subst (IsAnswer p (touched p a w) a w old new) is c.act_by_kind.ensures.lead)
 
 pub returns-clause-not_yet : goal.returns-clause-not_yet
 returns-clause-not_yet c = λ m l shown ask is.
-    not_yet_is_none (plan_of c.args.p.now) m c.args.who.now (wanted_of c.args.wish.now) c.args.object.now c.act_by_kind.new.object c.act_by_kind.result c.requires.touching c.act_by_kind.ensures.lead l shown ask is
+    let p = plan_of c.args.p.now in
+    let a = c.args.who.now in
+    let w = wanted_of c.args.wish.now in
+    let old = c.args.object.now in
+    let new = c.act_by_kind.new.object in
+    c.answers_are_what_may_come.ensures.held p m a w old new l shown c.requires.touching ask (subst (IsAnswer p (touched p a w) a w old new) is c.act_by_kind.ensures.lead)

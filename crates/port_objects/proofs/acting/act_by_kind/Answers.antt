@@ -1,52 +1,90 @@
-use Rattle.std.proofs.Common.{sym, subst}
+use Rattle.std.proofs.Common.{refl, sym, ap, subst}
+use Rattle.std.proofs.lemmas.Bool.{false≢true}
+use Rattle.object_kinds.specs.Kinds.{IsAnswerOf}
 use Rattle.bus_semantics.specs.Plan.{plan_of}
 use Rattle.bus_semantics.specs.Wanted.{wanted_of}
 use Rattle.bus_semantics.specs.Objects.{touched}
-use Rattle.port_objects.specs.declared.object.Object.TheVariants.{Unqueued, Clock}
-use Rattle.port_objects.specs.Objects.{HasRoom, IsOfPlan}
-use Rattle.port_objects.proofs.Answering.{group_made, group_held, clock_made, clock_held, has_room, group_room, clock_room, timings_rise, inits_rise}
+use Rattle.data_objects.specs.Kept as groups
+use Rattle.data_objects.specs.Leading as group_leading
+use Rattle.data_objects.specs.Standing as group_standing
+use Rattle.queue_objects.specs.Kept as queues
+use Rattle.queue_objects.specs.Leading as queue_leading
+use Rattle.queue_objects.specs.Standing as queue_standing
+use Rattle.area_objects.specs.Kept as areas
+use Rattle.area_objects.specs.Leading as area_leading
+use Rattle.area_objects.specs.Standing as area_standing
+use Rattle.clock_objects.specs.Kept as clocks
+use Rattle.clock_objects.specs.Leading as clock_leading
+use Rattle.clock_objects.specs.Standing as clock_standing
+use Rattle.port_objects.specs.declared.object.Object.TheVariants.{Unqueued, Queued, Area, Clock}
+use Rattle.port_objects.specs.Kept.{of_group, of_queues, of_area, of_clock}
+use Rattle.port_objects.specs.Objects.{IsOfPlan}
+use Rattle.port_objects.specs.Answers.{IsAnswer}
+use Rattle.port_objects.proofs.Rows.{group_row, queue_row, area_row, clock_row}
+use Rattle.port_objects.proofs.Answering.{answered}
 use Rattle.port_objects.proofs.acting.act_by_kind.Goals as goal
 
-pub act-requires-in-Clock-clause-timings : goal.act-requires-in-Clock-clause-timings
-act-requires-in-Clock-clause-timings c = timings_rise (plan_of c.args.p.now) (touched (plan_of c.args.p.now) c.args.who.now (wanted_of c.args.wish.now)) c.args.object.now c.in-Clock.ticks c.in-Clock.is c.requires.planned
+pub returns-in-Unqueued-clause-lead : goal.returns-in-Unqueued-clause-lead
+returns-in-Unqueued-clause-lead c =
+    let p = plan_of c.args.p.now in
+    let a = c.args.who.now in
+    let w = wanted_of c.args.wish.now in
+    let o = touched p a w in
+    let old = c.in-Unqueued.group in
+    let new = c.act.new.self in
+    subst (λ x. IsAnswer p o a w x (Unqueued new) c.act.result) (sym c.in-Unqueued.is)
+    (answered p a w of_group (group_standing.Keeps p o) (group_leading.lead p o) groups.may_start group_leading.why_held (group_row p o)
+    c.requires.touching c.requires.fits c.requires.own (Unqueued old) (Unqueued new) old.kept new.kept c.act.result refl refl
+    c.act.ensures.answer (λ shown is. ap Unqueued (c.act.ensures.same shown is)) c.act.ensures.told)
 
-pub act-requires-in-Clock-clause-inits : goal.act-requires-in-Clock-clause-inits
-act-requires-in-Clock-clause-inits c = inits_rise (plan_of c.args.p.now) (touched (plan_of c.args.p.now) c.args.who.now (wanted_of c.args.wish.now)) c.args.object.now c.in-Clock.ticks c.in-Clock.is c.requires.planned
+pub returns-in-Queued-clause-lead : goal.returns-in-Queued-clause-lead
+returns-in-Queued-clause-lead c =
+    let p = plan_of c.args.p.now in
+    let a = c.args.who.now in
+    let w = wanted_of c.args.wish.now in
+    let o = touched p a w in
+    let old = c.in-Queued.group in
+    let new = c.act-in-Queued.new.self in
+    subst (λ x. IsAnswer p o a w x (Queued new) c.act-in-Queued.result) (sym c.in-Queued.is)
+    (answered p a w of_queues (queue_standing.Keeps p o) (queue_leading.lead p) queues.may_start queue_leading.why_held (queue_row p o)
+    c.requires.touching c.requires.fits c.requires.own (Queued old) (Queued new) old.kept new.kept c.act-in-Queued.result refl refl
+    c.act-in-Queued.ensures.answer (λ shown is. ap Queued (c.act-in-Queued.ensures.same shown is)) c.act-in-Queued.ensures.told)
 
-pub returns-in-Some-clause-lead : goal.returns-in-Some-clause-lead
-returns-in-Some-clause-lead c =
-    group_made (plan_of c.args.p.now) (touched (plan_of c.args.p.now) c.args.who.now (wanted_of c.args.wish.now)) c.args.who.now (wanted_of c.args.wish.now) c.args.object.now c.in-Unqueued.group c.act.new.self c.in-Some.deed c.in-Unqueued.is
-    (subst (IsOfPlan (plan_of c.args.p.now) (touched (plan_of c.args.p.now) c.args.who.now (wanted_of c.args.wish.now))) c.in-Unqueued.is c.requires.planned) c.in-Some.ensures
+pub returns-in-Area-clause-lead : goal.returns-in-Area-clause-lead
+returns-in-Area-clause-lead c =
+    let p = plan_of c.args.p.now in
+    let a = c.args.who.now in
+    let w = wanted_of c.args.wish.now in
+    let o = touched p a w in
+    let old = c.in-Area.area in
+    let new = c.act-in-Area.new.self in
+    let answer = c.act-in-Area.ensures.answer p in
+    subst (λ x. IsAnswer p o a w x (Area new) c.act-in-Area.result) (sym c.in-Area.is)
+    (answered p a w of_area (area_standing.Keeps p o) area_leading.lead areas.may_start area_leading.why_held (area_row p o)
+    c.requires.touching c.requires.fits c.requires.own (Area old) (Area new) old new c.act-in-Area.result refl refl
+    answer (λ shown is. ap Area (subst (IsAnswerOf p area_leading.lead areas.may_start area_leading.why_held a w old new) is answer).1) (λ event off on. absurd (false≢true on)))
 
-pub returns-in-None-clause-lead : goal.returns-in-None-clause-lead
-returns-in-None-clause-lead c =
-    group_held (plan_of c.args.p.now) (touched (plan_of c.args.p.now) c.args.who.now (wanted_of c.args.wish.now)) (wanted_of c.args.wish.now) c.args.object.now c.in-Unqueued.group c.act.new.self c.why_not.result c.why_not.ensures c.in-Unqueued.is
-    c.in-None.ensures
+pub returns-in-Area-clause-planned : goal.returns-in-Area-clause-planned
+returns-in-Area-clause-planned c =
+    let p = plan_of c.args.p.now in
+    let o = touched p c.args.who.now (wanted_of c.args.wish.now) in
+    c.act-in-Area.ensures.planned p o (subst (IsOfPlan p o) c.in-Area.is c.requires.planned)
 
-pub returns-in-Some-act-clause-lead : goal.returns-in-Some-act-clause-lead
-returns-in-Some-act-clause-lead c =
-    clock_made (plan_of c.args.p.now) (touched (plan_of c.args.p.now) c.args.who.now (wanted_of c.args.wish.now)) c.args.who.now (wanted_of c.args.wish.now) c.args.object.now c.in-Clock.ticks c.act-in-Clock.new.self c.in-Some-act.deed c.in-Clock.is
-    (subst (IsOfPlan (plan_of c.args.p.now) (touched (plan_of c.args.p.now) c.args.who.now (wanted_of c.args.wish.now))) c.in-Clock.is c.requires.planned) c.in-Some-act.ensures
+pub returns-in-Clock-clause-lead : goal.returns-in-Clock-clause-lead
+returns-in-Clock-clause-lead c =
+    let p = plan_of c.args.p.now in
+    let a = c.args.who.now in
+    let w = wanted_of c.args.wish.now in
+    let o = touched p a w in
+    let old = c.in-Clock.ticks in
+    let new = c.act-in-Clock.new.self in
+    subst (λ x. IsAnswer p o a w x (Clock new) c.act-in-Clock.result) (sym c.in-Clock.is)
+    (answered p a w of_clock (clock_standing.Keeps p o) clock_leading.lead clocks.may_start clock_leading.why_held (clock_row p o)
+    c.requires.touching c.requires.fits c.requires.own (Clock old) (Clock new) old.kept new.kept c.act-in-Clock.result refl refl
+    (c.act-in-Clock.ensures.answer p o (subst (IsOfPlan p o) c.in-Clock.is c.requires.planned)) (λ shown is. ap Clock (c.act-in-Clock.ensures.same shown is)) c.act-in-Clock.ensures.told)
 
-pub returns-in-None-act-clause-lead : goal.returns-in-None-act-clause-lead
-returns-in-None-act-clause-lead c =
-    clock_held (plan_of c.args.p.now) (touched (plan_of c.args.p.now) c.args.who.now (wanted_of c.args.wish.now)) (wanted_of c.args.wish.now) c.args.object.now c.in-Clock.ticks c.act-in-Clock.new.self c.why_not-in-None-act.result c.why_not-in-None-act.ensures c.in-Clock.is
-    c.in-None-act.ensures
-
-pub returns-in-Some-clause-room : goal.returns-in-Some-clause-room
-returns-in-Some-clause-room c =
-    group_room (plan_of c.args.p.now) (touched (plan_of c.args.p.now) c.args.who.now (wanted_of c.args.wish.now)) (wanted_of c.args.wish.now) c.in-Unqueued.group c.act.new.self c.in-Some.deed c.in-Some.ensures
-    (subst HasRoom c.in-Unqueued.is (has_room (plan_of c.args.p.now) (touched (plan_of c.args.p.now) c.args.who.now (wanted_of c.args.wish.now)) c.args.object.now c.requires.planned))
-
-pub returns-in-None-clause-room : goal.returns-in-None-clause-room
-returns-in-None-clause-room c = subst (λ g. HasRoom (Unqueued g)) (sym c.in-None.ensures.same)
-    (subst HasRoom c.in-Unqueued.is (has_room (plan_of c.args.p.now) (touched (plan_of c.args.p.now) c.args.who.now (wanted_of c.args.wish.now)) c.args.object.now c.requires.planned))
-
-pub returns-in-Some-act-clause-room : goal.returns-in-Some-act-clause-room
-returns-in-Some-act-clause-room c =
-    clock_room (wanted_of c.args.wish.now) c.in-Clock.ticks c.act-in-Clock.new.self c.in-Some-act.deed c.in-Some-act.ensures
-    (subst HasRoom c.in-Clock.is (has_room (plan_of c.args.p.now) (touched (plan_of c.args.p.now) c.args.who.now (wanted_of c.args.wish.now)) c.args.object.now c.requires.planned))
-
-pub returns-in-None-act-clause-room : goal.returns-in-None-act-clause-room
-returns-in-None-act-clause-room c = subst (λ t. HasRoom (Clock t)) (sym c.in-None-act.ensures.same)
-    (subst HasRoom c.in-Clock.is (has_room (plan_of c.args.p.now) (touched (plan_of c.args.p.now) c.args.who.now (wanted_of c.args.wish.now)) c.args.object.now c.requires.planned))
+pub returns-in-Clock-clause-planned : goal.returns-in-Clock-clause-planned
+returns-in-Clock-clause-planned c =
+    let p = plan_of c.args.p.now in
+    let o = touched p c.args.who.now (wanted_of c.args.wish.now) in
+    c.act-in-Clock.ensures.planned p o (subst (IsOfPlan p o) c.in-Clock.is c.requires.planned)

@@ -1,8 +1,47 @@
-use Rattle.port_objects.proofs.Leads as by
+use Rattle.std.proofs.Common.{◌≡◌, ◌∷◌, ℕ, Some}
+use Rattle.bus_semantics.specs.Plan.{Plan}
+use Rattle.bus_semantics.specs.History.{Noted, Past}
+use Rattle.bus_semantics.specs.Pasts.{Follows}
+use Rattle.data_objects.specs.Kept as groups
+use Rattle.data_objects.specs.Leading as group_leading
+use Rattle.data_objects.specs.Standing as group_standing
+use Rattle.queue_objects.specs.Kept as queues
+use Rattle.queue_objects.specs.Leading as queue_leading
+use Rattle.queue_objects.specs.Standing as queue_standing
+use Rattle.area_objects.specs.Kept as areas
+use Rattle.area_objects.specs.Leading as area_leading
+use Rattle.area_objects.specs.Standing as area_standing
+use Rattle.clock_objects.specs.Kept as clocks
+use Rattle.clock_objects.specs.Leading as clock_leading
+use Rattle.clock_objects.specs.Standing as clock_standing
+use Rattle.port_objects.specs.Kept.{Kept, of_group, of_queues, of_area, of_clock}
+use Rattle.port_objects.specs.Leading.{lead}
+use Rattle.port_objects.specs.Standing.{Stands}
+use Rattle.port_objects.proofs.Rows.{group_row, queue_row, area_row, clock_row, follows_by, stands_by}
 use Rattle.port_objects.proofs.laws.leads_are_legal.Goals as goal
 
 pub returns-clause-follows : goal.returns-clause-follows
-returns-clause-follows c = by.lead_follows
+returns-clause-follows c = by_kind
+  where
+    by_kind : (p : Plan) (object : ℕ) (before after : Kept) (l : Past) (n : Noted) → Stands p object before l → lead p object before n ≡ Some after → Follows p object l n
+    by_kind p object (of_group k) = follows_by p object of_group (group_standing.Keeps p object) (group_leading.lead p object) groups.may_start group_leading.why_held (group_row p object)
+        (c.leads_are_legal.ensures.follow p object) k
+    by_kind p object (of_queues k) = follows_by p object of_queues (queue_standing.Keeps p object) (queue_leading.lead p) queues.may_start queue_leading.why_held (queue_row p object)
+        (c.leads_are_legal-2.ensures.follow p object) k
+    by_kind p object (of_area k) = follows_by p object of_area (area_standing.Keeps p object) area_leading.lead areas.may_start area_leading.why_held (area_row p object)
+        (c.leads_are_legal-3.ensures.follow p object) k
+    by_kind p object (of_clock k) = follows_by p object of_clock (clock_standing.Keeps p object) clock_leading.lead clocks.may_start clock_leading.why_held (clock_row p object)
+        (c.leads_are_legal-4.ensures.follow p object) k
 
 pub returns-clause-stands : goal.returns-clause-stands
-returns-clause-stands c = by.lead_stands
+returns-clause-stands c = by_kind
+  where
+    by_kind : (p : Plan) (object : ℕ) (before after : Kept) (l : Past) (n : Noted) → Stands p object before l → lead p object before n ≡ Some after → Stands p object after (n ∷ l)
+    by_kind p object (of_group k) = stands_by p object of_group (group_standing.Keeps p object) (group_leading.lead p object) groups.may_start group_leading.why_held (group_row p object)
+        (c.leads_are_legal.ensures.follow p object) (c.leads_are_legal.ensures.keep p object) k
+    by_kind p object (of_queues k) = stands_by p object of_queues (queue_standing.Keeps p object) (queue_leading.lead p) queues.may_start queue_leading.why_held (queue_row p object)
+        (c.leads_are_legal-2.ensures.follow p object) (c.leads_are_legal-2.ensures.keep p object) k
+    by_kind p object (of_area k) = stands_by p object of_area (area_standing.Keeps p object) area_leading.lead areas.may_start area_leading.why_held (area_row p object)
+        (c.leads_are_legal-3.ensures.follow p object) (c.leads_are_legal-3.ensures.keep p object) k
+    by_kind p object (of_clock k) = stands_by p object of_clock (clock_standing.Keeps p object) clock_leading.lead clocks.may_start clock_leading.why_held (clock_row p object)
+        (c.leads_are_legal-4.ensures.follow p object) (c.leads_are_legal-4.ensures.keep p object) k

@@ -1,8 +1,32 @@
-use Rattle.port_objects.proofs.Pending.{nowhere, is_held}
+use Rattle.std.proofs.Common.{◌≡◌, ℕ, false, None}
+use Rattle.bus_semantics.specs.Plan.{Plan}
+use Rattle.bus_semantics.specs.History.{Noted}
+use Rattle.object_kinds.specs.Kinds.{IsPlainStart}
+use Rattle.data_objects.specs.Kept as groups
+use Rattle.data_objects.specs.Leading as group_leading
+use Rattle.data_objects.specs.Standing as group_standing
+use Rattle.queue_objects.specs.Kept as queues
+use Rattle.queue_objects.specs.Leading as queue_leading
+use Rattle.queue_objects.specs.Standing as queue_standing
+use Rattle.area_objects.specs.Kept as areas
+use Rattle.area_objects.specs.Leading as area_leading
+use Rattle.area_objects.specs.Standing as area_standing
+use Rattle.clock_objects.specs.Kept as clocks
+use Rattle.clock_objects.specs.Leading as clock_leading
+use Rattle.clock_objects.specs.Standing as clock_standing
+use Rattle.port_objects.specs.Kept.{Kept, of_group, of_queues, of_area, of_clock}
+use Rattle.port_objects.specs.Leading.{lead}
+use Rattle.port_objects.specs.Waking.{may_start_in}
+use Rattle.port_objects.proofs.Rows.{group_row, queue_row, area_row, clock_row, held_by}
 use Rattle.port_objects.proofs.waking.held_starts_lead_nowhere.Goals as goal
 
-pub returns-clause-nowhere : goal.returns-clause-nowhere
-returns-clause-nowhere c = nowhere
-
-pub returns-clause-held : goal.returns-clause-held
-returns-clause-held c = is_held
+pub returns : goal.returns
+returns c = by_kind
+  where
+    by_kind : (p : Plan) (object : ℕ) (k : Kept) (event : ℕ) (n : Noted) → may_start_in k event ≡ false → IsPlainStart event n → lead p object k n ≡ None
+    by_kind p object (of_group k) = held_by p object of_group (group_standing.Keeps p object) (group_leading.lead p object) groups.may_start group_leading.why_held (group_row p object)
+        (c.starts_go_by_flags.ensures p object) k
+    by_kind p object (of_queues k) = held_by p object of_queues (queue_standing.Keeps p object) (queue_leading.lead p) queues.may_start queue_leading.why_held (queue_row p object)
+        (c.starts_go_by_flags-2.ensures p) k
+    by_kind p object (of_area k) = held_by p object of_area (area_standing.Keeps p object) area_leading.lead areas.may_start area_leading.why_held (area_row p object) c.starts_go_by_flags-3.ensures k
+    by_kind p object (of_clock k) = held_by p object of_clock (clock_standing.Keeps p object) clock_leading.lead clocks.may_start clock_leading.why_held (clock_row p object) c.starts_go_by_flags-4.ensures k

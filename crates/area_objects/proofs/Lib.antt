@@ -1,0 +1,4 @@
+mod Holders
+mod Leads
+mod Touching
+mod Misses

@@ -1,0 +1,11 @@
+pub mod Timed
+pub mod Keeping
+pub mod Legal
+pub mod Touching
+pub mod Complete
+pub mod Opening
+pub mod Starting
+pub mod Taking
+pub mod Telling
+pub mod Planned
+pub mod Answering

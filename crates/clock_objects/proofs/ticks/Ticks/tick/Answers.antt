@@ -1,0 +1,18 @@
+use Rattle.std.proofs.Common.{sym, ◌∙◌, ap}
+use Rattle.clock_objects.specs.Kept.{Kept, TicksState, may_start}
+use Rattle.clock_objects.proofs.Telling.{tick_told, tick_only}
+use Rattle.clock_objects.proofs.ticks.Ticks.tick.Goals as goal
+
+pub returns-clause-told : goal.returns-clause-told
+returns-clause-told c = λ event off on.
+    let old = c.self.inside in
+    let k : Kept = record { timings = old.timings.items; inits = old.inits.items; clock = old.clock } in
+    tick_told k c.as_slice.result.now c.tick_and_tell.new.rung.items c.tick_and_tell.new.self c.as_slice.ensures.value c.tick_and_tell.ensures.kept c.tick_and_tell.ensures.rung event
+    (ap (λ (s : TicksState). may_start s.kept event) c.self.view_is ∙ off) on
+
+pub returns-clause-only : goal.returns-clause-only
+returns-clause-only c = λ event among.
+    let old = c.self.inside in
+    let k : Kept = record { timings = old.timings.items; inits = old.inits.items; clock = old.clock } in
+    let only = tick_only k c.as_slice.result.now c.tick_and_tell.new.rung.items c.tick_and_tell.new.self c.as_slice.ensures.value c.tick_and_tell.ensures.kept c.self.invariant.0 c.tick_and_tell.ensures.only event among in
+    (ap (λ (s : TicksState). may_start s.kept event) (sym c.self.view_is) ∙ only.0, only.1)

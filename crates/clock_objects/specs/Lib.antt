@@ -1,0 +1,5 @@
+pub mod Layout
+pub mod Kept
+pub mod Plans
+pub mod Leading
+pub mod Standing

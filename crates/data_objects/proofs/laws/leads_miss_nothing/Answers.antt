@@ -1,0 +1,5 @@
+use Rattle.data_objects.proofs.Missing.{misses_nothing}
+use Rattle.data_objects.proofs.laws.leads_miss_nothing.Goals as goal
+
+pub returns : goal.returns
+returns c = misses_nothing

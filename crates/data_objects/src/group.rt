@@ -1,0 +1,279 @@
+//! A group of unqueued data elements with the plan's events that wait for it.
+
+ghost use Rattle.std.specs.Prelude.{◌≡◌, ◌<◌, ℕ, length, true, false, Some};
+ghost use Rattle.std.specs.List.{Contains};
+ghost use Rattle.rte_value.specs.Values.{words_of};
+ghost use Rattle.bus_semantics.specs.declared.entries.Entry.{Entry};
+ghost use Rattle.bus_semantics.specs.Plan.{Plan, plan_of, look};
+ghost use Rattle.bus_semantics.specs.SoundPlan.{groups_fit};
+ghost use Rattle.bus_semantics.specs.Wanted.{to_start, to_fetch, to_write, to_read, to_invalidate, to_see_updated, to_publish, wanted_of};
+ghost use Rattle.bus_semantics.specs.Objects.{object_of, touched};
+ghost use Rattle.object_kinds.specs.declared.acted.Shown.{Shown};
+ghost use Rattle.object_kinds.specs.declared.acted.Acted.TheVariants.{Done, NotYet};
+ghost use Rattle.object_kinds.specs.Layout.{place, members_of};
+ghost use Rattle.object_kinds.specs.Kinds.{IsAnswerOf};
+ghost use Rattle.data_objects.specs.Acting.{IsActed, IsTaken, started_at};
+ghost use Rattle.data_objects.specs.Kept.{may_start};
+ghost use Rattle.data_objects.specs.Leading.{lead, why_held, read_code_by, wakes};
+ghost use Rattle.data_objects.specs.Plans.{IsOfPlan};
+
+use bus_semantics::{Actor, BusPlan, Deed, ElemKind, ElemPlan, Entry, Wish};
+use explicit_ports::{ReadState, Unqueued};
+use object_kinds::{Acted, Shown, find};
+use rte_value::{Code, Value};
+use std::marker::Model;
+
+/// A group of unqueued data elements, and by number the plan's DataReceivedEvents that wait for it, in rising order. `woken`
+/// has those of them that the last write or publication made pending, and room for all.
+#[derive(Drop)]
+pub struct Group {
+    pub(crate) events: Vec<u32>,
+    pub(crate) unqueued: Unqueued,
+    pub(crate) woken: Vec<u32>,
+}
+
+impl Model for Group {
+    ghost use Rattle.std.specs.Prelude.{◌≡◌, ◌≤◌, length, true};
+    ghost use Rattle.std.specs.Vec.{vec_capacity};
+    ghost use Rattle.object_kinds.specs.Rising.{is_rising};
+    ghost use Rattle.data_objects.specs.Kept.{GroupState};
+
+    ghost Value = { GroupState };
+
+    ghost view = { λ g. record { kept = record { events = g.events.items; unqueued = g.unqueued }; woken = g.woken.items } };
+
+    ghost invariant = { λ g. (is_rising g.events.items ≡ true) × (length g.unqueued.events ≡ length g.events.items) × (length g.events.items ≤ vec_capacity g.woken) };
+}
+
+/// The receiver of a group that an element is: its place among the elements of the group.
+pub(crate) fn receiver(p: &BusPlan, group: u32, elem: u32) -> Option<u32>
+    requires groups { groups_fit (plan_of p.now) ≡ true }
+    requires within { group < length p.now.groups }
+    ensures { result ≡ place elem (members_of (plan_of p.now) group) }
+{
+    find(p.groups.items()[group as usize].items(), elem)
+}
+
+/// The code of a read (SWS_RTE: Rte_Read), where the group is invalid, and where something was written.
+pub(crate) fn read_code(element: &ElemPlan, invalid: bool, seen: bool) -> Code
+    ensures { result ≡ read_code_by element.now invalid seen }
+{
+    match element.kind {
+        ElemKind::Variable => 0,
+        ElemKind::Unqueued | ElemKind::Queued => {
+            if !element.joined {
+                134
+            } else if invalid {
+                1
+            } else if element.never_received && !seen {
+                133
+            } else {
+                0
+            }
+        }
+    }
+}
+
+/// The code of a read by an element, where this was found.
+fn code_for(p: &BusPlan, elem: u32, state: &ReadState) -> Code
+    ensures { result ≡ look p.now.elements elem (λ e. read_code_by e state.now.invalid state.now.seen) 0 }
+{
+    match p.elements.items().get(elem as usize) {
+        Some(element) => read_code(element, state.invalid, state.seen),
+        None => 0,
+    }
+}
+
+impl Group {
+    /// Makes the entry of a wish on the group that it touches, if one may come (SWS_RTE: Rte_Write, Rte_Read, Rte_Invalidate,
+    /// Rte_IsUpdated, implicit access, DataReceivedEvent). It takes no memory. `NotYet` changes nothing.
+    pub fn act(&mut self, p: &BusPlan, who: &Actor, wish: &Wish) -> Acted
+        requires groups { groups_fit (plan_of p.now) ≡ true }
+        requires touching { object_of (plan_of p.now) who.now (wanted_of wish.now) ≡ Some (touched (plan_of p.now) who.now (wanted_of wish.now)) }
+        requires planned { IsOfPlan (plan_of p.now) (touched (plan_of p.now) who.now (wanted_of wish.now)) self.old.kept }
+        ensures planned { IsOfPlan (plan_of p.now) (touched (plan_of p.now) who.now (wanted_of wish.now)) self.new.kept }
+        ensures answer { IsAnswerOf (plan_of p.now) (lead (plan_of p.now) (touched (plan_of p.now) who.now (wanted_of wish.now))) may_start why_held who.now (wanted_of wish.now) self.old.kept self.new.kept result }
+        ensures same { (shown : Shown) → result ≡ NotYet shown → self.new ≡ self.old }
+        ensures told { (event : ℕ) → may_start self.old.kept event ≡ false → may_start self.new.kept event ≡ true → Contains self.new.woken event }
+        ensures only { (e : Entry) → result ≡ Done e → wakes e.deed ≡ true → (event : ℕ) → Contains self.new.woken event → (may_start self.old.kept event ≡ false) × (may_start self.new.kept event ≡ true) }
+        ensures left { (e : Entry) → result ≡ Done e → wakes e.deed ≡ false → self.new.woken ≡ self.old.woken }
+    {
+        self.act_by_wish(p, who, wish)
+    }
+
+    /// Makes the entry of a wish, by what it wants.
+    fn act_by_wish(&mut self, p: &BusPlan, who: &Actor, wish: &Wish) -> Acted
+        requires groups { groups_fit (plan_of p.now) ≡ true }
+        requires touching { object_of (plan_of p.now) who.now (wanted_of wish.now) ≡ Some (touched (plan_of p.now) who.now (wanted_of wish.now)) }
+        requires planned { IsOfPlan (plan_of p.now) (touched (plan_of p.now) who.now (wanted_of wish.now)) self.old.kept }
+        ensures { IsActed (plan_of p.now) (touched (plan_of p.now) who.now (wanted_of wish.now)) who.now (wanted_of wish.now) self.old self.new result }
+    {
+        match wish {
+            Wish::Write { elem, value } => self.write(who, *elem, value),
+            Wish::Publish { elem, value } => self.publish(who, *elem, value),
+            Wish::Invalidate { elem } => self.invalidate(who, *elem),
+            Wish::Read { elem } => match p.group_of(*elem) {
+                Some(group) => self.read(p, group, who, *elem),
+                None => Acted::NotYet(Shown::Unmatched),
+            },
+            Wish::Fetch { elem } => match p.group_of(*elem) {
+                Some(group) => self.fetch(p, group, who, *elem),
+                None => Acted::NotYet(Shown::Unmatched),
+            },
+            Wish::IsUpdated { elem } => match p.group_of(*elem) {
+                Some(group) => self.is_updated(p, group, who, *elem),
+                None => Acted::NotYet(Shown::Unmatched),
+            },
+            Wish::Start { event } => self.start(who, *event),
+            _ => Acted::NotYet(Shown::Unmatched),
+        }
+    }
+
+    /// A write to an element.
+    fn write(&mut self, who: &Actor, elem: u32, value: &Value) -> Acted
+        ensures { (p : Plan) (group : ℕ) → IsActed p group who.now (to_write elem (words_of value.now)) self.old self.new result }
+    {
+        self.unqueued
+            .write_and_tell(value, self.events.as_slice(), &mut self.woken);
+        Acted::Done(Entry {
+            actor: *who,
+            deed: Deed::Write {
+                elem,
+                value: *value,
+            },
+        })
+    }
+
+    /// A publication of an element.
+    fn publish(&mut self, who: &Actor, elem: u32, value: &Value) -> Acted
+        ensures { (p : Plan) (group : ℕ) → IsActed p group who.now (to_publish elem (words_of value.now)) self.old self.new result }
+    {
+        self.unqueued
+            .publish_and_tell(value, self.events.as_slice(), &mut self.woken);
+        Acted::Done(Entry {
+            actor: *who,
+            deed: Deed::Publish {
+                elem,
+                value: *value,
+            },
+        })
+    }
+
+    /// An invalidation of an element.
+    fn invalidate(&mut self, who: &Actor, elem: u32) -> Acted
+        ensures { (p : Plan) (group : ℕ) → IsActed p group who.now (to_invalidate elem) self.old self.new result }
+    {
+        self.unqueued.invalidate();
+        Acted::Done(Entry {
+            actor: *who,
+            deed: Deed::Invalidate { elem },
+        })
+    }
+
+    /// The start by an event, if it is pending.
+    fn start(&mut self, who: &Actor, event: u32) -> Acted
+        ensures { (p : Plan) (group : ℕ) → IsActed p group who.now (to_start event) self.old self.new result }
+    {
+        if self.take_start(event) {
+            Acted::Done(Entry {
+                actor: *who,
+                deed: Deed::Start {
+                    event,
+                    point: None,
+                    value: Value::empty(),
+                },
+            })
+        } else {
+            Acted::NotYet(Shown::NotDue(event))
+        }
+    }
+
+    /// Whether a start by an event was pending; then it is no longer.
+    fn take_start(&mut self, event: u32) -> bool
+        ensures { IsTaken result self.old self.new (started_at self.old.kept.unqueued (place event self.old.kept.events)) }
+    {
+        match find(self.events.as_slice(), event) {
+            Some(place) => self.unqueued.start(place),
+            None => false,
+        }
+    }
+
+    /// A read by an element.
+    fn read(&mut self, p: &BusPlan, group: u32, who: &Actor, elem: u32) -> Acted
+        requires groups { groups_fit (plan_of p.now) ≡ true }
+        requires within { group < length p.now.groups }
+        requires inits { length self.old.kept.unqueued.inits ≡ length (members_of (plan_of p.now) group) }
+        ensures { IsActed (plan_of p.now) group who.now (to_read elem) self.old self.new result }
+    {
+        match receiver(p, group, elem) {
+            Some(receiver) => {
+                let state = self.unqueued.read(receiver);
+                let code = code_for(p, elem, &state);
+                Acted::Done(Entry {
+                    actor: *who,
+                    deed: Deed::Read {
+                        elem,
+                        code,
+                        value: state.value,
+                    },
+                })
+            }
+            None => Acted::NotYet(Shown::Unmatched),
+        }
+    }
+
+    /// A fetch of an element.
+    fn fetch(&self, p: &BusPlan, group: u32, who: &Actor, elem: u32) -> Acted
+        requires groups { groups_fit (plan_of p.now) ≡ true }
+        requires within { group < length p.now.groups }
+        requires inits { length self.now.kept.unqueued.inits ≡ length (members_of (plan_of p.now) group) }
+        ensures { IsActed (plan_of p.now) group who.now (to_fetch elem) self.now self.now result }
+    {
+        match receiver(p, group, elem) {
+            Some(receiver) => Acted::Done(Entry {
+                actor: *who,
+                deed: Deed::Fetch {
+                    elem,
+                    value: self.unqueued.fetch(receiver),
+                },
+            }),
+            None => Acted::NotYet(Shown::Unmatched),
+        }
+    }
+
+    /// Whether an element is updated.
+    fn is_updated(&self, p: &BusPlan, group: u32, who: &Actor, elem: u32) -> Acted
+        requires groups { groups_fit (plan_of p.now) ≡ true }
+        requires within { group < length p.now.groups }
+        requires inits { length self.now.kept.unqueued.inits ≡ length (members_of (plan_of p.now) group) }
+        ensures { IsActed (plan_of p.now) group who.now (to_see_updated elem) self.now self.now result }
+    {
+        match receiver(p, group, elem) {
+            Some(receiver) => Acted::Done(Entry {
+                actor: *who,
+                deed: Deed::IsUpdated {
+                    elem,
+                    yes: self.unqueued.is_updated(receiver),
+                },
+            }),
+            None => Acted::NotYet(Shown::Unmatched),
+        }
+    }
+
+    /// Whether a start by an event is pending.
+    pub fn may_start(&self, event: u32) -> bool
+        ensures { result ≡ may_start self.now.kept event }
+    {
+        match find(self.events.as_slice(), event) {
+            Some(place) => self.unqueued.is_due(place),
+            None => false,
+        }
+    }
+
+    /// The events that the last write or publication made pending, by number: each that it made pending, and no other.
+    pub fn woken(&self) -> &[u32]
+        ensures { result.now ≡ self.now.woken }
+    {
+        self.woken.as_slice()
+    }
+}

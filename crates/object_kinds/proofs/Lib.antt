@@ -1,0 +1,12 @@
+pub mod Options
+pub mod Lists
+pub mod Positions
+pub mod Placing
+pub mod Rising
+pub mod Flags
+pub mod Members
+pub mod Events
+pub mod Ranges
+pub mod Proper
+pub mod Numbers
+pub mod Touching

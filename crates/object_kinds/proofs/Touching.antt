@@ -1,0 +1,169 @@
+-- What touches a group: a deed with an element of it, or a start by a DataReceivedEvent of one. And which deeds are of queued elements.
+use Rattle.std.proofs.Common.{◌≡◌, ◌<◌, ℕ, Bool, true, false, ◌&&◌, not, refl, sym, ◌∙◌, ap, length, Option, Some}
+use Rattle.std.specs.Prelude.{option_map, option_and_then}
+use Rattle.std.specs.Option.{option_map_or}
+use Rattle.std.proofs.lemmas.Bool.{and_parts, eq-eqb, false≢true}
+use Rattle.rte_value.specs.declared.value.Value.{Value}
+use Rattle.rte_value.specs.Values.{words_of, same_number}
+use Rattle.bus_semantics.specs.declared.plan.ElemPlan.{ElemPlan}
+use Rattle.bus_semantics.specs.declared.plan.ElemKind.{ElemKind}
+use Rattle.bus_semantics.specs.declared.plan.ElemKind.TheVariants.{Unqueued, Queued, Variable}
+use Rattle.bus_semantics.specs.declared.plan.EventKind.{EventKind}
+use Rattle.bus_semantics.specs.declared.plan.EventKind.TheVariants.{Timing, Init, DataReceived, Invoked, Returns, ModeSwitch, Ack}
+use Rattle.bus_semantics.specs.declared.script.Mapping.{Mapping}
+use Rattle.bus_semantics.specs.declared.entries.Actor.{Actor}
+use Rattle.bus_semantics.specs.declared.entries.Deed.{Deed}
+use Rattle.bus_semantics.specs.declared.entries.Deed.TheVariants as deed
+use Rattle.bus_semantics.specs.Plan.{Plan, look, group_of, kind_of}
+use Rattle.bus_semantics.specs.Wanted.{to_fetch, to_write, to_read, to_invalidate, to_see_updated, to_send, to_receive, to_publish}
+use Rattle.bus_semantics.specs.Objects.{touches}
+use Rattle.bus_semantics.specs.Owners.{elem_fits, is_writable, is_readable, is_unqueued, is_queued, holds}
+use Rattle.bus_semantics.specs.Unqueued.{is_in_group}
+use Rattle.bus_semantics.specs.Locality.{is_proper}
+use Rattle.bus_semantics.specs.Sound.{IsSound}
+use Rattle.object_kinds.specs.Layout.{waits_for_data}
+use Rattle.object_kinds.proofs.Numbers.{a_group, a_server, a_machine, which_of, which_starts, touched_which}
+use Rattle.object_kinds.proofs.Options.{then_some, mapped_some}
+use Rattle.object_kinds.proofs.Proper.{noting, wish_part, by_actor}
+use Rattle.object_kinds.proofs.Ranges.{sought}
+
+-- ---- what touches a group
+
+abbrev pub OnGroup : Plan → (group : ℕ) → Deed → Type 0
+OnGroup p g (deed.Start e point value) = waits_for_data p g (kind_of p e) ≡ true
+OnGroup p g (deed.Fetch x value) = is_in_group p g x ≡ true
+OnGroup p g (deed.Write x value) = is_in_group p g x ≡ true
+OnGroup p g (deed.Read x code value) = is_in_group p g x ≡ true
+OnGroup p g (deed.Invalidate x) = is_in_group p g x ≡ true
+OnGroup p g (deed.IsUpdated x updated) = is_in_group p g x ≡ true
+OnGroup p g (deed.Send x value code) = is_in_group p g x ≡ true
+OnGroup p g (deed.Receive x code value) = is_in_group p g x ≡ true
+OnGroup p g (deed.Publish x value) = is_in_group p g x ≡ true
+OnGroup p g _ = ⊥
+
+module _ (p : Plan) (g : ℕ) where
+  is_inside : (x : ℕ) → option_map a_group (group_of p x) ≡ Some (a_group g) → is_in_group p g x ≡ true
+  is_inside x is =
+      let at = mapped_some a_group (group_of p x) (a_group g) is in
+      let same : at.item ≡ g = cc at.gives in
+      ap (λ o. same_number o (Some g)) (at.is ∙ ap (λ n. Some n) same) ∙ eq-eqb g g refl
+
+  no_server : {X : Type 0} (o : Option ℕ) → option_map a_server o ≡ Some (a_group g) → X
+  no_server o is = let at = mapped_some a_server o (a_group g) is in absurd (cc at.gives)
+
+  no_machine : {X : Type 0} (o : Option ℕ) → option_map a_machine o ≡ Some (a_group g) → X
+  no_machine o is = let at = mapped_some a_machine o (a_group g) is in absurd (cc at.gives)
+
+  no_machine_of : {X : Type 0} (f : ℕ → Option ℕ) (event : Option ℕ) → option_and_then (λ e. option_map a_machine (f e)) event ≡ Some (a_group g) → X
+  no_machine_of f event is = let at = then_some (λ e. option_map a_machine (f e)) event (a_group g) is in no_machine (f at.item) at.gives
+
+  start_on : (k : EventKind) → which_starts p k ≡ Some (a_group g) → waits_for_data p g k ≡ true
+  start_on (Timing period) is = absurd (cc is)
+  start_on Init is = absurd (cc is)
+  start_on (DataReceived x) is = is_inside x is
+  start_on (Invoked s) is = absurd (cc is)
+  start_on (Returns q) is = no_server _ is
+  start_on (ModeSwitch n moment) is = absurd (cc is)
+  start_on (Ack n) is = absurd (cc is)
+
+  on_group : (a : Actor) (event : Option ℕ) (d : Deed) → which_of p a event d ≡ Some (a_group g) → OnGroup p g d
+  on_group a event deed.Tick is = absurd (cc is)
+  on_group a event (deed.Start e point value) is = start_on (kind_of p e) is
+  on_group a event (deed.Admit answer) is = no_machine_of _ event is
+  on_group a event (deed.Fetch x value) is = is_inside x is
+  on_group a event (deed.Write x value) is = is_inside x is
+  on_group a event (deed.Read x code value) is = is_inside x is
+  on_group a event (deed.Invalidate x) is = is_inside x is
+  on_group a event (deed.IsUpdated x updated) is = is_inside x is
+  on_group a event (deed.Send x value code) is = is_inside x is
+  on_group a event (deed.Receive x code value) is = is_inside x is
+  on_group a event (deed.Ask q value code) is = no_server _ is
+  on_group a event (deed.Answer q code value) is = no_server _ is
+  on_group a event (deed.TakeResult q code value) is = no_server _ is
+  on_group a event (deed.Return code value) is = no_server _ is
+  on_group a event (deed.Enter x) is = absurd (cc is)
+  on_group a event (deed.Leave x) is = absurd (cc is)
+  on_group a event (deed.Switch n mode code) is = absurd (cc is)
+  on_group a event (deed.Mode port mode) is = no_machine _ is
+  on_group a event (deed.Phase step) is = no_machine _ is
+  on_group a event (deed.Publish x value) is = is_inside x is
+  on_group a event deed.End is = no_machine_of _ event is
+
+pub touches_group : (p : Plan) (m : Mapping) (g : ℕ) (a : Actor) (event : Option ℕ) (d : Deed) → IsSound p m → g < length p.groups
+    → touches p g (noting a d event) ≡ true → is_proper p (noting a d event) ≡ true → OnGroup p g d
+touches_group p m g a event d sound within touching proper = on_group p g a event d (touched_which p m sound (a_group g) within a event d touching proper)
+
+-- ---- a Send or a Receive is of a queued element, and the other deeds of an element are of one that is not
+
+-- whether an element of the plan is queued is said by what an actor may want of it
+kind_by : (p : Plan) (home : Option ℕ) (test : ElemPlan → Bool) (x : ℕ) (b : Bool) → ((e : ElemPlan) → test e ≡ true → is_queued e ≡ b) → elem_fits p home test x ≡ true → look p.elements x is_queued false ≡ b
+kind_by p home test x b said fit =
+    let at = sought p.elements x (λ (e : ElemPlan). same_number e.instance home && test e) fit in
+    ap (λ o. option_map_or is_queued o false) at.found ∙ said at.item (and_parts (same_number at.item.instance home) (test at.item) at.holds).1
+
+writable : (e : ElemPlan) (k : ElemKind) → e.kind ≡ k → is_writable e ≡ true → is_queued e ≡ false
+writable e Unqueued is w = rw is refl
+writable e Variable is w = rw is refl
+writable e Queued is w = let no : is_writable e ≡ false = rw is refl in absurd (false≢true (sym no ∙ w))
+
+readable : (e : ElemPlan) (k : ElemKind) → e.kind ≡ k → is_readable e ≡ true → is_queued e ≡ false
+readable e Unqueued is w = rw is refl
+readable e Variable is w = rw is refl
+readable e Queued is w = let no : is_readable e ≡ false = rw is refl in absurd (false≢true (sym no ∙ w))
+
+unqueued : (e : ElemPlan) (k : ElemKind) → e.kind ≡ k → is_unqueued e ≡ true → is_queued e ≡ false
+unqueued e Unqueued is w = rw is refl
+unqueued e Variable is w = rw is refl
+unqueued e Queued is w = let no : is_unqueued e ≡ false = rw is refl in absurd (false≢true (sym no ∙ w))
+
+module _ (p : Plan) (a : Actor) (event : Option ℕ) where
+  pub fetch_unqueued : (x : ℕ) (value : Value) → is_proper p (noting a (deed.Fetch x value) event) ≡ true → look p.elements x is_queued false ≡ false
+  fetch_unqueued x value proper = by_actor p a (to_fetch x) (wish_part p a (deed.Fetch x value) event refl proper)
+      (λ fit. absurd (false≢true fit)) (λ k fit. kind_by p _ is_readable x false (λ e is. readable e e.kind refl is) fit) (λ n less fit. absurd (false≢true fit))
+
+  pub write_unqueued : (x : ℕ) (value : Value) → is_proper p (noting a (deed.Write x value) event) ≡ true → look p.elements x is_queued false ≡ false
+  write_unqueued x value proper =
+      let ws = words_of value in
+      by_actor p a (to_write x ws) (wish_part p a (deed.Write x value) event refl proper)
+      (λ fit. kind_by p _ (λ e. (is_unqueued e && e.provided) && holds ws e) x false (λ e is. unqueued e e.kind refl (and_parts (is_unqueued e) e.provided (and_parts (is_unqueued e && e.provided) (holds ws e) is).0).0) fit)
+      (λ k fit. kind_by p _ (λ e. is_writable e && holds ws e) x false (λ e is. writable e e.kind refl (and_parts (is_writable e) (holds ws e) is).0) fit)
+      (λ n less fit. absurd (false≢true fit))
+
+  pub publish_unqueued : (x : ℕ) (value : Value) → is_proper p (noting a (deed.Publish x value) event) ≡ true → look p.elements x is_queued false ≡ false
+  publish_unqueued x value proper =
+      let ws = words_of value in
+      by_actor p a (to_publish x ws) (wish_part p a (deed.Publish x value) event refl proper) (λ fit. absurd (false≢true fit))
+      (λ k fit. kind_by p _ (λ e. is_writable e && holds ws e) x false (λ e is. writable e e.kind refl (and_parts (is_writable e) (holds ws e) is).0) fit)
+      (λ n less fit. absurd (false≢true fit))
+
+  pub read_unqueued : (x code : ℕ) (value : Value) → is_proper p (noting a (deed.Read x code value) event) ≡ true → look p.elements x is_queued false ≡ false
+  read_unqueued x code value proper = by_actor p a (to_read x) (wish_part p a (deed.Read x code value) event refl proper)
+      (λ fit. kind_by p _ (λ e. is_unqueued e && not e.provided) x false (λ e is. unqueued e e.kind refl (and_parts (is_unqueued e) (not e.provided) is).0) fit)
+      (λ k fit. kind_by p _ is_readable x false (λ e is. readable e e.kind refl is) fit)
+      (λ n less fit. absurd (false≢true fit))
+
+  pub invalidate_unqueued : (x : ℕ) → is_proper p (noting a (deed.Invalidate x) event) ≡ true → look p.elements x is_queued false ≡ false
+  invalidate_unqueued x proper = by_actor p a (to_invalidate x) (wish_part p a (deed.Invalidate x) event refl proper) (λ fit. absurd (false≢true fit))
+      (λ k fit. kind_by p _ (λ e. is_unqueued e && e.provided) x false (λ e is. unqueued e e.kind refl (and_parts (is_unqueued e) e.provided is).0) fit)
+      (λ n less fit. absurd (false≢true fit))
+
+  pub see_unqueued : (x : ℕ) (updated : Bool) → is_proper p (noting a (deed.IsUpdated x updated) event) ≡ true → look p.elements x is_queued false ≡ false
+  see_unqueued x updated proper = by_actor p a (to_see_updated x) (wish_part p a (deed.IsUpdated x updated) event refl proper) (λ fit. absurd (false≢true fit))
+      (λ k fit. kind_by p _ (λ e. is_unqueued e && not e.provided) x false (λ e is. unqueued e e.kind refl (and_parts (is_unqueued e) (not e.provided) is).0) fit)
+      (λ n less fit. absurd (false≢true fit))
+
+  pub send_queued : (x : ℕ) (value : Value) (code : ℕ) → is_proper p (noting a (deed.Send x value code) event) ≡ true → look p.elements x is_queued false ≡ true
+  send_queued x value code proper =
+      let ws = words_of value in
+      let queued : (e : ElemPlan) → ((is_queued e && e.provided) && holds ws e) ≡ true → is_queued e ≡ true =
+      λ e is. (and_parts (is_queued e) e.provided (and_parts (is_queued e && e.provided) (holds ws e) is).0).0 in
+      by_actor p a (to_send x ws) (wish_part p a (deed.Send x value code) event refl proper)
+      (λ fit. kind_by p _ (λ e. (is_queued e && e.provided) && holds ws e) x true queued fit)
+      (λ k fit. kind_by p _ (λ e. (is_queued e && e.provided) && holds ws e) x true queued fit)
+      (λ n less fit. absurd (false≢true fit))
+
+  pub receive_queued : (x code : ℕ) (value : Value) → is_proper p (noting a (deed.Receive x code value) event) ≡ true → look p.elements x is_queued false ≡ true
+  receive_queued x code value proper =
+      let queued : (e : ElemPlan) → (is_queued e && not e.provided) ≡ true → is_queued e ≡ true = λ e is. (and_parts (is_queued e) (not e.provided) is).0 in
+      by_actor p a (to_receive x) (wish_part p a (deed.Receive x code value) event refl proper)
+      (λ fit. kind_by p _ (λ e. is_queued e && not e.provided) x true queued fit) (λ k fit. kind_by p _ (λ e. is_queued e && not e.provided) x true queued fit) (λ n less fit. absurd (false≢true fit))

@@ -1,0 +1,5 @@
+pub mod Layout
+pub mod Rising
+pub mod Flags
+pub mod Gathered
+pub mod Kinds

@@ -1,0 +1,32 @@
+//! What an object answers to a wish.
+
+use bus_semantics::Entry;
+use rte_value::ActKey;
+
+/// What came of a wish.
+#[derive(Drop)]
+pub enum Acted {
+    /// This entry was made.
+    Done(Entry),
+    /// No entry of the wish may come, and why.
+    NotYet(Shown),
+}
+
+/// Why no entry of a wish may come.
+#[derive(Drop)]
+pub enum Shown {
+    /// The event is not pending.
+    NotDue(u32),
+    /// The area is held by this activation.
+    HeldBy(ActKey),
+    /// Nothing was returned for the point.
+    NotReturned(u32),
+    /// No accepted switch has not begun.
+    NoSwitch,
+    /// An admitted activation of the event runs that the next mode disables.
+    Running(u32),
+    /// What the event owes is not done.
+    Owed(u32),
+    /// The wish is none of the object's, or does not match what was before.
+    Unmatched,
+}

@@ -1,0 +1,12 @@
+use Rattle.std.proofs.Common.{◌≡◌, true, subst}
+use Rattle.std.specs.Prelude.{unwrap_or}
+use Rattle.bus_semantics.specs.Asked.{event_of}
+use Rattle.bus_semantics.specs.Legal.{calls_allow}
+use Rattle.port_objects.proofs.Freeing.{one_free}
+use Rattle.port_objects.proofs.laws.free_deeds_are_legal.Goals as goal
+
+pub returns-clause-only : goal.returns-clause-only
+returns-clause-only c = λ p m a w d h n sound fit alone is free who wish answers.
+    let allowed : calls_allow p h a n.entry.deed ≡ true = subst (λ z. calls_allow p h z n.entry.deed ≡ true) who answers.calls in
+    let same : n.entry.deed ≡ d = one_free p a h d n.entry.deed allowed w (unwrap_or (event_of w) 0) (unwrap_or n.event 0) alone free is.wish is.codes wish in
+    λ i. record { actor = who i; deed = same i }

@@ -1,0 +1,25 @@
+use Rattle.std.proofs.Common.{◌≡◌, ◌∙◌, ap, false}
+use Rattle.std.specs.List.{slice_get}
+use Rattle.std.specs.Option.{option_map_or}
+use Rattle.bus_semantics.specs.Plan.{plan_of}
+use Rattle.object_kinds.specs.Layout.{members_of}
+use Rattle.object_kinds.proofs.Lists.{at_index}
+use Rattle.object_kinds.proofs.Members.{listed_members}
+use Rattle.queue_objects.specs.Layout.{is_queued_at}
+use Rattle.port_objects.proofs.making.has_queues.Goals as goal
+
+pub returns-in-Some : goal.returns-in-Some
+returns-in-Some c =
+    let p = plan_of c.args.p.now in
+    let g = c.args.group in
+    let members : c.items-2.result.now ≡ members_of p g =
+    c.items-2.ensures ∙ listed_members p g c.index-items-group.result c.requires.sound.groups (at_index c.args.p.now.groups c.items.result.now g c.index-items-group.result c.items.ensures c.index-items-group.is c.requires.within) in
+    c.is_queued.ensures ∙ ap (λ o. option_map_or (is_queued_at p) o false) (c.in-Some.ensures.value ∙ ap (λ xs. slice_get xs 0) members)
+
+pub returns-in-None : goal.returns-in-None
+returns-in-None c =
+    let p = plan_of c.args.p.now in
+    let g = c.args.group in
+    let members : c.items-2.result.now ≡ members_of p g =
+    c.items-2.ensures ∙ listed_members p g c.index-items-group.result c.requires.sound.groups (at_index c.args.p.now.groups c.items.result.now g c.index-items-group.result c.items.ensures c.index-items-group.is c.requires.within) in
+    ap (λ o. option_map_or (is_queued_at p) o false) (c.in-None.ensures.value ∙ ap (λ xs. slice_get xs 0) members)

@@ -1,0 +1,15 @@
+mod Acting
+mod Contents
+mod Keeping
+mod Leading
+mod Lists
+mod Picking
+mod Planned
+mod Resting
+mod Missing
+mod Opening
+mod Order
+mod Silent
+mod Staying
+mod Starting
+mod Telling

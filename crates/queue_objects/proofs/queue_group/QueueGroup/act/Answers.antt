@@ -1,0 +1,43 @@
+use Rattle.std.proofs.Common.{subst}
+use Rattle.bus_semantics.specs.Plan.{plan_of}
+use Rattle.bus_semantics.specs.Wanted.{wanted_of}
+use Rattle.bus_semantics.specs.Objects.{touched}
+use Rattle.queue_objects.specs.Acting.{IsActed}
+use Rattle.queue_objects.proofs.Acting.{acted_answers, acted_planned, acted_tells}
+use Rattle.queue_objects.proofs.queue_group.QueueGroup.act.Goals as goal
+
+pub returns-clause-answer : goal.returns-clause-answer
+returns-clause-answer c =
+    let p = plan_of c.args.p.now in
+    let w = wanted_of c.args.wish.now in
+    acted_answers p (touched p c.args.who.now w) c.args.who.now w c.args.self.now c.act_by_wish.new.self c.act_by_wish.result c.requires.planned c.act_by_wish.ensures
+
+pub returns-clause-planned : goal.returns-clause-planned
+returns-clause-planned c =
+    let p = plan_of c.args.p.now in
+    let w = wanted_of c.args.wish.now in
+    acted_planned p (touched p c.args.who.now w) c.args.who.now w c.args.self.now c.act_by_wish.new.self c.act_by_wish.result c.requires.planned c.act_by_wish.ensures
+
+pub returns-clause-told : goal.returns-clause-told
+returns-clause-told c =
+    let p = plan_of c.args.p.now in
+    let w = wanted_of c.args.wish.now in
+    acted_tells p (touched p c.args.who.now w) c.args.who.now w c.args.self.now c.act_by_wish.new.self c.act_by_wish.result c.act_by_wish.ensures
+
+pub returns-clause-same : goal.returns-clause-same
+returns-clause-same c = λ shown is.
+    let p = plan_of c.args.p.now in
+    let w = wanted_of c.args.wish.now in
+    (subst (IsActed p c.args.who.now w c.args.self.now c.act_by_wish.new.self) is c.act_by_wish.ensures).same
+
+pub returns-clause-only : goal.returns-clause-only
+returns-clause-only c = λ e is.
+    let p = plan_of c.args.p.now in
+    let w = wanted_of c.args.wish.now in
+    (subst (IsActed p c.args.who.now w c.args.self.now c.act_by_wish.new.self) is c.act_by_wish.ensures).told.only
+
+pub returns-clause-left : goal.returns-clause-left
+returns-clause-left c = λ e is.
+    let p = plan_of c.args.p.now in
+    let w = wanted_of c.args.wish.now in
+    (subst (IsActed p c.args.who.now w c.args.self.now c.act_by_wish.new.self) is c.act_by_wish.ensures).told.left
