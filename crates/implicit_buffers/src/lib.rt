@@ -4,7 +4,10 @@
 mod laws;
 mod planning;
 
-pub use laws::{runnables_fetch_in_declared_order, runnables_publish_in_declared_order};
+pub use laws::{
+    programs_leave_what_was_fetched, runnables_fetch_in_declared_order,
+    runnables_publish_in_declared_order,
+};
 pub use planning::{BufferPlan, plan_buffers};
 
 /// There was no memory for what a call makes.

@@ -3,6 +3,8 @@
 ghost use Rattle.std.specs.Prelude.{◌≡◌, ◌≤◌, ◌↔◌, length, IsSome, IfSome};
 ghost use Rattle.rte_value.specs.Arithmetic.{clamped};
 ghost use Rattle.rte_value.specs.Values.{words_of};
+ghost use Rattle.runnable_lang.specs.Trees.{expr_tree};
+ghost use Rattle.runnable_lang.specs.Expressions.{worth};
 ghost use Rattle.task_machine.specs.Words.{words_given};
 
 use arrayvec::ArrayVec;
@@ -30,6 +32,15 @@ pub fn nearest(word: Word, limits: &Limits) -> Word
     limits.low.max(word.min(limits.high))
 }
 
+impl GivenWord {
+    /// The word over these variables, clamped to its limits.
+    fn word(&self, vars: &[Word]) -> Word
+        ensures { result ≡ clamped self.now.limits (worth vars.now (expr_tree self.now.value)) }
+    {
+        nearest(self.value.value(vars), &self.limits)
+    }
+}
+
 impl Given {
     /// A list of these words. None exactly where there are more than 16. It takes no memory.
     pub fn new(words: Vec<GivenWord>) -> Option<Given>
@@ -46,10 +57,21 @@ impl Given {
     pub fn value(&self, vars: &[Word]) -> Value
         ensures { words_of result ≡ words_given vars.now self.now.words.items }
     {
+        match self.words.as_slice() {
+            [only] => Value::of_word(only.word(vars)),
+            _ => self.value_of_all(vars),
+        }
+    }
+
+    /// The same for any number of words. It stays a function of its own, since the room of a whole list costs a call with one
+    /// word more than the word.
+    #[inline(never)]
+    fn value_of_all(&self, vars: &[Word]) -> Value
+        ensures { words_of result ≡ words_given vars.now self.now.words.items }
+    {
         let mut words: ArrayVec<Word, 16> = ArrayVec::new();
         for word in &self.words {
-            let worth = word.value.value(vars);
-            words.push(nearest(worth, &word.limits));
+            words.push(word.word(vars));
         }
         match Value::new(words.as_slice()) {
             Some(value) => value,

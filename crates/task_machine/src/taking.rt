@@ -23,8 +23,8 @@ pub fn is_over(answer: &Deed) -> bool
     }
 }
 
-/// The value in an answer, and the empty one where it gives none.
-fn value_of_answer(answer: &Deed) -> Value
+/// The value in an answer, copied whole, and the empty one if it gives none.
+fn copied_value_of_answer(answer: &Deed) -> Value
     ensures { words_of result ≡ words_in answer.now }
 {
     match answer {
@@ -34,6 +34,18 @@ fn value_of_answer(answer: &Deed) -> Value
         | Deed::Answer { value, .. }
         | Deed::TakeResult { value, .. } => *value,
         _ => Value::empty(),
+    }
+}
+
+/// The value in an answer, and the empty one if it gives none. A value of no word or of one is made anew. So the room of 16
+/// words is copied for the others alone, and an answer that nobody reads whole need not be written whole.
+fn value_of_answer(answer: &Deed) -> Value
+    ensures { words_of result ≡ words_in answer.now }
+{
+    match words_of_answer(answer) {
+        [] => Value::empty(),
+        [only] => Value::of_word(*only),
+        _ => copied_value_of_answer(answer),
     }
 }
 

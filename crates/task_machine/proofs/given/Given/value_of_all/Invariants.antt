@@ -1,7 +1,7 @@
 use Rattle.std.proofs.Common.{◌≡◌, take}
 use Rattle.arrayvec.specs.ArrayVec.{array_vec_len}
 use Rattle.task_machine.specs.Words.{words_given}
-use Rattle.task_machine.proofs.given.Given.value.Given as goal
+use Rattle.task_machine.proofs.given.Given.value_of_all.Given as goal
 
 abbrev pub invariant-loop-word : goal.invariant-loop-word
 invariant-loop-word l = record {
