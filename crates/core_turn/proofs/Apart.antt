@@ -18,13 +18,15 @@ use Rattle.bus_semantics.specs.declared.plan.EventPlan.{EventPlan}
 use Rattle.bus_semantics.specs.SoundPlan.{is_in, same_numbers}
 use Rattle.bus_semantics.specs.SoundNames.{is_name}
 use Rattle.bus_semantics.specs.Sound.{mapped_events, times_mapped, tasks_of}
+use Rattle.bus_laws.proofs.Thinning.{option_same}
+use Rattle.activation_laws.specs.LookUps.{clash, looked}
+use Rattle.history_laws.proofs.Lists.{there_is}
 use Rattle.core_turn.specs.declared.slot.Slot.{Slot}
 use Rattle.core_turn.specs.Plans.{IsBuilt}
 use Rattle.core_turn.specs.Slots.{starts, is_key_of}
 use Rattle.core_turn.specs.Cores.{CoreState, events_of_slot, tasks_of_core, HasTasks}
-use Rattle.core_turn.proofs.Basics.{clash, option_same, looked}
 use Rattle.core_turn.proofs.Looks.{gathered_on, count_on}
-use Rattle.core_turn.proofs.Facts.{there_is, started, event_known}
+use Rattle.core_turn.proofs.Facts.{started, event_known}
 
 -- ---- counts
 

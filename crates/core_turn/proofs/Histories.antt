@@ -1,52 +1,57 @@
 -- What a further entry changes: who runs, the current activation of a key, and what a task stands for.
-use Rattle.std.proofs.Common.{◌≡◌, ℕ, Bool, true, false, not, if◌then◌else◌, refl, sym, ◌∙◌, ap, subst, List, [], ◌∷◌, ◌++◌, Option, Some, None}
+use Rattle.std.proofs.Common.{◌≡◌, ℕ, Bool, true, false, not, if◌then◌else◌, refl, ◌∙◌, ap, subst, List, [], ◌∷◌, ◌++◌, Option, Some, None}
 use Rattle.std.specs.Prelude.{option_and_then, unwrap_or}
 use Rattle.std.specs.List.{slice_get}
 use Rattle.std.proofs.lemmas.Bool.{and_from, eq-eqb, false≢true}
 use Rattle.rte_value.specs.declared.value.Value.{Value}
 use Rattle.rte_value.specs.declared.kinds.ActKey.{ActKey}
 use Rattle.rte_value.specs.Values.{words_of, same_words, same_key, same_number}
-use Rattle.bus_semantics.specs.declared.plan.PointPlan.{PointPlan}
 use Rattle.bus_semantics.specs.declared.entries.Actor.{Actor}
 use Rattle.bus_semantics.specs.declared.entries.Actor.TheVariants.{Env, Machine, Act}
 use Rattle.bus_semantics.specs.declared.entries.Deed.{Deed}
 use Rattle.bus_semantics.specs.declared.entries.Deed.TheVariants as deed
 use Rattle.bus_semantics.specs.declared.entries.Entry.{Entry}
-use Rattle.bus_semantics.specs.Plan.{Plan, server_of, runnable_of_event}
-use Rattle.bus_semantics.specs.Wanted.{Wanted, to_start, to_write, to_read, to_invalidate, to_see_updated, to_end, wanted_by, same_wanted}
+use Rattle.bus_semantics.specs.declared.script.Mapping.{Mapping}
+use Rattle.bus_semantics.specs.Plan.{Plan, runnable_of_event}
+use Rattle.bus_semantics.specs.Wanted.{Wanted, to_start, to_fetch, to_write, to_read, to_invalidate, to_see_updated, to_send, to_receive, to_ask, to_hear, to_take_result, to_return, to_enter, to_leave, to_switch, to_see_mode, to_publish, to_end, wanted_by, same_wanted}
 use Rattle.bus_semantics.specs.History.{History, is_environment, is_over, is_end, is_of, made_by, event_started, needs_event, runs, last_started}
 use Rattle.bus_semantics.specs.Actor.{Activation, with_deed, activation_of, next_wish, direct_key, asked_last, is_held_back, caller_has_asked, may_start, is_this, is_wanted_next, starts_or_goes_on, follows_program}
 use Rattle.bus_semantics.specs.Locality.{starts_its_own}
+use Rattle.bus_laws.proofs.Thinning.{option_test}
+use Rattle.activation_laws.specs.LookUps.{clash}
+use Rattle.history_laws.proofs.Keys.{activation_mine, activation_other}
 use Rattle.task_machine.specs.declared.instr.TaskSet.{TaskSet}
 use Rattle.task_machine.specs.Standing.{Standing}
 use Rattle.task_machine.specs.Frames.{Stands}
+use Rattle.core_turn.specs.Plans.{IsBuilt}
+use Rattle.core_turn.specs.Calls.{is_call}
 use Rattle.core_turn.specs.Slots.{is_key_of}
 use Rattle.core_turn.specs.Standing.{StandsForRunning, TaskStands}
-use Rattle.core_turn.proofs.Basics.{clash, same_option, key_same, same_keys, words_same, no_look}
-use Rattle.core_turn.proofs.Wishes.{is_data, IsData}
+use Rattle.core_turn.proofs.Basics.{key_same, words_same}
+use Rattle.core_turn.proofs.Facts.{unjoined}
 
 abbrev pub entry_by : ActKey → Deed → Entry
 entry_by k d = record { actor = Act k; deed = d }
 
 -- ---- deeds of wishes
 
--- a deed that answers a wish for data
-pub record IsDatum (p : Plan) (d : Deed) : Type 0 where
+-- a deed that answers a call
+pub record IsCall (p : Plan) (d : Deed) : Type 0 where
   pub goes_on : (g : History) (k : ActKey) → starts_or_goes_on p g k d ≡ is_wanted_next p g k d
   pub same : (by other : ℕ) → wanted_by by d ≡ wanted_by other d
   pub over : is_over d ≡ false
   pub no_end : is_end d ≡ false
-  pub started : event_started d ≡ None
   pub free : needs_event d ≡ false
   pub own : (k : ActKey) → starts_its_own p (Act k) d ≡ true
   pub more : (a : Activation) → with_deed d (Some a) ≡ Some (record { event = a.event; start = a.start; deeds = a.deeds ++ d ∷ [] })
 
-pub datum : (p : Plan) (home : Option ℕ) (by : ℕ) (d : Deed) → is_data p home (wanted_by by d) ≡ true → IsDatum p d
-datum p home by (deed.Write x value) is = record { goes_on = λ g k. refl; same = λ a b. refl; over = refl; no_end = refl; started = refl; free = refl; own = λ k. refl; more = λ a. refl }
-datum p home by (deed.Read x code value) is = record { goes_on = λ g k. refl; same = λ a b. refl; over = refl; no_end = refl; started = refl; free = refl; own = λ k. refl; more = λ a. refl }
-datum p home by (deed.Invalidate x) is = record { goes_on = λ g k. refl; same = λ a b. refl; over = refl; no_end = refl; started = refl; free = refl; own = λ k. refl; more = λ a. refl }
-datum p home by (deed.IsUpdated x updated) is = record { goes_on = λ g k. refl; same = λ a b. refl; over = refl; no_end = refl; started = refl; free = refl; own = λ k. refl; more = λ a. refl }
-datum p home by d is = absurd (false≢true is)
+pub call : (p : Plan) (by : ℕ) (d : Deed) → is_call (wanted_by by d) ≡ true → IsCall p d
+call p by deed.Tick is = absurd (false≢true is)
+call p by (deed.Start event point value) is = absurd (false≢true is)
+call p by (deed.Admit admitted) is = absurd (false≢true is)
+call p by (deed.Phase step) is = absurd (false≢true is)
+call p by deed.End is = absurd (false≢true is)
+call p by d is = record { goes_on = λ g k. refl; same = λ a b. refl; over = refl; no_end = refl; free = refl; own = λ k. refl; more = λ a. refl }
 
 pub end_is : (by n : ℕ) (d : Deed) → wanted_by by d ≡ to_end n → d ≡ deed.End
 end_is by n deed.End e = refl
@@ -101,19 +106,29 @@ start_is by n (deed.Publish x value) e = absurd (cc e)
 
 -- ---- the actor rule
 
-same_data : (p : Plan) (home : Option ℕ) (w : Wanted) → IsData p home w → same_wanted w w ≡ true
-same_data p home (to_write x ws) is = and_from _ (same_words ws ws) (eq-eqb x x refl) (words_same ws)
-same_data p home (to_read x) is = eq-eqb x x refl
-same_data p home (to_invalidate x) is = eq-eqb x x refl
-same_data p home (to_see_updated x) is = eq-eqb x x refl
-same_data p home w is = absurd (false≢true is)
+same_call : (w : Wanted) → is_call w ≡ true → same_wanted w w ≡ true
+same_call (to_fetch x) is = eq-eqb x x refl
+same_call (to_write x ws) is = and_from _ (same_words ws ws) (eq-eqb x x refl) (words_same ws)
+same_call (to_read x) is = eq-eqb x x refl
+same_call (to_invalidate x) is = eq-eqb x x refl
+same_call (to_see_updated x) is = eq-eqb x x refl
+same_call (to_send x ws) is = and_from _ (same_words ws ws) (eq-eqb x x refl) (words_same ws)
+same_call (to_receive x) is = eq-eqb x x refl
+same_call (to_ask q ws) is = and_from _ (same_words ws ws) (eq-eqb q q refl) (words_same ws)
+same_call (to_hear q) is = eq-eqb q q refl
+same_call (to_take_result q) is = eq-eqb q q refl
+same_call (to_return code ws) is = and_from _ (same_words ws ws) (eq-eqb code code refl) (words_same ws)
+same_call (to_enter x) is = eq-eqb x x refl
+same_call (to_leave x) is = eq-eqb x x refl
+same_call (to_switch n mode) is = and_from _ _ (eq-eqb n n refl) (eq-eqb mode mode refl)
+same_call (to_see_mode port) is = eq-eqb port port refl
+same_call (to_publish x ws) is = and_from _ (same_words ws ws) (eq-eqb x x refl) (words_same ws)
+same_call w is = absurd (false≢true is)
 
-module _ (p : Plan) (unasked : p.points ≡ []) (g : History) (k : ActKey) where
+module _ (p : Plan) (m : Mapping) (built : IsBuilt p m) (g : History) (k : ActKey) where
   no_direct : (o : Option ℕ) → option_and_then (direct_key p) o ≡ None
   no_direct None = refl
-  no_direct (Some q) =
-      let none : server_of p q ≡ None = no_look p.points q (λ (t : PointPlan). t.server) None unasked in
-      rw none refl
+  no_direct (Some q) = let none = unjoined p m built q in rw none refl
 
   never_held : not (is_held_back p g k) ≡ true
   never_held = let none = no_direct (asked_last k g) in rw none refl
@@ -125,10 +140,10 @@ module _ (p : Plan) (unasked : p.points ≡ []) (g : History) (k : ActKey) where
       (going ∙ ap (is_this (wanted_by (unwrap_or (last_started k g) 0) d)) next ∙ ap (λ v. same_wanted v w) wish ∙ same)
       never_held
 
-  pub data_follows : (home : Option ℕ) (w : Wanted) (by : ℕ) (d : Deed) → IsData p home w → wanted_by by d ≡ w → next_wish p g k ≡ Some w → follows_program p g (Act k) d ≡ true
-  data_follows home w by d is wish next =
-      let a = datum p home by d (subst (IsData p home) (sym wish) is) in
-      goes_on_next w d (a.goes_on g k) (a.same (unwrap_or (last_started k g) 0) by ∙ wish) next (same_data p home w is)
+  pub call_follows : (w : Wanted) (by : ℕ) (d : Deed) → is_call w ≡ true → wanted_by by d ≡ w → next_wish p g k ≡ Some w → follows_program p g (Act k) d ≡ true
+  call_follows w by d is wish next =
+      let a = call p by d (ap is_call wish ∙ is) in
+      goes_on_next w d (a.goes_on g k) (a.same (unwrap_or (last_started k g) 0) by ∙ wish) next (same_call w is)
 
   pub end_follows : (n : ℕ) → last_started k g ≡ Some n → next_wish p g k ≡ Some (to_end n) → follows_program p g (Act k) deed.End ≡ true
   end_follows n last next = goes_on_next (to_end n) deed.End refl (ap (λ o. to_end (unwrap_or o 0)) last) next (eq-eqb n n refl)
@@ -138,14 +153,11 @@ module _ (p : Plan) (unasked : p.points ≡ []) (g : History) (k : ActKey) where
       let asked : caller_has_asked p g k ≡ true = rw plain refl in
       and_from (may_start p g k n) _
       (and_from _ (caller_has_asked p g k)
-      (and_from (same_number (runnable_of_event p n) (Some k.runnable)) (not (runs k g)) (same_option (runnable_of_event p n) (Some k.runnable) starts) (ap not idle))
+      (and_from (same_number (runnable_of_event p n) (Some k.runnable)) (not (runs k g)) (option_test (runnable_of_event p n) (Some k.runnable) starts) (ap not idle))
       asked)
       never_held
 
 -- ---- who runs
-
-by_test : {X : Type 0} (b c : Bool) (x y : X) → b ≡ c → (if b then x else y) ≡ (if c then x else y)
-by_test b c x y e = ap (λ z. if z then x else y) e
 
 pub runs_on : (k j : ActKey) (d : Deed) (g : History) → same_key j k ≡ false → runs j (entry_by k d ∷ g) ≡ runs j g
 runs_on k j d g other = ap (λ b. if b then (if is_over d then false else true) else runs j g) other
@@ -155,12 +167,6 @@ runs_now k j d g same goes = ap (λ b. if b then (if is_over d then false else t
 
 pub runs_no_more : (k j : ActKey) (g : History) → same_key j k ≡ true → runs j (entry_by k deed.End ∷ g) ≡ false
 runs_no_more k j g same = ap (λ b. if b then false else runs j g) same
-
-pub current_on : (k j : ActKey) (d : Deed) (g : History) → same_key j k ≡ false → activation_of j (entry_by k d ∷ g) ≡ activation_of j g
-current_on k j d g other = ap (λ b. if b then with_deed d (activation_of j g) else activation_of j g) other
-
-pub current_now : (k : ActKey) (d : Deed) (g : History) → activation_of k (entry_by k d ∷ g) ≡ with_deed d (activation_of k g)
-current_now k d g = ap (λ b. if b then with_deed d (activation_of k g) else activation_of k g) (same_keys k k refl)
 
 -- the current activation has the event of the last start
 pub last_event : (k : ActKey) (g : History) (a : Activation) → activation_of k g ≡ Some a → last_started k g ≡ Some a.event
@@ -186,7 +192,7 @@ module _ (p : Plan) (t : TaskSet) (g : History) (events : List ℕ) where
   frame_on k d f None other stands = tt
   frame_on k d f (Some j) other stands = record {
     activation = stands.activation;
-    current = current_on k j d g (other j refl) ∙ stands.current;
+    current = activation_other j (entry_by k d) g (other j refl) ∙ stands.current;
     point = stands.point;
     value = stands.value;
     words = stands.words;
@@ -214,7 +220,7 @@ module _ (p : Plan) (t : TaskSet) (g : History) (events : List ℕ) where
     one = λ j mine. of_test j mine (same_key j k) refl;
     frame = record {
       activation = record { event = n; start = words_of value; deeds = [] };
-      current = current_now k (deed.Start n point value) g;
+      current = activation_mine k (deed.Start n point value) g;
       point = point;
       value = value;
       words = refl;
@@ -227,14 +233,14 @@ module _ (p : Plan) (t : TaskSet) (g : History) (events : List ℕ) where
       of_test j mine false is = runs_on k j (deed.Start n point value) g is ∙ stands.one j mine
 
   -- a call of the running activation
-  pub datum_stands : (k : ActKey) (d : Deed) (f new : Standing) → IsDatum p d → (stands : TaskStands p t g events (Some k) f)
+  pub call_stands : (k : ActKey) (d : Deed) (f new : Standing) → IsCall p d → (stands : TaskStands p t g events (Some k) f)
       → Stands t k (deed.Start stands.frame.activation.event stands.frame.point stands.frame.value) (stands.frame.activation.deeds ++ d ∷ []) new
       → TaskStands p t (entry_by k d ∷ g) events (Some k) new
-  datum_stands k d f new is stands fed = record {
+  call_stands k d f new is stands fed = record {
     one = λ j mine. of_test j mine (same_key j k) refl;
     frame = record {
       activation = record { event = stands.frame.activation.event; start = stands.frame.activation.start; deeds = stands.frame.activation.deeds ++ d ∷ [] };
-      current = current_now k d g ∙ ap (with_deed d) stands.frame.current ∙ is.more stands.frame.activation;
+      current = activation_mine k d g ∙ ap (with_deed d) stands.frame.current ∙ is.more stands.frame.activation;
       point = stands.frame.point;
       value = stands.frame.value;
       words = stands.frame.words;

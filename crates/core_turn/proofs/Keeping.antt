@@ -15,25 +15,25 @@ use Rattle.bus_semantics.specs.declared.entries.Stamped.{Stamped}
 use Rattle.bus_semantics.specs.declared.script.Mapping.{Mapping}
 use Rattle.bus_semantics.specs.Plan.{Plan}
 use Rattle.bus_semantics.specs.Wanted.{Wanted, wanted_by}
-use Rattle.bus_semantics.specs.History.{History, Past, needs_event, started_before, note, noted}
+use Rattle.bus_semantics.specs.History.{History, Noted, Past, needs_event, started_before, note}
 use Rattle.bus_semantics.specs.Objects.{machine_object, object_of, touched_by, touches, entries_of, touched}
 use Rattle.bus_semantics.specs.Fitting.{wish_fits, answer_fits, activation_fits, fits}
-use Rattle.bus_semantics.specs.Legal.{Answers}
+use Rattle.bus_semantics.specs.Actor.{follows_program}
+use Rattle.bus_semantics.specs.Legal.{MayFollow}
 use Rattle.bus_semantics.specs.Locality.{is_proper, starts_its_own}
-use Rattle.bus_semantics.specs.Pasts.{Follows}
-use Rattle.bus_semantics.specs.Asked.{asks_its_own, event_of, noted_for}
+use Rattle.bus_semantics.specs.Asked.{asks_its_own, event_of, noted_for, MayCome}
 use Rattle.port_objects.specs.declared.object.Object.{Object}
 use Rattle.port_objects.specs.Objects.{kept_of}
 use Rattle.port_objects.specs.Standing.{Stands}
 use Rattle.port_objects.specs.Coming.{MayAsk, IsTheOne}
 use Rattle.port_objects.specs.Answers.{IsMade}
-use Rattle.port_objects.specs.Benches.{MadeOn}
+use Rattle.port_objects.specs.Benches.{MadeOn, Told}
 use Rattle.task_machine.specs.declared.instr.TaskSet.{TaskSet}
 use Rattle.core_turn.specs.Plans.{IsBuilt}
 use Rattle.core_turn.specs.Cores.{CoreState}
 use Rattle.core_turn.specs.Ready.{IsBegunIn, IsReady}
 use Rattle.core_turn.specs.Standing.{SlotStands, CoreStands}
-use Rattle.core_turn.specs.Looking.{IsEntryOf, MadeAt, Told}
+use Rattle.core_turn.specs.Looking.{IsEntryOf, MadeAt}
 use Rattle.core_turn.specs.Turning.{StepFollows, FirstInOrder, OrderTold, Steps, NoneTold, NothingComes}
 use Rattle.core_turn.specs.Lawful.{IsLawful}
 use Rattle.core_turn.proofs.Facts.{enabled, end_touches}
@@ -171,7 +171,6 @@ module _ (p : Plan) (m : Mapping) (built : IsBuilt p m) where
         let fitting : wish_fits p a w ≡ true = (λ i. wish_fits p (sym entry.actor i) (sym wish i)) ∙ plain in
         record {
           sound = built.sound;
-          unqueued = built.plain.unqueued;
           fits = fitting;
           own = subst (λ v. asks_its_own p a v ≡ true) wish (own_asked p a s.entry.deed 0 free (subst (λ x. starts_its_own p x s.entry.deed ≡ true) entry.actor parts.1));
           stands = subst (λ n. Stands p n (kept_of k) (entries_of p h object)) (sym (ap (λ o. unwrap_or o 0) touching)) stands;
@@ -182,7 +181,7 @@ module _ (p : Plan) (m : Mapping) (built : IsBuilt p m) where
 module _ (p : Plan) (m : Mapping) (t : TaskSet) (cores : List CoreState) (i : ℕ) (old new : CoreState) (objects after : List Object) (before now : Told) (s : Stamped) (h : History)
     (lawful : IsLawful p m t cores objects h) (is : slice_get cores i ≡ Some old) (ready : IsReady p m t new) (steps : Steps p t old new before now s)
     (made_one : (a : Actor) (w : Wanted) (x y : Object) (l : Past) (e : Entry) → object_of p a w ≡ Some (touched p a w) → MayAsk p m a w (kept_of x) l → IsMade p (touched p a w) a w x y e → IsTheOne p a w (kept_of y) l e)
-    (whole : (e : Entry) (object : ℕ) → Follows p object (entries_of p h object) (note h e) → Answers p (noted h) (note h e)) where
+    (may_follow : (a : Actor) (w : Wanted) (n : Noted) → needs_event n.entry.deed ≡ false → follows_program p h a n.entry.deed ≡ true → MayCome p a w (entries_of p h (touched p a w)) n → MayFollow p h n.entry) where
   old_ready : IsReady p m t old
   old_ready = lawful.ready i old is
 
@@ -218,14 +217,14 @@ module _ (p : Plan) (m : Mapping) (t : TaskSet) (cores : List CoreState) (i : �
   -- ---- the entry and the objects
 
   record Kept : Type 0 where
-    answers : Answers p (noted h) (note h s.entry)
+    may : MayFollow p h s.entry
     stand : (j : ℕ) (o : Object) → slice_get after j ≡ Some o → Stands p j (kept_of o) (entries_of p (s.entry ∷ h) j)
 
   untouched : (a : Actor) (w : Wanted) → IsEntryOf p a w s → object_of p a w ≡ None → after ≡ objects → Kept
   untouched a w entry none same =
       let touching = touched_note p m old_ready.built h s a w entry ∙ none in
       record {
-        answers = follows.free touching;
+        may = record { fit = (and_parts (fits p s.entry) (starts_its_own p s.entry.actor s.entry.deed) steps.step.proper).0; actor = follows.rule; answers = follows.free touching };
         stand = λ j o found. subst (Stands p j (kept_of o)) (sym (parted p m old_ready.built h s a w entry j false (ap (λ x. same_number x (Some j)) touching)))
             (lawful.stand j o (subst (λ os. slice_get os j ≡ Some o) same found));
       }
@@ -236,12 +235,12 @@ module _ (p : Plan) (m : Mapping) (t : TaskSet) (cores : List CoreState) (i : �
       let ask = asked_on p m old_ready.built h s a w entry object made.before touching steps.step.proper (lawful.stand object made.before made.found) in
       let one = made_one a w made.before made.now (entries_of p h object) s.entry (touching ∙ ap (λ n. Some n) (sym number)) ask (subst (λ n. IsMade p n a w made.before made.now s.entry) (sym number) made.made) in
       let same = noted_same p m old_ready.built h s a w entry object touching in
-      let comes : Follows p object (entries_of p h object) (note h s.entry) =
-      subst (λ n. Follows p n (entries_of p h object) (note h s.entry)) number (subst (Follows p (touched p a w) (entries_of p h object)) same one.comes.follows) in
+      let comes : MayCome p a w (entries_of p h (touched p a w)) (noted_for w s.entry) = subst (λ n. MayCome p a w (entries_of p h n) (noted_for w s.entry)) (sym number) one.comes in
+      let rule : follows_program p h a s.entry.deed ≡ true = subst (λ x. follows_program p h x s.entry.deed ≡ true) entry.actor follows.rule in
       let standing : Stands p object (kept_of made.now) (note h s.entry ∷ entries_of p h object) =
       subst (λ n. Stands p n (kept_of made.now) (note h s.entry ∷ entries_of p h object)) number (subst (λ x. Stands p (touched p a w) (kept_of made.now) (x ∷ entries_of p h object)) same one.stands) in
       record {
-        answers = whole s.entry object comes;
+        may = may_follow a w (noted_for w s.entry) (unbound p m old_ready.built h s a w entry object touching) rule comes;
         stand = λ j o found. of_place made.now standing j o (placed objects object made.now j o (subst (λ (os : List Object). slice_get os j ≡ Some o) (same_Some _ _ made.others) found));
       }
     where
@@ -268,7 +267,7 @@ module _ (p : Plan) (m : Mapping) (t : TaskSet) (cores : List CoreState) (i : �
   keeps_lawful told tells =
       let k = kept told tells in
       record {
-        legal = (lawful.legal, record { fit = (and_parts (fits p s.entry) (starts_its_own p s.entry.actor s.entry.deed) steps.step.proper).0; actor = follows.rule; answers = k.answers });
+        legal = (lawful.legal, k.may);
         stand = k.stand;
         number = λ j c found. cores_numbered j c (placed cores i new j c found);
         ready = λ j c found. cores_ready j c (placed cores i new j c found);

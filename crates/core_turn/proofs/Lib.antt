@@ -1,9 +1,6 @@
 pub mod Basics
-pub mod Tame
-pub mod Served
-pub mod Wishes
-pub mod Activities
 pub mod Facts
+pub mod Wishes
 pub mod Histories
 pub mod Until
 pub mod Tries
@@ -18,11 +15,12 @@ pub mod Stepped
 pub mod Made
 pub mod Keeping
 pub mod Places
-pub mod Started
 pub mod Mapped
 pub mod Resting
 pub mod AtRest
-pub mod Freeing
+pub mod Order
+pub mod Waiters
 pub mod Awakes
+pub mod Left
 pub mod Unchanged
 pub mod Settling

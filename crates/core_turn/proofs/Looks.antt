@@ -1,16 +1,20 @@
 -- Looks one after the other.
 use Rattle.std.proofs.Common.{◌≡◌, ℕ, zero, suc, ◌+◌, ◌≤◌, Bool, true, false, ◌||◌, ◌==◌, if◌then◌else◌, refl, sym, ◌∙◌, ap, subst, arith, append_assoc, List, [], ◌∷◌, ◌++◌, Option, Some, None}
 use Rattle.std.specs.List.{list_any, slice_get}
+use Rattle.std.proofs.lemmas.Bool.{or_left, or_right}
 use Rattle.std.proofs.lemmas.List.{append-nil}
+use Rattle.std.proofs.lemmas.List.Folds.{list_any-append}
+use Rattle.rte_value.specs.Values.{same_number}
 use Rattle.bus_semantics.specs.declared.entries.Stamped.{Stamped}
 use Rattle.bus_semantics.specs.Plan.{Plan}
 use Rattle.bus_semantics.specs.History.{count}
+use Rattle.bus_semantics.specs.Objects.{object_of}
 use Rattle.bus_semantics.specs.Rest.{Try, gathered}
 use Rattle.port_objects.specs.declared.object.Object.{Object}
-use Rattle.port_objects.specs.Benches.{Work, Further, IsFurther, StampAfter}
+use Rattle.port_objects.specs.Benches.{Work, Further, IsFurther, StampAfter, Told}
 use Rattle.core_turn.specs.declared.look.Look.{Look}
 use Rattle.core_turn.specs.declared.look.Look.TheVariants.{Made, Nothing, Contended}
-use Rattle.core_turn.specs.Looking.{AllHeld, FirstMade, ToldLooked, ObjectsLooked, RoomLooked, WorkLooked, made_in, Told, Looked}
+use Rattle.core_turn.specs.Looking.{AllHeld, FirstMade, ToldLooked, ObjectsLooked, RoomLooked, WorkLooked, made_in, is_touched, LostLooked, Looked}
 
 -- ---- a bench's work
 
@@ -99,12 +103,29 @@ module _ (p : Plan) where
   objects_on ts us None b c l first last = subst (λ o. ObjectsLooked p us o c l) first last
   objects_on ts us (Some objects) b c l first last = told_on ts us objects c l first.0 (subst (λ o. ObjectsLooked p us o c l) first.1 last)
 
+  -- the object that another core holds
+
+  abbrev touches_it : (object : ℕ) → Try → Bool
+  touches_it object t = same_number (object_of p t.0 t.1) (Some object)
+
+  pub touched_first : (ts us : List Try) (object : ℕ) → is_touched p ts object ≡ true → is_touched p (ts ++ us) object ≡ true
+  touched_first ts us object touched = list_any-append (touches_it object) ts us ∙ or_left (is_touched p ts object) (is_touched p us object) touched
+
+  pub touched_last : (ts us : List Try) (object : ℕ) → is_touched p us object ≡ true → is_touched p (ts ++ us) object ≡ true
+  touched_last ts us object touched = list_any-append (touches_it object) ts us ∙ or_right (is_touched p ts object) (is_touched p us object) touched
+
+  lost_on : (ts us : List Try) (l : Look) → LostLooked p us l → LostLooked p (ts ++ us) l
+  lost_on ts us (Made s) lost = tt
+  lost_on ts us Nothing lost = tt
+  lost_on ts us (Contended object) lost = touched_last ts us object lost
+
   pub looked_on : (ts us : List Try) (m n : ℕ) (a b c : Told) (l : Look) → Looked p ts m a b Nothing → Looked p us n b c l → Looked p (ts ++ us) (m + n) a c l
   looked_on ts us m n a b c l first last = record {
     room = room_on a.room b.room c.room l first.room last.room;
     next = subst (λ o. StampAfter o c.next (made_in l)) (next_same a.next b.next first.next) last.next;
     objects = objects_on ts us a.objects b.objects c.objects l first.objects last.objects;
     work = work_looked m n a.work b.work c.work l first.work last.work;
+    lost = lost_on ts us l last.lost;
   }
 
   still : (o : Option (List Object)) → ObjectsLooked p [] o o Nothing
@@ -112,7 +133,7 @@ module _ (p : Plan) where
   still (Some objects) = (tt, refl)
 
   pub looked_none : (a : Told) → Looked p [] 0 a a Nothing
-  looked_none a = record { room = refl; next = next_still a.next; objects = still a.objects; work = work_same a.work }
+  looked_none a = record { room = refl; next = next_still a.next; objects = still a.objects; work = work_same a.work; lost = tt }
 
   pub looked_as : (ts us : List Try) (m n : ℕ) (a b : Told) (l : Look) → ts ≡ us → m ≡ n → Looked p ts m a b l → Looked p us n a b l
   looked_as ts us m n a b l same count looked = subst (λ k. Looked p us k a b l) count (subst (λ x. Looked p x m a b l) same looked)
@@ -134,14 +155,20 @@ module _ (p : Plan) where
   objects_more ts us (Some objects) c s first = told_more ts us objects c s first
 
   pub made_more : (ts us : List Try) (m n : ℕ) (a b : Told) (s : Stamped) → Looked p ts m a b (Made s) → Looked p (ts ++ us) n a b (Made s)
-  made_more ts us m n a b s looked = record { room = looked.room; next = looked.next; objects = objects_more ts us a.objects b.objects s looked.objects; work = looked.work }
+  made_more ts us m n a b s looked = record { room = looked.room; next = looked.next; objects = objects_more ts us a.objects b.objects s looked.objects; work = looked.work; lost = tt }
 
   objects_lost : (ts us : List Try) (a c : Option (List Object)) (object : ℕ) → ObjectsLooked p ts a c (Contended object) → ObjectsLooked p us a c (Contended object)
   objects_lost ts us None c object first = first
   objects_lost ts us (Some objects) c object first = absurd first
 
-  pub lost_more : (ts us : List Try) (m n : ℕ) (a b : Told) (object : ℕ) → Looked p ts m a b (Contended object) → Looked p us n a b (Contended object)
-  lost_more ts us m n a b object looked = record { room = looked.room; next = looked.next; objects = objects_lost ts us a.objects b.objects object looked.objects; work = looked.work }
+  pub lost_more : (ts us : List Try) (m n : ℕ) (a b : Told) (object : ℕ) → Looked p ts m a b (Contended object) → Looked p (ts ++ us) n a b (Contended object)
+  lost_more ts us m n a b object looked = record {
+    room = looked.room;
+    next = looked.next;
+    objects = objects_lost ts (ts ++ us) a.objects b.objects object looked.objects;
+    work = looked.work;
+    lost = touched_first ts us object looked.lost;
+  }
 
 -- ---- lists
 

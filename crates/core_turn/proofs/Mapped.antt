@@ -1,5 +1,5 @@
 -- Each event of a runnable is in the one task that has events of the runnable.
-use Rattle.std.proofs.Common.{◌≡◌, ℕ, ◌+◌, ◌<◌, true, false, ◌&&◌, ◌==◌, refl, sym, ◌∙◌, ap, subst, arith, List, length, Some}
+use Rattle.std.proofs.Common.{◌≡◌, ℕ, ◌<◌, true, false, ◌&&◌, ◌==◌, refl, sym, ◌∙◌, ap, subst, arith, List, length, Some}
 use Rattle.std.specs.Prelude.{nat_lt}
 use Rattle.std.specs.List.{list_all, list_any, slice_get}
 use Rattle.std.proofs.lemmas.Bool.{and_parts, eq-eqb, eqb-true, ltb-true}
@@ -17,10 +17,12 @@ use Rattle.bus_semantics.specs.Rest.{plain_key}
 use Rattle.bus_semantics.specs.SoundEvents.{kind_sound}
 use Rattle.bus_semantics.specs.SoundNames.{is_name}
 use Rattle.bus_semantics.specs.Sound.{mapped_events, times_mapped}
+use Rattle.bus_laws.proofs.Thinning.{option_test}
+use Rattle.activation_laws.specs.LookUps.{clash, all_at, at_place}
+use Rattle.history_laws.proofs.Lists.{there_is}
 use Rattle.core_turn.specs.Plans.{IsBuilt}
 use Rattle.core_turn.specs.Slots.{starts, is_key_of}
-use Rattle.core_turn.proofs.Basics.{clash, same_option, no_look, all_at, at_place}
-use Rattle.core_turn.proofs.Facts.{there_is, event_known, kind_is_sound}
+use Rattle.core_turn.proofs.Facts.{no_look, event_known, kind_is_sound}
 use Rattle.core_turn.proofs.Apart.{in_task, tasks_fit, each_mapped, few, runnable_inside, one_place}
 use Rattle.core_turn.proofs.Places.{IsAmong, passing, gathers}
 
@@ -36,16 +38,15 @@ module _ (p : Plan) (m : Mapping) (built : IsBuilt p m) where
   once e v (Timing period) sound = refl
   once e v Init sound = refl
   once e v (DataReceived x) sound = refl
-  once e v (Invoked s) sound = clash _ sound (no_look p.servers s _ false built.plain.unqueued.servers)
+  once e v (Invoked s) sound = clash _ sound (no_look p.servers s _ false built.servers)
   once e v (Returns q) sound = refl
   once e v (ModeSwitch n moment) sound = refl
   once e v (Ack n) sound = refl
 
   counted : (e : ℕ) (v : EventPlan) → slice_get p.events e ≡ Some v → count (λ d. d == e) (mapped_events m) ≡ 1
   counted e v there =
-      let n : 0 + e ≡ e = omega arith in
-      let test = at_place (λ e (v : EventPlan). count (λ d. d == e) (mapped_events m) == times_mapped p v.kind) p.events e 0 v (each_mapped p m built) there in
-      eqb-true _ _ (subst (λ k. (count (λ d. d == k) (mapped_events m) == times_mapped p v.kind) ≡ true) n test) ∙ once e v v.kind (kind_is_sound p m built e v there)
+      let test = at_place (λ e (v : EventPlan). count (λ d. d == e) (mapped_events m) == times_mapped p v.kind) p.events e v (each_mapped p m built) there in
+      eqb-true _ _ test ∙ once e v v.kind (kind_is_sound p m built e v there)
 
   pub task_within : (i : ℕ) (t : Task) → slice_get m.tasks i ≡ Some t → t.core < m.cores
   task_within i t found =
@@ -64,7 +65,7 @@ module _ (p : Plan) (m : Mapping) (built : IsBuilt p m) where
   starts_listed e r events is any =
       let at = passing (λ d. d == e) events any in
       any_passes_from_place (λ d. same_number (runnable_of_event p d) (Some r)) events at.at.place at.item at.at.found
-      (same_option (runnable_of_event p at.item) (Some r) (ap (runnable_of_event p) (eqb-true at.item e at.passes) ∙ is))
+      (option_test (runnable_of_event p at.item) (Some r) (ap (runnable_of_event p) (eqb-true at.item e at.passes) ∙ is))
 
   pub is_own : (es : List ℕ) (i e r : ℕ) → slice_get es i ≡ Some e → runnable_of_event p e ≡ Some r → is_key_of p es (plain_key r) ≡ true
   is_own es i e r found is = starts_listed e r es is (any_passes_from_place (λ d. d == e) es i e found (eq-eqb e e refl))

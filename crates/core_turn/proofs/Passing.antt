@@ -1,20 +1,21 @@
 -- Slots that are passed one after the other.
-use Rattle.std.proofs.Common.{◌≡◌, ℕ, ◌+◌, ◌-◌, ◌<◌, ◌≤◌, sym, ◌∙◌, ap, arith, List, [], ◌∷◌, ◌++◌, length, take, drop, set, get_or, length-drop, Some}
+use Rattle.std.proofs.Common.{◌≡◌, ℕ, ◌+◌, ◌-◌, ◌<◌, ◌≤◌, refl, sym, ◌∙◌, ap, subst, arith, List, [], ◌∷◌, ◌++◌, length, take, drop, set, get_or, length-drop, Some}
 use Rattle.std.specs.List.{slice_get}
-use Rattle.std.proofs.lemmas.List.{take_more, get_or-drop, set-get_or}
+use Rattle.std.proofs.lemmas.List.{take_more, take-take, take-append-drop, get_or-drop, set-get_or}
 use Rattle.std.proofs.lemmas.Option.{slice_get-get_or}
 use Rattle.bus_semantics.specs.declared.entries.Stamped.{Stamped}
 use Rattle.bus_semantics.specs.Plan.{Plan}
 use Rattle.bus_semantics.specs.Rest.{gathered}
+use Rattle.port_objects.specs.Benches.{Told}
 use Rattle.task_machine.specs.declared.instr.TaskSet.{TaskSet}
 use Rattle.core_turn.specs.declared.slot.Slot.{Slot}
 use Rattle.core_turn.specs.declared.look.Look.{Look}
-use Rattle.core_turn.specs.declared.look.Look.TheVariants.{Made, Nothing}
+use Rattle.core_turn.specs.declared.look.Look.TheVariants.{Made, Nothing, Contended}
 use Rattle.core_turn.specs.Slots.{slot_tries, looks}
 use Rattle.core_turn.specs.Cores.{slots_between, looks_in}
-use Rattle.core_turn.specs.Looking.{Told, Looked}
+use Rattle.core_turn.specs.Looking.{Looked}
 use Rattle.core_turn.specs.Turning.{SlotStep, PassMade}
-use Rattle.core_turn.proofs.Looks.{looked_on, looked_as, gathered_one}
+use Rattle.core_turn.proofs.Looks.{looked_on, looked_as, looked_none, lost_more, gathered_on, gathered_one}
 
 pub looks_on : (p : Plan) (xs ys : List Slot) → looks_in p (xs ++ ys) ≡ looks_in p xs + looks_in p ys
 looks_on p [] ys = omega arith
@@ -25,6 +26,12 @@ found_at slots at s within is = slice_get-get_or slots at s within ∙ ap (λ x.
 
 pub set_same : (slots : List Slot) (at : ℕ) (s : Slot) → s ≡ get_or slots at s → set slots at s ≡ slots
 set_same slots at s is = ap (set slots at) is ∙ set-get_or slots at s
+
+pub none_passed : (p : Plan) (t : TaskSet) (slots : List Slot) (from : ℕ) (a : Told) → Looked p (gathered (slot_tries p t) (slots_between from from slots)) (looks_in p (slots_between from from slots)) a a Nothing
+none_passed p t slots from a =
+    let zero : from - from ≡ 0 = omega arith in
+    let none : slots_between from from slots ≡ [] = ap (λ n. take n (drop from slots)) zero in
+    subst (λ xs. Looked p (gathered (slot_tries p t) xs) (looks_in p xs) a a Nothing) (sym none) (looked_none p a)
 
 module _ (p : Plan) (t : TaskSet) (slots : List Slot) (from at : ℕ) (s : Slot) (behind : from ≤ at) (within : at < length slots) (is : s ≡ get_or slots at s) where
   between_more : slots_between from (at + 1) slots ≡ slots_between from at slots ++ s ∷ []
@@ -45,6 +52,19 @@ module _ (p : Plan) (t : TaskSet) (slots : List Slot) (from at : ℕ) (s : Slot)
       let count : looks_in p (slots_between from at slots) + looks p s ≡ looks_in p (slots_between from (at + 1) slots) =
       sym (ap (looks_in p) between_more ∙ looks_on p (slots_between from at slots) (s ∷ []) ∙ ap (λ n. looks_in p (slots_between from at slots) + n) one) in
       looked_as p _ _ _ _ a c l tries count (looked_on p _ _ _ _ a b c l before now)
+
+  -- up to a slot whose object another core holds
+  pub pass_lost : (to : ℕ) (a b c : Told) (object : ℕ) → at < to → Looked p (gathered (slot_tries p t) (slots_between from at slots)) (looks_in p (slots_between from at slots)) a b Nothing
+      → Looked p (slot_tries p t s) (looks p s) b c (Contended object) → Looked p (gathered (slot_tries p t) (slots_between from to slots)) 0 a c (Contended object)
+  pass_lost to a b c object less before now =
+      let more = at + 1 - from in
+      let short : more ≤ to - from = omega arith in
+      let rest = drop more (slots_between from to slots) in
+      let parts : slots_between from (at + 1) slots ++ rest ≡ slots_between from to slots =
+      ap (λ x. x ++ rest) (sym (take-take more (to - from) (drop from slots) short)) ∙ take-append-drop more (slots_between from to slots) in
+      let tries : gathered (slot_tries p t) (slots_between from (at + 1) slots) ++ gathered (slot_tries p t) rest ≡ gathered (slot_tries p t) (slots_between from to slots) =
+      sym (gathered_on (slot_tries p t) (slots_between from (at + 1) slots) rest) ∙ ap (gathered (slot_tries p t)) parts in
+      looked_as p _ _ 0 _ a c (Contended object) tries refl (lost_more p _ _ _ _ a c object (pass_on a b c (Contended object) before now))
 
   pub pass_made : (new : List Slot) (stepped : Slot) (a b c : Told) (e : Stamped) → new ≡ set slots at stepped → SlotStep p t s stepped e
       → Looked p (gathered (slot_tries p t) (slots_between from at slots)) (looks_in p (slots_between from at slots)) a b Nothing

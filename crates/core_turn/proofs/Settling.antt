@@ -1,22 +1,26 @@
 -- Looks at the slots of a core that are awake, one after the other.
-use Rattle.std.proofs.Common.{◌≡◌, ℕ, ◌<◌, ◌≤◌, Bool, true, false, refl, sym, ◌∙◌, ap, subst, arith, List, length, get_or, set, inl, inr, Option, Some, None}
+use Rattle.std.proofs.Common.{◌≡◌, ℕ, suc, ◌<◌, ◌≤◌, Bool, true, false, refl, sym, ◌∙◌, ap, subst, arith, List, [], ◌∷◌, ◌++◌, length, get_or, set, inl, inr, Option, Some, None}
 use Rattle.std.specs.List.{slice_get}
 use Rattle.std.proofs.lemmas.Bool.{cases_lt}
-use Rattle.std.proofs.lemmas.List.{length-set}
+use Rattle.std.proofs.lemmas.List.{append_cancel_left}
 use Rattle.std.proofs.lemmas.Option.{slice_get-get_or, slice_get_read, slice_get_within}
-use Rattle.rte_value.specs.declared.kinds.ActKey.{ActKey}
+use Rattle.bus_semantics.specs.declared.entries.Stamped.{Stamped}
 use Rattle.bus_semantics.specs.Plan.{Plan}
+use Rattle.bus_semantics.specs.Objects.{touched_by}
 use Rattle.port_objects.specs.declared.object.Object.{Object}
 use Rattle.place_set.specs.Places.{NoneBetween}
 use Rattle.task_machine.specs.declared.instr.TaskSet.{TaskSet}
 use Rattle.core_turn.specs.declared.slot.Slot.{Slot}
+use Rattle.core_turn.specs.declared.look.Look.TheVariants.{Made}
 use Rattle.core_turn.specs.Slots.{slot_tries}
-use Rattle.core_turn.specs.Awake.{AwakeState, Fits, HeldTold, EventsHeld, IsSettled}
-use Rattle.core_turn.proofs.Awakes.{TriesHeld, asleep_held, held_row, held_settled, held_stepped, fits_flags, fits_row, fits_stepped}
+use Rattle.core_turn.specs.Looking.{ObjectsLooked}
+use Rattle.core_turn.specs.Awake.{AwakeState, Fits, AreHeld, HeldTold, EventsHeld, IsSettled, noting_of}
+use Rattle.core_turn.proofs.Awakes.{TriesHeld, asleep_held, with_rows, starts_row, starts_settled, starts_stepped, fits_settled, fits_row, fits_stepped}
+use Rattle.core_turn.proofs.Waiters.{AlikeLaw, touches_own, waiters_onward, waiters_round, waiters_settled, waiters_stepped}
 
 -- ---- slots that were passed
 
-module _ (p : Plan) (t : TaskSet) (o : Option (List Object)) (slots : List Slot) (a : AwakeState) (fits : Fits slots a) (held : HeldTold p o slots a) (from behind : ℕ)
+module _ (p : Plan) (t : TaskSet) (o : Option (List Object)) (slots : List Slot) (a : AwakeState) (first : ℕ) (fits : Fits slots first a) (from behind : ℕ) (held : HeldTold p t o None slots behind a)
     (passed : (i : ℕ) (s : Slot) → from ≤ i → i < behind → slice_get slots i ≡ Some s → TriesHeld p o (slot_tries p t s)) where
   -- up to the next one that is awake
   pub passed_on : (at to : ℕ) → to ≤ at → NoneBetween a.slots behind at → (i : ℕ) (s : Slot) → from ≤ i → i < to → slice_get slots i ≡ Some s → TriesHeld p o (slot_tries p t s)
@@ -25,52 +29,101 @@ module _ (p : Plan) (t : TaskSet) (o : Option (List Object)) (slots : List Slot)
     | inr high ↦
         let within = slice_get_within slots i s found in
         let count = fits.count in
+        let more = fits.waiting in
         let inside : i < length a.slots = omega arith in
-        asleep_held p t o slots a i s found (slice_get-get_or a.slots i false inside ∙ ap (λ b. Some b) (none i high (omega arith))) held
+        let wide : i < length a.waiting = omega arith in
+        asleep_held p t o slots behind a i s found (slice_get-get_or a.slots i false inside ∙ ap (λ b. Some b) (none i high (omega arith))) wide high (λ j begun less_too. none j begun (omega arith)) held
   ]
+
+-- ---- the order of slots begins later
+
+pub held_onward : (p : Plan) (t : TaskSet) (o : Option (List Object)) (slots : List Slot) (a : AwakeState) (from to : ℕ) → from ≤ to → NoneBetween a.slots from to → HeldTold p t o None slots from a → HeldTold p t o None slots to a
+held_onward p t None slots a from to less none held = tt
+held_onward p t (Some objects) slots a from to less none held = record { starts = held.starts; waiters = waiters_onward p t objects slots a from to less none held.waiters }
+
+pub held_round : (p : Plan) (t : TaskSet) (o : Option (List Object)) (slots : List Slot) (a : AwakeState) (count : ℕ) → length slots ≤ count → HeldTold p t o None slots count a → HeldTold p t o None slots 0 a
+held_round p t None slots a count less held = tt
+held_round p t (Some objects) slots a count less held = record { starts = held.starts; waiters = waiters_round p t objects slots a count less held.waiters }
+
+-- ---- the next turn begins elsewhere
+
+abbrev pub begins_at : AwakeState → (place : ℕ) → AwakeState
+begins_at a place = record { slots = a.slots; events = a.events; waiting = a.waiting; areas = a.areas; first = place }
+
+pub fits_begins : (slots : List Slot) (first next : ℕ) (a : AwakeState) (place : ℕ) → place ≡ next → Fits slots first a → Fits slots next (begins_at a place)
+fits_begins slots first next a place same fits = record { count = fits.count; rows = fits.rows; widths = fits.widths; waiting = fits.waiting; areas = fits.areas; begins = same }
+
+-- after the step of a slot, whose entry is the last of the trace
+pub held_turned : (p : Plan) (t : TaskSet) (o : Option (List Object)) (slots slots' : List Slot) (at place : ℕ) (a a' : AwakeState) (e s : Stamped) (trace : List Stamped) → slots' ≡ slots → suc at ≡ place → a' ≡ a → trace ++ e ∷ [] ≡ trace ++ s ∷ []
+    → HeldTold p t o (touched_by p (noting_of e)) slots (suc at) a → HeldTold p t o (touched_by p (noting_of s)) slots' place (begins_at a' place)
+held_turned p t None slots slots' at place a a' e s trace same_slots same_place same_a last held = tt
+held_turned p t (Some objects) slots slots' at place a a' e s trace same_slots same_place same_a last held =
+    let ends : e ∷ [] ≡ s ∷ [] = append_cancel_left trace (e ∷ []) (s ∷ []) last in
+    let same : e ≡ s = cc in
+    let here : AreHeld p t objects (touched_by p (noting_of e)) slots (suc at) a' = subst (AreHeld p t objects (touched_by p (noting_of e)) slots (suc at)) (sym same_a) held in
+    let there : AreHeld p t objects (touched_by p (noting_of e)) slots (suc at) (begins_at a' place) = record { starts = record { events = here.starts.events; slots = here.starts.slots }; waiters = here.waiters } in
+    subst (λ x. AreHeld p t objects (touched_by p (noting_of x)) slots' place (begins_at a' place)) same
+    (subst (λ n. AreHeld p t objects (touched_by p (noting_of e)) slots' n (begins_at a' place)) same_place
+    (subst (λ ys. AreHeld p t objects (touched_by p (noting_of e)) ys (suc at) (begins_at a' place)) (sym same_slots) there))
 
 -- ---- the slot that is looked at
 
-pub settled_length : (running : Option ActKey) (at : ℕ) (flags flags' : List Bool) → IsSettled running at flags flags' → length flags' ≡ length flags
-settled_length None at flags flags' settled = ap length settled ∙ length-set flags at false
-settled_length (Some k) at flags flags' settled = ap length settled
-
-module _ (slots : List Slot) (flags : List Bool) (rows : List (List Bool)) (fits : Fits slots (record { slots = flags; events = rows })) (at : ℕ) (inside : at < length flags) where
+module _ (slots : List Slot) (a : AwakeState) (first : ℕ) (fits : Fits slots first a) (at : ℕ) (inside : at < length a.slots) where
   pub slot_within : at < length slots
   slot_within = let count = fits.count in omega arith
 
-  pub row_within : at < length rows
+  pub row_within : at < length a.events
   row_within = let count = fits.count in let more = fits.rows in omega arith
+
+  pub waiting_within : at < length a.waiting
+  waiting_within = let count = fits.count in let more = fits.waiting in omega arith
+
+  pub area_within : at < length a.areas
+  area_within = let count = fits.count in let more = fits.areas in omega arith
 
   pub slot_found : (s : Slot) → s ≡ get_or slots at s → slice_get slots at ≡ Some s
   slot_found s is = slice_get_read slots (length slots) at s refl slot_within is
 
-  pub row_found : (row : List Bool) → row ≡ get_or rows at row → slice_get rows at ≡ Some row
-  row_found row is = slice_get_read rows (length rows) at row refl row_within is
+  pub row_found : (row : List Bool) → row ≡ get_or a.events at row → slice_get a.events at ≡ Some row
+  row_found row is = slice_get_read a.events (length a.events) at row refl row_within is
 
-  pub flag_found : get_or flags at false ≡ true → slice_get flags at ≡ Some true
-  flag_found chosen = slice_get-get_or flags at false inside ∙ ap (λ b. Some b) chosen
+  pub flag_found : get_or a.slots at false ≡ true → slice_get a.slots at ≡ Some true
+  flag_found chosen = slice_get-get_or a.slots at false inside ∙ ap (λ b. Some b) chosen
 
   -- it stepped
-  pub fits_made : (flags' : List Bool) (s stepped : Slot) (row : List Bool) → flags' ≡ flags → s ≡ get_or slots at s → length row ≡ length s.events.items → stepped.events ≡ s.events
-      → Fits (set slots at stepped) (record { slots = flags'; events = set rows at row })
-  fits_made flags' s stepped row same is width events =
-      subst (λ f. Fits (set slots at stepped) (record { slots = f; events = set rows at row })) (sym same)
-      (fits_stepped slots (record { slots = flags; events = set rows at row }) at s stepped (slot_found s is) events (fits_row slots flags rows at s row (slot_found s is) width fits))
-
-  pub held_made : (p : Plan) (o : Option (List Object)) (flags' : List Bool) (s stepped : Slot) (row : List Bool) → flags' ≡ flags → s ≡ get_or slots at s → get_or flags at false ≡ true → EventsHeld p o s.events.items row → stepped.events ≡ s.events
-      → HeldTold p o slots (record { slots = flags; events = rows }) → HeldTold p o (set slots at stepped) (record { slots = flags'; events = set rows at row })
-  held_made p o flags' s stepped row same is chosen asleep events held =
-      subst (λ f. HeldTold p o (set slots at stepped) (record { slots = f; events = set rows at row })) (sym same)
-      (held_stepped p o slots (record { slots = flags; events = set rows at row }) at s stepped (slot_found s is) events (flag_found chosen) (held_row p o slots flags rows at s row (slot_found s is) asleep held))
+  pub fits_made : (s stepped : Slot) (row : List Bool) → s ≡ get_or slots at s → length row ≡ length s.events.items → stepped.events ≡ s.events → Fits (set slots at stepped) first (with_rows a (set a.events at row))
+  fits_made s stepped row is width events =
+      fits_stepped slots first (with_rows a (set a.events at row)) at s stepped (slot_found s is) events (fits_row slots first a at s row (slot_found s is) width fits)
 
   -- nothing of it may come
-  pub fits_nothing : (flags' flags'' : List Bool) (s : Slot) (row : List Bool) → flags' ≡ flags → s ≡ get_or slots at s → length row ≡ length s.events.items → IsSettled s.running at flags' flags''
-      → Fits slots (record { slots = flags''; events = set rows at row })
-  fits_nothing flags' flags'' s row same is width settled =
-      fits_flags slots flags flags'' (set rows at row) (settled_length s.running at flags' flags'' settled ∙ ap length same) (fits_row slots flags rows at s row (slot_found s is) width fits)
+  pub fits_nothing : (p : Plan) (t : TaskSet) (a' : AwakeState) (s : Slot) (row : List Bool) → s ≡ get_or slots at s → length row ≡ length s.events.items → IsSettled p t s s.running at (with_rows a (set a.events at row)) a' → Fits slots first a'
+  fits_nothing p t a' s row is width settled = fits_settled p t slots first (with_rows a (set a.events at row)) a' at s s.running settled (fits_row slots first a at s row (slot_found s is) width fits)
 
-  pub held_nothing : (p : Plan) (t : TaskSet) (o : Option (List Object)) (flags' flags'' : List Bool) (s : Slot) (row : List Bool) → flags' ≡ flags → s ≡ get_or slots at s → EventsHeld p o s.events.items row → TriesHeld p o (slot_tries p t s)
-      → IsSettled s.running at flags' flags'' → HeldTold p o slots (record { slots = flags; events = rows }) → HeldTold p o slots (record { slots = flags''; events = set rows at row })
-  held_nothing p t o flags' flags'' s row same is asleep tries settled held =
-      held_settled p t o slots flags flags'' (set rows at row) at s (slot_found s is) tries (subst (λ f. IsSettled s.running at f flags'') same settled) (held_row p o slots flags rows at s row (slot_found s is) asleep held)
+  module _ (p : Plan) (t : TaskSet) (o : Option (List Object)) (from : ℕ) (begun : from ≤ at) (none : NoneBetween a.slots from at) (chosen : get_or a.slots at false ≡ true) (held : HeldTold p t o None slots from a) where
+    pub held_made : (s stepped : Slot) (row : List Bool) (e : Stamped) (after : Option (List Object)) → s ≡ get_or slots at s → EventsHeld p o s.events.items row → stepped.events ≡ s.events → ObjectsLooked p (slot_tries p t s) o after (Made e)
+        → HeldTold p t o (touched_by p (noting_of e)) (set slots at stepped) (suc at) (with_rows a (set a.events at row))
+    held_made s stepped row e after is asleep events looked = of_told o held asleep looked
+      where
+        of_told : (o : Option (List Object)) → HeldTold p t o None slots from a → EventsHeld p o s.events.items row → ObjectsLooked p (slot_tries p t s) o after (Made e)
+            → HeldTold p t o (touched_by p (noting_of e)) (set slots at stepped) (suc at) (with_rows a (set a.events at row))
+        of_told None held asleep looked = tt
+        of_told (Some objects) held asleep looked = record {
+          starts = starts_stepped p objects slots (with_rows a (set a.events at row)) at s stepped (slot_found s is) events (flag_found chosen) (starts_row p objects slots a at s row (slot_found s is) asleep held.starts);
+          waiters = waiters_stepped p t objects slots (with_rows a (set a.events at row)) from at s (slot_found s is) (flag_found chosen) begun none (touched_by p (noting_of e)) stepped
+              (λ object waits. touches_own p t s object objects after e waits looked) held.waiters;
+        }
+
+    pub held_nothing : AlikeLaw → (a' : AwakeState) (s : Slot) (row : List Bool) → s ≡ get_or slots at s → EventsHeld p o s.events.items row → TriesHeld p o (slot_tries p t s) → IsSettled p t s s.running at (with_rows a (set a.events at row)) a'
+        → HeldTold p t o None slots (suc at) a'
+    held_nothing alike a' s row is asleep tries settled = of_told o held asleep tries
+      where
+        of_told : (o : Option (List Object)) → HeldTold p t o None slots from a → EventsHeld p o s.events.items row → TriesHeld p o (slot_tries p t s) → HeldTold p t o None slots (suc at) a'
+        of_told None held asleep tries = tt
+        of_told (Some objects) held asleep tries =
+            let count = fits.count in
+            let more = fits.areas in
+            let widths : length a.areas ≡ length a.slots = omega arith in
+            record {
+              starts = starts_settled p objects t slots (with_rows a (set a.events at row)) a' at s (slot_found s is) tries settled (starts_row p objects slots a at s row (slot_found s is) asleep held.starts);
+              waiters = waiters_settled p t objects slots (with_rows a (set a.events at row)) from at s (slot_found s is) (flag_found chosen) begun none alike tries a' settled widths held.waiters;
+            }

@@ -13,7 +13,7 @@ use Rattle.bus_semantics.specs.Plan.{Plan}
 use Rattle.bus_semantics.specs.History.{History}
 use Rattle.bus_semantics.specs.Rest.{Try, gathered}
 use Rattle.port_objects.specs.declared.object.Object.{Object}
-use Rattle.port_objects.specs.Benches.{IsFurther}
+use Rattle.port_objects.specs.Benches.{IsFurther, Told}
 use Rattle.task_machine.specs.declared.instr.TaskSet.{TaskSet}
 use Rattle.core_turn.specs.declared.slot.Slot.{Slot}
 use Rattle.core_turn.specs.declared.look.Look.TheVariants.{Made, Nothing, Contended}
@@ -21,9 +21,9 @@ use Rattle.core_turn.specs.Slots.{is_key_of, slot_tries, looks}
 use Rattle.core_turn.specs.Cores.{CoreState, events_of_slot, tasks_of_core, slots_between, slots_before, looks_in}
 use Rattle.core_turn.specs.Ready.{IsBegunIn, IsReadySlot, IsReady}
 use Rattle.core_turn.specs.Standing.{SlotStands, CoreStands}
-use Rattle.core_turn.specs.Looking.{AllHeld, ObjectsLooked, Told, Looked}
+use Rattle.core_turn.specs.Looking.{AllHeld, ObjectsLooked, is_touched, Looked}
 use Rattle.core_turn.specs.Turning.{SlotStep, PassMade, OrderTold, Steps, NothingComes, NoneTold, IsContended, NeverTold}
-use Rattle.core_turn.proofs.Looks.{looked_on, looked_as, gathered_on, all_on}
+use Rattle.core_turn.proofs.Looks.{looked_on, looked_as, touched_first, touched_last, gathered_on, all_on}
 use Rattle.core_turn.proofs.Passing.{looks_on}
 use Rattle.core_turn.proofs.Histories.{entry_by, other_stands}
 use Rattle.core_turn.proofs.Apart.{apart}
@@ -182,8 +182,30 @@ never_told : (p : Plan) (a d : Option (List Object)) (object : ℕ) (ts : List T
 never_told p None d object ts looked = looked
 never_told p (Some objects) d object ts looked = looked
 
-pub is_contended : (p : Plan) (c new : CoreState) (a d : Told) (object n : ℕ) (ts : List Try) → new ≡ c → Looked p ts n a d (Contended object) → IsContended c new a d
-is_contended p c new a d object n ts same looked = record { same = same; room = looked.room; next = looked.next; work = looked.work; objects = never_told p a.objects d.objects object ts looked.objects }
+module _ (p : Plan) (t : TaskSet) (c new : CoreState) (a b d : Told) (object : ℕ) (same : new ≡ c) where
+  tries : gathered (slot_tries p t) (take c.first c.slots) ++ gathered (slot_tries p t) (drop c.first c.slots) ≡ gathered (slot_tries p t) c.slots
+  tries = sym (gathered_on (slot_tries p t) (take c.first c.slots) (drop c.first c.slots)) ∙ ap (gathered (slot_tries p t)) (take-append-drop c.first c.slots)
+
+  whole_lost : (ts : List Try) (n : ℕ) → Looked p ts n a d (Contended object) → is_touched p (gathered (slot_tries p t) c.slots) object ≡ true → IsContended p t c new a d object
+  whole_lost ts n looked touched = record {
+    same = same;
+    touched = touched;
+    room = looked.room;
+    next = looked.next;
+    work = looked.work;
+    objects = never_told p a.objects d.objects object ts looked.objects;
+  }
+
+  -- in the first pass
+  pub back_contended : Looked p (gathered (slot_tries p t) (drop c.first c.slots)) 0 a d (Contended object) → IsContended p t c new a d object
+  back_contended looked =
+      whole_lost _ _ looked (subst (λ ts. is_touched p ts object ≡ true) tries (touched_last p (gathered (slot_tries p t) (take c.first c.slots)) (gathered (slot_tries p t) (drop c.first c.slots)) object looked.lost))
+
+  -- in the second pass
+  pub front_contended : (n : ℕ) → Looked p (gathered (slot_tries p t) (drop c.first c.slots)) n a b Nothing → Looked p (gathered (slot_tries p t) (take c.first c.slots)) 0 b d (Contended object) → IsContended p t c new a d object
+  front_contended n back front =
+      whole_lost _ _ (looked_on p _ _ _ _ a b d (Contended object) back front)
+      (subst (λ ts. is_touched p ts object ≡ true) tries (touched_first p (gathered (slot_tries p t) (take c.first c.slots)) (gathered (slot_tries p t) (drop c.first c.slots)) object front.lost))
 
 -- ---- passes over the slots that a core has
 
@@ -197,19 +219,28 @@ made_within p t old new from at a d s pass =
     omega (arith, ap length pass.slots, length-set old at pass.stepped)
 
 module _ (p : Plan) (t : TaskSet) (c : CoreState) (xs : List Slot) (first : ℕ) (a b : Told) (same : xs ≡ c.slots) (begun : first ≡ c.first) where
-  pub behind_all : (count : ℕ) → count ≡ length xs → Looked p (gathered (slot_tries p t) (slots_between first count xs)) (looks_in p (slots_between first count xs)) a b Nothing
-      → Looked p (gathered (slot_tries p t) (drop c.first c.slots)) (looks_in p (drop c.first c.slots)) a b Nothing
-  behind_all count whole looked =
-      let all : slots_between first count xs ≡ drop c.first c.slots =
+  behind : (count : ℕ) → count ≡ length xs → slots_between first count xs ≡ drop c.first c.slots
+  behind count whole =
       ap (λ n. take (n - first) (drop first xs)) whole
       ∙ ap (λ n. take n (drop first xs)) (sym (length-drop first xs))
       ∙ take-length (drop first xs)
-      ∙ (λ i. drop (begun i) (same i)) in
-      subst (λ ys. Looked p (gathered (slot_tries p t) ys) (looks_in p ys) a b Nothing) all looked
+      ∙ (λ i. drop (begun i) (same i))
+
+  before : slots_between 0 first xs ≡ take c.first c.slots
+  before = let none : first - 0 ≡ first = omega arith in ap (λ n. take n xs) none ∙ (λ i. take (begun i) (same i))
+
+  pub behind_all : (count : ℕ) → count ≡ length xs → Looked p (gathered (slot_tries p t) (slots_between first count xs)) (looks_in p (slots_between first count xs)) a b Nothing
+      → Looked p (gathered (slot_tries p t) (drop c.first c.slots)) (looks_in p (drop c.first c.slots)) a b Nothing
+  behind_all count whole looked = subst (λ ys. Looked p (gathered (slot_tries p t) ys) (looks_in p ys) a b Nothing) (behind count whole) looked
 
   pub before_all : Looked p (gathered (slot_tries p t) (slots_between 0 first xs)) (looks_in p (slots_between 0 first xs)) a b Nothing
       → Looked p (gathered (slot_tries p t) (take c.first c.slots)) (looks_in p (take c.first c.slots)) a b Nothing
-  before_all looked =
-      let none : first - 0 ≡ first = omega arith in
-      let all : slots_between 0 first xs ≡ take c.first c.slots = ap (λ n. take n xs) none ∙ (λ i. take (begun i) (same i)) in
-      subst (λ ys. Looked p (gathered (slot_tries p t) ys) (looks_in p ys) a b Nothing) all looked
+  before_all looked = subst (λ ys. Looked p (gathered (slot_tries p t) ys) (looks_in p ys) a b Nothing) before looked
+
+  pub behind_lost : (object count : ℕ) → count ≡ length xs → Looked p (gathered (slot_tries p t) (slots_between first count xs)) 0 a b (Contended object)
+      → Looked p (gathered (slot_tries p t) (drop c.first c.slots)) 0 a b (Contended object)
+  behind_lost object count whole looked = subst (λ ys. Looked p (gathered (slot_tries p t) ys) 0 a b (Contended object)) (behind count whole) looked
+
+  pub before_lost : (object : ℕ) → Looked p (gathered (slot_tries p t) (slots_between 0 first xs)) 0 a b (Contended object)
+      → Looked p (gathered (slot_tries p t) (take c.first c.slots)) 0 a b (Contended object)
+  before_lost object looked = subst (λ ys. Looked p (gathered (slot_tries p t) ys) 0 a b (Contended object)) before looked

@@ -7,7 +7,7 @@ use Rattle.std.proofs.lemmas.Option.{get_or_from_slice_get, slice_get-get_or, sl
 use Rattle.bus_semantics.specs.Plan.{Plan}
 use Rattle.bus_semantics.specs.Rest.{Try, gathered, start_try}
 use Rattle.port_objects.specs.declared.object.Object.{Object}
-use Rattle.port_objects.specs.Benches.{Work, IsFurther, StampAfter}
+use Rattle.port_objects.specs.Benches.{Work, IsFurther, StampAfter, Told}
 use Rattle.place_set.specs.Places.{NoneBetween}
 use Rattle.task_machine.specs.declared.instr.TaskSet.{TaskSet}
 use Rattle.core_turn.specs.declared.slot.Slot.{Slot}
@@ -15,7 +15,7 @@ use Rattle.core_turn.specs.declared.look.Look.{Look}
 use Rattle.core_turn.specs.declared.look.Look.TheVariants.{Made, Nothing, Contended}
 use Rattle.core_turn.specs.Slots.{slot_tries}
 use Rattle.core_turn.specs.Cores.{slots_between}
-use Rattle.core_turn.specs.Looking.{AllHeld, ObjectsLooked, WorkLooked, Told, Looked}
+use Rattle.core_turn.specs.Looking.{AllHeld, ObjectsLooked, WorkLooked, Looked}
 use Rattle.core_turn.specs.Awake.{EventsHeld}
 use Rattle.core_turn.proofs.Looks.{next_same, next_still, all_on}
 use Rattle.core_turn.proofs.Awakes.{TriesHeld}
@@ -82,6 +82,7 @@ looked_at p ts n a b same held = record {
   next = subst (λ o. StampAfter a.next o None) (sym same.next) (next_still a.next);
   objects = objects_looked p ts a.objects b.objects same.objects held;
   work = work_looked n a.work b.work same.idle same.idle_still;
+  lost = tt;
 }
 
 -- ---- tries of each item of a list

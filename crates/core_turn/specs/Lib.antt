@@ -1,4 +1,5 @@
 pub mod Plans
+pub mod Calls
 pub mod Slots
 pub mod Cores
 pub mod Made

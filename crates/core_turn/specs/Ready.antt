@@ -1,5 +1,6 @@
--- A core that turns can be made of: it was made for a mapping with which the plan is sound, and each running activation asks something.
-use Rattle.std.specs.Prelude.{◌≡◌, ℕ, List, length, nat_lt, true, Option, Some, None, slice_get}
+-- A core that turns can be made of: it was made for a mapping with which the plan is sound, and each running activation was answered what it
+-- asked, and asks something.
+use Rattle.std.specs.Prelude.{◌≡◌, ℕ, zero, ℤ, List, length, nat_lt, Bool, true, is_some, Option, Some, None, slice_get}
 use Rattle.std.specs.List.{list_all}
 use Rattle.rte_value.specs.declared.value.Value.{Value}
 use Rattle.rte_value.specs.declared.kinds.ActKey.{ActKey}
@@ -7,8 +8,9 @@ use Rattle.rte_value.specs.Values.{words_of}
 use Rattle.bus_semantics.specs.declared.script.Mapping.{Mapping}
 use Rattle.bus_semantics.specs.declared.entries.Deed.{Deed}
 use Rattle.bus_semantics.specs.declared.entries.Deed.TheVariants as deed
-use Rattle.bus_semantics.specs.Plan.{Plan, Runnable, runnable_of_event}
+use Rattle.bus_semantics.specs.Plan.{Plan, Runnable, runnable_of_event, server_of}
 use Rattle.bus_semantics.specs.Wanted.{Wanted}
+use Rattle.activation_laws.specs.Followed.{Followed}
 use Rattle.task_machine.specs.declared.instr.TaskSet.{TaskSet}
 use Rattle.task_machine.specs.Standing.{Standing}
 use Rattle.task_machine.specs.Frames.{Stands, IsMadeFor}
@@ -18,18 +20,29 @@ use Rattle.core_turn.specs.Slots.{is_key_of}
 use Rattle.core_turn.specs.Cores.{CoreState, HasTasks}
 use Rattle.core_turn.specs.Plans.{IsBuilt}
 
--- the activation of a key, begun by an event of its runnable, after some answers and before its end
+-- an ask is accepted at joined points alone
+abbrev pub is_answered : Plan → Deed → Bool
+is_answered p (deed.Ask q value zero) = is_some (server_of p q)
+is_answered p _ = true
+
+-- the activation of a key, by an event of its runnable, was answered what it asked, and asks this before its end
+pub record IsAsking (p : Plan) (k : ActKey) (r : Runnable) (event : ℕ) (start : List ℤ) (answers : List Deed) (wish : Wanted) : Type 0 where
+  pub there : slice_get p.runnables k.runnable ≡ Some r
+  pub starts : runnable_of_event p event ≡ Some k.runnable
+  pub followed : Followed p r event start answers
+  pub answered : list_all (is_answered p) answers ≡ true
+  pub next : next_until_over p r event start answers ≡ Some wish
+
+-- the activation of one of the task's keys, begun and after some answers
 pub record IsBegun (p : Plan) (t : TaskSet) (events : List ℕ) (f : Standing) (k : ActKey) : Type 0 where
   pub own : is_key_of p events k ≡ true
   pub runnable : Runnable
-  pub there : slice_get p.runnables k.runnable ≡ Some runnable
   pub event : ℕ
-  pub starts : runnable_of_event p event ≡ Some k.runnable
   pub point : Option ℕ
   pub value : Value
   pub answers : List Deed
   pub wish : Wanted
-  pub next : next_until_over p runnable event (words_of value) answers ≡ Some wish
+  pub asks : IsAsking p k runnable event (words_of value) answers wish
   pub stands : Stands t k (deed.Start event point value) answers f
 
 abbrev pub IsBegunIn : Plan → TaskSet → (events : List ℕ) → Standing → Option ActKey → Type 0

@@ -1,13 +1,12 @@
 -- A core at rest: what is tried at rest of the tasks of the core, and that nothing of it may follow. Its words are those of rest.
-use Rattle.std.specs.Prelude.{◌≡◌, ℕ, List, ◌∷◌, ◌++◌, [], true}
-use Rattle.std.specs.List.{list_all}
+use Rattle.std.specs.Prelude.{ℕ, List, ◌∷◌, ◌++◌, []}
 use Rattle.bus_semantics.specs.declared.script.Mapping.{Mapping}
 use Rattle.bus_semantics.specs.declared.script.Task.{Task}
 use Rattle.bus_semantics.specs.declared.entries.Actor.TheVariants.{Act}
 use Rattle.bus_semantics.specs.Plan.{Plan, runnable_of_event}
 use Rattle.bus_semantics.specs.History.{History}
 use Rattle.bus_semantics.specs.Actor.{next_wish}
-use Rattle.bus_semantics.specs.Rest.{Try, plain_key, option_list, gathered, is_free, task_tries, AllStuck}
+use Rattle.bus_semantics.specs.Rest.{Try, plain_key, option_list, gathered, task_tries, AllStuck}
 use Rattle.core_turn.specs.Cores.{tasks_of_core}
 
 -- the next wish of a runnable's activation, where one runs
@@ -27,7 +26,3 @@ tries_of_core p m h n = gathered (tries_of_task p h) (tasks_of_core m n)
 -- nothing of what is tried of a core's tasks may follow
 abbrev pub CoreRests : Plan → Mapping → History → (core : ℕ) → Type 0
 CoreRests p m h n = AllStuck p h (tries_of_core p m h n)
-
--- no activation of a core's tasks runs
-abbrev pub CoreIsFree : Plan → Mapping → History → (core : ℕ) → Type 0
-CoreIsFree p m h n = list_all (is_free p h) (tasks_of_core m n) ≡ true

@@ -14,7 +14,7 @@ use Rattle.bus_semantics.specs.Legal.{Answers}
 use Rattle.bus_semantics.specs.Locality.{is_proper}
 use Rattle.bus_semantics.specs.Rest.{gathered}
 use Rattle.port_objects.specs.declared.object.Object.{Object}
-use Rattle.port_objects.specs.Benches.{IsFurther, StampAfter}
+use Rattle.port_objects.specs.Benches.{IsFurther, StampAfter, Told}
 use Rattle.task_machine.specs.declared.instr.TaskSet.{TaskSet}
 use Rattle.task_machine.specs.Frames.{Stands}
 use Rattle.core_turn.specs.declared.slot.Slot.{Slot}
@@ -28,7 +28,7 @@ use Rattle.core_turn.specs.Slots.{is_key_of, slot_tries, looks}
 use Rattle.core_turn.specs.Cores.{CoreState, slots_between, slots_before, looks_in}
 use Rattle.core_turn.specs.Ready.{IsReadySlot}
 use Rattle.core_turn.specs.Standing.{SlotStands, CoreStands}
-use Rattle.core_turn.specs.Looking.{AllHeld, FirstMade, Told, Looked}
+use Rattle.core_turn.specs.Looking.{AllHeld, FirstMade, is_touched, Looked}
 
 -- ---- a slot steps
 
@@ -87,7 +87,7 @@ pub record PassMade (p : Plan) (t : TaskSet) (old new : List Slot) (from : ℕ) 
 abbrev pub IsPass : Plan → TaskSet → (old new : List Slot) → (from : ℕ) → (to : ℕ) → (before after : Told) → Passed → Type 0
 IsPass p t old new from to before after (pass.Made at s) = (at < to) × PassMade p t old new from at before after s
 IsPass p t old new from to before after pass.Nothing = (new ≡ old) × Looked p (gathered (slot_tries p t) (slots_between from to old)) (looks_in p (slots_between from to old)) before after look.Nothing
-IsPass p t old new from to before after (pass.Contended object) = (new ≡ old) × Looked p [] 0 before after (look.Contended object)
+IsPass p t old new from to before after (pass.Contended object) = (new ≡ old) × Looked p (gathered (slot_tries p t) (slots_between from to old)) 0 before after (look.Contended object)
 
 -- ---- a core steps
 
@@ -136,9 +136,10 @@ abbrev pub NeverTold : (old new : Option (List Object)) → Type 0
 NeverTold None after = after ≡ None
 NeverTold (Some objects) after = ⊥
 
--- a look found its object held by another core, which a bench that tells its objects never answers
-pub record IsContended (old new : CoreState) (before after : Told) : Type 0 where
+-- a look found its object, which something touches that the core tries, held by another core: a bench that tells its objects never answers so
+pub record IsContended (p : Plan) (t : TaskSet) (old new : CoreState) (before after : Told) (object : ℕ) : Type 0 where
   pub same : new ≡ old
+  pub touched : is_touched p (gathered (slot_tries p t) old.slots) object ≡ true
   pub room : after.room ≡ before.room
   pub next : StampAfter before.next after.next None
   pub work : IsFurther before.work after.work [] 0 1
@@ -147,4 +148,4 @@ pub record IsContended (old new : CoreState) (before after : Told) : Type 0 wher
 abbrev pub IsTurn : Plan → TaskSet → (old new : CoreState) → (before after : Told) → Turned → Type 0
 IsTurn p t old new before after Stepped = (s : Stamped) × Steps p t old new before after s
 IsTurn p t old new before after NothingNow = NothingComes p t old new before after
-IsTurn p t old new before after (Contended object) = IsContended old new before after
+IsTurn p t old new before after (Contended object) = IsContended p t old new before after object

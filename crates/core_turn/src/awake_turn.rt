@@ -6,7 +6,7 @@ ghost use Rattle.bus_semantics.specs.Plan.{plan_of};
 ghost use Rattle.task_generator.specs.Promise.{AsksAsPlanned};
 ghost use Rattle.core_turn.specs.Ready.{IsReady};
 ghost use Rattle.core_turn.specs.Turning.{IsTurn};
-ghost use Rattle.core_turn.specs.Awake.{Fits, HeldTold};
+ghost use Rattle.core_turn.specs.Awake.{Fits, HeldTold, HeldTurned};
 
 use crate::awake::Awake;
 use crate::awake_looks::look_through;
@@ -19,7 +19,8 @@ use task_machine::TaskSet;
 
 /// Makes a turn of a core as `turn` does, over a bench that does not count its looks, and looks only at slots and
 /// events that are awake (OS: scheduling; SWS_RTE: runnable activation). What sleeps is held by the objects as they are
-/// before the turn, and so is what it puts to sleep. It takes no memory.
+/// before the turn, and so is what it puts to sleep, except those that wait at the area which its entry touched. It takes
+/// no memory.
 pub fn turn_of_awake<B: Bench>(
     p: &BusPlan,
     t: &TaskSet,
@@ -28,33 +29,34 @@ pub fn turn_of_awake<B: Bench>(
     b: &mut B,
 ) -> Turned
     requires room { 0 < c.old.room }
-    requires bench_room { 0 < B.room b.old }
+    requires bench_room { 0 < (B.told b.old).room }
     requires plan { B.plan b.old ≡ plan_of p.now }
     requires bodies { AsksAsPlanned (plan_of p.now) t.now }
     requires ready { (m : Mapping) × IsReady (plan_of p.now) m t.now c.old }
-    requires fits { Fits c.old.slots a.old }
-    requires held { HeldTold (plan_of p.now) (B.objects b.old) c.old.slots a.old }
-    requires work { B.work b.old ≡ None }
+    requires fits { Fits c.old.slots c.old.first a.old }
+    requires held { HeldTold (plan_of p.now) t.now (B.told b.old).objects None c.old.slots a.old.first a.old }
+    requires work { (B.told b.old).work ≡ None }
     ensures home { B.home b.new ≡ B.home b.old }
     ensures plan { B.plan b.new ≡ B.plan b.old }
     ensures ready { (m : Mapping) → IsReady (plan_of p.now) m t.now c.old → IsReady (plan_of p.now) m t.now c.new }
     ensures turned { IsTurn (plan_of p.now) t.now c.old c.new
-        (record { room = B.room b.old; next = B.next b.old; objects = B.objects b.old; work = B.work b.old })
-        (record { room = B.room b.new; next = B.next b.new; objects = B.objects b.new; work = B.work b.new }) result }
-    ensures fits { Fits c.new.slots a.new }
-    ensures held { HeldTold (plan_of p.now) (B.objects b.old) c.new.slots a.new }
+        (B.told b.old) (B.told b.new) result }
+    ensures fits { Fits c.new.slots c.new.first a.new }
+    ensures held { HeldTurned (plan_of p.now) t.now (B.told b.old).objects c.old c.new a.new result }
 {
     let first = c.first;
     let count = c.slots.len();
     match look_through(p, t, &mut c.slots, a, first, count, b) {
         Passed::Made(at, stamped) => {
             c.note(at, stamped);
+            a.first = at + 1;
             Turned::Stepped
         }
         Passed::Contended(object) => Turned::Contended(object),
         Passed::Nothing => match look_through(p, t, &mut c.slots, a, 0, first, b) {
             Passed::Made(at, stamped) => {
                 c.note(at, stamped);
+                a.first = at + 1;
                 Turned::Stepped
             }
             Passed::Contended(object) => Turned::Contended(object),

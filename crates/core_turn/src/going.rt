@@ -10,11 +10,12 @@ ghost use Rattle.core_turn.specs.Ready.{IsReadySlot};
 ghost use Rattle.core_turn.specs.Looking.{Looked};
 ghost use Rattle.core_turn.specs.Turning.{Heard, SlotLooked};
 
+use crate::asking::what_is_asked_may_be_tried;
 use crate::look::Look;
 use crate::slot::Slot;
 use crate::trying::try_wish;
 use bus_semantics::{Actor, BusPlan, Deed};
-use port_objects::{Bench, sound_plans_have_objects};
+use port_objects::{Bench, free_deeds_are_legal};
 use rte_value::ActKey;
 use task_machine::{Next, TaskSet};
 
@@ -36,7 +37,7 @@ pub(crate) fn go_on<B: Bench>(
     slot: &mut Slot,
     bench: &mut B,
 ) -> Look
-    requires room { 0 < B.room bench.old }
+    requires room { 0 < (B.told bench.old).room }
     requires plan { B.plan bench.old ≡ plan_of p.now }
     requires bodies { AsksAsPlanned (plan_of p.now) t.now }
     requires built { (m : Mapping) × IsBuilt (plan_of p.now) m }
@@ -45,11 +46,11 @@ pub(crate) fn go_on<B: Bench>(
     ensures home { B.home bench.new ≡ B.home bench.old }
     ensures plan { B.plan bench.new ≡ B.plan bench.old }
     ensures looked { Looked (plan_of p.now) (slot_tries (plan_of p.now) t.now slot.old) (looks (plan_of p.now) slot.old)
-        (record { room = B.room bench.old; next = B.next bench.old; objects = B.objects bench.old; work = B.work bench.old })
-        (record { room = B.room bench.new; next = B.next bench.new; objects = B.objects bench.new; work = B.work bench.new }) result }
+        (B.told bench.old) (B.told bench.new) result }
     ensures slot { SlotLooked (plan_of p.now) t.now slot.old slot.new result }
 {
-    sound_plans_have_objects();
+    what_is_asked_may_be_tried();
+    free_deeds_are_legal();
     match slot.frame.next_call(t) {
         Next::Over => unreachable!(),
         Next::Call(wish) => match try_wish(p, &Actor::Act(key), &wish, bench) {

@@ -1,29 +1,35 @@
 //! Laws of turns.
 
-ghost use Rattle.std.specs.Prelude.{◌≡◌, ◌<◌, ℕ, List, ◌∷◌, set, true, Some, slice_get};
+ghost use Rattle.std.specs.Prelude.{◌≡◌, ◌<◌, ℕ, List, ◌∷◌, set, true, false, Option, Some, None, slice_get};
 ghost use Rattle.bus_semantics.specs.declared.script.Mapping.{Mapping};
 ghost use Rattle.bus_semantics.specs.declared.entries.Entry.{Entry};
 ghost use Rattle.bus_semantics.specs.declared.entries.Stamped.{Stamped};
 ghost use Rattle.bus_semantics.specs.Plan.{Plan};
-ghost use Rattle.bus_semantics.specs.History.{History, is_environment};
+ghost use Rattle.bus_semantics.specs.History.{History, Noted, is_environment};
 ghost use Rattle.bus_semantics.specs.Legal.{IsLegal};
-ghost use Rattle.bus_semantics.specs.Rest.{IsAtRest, IsIdle};
+ghost use Rattle.bus_semantics.specs.Rest.{IsAtRest};
 ghost use Rattle.port_objects.specs.declared.object.Object.{Object};
+ghost use Rattle.port_objects.specs.Leading.{lead};
+ghost use Rattle.port_objects.specs.Objects.{kept_of};
+ghost use Rattle.port_objects.specs.Waking.{is_leave};
 ghost use Rattle.task_machine.specs.declared.instr.TaskSet.{TaskSet};
+ghost use Rattle.core_turn.specs.declared.slot.Slot.{Slot};
+ghost use Rattle.core_turn.specs.Awake.{AwakeState, WaitersHeld};
 ghost use Rattle.task_generator.specs.Promise.{AsksAsPlanned};
 ghost use Rattle.core_turn.specs.Cores.{CoreState};
 ghost use Rattle.core_turn.specs.Ready.{IsReady};
 ghost use Rattle.core_turn.specs.Standing.{CoreStands};
-ghost use Rattle.core_turn.specs.Looking.{Told};
+ghost use Rattle.port_objects.specs.Benches.{Told};
 ghost use Rattle.core_turn.specs.Turning.{Steps, NothingComes};
 ghost use Rattle.core_turn.specs.Lawful.{IsLawful};
 ghost use Rattle.core_turn.specs.Plans.{IsBuilt};
-ghost use Rattle.core_turn.specs.Resting.{CoreRests, CoreIsFree};
+ghost use Rattle.core_turn.specs.Resting.{CoreRests};
 
-use port_objects::{
-    answers_are_what_may_come, leads_miss_nothing, legal_histories_part_into_objects,
-    only_starts_wait, sound_plans_have_objects,
+use history_laws::{
+    legal_histories_part_into_objects, running_activations_go_on, unjoined_points_return_nothing,
+    what_comes_may_follow,
 };
+use port_objects::{answers_are_what_may_come, leads_miss_nothing, only_a_leave_opens};
 
 /// For every history for which cores and objects are lawful, the entry of a turn over a bench that tells these objects
 /// keeps it legal, and the cores, with this one as it is after the turn, and the objects are lawful for the longer
@@ -40,7 +46,7 @@ pub fn turns_keep_the_law()
         IsLawful p m t (set cores i new) after h }
 {
     answers_are_what_may_come();
-    legal_histories_part_into_objects();
+    what_comes_may_follow();
 }
 
 /// What the environment does changes nothing of what a core stands for.
@@ -58,24 +64,25 @@ pub fn nothing_now_is_rest_of_the_core()
 {
     legal_histories_part_into_objects();
     leads_miss_nothing();
+    unjoined_points_return_nothing();
 }
 
-/// In a plan of unqueued data without implicit access only starts wait: where cores and objects are lawful for a history, and
-/// a turn of a core over a bench that tells these objects makes nothing, no activation of the core's tasks runs.
-pub fn nothing_now_frees_the_core()
-    ensures { (p : Plan) (m : Mapping) (t : TaskSet) (cores : List CoreState) (i : ℕ) (old new : CoreState) (objects : List Object) (before now : Told) (h : History) →
-        AsksAsPlanned p t → IsLawful p m t cores objects h → slice_get cores i ≡ Some old →
-        before.objects ≡ Some objects → NothingComes p t old new before now → CoreIsFree p m h i }
-{
-    only_starts_wait();
-    sound_plans_have_objects();
-}
-
-/// Where each core of the mapping rests after a legal history, this is at rest; and where no activation of their tasks
-/// runs, the word `idle` holds.
+/// If each core of the mapping rests after a legal history, this is at rest.
 pub fn resting_cores_are_at_rest()
     ensures rest { (p : Plan) (m : Mapping) (h : History) → IsBuilt p m → IsLegal p h →
         ((n : ℕ) → n < m.cores → CoreRests p m h n) → IsAtRest p m h }
-    ensures idle { (p : Plan) (m : Mapping) (h : History) → IsBuilt p m → IsLegal p h → IsAtRest p m h →
-        ((n : ℕ) → n < m.cores → CoreIsFree p m h n) → IsIdle p m h }
-{}
+{
+    running_activations_go_on();
+}
+
+/// After an entry that is no Leave no activation need be woken that waits at the area which it touched: nobody may enter that
+/// now (SWS_RTE: Rte_Enter). And where none is left to be told of an entry, it is so whatever the next one touches.
+pub fn waiters_sleep_on()
+    ensures touched { (p : Plan) (t : TaskSet) (objects : List Object) (object : ℕ) (before after : Object) (n : Noted) (of : List Slot) (first : ℕ) (a : AwakeState) →
+        slice_get objects object ≡ Some before → lead p object (kept_of before) n ≡ Some (kept_of after) → is_leave n.entry.deed ≡ false →
+        WaitersHeld p t objects (Some object) of first a → WaitersHeld p t (set objects object after) None of first a }
+    ensures still { (p : Plan) (t : TaskSet) (objects : List Object) (touched : Option ℕ) (of : List Slot) (first : ℕ) (a : AwakeState) →
+        WaitersHeld p t objects None of first a → WaitersHeld p t objects touched of first a }
+{
+    only_a_leave_opens();
+}

@@ -1,6 +1,7 @@
 //! The turn of a core: one entry of one of its tasks, in cyclic order, over any bench.
 #![tactic(auto)]
 
+mod asking;
 mod awake;
 mod awake_looks;
 mod awake_turn;
@@ -21,8 +22,8 @@ pub use awake::Awake;
 pub use awake_turn::turn_of_awake;
 pub use cores::Core;
 pub use laws::{
-    cores_stand_beside_the_environment, nothing_now_frees_the_core,
-    nothing_now_is_rest_of_the_core, resting_cores_are_at_rest, turns_keep_the_law,
+    cores_stand_beside_the_environment, nothing_now_is_rest_of_the_core, resting_cores_are_at_rest,
+    turns_keep_the_law, waiters_sleep_on,
 };
 pub use turning::{Turned, turn};
 

@@ -21,7 +21,7 @@ use task_machine::TaskSet;
 
 /// A slot tries what it may: the next call of its running activation, or its events.
 fn look<B: Bench>(p: &BusPlan, t: &TaskSet, slot: &mut Slot, bench: &mut B) -> Look
-    requires room { 0 < B.room bench.old }
+    requires room { 0 < (B.told bench.old).room }
     requires plan { B.plan bench.old ≡ plan_of p.now }
     requires bodies { AsksAsPlanned (plan_of p.now) t.now }
     requires built { (m : Mapping) × IsBuilt (plan_of p.now) m }
@@ -29,8 +29,7 @@ fn look<B: Bench>(p: &BusPlan, t: &TaskSet, slot: &mut Slot, bench: &mut B) -> L
     ensures home { B.home bench.new ≡ B.home bench.old }
     ensures plan { B.plan bench.new ≡ B.plan bench.old }
     ensures looked { Looked (plan_of p.now) (slot_tries (plan_of p.now) t.now slot.old) (looks (plan_of p.now) slot.old)
-        (record { room = B.room bench.old; next = B.next bench.old; objects = B.objects bench.old; work = B.work bench.old })
-        (record { room = B.room bench.new; next = B.next bench.new; objects = B.objects bench.new; work = B.work bench.new }) result }
+        (B.told bench.old) (B.told bench.new) result }
     ensures slot { SlotLooked (plan_of p.now) t.now slot.old slot.new result }
 {
     match slot.running {
@@ -48,7 +47,7 @@ pub(crate) fn look_through<B: Bench>(
     to: usize,
     bench: &mut B,
 ) -> Passed
-    requires room { 0 < B.room bench.old }
+    requires room { 0 < (B.told bench.old).room }
     requires plan { B.plan bench.old ≡ plan_of p.now }
     requires bodies { AsksAsPlanned (plan_of p.now) t.now }
     requires built { (m : Mapping) × IsBuilt (plan_of p.now) m }
@@ -58,8 +57,7 @@ pub(crate) fn look_through<B: Bench>(
     ensures home { B.home bench.new ≡ B.home bench.old }
     ensures plan { B.plan bench.new ≡ B.plan bench.old }
     ensures pass { IsPass (plan_of p.now) t.now slots.old.items slots.new.items from to
-        (record { room = B.room bench.old; next = B.next bench.old; objects = B.objects bench.old; work = B.work bench.old })
-        (record { room = B.room bench.new; next = B.next bench.new; objects = B.objects bench.new; work = B.work bench.new }) result }
+        (B.told bench.old) (B.told bench.new) result }
 {
     for at in from..to {
         match look(p, t, &mut slots[at], bench) {

@@ -1,6 +1,6 @@
 //! The start of a free task.
 
-ghost use Rattle.std.specs.Prelude.{◌≡◌, ◌<◌, ◌∷◌, [], true, length, nat_lt, Some, None};
+ghost use Rattle.std.specs.Prelude.{◌≡◌, ◌<◌, ◌∷◌, [], true, length, nat_lt, if◌then◌else◌, Some, None};
 ghost use Rattle.std.specs.List.{list_all};
 ghost use Rattle.bus_semantics.specs.declared.script.Mapping.{Mapping};
 ghost use Rattle.bus_semantics.specs.Plan.{plan_of, runnable_of_event};
@@ -14,6 +14,7 @@ ghost use Rattle.core_turn.specs.Ready.{IsReadySlot};
 ghost use Rattle.core_turn.specs.Turning.{BegunBy, SlotLooked};
 ghost use Rattle.core_turn.specs.Looking.{StartBy, Looked};
 
+use crate::asking::what_is_asked_may_be_tried;
 use crate::look::Look;
 use crate::slot::Slot;
 use crate::trying::try_wish;
@@ -30,18 +31,17 @@ pub(crate) fn runnable_of(p: &BusPlan, event: u32) -> u32
     p.events.items()[event as usize].runnable
 }
 
-/// An event tries to start its runnable.
+/// An event tries to start its runnable. One whose start touches no object costs no look.
 pub(crate) fn try_event<B: Bench>(p: &BusPlan, event: u32, bench: &mut B) -> Look
-    requires room { 0 < B.room bench.old }
+    requires room { 0 < (B.told bench.old).room }
     requires plan { B.plan bench.old ≡ plan_of p.now }
     requires built { (m : Mapping) × IsBuilt (plan_of p.now) m }
     requires there { nat_lt event (length p.now.events) ≡ true }
     ensures home { B.home bench.new ≡ B.home bench.old }
     ensures plan { B.plan bench.new ≡ B.plan bench.old }
     ensures start { StartBy (plan_of p.now) (event ∷ []) result }
-    ensures looked { Looked (plan_of p.now) (start_try (plan_of p.now) event) 1
-        (record { room = B.room bench.old; next = B.next bench.old; objects = B.objects bench.old; work = B.work bench.old })
-        (record { room = B.room bench.new; next = B.next bench.new; objects = B.objects bench.new; work = B.work bench.new }) result }
+    ensures looked { Looked (plan_of p.now) (start_try (plan_of p.now) event) (if waits (plan_of p.now) event then 1 else 0)
+        (B.told bench.old) (B.told bench.new) result }
 {
     sound_plans_have_objects();
     let key = ActKey {
@@ -53,7 +53,7 @@ pub(crate) fn try_event<B: Bench>(p: &BusPlan, event: u32, bench: &mut B) -> Loo
 
 /// The first of these events that may start its runnable does so.
 fn start_first<B: Bench>(p: &BusPlan, events: &[u32], bench: &mut B) -> Look
-    requires room { 0 < B.room bench.old }
+    requires room { 0 < (B.told bench.old).room }
     requires plan { B.plan bench.old ≡ plan_of p.now }
     requires built { (m : Mapping) × IsBuilt (plan_of p.now) m }
     requires there { list_all (λ e. nat_lt e (length p.now.events)) events.now ≡ true }
@@ -61,8 +61,7 @@ fn start_first<B: Bench>(p: &BusPlan, events: &[u32], bench: &mut B) -> Look
     ensures plan { B.plan bench.new ≡ B.plan bench.old }
     ensures start { StartBy (plan_of p.now) events.now result }
     ensures looked { Looked (plan_of p.now) (gathered (start_try (plan_of p.now)) events.now) (count (waits (plan_of p.now)) events.now)
-        (record { room = B.room bench.old; next = B.next bench.old; objects = B.objects bench.old; work = B.work bench.old })
-        (record { room = B.room bench.new; next = B.next bench.new; objects = B.objects bench.new; work = B.work bench.new }) result }
+        (B.told bench.old) (B.told bench.new) result }
 {
     for event in events {
         match try_event(p, *event, bench) {
@@ -87,7 +86,7 @@ pub(crate) fn begin(t: &TaskSet, slot: &mut Slot, entry: &Entry)
 
 /// A free task starts the first of its events, in order of position, that may.
 pub(crate) fn start_due<B: Bench>(p: &BusPlan, t: &TaskSet, slot: &mut Slot, bench: &mut B) -> Look
-    requires room { 0 < B.room bench.old }
+    requires room { 0 < (B.told bench.old).room }
     requires plan { B.plan bench.old ≡ plan_of p.now }
     requires bodies { AsksAsPlanned (plan_of p.now) t.now }
     requires built { (m : Mapping) × IsBuilt (plan_of p.now) m }
@@ -96,10 +95,10 @@ pub(crate) fn start_due<B: Bench>(p: &BusPlan, t: &TaskSet, slot: &mut Slot, ben
     ensures home { B.home bench.new ≡ B.home bench.old }
     ensures plan { B.plan bench.new ≡ B.plan bench.old }
     ensures looked { Looked (plan_of p.now) (slot_tries (plan_of p.now) t.now slot.old) (looks (plan_of p.now) slot.old)
-        (record { room = B.room bench.old; next = B.next bench.old; objects = B.objects bench.old; work = B.work bench.old })
-        (record { room = B.room bench.new; next = B.next bench.new; objects = B.objects bench.new; work = B.work bench.new }) result }
+        (B.told bench.old) (B.told bench.new) result }
     ensures slot { SlotLooked (plan_of p.now) t.now slot.old slot.new result }
 {
+    what_is_asked_may_be_tried();
     match start_first(p, slot.events.as_slice(), bench) {
         Look::Made(stamped) => {
             begin(t, slot, &stamped.entry);

@@ -1,39 +1,29 @@
 //! One wish, tried over a bench.
 
-ghost use Rattle.std.specs.Prelude.{◌≡◌, ◌<◌, ◌∷◌, []};
+ghost use Rattle.std.specs.Prelude.{◌≡◌, ◌<◌, ◌∷◌, [], None};
 ghost use Rattle.bus_semantics.specs.Plan.{plan_of};
 ghost use Rattle.bus_semantics.specs.Wanted.{wanted_of};
 ghost use Rattle.bus_semantics.specs.Objects.{object_of};
-ghost use Rattle.core_turn.specs.Looking.{IsTried, EntryOf, Looked};
+ghost use Rattle.core_turn.specs.Looking.{IsTried, EntryOf, Looked, looks_at};
 
 use crate::look::Look;
-use bus_semantics::{Actor, BusPlan, Deed, Entry, Stamped, Wish};
-use port_objects::{Bench, Benched, object_of};
+use bus_semantics::{Actor, BusPlan, Entry, Stamped, Wish};
+use port_objects::{Bench, Benched, free_deed, object_of};
 
-/// Makes the entry of a wish, where one may come: on the object that it touches, else by a stamp. So far a wish that
-/// touches no object is an end.
-pub(crate) fn try_wish<B: Bench>(p: &BusPlan, who: &Actor, wish: &Wish, bench: &mut B) -> Look
-    requires room { 0 < B.room bench.old }
-    requires plan { B.plan bench.old ≡ plan_of p.now }
-    requires tried { IsTried (plan_of p.now) who.now (wanted_of wish.now) }
+/// Makes the entry of a wish that touches no object, by a stamp. A start without an object may never come, so the bench is not
+/// asked for it.
+fn answer_alone<B: Bench>(who: &Actor, wish: &Wish, bench: &mut B) -> Look
+    requires room { 0 < (B.told bench.old).room }
+    requires tried { IsTried (B.plan bench.old) who.now (wanted_of wish.now) }
+    requires alone { object_of (B.plan bench.old) who.now (wanted_of wish.now) ≡ None }
     ensures home { B.home bench.new ≡ B.home bench.old }
     ensures plan { B.plan bench.new ≡ B.plan bench.old }
-    ensures entry { EntryOf (plan_of p.now) who.now (wanted_of wish.now) result }
-    ensures looked { Looked (plan_of p.now) ((who.now, wanted_of wish.now) ∷ []) 1
-        (record { room = B.room bench.old; next = B.next bench.old; objects = B.objects bench.old; work = B.work bench.old })
-        (record { room = B.room bench.new; next = B.next bench.new; objects = B.objects bench.new; work = B.work bench.new }) result }
+    ensures entry { EntryOf (B.plan bench.old) who.now (wanted_of wish.now) result }
+    ensures looked { Looked (B.plan bench.old) ((who.now, wanted_of wish.now) ∷ []) (looks_at None (wanted_of wish.now)) (B.told bench.old) (B.told bench.new) result }
 {
-    match object_of(p, who, wish) {
-        Some(object) => match bench.act(object, who, wish) {
-            Benched::Done(stamped) => Look::Made(stamped),
-            Benched::NotYet(_) => Look::Nothing,
-            Benched::Contended => Look::Contended(object),
-        },
-        None => {
-            let entry = Entry {
-                actor: *who,
-                deed: Deed::End,
-            };
+    match free_deed(wish) {
+        Some(deed) => {
+            let entry = Entry { actor: *who, deed };
             let stamp = bench.stamp(&entry);
             Look::Made(Stamped {
                 stamp,
@@ -41,5 +31,27 @@ pub(crate) fn try_wish<B: Bench>(p: &BusPlan, who: &Actor, wish: &Wish, bench: &
                 event: None,
             })
         }
+        None => Look::Nothing,
+    }
+}
+
+/// Makes the entry of a wish, if one may come: on the object that it touches, else by a stamp.
+pub(crate) fn try_wish<B: Bench>(p: &BusPlan, who: &Actor, wish: &Wish, bench: &mut B) -> Look
+    requires room { 0 < (B.told bench.old).room }
+    requires plan { B.plan bench.old ≡ plan_of p.now }
+    requires tried { IsTried (plan_of p.now) who.now (wanted_of wish.now) }
+    ensures home { B.home bench.new ≡ B.home bench.old }
+    ensures plan { B.plan bench.new ≡ B.plan bench.old }
+    ensures entry { EntryOf (plan_of p.now) who.now (wanted_of wish.now) result }
+    ensures looked { Looked (plan_of p.now) ((who.now, wanted_of wish.now) ∷ []) (looks_at (object_of (plan_of p.now) who.now (wanted_of wish.now)) (wanted_of wish.now))
+        (B.told bench.old) (B.told bench.new) result }
+{
+    match object_of(p, who, wish) {
+        Some(object) => match bench.act(object, who, wish) {
+            Benched::Done(stamped) => Look::Made(stamped),
+            Benched::NotYet(_) => Look::Nothing,
+            Benched::Contended => Look::Contended(object),
+        },
+        None => answer_alone(who, wish, bench),
     }
 }

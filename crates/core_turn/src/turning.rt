@@ -30,10 +30,10 @@ pub enum Turned {
 /// memory.
 ///
 /// A task with a running activation tries that activation's next call; a free task tries its events in order of
-/// position. So far the plan is one of unqueued data without implicit access, and has no client-server ports.
+/// position. So far the plan has no servers and no mode machines.
 pub fn turn<B: Bench>(p: &BusPlan, t: &TaskSet, c: &mut Core, b: &mut B) -> Turned
     requires room { 0 < c.old.room }
-    requires bench_room { 0 < B.room b.old }
+    requires bench_room { 0 < (B.told b.old).room }
     requires plan { B.plan b.old ≡ plan_of p.now }
     requires bodies { AsksAsPlanned (plan_of p.now) t.now }
     requires ready { (m : Mapping) × IsReady (plan_of p.now) m t.now c.old }
@@ -41,8 +41,7 @@ pub fn turn<B: Bench>(p: &BusPlan, t: &TaskSet, c: &mut Core, b: &mut B) -> Turn
     ensures plan { B.plan b.new ≡ B.plan b.old }
     ensures ready { (m : Mapping) → IsReady (plan_of p.now) m t.now c.old → IsReady (plan_of p.now) m t.now c.new }
     ensures turned { IsTurn (plan_of p.now) t.now c.old c.new
-        (record { room = B.room b.old; next = B.next b.old; objects = B.objects b.old; work = B.work b.old })
-        (record { room = B.room b.new; next = B.next b.new; objects = B.objects b.new; work = B.work b.new }) result }
+        (B.told b.old) (B.told b.new) result }
 {
     let first = c.first;
     let count = c.slots.len();

@@ -1,155 +1,346 @@
-use Rattle.std.proofs.Common.{◌≡◌, ◌<◌, ◌≤◌, length, get_or, set, sym, ◌∙◌, ap, subst, arith, inl, inr, Some}
+use Rattle.std.proofs.Common.{◌≡◌, ◌<◌, ◌≤◌, suc, ◌+◌, length, get_or, set, sym, ◌∙◌, ap, subst, arith, inl, inr, Some, None}
 use Rattle.std.specs.List.{slice_get}
 use Rattle.std.proofs.lemmas.Bool.{cases_lt}
 use Rattle.std.proofs.lemmas.List.{get_or-set_same}
 use Rattle.bus_semantics.specs.Plan.{plan_of}
+use Rattle.bus_semantics.specs.Objects.{touched_by}
+use Rattle.place_set.specs.Places.{NoneBetween, IsFirst}
 use Rattle.core_turn.specs.declared.slot.Slot.{Slot}
+use Rattle.core_turn.specs.declared.look.Look.TheVariants.{Made}
 use Rattle.core_turn.specs.Slots.{slot_tries}
-use Rattle.core_turn.specs.Awake.{Fits, HeldTold, EventsHeld, IsSettled}
-use Rattle.core_turn.proofs.Passing.{set_same, pass_made}
-use Rattle.core_turn.proofs.Awakes.{TriesHeld, events_held}
+use Rattle.core_turn.specs.Ready.{IsReadySlot}
+use Rattle.core_turn.specs.Looking.{ObjectsLooked}
+use Rattle.core_turn.specs.Awake.{AwakeState, Fits, HeldTold, EventsHeld, IsSettled, noting_of}
+use Rattle.core_turn.proofs.Passing.{set_same, pass_made, pass_lost}
+use Rattle.core_turn.proofs.Awakes.{TriesHeld, events_held, with_rows}
 use Rattle.core_turn.proofs.Unchanged.{unchanged_on, unchanged_by, held_by, looked_at, between_held}
-use Rattle.core_turn.proofs.Settling.{passed_on, slot_within, slot_found, row_found, fits_made, held_made, fits_nothing, held_nothing}
+use Rattle.core_turn.proofs.Settling.{passed_on, held_onward, slot_within, slot_found, row_found, fits_made, held_made, fits_nothing, held_nothing}
 use Rattle.core_turn.proofs.awake_looks.look_through.Goals as goal
 
 pub returns-then-at-to-clause-pass : goal.returns-then-at-to-clause-pass
 returns-then-at-to-clause-pass g c =
     let p = plan_of c.args.p.now in
-    let o = g.B.Bench.objects c.args.bench.now in
-    let loop = c.loop-at.invariant in (
+    let t = c.args.t.now in
+    let o = (g.B.Bench.told c.args.bench.now).objects in
+    let xs = c.args.slots.now.items in
+    let first = c.args.a.now.first in
+    let loop = c.loop-at.invariant in
+    let behind = c.loop-at.behind in
+    let a : AwakeState = record { slots = c.next.new.self; events = c.a.inside.events.items; waiting = c.a.inside.waiting; areas = c.a.inside.areas.items; first = c.a.inside.first } in
+    let same : c.loop-at.a ≡ a = sym c.a.view_is ∙ (λ i. record { slots = sym c.in-Some.ensures.same i; events = a.events; waiting = a.waiting; areas = a.areas; first = a.first }) in
+    let fits : Fits xs first a = subst (Fits xs first) same loop.fits in
+    let held : HeldTold p t o None xs behind a = subst (HeldTold p t o None xs behind) same loop.held in
+    let at = c.in-Some.at in
+    let next : IsFirst a.slots behind (length a.slots) at = subst (λ f. IsFirst f behind (length f) at) (sym c.in-Some.ensures.same) c.in-Some.ensures.next in (
       loop.slots,
-      looked_at p _ _ _ _ loop.same (between_held p c.args.t.now o c.args.slots.now.items c.args.from c.args.to
-          (passed_on p c.args.t.now o c.args.slots.now.items _ loop.fits loop.held c.args.from c.loop-at.behind loop.passed c.in-Some.at c.args.to c.if-at-to.true c.in-Some.ensures.next.none)),
+      looked_at p _ _ _ _ loop.same (between_held p t o xs c.args.from c.args.to (passed_on p t o xs a first fits c.args.from behind held loop.passed at c.args.to c.if-at-to.true next.none)),
     )
+
+pub returns-then-at-to-clause-held : goal.returns-then-at-to-clause-held
+returns-then-at-to-clause-held g c =
+    let p = plan_of c.args.p.now in
+    let t = c.args.t.now in
+    let o = (g.B.Bench.told c.args.bench.now).objects in
+    let xs = c.args.slots.now.items in
+    let first = c.args.a.now.first in
+    let loop = c.loop-at.invariant in
+    let behind = c.loop-at.behind in
+    let a : AwakeState = record { slots = c.next.new.self; events = c.a.inside.events.items; waiting = c.a.inside.waiting; areas = c.a.inside.areas.items; first = c.a.inside.first } in
+    let same : c.loop-at.a ≡ a = sym c.a.view_is ∙ (λ i. record { slots = sym c.in-Some.ensures.same i; events = a.events; waiting = a.waiting; areas = a.areas; first = a.first }) in
+    let fits : Fits xs first a = subst (Fits xs first) same loop.fits in
+    let held : HeldTold p t o None xs behind a = subst (HeldTold p t o None xs behind) same loop.held in
+    let at = c.in-Some.at in
+    let next : IsFirst a.slots behind (length a.slots) at = subst (λ f. IsFirst f behind (length f) at) (sym c.in-Some.ensures.same) c.in-Some.ensures.next in
+    let past = c.if-at-to.true in
+    subst (λ ys. HeldTold p t o None ys c.args.to a) (sym loop.slots) (held_onward p t o xs a behind c.args.to loop.short (λ j begun less. next.none j begun (omega arith)) held)
 
 pub returns-clause-pass : goal.returns-clause-pass
 returns-clause-pass g c =
     let p = plan_of c.args.p.now in
-    let o = g.B.Bench.objects c.args.bench.now in
+    let t = c.args.t.now in
+    let o = (g.B.Bench.told c.args.bench.now).objects in
+    let xs = c.args.slots.now.items in
+    let first = c.args.a.now.first in
     let loop = c.loop-at.invariant in
-    let count = loop.fits.count in
-    let less : c.args.to ≤ length c.loop-at.a-inside.slots = omega arith in (
+    let behind = c.loop-at.behind in
+    let a : AwakeState = record { slots = c.next.new.self; events = c.a.inside.events.items; waiting = c.a.inside.waiting; areas = c.a.inside.areas.items; first = c.a.inside.first } in
+    let same : c.loop-at.a ≡ a = sym c.a.view_is ∙ (λ i. record { slots = sym c.in_default.ensures.same i; events = a.events; waiting = a.waiting; areas = a.areas; first = a.first }) in
+    let fits : Fits xs first a = subst (Fits xs first) same loop.fits in
+    let held : HeldTold p t o None xs behind a = subst (HeldTold p t o None xs behind) same loop.held in
+    let none : NoneBetween a.slots behind (length a.slots) = subst (λ f. NoneBetween f behind (length f)) (sym c.in_default.ensures.same) c.in_default.ensures.next in
+    let count = fits.count in
+    let less : c.args.to ≤ length a.slots = omega (arith, c.requires.within) in (
       loop.slots,
-      looked_at p _ _ _ _ loop.same (between_held p c.args.t.now o c.args.slots.now.items c.args.from c.args.to
-          (passed_on p c.args.t.now o c.args.slots.now.items _ loop.fits loop.held c.args.from c.loop-at.behind loop.passed (length c.loop-at.a-inside.slots) c.args.to less c.in_default.ensures.next)),
+      looked_at p _ _ _ _ loop.same (between_held p t o xs c.args.from c.args.to (passed_on p t o xs a first fits c.args.from behind held loop.passed (length a.slots) c.args.to less none)),
     )
+
+pub returns-clause-held : goal.returns-clause-held
+returns-clause-held g c =
+    let p = plan_of c.args.p.now in
+    let t = c.args.t.now in
+    let o = (g.B.Bench.told c.args.bench.now).objects in
+    let xs = c.args.slots.now.items in
+    let first = c.args.a.now.first in
+    let loop = c.loop-at.invariant in
+    let behind = c.loop-at.behind in
+    let a : AwakeState = record { slots = c.next.new.self; events = c.a.inside.events.items; waiting = c.a.inside.waiting; areas = c.a.inside.areas.items; first = c.a.inside.first } in
+    let same : c.loop-at.a ≡ a = sym c.a.view_is ∙ (λ i. record { slots = sym c.in_default.ensures.same i; events = a.events; waiting = a.waiting; areas = a.areas; first = a.first }) in
+    let fits : Fits xs first a = subst (Fits xs first) same loop.fits in
+    let held : HeldTold p t o None xs behind a = subst (HeldTold p t o None xs behind) same loop.held in
+    let none : NoneBetween a.slots behind (length a.slots) = subst (λ f. NoneBetween f behind (length f)) (sym c.in_default.ensures.same) c.in_default.ensures.next in
+    let count = fits.count in
+    let less : c.args.to ≤ length a.slots = omega (arith, c.requires.within) in
+    subst (λ ys. HeldTold p t o None ys c.args.to a) (sym loop.slots) (held_onward p t o xs a behind c.args.to loop.short (λ j begun low. none j begun (omega arith)) held)
 
 pub look-requires-clause-ready : goal.look-requires-clause-ready
 look-requires-clause-ready g c =
+    let p = plan_of c.args.p.now in
+    let t = c.args.t.now in
+    let o = (g.B.Bench.told c.args.bench.now).objects in
+    let xs = c.args.slots.now.items in
+    let first = c.args.a.now.first in
     let loop = c.loop-at.invariant in
-    c.requires.ready c.in-Some.at c.index_mut.result.now
-    (slot_found c.args.slots.now.items c.loop-at.a-inside.slots c.loop-at.a-inside.events.items loop.fits c.in-Some.at c.in-Some.ensures.next.within c.index_mut.result.now
-    (c.index_mut.ensures.value ∙ ap (λ xs. get_or xs c.in-Some.at c.index_mut.result.now) loop.slots))
+    let behind = c.loop-at.behind in
+    let a : AwakeState = record { slots = c.next.new.self; events = c.a.inside.events.items; waiting = c.a.inside.waiting; areas = c.a.inside.areas.items; first = c.a.inside.first } in
+    let same : c.loop-at.a ≡ a = sym c.a.view_is ∙ (λ i. record { slots = sym c.in-Some.ensures.same i; events = a.events; waiting = a.waiting; areas = a.areas; first = a.first }) in
+    let fits : Fits xs first a = subst (Fits xs first) same loop.fits in
+    let held : HeldTold p t o None xs behind a = subst (HeldTold p t o None xs behind) same loop.held in
+    let at = c.in-Some.at in
+    let next : IsFirst a.slots behind (length a.slots) at = subst (λ f. IsFirst f behind (length f) at) (sym c.in-Some.ensures.same) c.in-Some.ensures.next in
+    let s = c.index_mut.result.now in
+    let is : s ≡ get_or xs at s = c.index_mut.ensures.value ∙ ap (λ ys. get_or ys at s) loop.slots in
+    let found : slice_get xs at ≡ Some s = slot_found xs a first fits at next.within s is in
+    c.requires.ready at s found
 
 pub look-requires-clause-width : goal.look-requires-clause-width
 look-requires-clause-width g c =
+    let p = plan_of c.args.p.now in
+    let t = c.args.t.now in
+    let o = (g.B.Bench.told c.args.bench.now).objects in
+    let xs = c.args.slots.now.items in
+    let first = c.args.a.now.first in
     let loop = c.loop-at.invariant in
-    let flags = c.loop-at.a-inside.slots in
-    let rows = c.loop-at.a-inside.events.items in
-    let is : c.index_mut.result.now ≡ get_or c.args.slots.now.items c.in-Some.at c.index_mut.result.now = c.index_mut.ensures.value ∙ ap (λ xs. get_or xs c.in-Some.at c.index_mut.result.now) loop.slots in
-    loop.fits.widths c.in-Some.at c.index_mut.result.now c.index_mut-in-Some.result.now (slot_found c.args.slots.now.items flags rows loop.fits c.in-Some.at c.in-Some.ensures.next.within _ is)
-    (row_found c.args.slots.now.items flags rows loop.fits c.in-Some.at c.in-Some.ensures.next.within _ c.index_mut-in-Some.ensures.value)
+    let behind = c.loop-at.behind in
+    let a : AwakeState = record { slots = c.next.new.self; events = c.a.inside.events.items; waiting = c.a.inside.waiting; areas = c.a.inside.areas.items; first = c.a.inside.first } in
+    let same : c.loop-at.a ≡ a = sym c.a.view_is ∙ (λ i. record { slots = sym c.in-Some.ensures.same i; events = a.events; waiting = a.waiting; areas = a.areas; first = a.first }) in
+    let fits : Fits xs first a = subst (Fits xs first) same loop.fits in
+    let held : HeldTold p t o None xs behind a = subst (HeldTold p t o None xs behind) same loop.held in
+    let at = c.in-Some.at in
+    let next : IsFirst a.slots behind (length a.slots) at = subst (λ f. IsFirst f behind (length f) at) (sym c.in-Some.ensures.same) c.in-Some.ensures.next in
+    let s = c.index_mut.result.now in
+    let is : s ≡ get_or xs at s = c.index_mut.ensures.value ∙ ap (λ ys. get_or ys at s) loop.slots in
+    let found : slice_get xs at ≡ Some s = slot_found xs a first fits at next.within s is in
+    fits.widths at s c.index_mut-in-Some.result.now found (row_found xs a first fits at next.within _ c.index_mut-in-Some.ensures.value)
 
 pub look-requires-clause-held : goal.look-requires-clause-held
 look-requires-clause-held g c =
+    let p = plan_of c.args.p.now in
+    let t = c.args.t.now in
+    let o = (g.B.Bench.told c.args.bench.now).objects in
+    let xs = c.args.slots.now.items in
+    let first = c.args.a.now.first in
     let loop = c.loop-at.invariant in
-    let flags = c.loop-at.a-inside.slots in
-    let rows = c.loop-at.a-inside.events.items in
-    let is : c.index_mut.result.now ≡ get_or c.args.slots.now.items c.in-Some.at c.index_mut.result.now = c.index_mut.ensures.value ∙ ap (λ xs. get_or xs c.in-Some.at c.index_mut.result.now) loop.slots in
-    subst (λ o. EventsHeld (plan_of c.args.p.now) o c.index_mut.result.now.events.items c.index_mut-in-Some.result.now) (sym loop.same.objects)
-    (events_held (plan_of c.args.p.now) (g.B.Bench.objects c.args.bench.now) c.args.slots.now.items _ c.in-Some.at c.index_mut.result.now c.index_mut-in-Some.result.now
-    (slot_found c.args.slots.now.items flags rows loop.fits c.in-Some.at c.in-Some.ensures.next.within _ is)
-    (row_found c.args.slots.now.items flags rows loop.fits c.in-Some.at c.in-Some.ensures.next.within _ c.index_mut-in-Some.ensures.value) loop.held)
+    let behind = c.loop-at.behind in
+    let a : AwakeState = record { slots = c.next.new.self; events = c.a.inside.events.items; waiting = c.a.inside.waiting; areas = c.a.inside.areas.items; first = c.a.inside.first } in
+    let same : c.loop-at.a ≡ a = sym c.a.view_is ∙ (λ i. record { slots = sym c.in-Some.ensures.same i; events = a.events; waiting = a.waiting; areas = a.areas; first = a.first }) in
+    let fits : Fits xs first a = subst (Fits xs first) same loop.fits in
+    let held : HeldTold p t o None xs behind a = subst (HeldTold p t o None xs behind) same loop.held in
+    let at = c.in-Some.at in
+    let next : IsFirst a.slots behind (length a.slots) at = subst (λ f. IsFirst f behind (length f) at) (sym c.in-Some.ensures.same) c.in-Some.ensures.next in
+    let s = c.index_mut.result.now in
+    let is : s ≡ get_or xs at s = c.index_mut.ensures.value ∙ ap (λ ys. get_or ys at s) loop.slots in
+    let found : slice_get xs at ≡ Some s = slot_found xs a first fits at next.within s is in
+    subst (λ b. EventsHeld p b s.events.items c.index_mut-in-Some.result.now) (sym loop.same.objects)
+    (events_held p t o xs behind a at s c.index_mut-in-Some.result.now found (row_found xs a first fits at next.within _ c.index_mut-in-Some.ensures.value) held)
 
 pub returns-in-Made-clause-pass : goal.returns-in-Made-clause-pass
 returns-in-Made-clause-pass g c =
     let p = plan_of c.args.p.now in
-    let o = g.B.Bench.objects c.args.bench.now in
-    let at = c.in-Some.at in
+    let t = c.args.t.now in
+    let o = (g.B.Bench.told c.args.bench.now).objects in
     let xs = c.args.slots.now.items in
+    let first = c.args.a.now.first in
     let loop = c.loop-at.invariant in
-    let first = c.in-Some.ensures.next in
+    let behind = c.loop-at.behind in
+    let a : AwakeState = record { slots = c.next.new.self; events = c.a.inside.events.items; waiting = c.a.inside.waiting; areas = c.a.inside.areas.items; first = c.a.inside.first } in
+    let same : c.loop-at.a ≡ a = sym c.a.view_is ∙ (λ i. record { slots = sym c.in-Some.ensures.same i; events = a.events; waiting = a.waiting; areas = a.areas; first = a.first }) in
+    let fits : Fits xs first a = subst (Fits xs first) same loop.fits in
+    let held : HeldTold p t o None xs behind a = subst (HeldTold p t o None xs behind) same loop.held in
+    let at = c.in-Some.at in
+    let next : IsFirst a.slots behind (length a.slots) at = subst (λ f. IsFirst f behind (length f) at) (sym c.in-Some.ensures.same) c.in-Some.ensures.next in
+    let s = c.index_mut.result.now in
+    let is : s ≡ get_or xs at s = c.index_mut.ensures.value ∙ ap (λ ys. get_or ys at s) loop.slots in
+    let found : slice_get xs at ≡ Some s = slot_found xs a first fits at next.within s is in
     let begun = loop.begun in
-    let after = first.behind in
-    let behind : c.args.from ≤ at = omega arith in
-    let within : at < length xs = slot_within xs c.loop-at.a-inside.slots c.loop-at.a-inside.events.items loop.fits at first.within in
-    let is : c.index_mut.result.now ≡ get_or xs at c.index_mut.result.now = c.index_mut.ensures.value ∙ ap (λ ys. get_or ys at c.index_mut.result.now) loop.slots in
-    let less : at ≤ at = omega arith in
-    let passed = between_held p c.args.t.now o xs c.args.from at (passed_on p c.args.t.now o xs _ loop.fits loop.held c.args.from c.loop-at.behind loop.passed at at less first.none) in (
+    let after = next.behind in
+    let behind_it : c.args.from ≤ at = omega arith in
+    let within : at < length xs = slot_within xs a first fits at next.within in
+    let passed = between_held p t o xs c.args.from at (passed_on p t o xs a first fits c.args.from behind held loop.passed at at (omega arith) next.none) in (
       c.if-at-to.false,
-      pass_made p c.args.t.now xs c.args.from at c.index_mut.result.now behind within is _ c.look.new.slot _ _ _ c.in-Made.stamped
-          (ap (λ ys. set ys at c.look.new.slot) loop.slots) c.in-Made.ensures.slot (looked_at p _ _ _ _ loop.same passed) c.in-Made.ensures.looked,
+      pass_made p t xs c.args.from at s behind_it within is _ c.look.new.slot _ _ _ c.in-Made.stamped (ap (λ ys. set ys at c.look.new.slot) loop.slots) c.in-Made.ensures.slot (looked_at p _ _ _ _ loop.same passed) c.in-Made.ensures.looked,
     )
 
 pub returns-in-Made-clause-fits : goal.returns-in-Made-clause-fits
 returns-in-Made-clause-fits g c =
-    let at = c.in-Some.at in
+    let p = plan_of c.args.p.now in
+    let t = c.args.t.now in
+    let o = (g.B.Bench.told c.args.bench.now).objects in
     let xs = c.args.slots.now.items in
+    let first = c.args.a.now.first in
     let loop = c.loop-at.invariant in
-    let is : c.index_mut.result.now ≡ get_or xs at c.index_mut.result.now = c.index_mut.ensures.value ∙ ap (λ ys. get_or ys at c.index_mut.result.now) loop.slots in
-    subst (λ ys. Fits (set ys at c.look.new.slot) (record { slots = c.next.new.self; events = set c.loop-at.a-inside.events.items at c.look.new.row })) (sym loop.slots)
-    (fits_made xs c.loop-at.a-inside.slots c.loop-at.a-inside.events.items loop.fits at c.in-Some.ensures.next.within c.next.new.self c.index_mut.result.now c.look.new.slot c.look.new.row
-    c.in-Some.ensures.same is c.in-Made.ensures.width c.in-Made.ensures.slot.events)
+    let behind = c.loop-at.behind in
+    let a : AwakeState = record { slots = c.next.new.self; events = c.a.inside.events.items; waiting = c.a.inside.waiting; areas = c.a.inside.areas.items; first = c.a.inside.first } in
+    let same : c.loop-at.a ≡ a = sym c.a.view_is ∙ (λ i. record { slots = sym c.in-Some.ensures.same i; events = a.events; waiting = a.waiting; areas = a.areas; first = a.first }) in
+    let fits : Fits xs first a = subst (Fits xs first) same loop.fits in
+    let held : HeldTold p t o None xs behind a = subst (HeldTold p t o None xs behind) same loop.held in
+    let at = c.in-Some.at in
+    let next : IsFirst a.slots behind (length a.slots) at = subst (λ f. IsFirst f behind (length f) at) (sym c.in-Some.ensures.same) c.in-Some.ensures.next in
+    let s = c.index_mut.result.now in
+    let is : s ≡ get_or xs at s = c.index_mut.ensures.value ∙ ap (λ ys. get_or ys at s) loop.slots in
+    let found : slice_get xs at ≡ Some s = slot_found xs a first fits at next.within s is in
+    subst (λ ys. Fits (set ys at c.look.new.slot) first (with_rows a (set a.events at c.look.new.row))) (sym loop.slots)
+    (fits_made xs a first fits at next.within s c.look.new.slot c.look.new.row is c.in-Made.ensures.width c.in-Made.ensures.slot.events)
 
 pub returns-in-Made-clause-held : goal.returns-in-Made-clause-held
 returns-in-Made-clause-held g c =
     let p = plan_of c.args.p.now in
-    let o = g.B.Bench.objects c.args.bench.now in
-    let at = c.in-Some.at in
+    let t = c.args.t.now in
+    let o = (g.B.Bench.told c.args.bench.now).objects in
     let xs = c.args.slots.now.items in
+    let first = c.args.a.now.first in
     let loop = c.loop-at.invariant in
-    let is : c.index_mut.result.now ≡ get_or xs at c.index_mut.result.now = c.index_mut.ensures.value ∙ ap (λ ys. get_or ys at c.index_mut.result.now) loop.slots in
-    let asleep = subst (λ b. EventsHeld p b c.index_mut.result.now.events.items c.look.new.row) loop.same.objects c.in-Made.ensures.held in
-    subst (λ ys. HeldTold p o (set ys at c.look.new.slot) (record { slots = c.next.new.self; events = set c.loop-at.a-inside.events.items at c.look.new.row })) (sym loop.slots)
-    (held_made xs c.loop-at.a-inside.slots c.loop-at.a-inside.events.items loop.fits at c.in-Some.ensures.next.within p o c.next.new.self c.index_mut.result.now c.look.new.slot c.look.new.row
-    c.in-Some.ensures.same is c.in-Some.ensures.next.chosen asleep c.in-Made.ensures.slot.events loop.held)
+    let behind = c.loop-at.behind in
+    let a : AwakeState = record { slots = c.next.new.self; events = c.a.inside.events.items; waiting = c.a.inside.waiting; areas = c.a.inside.areas.items; first = c.a.inside.first } in
+    let same : c.loop-at.a ≡ a = sym c.a.view_is ∙ (λ i. record { slots = sym c.in-Some.ensures.same i; events = a.events; waiting = a.waiting; areas = a.areas; first = a.first }) in
+    let fits : Fits xs first a = subst (Fits xs first) same loop.fits in
+    let held : HeldTold p t o None xs behind a = subst (HeldTold p t o None xs behind) same loop.held in
+    let at = c.in-Some.at in
+    let next : IsFirst a.slots behind (length a.slots) at = subst (λ f. IsFirst f behind (length f) at) (sym c.in-Some.ensures.same) c.in-Some.ensures.next in
+    let s = c.index_mut.result.now in
+    let is : s ≡ get_or xs at s = c.index_mut.ensures.value ∙ ap (λ ys. get_or ys at s) loop.slots in
+    let found : slice_get xs at ≡ Some s = slot_found xs a first fits at next.within s is in
+    let asleep = subst (λ b. EventsHeld p b s.events.items c.look.new.row) loop.same.objects c.in-Made.ensures.held in
+    let looked = subst (λ b. ObjectsLooked p (slot_tries p t s) b (g.B.Bench.told c.look.new.bench).objects (Made c.in-Made.stamped)) loop.same.objects c.in-Made.ensures.looked.objects in
+    subst (λ ys. HeldTold p t o (touched_by p (noting_of c.in-Made.stamped)) (set ys at c.look.new.slot) (suc at) (with_rows a (set a.events at c.look.new.row))) (sym loop.slots)
+    (held_made xs a first fits at next.within p t o behind next.behind next.none next.chosen held s c.look.new.slot c.look.new.row c.in-Made.stamped (g.B.Bench.told c.look.new.bench).objects is asleep c.in-Made.ensures.slot.events looked)
+
+pub returns-in-Contended-clause-pass : goal.returns-in-Contended-clause-pass
+returns-in-Contended-clause-pass g c =
+    let p = plan_of c.args.p.now in
+    let t = c.args.t.now in
+    let o = (g.B.Bench.told c.args.bench.now).objects in
+    let xs = c.args.slots.now.items in
+    let first = c.args.a.now.first in
+    let loop = c.loop-at.invariant in
+    let behind = c.loop-at.behind in
+    let a : AwakeState = record { slots = c.next.new.self; events = c.a.inside.events.items; waiting = c.a.inside.waiting; areas = c.a.inside.areas.items; first = c.a.inside.first } in
+    let same : c.loop-at.a ≡ a = sym c.a.view_is ∙ (λ i. record { slots = sym c.in-Some.ensures.same i; events = a.events; waiting = a.waiting; areas = a.areas; first = a.first }) in
+    let fits : Fits xs first a = subst (Fits xs first) same loop.fits in
+    let held : HeldTold p t o None xs behind a = subst (HeldTold p t o None xs behind) same loop.held in
+    let at = c.in-Some.at in
+    let next : IsFirst a.slots behind (length a.slots) at = subst (λ f. IsFirst f behind (length f) at) (sym c.in-Some.ensures.same) c.in-Some.ensures.next in
+    let s = c.index_mut.result.now in
+    let is : s ≡ get_or xs at s = c.index_mut.ensures.value ∙ ap (λ ys. get_or ys at s) loop.slots in
+    let found : slice_get xs at ≡ Some s = slot_found xs a first fits at next.within s is in
+    let begun = loop.begun in
+    let after = next.behind in
+    let behind_it : c.args.from ≤ at = omega arith in
+    let within : at < length xs = slot_within xs a first fits at next.within in
+    let passed = between_held p t o xs c.args.from at (passed_on p t o xs a first fits c.args.from behind held loop.passed at at (omega arith) next.none) in (
+      ap (λ ys. set ys at c.look.new.slot) loop.slots ∙ ap (set xs at) c.in-Contended.ensures.slot ∙ set_same xs at s is,
+      pass_lost p t xs c.args.from at s behind_it within is c.args.to _ _ _ c.in-Contended.object c.if-at-to.false (looked_at p _ _ _ _ loop.same passed) c.in-Contended.ensures.looked,
+    )
 
 pub returns-in-Contended-clause-fits : goal.returns-in-Contended-clause-fits
 returns-in-Contended-clause-fits g c =
-    let at = c.in-Some.at in
+    let p = plan_of c.args.p.now in
+    let t = c.args.t.now in
+    let o = (g.B.Bench.told c.args.bench.now).objects in
     let xs = c.args.slots.now.items in
+    let first = c.args.a.now.first in
     let loop = c.loop-at.invariant in
-    let is : c.index_mut.result.now ≡ get_or xs at c.index_mut.result.now = c.index_mut.ensures.value ∙ ap (λ ys. get_or ys at c.index_mut.result.now) loop.slots in
-    subst (λ ys. Fits (set ys at c.look.new.slot) (record { slots = c.next.new.self; events = set c.loop-at.a-inside.events.items at c.look.new.row })) (sym loop.slots)
-    (fits_made xs c.loop-at.a-inside.slots c.loop-at.a-inside.events.items loop.fits at c.in-Some.ensures.next.within c.next.new.self c.index_mut.result.now c.look.new.slot c.look.new.row
-    c.in-Some.ensures.same is c.in-Contended.ensures.width (ap (λ (s : Slot). s.events) c.in-Contended.ensures.slot))
+    let behind = c.loop-at.behind in
+    let a : AwakeState = record { slots = c.next.new.self; events = c.a.inside.events.items; waiting = c.a.inside.waiting; areas = c.a.inside.areas.items; first = c.a.inside.first } in
+    let same : c.loop-at.a ≡ a = sym c.a.view_is ∙ (λ i. record { slots = sym c.in-Some.ensures.same i; events = a.events; waiting = a.waiting; areas = a.areas; first = a.first }) in
+    let fits : Fits xs first a = subst (Fits xs first) same loop.fits in
+    let held : HeldTold p t o None xs behind a = subst (HeldTold p t o None xs behind) same loop.held in
+    let at = c.in-Some.at in
+    let next : IsFirst a.slots behind (length a.slots) at = subst (λ f. IsFirst f behind (length f) at) (sym c.in-Some.ensures.same) c.in-Some.ensures.next in
+    let s = c.index_mut.result.now in
+    let is : s ≡ get_or xs at s = c.index_mut.ensures.value ∙ ap (λ ys. get_or ys at s) loop.slots in
+    let found : slice_get xs at ≡ Some s = slot_found xs a first fits at next.within s is in
+    subst (λ ys. Fits (set ys at c.look.new.slot) first (with_rows a (set a.events at c.look.new.row))) (sym loop.slots)
+    (fits_made xs a first fits at next.within s c.look.new.slot c.look.new.row is c.in-Contended.ensures.width (ap (λ (x : Slot). x.events) c.in-Contended.ensures.slot))
+
+pub settle-requires-clause-ready : goal.settle-requires-clause-ready
+settle-requires-clause-ready g c =
+    let p = plan_of c.args.p.now in
+    let t = c.args.t.now in
+    let o = (g.B.Bench.told c.args.bench.now).objects in
+    let xs = c.args.slots.now.items in
+    let first = c.args.a.now.first in
+    let loop = c.loop-at.invariant in
+    let behind = c.loop-at.behind in
+    let a : AwakeState = record { slots = c.next.new.self; events = c.a.inside.events.items; waiting = c.a.inside.waiting; areas = c.a.inside.areas.items; first = c.a.inside.first } in
+    let same : c.loop-at.a ≡ a = sym c.a.view_is ∙ (λ i. record { slots = sym c.in-Some.ensures.same i; events = a.events; waiting = a.waiting; areas = a.areas; first = a.first }) in
+    let fits : Fits xs first a = subst (Fits xs first) same loop.fits in
+    let held : HeldTold p t o None xs behind a = subst (HeldTold p t o None xs behind) same loop.held in
+    let at = c.in-Some.at in
+    let next : IsFirst a.slots behind (length a.slots) at = subst (λ f. IsFirst f behind (length f) at) (sym c.in-Some.ensures.same) c.in-Some.ensures.next in
+    let s = c.index_mut.result.now in
+    let is : s ≡ get_or xs at s = c.index_mut.ensures.value ∙ ap (λ ys. get_or ys at s) loop.slots in
+    let found : slice_get xs at ≡ Some s = slot_found xs a first fits at next.within s is in
+    let within : at < length xs = slot_within xs a first fits at next.within in
+    let inside : at < length c.loop-at.slots.items = subst (λ ys. at < length ys) (sym loop.slots) within in
+    let own : c.index.result.now ≡ s = c.index.ensures ∙ get_or-set_same c.loop-at.slots.items at c.look.new.slot c.index.result.now inside ∙ c.in-Nothing.ensures.slot in
+    subst (IsReadySlot p t) (sym own) (c.requires.ready at s found)
 
 pub loop-at-preserved : goal.loop-at-preserved
 loop-at-preserved g c =
     let p = plan_of c.args.p.now in
-    let o = g.B.Bench.objects c.args.bench.now in
-    let at = c.in-Some.at in
+    let t = c.args.t.now in
+    let o = (g.B.Bench.told c.args.bench.now).objects in
     let xs = c.args.slots.now.items in
-    let s = c.index_mut.result.now in
-    let flags = c.loop-at.a-inside.slots in
-    let rows = c.loop-at.a-inside.events.items in
+    let first = c.args.a.now.first in
     let loop = c.loop-at.invariant in
-    let first = c.in-Some.ensures.next in
-    let within : at < length xs = slot_within xs flags rows loop.fits at first.within in
+    let behind = c.loop-at.behind in
+    let a : AwakeState = record { slots = c.next.new.self; events = c.a.inside.events.items; waiting = c.a.inside.waiting; areas = c.a.inside.areas.items; first = c.a.inside.first } in
+    let same : c.loop-at.a ≡ a = sym c.a.view_is ∙ (λ i. record { slots = sym c.in-Some.ensures.same i; events = a.events; waiting = a.waiting; areas = a.areas; first = a.first }) in
+    let fits : Fits xs first a = subst (Fits xs first) same loop.fits in
+    let held : HeldTold p t o None xs behind a = subst (HeldTold p t o None xs behind) same loop.held in
+    let at = c.in-Some.at in
+    let next : IsFirst a.slots behind (length a.slots) at = subst (λ f. IsFirst f behind (length f) at) (sym c.in-Some.ensures.same) c.in-Some.ensures.next in
+    let s = c.index_mut.result.now in
     let is : s ≡ get_or xs at s = c.index_mut.ensures.value ∙ ap (λ ys. get_or ys at s) loop.slots in
-    let found : slice_get xs at ≡ Some s = slot_found xs flags rows loop.fits at first.within s is in
-    let tries : TriesHeld p o (slot_tries p c.args.t.now s) = held_by p (slot_tries p c.args.t.now s) _ _ _ _ loop.same c.in-Nothing.ensures.looked in
+    let found : slice_get xs at ≡ Some s = slot_found xs a first fits at next.within s is in
+    let within : at < length xs = slot_within xs a first fits at next.within in
+    let tries : TriesHeld p o (slot_tries p t s) = held_by p (slot_tries p t s) _ _ _ _ loop.same c.in-Nothing.ensures.looked in
     let asleep = subst (λ b. EventsHeld p b s.events.items c.look.new.row) loop.same.objects c.in-Nothing.ensures.held in
     let inside : at < length c.loop-at.slots.items = subst (λ ys. at < length ys) (sym loop.slots) within in
     let own : c.index.result.now ≡ s = c.index.ensures ∙ get_or-set_same c.loop-at.slots.items at c.look.new.slot c.index.result.now inside ∙ c.in-Nothing.ensures.slot in
-    let settled : IsSettled s.running at c.next.new.self c.settle.new.awake = subst (λ (x : Slot). IsSettled x.running at c.next.new.self c.settle.new.awake) own c.settle.ensures in
+    let settled : IsSettled p t s s.running at (with_rows a (set a.events at c.look.new.row)) c.settle.new.a = subst (λ (x : Slot). IsSettled p t x x.running at (with_rows a (set a.events at c.look.new.row)) c.settle.new.a) own c.settle.ensures in
     let begun = loop.begun in
-    let after = first.behind in
+    let after = next.behind in
     let less : at ≤ at = omega arith in
+    let more : suc at ≡ at + 1 = omega arith in
+    let low = c.if-at-to.false in
     record {
       slots = ap (λ ys. set ys at c.look.new.slot) loop.slots ∙ ap (set xs at) c.in-Nothing.ensures.slot ∙ set_same xs at s is;
       home = c.in-Nothing.ensures.home ∙ loop.home;
       plan = c.in-Nothing.ensures.plan ∙ loop.plan;
-      fits = fits_nothing xs flags rows loop.fits at first.within c.next.new.self c.settle.new.awake s c.look.new.row c.in-Some.ensures.same is c.in-Nothing.ensures.width settled;
-      held = held_nothing xs flags rows loop.fits at first.within p c.args.t.now o c.next.new.self c.settle.new.awake s c.look.new.row c.in-Some.ensures.same is asleep tries settled loop.held;
+      fits = fits_nothing xs a first fits at next.within p t c.settle.new.a s c.look.new.row is c.in-Nothing.ensures.width settled;
+      held = subst (λ n. HeldTold p t o None xs n c.settle.new.a) more
+          (held_nothing xs a first fits at next.within p t o behind next.behind next.none next.chosen held
+          (λ q object area k b fit there none. c.areas_are_closed_alike.ensures q object area k b fit there none) c.settle.new.a s c.look.new.row is asleep tries settled);
       begun = omega arith;
-      passed = λ i x behind before there. elim (cases_lt i at) [
-        | inl low ↦ passed_on p c.args.t.now o xs _ loop.fits loop.held c.args.from c.loop-at.behind loop.passed at at less first.none i x behind low there
+      short = omega arith;
+      passed = λ i x behind_it before there. elim (cases_lt i at) [
+        | inl low_it ↦ passed_on p t o xs a first fits c.args.from behind held loop.passed at at less next.none i x behind_it low_it there
         | inr high ↦
             let here : i ≡ at = omega arith in
             let one : Some x ≡ Some s = sym there ∙ ap (slice_get xs) here ∙ found in
-            let own : x ≡ s = cc in
-            subst (λ y. TriesHeld p o (slot_tries p c.args.t.now y)) (sym own) tries
+            let own_one : x ≡ s = cc in
+            subst (λ y. TriesHeld p o (slot_tries p t y)) (sym own_one) tries
       ];
       same = unchanged_on _ _ _ loop.same (unchanged_by p _ _ _ _ loop.same.idle_still c.in-Nothing.ensures.looked);
     }

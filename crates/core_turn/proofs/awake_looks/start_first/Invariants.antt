@@ -10,11 +10,11 @@ invariant-loop-at g l = record {
   home : g.B.Bench.home l.bench ≡ g.B.Bench.home l.initial.bench;
   plan : g.B.Bench.plan l.bench ≡ g.B.Bench.plan l.initial.bench;
   width : length l.row ≡ length l.events;
-  held : EventsHeld (plan_of l.p) (g.B.Bench.objects l.initial.bench) l.events l.row;
+  held : EventsHeld (plan_of l.p) (g.B.Bench.told l.initial.bench).objects l.events l.row;
   asleep : NoneBetween l.row 0 l.from;
   same : Unchanged
-      (record { room = g.B.Bench.room l.initial.bench; next = g.B.Bench.next l.initial.bench; objects = g.B.Bench.objects l.initial.bench; work = g.B.Bench.work l.initial.bench })
-      (record { room = g.B.Bench.room l.bench; next = g.B.Bench.next l.bench; objects = g.B.Bench.objects l.bench; work = g.B.Bench.work l.bench });
+      (g.B.Bench.told l.initial.bench)
+      (g.B.Bench.told l.bench);
 }
 
 abbrev pub decreases-loop-at : goal.decreases-loop-at

@@ -1,9 +1,11 @@
-use Rattle.std.proofs.Common.{◌≡◌, ◌-◌, ◌<◌, length, sym, ◌∙◌, ap, subst, refl, arith, [], ◌∷◌, ◌++◌, Some}
+use Rattle.std.proofs.Common.{◌≡◌, ◌-◌, ◌<◌, length, sym, ◌∙◌, ap, subst, refl, arith, [], ◌∷◌, ◌++◌, ◌+◌, suc, Some, None}
 use Rattle.std.specs.List.{slice_get}
 use Rattle.bus_semantics.specs.Plan.{plan_of}
+use Rattle.bus_semantics.specs.Objects.{touched_by}
 use Rattle.core_turn.specs.Cores.{CoreState}
-use Rattle.core_turn.specs.Awake.{HeldTold}
-use Rattle.core_turn.proofs.Stepped.{ready_on, back_steps, front_steps, nothing_comes, pass_at, made_within, behind_all, before_all}
+use Rattle.core_turn.specs.Awake.{Fits, HeldTold, noting_of}
+use Rattle.core_turn.proofs.Settling.{begins_at, held_round, held_turned, fits_begins}
+use Rattle.core_turn.proofs.Stepped.{ready_on, back_steps, front_steps, nothing_comes, pass_at, made_within, behind_all, before_all, back_contended, front_contended, behind_lost, before_lost}
 use Rattle.core_turn.proofs.Unchanged.{unchanged_by}
 use Rattle.core_turn.proofs.awake_turn.turn_of_awake.Goals as goal
 
@@ -12,6 +14,15 @@ look_through-requires-clause-ready g c = λ i s found. c.requires.ready.1.each i
 
 pub look_through-requires-in-Nothing-clause-ready : goal.look_through-requires-in-Nothing-clause-ready
 look_through-requires-in-Nothing-clause-ready g c = λ i s found. c.requires.ready.1.each i s (subst (λ xs. slice_get xs i ≡ Some s) (c.in-Nothing.ensures.pass.0 ∙ ap (λ (k : CoreState). k.slots) c.c.view_is) found)
+
+pub look_through-requires-in-Nothing-clause-held : goal.look_through-requires-in-Nothing-clause-held
+look_through-requires-in-Nothing-clause-held g c =
+    let p = plan_of c.args.p.now in
+    let same = unchanged_by p _ _ _ _ c.requires.work c.in-Nothing.ensures.pass.1 in
+    let count : c.len-count.result ≡ length c.c.inside.slots.items = omega arith in
+    let kept : length c.look_through.new.slots.items ≡ length c.c.inside.slots.items = ap length c.in-Nothing.ensures.pass.0 in
+    subst (λ objects. HeldTold p c.args.t.now objects None c.look_through.new.slots.items 0 c.look_through.new.a) (sym same.objects)
+    (held_round p c.args.t.now (g.B.Bench.told c.args.b.now).objects c.look_through.new.slots.items c.look_through.new.a c.len-count.result (omega arith) c.in-Nothing.ensures.held)
 
 pub note-requires-clause-within : goal.note-requires-clause-within
 note-requires-clause-within g c =
@@ -60,13 +71,31 @@ returns-in-Made-look_through-clause-turned g c =
           (sym (ap (λ (k : CoreState). k.room) c.c.view_is) ∙ c.note-in-Made-look_through.ensures.room) _ _ _ before back pass,
     )
 
+pub returns-in-Made-clause-held : goal.returns-in-Made-clause-held
+returns-in-Made-clause-held g c = λ s last.
+    held_turned (plan_of c.args.p.now) c.args.t.now (g.B.Bench.told c.args.b.now).objects c.look_through.new.slots.items c.note.new.self.slots c.in-Made.at (c.in-Made.at + 1) c.look_through.new.a _ c.in-Made.stamped s c.args.c.now.trace
+    c.note.ensures.slots (omega arith) c.a.view_is (sym (c.note.ensures.trace ∙ ap (λ (k : CoreState). k.trace ++ c.in-Made.stamped ∷ []) c.c.view_is) ∙ last) c.in-Made.ensures.held
+
+pub returns-in-Made-look_through-clause-fits : goal.returns-in-Made-look_through-clause-fits
+returns-in-Made-look_through-clause-fits g c =
+    let at = c.in-Made-look_through.at in
+    let next : at + 1 ≡ c.note-in-Made-look_through.new.self.first = let more : at + 1 ≡ suc at = omega arith in more ∙ sym c.note-in-Made-look_through.ensures.first in
+    subst (λ ys. Fits ys c.note-in-Made-look_through.new.self.first (begins_at (record {
+      slots = c.a-in-Nothing.inside.slots;
+      events = c.a-in-Nothing.inside.events.items;
+      waiting = c.a-in-Nothing.inside.waiting;
+      areas = c.a-in-Nothing.inside.areas.items;
+      first = c.a-in-Nothing.inside.first;
+    }) (at + 1))) (sym c.note-in-Made-look_through.ensures.slots)
+    (fits_begins _ _ _ _ (at + 1) next (subst (Fits c.look_through-in-Nothing.new.slots.items c.look_through.new.a.first) (sym c.a-in-Nothing.view_is) c.in-Made-look_through.ensures.fits))
+
 pub returns-in-Made-look_through-clause-held : goal.returns-in-Made-look_through-clause-held
-returns-in-Made-look_through-clause-held g c =
+returns-in-Made-look_through-clause-held g c = λ s last.
     let p = plan_of c.args.p.now in
-    let awake = c.look_through-in-Nothing.new.a in
     let same = unchanged_by p _ _ _ _ c.requires.work c.in-Nothing.ensures.pass.1 in
-    subst (λ objects. HeldTold p objects c.note-in-Made-look_through.new.self.slots awake) same.objects
-    (subst (λ slots. HeldTold p (g.B.Bench.objects c.look_through.new.bench) slots awake) (sym c.note-in-Made-look_through.ensures.slots) c.in-Made-look_through.ensures.held)
+    let held = subst (λ o. HeldTold p c.args.t.now o (touched_by p (noting_of c.in-Made-look_through.stamped)) c.look_through-in-Nothing.new.slots.items (suc c.in-Made-look_through.at) c.look_through-in-Nothing.new.a) same.objects c.in-Made-look_through.ensures.held in
+    held_turned p c.args.t.now (g.B.Bench.told c.args.b.now).objects c.look_through-in-Nothing.new.slots.items c.note-in-Made-look_through.new.self.slots c.in-Made-look_through.at (c.in-Made-look_through.at + 1) c.look_through-in-Nothing.new.a _ c.in-Made-look_through.stamped s c.args.c.now.trace
+    c.note-in-Made-look_through.ensures.slots (omega arith) c.a-in-Nothing.view_is (sym (c.note-in-Made-look_through.ensures.trace ∙ ap (λ (k : CoreState). k.trace ++ c.in-Made-look_through.stamped ∷ []) c.c.view_is) ∙ last) held
 
 pub returns-in-Nothing-look_through-clause-turned : goal.returns-in-Nothing-look_through-clause-turned
 returns-in-Nothing-look_through-clause-turned g c =
@@ -75,3 +104,18 @@ returns-in-Nothing-look_through-clause-turned g c =
     let front = before_all (plan_of c.args.p.now) c.args.t.now c.args.c.now c.look_through.new.slots.items c.c.inside.first _ _ (c.in-Nothing.ensures.pass.0 ∙ ap (λ (k : CoreState). k.slots) c.c.view_is) (ap (λ (k : CoreState). k.first) c.c.view_is) c.in-Nothing-look_through.ensures.pass.1 in
     let same = ap (λ (xs : _). record { number = c.c.inside.number; slots = xs; first = c.c.inside.first; trace = c.c.inside.trace.items; room = Rattle.std.specs.Vec.vec_capacity c.c.inside.trace - length c.c.inside.trace.items }) (c.in-Nothing-look_through.ensures.pass.0 ∙ c.in-Nothing.ensures.pass.0) ∙ c.c.view_is in
     nothing_comes (plan_of c.args.p.now) c.args.t.now c.args.c.now _ _ _ _ same back front
+
+pub returns-in-Contended-clause-turned : goal.returns-in-Contended-clause-turned
+returns-in-Contended-clause-turned g c =
+    let count : c.len-count.result ≡ length c.c.inside.slots.items = omega arith in
+    let lost = behind_lost (plan_of c.args.p.now) c.args.t.now c.args.c.now c.c.inside.slots.items c.c.inside.first _ _ (ap (λ (k : CoreState). k.slots) c.c.view_is) (ap (λ (k : CoreState). k.first) c.c.view_is) c.in-Contended.object c.len-count.result count c.in-Contended.ensures.pass.1 in
+    let same = ap (λ (xs : _). record { number = c.c.inside.number; slots = xs; first = c.c.inside.first; trace = c.c.inside.trace.items; room = Rattle.std.specs.Vec.vec_capacity c.c.inside.trace - length c.c.inside.trace.items }) c.in-Contended.ensures.pass.0 ∙ c.c.view_is in
+    back_contended (plan_of c.args.p.now) c.args.t.now c.args.c.now _ (g.B.Bench.told c.args.b.now) (g.B.Bench.told c.args.b.now) _ c.in-Contended.object same lost
+
+pub returns-in-Contended-look_through-clause-turned : goal.returns-in-Contended-look_through-clause-turned
+returns-in-Contended-look_through-clause-turned g c =
+    let count : c.len-count.result ≡ length c.c.inside.slots.items = omega arith in
+    let back = behind_all (plan_of c.args.p.now) c.args.t.now c.args.c.now c.c.inside.slots.items c.c.inside.first _ _ (ap (λ (k : CoreState). k.slots) c.c.view_is) (ap (λ (k : CoreState). k.first) c.c.view_is) c.len-count.result count c.in-Nothing.ensures.pass.1 in
+    let lost = before_lost (plan_of c.args.p.now) c.args.t.now c.args.c.now c.look_through.new.slots.items c.c.inside.first _ _ (c.in-Nothing.ensures.pass.0 ∙ ap (λ (k : CoreState). k.slots) c.c.view_is) (ap (λ (k : CoreState). k.first) c.c.view_is) c.in-Contended-look_through.object c.in-Contended-look_through.ensures.pass.1 in
+    let same = ap (λ (xs : _). record { number = c.c.inside.number; slots = xs; first = c.c.inside.first; trace = c.c.inside.trace.items; room = Rattle.std.specs.Vec.vec_capacity c.c.inside.trace - length c.c.inside.trace.items }) (c.in-Contended-look_through.ensures.pass.0 ∙ c.in-Nothing.ensures.pass.0) ∙ c.c.view_is in
+    front_contended (plan_of c.args.p.now) c.args.t.now c.args.c.now _ _ _ _ c.in-Contended-look_through.object same _ back lost

@@ -9,7 +9,8 @@ returns c = λ p m t cores i old new objects before now h bodies lawful is told 
     let ready = lawful.ready i old is in
     let held = subst (λ o. NoneTold p t old o now.objects) told none.objects in
     let stuck = all_stuck p m ready.built h lawful.legal objects lawful.stand
-    (λ g object legal. c.legal_histories_part_into_objects.ensures.parts p m g object ready.built.sound ready.built.plain.unqueued legal)
-    (λ object before l n stands follows. c.leads_miss_nothing.ensures p m object before l n ready.built.sound ready.built.plain.unqueued stands follows) _ held.0 in
+    (λ g object legal. c.legal_histories_part_into_objects.ensures p m g object ready.built.sound legal)
+    (λ object before l n stands follows. c.leads_miss_nothing.ensures p m object before l n ready.built.sound stands follows)
+    (λ a event point kind unjoined. c.unjoined_points_return_nothing.ensures p h a event point lawful.legal kind unjoined) _ held.0 in
     subst (CoreRests p m h) (lawful.number i old is)
     (core_rests p m t bodies h old ready (lawful.stands i old is) stuck)

@@ -5,7 +5,7 @@ pub returns-clause-stepped : goal.returns-clause-stepped
 returns-clause-stepped c = λ p m t cores i old new objects after before now s h lawful is ready told tells steps.
     keeps_lawful p m t cores i old new objects after before now s h lawful is ready steps
     (λ a w x y l e touching ask made. c.answers_are_what_may_come.ensures.made p m a w x y l e touching ask made)
-    (λ e object follows. c.legal_histories_part_into_objects.ensures.whole p m h e object (lawful.ready i old is).built.sound lawful.legal follows)
+    (λ a w n free rule comes. c.what_comes_may_follow.ensures.entry p m h a w n (lawful.ready i old is).built.sound lawful.legal free rule comes)
     told tells
 
 pub returns-clause-still : goal.returns-clause-still

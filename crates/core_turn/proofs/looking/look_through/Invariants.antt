@@ -13,6 +13,6 @@ invariant-loop-at g l = record {
   home : g.B.Bench.home l.bench ≡ g.B.Bench.home l.initial.bench;
   plan : g.B.Bench.plan l.bench ≡ g.B.Bench.plan l.initial.bench;
   looked : Looked (plan_of l.p) (gathered (slot_tries (plan_of l.p) l.t) (slots_between l.from l.at l.initial.slots.items)) (looks_in (plan_of l.p) (slots_between l.from l.at l.initial.slots.items))
-      (record { room = g.B.Bench.room l.initial.bench; next = g.B.Bench.next l.initial.bench; objects = g.B.Bench.objects l.initial.bench; work = g.B.Bench.work l.initial.bench })
-      (record { room = g.B.Bench.room l.bench; next = g.B.Bench.next l.bench; objects = g.B.Bench.objects l.bench; work = g.B.Bench.work l.bench }) Nothing;
+      (g.B.Bench.told l.initial.bench)
+      (g.B.Bench.told l.bench) Nothing;
 }

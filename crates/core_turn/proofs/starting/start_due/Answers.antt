@@ -13,3 +13,4 @@ returns-in-Made-clause-slot g c =
     begun_step (plan_of c.args.p.now) c.requires.built.0 c.requires.built.1 c.args.t.now c.args.slot.now c.requires.free c.requires.ready c.in-Made.stamped
     (subst (λ xs. IsStartBy (plan_of c.args.p.now) xs c.in-Made.stamped) c.as_slice.ensures.value c.in-Made.ensures.start)
     c.begin.new.slot c.begin.ensures
+    (λ k r event start plain there starts. c.what_is_asked_may_be_tried.ensures.first (plan_of c.args.p.now) c.requires.built.0 k r event start c.requires.built.1 plain there starts)

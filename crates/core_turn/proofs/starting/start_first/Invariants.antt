@@ -12,6 +12,6 @@ invariant-loop-event g l = record {
   home : g.B.Bench.home l.bench ≡ g.B.Bench.home l.initial.bench;
   plan : g.B.Bench.plan l.bench ≡ g.B.Bench.plan l.initial.bench;
   looked : Looked (plan_of l.p) (gathered (start_try (plan_of l.p)) (take l.event-index l.events)) (count (waits (plan_of l.p)) (take l.event-index l.events))
-      (record { room = g.B.Bench.room l.initial.bench; next = g.B.Bench.next l.initial.bench; objects = g.B.Bench.objects l.initial.bench; work = g.B.Bench.work l.initial.bench })
-      (record { room = g.B.Bench.room l.bench; next = g.B.Bench.next l.bench; objects = g.B.Bench.objects l.bench; work = g.B.Bench.work l.bench }) Nothing;
+      (g.B.Bench.told l.initial.bench)
+      (g.B.Bench.told l.bench) Nothing;
 }

@@ -10,7 +10,7 @@ try_wish-requires-clause-tried g c =
     (λ a w fit. c.sound_plans_have_objects.ensures.touched p m a w c.requires.built.1.sound fit)
 
 pub returns-clause-start : goal.returns-clause-start
-returns-clause-start g c = start_by (plan_of c.args.p.now) c.requires.built.0 c.requires.built.1 c.args.event c.runnable_of.result c.requires.there c.runnable_of.ensures c.try_wish.result c.try_wish.ensures.entry
+returns-clause-start g c = start_by (plan_of c.args.p.now) c.args.event c.runnable_of.result c.runnable_of.ensures c.try_wish.result c.try_wish.ensures.entry
 
 pub returns-clause-looked : goal.returns-clause-looked
-returns-clause-looked g c = start_looked (plan_of c.args.p.now) c.requires.built.0 c.requires.built.1 c.args.event c.runnable_of.result c.requires.there c.runnable_of.ensures _ _ c.try_wish.result c.try_wish.ensures.looked
+returns-clause-looked g c = start_looked (plan_of c.args.p.now) c.args.event c.runnable_of.result c.runnable_of.ensures _ _ c.try_wish.result c.try_wish.ensures.looked

@@ -2,7 +2,7 @@ use Rattle.std.proofs.Common.{◌≡◌, ◌-◌, ◌<◌, length, sym, ◌∙�
 use Rattle.std.specs.List.{slice_get}
 use Rattle.bus_semantics.specs.Plan.{plan_of}
 use Rattle.core_turn.specs.Cores.{CoreState}
-use Rattle.core_turn.proofs.Stepped.{ready_on, back_steps, front_steps, nothing_comes, pass_at, made_within, behind_all, before_all}
+use Rattle.core_turn.proofs.Stepped.{ready_on, back_steps, front_steps, nothing_comes, pass_at, made_within, behind_all, before_all, back_contended, front_contended, behind_lost, before_lost}
 use Rattle.core_turn.proofs.turning.turn.Goals as goal
 
 pub look_through-requires-clause-ready : goal.look_through-requires-clause-ready
@@ -65,3 +65,18 @@ returns-in-Nothing-look_through-clause-turned g c =
     let front = before_all (plan_of c.args.p.now) c.args.t.now c.args.c.now c.look_through.new.slots.items c.c.inside.first _ _ (c.in-Nothing.ensures.pass.0 ∙ ap (λ (k : CoreState). k.slots) c.c.view_is) (ap (λ (k : CoreState). k.first) c.c.view_is) c.in-Nothing-look_through.ensures.pass.1 in
     let same = ap (λ (xs : _). record { number = c.c.inside.number; slots = xs; first = c.c.inside.first; trace = c.c.inside.trace.items; room = Rattle.std.specs.Vec.vec_capacity c.c.inside.trace - length c.c.inside.trace.items }) (c.in-Nothing-look_through.ensures.pass.0 ∙ c.in-Nothing.ensures.pass.0) ∙ c.c.view_is in
     nothing_comes (plan_of c.args.p.now) c.args.t.now c.args.c.now _ _ _ _ same back front
+
+pub returns-in-Contended-clause-turned : goal.returns-in-Contended-clause-turned
+returns-in-Contended-clause-turned g c =
+    let count : c.len-count.result ≡ length c.c.inside.slots.items = omega arith in
+    let lost = behind_lost (plan_of c.args.p.now) c.args.t.now c.args.c.now c.c.inside.slots.items c.c.inside.first _ _ (ap (λ (k : CoreState). k.slots) c.c.view_is) (ap (λ (k : CoreState). k.first) c.c.view_is) c.in-Contended.object c.len-count.result count c.in-Contended.ensures.pass.1 in
+    let same = ap (λ (xs : _). record { number = c.c.inside.number; slots = xs; first = c.c.inside.first; trace = c.c.inside.trace.items; room = Rattle.std.specs.Vec.vec_capacity c.c.inside.trace - length c.c.inside.trace.items }) c.in-Contended.ensures.pass.0 ∙ c.c.view_is in
+    back_contended (plan_of c.args.p.now) c.args.t.now c.args.c.now _ (g.B.Bench.told c.args.b.now) (g.B.Bench.told c.args.b.now) _ c.in-Contended.object same lost
+
+pub returns-in-Contended-look_through-clause-turned : goal.returns-in-Contended-look_through-clause-turned
+returns-in-Contended-look_through-clause-turned g c =
+    let count : c.len-count.result ≡ length c.c.inside.slots.items = omega arith in
+    let back = behind_all (plan_of c.args.p.now) c.args.t.now c.args.c.now c.c.inside.slots.items c.c.inside.first _ _ (ap (λ (k : CoreState). k.slots) c.c.view_is) (ap (λ (k : CoreState). k.first) c.c.view_is) c.len-count.result count c.in-Nothing.ensures.pass.1 in
+    let lost = before_lost (plan_of c.args.p.now) c.args.t.now c.args.c.now c.look_through.new.slots.items c.c.inside.first _ _ (c.in-Nothing.ensures.pass.0 ∙ ap (λ (k : CoreState). k.slots) c.c.view_is) (ap (λ (k : CoreState). k.first) c.c.view_is) c.in-Contended-look_through.object c.in-Contended-look_through.ensures.pass.1 in
+    let same = ap (λ (xs : _). record { number = c.c.inside.number; slots = xs; first = c.c.inside.first; trace = c.c.inside.trace.items; room = Rattle.std.specs.Vec.vec_capacity c.c.inside.trace - length c.c.inside.trace.items }) (c.in-Contended-look_through.ensures.pass.0 ∙ c.in-Nothing.ensures.pass.0) ∙ c.c.view_is in
+    front_contended (plan_of c.args.p.now) c.args.t.now c.args.c.now _ _ _ _ c.in-Contended-look_through.object same _ back lost
