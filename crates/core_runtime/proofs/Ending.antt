@@ -7,15 +7,17 @@ use Rattle.bus_semantics.specs.Plan.{Plan}
 use Rattle.bus_semantics.specs.History.{History}
 use Rattle.bus_semantics.specs.Legal.{IsLegal}
 use Rattle.bus_semantics.specs.Rest.{IsAtRest, IsIdle}
+use Rattle.bus_semantics.specs.Quiet.{IsQuiet}
+use Rattle.bus_semantics.specs.Sound.{IsSound}
 use Rattle.port_objects.specs.declared.object.Object.{Object}
 use Rattle.port_objects.specs.Objects.{ArePlans}
 use Rattle.task_machine.specs.declared.instr.TaskSet.{TaskSet}
 use Rattle.task_generator.specs.Promise.{AsksAsPlanned}
 use Rattle.core_turn.specs.Cores.{CoreState}
 use Rattle.core_turn.specs.Lawful.{IsLawful}
-use Rattle.core_turn.specs.Looking.{Told}
+use Rattle.port_objects.specs.Benches.{Told}
 use Rattle.core_turn.specs.Plans.{IsBuilt}
-use Rattle.core_turn.specs.Resting.{CoreRests, CoreIsFree}
+use Rattle.core_turn.specs.Resting.{CoreRests}
 use Rattle.core_turn.specs.Turning.{NothingComes}
 use Rattle.core_runtime.specs.After.{after}
 use Rattle.core_runtime.specs.Nodes.{IsNode}
@@ -33,35 +35,29 @@ abbrev pub RestLaw : Type 0
 RestLaw = (p : Plan) (m : Mapping) (t : TaskSet) (cores : List CoreState) (i : ℕ) (old new : CoreState) (objects : List Object) (before now : Told) (h : History) → AsksAsPlanned p t → IsLawful p m t cores objects h
     → slice_get cores i ≡ Some old → before.objects ≡ Some objects → NothingComes p t old new before now → CoreRests p m h i
 
-abbrev pub FreeLaw : Type 0
-FreeLaw = (p : Plan) (m : Mapping) (t : TaskSet) (cores : List CoreState) (i : ℕ) (old new : CoreState) (objects : List Object) (before now : Told) (h : History) → AsksAsPlanned p t → IsLawful p m t cores objects h
-    → slice_get cores i ≡ Some old → before.objects ≡ Some objects → NothingComes p t old new before now → CoreIsFree p m h i
-
 abbrev pub AllRestLaw : Type 0
 AllRestLaw = (p : Plan) (m : Mapping) (h : History) → IsBuilt p m → IsLegal p h → ((n : ℕ) → n < m.cores → CoreRests p m h n) → IsAtRest p m h
 
-abbrev pub IdleLaw : Type 0
-IdleLaw = (p : Plan) (m : Mapping) (h : History) → IsBuilt p m → IsLegal p h → IsAtRest p m h → ((n : ℕ) → n < m.cores → CoreIsFree p m h n) → IsIdle p m h
+abbrev pub QuietLaw : Type 0
+QuietLaw = (p : Plan) (m : Mapping) (h : History) → IsSound p m → IsLegal p h → IsAtRest p m h → IsQuiet p h
 
-module _ (rests : RestLaw) (frees : FreeLaw) (all_rest : AllRestLaw) (idle : IdleLaw) (p : Plan) (m : Mapping) (t : TaskSet) (cores : List CoreState) (objects : List Object) (h : History)
+module _ (rests : RestLaw) (all_rest : AllRestLaw) (quiet : QuietLaw) (p : Plan) (m : Mapping) (t : TaskSet) (cores : List CoreState) (objects : List Object) (h : History)
     (built : IsBuilt p m) (asks : AsksAsPlanned p t) (count : length cores ≡ m.cores) (lawful : IsLawful p m t cores objects h) (nothing : NothingMayCome p t cores objects) where
-  within : (n : ℕ) → n < m.cores → n < length cores
-  within n below = omega (arith, count)
-
   each_rests : (n : ℕ) → n < m.cores → CoreRests p m h n
   each_rests n below =
-      let c = one_there cores n (within n below) in
+      let within : n < length cores = omega (arith, count) in
+      let c = one_there cores n within in
       let none = nothing n c.0 c.1 in
       rests p m t cores n c.0 none.same objects none.before none.now h asks lawful c.1 none.told none.nothing
 
-  each_is_free : (n : ℕ) → n < m.cores → CoreIsFree p m h n
-  each_is_free n below =
-      let c = one_there cores n (within n below) in
-      let none = nothing n c.0 c.1 in
-      frees p m t cores n c.0 none.same objects none.before none.now h asks lawful c.1 none.told none.nothing
+  at_rest : IsAtRest p m h
+  at_rest = all_rest p m h built lawful.legal each_rests
+
+  pub is_quiet : IsQuiet p h
+  is_quiet = quiet p m h built.sound lawful.legal at_rest
 
   pub is_idle : IsIdle p m h
-  is_idle = idle p m h built lawful.legal (all_rest p m h built lawful.legal each_rests) each_is_free
+  is_idle = record { rest = at_rest; none = is_quiet.none }
 
 -- ---- after turns
 

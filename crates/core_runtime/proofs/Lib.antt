@@ -9,5 +9,8 @@ pub mod SameNodes
 pub mod Outside
 pub mod Watched
 pub mod Wakes
+pub mod Areas
 pub mod Seated
 pub mod Turned
+pub mod Later
+pub mod Rounded

@@ -1,6 +1,7 @@
 -- The entry of a wish of the environment keeps a node lawful.
-use Rattle.std.proofs.Common.{◌≡◌, ◌≢◌, ◌<◌, ◌+◌, ℕ, suc, Bool, true, false, if◌then◌else◌, refl, sym, ◌∙◌, ap, subst, arith, List, ◌∷◌, length, set, get_or, Option, Some, None}
-use Rattle.std.specs.Prelude.{◌==◌, IfSome, unwrap_or}
+use Rattle.std.proofs.Common.{◌≡◌, ◌≢◌, ◌<◌, ◌+◌, ℕ, suc, Bool, true, false, ◌&&◌, if◌then◌else◌, refl, sym, ◌∙◌, ap, subst, arith, List, ◌∷◌, length, set, get_or, Option, Some, None}
+use Rattle.std.specs.Prelude.{◌==◌, IfSome, unwrap_or, not}
+use Rattle.std.specs.Option.{option_map, option_map_or}
 use Rattle.std.specs.List.{slice_get}
 use Rattle.std.specs.Cmp.{unsigned_Decides}
 use Rattle.std.proofs.lemmas.Bool.{and_parts, false≢true}
@@ -9,24 +10,30 @@ use Rattle.rte_value.specs.Values.{same_number}
 use Rattle.bus_semantics.specs.declared.entries.Actor.{Actor}
 use Rattle.bus_semantics.specs.declared.entries.Actor.TheVariants.{Env}
 use Rattle.bus_semantics.specs.declared.entries.Entry.{Entry}
+use Rattle.bus_semantics.specs.declared.entries.Deed.{Deed}
+use Rattle.bus_semantics.specs.declared.entries.Deed.TheVariants as deed
+use Rattle.bus_semantics.specs.declared.plan.ElemPlan.{ElemPlan}
+use Rattle.bus_semantics.specs.declared.plan.ModePortPlan.{ModePortPlan}
 use Rattle.bus_semantics.specs.declared.script.Mapping.{Mapping}
 use Rattle.bus_semantics.specs.Plan.{Plan}
-use Rattle.bus_semantics.specs.Wanted.{Wanted, to_start, to_admit, to_end}
-use Rattle.bus_semantics.specs.History.{History, is_environment, needs_event, started_before, note, noted}
-use Rattle.bus_semantics.specs.Objects.{clock, object_of, touched_by, touches, entries_of, touched, IsObject}
-use Rattle.bus_semantics.specs.Fitting.{wish_fits, fits}
+use Rattle.bus_semantics.specs.Wanted.{Wanted, to_tick, to_start, to_admit, to_fetch, to_write, to_read, to_invalidate, to_see_updated, to_send, to_receive, to_ask, to_hear, to_take_result, to_return, to_enter, to_leave, to_switch, to_see_mode, to_move_on, to_publish, to_end, wanted_by}
+use Rattle.bus_semantics.specs.History.{History, Noted, Past, is_environment, needs_event, started_before, note, noted}
+use Rattle.bus_semantics.specs.Objects.{clock, first_machine, object_of, touched_by, touches, entries_of, touched, IsObject}
+use Rattle.bus_semantics.specs.Fitting.{wish_fits, answer_fits, activation_fits}
+use Rattle.bus_semantics.specs.Owners.{is_unqueued, is_queued, holds}
 use Rattle.bus_semantics.specs.Actor.{follows_program}
 use Rattle.bus_semantics.specs.Legal.{Answers, MayFollow, IsLegal}
-use Rattle.bus_semantics.specs.Locality.{starts_its_own}
 use Rattle.bus_semantics.specs.Sound.{IsSound}
 use Rattle.bus_semantics.specs.Pasts.{Follows}
-use Rattle.bus_semantics.specs.Asked.{is_start, event_of, noted_for}
+use Rattle.bus_semantics.specs.Asked.{event_of, noted_for, MayCome}
+use Rattle.history_laws.specs.Coming.{may_be_held}
 use Rattle.port_objects.specs.declared.object.Object.{Object}
 use Rattle.port_objects.specs.Objects.{kept_of, IsOfPlan}
 use Rattle.port_objects.specs.Standing.{Stands}
 use Rattle.port_objects.specs.Coming.{MayAsk, IsTheOne}
 use Rattle.port_objects.specs.Answers.{IsMade}
 use Rattle.port_objects.specs.Leading.{lead}
+use Rattle.port_objects.specs.Freed.{is_free, IsFree, Frees}
 use Rattle.task_machine.specs.declared.instr.TaskSet.{TaskSet}
 use Rattle.core_turn.specs.Cores.{CoreState}
 use Rattle.core_turn.specs.Lawful.{IsLawful}
@@ -34,17 +41,32 @@ use Rattle.core_turn.specs.Standing.{CoreStands}
 use Rattle.core_runtime.specs.Nodes.{IsNode}
 use Rattle.core_runtime.specs.Watching.{Touches}
 use Rattle.core_runtime.proofs.Places.{Placed, here, there, placed, found_at}
+use Rattle.core_runtime.proofs.Turned.{made_touches}
 
 -- ---- what the environment may want
 
-pub no_start : (p : Plan) (w : Wanted) → wish_fits p Env w ≡ true → is_start w ≡ true → ⊥
-no_start p (to_start event) may_want start = false≢true may_want
-no_start p w may_want start = false≢true start
+-- nothing that it wants may have to wait
+pub never_held : (p : Plan) (w : Wanted) → wish_fits p Env w ≡ true → may_be_held w ≡ false
+never_held p (to_start event) may_want = absurd (false≢true may_want)
+never_held p (to_admit event) may_want = absurd (false≢true may_want)
+never_held p (to_hear q) may_want = absurd (false≢true may_want)
+never_held p (to_return code ws) may_want = absurd (false≢true may_want)
+never_held p (to_enter x) may_want = absurd (false≢true may_want)
+never_held p (to_leave x) may_want = absurd (false≢true may_want)
+never_held p to_move_on may_want = absurd (false≢true may_want)
+never_held p (to_end event) may_want = absurd (false≢true may_want)
+never_held p w may_want = refl
 
 no_event : (p : Plan) (w : Wanted) → wish_fits p Env w ≡ true → event_of w ≡ None
 no_event p (to_admit event) may_want = absurd (false≢true may_want)
 no_event p (to_end event) may_want = absurd (false≢true may_want)
 no_event p w may_want = refl
+
+-- its entries need no event
+eventless : (p : Plan) (w : Wanted) (d : Deed) (by : ℕ) → wish_fits p Env w ≡ true → wanted_by by d ≡ w → needs_event d ≡ false
+eventless p w (deed.Admit admitted) by may_want same = absurd (false≢true (subst (λ v. wish_fits p Env v ≡ true) (sym same) may_want))
+eventless p w deed.End by may_want same = absurd (false≢true (subst (λ v. wish_fits p Env v ≡ true) (sym same) may_want))
+eventless p w d by may_want same = refl
 
 -- ---- what an entry touches
 
@@ -66,8 +88,9 @@ parted p h e i b is = ap (λ v. if v then note h e ∷ entries_of p h i else ent
 abbrev pub TouchedLaw : Type 0
 TouchedLaw = (p : Plan) (m : Mapping) (a : Actor) (w : Wanted) → IsSound p m → wish_fits p a w ≡ true → IfSome (object_of p a w) (IsObject p)
 
-abbrev pub WholeLaw : Type 0
-WholeLaw = (p : Plan) (m : Mapping) (h : History) (e : Entry) (object : ℕ) → IsSound p m → IsLegal p h → Follows p object (entries_of p h object) (note h e) → Answers p (noted h) (note h e)
+abbrev pub ComesLaw : Type 0
+ComesLaw = (p : Plan) (m : Mapping) (h : History) (a : Actor) (w : Wanted) (n : Noted) → IsSound p m → IsLegal p h → needs_event n.entry.deed ≡ false → follows_program p h a n.entry.deed ≡ true
+    → MayCome p a w (entries_of p h (touched p a w)) n → MayFollow p h n.entry
 
 abbrev pub BesideLaw : Type 0
 BesideLaw = (p : Plan) (t : TaskSet) (h : History) (c : CoreState) (e : Entry) → is_environment e.actor ≡ true → CoreStands p t h c → CoreStands p t (e ∷ h) c
@@ -97,32 +120,32 @@ module _ {p : Plan} {m : Mapping} {t : TaskSet} {cores : List CoreState} {object
     pub may_ask : (h : History) → IsLawful p m t cores objects h → MayAsk p m Env w (kept_of old) (entries_of p h object)
     may_ask h lawful = record {
       sound = node.built.sound;
-      unqueued = node.built.plain.unqueued;
       fits = may_want;
       own = refl;
       stands = subst (λ n. Stands p n (kept_of old) (entries_of p h object)) (sym at) (lawful.stand object old found);
     }
 
     -- what its entry does to the objects
-    pub touches_then : (new : Object) (e : Entry) → IsMade p (touched p Env w) Env w old new e → Touches p objects (set objects object new) e
+    pub touches_then : (new : Object) (e : Entry) → IsMade p (touched p Env w) Env w old new e → Touches p objects (set objects object new) (record { entry = e; event = None })
     touches_then new e made = record {
       object = object;
-      actor = Env;
-      by = unwrap_or (event_of w) 0;
-      touching = ap (object_of p Env) made.wish ∙ sym touching;
+      touching = subst (λ v. touched_by p (record { entry = e; event = v }) ≡ Some object) (no_event p w may_want) (made_touches p Env w object e made.actor made.wish (sym touching));
       old = old;
       new = new;
       found = found;
-      noted = noted_for w e;
-      is = refl;
-      leads = subst (λ n. lead p n (kept_of old) (noted_for w e) ≡ Some (kept_of new)) at made.leads;
+      leads = subst (λ v. lead p object (kept_of old) (record { entry = e; event = v }) ≡ Some (kept_of new)) (no_event p w may_want) (subst (λ n. lead p n (kept_of old) (noted_for w e) ≡ Some (kept_of new)) at made.leads);
       told = made.told;
       others = refl;
     }
 
+    -- which is one of the plan's
+    pub within_then : (new : Object) (e : Entry) → IsMade p (touched p Env w) Env w old new e → IfSome (touched_by p (record { entry = e; event = None })) (IsObject p)
+    unfolding touches_then
+    within_then new e made = subst (λ o. IfSome o (IsObject p)) (sym (touches_then new e made).touching) (subst (λ o. IfSome o (IsObject p)) (sym touching) (law p m Env w node.built.sound may_want))
+
     -- ---- its entry
 
-    module _ (whole : WholeLaw) (beside : BesideLaw) (new : Object) (e : Entry)
+    module _ (comes : ComesLaw) (beside : BesideLaw) (new : Object) (e : Entry)
         (done : (h : History) → MayAsk p m Env w (kept_of old) (entries_of p h object) → IsTheOne p Env w (kept_of new) (entries_of p h object) e) where
       module _ (h : History) (lawful : IsLawful p m t cores objects h) where
         one : IsTheOne p Env w (kept_of new) (entries_of p h object) e
@@ -145,11 +168,8 @@ module _ {p : Plan} {m : Mapping} {t : TaskSet} {cores : List CoreState} {object
         stands = subst (λ n. Stands p n (kept_of new) (note h e ∷ entries_of p h object)) at (subst (λ n. Stands p (touched p Env w) (kept_of new) (n ∷ entries_of p h object)) same one.stands)
 
         may_follow : MayFollow p h e
-        may_follow = record {
-          fit = (and_parts (fits p e) (starts_its_own p e.actor e.deed) follows.proper).0;
-          actor = subst (λ a. follows_program p h a e.deed ≡ true) (sym by_environment) refl;
-          answers = whole p m h e object node.built.sound lawful.legal follows;
-        }
+        may_follow = comes p m h Env w (noted_for w e) node.built.sound lawful.legal (eventless p w e.deed (unwrap_or (event_of w) 0) may_want one.comes.wish) refl
+            (subst (λ n. MayCome p Env w (entries_of p h n) (noted_for w e)) (sym at) one.comes)
 
         of_place : (i : ℕ) (o : Object) → Placed Object objects object new i o → Stands p i (kept_of o) (entries_of p (e ∷ h) i)
         of_place i o (here place is) =
@@ -182,3 +202,83 @@ module _ {p : Plan} {m : Mapping} {t : TaskSet} {cores : List CoreState} {object
           plan_at : (i : ℕ) (o : Object) → Placed Object objects object new i o → IsOfPlan p i o
           plan_at i o (here place is) = subst (λ n. IsOfPlan p n o) (at ∙ sym place) (subst (IsOfPlan p (touched p Env w)) (sym is) planned)
           plan_at i o (there other is) = node.planned.each i o is
+
+-- ---- a wish that touches no object
+
+-- what is looked up is held
+looked_up : {X Y : Type 0} (o : Option X) (test : X → Bool) (give : X → Y) → option_map_or test o false ≡ true → option_map_or (λ x. Some (give x)) o None ≡ None → ⊥
+looked_up None test give held none = false≢true held
+looked_up (Some x) test give held none = absurd (cc none)
+
+-- it is an ask or the taking of a result
+pub is_free_one : (p : Plan) (w : Wanted) → wish_fits p Env w ≡ true → object_of p Env w ≡ None → is_free w ≡ true
+is_free_one p to_tick may_want none = absurd (cc none)
+is_free_one p (to_write x ws) may_want none = absurd (looked_up (slice_get p.elements x) (λ (e : ElemPlan). same_number e.instance None && ((is_unqueued e && e.provided) && holds ws e)) (λ (e : ElemPlan). e.group) may_want none)
+is_free_one p (to_read x) may_want none = absurd (looked_up (slice_get p.elements x) (λ (e : ElemPlan). same_number e.instance None && (is_unqueued e && not e.provided)) (λ (e : ElemPlan). e.group) may_want none)
+is_free_one p (to_send x ws) may_want none = absurd (looked_up (slice_get p.elements x) (λ (e : ElemPlan). same_number e.instance None && ((is_queued e && e.provided) && holds ws e)) (λ (e : ElemPlan). e.group) may_want none)
+is_free_one p (to_receive x) may_want none = absurd (looked_up (slice_get p.elements x) (λ (e : ElemPlan). same_number e.instance None && (is_queued e && not e.provided)) (λ (e : ElemPlan). e.group) may_want none)
+is_free_one p (to_switch m mode) may_want none = absurd (cc none)
+is_free_one p (to_see_mode port) may_want none = absurd (machine_found (slice_get p.mode_ports port) may_want none)
+  where
+    machine_found : (o : Option ModePortPlan) → option_map_or (λ (t : ModePortPlan). same_number t.instance None) o false ≡ true
+        → option_map (λ n. first_machine p + n) (option_map_or (λ (v : ModePortPlan). Some v.machine) o None) ≡ None → ⊥
+    machine_found None held none = false≢true held
+    machine_found (Some t) held none = absurd (cc none)
+is_free_one p (to_ask q ws) may_want none = refl
+is_free_one p (to_take_result q) may_want none = refl
+is_free_one p (to_start event) may_want none = absurd (false≢true may_want)
+is_free_one p (to_admit event) may_want none = absurd (false≢true may_want)
+is_free_one p (to_fetch x) may_want none = absurd (false≢true may_want)
+is_free_one p (to_invalidate x) may_want none = absurd (false≢true may_want)
+is_free_one p (to_see_updated x) may_want none = absurd (false≢true may_want)
+is_free_one p (to_hear q) may_want none = absurd (false≢true may_want)
+is_free_one p (to_return code ws) may_want none = absurd (false≢true may_want)
+is_free_one p (to_enter x) may_want none = absurd (false≢true may_want)
+is_free_one p (to_leave x) may_want none = absurd (false≢true may_want)
+is_free_one p to_move_on may_want none = absurd (false≢true may_want)
+is_free_one p (to_publish x ws) may_want none = absurd (false≢true may_want)
+is_free_one p (to_end event) may_want none = absurd (false≢true may_want)
+
+-- what it is answered names nothing
+names_nothing : (p : Plan) (a : Actor) (w : Wanted) (d : Deed) (by : ℕ) → is_free w ≡ true → wanted_by by d ≡ w → answer_fits p a d ≡ true
+names_nothing p a w (deed.Start event point value) by free eq = absurd (false≢true (subst (λ v. is_free v ≡ true) (sym eq) free))
+names_nothing p a w (deed.Mode port mode) by free eq = absurd (false≢true (subst (λ v. is_free v ≡ true) (sym eq) free))
+names_nothing p a w (deed.Phase step) by free eq = absurd (false≢true (subst (λ v. is_free v ≡ true) (sym eq) free))
+names_nothing p a w d by free eq = refl
+
+abbrev pub AnswersLaw : Type 0
+AnswersLaw = (p : Plan) (m : Mapping) (a : Actor) (w : Wanted) (d : Deed) (h : Past) → IsSound p m → wish_fits p a w ≡ true → object_of p a w ≡ None → IsFree w d → is_free w ≡ true
+    → Answers p h (record { entry = record { actor = a; deed = d }; event = None })
+
+module _ {p : Plan} {m : Mapping} {t : TaskSet} {cores : List CoreState} {objects : List Object} (w : Wanted) (d : Deed)
+    (node : IsNode p m t cores objects) (may_want : wish_fits p Env w ≡ true) (none : object_of p Env w ≡ None) (frees : Frees w (Some d)) (answers : AnswersLaw) (beside : BesideLaw) where
+  abbrev pub e : Entry
+  e = record { actor = Env; deed = d }
+
+  wish : wanted_by 0 d ≡ w
+  wish = subst (λ v. wanted_by (unwrap_or v 0) d ≡ w) (no_event p w may_want) frees.1.wish
+
+  no_need : needs_event d ≡ false
+  no_need = eventless p w d 0 may_want wish
+
+  alone : (h : History) → note h e ≡ record { entry = e; event = None }
+  alone h = ap (λ b. record { entry = record { actor = Env; deed = d }; event = if b then None else None }) no_need
+
+  untouched : (h : History) → touched_by p (note h e) ≡ None
+  untouched h = ap (touched_by p) (alone h) ∙ ap (λ b. if b && true then None else object_of p Env (wanted_by 0 d)) no_need ∙ ap (object_of p Env) wish ∙ none
+
+  pub lawful_beside : (h : History) → IsLawful p m t cores objects h → IsLawful p m t cores objects (e ∷ h)
+  lawful_beside h lawful = record {
+    legal = (
+      lawful.legal,
+      record {
+        fit = (λ i. (if no_need i then activation_fits p Env else wish_fits p Env (wish i)) && names_nothing p Env w d 0 frees.0 wish i) ∙ ap (λ b. b && true) may_want;
+        actor = refl;
+        answers = subst (Answers p (noted h)) (sym (alone h)) (answers p m Env w d (noted h) node.built.sound may_want none frees.1 frees.0);
+      },
+    );
+    stand = λ i o is. subst (Stands p i (kept_of o)) (sym (parted p h e i false (ap (λ v. same_number v (Some i)) (untouched h)))) (lawful.stand i o is);
+    number = lawful.number;
+    ready = lawful.ready;
+    stands = λ i c is. beside p t h c e refl (lawful.stands i c is);
+  }

@@ -13,7 +13,7 @@ use Rattle.port_objects.specs.Benches.{Plain}
 use Rattle.task_machine.specs.declared.instr.TaskSet.{TaskSet}
 use Rattle.core_turn.specs.Cores.{CoreState}
 use Rattle.core_turn.specs.Lawful.{IsLawful}
-use Rattle.core_turn.specs.Looking.{Told}
+use Rattle.port_objects.specs.Benches.{Told}
 use Rattle.core_turn.specs.Ready.{IsReady}
 use Rattle.core_turn.specs.Turning.{Steps, NothingComes}
 use Rattle.core_runtime.specs.Turns.{Makes, Rests}

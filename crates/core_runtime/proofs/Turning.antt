@@ -1,12 +1,10 @@
 -- Turns one after the other.
-use Rattle.std.proofs.Common.{◌≡◌, ◌<◌, ◌≤◌, ◌+◌, ℕ, zero, suc, refl, sym, ◌∙◌, ap, subst, arith, List, [], ◌∷◌, ◌++◌, length, set, Bool, true, false, Some}
-use Rattle.std.specs.Prelude.{◌==◌, ◌&&◌, ltb}
-use Rattle.std.proofs.lemmas.Bool.{and_parts, ltb-false}
-use Rattle.std.proofs.lemmas.Bool.Decides.{Decides-ltb}
+use Rattle.std.proofs.Common.{◌≡◌, ◌+◌, ℕ, zero, suc, refl, sym, ◌∙◌, ap, subst, arith, List, [], ◌∷◌, ◌++◌, length, set, Bool, true, false, Some}
+use Rattle.std.specs.Prelude.{◌==◌, ◌&&◌}
+use Rattle.std.proofs.lemmas.Bool.{and_parts}
 use Rattle.std.specs.Cmp.{unsigned_Decides}
 use Rattle.std.specs.List.{slice_get}
 use Rattle.std.proofs.lemmas.List.{length-set, length_push}
-use Rattle.std.proofs.lemmas.Option.{same_Some, slice_get_within}
 use Rattle.std.proofs.lemmas.List.Folds.{list_all-append}
 use Rattle.bus_semantics.specs.declared.entries.Stamped.{Stamped}
 use Rattle.bus_semantics.specs.declared.script.Mapping.{Mapping}
@@ -19,7 +17,7 @@ use Rattle.core_turn.specs.Cores.{CoreState}
 use Rattle.core_turn.specs.Ready.{IsReady}
 use Rattle.core_runtime.specs.After.{is_within, are_within}
 use Rattle.core_runtime.specs.Nodes.{HasRoom, HaveRoom}
-use Rattle.core_runtime.specs.Turns.{GoesOn, AreReady, NothingOf, NothingMayCome, Makes, Rests, IsStep, Made}
+use Rattle.core_runtime.specs.Turns.{GoesOn, AreReady, Makes, Rests, IsStep, Made}
 use Rattle.core_runtime.proofs.Going.{goes_then}
 use Rattle.core_runtime.proofs.Places.{Placed, here, there, placed}
 
@@ -43,10 +41,6 @@ set_found [] i x e = refl
 set_found (y ∷ xs) zero x e = let same : y ≡ x = cc in ap (λ z. z ∷ xs) (sym same)
 set_found (y ∷ xs) (suc i) x e = ap (λ ys. y ∷ ys) (set_found xs i x e)
 
-pub not_empty : (entries : List Stamped) (s : Stamped) → entries ++ s ∷ [] ≡ [] → ⊥
-not_empty [] s e = cc e
-not_empty (x ∷ entries) s e = cc e
-
 -- ---- cores
 
 pub set_room : (cores : List CoreState) (at : ℕ) (new : CoreState) → HaveRoom cores → HasRoom new → HaveRoom (set cores at new)
@@ -56,7 +50,7 @@ set_room cores at new room one = λ i c found. of_place i c (placed cores at new
     of_place i c (here place same) = subst HasRoom (sym same) one
     of_place i c (there other found) = room i c found
 
-set_ready : (p : Plan) (m : Mapping) (t : TaskSet) (cores : List CoreState) (at : ℕ) (new : CoreState) → AreReady p m t cores → IsReady p m t new → AreReady p m t (set cores at new)
+pub set_ready : (p : Plan) (m : Mapping) (t : TaskSet) (cores : List CoreState) (at : ℕ) (new : CoreState) → AreReady p m t cores → IsReady p m t new → AreReady p m t (set cores at new)
 set_ready p m t cores at new ready one = λ i c found. of_place i c (placed cores at new i c found)
   where
     of_place : (i : ℕ) (c : CoreState) → Placed CoreState cores at new i c → IsReady p m t c
@@ -84,96 +78,20 @@ module _ (p : Plan) (t : TaskSet) (cores now : List CoreState) (objects : List O
       subst (λ es. Made p t cores (set now at new) objects after.objects es) (sym rests.same)
       (subst (λ os. Made p t cores (set now at new) objects os entries) (sym rests.objects) (subst (λ cs. Made p t cores cs objects before.objects entries) (sym same) made))
 
-  pub still_same : Rests p t old new before after entries all → set now at new ≡ now
-  still_same rests = ap (set now at) rests.core ∙ set_found now at old is
-
   pub step_on : (b : Bool) → IsStep p t old new before after entries all b → Made p t cores (set now at new) objects after.objects all
   step_on true step = made_on step
   step_on false step = still_on step
 
-  pub step_next : (b : Bool) → IsStep p t old new before after entries all b → after.next ≡ length all
-  step_next true step = step.next ∙ ap suc next ∙ sym (ap length step.added ∙ length_on entries step.made)
-    where
-      length_on : (es : List Stamped) (s : Stamped) → length (es ++ s ∷ []) ≡ suc (length es)
-      length_on [] s = refl
-      length_on (x ∷ es) s = ap suc (length_on es s)
-  step_next false step = step.next ∙ next ∙ sym (ap length step.same)
-
 module _ (p : Plan) (t : TaskSet) (old new : CoreState) (before after : Plain) (entries all : List Stamped) where
-  pub step_few : (b : Bool) → IsStep p t old new before after entries all b → length all ≤ length entries + 1
-  step_few true step = omega (arith, ap length step.added, length_push entries step.made)
-  step_few false step = omega (arith, ap length step.same)
+  pub step_next : before.next ≡ length entries → (b : Bool) → IsStep p t old new before after entries all b → after.next ≡ length all
+  step_next next true step = let more : length all ≡ length entries + 1 = ap length step.added ∙ length_push entries step.made in omega (arith, step.next, next, more)
+  step_next next false step = step.next ∙ next ∙ sym (ap length step.same)
 
   pub step_room : (b : Bool) → IsStep p t old new before after entries all b → after.room + length all ≡ before.room + length entries
   step_room true step = omega (arith, step.room, ap length step.added, length_push entries step.made)
   step_room false step = omega (arith, step.room, ap length step.same)
 
--- ---- where nothing was made
-
--- the turns of the cores up to a number made nothing
-pub record SoFar (p : Plan) (t : TaskSet) (number : ℕ) (cores now : List CoreState) (objects later : List Object) : Type 0 where
-  pub cores_same : now ≡ cores
-  pub objects_same : later ≡ objects
-  pub none : (i : ℕ) (c : CoreState) → i < number → slice_get cores i ≡ Some c → NothingOf p t objects c
-
-data Place (i n : ℕ) : Type 0 where
-  before_it : i < n → Place i n
-  at_it : i ≡ n → Place i n
-
-module _ (p : Plan) (t : TaskSet) (number : ℕ) (cores now : List CoreState) (objects : List Object) (old new : CoreState) (before after : Plain) (entries all : List Stamped)
-    (is : slice_get now number ≡ Some old) where
-  pub quiet_on : (b : Bool) → IsStep p t old new before after entries all b → (entries ≡ [] → SoFar p t number cores now objects before.objects) → all ≡ [] → SoFar p t (number + 1) cores (set now number new) objects after.objects
-  quiet_on true step far none = absurd (not_empty entries step.made (sym step.added ∙ none))
-  quiet_on false step far none =
-      let so = far (sym step.same ∙ none) in
-      let same : set now number new ≡ now = ap (set now number) step.core ∙ set_found now number old is in
-      record {
-        cores_same = same ∙ so.cores_same;
-        objects_same = step.objects ∙ so.objects_same;
-        none = λ i c below found. of_place so i c found (below_more i number below);
-      }
-    where
-      below_more : (i n : ℕ) → i < n + 1 → Place i n
-      below_more i n below = of_test (ltb i n) refl
-        where
-          of_test : (b : Bool) → ltb i n ≡ b → Place i n
-          of_test true e = before_it ((Decides-ltb i n).0 e)
-          of_test false e = at_it (omega (arith, ltb-false i n e))
-
-      of_place : SoFar p t number cores now objects before.objects → (i : ℕ) (c : CoreState) → slice_get cores i ≡ Some c → Place i number → NothingOf p t objects c
-      of_place so i c found (before_it below) = so.none i c below found
-      of_place so i c found (at_it here_it) =
-          let found_now : slice_get now number ≡ Some c = ap (λ xs. slice_get xs number) so.cores_same ∙ ap (slice_get cores) (sym here_it) ∙ found in
-          let same_core : old ≡ c = same_Some _ _ (sym is ∙ found_now) in
-          subst (NothingOf p t objects) same_core (subst (λ os. NothingOf p t os old) so.objects_same step.none)
-
--- ---- a core alone
-
--- one core, of which nothing may come
-pub alone_rests : (p : Plan) (t : TaskSet) (now : List CoreState) (old new : CoreState) (before after : Plain) (entries all : List Stamped) → length now ≡ 1 → slice_get now 0 ≡ Some old → Rests p t old new before after entries all
-    → NothingMayCome p t (set now 0 new) after.objects
-alone_rests p t now old new before after entries all one is rests = λ i c found. of_place i c (placed now 0 new i c found)
-  where
-    here_is : NothingOf p t after.objects new
-    here_is = subst (NothingOf p t after.objects) (sym rests.core) (subst (λ os. NothingOf p t os old) (sym rests.objects) rests.none)
-
-    of_place : (i : ℕ) (c : CoreState) → Placed CoreState now 0 new i c → NothingOf p t after.objects c
-    of_place i c (here place same) = subst (NothingOf p t after.objects) (sym same) here_is
-    of_place i c (there other found) =
-        let within : i < length now = slice_get_within now i c found in
-        let only : i ≡ 0 = omega (arith, one) in
-        absurd (other only)
-
-pub longer_by_one : (entries all : List Stamped) (s : Stamped) (n : ℕ) → length entries ≡ n → all ≡ entries ++ s ∷ [] → length all ≡ n + 1
-longer_by_one entries all s n count added = omega (arith, count, ap length added, length_push entries s)
-
--- ---- the same of equal things
+-- ---- no turn yet
 
 pub made_nothing : (p : Plan) (t : TaskSet) (cores : List CoreState) (objects : List Object) → HaveRoom cores → Made p t cores cores objects objects []
 made_nothing p t cores objects room = record { count = refl; room = room; ready = λ m ready. ready; goes = λ m ready h lawful. lawful; within = refl; stamps = refl }
-
-pub made_as : (p : Plan) (t : TaskSet) (cores now now_is : List CoreState) (objects objects_are later later_is : List Object) (entries entries_are : List Stamped) → now_is ≡ now → objects_are ≡ objects → later_is ≡ later → entries_are ≡ entries
-    → Made p t cores now objects later entries → Made p t cores now_is objects_are later_is entries_are
-made_as p t cores now now_is objects objects_are later later_is entries entries_are a b c d made =
-    subst (λ es. Made p t cores now_is objects_are later_is es) (sym d)
-    (subst (λ os. Made p t cores now_is objects_are os entries) (sym c) (subst (λ os. Made p t cores now_is os later entries) (sym b) (subst (λ cs. Made p t cores cs objects later entries) (sym a) made)))

@@ -1,12 +1,16 @@
 -- Flags that are set, one after the other.
-use Rattle.std.proofs.Common.{◌≡◌, ℕ, zero, suc, ◌<◌, Bool, true, false, ◌&&◌, ◌||◌, not, refl, sym, ◌∙◌, ap, subst, arith, List, [], ◌∷◌, length, get_or, set, Some}
+use Rattle.std.proofs.Common.{◌≡◌, ℕ, zero, suc, ◌<◌, Bool, true, false, ◌&&◌, ◌||◌, not, refl, sym, ◌∙◌, ap, subst, arith, List, [], ◌∷◌, length, get_or, set, Option, Some}
 use Rattle.std.specs.List.{slice_get}
 use Rattle.std.proofs.lemmas.Bool.{and_from, and_parts, false≢true}
 use Rattle.std.proofs.lemmas.List.{get_or-set_same, length-set}
 use Rattle.std.proofs.lemmas.Option.{slice_get_within, slice_get-get_or, same_Some}
 use Rattle.port_objects.specs.Kept.{Kept}
 use Rattle.port_objects.specs.Waking.{may_start_in}
-use Rattle.core_turn.specs.Awake.{AwakeState}
+use Rattle.bus_semantics.specs.Plan.{Plan}
+use Rattle.port_objects.specs.declared.object.Object.{Object}
+use Rattle.task_machine.specs.declared.instr.TaskSet.{TaskSet}
+use Rattle.core_turn.specs.declared.slot.Slot.{Slot}
+use Rattle.core_turn.specs.Awake.{AwakeState, Fits, StartsHeld, WaitersHeld}
 use Rattle.core_runtime.specs.declared.seats.Seat.{Seat}
 use Rattle.core_runtime.specs.Watching.{is_awake, IsWoken, AreWoken, IsThere, IsSeen}
 use Rattle.core_runtime.proofs.Places.{Placed, here, there, placed}
@@ -45,7 +49,17 @@ row_width (r ∷ rows) (suc n) place (suc i) = row_width rows n place i
 -- ---- of one core
 
 pub woken_same : (a : AwakeState) → IsWoken a a
-woken_same a = record { count = refl; rows = refl; widths = λ i. refl; slots = λ i on. on; events = λ i j on. on }
+woken_same a = record {
+  count = refl;
+  rows = refl;
+  widths = λ i. refl;
+  slots = λ i on. on;
+  events = λ i j on. on;
+  even = λ even. even;
+  fits = λ of first fits. fits;
+  starts = λ p objects of held. held;
+  waiters = λ p t objects touched of held. held;
+}
 
 woken_then : (a b c : AwakeState) → IsWoken a b → IsWoken b c → IsWoken a c
 woken_then a b c first second = record {
@@ -54,16 +68,27 @@ woken_then a b c first second = record {
   widths = λ i. second.widths i ∙ first.widths i;
   slots = λ i on. second.slots i (first.slots i on);
   events = λ i j on. second.events i j (first.events i j on);
+  even = λ even. second.even (first.even even);
+  fits = λ of begins fits. second.fits of begins (first.fits of begins fits);
+  starts = λ p objects of held. second.starts p objects of (first.starts p objects of held);
+  waiters = λ p t objects touched of held. second.waiters p t objects touched of (first.waiters p t objects touched of held);
 }
 
 module _ (a b : AwakeState) (slot place : ℕ) (slots : b.slots ≡ set a.slots slot true) (events : b.events ≡ row_set a.events slot place) where
-  pub woken_one : IsWoken a b
-  woken_one = record {
+  pub woken_one : b.waiting ≡ set a.waiting slot false → b.areas ≡ a.areas → b.first ≡ a.first → ((of : List Slot) (first : ℕ) → Fits of first a → Fits of first b) → ((p : Plan) (objects : List Object) (of : List Slot) → StartsHeld p objects of a → StartsHeld p objects of b)
+      → ((p : Plan) (t : TaskSet) (objects : List Object) (touched : Option ℕ) (of : List Slot) (first : ℕ) → WaitersHeld p t objects touched of first a → WaitersHeld p t objects touched of first b) → IsWoken a b
+  woken_one waiting areas begins fits starts waiters = record {
     count = ap length slots ∙ length-set a.slots slot true;
     rows = ap length events ∙ length-set a.events slot (set (get_or a.events slot []) place true);
     widths = λ i. ap (λ rs. length (get_or rs i [])) events ∙ row_width a.events slot place i;
     slots = λ i on. ap (λ fs. get_or fs i false) slots ∙ set_keeps a.slots slot i on;
     events = λ i j on. ap (λ rs. get_or (get_or rs i []) j false) events ∙ row_keeps a.events slot place i j on;
+    even = λ even.
+        let slots_count : length b.slots ≡ length a.slots = ap length slots ∙ length-set a.slots slot true in
+        record { waiting = ap length waiting ∙ length-set a.waiting slot false ∙ even.waiting ∙ sym slots_count; areas = ap length areas ∙ even.areas ∙ sym slots_count };
+    fits = fits;
+    starts = starts;
+    waiters = λ p t objects touched of held. waiters p t objects touched of b.first (subst (λ n. WaitersHeld p t objects touched of n a) (sym begins) held);
   }
 
   pub awake_now : slot < length a.slots → place < length (get_or a.events slot []) → is_awake b slot place ≡ true
@@ -102,7 +127,7 @@ there_still xs ys s woken at =
     let one = woken.each s.core at.core b at.core_is now in
     let slot = at.slot in
     let place = at.place in
-    record { core = b; core_is = now; slot = omega (arith, one.count); place = omega (arith, one.widths s.slot) }
+    record { core = b; core_is = now; slot = omega (arith, one.count); place = omega (arith, one.widths s.slot); even = one.even at.even }
 
 -- ---- what was looked at
 

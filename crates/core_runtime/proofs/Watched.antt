@@ -8,12 +8,12 @@ use Rattle.std.specs.Global.{Global}
 use Rattle.std.proofs.lemmas.Bool.{and_left, and_right, false≢true}
 use Rattle.std.proofs.lemmas.Option.{get_or_from_slice_get, slice_get-get_or, slice_get_within, slice_get-map, same_Some}
 use Rattle.bus_semantics.specs.declared.entries.Actor.TheVariants.{Act}
-use Rattle.bus_semantics.specs.declared.entries.Entry.{Entry}
 use Rattle.bus_semantics.specs.Plan.{Plan, kind_of, runnable_of_event}
 use Rattle.bus_semantics.specs.History.{Noted}
 use Rattle.bus_semantics.specs.Objects.{object_of_kind}
 use Rattle.bus_semantics.specs.Rest.{Try, option_list, gathered, plain_key, start_try}
-use Rattle.bus_semantics.specs.Wanted.{to_start, wanted_by}
+use Rattle.bus_semantics.specs.Wanted.{to_start}
+use Rattle.object_kinds.specs.Kinds.{IsPlainStart}
 use Rattle.port_objects.specs.declared.object.Object.{Object}
 use Rattle.port_objects.specs.Kept.{Kept}
 use Rattle.port_objects.specs.Leading.{lead}
@@ -22,7 +22,7 @@ use Rattle.port_objects.specs.Waking.{may_start_in, wakes, woken_in}
 use Rattle.core_turn.specs.declared.slot.Slot.{Slot}
 use Rattle.core_turn.specs.Cores.{CoreState, events_of_slot}
 use Rattle.core_turn.specs.Looking.{AllHeld, IsHeldOn, IsHeldAt}
-use Rattle.core_turn.specs.Awake.{AwakeState, Fits}
+use Rattle.core_turn.specs.Awake.{AwakeState, StartsHeld}
 use Rattle.core_runtime.specs.declared.seats.Seat.{Seat}
 use Rattle.core_runtime.specs.Watching.{tables_of, IsOfCores, IsAt, AreSeated, IsWatched, AreWatched, is_awake, IsWoken, AreWoken, IsThere, IsSeen, Touches, IsAfter}
 use Rattle.core_runtime.proofs.Places.{set_here, set_there}
@@ -30,26 +30,12 @@ use Rattle.core_runtime.proofs.Places.{set_here, set_there}
 -- ---- what the laws of objects say
 
 abbrev pub NowhereLaw : Type 0
-NowhereLaw = (p : Plan) (object : ℕ) (k : Kept) (event : ℕ) → may_start_in k event ≡ false → (n : Noted) (by : ℕ) → wanted_by by n.entry.deed ≡ to_start event → lead p object k n ≡ None
-
-abbrev pub HeldLaw : Type 0
-HeldLaw = (p : Plan) (object : ℕ) (k : Kept) (event : ℕ) → ((n : Noted) (by : ℕ) → wanted_by by n.entry.deed ≡ to_start event → lead p object k n ≡ None) → may_start_in k event ≡ false
+NowhereLaw = (p : Plan) (object : ℕ) (k : Kept) (event : ℕ) (n : Noted) → may_start_in k event ≡ false → IsPlainStart event n → lead p object k n ≡ None
 
 abbrev pub OthersLaw : Type 0
 OthersLaw = (p : Plan) (object : ℕ) (before after : Kept) (n : Noted) → lead p object before n ≡ Some after → wakes n.entry.deed ≡ false → (event : ℕ) → may_start_in before event ≡ false → may_start_in after event ≡ false
 
 -- ---- flags
-
--- what is asleep now was so before
-asleep : (xs ys : List Bool) (j : ℕ) → length ys ≡ length xs → (get_or xs j false ≡ true → get_or ys j false ≡ true) → slice_get ys j ≡ Some false → slice_get xs j ≡ Some false
-asleep xs ys j count keeps off = of_flag (get_or xs j false) refl
-  where
-    within : j < length xs
-    within = let inside : j < length ys = slice_get_within ys j false off in omega arith
-
-    of_flag : (b : Bool) → get_or xs j false ≡ b → slice_get xs j ≡ Some false
-    of_flag true e = absurd (false≢true (sym (get_or_from_slice_get ys j false false off) ∙ keeps e))
-    of_flag false e = slice_get-get_or xs j false within ∙ ap (λ b. Some b) e
 
 not_so : (a b : Bool) → a ≡ false → (a || not b) ≡ true → b ≡ false
 not_so true b e seen = absurd (false≢true (sym e))
@@ -91,37 +77,41 @@ held_each p before later (e ∷ events) each held =
 
 -- ---- an entry on one object
 
-module _ (nowhere : NowhereLaw) (p : Plan) (before later : List Object) (e : Entry) (t : Touches p before later e) (event : ℕ)
-    (calm : IsHeldOn p before (to_start event) t.object → may_start_in (kept_of t.new) event ≡ false) where
-  at_object : (o : Option ℕ) → IsHeldAt p before (to_start event) o → IsHeldAt p later (to_start event) o
+module _ (nowhere : NowhereLaw) (p : Plan) (before later : List Object) (e : Noted) (t : Touches p before later e) (event runnable : ℕ)
+    (calm : IsHeldOn p before (Act (plain_key runnable)) (to_start event) t.object → may_start_in (kept_of t.new) event ≡ false) where
+  at_object : (o : Option ℕ) → IsHeldAt p before (Act (plain_key runnable)) (to_start event) o → IsHeldAt p later (Act (plain_key runnable)) (to_start event) o
   at_object None held = held
   at_object (Some n) held = by_test (n == t.object) refl
     where
-      by_test : (b : Bool) → (n == t.object) ≡ b → IsHeldOn p later (to_start event) n
+      by_test : (b : Bool) → (n == t.object) ≡ b → IsHeldOn p later (Act (plain_key runnable)) (to_start event) n
       by_test true same =
           let at : n ≡ t.object = (unsigned_Decides n t.object).0 same in
-          let off = calm (subst (IsHeldOn p before (to_start event)) at held) in
-          subst (IsHeldOn p later (to_start event)) (sym at) (record {
+          let off = calm (subst (IsHeldOn p before (Act (plain_key runnable)) (to_start event)) at held) in
+          subst (IsHeldOn p later (Act (plain_key runnable)) (to_start event)) (sym at) (record {
             before = t.new;
             found = ap (λ os. slice_get os t.object) t.others ∙ set_here before t.object t.old t.new t.found;
-            none = nowhere p t.object (kept_of t.new) event off;
+            none = λ m actor wish. nowhere p t.object (kept_of t.new) event m off (record { runnable = runnable; actor = actor; wish = wish });
+            flag = λ r f actor wish. let same : event ≡ f = cc in subst (λ x. may_start_in (kept_of t.new) x ≡ false) same off;
           })
       by_test false other = record {
         before = held.before;
         found = ap (λ os. slice_get os n) t.others ∙ set_there before t.object n held.before t.new (λ at. false≢true (sym other ∙ (unsigned_Decides n t.object).1 at)) held.found;
         none = held.none;
+        flag = held.flag;
       }
 
+module _ (nowhere : NowhereLaw) (p : Plan) (before later : List Object) (e : Noted) (t : Touches p before later e) (event : ℕ)
+    (calm : (runnable : ℕ) → IsHeldOn p before (Act (plain_key runnable)) (to_start event) t.object → may_start_in (kept_of t.new) event ≡ false) where
   one_moved : AllHeld p before (start_try p event) → AllHeld p later (start_try p event)
   one_moved = of_runnable (runnable_of_event p event)
     where
       of_runnable : (r : Option ℕ) → AllHeld p before (map (λ k. (Act (plain_key k), to_start event)) (option_list r)) → AllHeld p later (map (λ k. (Act (plain_key k), to_start event)) (option_list r))
       of_runnable None held = tt
-      of_runnable (Some k) held = (at_object (object_of_kind p (kind_of p event)) held.0, tt)
+      of_runnable (Some k) held = (at_object nowhere p before later e t event k (calm k) (object_of_kind p (kind_of p event)) held.0, tt)
 
 -- ---- all cores
 
-module _ (nowhere : NowhereLaw) (is_held : HeldLaw) (others : OthersLaw) (p : Plan) (before later : List Object) (e : Entry) (cores : List CoreState) (old new : List AwakeState) (seats : List (Vec Seat Global))
+module _ (nowhere : NowhereLaw) (others : OthersLaw) (p : Plan) (before later : List Object) (e : Noted) (cores : List CoreState) (old new : List AwakeState) (seats : List (Vec Seat Global))
     (seated : AreSeated (tables_of cores) seats) (woken : AreWoken old new) where
   -- each seat of the events that its object tells was looked at
   abbrev pub IsLookedAt : Touches p before later e → Type 0
@@ -129,7 +119,7 @@ module _ (nowhere : NowhereLaw) (is_held : HeldLaw) (others : OthersLaw) (p : Pl
 
   -- so it is, or the entry makes no start come
   abbrev IsCalm : Touches p before later e → Type 0
-  IsCalm t = (wakes e.deed ≡ false) ⊎ IsLookedAt t
+  IsCalm t = (wakes e.entry.deed ≡ false) ⊎ IsLookedAt t
 
   module _ (t : Touches p before later e) (calm : IsCalm t) (n : ℕ) (c : CoreState) (b : AwakeState) (core_is : slice_get cores n ≡ Some c) (awake_is : slice_get new n ≡ Some b) where
     module _ (i j event : ℕ) (s : Slot) (slot_is : slice_get c.slots i ≡ Some s) (place_is : slice_get s.events.items j ≡ Some event) (sleeps : is_awake b i j ≡ false) where
@@ -149,16 +139,16 @@ module _ (nowhere : NowhereLaw) (is_held : HeldLaw) (others : OthersLaw) (p : Pl
       }
 
       -- what may start now and could not before is told, and sleeps at no seat
-      off : IsCalm t → IsHeldOn p before (to_start event) t.object → may_start_in (kept_of t.new) event ≡ false
+      off : IsCalm t → (runnable : ℕ) → IsHeldOn p before (Act (plain_key runnable)) (to_start event) t.object → may_start_in (kept_of t.new) event ≡ false
       unfolding seat
-      off is held = of_test is (may_start_in (kept_of t.new) event) refl
+      off is runnable held = of_test is (may_start_in (kept_of t.new) event) refl
         where
           was : may_start_in (kept_of t.old) event ≡ false
-          was = let same : held.before ≡ t.old = same_Some _ _ (sym held.found ∙ t.found) in subst (λ o. may_start_in (kept_of o) event ≡ false) same (is_held p t.object (kept_of held.before) event held.none)
+          was = let same : held.before ≡ t.old = same_Some _ _ (sym held.found ∙ t.found) in subst (λ o. may_start_in (kept_of o) event ≡ false) same (held.flag runnable event refl refl)
 
           of_test : IsCalm t → (b : Bool) → may_start_in (kept_of t.new) event ≡ b → may_start_in (kept_of t.new) event ≡ false
           of_test is false now = now
-          of_test (inl wakes_none) true now = others p t.object (kept_of t.old) (kept_of t.new) t.noted t.leads (subst (λ (x : Entry). wakes x.deed ≡ false) (sym t.is) wakes_none) event was
+          of_test (inl wakes_none) true now = others p t.object (kept_of t.old) (kept_of t.new) e t.leads wakes_none event was
           of_test (inr seen) true now = not_so (is_awake b i j) (may_start_in (kept_of t.new) event) sleeps (seen event seat (t.told event was now) (seated.all event seat of_cores) b awake_is)
 
       event_moved : AllHeld p before (start_try p event) → AllHeld p later (start_try p event)
@@ -176,43 +166,27 @@ module _ (nowhere : NowhereLaw) (is_held : HeldLaw) (others : OthersLaw) (p : Pl
   same_moves same = λ n c b core_is awake_is i j event s slot_is place_is sleeps held. subst (λ os. AllHeld p os (start_try p event)) (sym same) held
 
   module _ (moves : Moves) (n : ℕ) (c : CoreState) (b : AwakeState) (core_is : slice_get cores n ≡ Some c) (awake_is : slice_get new n ≡ Some b) where
-    module _ (a : AwakeState) (was_is : slice_get old n ≡ Some a) (watched : IsWatched p before c a) where
-      more : IsWoken a b
-      more = woken.each n a b was_is awake_is
-
-      fits_on : Fits c.slots b
-      fits_on = record {
-        count = more.count ∙ watched.fits.count;
-        rows = more.rows ∙ watched.fits.rows;
-        widths = λ i s row slot_is row_is.
-            let inside : i < length b.events = slice_get_within b.events i row row_is in
-            let within : i < length a.events = omega (arith, more.rows) in
-            let here : get_or b.events i [] ≡ row = get_or_from_slice_get b.events i row [] row_is in
-            ap length (sym here) ∙ more.widths i ∙ watched.fits.widths i s (get_or a.events i []) slot_is (slice_get-get_or a.events i [] within);
-      }
-
+    module _ (starts : StartsHeld p before c.slots b) where
       events_on : (i j event : ℕ) (s : Slot) (row : List Bool) → slice_get c.slots i ≡ Some s → slice_get b.events i ≡ Some row → slice_get s.events.items j ≡ Some event → slice_get row j ≡ Some false → AllHeld p later (start_try p event)
       events_on i j event s row slot_is row_is place_is sleeps =
-          let inside : i < length b.events = slice_get_within b.events i row row_is in
-          let within : i < length a.events = omega (arith, more.rows) in
           let here : get_or b.events i [] ≡ row = get_or_from_slice_get b.events i row [] row_is in
           let off_here : slice_get (get_or b.events i []) j ≡ Some false = ap (λ r. slice_get r j) here ∙ sleeps in
-          let was_off = asleep (get_or a.events i []) (get_or b.events i []) j (more.widths i) (more.events i j) off_here in
           let flag : get_or (get_or b.events i []) j false ≡ false = get_or_from_slice_get (get_or b.events i []) j false false off_here in
-          moves n c b core_is awake_is i j event s slot_is place_is (and_right (get_or b.slots i false) (get_or (get_or b.events i []) j false) flag)
-          (watched.held.events i j event s (get_or a.events i []) slot_is (slice_get-get_or a.events i [] within) place_is was_off)
+          moves n c b core_is awake_is i j event s slot_is place_is (and_right (get_or b.slots i false) (get_or (get_or b.events i []) j false) flag) (starts.events i j event s row slot_is row_is place_is sleeps)
 
-      slots_on : (i : ℕ) (s : Slot) → slice_get c.slots i ≡ Some s → slice_get b.slots i ≡ Some false → (s.running ≡ None) × AllHeld p later (gathered (start_try p) s.events.items)
-      slots_on i s slot_is sleeps =
-          let was_off = asleep a.slots b.slots i more.count (more.slots i) sleeps in
-          let was = watched.held.slots i s slot_is was_off in
+      slots_on : (i : ℕ) (s : Slot) → slice_get c.slots i ≡ Some s → slice_get b.slots i ≡ Some false → slice_get b.waiting i ≡ Some false → (s.running ≡ None) × AllHeld p later (gathered (start_try p) s.events.items)
+      slots_on i s slot_is sleeps waits =
+          let was = starts.slots i s slot_is sleeps waits in
           let flag : get_or b.slots i false ≡ false = get_or_from_slice_get b.slots i false false sleeps in (
             was.0,
             held_each p before later s.events.items (λ j event place_is. moves n c b core_is awake_is i j event s slot_is place_is (and_left (get_or b.slots i false) (get_or (get_or b.events i []) j false) flag)) was.1,
           )
 
-      watched_on : IsWatched p later c b
-      watched_on = record { fits = fits_on; held = record { events = events_on; slots = slots_on } }
+      starts_on : StartsHeld p later c.slots b
+      starts_on = record { events = events_on; slots = slots_on }
+
+    watched_on : (a : AwakeState) → IsWoken a b → IsWatched p before c a → IsWatched p later c b
+    watched_on a one watched = record { fits = one.fits c.slots c.first watched.fits; starts = starts_on (one.starts p before c.slots watched.starts) }
 
   all_watched : AreWatched p before cores old → Moves → AreWatched p later cores new
   all_watched watched moves = record {
@@ -222,14 +196,14 @@ module _ (nowhere : NowhereLaw) (is_held : HeldLaw) (others : OthersLaw) (p : Pl
         let within : n < length old = omega (arith, woken.count) in
         let a = get_or old n b in
         let was_is : slice_get old n ≡ Some a = slice_get-get_or old n b within in
-        watched_on moves n c b core_is awake_is a was_is (watched.each n c a core_is was_is);
+        watched_on moves n c b core_is awake_is a (woken.each n a b was_is awake_is) (watched.each n c a core_is was_is);
   }
 
-  pub after_entry : AreWatched p before cores old → IsAfter p before later e → ((t : Touches p before later e) → wakes e.deed ≡ true → IsLookedAt t) → AreWatched p later cores new
-  after_entry watched (inl same) loud = all_watched watched (same_moves same)
-  after_entry watched (inr t) loud = all_watched watched (touched_moves t (calm (wakes e.deed) refl))
+  pub after_entry : AreWatched p before cores old → IsAfter p before later e → ((t : Touches p before later e) → wakes e.entry.deed ≡ true → IsLookedAt t) → AreWatched p later cores new
+  after_entry watched (inl none) loud = all_watched watched (same_moves none.1)
+  after_entry watched (inr t) loud = all_watched watched (touched_moves t (calm (wakes e.entry.deed) refl))
     where
-      calm : (b : Bool) → wakes e.deed ≡ b → IsCalm t
+      calm : (b : Bool) → wakes e.entry.deed ≡ b → IsCalm t
       calm false quiet = inl quiet
       calm true on = inr (loud t on)
 
@@ -241,7 +215,7 @@ seats_there p objects cores awake seats watched seated event s at =
     let slot = mapped_found events_of_slot core.item.slots s.slot of.seat.events (ap (λ ts. slice_get ts s.slot) core.gives ∙ of.seat.task_is) in
     let inside : s.core < length cores = slice_get_within cores s.core core.item core.is in
     let within : s.core < length awake = omega (arith, watched.count) in
-    let fresh : AwakeState = record { slots = []; events = [] } in
+    let fresh : AwakeState = record { slots = []; events = []; waiting = []; areas = []; first = 0 } in
     let a = get_or awake s.core fresh in
     let found : slice_get awake s.core ≡ Some a = slice_get-get_or awake s.core fresh within in
     let fits = (watched.each s.core core.item a core.is found).fits in
@@ -250,4 +224,4 @@ seats_there p objects cores awake seats watched seated event s at =
     let width : length (get_or a.events s.slot []) ≡ length slot.item.events.items = fits.widths s.slot slot.item (get_or a.events s.slot []) slot.is (slice_get-get_or a.events s.slot [] row_in) in
     let place_in : s.place < length of.seat.events = slice_get_within of.seat.events s.place event of.seat.seat.place_is in
     let same : length slot.item.events.items ≡ length of.seat.events = ap length slot.gives in
-    record { core = a; core_is = found; slot = omega (arith, fits.count); place = omega (arith, width, same) }
+    record { core = a; core_is = found; slot = omega (arith, fits.count); place = omega (arith, width, same); even = record { waiting = fits.waiting ∙ sym fits.count; areas = fits.areas ∙ sym fits.count } }

@@ -1,5 +1,6 @@
 pub mod After
 pub mod Nodes
 pub mod Turns
+pub mod Rounds
 pub mod Stays
 pub mod Watching

@@ -10,7 +10,7 @@ use Rattle.port_objects.specs.Benches.{Plain}
 use Rattle.task_machine.specs.declared.instr.TaskSet.{TaskSet}
 use Rattle.core_turn.specs.Cores.{CoreState}
 use Rattle.core_turn.specs.Lawful.{IsLawful}
-use Rattle.core_turn.specs.Looking.{Told}
+use Rattle.port_objects.specs.Benches.{Told}
 use Rattle.core_turn.specs.Ready.{IsReady}
 use Rattle.core_turn.specs.Turning.{NothingComes}
 use Rattle.core_runtime.specs.After.{after, is_within, are_within}
@@ -73,21 +73,3 @@ pub record Made (p : Plan) (t : TaskSet) (cores now : List CoreState) (objects l
   pub goes : (m : Mapping) → AreReady p m t cores → GoesOn p m t cores now objects later entries
   pub within : are_within entries ≡ true
   pub stamps : stamps_count entries ≡ true
-
--- where there is no entry, nothing changed, and nothing may come
-pub record Nothing (p : Plan) (t : TaskSet) (cores now : List CoreState) (objects later : List Object) : Type 0 where
-  pub cores_same : now ≡ cores
-  pub objects_same : later ≡ objects
-  pub none : NothingMayCome p t cores objects
-
-pub record TurnsGiven (p : Plan) (t : TaskSet) (cores now : List CoreState) (objects later : List Object) (entries : List Stamped) : Type 0 where
-  pub made : Made p t cores now objects later entries
-  pub rest : entries ≡ [] → Nothing p t cores now objects later
-
--- they made the entries since some cores and objects, which were ready for a mapping
-pub record IsUnderWay (p : Plan) (t : TaskSet) (now : List CoreState) (later : List Object) (entries : List Stamped) : Type 0 where
-  pub cores : List CoreState
-  pub objects : List Object
-  pub mapping : Mapping
-  pub ready : AreReady p mapping t cores
-  pub made : Made p t cores now objects later entries

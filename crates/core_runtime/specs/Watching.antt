@@ -1,19 +1,18 @@
 -- What of the cores may step, and where the events stand on them.
-use Rattle.std.specs.Prelude.{◌≡◌, ◌<◌, ◌⊎◌, ℕ, List, [], map, length, set, slice_get, slice_index_or, Bool, true, false, not, ◌&&◌, ◌||◌, Some, Vec}
+use Rattle.std.specs.Prelude.{◌≡◌, ◌<◌, ◌⊎◌, ℕ, List, [], map, length, set, slice_get, slice_index_or, Bool, true, false, not, ◌&&◌, ◌||◌, Option, Some, None, Vec}
 use Rattle.std.specs.Global.{Global}
-use Rattle.bus_semantics.specs.declared.entries.Actor.{Actor}
-use Rattle.bus_semantics.specs.declared.entries.Entry.{Entry}
 use Rattle.bus_semantics.specs.Plan.{Plan}
 use Rattle.bus_semantics.specs.History.{Noted}
-use Rattle.bus_semantics.specs.Objects.{object_of}
-use Rattle.bus_semantics.specs.Wanted.{wanted_by}
+use Rattle.bus_semantics.specs.Objects.{touched_by}
 use Rattle.port_objects.specs.declared.object.Object.{Object}
 use Rattle.port_objects.specs.Kept.{Kept}
 use Rattle.port_objects.specs.Leading.{lead}
 use Rattle.port_objects.specs.Objects.{kept_of}
 use Rattle.port_objects.specs.Waking.{may_start_in, Tells}
+use Rattle.task_machine.specs.declared.instr.TaskSet.{TaskSet}
+use Rattle.core_turn.specs.declared.slot.Slot.{Slot}
 use Rattle.core_turn.specs.Cores.{CoreState, events_of_slot}
-use Rattle.core_turn.specs.Awake.{AwakeState, Fits, AreHeld}
+use Rattle.core_turn.specs.Awake.{AwakeState, Fits, StartsHeld, WaitersHeld}
 use Rattle.core_runtime.specs.declared.seats.Seat.{Seat}
 use Rattle.core_runtime.specs.declared.watch.Watch.{Watch}
 
@@ -62,23 +61,28 @@ pub record AreSeated (table : List (List (List ℕ))) (seats : List (Vec Seat Gl
 
 -- ---- what is awake
 
--- a core with what of it may step, over these objects
+-- a core with what of it may start, over these objects
 pub record IsWatched (p : Plan) (objects : List Object) (c : CoreState) (a : AwakeState) : Type 0 where
-  pub fits : Fits c.slots a
-  pub held : AreHeld p objects c.slots a
+  pub fits : Fits c.slots c.first a
+  pub starts : StartsHeld p objects c.slots a
 
 pub record AreWatched (p : Plan) (objects : List Object) (cores : List CoreState) (awake : List AwakeState) : Type 0 where
   pub count : length awake ≡ length cores
   pub each : (i : ℕ) (c : CoreState) (a : AwakeState) → slice_get cores i ≡ Some c → slice_get awake i ≡ Some a → IsWatched p objects c a
 
--- so it is over all objects, where all is awake
-abbrev pub AllWatched : List CoreState → List AwakeState → Type 0
-AllWatched cores awake = (p : Plan) (objects : List Object) → AreWatched p objects cores awake
+-- what of each core waits at areas; `touched` is the object that an entry has just touched, of which those that wait there were not told
+abbrev pub AreWaiting : Plan → TaskSet → List Object → (touched : Option ℕ) → List CoreState → List AwakeState → Type 0
+AreWaiting p t objects touched cores awake = (i : ℕ) (c : CoreState) (a : AwakeState) → slice_get cores i ≡ Some c → slice_get awake i ≡ Some a → WaitersHeld p t objects touched c.slots a.first a
 
 -- each core is watched, and the seats are theirs
-pub record IsWatch (p : Plan) (objects : List Object) (cores : List CoreState) (w : Watch) : Type 0 where
+pub record IsWatch (p : Plan) (t : TaskSet) (objects : List Object) (touched : Option ℕ) (cores : List CoreState) (w : Watch) : Type 0 where
   pub awake : AreWatched p objects cores w.awake.items
+  pub waiting : AreWaiting p t objects touched cores w.awake.items
   pub seated : AreSeated (tables_of cores) w.seats.items
+
+-- over all objects the cores are watched, where all is awake
+abbrev pub AllWatched : List CoreState → List AwakeState → Type 0
+AllWatched cores awake = (p : Plan) (t : TaskSet) (objects : List Object) → AreWatched p objects cores awake × AreWaiting p t objects None cores awake
 
 -- ---- waking
 
@@ -86,17 +90,39 @@ pub record IsWatch (p : Plan) (objects : List Object) (cores : List CoreState) (
 abbrev pub is_awake : AwakeState → (slot place : ℕ) → Bool
 is_awake a slot place = slice_index_or a.slots slot false && slice_index_or (slice_index_or a.events slot []) place false
 
--- what was awake is so still
+-- the flags of those that wait, and their areas, are as many as the slots
+pub record IsEven (a : AwakeState) : Type 0 where
+  pub waiting : length a.waiting ≡ length a.slots
+  pub areas : length a.areas ≡ length a.slots
+
+abbrev pub AreEven : List AwakeState → Type 0
+AreEven awake = (i : ℕ) (a : AwakeState) → slice_get awake i ≡ Some a → IsEven a
+
+-- what was awake is so still, and what sleeps is held as it was
 pub record IsWoken (a b : AwakeState) : Type 0 where
   pub count : length b.slots ≡ length a.slots
   pub rows : length b.events ≡ length a.events
   pub widths : (i : ℕ) → length (slice_index_or b.events i []) ≡ length (slice_index_or a.events i [])
   pub slots : (i : ℕ) → slice_index_or a.slots i false ≡ true → slice_index_or b.slots i false ≡ true
   pub events : (i j : ℕ) → slice_index_or (slice_index_or a.events i []) j false ≡ true → slice_index_or (slice_index_or b.events i []) j false ≡ true
+  pub even : IsEven a → IsEven b
+  pub fits : (of : List Slot) (first : ℕ) → Fits of first a → Fits of first b
+  pub starts : (p : Plan) (objects : List Object) (of : List Slot) → StartsHeld p objects of a → StartsHeld p objects of b
+  pub waiters : (p : Plan) (t : TaskSet) (objects : List Object) (touched : Option ℕ) (of : List Slot) → WaitersHeld p t objects touched of a.first a → WaitersHeld p t objects touched of b.first b
 
 pub record AreWoken (old new : List AwakeState) : Type 0 where
   pub count : length new ≡ length old
   pub each : (i : ℕ) (a b : AwakeState) → slice_get old i ≡ Some a → slice_get new i ≡ Some b → IsWoken a b
+
+-- the area that is this object was left: what sleeps is held as it was, and who waits there may sleep on, whatever the object is now
+pub record IsWokenAt (object : ℕ) (a b : AwakeState) : Type 0 where
+  pub fits : (of : List Slot) (first : ℕ) → Fits of first a → Fits of first b
+  pub starts : (p : Plan) (objects : List Object) (of : List Slot) → StartsHeld p objects of a → StartsHeld p objects of b
+  pub waiters : (p : Plan) (t : TaskSet) (objects : List Object) (of : List Slot) (left : Object) → WaitersHeld p t objects (Some object) of a.first a → WaitersHeld p t (set objects object left) None of b.first b
+
+pub record AreWokenAt (object : ℕ) (old new : List AwakeState) : Type 0 where
+  pub count : length new ≡ length old
+  pub each : (i : ℕ) (a b : AwakeState) → slice_get old i ≡ Some a → slice_get new i ≡ Some b → IsWokenAt object a b
 
 -- there is a flag for the seat
 pub record IsThere (awake : List AwakeState) (s : Seat) : Type 0 where
@@ -104,6 +130,7 @@ pub record IsThere (awake : List AwakeState) (s : Seat) : Type 0 where
   pub core_is : slice_get awake s.core ≡ Some core
   pub slot : s.slot < length core.slots
   pub place : s.place < length (slice_index_or core.events s.slot [])
+  pub even : IsEven core
 
 -- at the seat the event is awake, or no start by it may come
 abbrev pub IsSeen : Kept → List AwakeState → (event : ℕ) → Seat → Type 0
@@ -112,20 +139,16 @@ IsSeen k awake event s = (a : AwakeState) → slice_get awake s.core ≡ Some a 
 -- ---- what an entry does to the objects
 
 -- the one that it touches changes by the lead, and tells which starts came
-pub record Touches (p : Plan) (before later : List Object) (e : Entry) : Type 0 where
+pub record Touches (p : Plan) (before later : List Object) (n : Noted) : Type 0 where
   pub object : ℕ
-  pub actor : Actor
-  pub by : ℕ
-  pub touching : object_of p actor (wanted_by by e.deed) ≡ Some object
+  pub touching : touched_by p n ≡ Some object
   pub old : Object
   pub new : Object
   pub found : slice_get before object ≡ Some old
-  pub noted : Noted
-  pub is : noted.entry ≡ e
-  pub leads : lead p object (kept_of old) noted ≡ Some (kept_of new)
+  pub leads : lead p object (kept_of old) n ≡ Some (kept_of new)
   pub told : Tells (kept_of old) new
   pub others : later ≡ set before object new
 
--- or none does
-abbrev pub IsAfter : Plan → (before later : List Object) → Entry → Type 0
-IsAfter p before later e = (later ≡ before) ⊎ Touches p before later e
+-- or it touches none
+abbrev pub IsAfter : Plan → (before later : List Object) → Noted → Type 0
+IsAfter p before later n = ((touched_by p n ≡ None) × (later ≡ before)) ⊎ Touches p before later n

@@ -11,15 +11,16 @@ ghost use Rattle.core_runtime.specs.Nodes.{IsLawfulNode};
 use crate::node::Node;
 use crate::waking::wake_after;
 use bus_semantics::{Actor, Entry, Wish};
-use core_turn::cores_stand_beside_the_environment;
+use core_turn::{cores_stand_beside_the_environment, waiters_sleep_on};
+use history_laws::{calls_come, what_comes_may_follow};
 use port_objects::{
-    Acted, act, legal_histories_part_into_objects, object_of, only_starts_wait,
-    sound_plans_have_objects,
+    Acted, act, free_deed, free_deeds_are_legal, object_of, sound_plans_have_objects,
 };
 
 impl Node {
     /// Makes the one entry that a wish of the environment may have now: a tick, or a call at an outer port. The wish fits the
-    /// environment. It takes no memory.
+    /// environment. At an outer operation that is not joined, an ask and the taking of a result are answered RTE_E_UNCONNECTED.
+    /// It takes no memory.
     pub fn environment(&mut self, wish: &Wish) -> Entry
         requires fits { wish_fits (plan_of self.old.plan) Env (wanted_of wish.now) ≡ true }
         ensures actor { result.actor ≡ Env }
@@ -32,25 +33,39 @@ impl Node {
         ensures lawful { (h : History) → IsLawfulNode self.old h → IsLawfulNode self.new (result ∷ h) }
     {
         sound_plans_have_objects();
-        legal_histories_part_into_objects();
-        only_starts_wait();
+        what_comes_may_follow();
+        calls_come();
+        free_deeds_are_legal();
         cores_stand_beside_the_environment();
+        waiters_sleep_on();
         match object_of(&self.plan, &Actor::Env, wish) {
             Some(object) => {
                 match act(
                     &self.plan,
-                    &mut self.objects[object as usize],
+                    &mut self.live.objects[object as usize],
                     &Actor::Env,
                     wish,
                 ) {
                     Acted::Done(entry) => {
-                        wake_after(&self.plan, &entry, self.objects.as_slice(), &mut self.watch);
+                        wake_after(
+                            &self.plan,
+                            &entry,
+                            None,
+                            self.live.objects.as_slice(),
+                            &mut self.live.watch,
+                        );
                         entry
                     }
                     Acted::NotYet(_) => unreachable!(),
                 }
             }
-            None => unreachable!(),
+            None => match free_deed(wish) {
+                Some(deed) => Entry {
+                    actor: Actor::Env,
+                    deed,
+                },
+                None => unreachable!(),
+            },
         }
     }
 }

@@ -4,13 +4,16 @@
 mod alone;
 mod environment;
 mod lap;
+mod live;
 mod making;
 mod node;
 mod pass;
 mod round;
+mod round_state;
 mod seats;
 mod stay;
 mod step;
+mod waiting;
 mod waking;
 mod watch;
 

@@ -3,16 +3,17 @@
 ghost use Rattle.std.specs.Prelude.{◌≡◌, [], IfOk, min};
 ghost use Rattle.bus_semantics.specs.Plan.{plan_of};
 ghost use Rattle.bus_semantics.specs.Sound.{IsSound};
+ghost use Rattle.port_objects.specs.Plans.{IsMadePlan};
 ghost use Rattle.task_generator.specs.Promise.{AsksAsPlanned};
 ghost use Rattle.core_turn.specs.Plans.{IsBuilt};
 ghost use Rattle.core_runtime.specs.Nodes.{IsLawfulNode};
 
 use crate::Memory;
+use crate::live::Live;
 use crate::making::cores_of;
 use crate::watch::Watch;
 use bus_semantics::{BusPlan, Mapping, Stamped};
-use core_turn::Core;
-use port_objects::{Object, make_objects, sound_plans_have_objects};
+use port_objects::{make_objects, sound_plans_have_objects};
 use std::alloc::Global;
 use std::marker::Model;
 use task_machine::TaskSet;
@@ -24,14 +25,11 @@ pub struct Node {
     pub(crate) plan: BusPlan,
     pub(crate) mapping: Mapping,
     pub(crate) bodies: TaskSet,
-    pub(crate) cores: Vec<Core>,
-    pub(crate) objects: Vec<Object>,
-    pub(crate) entries: Vec<Stamped>,
-    pub(crate) watch: Watch,
+    pub(crate) live: Live,
 }
 
 impl Model for Node {
-    ghost use Rattle.std.specs.Prelude.{◌≡◌};
+    ghost use Rattle.std.specs.Prelude.{◌≡◌, None};
     ghost use Rattle.std.specs.Vec.{vec_capacity};
     ghost use Rattle.bus_semantics.specs.Plan.{plan_of};
     ghost use Rattle.core_runtime.specs.Nodes.{NodeState, IsNode};
@@ -44,16 +42,17 @@ impl Model for Node {
 
     ghost coded = { Prim.hlevel (codes, statements.the_row.coded, expressions.the_row.coded) };
 
-    ghost view = { λ n. record { plan = n.plan; mapping = n.mapping; bodies = n.bodies; cores = n.cores.items; objects = n.objects.items; entries = n.entries.items; spare = vec_capacity n.entries } };
+    ghost view = { λ n. record { plan = n.plan; mapping = n.mapping; bodies = n.bodies; cores = n.live.cores.items; objects = n.live.objects.items; entries = n.live.entries.items; spare = vec_capacity n.live.entries } };
 
-    ghost invariant = { λ n. IsNode (plan_of n.plan) n.mapping n.bodies n.cores.items n.objects.items × IsWatch (plan_of n.plan) n.objects.items n.cores.items n.watch };
+    ghost invariant = { λ n. IsNode (plan_of n.plan) n.mapping n.bodies n.live.cores.items n.live.objects.items × IsWatch (plan_of n.plan) n.bodies n.live.objects.items None n.live.cores.items n.live.watch };
 }
 
 impl Node {
-    /// A node to which nothing has happened. The plan is sound with the mapping, and the bodies are those that `generate`
-    /// makes of it. The only error is that there is no memory.
+    /// A node to which nothing has happened. The plan is sound with the mapping and one of those of which objects are made, and the
+    /// bodies are those that `generate` makes of it. The only error is that there is no memory.
     pub fn new(alloc: Global, p: BusPlan, m: Mapping, t: TaskSet) -> Result<Node, Memory>
         requires built { IsBuilt (plan_of p) m }
+        requires made { IsMadePlan (plan_of p) }
         requires bodies { AsksAsPlanned (plan_of p) t }
         ensures plan { IfOk result (λ n. n.plan ≡ p) }
         ensures mapping { IfOk result (λ n. n.mapping ≡ m) }
@@ -68,10 +67,12 @@ impl Node {
             plan: p,
             mapping: m,
             bodies: t,
-            cores,
-            objects,
-            entries: Vec::new(alloc),
-            watch,
+            live: Live {
+                cores,
+                objects,
+                watch,
+                entries: Vec::new(alloc),
+            },
         })
     }
 
@@ -94,7 +95,7 @@ impl Node {
     pub fn entries(&self) -> &[Stamped]
         ensures { result.now ≡ self.now.entries }
     {
-        self.entries.as_slice()
+        self.live.entries.as_slice()
     }
 
     /// For how many entries of a round or serial pass there is room. More than 32 bits count are told as the most that they
@@ -102,6 +103,6 @@ impl Node {
     pub fn spare(&self) -> u32
         ensures { result ≡ min self.now.spare u32.MAX }
     {
-        self.entries.capacity().min(u32::MAX as usize) as u32
+        self.live.entries.capacity().min(u32::MAX as usize) as u32
     }
 }

@@ -1,93 +1,43 @@
 //! Serial passes.
 
 ghost use Rattle.std.specs.Prelude.{◌≡◌, ◌≤◌, [], length, true};
-ghost use Rattle.std.specs.Vec.{vec_capacity};
-ghost use Rattle.bus_semantics.specs.declared.script.Mapping.{Mapping};
 ghost use Rattle.bus_semantics.specs.History.{History};
 ghost use Rattle.bus_semantics.specs.Interleaving.{stamps_count};
 ghost use Rattle.bus_semantics.specs.Plan.{plan_of};
+ghost use Rattle.bus_semantics.specs.Quiet.{IsQuiet};
 ghost use Rattle.bus_semantics.specs.Rest.{IsIdle};
-ghost use Rattle.port_objects.specs.Objects.{ArePlans};
-ghost use Rattle.port_objects.specs.Plans.{HasObjects};
-ghost use Rattle.task_generator.specs.Promise.{AsksAsPlanned};
 ghost use Rattle.core_runtime.specs.After.{after, are_within};
-ghost use Rattle.core_runtime.specs.Nodes.{HaveRoom, IsLawfulNode};
-ghost use Rattle.core_runtime.specs.Turns.{AreReady, TurnsGiven};
-ghost use Rattle.core_runtime.specs.Watching.{IsWatch};
+ghost use Rattle.core_runtime.specs.Nodes.{IsLawfulNode};
+ghost use Rattle.core_runtime.specs.Rounds.{IsLater};
+ghost use Rattle.core_runtime.specs.Turns.{NothingMayCome};
 
+use crate::live::Live;
 use crate::node::Node;
-use crate::step::step;
-use crate::watch::Watch;
-use bus_semantics::{BusPlan, Stamped};
-use core_turn::{
-    Core, nothing_now_frees_the_core, nothing_now_is_rest_of_the_core, resting_cores_are_at_rest,
-};
-use port_objects::{Object, PlainBench};
+use crate::round_state::Round;
+use core_turn::{nothing_now_is_rest_of_the_core, resting_cores_are_at_rest};
+use no_stall::no_history_stalls;
 use std::mem;
-use task_machine::TaskSet;
 
-/// Each core makes one turn, in the order of their numbers.
-fn give_turns(
-    p: &BusPlan,
-    t: &TaskSet,
-    cores: &mut Vec<Core>,
-    w: &mut Watch,
-    b: &mut PlainBench,
-    entries: &mut Vec<Stamped>,
-)
-    requires core_room { HaveRoom cores.old.items }
-    requires bench_room { length cores.old.items ≤ b.old.room }
-    requires room { length cores.old.items ≤ vec_capacity entries.old }
-    requires empty { entries.old.items ≡ [] }
-    requires next { b.old.next ≡ 0 }
-    requires plan { plan_of b.old.plan ≡ plan_of p.now }
-    requires bodies { AsksAsPlanned (plan_of p.now) t.now }
-    requires ready { (m : Mapping) × AreReady (plan_of p.now) m t.now cores.old.items }
-    requires watched { IsWatch (plan_of p.now) b.old.objects cores.old.items w.old }
-    ensures plan { plan_of b.new.plan ≡ plan_of b.old.plan }
-    ensures capacity { vec_capacity entries.new ≡ vec_capacity entries.old }
-    ensures few { length entries.new.items ≤ length cores.old.items }
-    ensures given { TurnsGiven (plan_of p.now) t.now cores.old.items cores.new.items b.old.objects b.new.objects entries.new.items }
-    ensures watched { IsWatch (plan_of p.now) b.new.objects cores.new.items w.new }
-{
-    for number in 0..cores.len() {
-        step(p, t, &mut cores[number], number, w, b, entries);
+impl<'a> Round<'a> {
+    /// Each core makes one turn, in the order of their numbers.
+    fn give_turns(&mut self)
+        requires room { length self.old.cores ≤ self.old.room }
+        requires empty { self.old.entries ≡ [] }
+        ensures later { IsLater self.old self.new }
+        ensures few { length self.new.entries ≤ length self.old.cores }
+        ensures rest { self.new.entries ≡ [] → NothingMayCome (plan_of self.old.plan) self.old.bodies self.old.cores self.old.objects }
+    {
+        for number in 0..self.cores.len() {
+            self.step(number);
+        }
     }
-}
-
-/// The same over objects that are the plan's, in place of earlier entries.
-pub(crate) fn pass_over(
-    p: &BusPlan,
-    t: &TaskSet,
-    cores: &mut Vec<Core>,
-    w: &mut Watch,
-    objects: &mut Vec<Object>,
-    entries: &mut Vec<Stamped>,
-)
-    requires sound { HasObjects (plan_of p.now) }
-    requires planned { ArePlans (plan_of p.now) objects.old.items }
-    requires cores { length cores.old.items ≤ 8 }
-    requires core_room { HaveRoom cores.old.items }
-    requires room { length cores.old.items ≤ vec_capacity entries.old }
-    requires bodies { AsksAsPlanned (plan_of p.now) t.now }
-    requires ready { (m : Mapping) × AreReady (plan_of p.now) m t.now cores.old.items }
-    requires watched { IsWatch (plan_of p.now) objects.old.items cores.old.items w.old }
-    ensures planned { ArePlans (plan_of p.now) objects.new.items }
-    ensures capacity { vec_capacity entries.new ≡ vec_capacity entries.old }
-    ensures few { length entries.new.items ≤ length cores.old.items }
-    ensures given { TurnsGiven (plan_of p.now) t.now cores.old.items cores.new.items objects.old.items objects.new.items entries.new.items }
-    ensures watched { IsWatch (plan_of p.now) objects.new.items cores.new.items w.new }
-{
-    entries.clear();
-    let none = Vec::new(*objects.allocator());
-    let all = mem::replace(objects, none);
-    let mut bench = PlainBench::new(p, all, cores.len() as u32);
-    give_turns(p, t, cores, w, &mut bench, entries);
-    *objects = bench.into_objects();
 }
 
 /// Each core makes one turn, in the order of their numbers; what they make takes the place of earlier entries. It takes no
 /// memory: there has to be room for an entry of each core, as each round makes it.
+///
+/// A pass without an entry is rest, and then all is quiet: no activation runs, no event is due, and each mode machine is stable and has
+/// begun every accepted switch.
 pub fn serial_pass(n: &mut Node)
     requires spare { n.old.mapping.cores ≤ n.old.spare }
     ensures plan { n.new.plan ≡ n.old.plan }
@@ -99,16 +49,15 @@ pub fn serial_pass(n: &mut Node)
     ensures stamps { stamps_count n.new.entries ≡ true }
     ensures lawful { (h : History) → IsLawfulNode n.old h → IsLawfulNode n.new (after n.new.entries h) }
     ensures rest { n.new.entries ≡ [] → (h : History) → IsLawfulNode n.old h → IsIdle (plan_of n.old.plan) n.old.mapping h }
+    ensures quiet { n.new.entries ≡ [] → (h : History) → IsLawfulNode n.old h → IsQuiet (plan_of n.old.plan) h }
 {
     nothing_now_is_rest_of_the_core();
-    nothing_now_frees_the_core();
+    no_history_stalls();
     resting_cores_are_at_rest();
-    pass_over(
-        &n.plan,
-        &n.bodies,
-        &mut n.cores,
-        &mut n.watch,
-        &mut n.objects,
-        &mut n.entries,
-    );
+    let none = Live::none(*n.live.objects.allocator());
+    let live = mem::replace(&mut n.live, none);
+    let room = live.cores.len() as u32;
+    let mut round = Round::new(&n.plan, &n.bodies, live, room);
+    round.give_turns();
+    n.live = round.into_live();
 }

@@ -1,37 +1,27 @@
 //! Rounds: turns of all cores, until each has left.
 
-ghost use Rattle.std.specs.Prelude.{◌≡◌, ◌≤◌, ◌⊎◌, ◌*◌, ℕ, length, true, IfOk};
-ghost use Rattle.std.specs.Vec.{vec_capacity};
-ghost use Rattle.bus_semantics.specs.declared.script.Mapping.{Mapping};
+ghost use Rattle.std.specs.Prelude.{◌≡◌, ◌≤◌, ◌⊎◌, ◌*◌, [], length, true, IfOk};
 ghost use Rattle.bus_semantics.specs.History.{History};
 ghost use Rattle.bus_semantics.specs.Interleaving.{stamps_count};
 ghost use Rattle.bus_semantics.specs.Plan.{plan_of};
 ghost use Rattle.bus_semantics.specs.Rest.{IsIdle};
-ghost use Rattle.port_objects.specs.Objects.{ArePlans};
-ghost use Rattle.port_objects.specs.Plans.{HasObjects};
-ghost use Rattle.task_generator.specs.Promise.{AsksAsPlanned};
 ghost use Rattle.core_runtime.specs.declared.round.RoundRun.TheVariants.{Memory, Ran};
 ghost use Rattle.core_runtime.specs.After.{after, are_within};
-ghost use Rattle.core_runtime.specs.Nodes.{HaveRoom, IsLawfulNode, IsSameNode};
-ghost use Rattle.core_runtime.specs.Stays.{AreBounded, total};
-ghost use Rattle.core_runtime.specs.Turns.{AreReady, Made, NothingMayCome};
-ghost use Rattle.core_runtime.specs.Watching.{IsWatch};
+ghost use Rattle.core_runtime.specs.Nodes.{IsLawfulNode, IsSameNode};
+ghost use Rattle.core_runtime.specs.Rounds.{IsLater};
+ghost use Rattle.core_runtime.specs.Stays.{AreBounded, AreStays, total};
+ghost use Rattle.core_runtime.specs.Turns.{NothingMayCome};
 
-use crate::alone::go_alone;
-use crate::lap::go_together;
+use crate::live::Live;
 use crate::node::Node;
+use crate::round_state::Round;
 use crate::stay::Stay;
-use crate::watch::Watch;
-use bus_semantics::{BusPlan, Stamped};
-use core_turn::{
-    Core, nothing_now_frees_the_core, nothing_now_is_rest_of_the_core, resting_cores_are_at_rest,
-};
-use port_objects::{Object, PlainBench};
+use core_turn::{nothing_now_is_rest_of_the_core, resting_cores_are_at_rest};
+use no_stall::no_history_stalls;
 use rte_text::Gate;
 use std::alloc::{AllocError, Global};
 use std::mem;
 use std::thread::Threads;
-use task_machine::TaskSet;
 
 /// What came of a round.
 #[derive(Clone, Copy, Debug, PartialEq, Eq)]
@@ -55,44 +45,20 @@ fn stays_of(alloc: Global, count: usize) -> Result<Vec<Stay>, AllocError>
     Ok(stays)
 }
 
-/// A round over objects that are the plan's; its entries take the place of earlier ones.
-fn round_over<G: Gate>(
-    p: &BusPlan,
-    t: &TaskSet,
-    cores: &mut Vec<Core>,
-    stays: &mut Vec<Stay>,
-    w: &mut Watch,
-    objects: &mut Vec<Object>,
-    entries: &mut Vec<Stamped>,
-    gate: &G,
-)
-    requires sound { HasObjects (plan_of p.now) }
-    requires planned { ArePlans (plan_of p.now) objects.old.items }
-    requires cores { length cores.old.items ≤ 8 }
-    requires core_room { HaveRoom cores.old.items }
-    requires stays { length stays.old.items ≡ length cores.old.items }
-    requires bounded { AreBounded stays.old.items }
-    requires none { total stays.old.items ≡ 0 }
-    requires room { 1024 * length cores.old.items ≤ vec_capacity entries.old }
-    requires bodies { AsksAsPlanned (plan_of p.now) t.now }
-    requires ready { (m : Mapping) × AreReady (plan_of p.now) m t.now cores.old.items }
-    requires watched { IsWatch (plan_of p.now) objects.old.items cores.old.items w.old }
-    ensures planned { ArePlans (plan_of p.now) objects.new.items }
-    ensures capacity { vec_capacity entries.new ≡ vec_capacity entries.old }
-    ensures made { Made (plan_of p.now) t.now cores.old.items cores.new.items objects.old.items objects.new.items entries.new.items }
-    ensures watched { IsWatch (plan_of p.now) objects.new.items cores.new.items w.new }
-    ensures end { length cores.old.items ≡ 1 → (length entries.new.items ≡ 1024) ⊎ NothingMayCome (plan_of p.now) t.now cores.new.items objects.new.items }
-{
-    entries.clear();
-    let none = Vec::new(*objects.allocator());
-    let all = mem::replace(objects, none);
-    let mut bench = PlainBench::new(p, all, 1024 * cores.len() as u32);
-    if cores.len() == 1 {
-        go_alone(p, t, cores, w, &mut bench, entries, gate);
-    } else {
-        go_together(p, t, cores, stays, w, &mut bench, entries, gate);
+impl<'a> Round<'a> {
+    /// Turns of the cores until each has left the round.
+    fn go<G: Gate>(&mut self, stays: &mut Vec<Stay>, gate: &G)
+        requires empty { self.old.entries ≡ [] }
+        requires stays { AreStays self.old stays.old.items }
+        ensures later { IsLater self.old self.new }
+        ensures end { length self.old.cores ≡ 1 → (length self.new.entries ≡ 1024) ⊎ NothingMayCome (plan_of self.new.plan) self.new.bodies self.new.cores self.new.objects }
+    {
+        if self.cores.len() == 1 {
+            self.go_alone(gate);
+        } else {
+            self.go_together(stays, gate);
+        }
     }
-    *objects = bench.into_objects();
 }
 
 /// What each core did, and room for the entries of a round.
@@ -101,16 +67,18 @@ fn make_ready(alloc: Global, n: &mut Node) -> Result<Vec<Stay>, AllocError>
     ensures count { IfOk result (λ stays. length stays.items ≡ length n.old.cores) }
     ensures bounded { IfOk result (λ stays. AreBounded stays.items) }
     ensures none { IfOk result (λ stays. total stays.items ≡ 0) }
+    ensures kept { n.old.spare ≤ n.new.spare }
     ensures same { IsSameNode n.old n.new }
 {
-    let stays = stays_of(alloc, n.cores.len())?;
-    n.entries.reserve(1024 * n.cores.len())?;
+    let stays = stays_of(alloc, n.live.cores.len())?;
+    n.live.entries.reserve(1024 * n.live.cores.len())?;
     Ok(stays)
 }
 
 /// The cores make a round of turns on the caller's thread: each core gets turns in the order of their numbers, again and
 /// again, until it leaves, after 1,024 entries of its own or 64 turns in a row without one. A core passes the gate before
-/// each turn. What they make takes the place of earlier entries. Where there is no memory for it, the node is as it was.
+/// each turn. What they make, at most 1,024 entries for each core, takes the place of earlier entries. If there is no memory for it,
+/// the node is as it was, and has room for no fewer entries.
 ///
 /// A single core leaves after the first turn without an entry, since nothing may come then.
 pub fn run_round<R: Threads + Sync, G: Gate>(
@@ -123,7 +91,9 @@ pub fn run_round<R: Threads + Sync, G: Gate>(
     ensures mapping { n.new.mapping ≡ n.old.mapping }
     ensures bodies { n.new.bodies ≡ n.old.bodies }
     ensures unchanged { result ≡ Memory → IsSameNode n.old n.new }
+    ensures kept { n.old.spare ≤ n.new.spare }
     ensures room { result ≡ Ran → 1024 * n.old.mapping.cores ≤ n.new.spare }
+    ensures few { result ≡ Ran → length n.new.entries ≤ 1024 * n.old.mapping.cores }
     ensures within { result ≡ Ran → are_within n.new.entries ≡ true }
     ensures stamps { result ≡ Ran → stamps_count n.new.entries ≡ true }
     ensures lawful { result ≡ Ran → (h : History) → IsLawfulNode n.old h → IsLawfulNode n.new (after n.new.entries h) }
@@ -131,21 +101,16 @@ pub fn run_round<R: Threads + Sync, G: Gate>(
         ⊎ ((h : History) → IsLawfulNode n.old h → IsIdle (plan_of n.old.plan) n.old.mapping (after n.new.entries h)) }
 {
     nothing_now_is_rest_of_the_core();
-    nothing_now_frees_the_core();
+    no_history_stalls();
     resting_cores_are_at_rest();
     let mut stays = match make_ready(alloc, n) {
         Ok(stays) => stays,
         Err(_) => return RoundRun::Memory,
     };
-    round_over(
-        &n.plan,
-        &n.bodies,
-        &mut n.cores,
-        &mut stays,
-        &mut n.watch,
-        &mut n.objects,
-        &mut n.entries,
-        gate,
-    );
+    let live = mem::replace(&mut n.live, Live::none(alloc));
+    let room = 1024 * live.cores.len() as u32;
+    let mut round = Round::new(&n.plan, &n.bodies, live, room);
+    round.go(&mut stays, gate);
+    n.live = round.into_live();
     RoundRun::Ran
 }

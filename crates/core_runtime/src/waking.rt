@@ -1,28 +1,27 @@
 //! What an entry wakes.
 
-ghost use Rattle.std.specs.Prelude.{◌≡◌, ℕ, List, true, false, None, Some, slice_get};
+ghost use Rattle.std.specs.Prelude.{◌≡◌, ℕ, List, true, false, None, Some, IfSome, slice_get};
 ghost use Rattle.std.specs.List.{Contains};
-ghost use Rattle.bus_semantics.specs.declared.entries.Actor.{Actor};
-ghost use Rattle.bus_semantics.specs.Objects.{clock, object_of, IsObject};
-ghost use Rattle.bus_semantics.specs.Plan.{Plan, plan_of};
-ghost use Rattle.bus_semantics.specs.Wanted.{wanted_by};
+ghost use Rattle.bus_semantics.specs.Objects.{touched_by, IsObject};
+ghost use Rattle.bus_semantics.specs.Plan.{plan_of};
 ghost use Rattle.port_objects.specs.declared.object.Object.{Object};
-ghost use Rattle.port_objects.specs.Objects.{ArePlans, IsOfPlan, kept_of};
+ghost use Rattle.port_objects.specs.Objects.{kept_of};
 ghost use Rattle.port_objects.specs.Waking.{wakes};
+ghost use Rattle.task_machine.specs.declared.instr.TaskSet.{TaskSet};
 ghost use Rattle.core_turn.specs.Cores.{CoreState};
-ghost use Rattle.core_runtime.specs.Watching.{AreWoken, IsAfter, IsAt, IsSeen, IsThere, IsWatch};
+ghost use Rattle.core_runtime.specs.Watching.{AreSeated, AreWatched, AreWoken, IsAfter, IsAt, IsSeen, IsThere, IsWatch, tables_of};
 
 use crate::seats::Seat;
+use crate::waiting::wake_waiting;
 use crate::watch::Watch;
-use bus_semantics::{Actor, BusPlan, Deed, Entry, Wish};
+use bus_semantics::{BusPlan, Deed, Entry};
 use core_turn::Awake;
 use port_objects::{
-    Object, held_starts_lead_nowhere, may_start, object_of, other_entries_wake_nothing, woken,
+    Object, held_starts_lead_nowhere, may_start, other_entries_wake_nothing, touched_object, woken,
 };
 
 /// Wakes an event at a seat, where it sleeps and may start now.
 fn wake_seat(object: &Object, event: u32, seat: &Seat, awake: &mut Vec<Awake>)
-    requires planned { (p : Plan) × (number : ℕ) × IsOfPlan p number object.now }
     requires there { IsThere awake.old.items seat.now }
     ensures woken { AreWoken awake.old.items awake.new.items }
     ensures seen { IsSeen (kept_of object.now) awake.new.items event seat.now }
@@ -35,7 +34,6 @@ fn wake_seat(object: &Object, event: u32, seat: &Seat, awake: &mut Vec<Awake>)
 
 /// The same at each of these seats.
 fn wake_seats(object: &Object, event: u32, seats: &[Seat], awake: &mut Vec<Awake>)
-    requires planned { (p : Plan) × (number : ℕ) × IsOfPlan p number object.now }
     requires there { (k : ℕ) (s : Seat) → slice_get seats.now k ≡ Some s → IsThere awake.old.items s }
     ensures woken { AreWoken awake.old.items awake.new.items }
     ensures seen { (k : ℕ) (s : Seat) → slice_get seats.now k ≡ Some s → IsSeen (kept_of object.now) awake.new.items event s }
@@ -47,7 +45,6 @@ fn wake_seats(object: &Object, event: u32, seats: &[Seat], awake: &mut Vec<Awake
 
 /// The same at each seat of the event.
 fn wake_event(object: &Object, event: u32, w: &mut Watch)
-    requires planned { (p : Plan) × (number : ℕ) × IsOfPlan p number object.now }
     requires there { (e : ℕ) (s : Seat) → IsAt w.old.seats.items e s → IsThere w.old.awake.items s }
     ensures seats { w.new.seats ≡ w.old.seats }
     ensures woken { AreWoken w.old.awake.items w.new.awake.items }
@@ -60,7 +57,6 @@ fn wake_event(object: &Object, event: u32, w: &mut Watch)
 
 /// The same of each of these events.
 fn wake_events(object: &Object, events: &[u32], w: &mut Watch)
-    requires planned { (p : Plan) × (number : ℕ) × IsOfPlan p number object.now }
     requires there { (e : ℕ) (s : Seat) → IsAt w.old.seats.items e s → IsThere w.old.awake.items s }
     ensures seats { w.new.seats ≡ w.old.seats }
     ensures woken { AreWoken w.old.awake.items w.new.awake.items }
@@ -71,34 +67,59 @@ fn wake_events(object: &Object, events: &[u32], w: &mut Watch)
     }
 }
 
-/// The object on which an entry can make a start come.
-fn waking_object(p: &BusPlan, deed: &Deed) -> Option<u32>
-    requires { IsObject (plan_of p.now) (clock (plan_of p.now)) }
-    ensures object { (a : Actor) (by : ℕ) → wakes deed.now ≡ true → result ≡ object_of (plan_of p.now) a (wanted_by by deed.now) }
-    ensures none { wakes deed.now ≡ false → result ≡ None }
+/// Whether an entry of this deed can make a start come.
+fn wakes(deed: &Deed) -> bool
+    ensures { result ≡ wakes deed.now }
 {
     match deed {
-        Deed::Write { elem, .. } | Deed::Publish { elem, .. } => p.group_of(*elem),
-        Deed::Tick => object_of(p, &Actor::Env, &Wish::Tick),
-        _ => None,
+        Deed::Write { .. }
+        | Deed::Publish { .. }
+        | Deed::Send { .. }
+        | Deed::Tick
+        | Deed::Ask { .. }
+        | Deed::Return { .. }
+        | Deed::Phase(_)
+        | Deed::End => true,
+        _ => false,
     }
 }
 
-/// Wakes what an entry, after which the objects are these, may make start.
-pub(crate) fn wake_after(p: &BusPlan, entry: &Entry, objects: &[Object], w: &mut Watch)
-    requires planned { ArePlans (plan_of p.now) objects.now }
-    requires clock { IsObject (plan_of p.now) (clock (plan_of p.now)) }
-    requires watched { (cores : List CoreState) × (before : List Object) × IsWatch (plan_of p.now) before cores w.old }
-    ensures { (cores : List CoreState) (before : List Object) → IsAfter (plan_of p.now) before objects.now entry.now
-        → IsWatch (plan_of p.now) before cores w.old → IsWatch (plan_of p.now) objects.now cores w.new }
+/// Wakes what an entry, after which the objects are these, may make start. `event` is the one that started the activation, for an
+/// admission and an end that touch an object.
+fn wake_starts(p: &BusPlan, entry: &Entry, event: Option<u32>, objects: &[Object], w: &mut Watch)
+    requires within { IfSome (touched_by (plan_of p.now) (record { entry = entry.now; event = event })) (IsObject (plan_of p.now)) }
+    requires there { (e : ℕ) (s : Seat) → IsAt w.old.seats.items e s → IsThere w.old.awake.items s }
+    ensures seats { w.new.seats ≡ w.old.seats }
+    ensures woken { AreWoken w.old.awake.items w.new.awake.items }
+    ensures starts { (cores : List CoreState) (before : List Object) → IsAfter (plan_of p.now) before objects.now (record { entry = entry.now; event = event })
+        → AreSeated (tables_of cores) w.old.seats.items → AreWatched (plan_of p.now) before cores w.old.awake.items → AreWatched (plan_of p.now) objects.now cores w.new.awake.items }
 {
     held_starts_lead_nowhere();
     other_entries_wake_nothing();
-    let number = match waking_object(p, &entry.deed) {
-        Some(number) => number,
-        None => return,
-    };
-    if let Some(object) = objects.get(number as usize) {
-        wake_events(object, woken(object), w);
+    if !wakes(&entry.deed) {
+        return;
     }
+    if let Some(number) = touched_object(p, entry, event) {
+        if let Some(object) = objects.get(number as usize) {
+            wake_events(object, woken(object), w);
+        }
+    }
+}
+
+/// Wakes what an entry, after which the objects are these, may make come: starts, and after a Leave those who may enter the area.
+/// `event` is the one that started the activation, for an admission and an end that touch an object.
+pub(crate) fn wake_after(
+    p: &BusPlan,
+    entry: &Entry,
+    event: Option<u32>,
+    objects: &[Object],
+    w: &mut Watch,
+)
+    requires within { IfSome (touched_by (plan_of p.now) (record { entry = entry.now; event = event })) (IsObject (plan_of p.now)) }
+    requires watched { (cores : List CoreState) × (before : List Object) × AreWatched (plan_of p.now) before cores w.old.awake.items × AreSeated (tables_of cores) w.old.seats.items }
+    ensures { (t : TaskSet) (cores : List CoreState) (before : List Object) → IsAfter (plan_of p.now) before objects.now (record { entry = entry.now; event = event })
+        → IsWatch (plan_of p.now) t before (touched_by (plan_of p.now) (record { entry = entry.now; event = event })) cores w.old → IsWatch (plan_of p.now) t objects.now None cores w.new }
+{
+    wake_starts(p, entry, event, objects, w);
+    wake_waiting(p, entry, event, &mut w.awake);
 }

@@ -1,6 +1,6 @@
 //! What of the cores may step, and where the events stand on them.
 
-ghost use Rattle.std.specs.Prelude.{◌≡◌, ℕ, List, IfOk};
+ghost use Rattle.std.specs.Prelude.{◌≡◌, ℕ, List, None, IfOk};
 ghost use Rattle.bus_semantics.specs.declared.script.Mapping.{Mapping};
 ghost use Rattle.bus_semantics.specs.Plan.{plan_of};
 ghost use Rattle.port_objects.specs.declared.object.Object.{Object};
@@ -36,7 +36,7 @@ impl Watch {
     /// Over these cores all is awake. The only error is that there is no memory; no other call takes any.
     pub fn new(alloc: Global, p: &BusPlan, cores: &[Core]) -> Result<Watch, Memory>
         requires { (m : Mapping) × (t : TaskSet) × AreReady (plan_of p.now) m t cores.now }
-        ensures { IfOk result (λ w. (objects : List Object) → IsWatch (plan_of p.now) objects cores.now w) }
+        ensures { IfOk result (λ w. (t : TaskSet) (objects : List Object) → IsWatch (plan_of p.now) t objects None cores.now w) }
     {
         let awake = awake_of(alloc, cores)?;
         let seats = seats_of(alloc, p, cores)?;

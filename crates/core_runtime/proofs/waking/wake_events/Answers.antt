@@ -7,9 +7,11 @@ use Rattle.core_runtime.specs.Watching.{IsAt, IsSeen}
 use Rattle.core_runtime.proofs.Wakes.{are_same, are_then, there_still, seen_still}
 use Rattle.core_runtime.proofs.waking.wake_events.Goals as goal
 
-pub wake_event-requires-clause-there : goal.wake_event-requires-clause-there
-wake_event-requires-clause-there c = λ e s at.
-    there_still c.args.w.now.awake.items c.loop-event.w.awake.items s c.loop-event.invariant.woken (c.requires.there e s (subst (λ (v : _). IsAt v.items e s) c.loop-event.invariant.seats at))
+pub wake_event-requires : goal.wake_event-requires
+wake_event-requires c = record {
+  there = λ e s at.
+      there_still c.args.w.now.awake.items c.loop-event.w.awake.items s c.loop-event.invariant.woken (c.requires.there e s (subst (λ (v : _). IsAt v.items e s) c.loop-event.invariant.seats at));
+}
 
 pub loop-event-init : goal.loop-event-init
 loop-event-init c = record { seats = refl; woken = are_same c.args.w.now.awake.items; seen = λ k e s below found at. absurd (omega arith) }

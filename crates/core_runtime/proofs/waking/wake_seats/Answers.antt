@@ -11,11 +11,11 @@ use Rattle.core_runtime.proofs.waking.wake_seats.Goals as goal
 abbrev nowhere : Seat
 nowhere = record { core = 0; slot = 0; place = 0 }
 
-pub wake_seat-requires-clause-there : goal.wake_seat-requires-clause-there
-wake_seat-requires-clause-there c =
+pub wake_seat-requires : goal.wake_seat-requires
+wake_seat-requires c =
     let i = c.loop-seat.seat-index in
     let s = get_or c.args.seats.now i nowhere in
-    there_still c.args.awake.now.items c.loop-seat.awake.items s c.loop-seat.invariant.woken (c.requires.there i s (slice_get-get_or c.args.seats.now i nowhere c.loop-seat-test.true))
+    record { there = there_still c.args.awake.now.items c.loop-seat.awake.items s c.loop-seat.invariant.woken (c.requires.there i s (slice_get-get_or c.args.seats.now i nowhere c.loop-seat-test.true)) }
 
 pub loop-seat-init : goal.loop-seat-init
 loop-seat-init c = record { woken = are_same c.args.awake.now.items; seen = λ k s below found. absurd (omega arith) }

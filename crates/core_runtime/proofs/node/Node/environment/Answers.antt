@@ -1,14 +1,13 @@
-use Rattle.std.proofs.Common.{◌≡◌, true, refl, sym, subst, arith, inr}
+use Rattle.std.proofs.Common.{◌≡◌, true, refl, sym, subst, arith, inr, None, ◌∷◌}
 use Rattle.bus_semantics.specs.declared.entries.Actor.TheVariants.{Env}
 use Rattle.bus_semantics.specs.Fitting.{wish_fits}
-use Rattle.bus_semantics.specs.Objects.{entries_of}
+use Rattle.bus_semantics.specs.Objects.{entries_of, touched_by}
 use Rattle.bus_semantics.specs.Plan.{plan_of}
 use Rattle.bus_semantics.specs.Wanted.{wanted_of}
-use Rattle.port_objects.specs.Objects.{ArePlans}
 use Rattle.core_runtime.specs.Nodes.{NodeState, IsLawfulNode}
 use Rattle.core_runtime.specs.Watching.{IsAfter, IsWatch}
-use Rattle.core_runtime.proofs.Outside.{no_start, touches_one, is_there, is_planned, may_ask, lawful_on, node_then, touches_then}
-use Rattle.core_runtime.proofs.Turned.{clock_there}
+use Rattle.core_runtime.proofs.Areas.{still_waiting}
+use Rattle.core_runtime.proofs.Outside.{never_held, lawful_beside, touches_one, is_there, is_planned, may_ask, lawful_on, node_then, touches_then, within_then}
 use Rattle.core_runtime.proofs.node.Node.environment.Goals as goal
 
 pub object_of-requires : goal.object_of-requires
@@ -30,45 +29,60 @@ act-requires-clause-planned c =
 pub unreachable-requires : goal.unreachable-requires
 unreachable-requires c =
     let fit = subst (λ (n : NodeState). wish_fits (plan_of n.plan) Env (wanted_of c.args.wish.now) ≡ true) (sym c.self.view_is) c.requires.fits in
+    let p = plan_of c.self.inside.plan in
+    let w = wanted_of c.args.wish.now in
     let ask =
-    may_ask (wanted_of c.args.wish.now) c.self.invariant.0 fit c.in-Some.ensures
+    may_ask w c.self.invariant.0 fit c.in-Some.ensures
     c.sound_plans_have_objects.ensures.touched c.index_mut.result.now c.index_mut.ensures.value c.self.invariant.0.history c.self.invariant.0.lawful in
-    no_start (plan_of c.self.inside.plan) (wanted_of c.args.wish.now) fit
-    (c.only_starts_wait.ensures (plan_of c.self.inside.plan) c.self.inside.mapping Env c.args.wish.now c.index_mut.result.now c.act.new.object _ _
-    (touches_one (wanted_of c.args.wish.now) c.self.invariant.0 fit c.in-Some.ensures) ask c.in-NotYet.ensures.lead)
-
-pub wake_after-requires-clause-planned : goal.wake_after-requires-clause-planned
-wake_after-requires-clause-planned c =
-    let fit = subst (λ (n : NodeState). wish_fits (plan_of n.plan) Env (wanted_of c.args.wish.now) ≡ true) (sym c.self.view_is) c.requires.fits in
-    subst (ArePlans (plan_of c.self.inside.plan)) (sym c.as_slice.ensures.value) (node_then (wanted_of c.args.wish.now) c.self.invariant.0 fit c.in-Some.ensures
-    c.sound_plans_have_objects.ensures.touched c.index_mut.result.now c.index_mut.ensures.value
-    c.legal_histories_part_into_objects.ensures.whole c.cores_stand_beside_the_environment.ensures c.act.new.object c.in-Done.entry
-    (λ h ask. c.in-Done.ensures.done c.self.inside.mapping (entries_of (plan_of c.self.inside.plan) h c.in-Some.object) c.in-Done.entry ask refl) c.in-Done.ensures.planned).planned
-
-pub wake_after-requires-clause-clock : goal.wake_after-requires-clause-clock
-wake_after-requires-clause-clock c = clock_there (plan_of c.self.inside.plan) c.self.invariant.0.counted
+    let past = entries_of p c.self.invariant.0.history c.in-Some.object in
+    let comes = c.calls_come.ensures.always p c.self.inside.mapping Env c.args.wish.now past
+    (record { sound = ask.sound; fits = ask.fits; own = ask.own; touching = touches_one w c.self.invariant.0 fit c.in-Some.ensures; past = ask.stands.past })
+    (never_held p w fit) in
+    c.in-NotYet.ensures.not_yet c.self.inside.mapping past _ ask refl comes.entry comes.comes
 
 pub wake_after-requires-clause-watched : goal.wake_after-requires-clause-watched
-wake_after-requires-clause-watched c = (c.self.inside.cores.items, c.self.inside.objects.items, c.self.invariant.1)
+wake_after-requires-clause-watched c = (c.self.inside.live.cores.items, c.self.inside.live.objects.items, c.self.invariant.1.awake, c.self.invariant.1.seated)
+
+pub wake_after-requires-clause-within : goal.wake_after-requires-clause-within
+wake_after-requires-clause-within c =
+    let fit = subst (λ (n : NodeState). wish_fits (plan_of n.plan) Env (wanted_of c.args.wish.now) ≡ true) (sym c.self.view_is) c.requires.fits in
+    within_then (wanted_of c.args.wish.now) c.self.invariant.0 fit c.in-Some.ensures c.sound_plans_have_objects.ensures.touched c.index_mut.result.now c.index_mut.ensures.value c.act.new.object c.in-Done.entry c.in-Done.ensures.lead
 
 pub invariant_of-self : goal.invariant_of-self
 invariant_of-self c =
     let fit = subst (λ (n : NodeState). wish_fits (plan_of n.plan) Env (wanted_of c.args.wish.now) ≡ true) (sym c.self.view_is) c.requires.fits in
     let p = plan_of c.self.inside.plan in
+    let t = c.self.inside.bodies in
+    let cores = c.self.inside.live.cores.items in
+    let objects = c.self.inside.live.objects.items in
+    let watch = c.self.inside.live.watch in
+    let touched = touched_by p (record { entry = c.in-Done.entry; event = None }) in
+    let watched : IsWatch p t objects touched cores watch = record {
+      awake = c.self.invariant.1.awake;
+      waiting = still_waiting c.waiters_sleep_on.ensures.still p t objects touched cores watch.awake.items c.self.invariant.1.waiting;
+      seated = c.self.invariant.1.seated;
+    } in
     let changed = touches_then (wanted_of c.args.wish.now) c.self.invariant.0 fit c.in-Some.ensures c.sound_plans_have_objects.ensures.touched c.index_mut.result.now c.index_mut.ensures.value c.act.new.object c.in-Done.entry c.in-Done.ensures.lead in
-    let is_after = subst (λ os. IsAfter p c.self.inside.objects.items os c.in-Done.entry) (sym c.as_slice.ensures.value) (inr changed) in (
+    let is_after = subst (λ os. IsAfter p objects os (record { entry = c.in-Done.entry; event = None })) (sym c.as_slice.ensures.value) (inr changed) in (
       node_then (wanted_of c.args.wish.now) c.self.invariant.0 fit c.in-Some.ensures
           c.sound_plans_have_objects.ensures.touched c.index_mut.result.now c.index_mut.ensures.value
-          c.legal_histories_part_into_objects.ensures.whole c.cores_stand_beside_the_environment.ensures c.act.new.object c.in-Done.entry
+          c.what_comes_may_follow.ensures.entry c.cores_stand_beside_the_environment.ensures c.act.new.object c.in-Done.entry
           (λ h ask. c.in-Done.ensures.done c.self.inside.mapping (entries_of (plan_of c.self.inside.plan) h c.in-Some.object) c.in-Done.entry ask refl) c.in-Done.ensures.planned,
-      subst (λ os. IsWatch p os c.self.inside.cores.items c.wake_after.new.w) c.as_slice.ensures.value (c.wake_after.ensures c.self.inside.cores.items c.self.inside.objects.items is_after c.self.invariant.1),
+      subst (λ os. IsWatch p t os None cores c.wake_after.new.w) c.as_slice.ensures.value (c.wake_after.ensures t cores objects is_after watched),
     )
 
-pub returns-clause-lawful : goal.returns-clause-lawful
-returns-clause-lawful c = λ h lawful.
+pub returns-in-Done-clause-lawful : goal.returns-in-Done-clause-lawful
+returns-in-Done-clause-lawful c = λ h lawful.
     let fit = subst (λ (n : NodeState). wish_fits (plan_of n.plan) Env (wanted_of c.args.wish.now) ≡ true) (sym c.self.view_is) c.requires.fits in
     lawful_on (wanted_of c.args.wish.now) c.self.invariant.0 fit c.in-Some.ensures
     c.sound_plans_have_objects.ensures.touched c.index_mut.result.now c.index_mut.ensures.value
-    c.legal_histories_part_into_objects.ensures.whole c.cores_stand_beside_the_environment.ensures c.act.new.object c.in-Done.entry
+    c.what_comes_may_follow.ensures.entry c.cores_stand_beside_the_environment.ensures c.act.new.object c.in-Done.entry
     (λ h ask. c.in-Done.ensures.done c.self.inside.mapping (entries_of (plan_of c.self.inside.plan) h c.in-Some.object) c.in-Done.entry ask refl) h
     (subst (λ (n : NodeState). IsLawfulNode n h) (sym c.self.view_is) lawful)
+
+pub returns-in-Some-free_deed-clause-lawful : goal.returns-in-Some-free_deed-clause-lawful
+returns-in-Some-free_deed-clause-lawful c = λ h lawful.
+    let fit = subst (λ (n : NodeState). wish_fits (plan_of n.plan) Env (wanted_of c.args.wish.now) ≡ true) (sym c.self.view_is) c.requires.fits in
+    subst (λ (n : NodeState). IsLawfulNode n (record { actor = Env; deed = c.in-Some-free_deed.deed } ∷ h)) c.self.view_is
+    (lawful_beside (wanted_of c.args.wish.now) c.in-Some-free_deed.deed c.self.invariant.0 fit (sym c.in-None.ensures) c.in-Some-free_deed.ensures
+    c.free_deeds_are_legal.ensures.answers c.cores_stand_beside_the_environment.ensures h (subst (λ (n : NodeState). IsLawfulNode n h) (sym c.self.view_is) lawful))

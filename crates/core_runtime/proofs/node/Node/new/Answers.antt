@@ -1,4 +1,4 @@
-use Rattle.std.proofs.Common.{[], sym, subst}
+use Rattle.std.proofs.Common.{[], sym, subst, None}
 use Rattle.bus_semantics.specs.Plan.{plan_of}
 use Rattle.core_runtime.specs.Turns.{AreReady}
 use Rattle.core_runtime.specs.Watching.{IsWatch}
@@ -27,5 +27,5 @@ invariant_of-result c = (
     history = [];
     lawful = new_lawful (plan_of c.args.p) c.args.m c.args.t c.in_ok-cores.cores.items c.in_ok-objects.objects.items c.requires.built c.in_ok-cores.ensures.cores c.in_ok-objects.ensures.standing;
   },
-  subst (λ cs. IsWatch (plan_of c.args.p) c.in_ok-objects.objects.items cs c.in_ok-watch.watch) c.as_slice.ensures.value (c.in_ok-watch.ensures c.in_ok-objects.objects.items),
+  subst (λ cs. IsWatch (plan_of c.args.p) c.args.t c.in_ok-objects.objects.items None cs c.in_ok-watch.watch) c.as_slice.ensures.value (c.in_ok-watch.ensures c.args.t c.in_ok-objects.objects.items),
 )

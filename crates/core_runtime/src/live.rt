@@ -1,0 +1,32 @@
+//! What of a node turns change.
+
+use crate::watch::Watch;
+use bus_semantics::Stamped;
+use core_turn::Core;
+use port_objects::Object;
+use std::alloc::Global;
+
+/// What of a node turns change: its cores and its objects, each by number, what of the cores may step, and the entries of the last
+/// round or serial pass.
+#[derive(Drop)]
+pub(crate) struct Live {
+    pub cores: Vec<Core>,
+    pub objects: Vec<Object>,
+    pub watch: Watch,
+    pub entries: Vec<Stamped>,
+}
+
+impl Live {
+    /// Nothing of all that. It takes no memory.
+    pub fn none(alloc: Global) -> Live {
+        Live {
+            cores: Vec::new(alloc),
+            objects: Vec::new(alloc),
+            watch: Watch {
+                awake: Vec::new(alloc),
+                seats: Vec::new(alloc),
+            },
+            entries: Vec::new(alloc),
+        }
+    }
+}
