@@ -12,6 +12,7 @@ use Rattle.bus_semantics.specs.declared.entries.Stamped.{Stamped}
 use Rattle.bus_semantics.specs.declared.script.Line.{Line}
 use Rattle.bus_semantics.specs.declared.script.Mapping.{Mapping}
 use Rattle.bus_semantics.specs.declared.version.Version.{Version}
+use Rattle.bus_semantics.specs.Sound.{IsSound}
 use Rattle.bus_semantics.specs.Plan.{Plan, plan_of}
 use Rattle.bus_semantics.specs.Wanted.{Wanted, wanted_by}
 use Rattle.bus_semantics.specs.History.{History, is_environment}
@@ -30,6 +31,7 @@ use Rattle.script_run.specs.Texts.{entries_text}
 use Rattle.script_run.specs.Running.{PrintsRun, PrintsBeginning}
 use Rattle.script_run.specs.Standing.{Place, outside, inside, IsAt, Stands, IsCut, GoesOn, came_of, Carries, CarriesLap}
 use Rattle.script_run.proofs.Items.{items_after, history-items, spelling-items, legal-items, inside-items, placed-items, orders-items, made-items}
+use Rattle.script_run.proofs.Quieting.{QuietLaw, idles_are_quiet}
 
 -- what follows of a put of further text of the session, which stands for it where all of the text is put
 went_on : (v : Version) (p : Plan) (m : Mapping) (h : History) (orders more : List Ordered) (to : Place) (base before now : Option (List ℕ)) (n : NodeState) (text : List ℕ) (put : Put) (s t : Session)
@@ -242,20 +244,22 @@ begun v n h before now lawful told = record { session = []; did = refl; placed =
 
 pub finishes : (v : Version) (answer : ScriptRun) (script : List Line) (old new : NodeState) (before between after : Option (List ℕ)) → AppendsWhereTold before between (header v)
     → Carries v answer (orders_of_script script) outside outside old new between after
+    → QuietLaw → IsSound (plan_of old.plan) old.mapping
     → answer ≡ Finished → (h : History) → IsLawfulNode old h → PrintsRun v (plan_of old.plan) old.mapping h script new before after
-finishes v Finished script old new before between now told f is h lawful =
+finishes v Finished script old new before between now told f quiet sound is h lawful =
     let s = f (plan_of old.plan) old.mapping h [] before (begun v old h before between lawful told) in
     record {
       session = s.session;
       bytes = spelling_of v (plan_of old.plan) s.session;
       of_script = record { orders = s.did; placed = s.placed; closed = s.at };
       legal = s.legal;
+      quiet = idles_are_quiet quiet (plan_of old.plan) old.mapping sound h lawful.legal s.session s.legal;
       lawful = s.lawful;
       spelled = refl;
       put = s.text;
     }
-finishes v Failed script old new before between now told f is h lawful = absurd (cc)
-finishes v Memory script old new before between now told f is h lawful = absurd (cc)
+finishes v Failed script old new before between now told f quiet sound is h lawful = absurd (cc)
+finishes v Memory script old new before between now told f quiet sound is h lawful = absurd (cc)
 
 cut_off : (v : Version) (p : Plan) (m : Mapping) (h : History) (script : List Line) (before now : Option (List ℕ)) → IsCut v p m h (orders_of_script script) before now → PrintsBeginning v p m h script before now
 cut_off v p m h script before now c = record {

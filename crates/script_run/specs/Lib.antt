@@ -1,4 +1,5 @@
 pub mod Legal
+pub mod Quieting
 pub mod Texts
 pub mod Running
 pub mod Standing

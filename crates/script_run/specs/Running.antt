@@ -13,13 +13,16 @@ use Rattle.core_runtime.specs.Nodes.{NodeState, IsLawfulNode}
 use Rattle.script_run.specs.declared.script.ScriptRun.{ScriptRun}
 use Rattle.script_run.specs.declared.script.ScriptRun.TheVariants.{Finished, Failed, Memory}
 use Rattle.script_run.specs.Legal.{IsLegalFrom}
+use Rattle.script_run.specs.Quieting.{IdlesAreQuiet}
 
--- the bytes put are the text, in a version, of a run of the script that goes on from the history, and the node is lawful for both
+-- the bytes put are the text, in a version, of a run of the script that goes on from the history, what closes with `idle` is quiet, and the
+-- node is lawful for both
 pub record PrintsRun (v : Version) (p : Plan) (m : Mapping) (h : History) (script : List Line) (now : NodeState) (before after : Option (List ℕ)) : Type 0 where
   pub session : Session
   pub bytes : List ℕ
   pub of_script : IsSessionOf script session
   pub legal : IsLegalFrom p m h session
+  pub quiet : IdlesAreQuiet p h session
   pub lawful : IsLawfulNode now (history_of session ++ h)
   pub spelled : Spells v p bytes session
   pub put : AppendsWhereTold before after bytes

@@ -17,6 +17,7 @@ use crate::lines::{came_of, put_entry};
 use crate::run_line::put_run;
 use bus_semantics::{Line, Script, Version, Wish};
 use core_runtime::Node;
+use no_stall::no_history_stalls;
 use rte_text::{Gate, LineBuf, Put, Sink};
 use std::alloc::Global;
 use std::thread::Threads;
@@ -150,6 +151,8 @@ pub fn run_script<R: Threads + Sync, K: Sink, G: Gate>(
         → PrintsBeginning v (plan_of n.old.plan) n.old.mapping h s.now.lines (K.told out.old) (K.told out.new) }
     ensures faults { FaultsAfter result (K.faults out.old) (K.faults out.new) }
 {
+    no_history_stalls();
+    let _plan = n.plan();
     let mut line = LineBuf::new();
     match out.put(header(v)) {
         Put::Done => put_lines(rt, alloc, n, s.lines.items(), v, out, &mut line, gate),
