@@ -34,27 +34,10 @@ use Rattle.script_reading.proofs.Apart.{AreDistinct, are_distinct, elem_apart, m
 use Rattle.script_reading.proofs.Asking.{at_place, saying_asks}
 use Rattle.script_reading.proofs.Causes.{form_says}
 use Rattle.script_reading.proofs.Naming.{mode_is, named_is}
+use Rattle.line_fields.proofs.Parts.{same_parts}
 use Rattle.line_fields.proofs.Words.{value_back}
 
 -- ---- the names of a sound plan
-
-same_parts : (s : ℕ) (t : Letters) → sound.parts s t ≡ parts s t
-same_parts s [] = refl
-same_parts s (c ∷ cs) = step (c == s) refl (parts s cs) (same_parts s cs) refl
-  where
-    step : (b : Bool) → (c == s) ≡ b → (us : List Letters) → sound.parts s cs ≡ us → parts s cs ≡ us → sound.parts s (c ∷ cs) ≡ parts s (c ∷ cs)
-    step true is us e f =
-        let left : sound.parts s (c ∷ cs) ≡ [] ∷ us = rw (is, e) refl in
-        let right : parts s (c ∷ cs) ≡ [] ∷ us = rw (is, f) refl in
-        left ∙ sym right
-    step false is [] e f =
-        let left : sound.parts s (c ∷ cs) ≡ (c ∷ []) ∷ [] = rw (is, e) refl in
-        let right : parts s (c ∷ cs) ≡ (c ∷ []) ∷ [] = rw (is, f) refl in
-        left ∙ sym right
-    step false is (u ∷ us) e f =
-        let left : sound.parts s (c ∷ cs) ≡ (c ∷ u) ∷ us = rw (is, e) refl in
-        let right : parts s (c ∷ cs) ≡ (c ∷ u) ∷ us = rw (is, f) refl in
-        left ∙ sym right
 
 same_pair : (t : Letters) → sound.is_pair_name t ≡ true → is_pair_name t ≡ true
 same_pair t h = subst (λ ts. ((length ts == 2) && list_all is_name ts) ≡ true) (same_parts 46 t) h

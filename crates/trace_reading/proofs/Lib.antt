@@ -1,0 +1,14 @@
+pub mod ActorTexts
+pub mod Callers
+pub mod Cutting
+pub mod DeedTexts
+pub mod Guessing
+pub mod Indexing
+pub mod Judging
+pub mod Letters
+pub mod Lines
+pub mod Modes
+pub mod Readable
+pub mod Sessions
+pub mod Things
+pub mod Values

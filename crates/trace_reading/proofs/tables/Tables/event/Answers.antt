@@ -1,0 +1,9 @@
+use Rattle.std.proofs.Common.{ap, ◌∙◌}
+use Rattle.bus_semantics.specs.Plan.{plan_of}
+use Rattle.trace_reading.specs.declared.tables.Kind.TheVariants as Kind
+use Rattle.trace_reading.specs.Tables.{first_of}
+use Rattle.trace_reading.proofs.Indexing.{first_event}
+use Rattle.trace_reading.proofs.tables.Tables.event.Goals as goal
+
+pub returns : goal.returns
+returns c = c.find.ensures ∙ ap (λ h. first_of Kind.Event (plan_of c.args.self.now.plan.now) h c.args.name.now) c.place.ensures ∙ first_event (plan_of c.args.self.now.plan.now) c.args.home c.args.name.now

@@ -1,0 +1,9 @@
+pub mod Actors
+pub mod Cuts
+pub mod Deeds
+pub mod Fields
+pub mod Finding
+pub mod Guess
+pub mod Pieces
+pub mod Reads
+pub mod Tables

@@ -1,0 +1,51 @@
+-- What a line is read as.
+use Rattle.std.specs.Prelude.{◌≡◌, true, Option, Some, None}
+use Rattle.std.specs.List.{list_all}
+use Rattle.bus_semantics.specs.declared.entries.Entry.{Entry}
+use Rattle.bus_semantics.specs.declared.script.Mapping.{Mapping}
+use Rattle.bus_semantics.specs.declared.version.Version.{Version}
+use Rattle.bus_semantics.specs.Plan.{Plan}
+use Rattle.bus_semantics.specs.Reading.{IsReadingOf, item_fits}
+use Rattle.bus_semantics.specs.Run.{Item, Session, idle, made, run_begins, run_closes, unsettled}
+use Rattle.bus_semantics.specs.Sound.{IsSound}
+use Rattle.bus_semantics.specs.Spelling.{Letters, Spells}
+use Rattle.trace_reading.specs.declared.reading.LineRead.{LineRead}
+use Rattle.trace_reading.specs.declared.reading.LineRead.TheVariants as read
+
+-- the plan is sound with some mapping
+abbrev pub HasMapping : Plan → Type 0
+HasMapping p = (m : Mapping) × IsSound p m
+
+-- the line, its newline included, is that of the item; a bad line is that of none
+abbrev pub Reads : Version → Plan → (line : Letters) → LineRead → Type 0
+Reads v p line (read.Entry e) = IsReadingOf v p line (made e)
+Reads v p line read.Run = IsReadingOf v p line run_begins
+Reads v p line read.Idle = IsReadingOf v p line (run_closes idle)
+Reads v p line read.Unsettled = IsReadingOf v p line (run_closes unsettled)
+Reads v p line read.BadLine = (i : Item) → IsReadingOf v p line i → ⊥
+
+-- of the entries alone
+abbrev pub ReadsEntry : Version → Plan → (line : Letters) → Option Entry → Type 0
+ReadsEntry v p line None = (e : Entry) → IsReadingOf v p line (made e) → ⊥
+ReadsEntry v p line (Some e) = IsReadingOf v p line (made e)
+
+-- ---- laws
+
+-- each item of the session fits the plan
+abbrev pub IsOfPlan : Plan → Session → Type 0
+IsOfPlan p s = list_all (item_fits p) s ≡ true
+
+-- a line is that of one item
+abbrev pub LinesHaveOneReading : Plan → Type 0
+LinesHaveOneReading p = (v : Version) (line : Letters) (i j : Item) → IsReadingOf v p line i → IsReadingOf v p line j → i ≡ j
+
+-- a session has one text in each version
+abbrev pub SessionsHaveOneText : Plan → Type 0
+SessionsHaveOneText p = (v : Version) (s : Session) (t u : Letters) → Spells v p t s → Spells v p u s → t ≡ u
+
+-- a text is in one version, and that of one session
+abbrev pub TextsHaveOneVersion : Plan → Type 0
+TextsHaveOneVersion p = (v w : Version) (t : Letters) (s u : Session) → IsOfPlan p s → IsOfPlan p u → Spells v p t s → Spells w p t u → v ≡ w
+
+abbrev pub TextsHaveOneSession : Plan → Type 0
+TextsHaveOneSession p = (v : Version) (t : Letters) (s u : Session) → IsOfPlan p s → IsOfPlan p u → Spells v p t s → Spells v p t u → s ≡ u

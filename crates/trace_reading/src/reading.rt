@@ -1,0 +1,151 @@
+//! A line, read back.
+
+ghost use Rattle.std.specs.Prelude.{◌≡◌, ◌&&◌, ◌-◌, IfOk, bytes_eq, length, take};
+ghost use Rattle.bus_semantics.specs.Plan.{plan_of};
+ghost use Rattle.bus_semantics.specs.Reading.{item_fits};
+ghost use Rattle.bus_semantics.specs.Run.{made};
+ghost use Rattle.bus_semantics.specs.Spelling.{entry_text};
+ghost use Rattle.trace_reading.specs.Reads.{HasMapping, Reads, ReadsEntry};
+
+use crate::guess::guess;
+use crate::names::Names;
+use crate::sizes::{actor_is_sized, is_sized};
+use crate::tables::Tables;
+use bus_semantics::{BusPlan, Entry, Version};
+use entry_fitting::fits;
+use rte_text::{LineBuf, Memory};
+use std::alloc::Global;
+use trace_text::{idle_line, run_line, unsettled_line, write_entry};
+
+/// What a line of a trace is read as.
+#[derive(Clone, Copy)]
+pub enum LineRead {
+    /// The line of this entry, which fits the plan.
+    Entry(Entry),
+    /// The line with which a run line begins.
+    Run,
+    /// The line that closes a run line at rest.
+    Idle,
+    /// The line that closes a run line within which the entries that may be made were made.
+    Unsettled,
+    /// No line that an item of a trace of this version has.
+    BadLine,
+}
+
+/// All but the last byte.
+fn without_last(line: &[u8]) -> &[u8]
+    ensures { result.now ≡ take (length line.now - 1) line.now }
+{
+    if line.is_empty() {
+        line
+    } else {
+        &line[..line.len() - 1]
+    }
+}
+
+/// Whether the line is the entry's.
+fn is_line_of(p: &BusPlan, v: Version, e: &Entry, line: &[u8]) -> bool
+    requires { HasMapping (plan_of p.now) }
+    ensures { result ≡ bytes_eq (entry_text v (plan_of p.now) e.now) line.now }
+{
+    let mut out = LineBuf::new();
+    write_entry(p, e, v, &mut out);
+    out.bytes() == line
+}
+
+/// Whether the entry fits the plan and has this line.
+fn is_read_as(p: &BusPlan, v: Version, e: &Entry, line: &[u8]) -> bool
+    requires { HasMapping (plan_of p.now) }
+    ensures { result ≡ (item_fits (plan_of p.now) (made e.now) && bytes_eq (entry_text v (plan_of p.now) e.now) line.now) }
+{
+    actor_is_sized(e.actor);
+    fits(p, e) && is_sized(&e.deed) && is_line_of(p, v, e, line)
+}
+
+/// The entry whose line it is, if there is one.
+fn read_made(names: &Names, v: Version, line: &[u8]) -> Option<Entry>
+    requires { HasMapping (plan_of names.now.plan.now) }
+    ensures { ReadsEntry v (plan_of names.now.plan.now) line.now result }
+{
+    match guess(names, v, without_last(line)) {
+        Some(e) => {
+            if is_read_as(names.plan, v, &e, line) {
+                Some(e)
+            } else {
+                None
+            }
+        }
+        None => None,
+    }
+}
+
+/// What the line is read as.
+fn read_by(names: &Names, v: Version, line: &[u8]) -> LineRead
+    requires { HasMapping (plan_of names.now.plan.now) }
+    ensures { Reads v (plan_of names.now.plan.now) line.now result }
+{
+    if line == run_line() {
+        return LineRead::Run;
+    }
+    if line == idle_line() {
+        return LineRead::Idle;
+    }
+    if line == unsettled_line() {
+        return LineRead::Unsettled;
+    }
+    match read_made(names, v, line) {
+        Some(e) => LineRead::Entry(e),
+        None => LineRead::BadLine,
+    }
+}
+
+/// Reads a line of a trace of the version: the item of a run that fits the plan and has this line. The line is given with its
+/// newline, which ends it; a line without it is bad. It takes no memory, and goes over the lists of the plan for each name.
+pub fn read_entry(p: &BusPlan, v: Version, line: &[u8]) -> LineRead
+    requires sound { HasMapping (plan_of p.now) }
+    ensures reads { Reads v (plan_of p.now) line.now result }
+{
+    read_by(
+        &Names {
+            plan: p,
+            tables: None,
+        },
+        v,
+        line,
+    )
+}
+
+/// A reader of traces over one plan, made once: names are found by hash, so lines are read in a time that grows with their
+/// length alone.
+#[derive(Drop)]
+pub struct Reader<'p> {
+    /// The plan of the traces.
+    pub plan: &'p BusPlan,
+    tables: Tables<'p>,
+    ghost of_plan: { tables.plan.now ≡ plan.now },
+}
+
+impl<'p> Reader<'p> {
+    /// A reader over the plan. The only error is that there is no memory for its tables.
+    pub fn new(alloc: Global, plan: &'p BusPlan) -> Result<Reader<'p>, Memory>
+        ensures of_plan { IfOk result (λ reader. reader.plan.now ≡ plan.now) }
+    {
+        let tables = Tables::new(alloc, plan)?;
+        Ok(Reader { plan, tables })
+    }
+
+    /// Reads a line of a trace of the version, given with its newline, as `read_entry` does. It takes no memory.
+    pub fn read(&self, v: Version, line: &[u8]) -> LineRead
+        requires sound { HasMapping (plan_of self.now.plan.now) }
+        ensures reads { Reads v (plan_of self.now.plan.now) line.now result }
+    {
+        read_by(
+            &Names {
+                plan: self.plan,
+                tables: Some(&self.tables),
+            },
+            v,
+            line,
+        )
+    }
+}
