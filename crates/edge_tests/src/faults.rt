@@ -48,6 +48,22 @@ const RUN: Case<'static> = Case {
     told: TRACE,
 };
 
+/// Two tasks without events.
+const TASKS: &[u8] =
+    b"{\"compositions\":[{\"shortName\":\"Top\"}],\"root\":\"Top\",\"mapping\":{\"cores\":1,\"tasks\":[{\"shortName\":\"T\",\"core\":0},{\"shortName\":\"U\",\"core\":0}]}}";
+
+/// The same of the plan: two puts, one a line. It takes no script.
+const PLAN: Case<'static> = Case {
+    words: &["plan", "c"],
+    description: Some(TASKS),
+    script: None,
+    failing_fetches: &[],
+    failing_puts: &[],
+    room: 4_096,
+    status: Status::Done,
+    told: "task T core 0\ntask U core 0\n",
+};
+
 fn words_of(alloc: Global, case: &Case) -> Result<Vec<String>, AllocError> {
     let mut words = Vec::new(alloc);
     for word in case.words {
@@ -130,6 +146,17 @@ fn says_what_was_not_read(rt: HostRuntime) -> Result<(), Fail> {
             told: "words refused\n",
             ..RUN
         },
+        // A plan takes one fetch.
+        Case {
+            failing_fetches: &[0],
+            status: Status::NotRead,
+            told: "not read 1\n",
+            ..PLAN
+        },
+        Case {
+            failing_fetches: &[1],
+            ..PLAN
+        },
     ];
     compare(&rt, &cases)?;
     Ok(())
@@ -202,6 +229,17 @@ fn ends_where_a_put_fails(rt: HostRuntime) -> Result<(), Fail> {
         Case {
             script: Some(b"walk"),
             ..unwritten(&[(0, 14)], "script refused")
+        },
+        // The lines of a plan.
+        Case {
+            failing_puts: &[(1, 6)],
+            status: Status::NotWritten,
+            told: "task T core 0\ntask U",
+            ..PLAN
+        },
+        Case {
+            failing_puts: &[(2, 0)],
+            ..PLAN
         },
     ];
     compare(&rt, &cases)?;

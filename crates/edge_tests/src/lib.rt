@@ -1,12 +1,16 @@
 //! Tests of what no row reaches: files and output that fail, files at their limit, the edge to the system, and scripts over
-//! plans that no description brings yet.
+//! plans that no description brings yet, and turns over a bench that counts its work.
 #![tactic(auto)]
 
 #[cfg(test)]
 mod answers;
+#[cfg(test)]
+mod counting;
 #[cfg(test)]
 mod faults;
 #[cfg(test)]
 mod scripts;
 #[cfg(test)]
 mod system;
+#[cfg(test)]
+mod turns;

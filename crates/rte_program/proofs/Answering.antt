@@ -1,8 +1,10 @@
 -- When each answer of the top call comes.
-use Rattle.std.proofs.Common.{◌≡◌, ℕ, ◌<◌, List, [], length, arith, sym, ◌∙◌, subst, inl, inr, Option, Some, None}
-use Rattle.std.specs.Prelude.{◌⊎◌, IsSomeAnd}
+use Rattle.std.proofs.Common.{◌≡◌, ℕ, zero, suc, ◌<◌, List, [], length, slice_get, arith, sym, ◌∙◌, subst, inl, inr, Option, Some, None}
+use Rattle.std.specs.Prelude.{◌⊎◌, ◌↔◌, ◌≢◌, IsSomeAnd}
+use Rattle.std.proofs.lemmas.Option.{same_Some}
 use Rattle.rte_text.specs.Counts.{Rose}
 use Rattle.rte_text.specs.declared.shelf.TheConstants.{FILE_LIMIT}
+use Rattle.rte_text.specs.declared.refusal.Refused.TheVariants.{Rule}
 use Rattle.rte_text.specs.declared.sink.Put.{Put}
 use Rattle.rte_text.specs.declared.sink.Put.TheVariants as put
 use Rattle.rte_text.specs.Sinks.{ToldAfter, SinkFaultsAfter}
@@ -10,6 +12,7 @@ use Rattle.rte_text.specs.Shelves.{ToldFiles, HeldWhereTold, LongWhereTold, Shel
 use Rattle.bus_semantics.specs.declared.script.Line.{Line}
 use Rattle.bus_semantics.specs.Plan.{plan_of}
 use Rattle.description_stages.specs.declared.planning.PlannedDescription.{PlannedDescription}
+use Rattle.description_stages.specs.Plans.{IsPlannedOf, IsPlanRefusalOf}
 use Rattle.script_reading.specs.Reading.{IsScript, first_bad}
 use Rattle.line_fields.specs.Texts.{lines_of}
 use Rattle.rte_program.specs.declared.status.Status.{Status}
@@ -17,9 +20,9 @@ use Rattle.rte_program.specs.declared.status.Status.TheVariants as status
 use Rattle.rte_program.specs.declared.stop.Stop.{Stop}
 use Rattle.rte_program.specs.declared.stop.Stop.TheVariants as stop
 use Rattle.rte_program.specs.Stops.{IsSaid, IsUnsaid, Says, answer_after, stop_status, status_after, stop_text, script_refusal_text}
-use Rattle.rte_program.specs.Inputs.{Texts, run_words, IsNoForm, NamesBadLine, IsTaken, IsNoDescription, IsRefusedBy, BreaksNoRule, IsScriptOver, IsNoScriptOver, Names, HaveBadLine, NamesInputs, IsUnread, IsStopped}
+use Rattle.rte_program.specs.Inputs.{Texts, run_words, plan_words, AreFetched, AskForRun, BreaksNoRule, HasNoPlan, HaveBadLine, IsJudged, IsNoDescription, IsForm, IsNoForm, IsNoScriptOver, IsNotPlanned, IsNumbered, IsRefusedBy, IsScriptOver, IsStopped, IsTaken, IsUnread, KeepsThirtyRules, Names, NamesBadLine, NamesInputs, NamesOne, NamesPlanned, NamesUnread}
 use Rattle.rte_program.specs.Running.{PrintsBeginning}
-use Rattle.rte_program.specs.Answers.{CutsRefusal, CutsRun, EndsForMemory, RefusesScript, RefusesWhatIsNamed, IsHeld, AreHeld, NoFault, AnswersOrMemory}
+use Rattle.rte_program.specs.Answers.{CutsRefusal, CutsRun, CutsWhatIsPut, EndsForMemory, RefusesScript, RefusesWhatIsNamed, SaysUnread, IsHeld, AreHeld, IsOneHeld, NoFault, AnswersOrMemory}
 
 -- ---- a refusal
 
@@ -99,6 +102,19 @@ memory_said before after f g answer stop.Words says is = absurd (other_answer an
 memory_said before after f g answer (stop.NotRead word) says is = absurd (other_answer answer status.Memory says.answered status.NotRead (λ e. cc) (λ e. cc) says.status_is is)
 memory_said before after f g answer (stop.Script line cause) says is = absurd (other_answer answer status.Memory says.answered status.Script (λ e. cc) (λ e. cc) says.status_is is)
 
+-- ---- no put failed where the answer is another
+
+faults_by : (answer : Status) (why : Stop) (p : Put) (f g : ℕ) → answer ≡ status_after why p → SinkFaultsAfter p f g → answer ≢ status.NotWritten → g ≡ f
+faults_by answer why put.Done f g e faults other = faults
+faults_by answer why put.Failed f g e faults other = absurd (other e)
+
+pub no_faults_said : (before after : Option (List ℕ)) (f g : ℕ) (answer : Status) (why : Stop) → Says why answer before after f g → answer ≢ status.NotWritten → g ≡ f
+no_faults_said before after f g answer why says other = by (said_by before after f g answer why says)
+  where
+    by : IsSaid why answer before after f g ⊎ IsUnsaid answer before after f g → g ≡ f
+    by (inl s) = faults_by answer why s.answered f g s.status_is s.faults other
+    by (inr unsaid) = unsaid.faults
+
 -- ---- the status where no put failed
 
 status_by : (answer : Status) (why : Stop) (p : Put) (f g : ℕ) → answer ≡ status_after why p → SinkFaultsAfter p f g → ¬ Rose f g → answer ≡ stop_status why
@@ -117,10 +133,37 @@ said before after f g answer why says none = by (said_by before after f g answer
 pub words_come : (words : Texts) (files : ToldFiles) (b a : ShelfCounts) (before after : Option (List ℕ)) (f g : ℕ) (answer : Status) (why : Stop)
     → IsStopped words files b a why → Says why answer before after f g → IsNoForm words → ¬ Rose f g → answer ≡ status.Words
 words_come words files b a before after f g answer stop.Words stopped says none quiet = status_by answer stop.Words says.answered f g says.status_is says.faults quiet
-words_come words files b a before after f g answer (stop.NotRead word) stopped says none quiet = absurd (none stopped.description_name stopped.script_name stopped.words_are)
-words_come words files b a before after f g answer (stop.Refused refusal) stopped says none quiet = let n = stopped.0.names in absurd (none n.description_name n.script_name n.words_are)
-words_come words files b a before after f g answer (stop.Script line cause) stopped says none quiet = let n = stopped.0.names in absurd (none n.description_name n.script_name n.words_are)
-words_come words files b a before after f g answer stop.Memory stopped says none quiet = absurd (none stopped.0.0 stopped.0.1 stopped.0.2)
+words_come words files b a before after f g answer (stop.NotRead word) stopped says none quiet = absurd (none stopped.is_form)
+words_come words files b a before after f g answer (stop.Refused refusal) (inl run, same) says none quiet = let n = run.names in absurd (none (inl (n.description_name, n.script_name, n.words_are)))
+words_come words files b a before after f g answer (stop.Refused refusal) (inr plan, same) says none quiet = absurd (none (inr (plan.names.name, plan.names.words_are)))
+words_come words files b a before after f g answer (stop.Script line cause) stopped says none quiet = let n = stopped.0.names in absurd (none (inl (n.description_name, n.script_name, n.words_are)))
+words_come words files b a before after f g answer stop.Memory stopped says none quiet = absurd (none stopped.0)
+
+-- words that are a form are not refused
+pub form_said : (words : Texts) (files : ToldFiles) (b a : ShelfCounts) (before after : Option (List ℕ)) (f g : ℕ) (answer : Status) (why : Stop)
+    → IsStopped words files b a why → Says why answer before after f g → IsForm words → answer ≡ status.Words → ⊥
+form_said words files b a before after f g answer stop.Words stopped says form is = stopped.0 form
+form_said words files b a before after f g answer (stop.NotRead word) stopped says form is = other_answer answer status.Words says.answered status.NotRead (λ e. cc) (λ e. cc) says.status_is is
+form_said words files b a before after f g answer (stop.Refused refusal) stopped (inl says) form is = other_answer answer status.Words says.answered status.Refused (λ e. cc) (λ e. cc) says.status_is is
+form_said words files b a before after f g answer (stop.Refused refusal) stopped (inr unsaid) form is = let other : status.Memory ≡ status.Words = sym unsaid.status_is ∙ is in absurd cc
+form_said words files b a before after f g answer (stop.Script line cause) stopped says form is = other_answer answer status.Words says.answered status.Script (λ e. cc) (λ e. cc) says.status_is is
+form_said words files b a before after f g answer stop.Memory stopped says form is = let other : status.Memory ≡ status.Words = sym says.status_is ∙ is in absurd cc
+
+-- ---- a file that was not read
+
+unread_by : (words : Texts) (files : ToldFiles) (b a : ShelfCounts) (m n : ℕ) (before after : Option (List ℕ)) (answer : Status) (word : ℕ) (p : Put)
+    → NamesUnread words files b a word → AreFetched files m n word → answer ≡ answer_after p status.NotRead → ToldAfter p before after (stop_text (stop.NotRead word)) → answer ≡ status.NotRead → SaysUnread words files b a m n before after
+unread_by words files b a m n before after answer word put.Done named first e told is = record { word = word; named = named; first = first; told = told }
+unread_by words files b a m n before after answer word put.Failed named first e told is = let other : status.NotWritten ≡ status.NotRead = sym e ∙ is in absurd cc
+
+pub unread_said : (words : Texts) (files : ToldFiles) (b a : ShelfCounts) (m n : ℕ) (before after : Option (List ℕ)) (f g : ℕ) (answer : Status) (why : Stop)
+    → IsStopped words files b a why → IsNumbered files m n why → Says why answer before after f g → answer ≡ status.NotRead → SaysUnread words files b a m n before after
+unread_said words files b a m n before after f g answer (stop.NotRead word) stopped first says is = unread_by words files b a m n before after answer word says.answered stopped first says.status_is says.told is
+unread_said words files b a m n before after f g answer stop.Words stopped first says is = absurd (other_answer answer status.NotRead says.answered status.Words (λ e. cc) (λ e. cc) says.status_is is)
+unread_said words files b a m n before after f g answer (stop.Refused refusal) stopped first (inl says) is = absurd (other_answer answer status.NotRead says.answered status.Refused (λ e. cc) (λ e. cc) says.status_is is)
+unread_said words files b a m n before after f g answer (stop.Refused refusal) stopped first (inr unsaid) is = let other : status.Memory ≡ status.NotRead = sym unsaid.status_is ∙ is in absurd cc
+unread_said words files b a m n before after f g answer (stop.Script line cause) stopped first says is = absurd (other_answer answer status.NotRead says.answered status.Script (λ e. cc) (λ e. cc) says.status_is is)
+unread_said words files b a m n before after f g answer stop.Memory stopped first says is = let other : status.Memory ≡ status.NotRead = sym says.status_is ∙ is in absurd cc
 
 -- ---- the files that are held are those that were read
 
@@ -150,27 +193,52 @@ same_files words files d s d' s' held names = let e : run_words names.descriptio
 
 -- ---- so these are judged
 
-abbrev Judged : (d s : List ℕ) → Stop → Type 0
-Judged d s stop.Words = ⊥
-Judged d s (stop.NotRead word) = ⊥
-Judged d s (stop.Refused refusal) = IsRefusedBy d refusal
-Judged d s (stop.Script line cause) = HaveBadLine d s line cause
-Judged d s stop.Memory = Unit {0}
+-- a word of `run C S` behind the command names one of the two files
+run_file : (n m name : List ℕ) (word : ℕ) → 0 < word → slice_get (run_words n m) word ≡ Some name → (name ≡ n) ⊎ (name ≡ m)
+run_file n m name zero pos is = absurd (omega arith)
+run_file n m name (suc zero) pos is = inl (sym (same_Some n name is))
+run_file n m name (suc (suc zero)) pos is = inr (sym (same_Some m name is))
+run_file n m name (suc (suc (suc k))) pos is = absurd cc
 
-judged : (words : Texts) (files : ToldFiles) (b a : ShelfCounts) (d s : List ℕ) (why : Stop) → AreHeld words files d s → ¬ Rose b.faults a.faults → IsStopped words files b a why → Judged d s why
-judged words files b a d s stop.Words held quiet stopped = stopped.0 held.description_name held.script_name held.words_are
+plan_file : (n name : List ℕ) (word : ℕ) → 0 < word → slice_get (plan_words n) word ≡ Some name → name ≡ n
+plan_file n name zero pos is = absurd (omega arith)
+plan_file n name (suc zero) pos is = sym (same_Some n name is)
+plan_file n name (suc (suc k)) pos is = absurd cc
+
+apart : (n m k : List ℕ) → run_words n m ≡ plan_words k → ⊥
+apart n m k e = cc
+
+judged : (words : Texts) (files : ToldFiles) (b a : ShelfCounts) (d s : List ℕ) (why : Stop) → AreHeld words files d s → ¬ Rose b.faults a.faults → IsStopped words files b a why → IsJudged d s why
+judged words files b a d s stop.Words held quiet stopped = stopped.0 (inl (held.description_name, held.script_name, held.words_are))
 judged words files b a d s (stop.NotRead word) held quiet stopped =
-    let e : run_words stopped.description_name stopped.script_name ≡ run_words held.description_name held.script_name = sym stopped.words_are ∙ held.words_are in
-    unread_by stopped.unread (description_once _ _ _ _ e) (script_once _ _ _ _ e)
+    by (run_file held.description_name held.script_name stopped.name word stopped.after_command (subst (λ ws. slice_get ws word ≡ Some stopped.name) held.words_are stopped.name_is))
   where
-    unread_by : {n m : List ℕ} → ((word ≡ 1) × IsUnread files n b a) ⊎ ((word ≡ 2) × IsUnread files m b a) → n ≡ held.description_name → m ≡ held.script_name → ⊥
-    unread_by {n} {m} (inl u) p q = readable files held.description_name d b a held.description_held quiet (subst (λ name. IsUnread files name b a) p u.1)
-    unread_by {n} {m} (inr u) p q = readable files held.script_name s b a held.script_held quiet (subst (λ name. IsUnread files name b a) q u.1)
-judged words files b a d s (stop.Refused refusal) held quiet stopped = let n = stopped.0 in
-    subst (λ t. IsRefusedBy t refusal) (same_files words files d s n.description_bytes n.script_bytes held n.names).0 n.refused
+    by : (stopped.name ≡ held.description_name) ⊎ (stopped.name ≡ held.script_name) → ⊥
+    by (inl e) = readable files held.description_name d b a held.description_held quiet (subst (λ name. IsUnread files name b a) e stopped.unread)
+    by (inr e) = readable files held.script_name s b a held.script_held quiet (subst (λ name. IsUnread files name b a) e stopped.unread)
+judged words files b a d s (stop.Refused refusal) held quiet (inl run, same) = let n = run.names in
+    subst (λ t. IsRefusedBy t refusal) (same_files words files d s run.description_bytes run.script_bytes held n).0 run.refused
+judged words files b a d s (stop.Refused refusal) held quiet (inr plan, same) = absurd (apart held.description_name held.script_name plan.names.name (sym held.words_are ∙ plan.names.words_are))
 judged words files b a d s (stop.Script line cause) held quiet stopped = let n = stopped.0 in let same = same_files words files d s n.description_bytes n.script_bytes held n.names in
     subst (λ t. HaveBadLine d t line cause) same.1 (subst (λ t. HaveBadLine t n.script_bytes line cause) same.0 n.bad)
 judged words files b a d s stop.Memory held quiet stopped = tt
+
+name_once : (n k : List ℕ) → plan_words n ≡ plan_words k → n ≡ k
+name_once n k e = cc
+
+same_file : (words : Texts) (files : ToldFiles) (d d' : List ℕ) → IsOneHeld words files d → NamesOne words files d' → d' ≡ d
+same_file words files d d' held names = let e : plan_words names.name ≡ plan_words held.name = sym names.words_are ∙ held.words_are in
+    held_once files held.name d d' held.held (subst (λ n. HeldWhereTold files n d') (name_once _ _ e) names.held)
+
+unplanned : (words : Texts) (files : ToldFiles) (b a : ShelfCounts) (d : List ℕ) (why : Stop) → IsOneHeld words files d → ¬ Rose b.faults a.faults → IsStopped words files b a why → IsNotPlanned d why
+unplanned words files b a d stop.Words held quiet stopped = stopped.0 (inr (held.name, held.words_are))
+unplanned words files b a d (stop.NotRead word) held quiet stopped =
+    let e = plan_file held.name stopped.name word stopped.after_command (subst (λ ws. slice_get ws word ≡ Some stopped.name) held.words_are stopped.name_is) in
+    readable files held.name d b a held.held quiet (subst (λ name. IsUnread files name b a) e stopped.unread)
+unplanned words files b a d (stop.Refused refusal) held quiet (inr plan, same) = subst (λ t. IsPlanRefusalOf t (Rule refusal)) (same_file words files d plan.description_bytes held plan.names) plan.refused
+unplanned words files b a d (stop.Refused refusal) held quiet (inl run, same) = let n = run.names in absurd (apart n.description_name n.script_name held.name (sym n.words_are ∙ held.words_are))
+unplanned words files b a d (stop.Script line cause) held quiet stopped = let n = stopped.0.names in apart n.description_name n.script_name held.name (sym n.words_are ∙ held.words_are)
+unplanned words files b a d stop.Memory held quiet stopped = tt
 
 -- ---- the answers
 
@@ -183,7 +251,7 @@ not_both : (d s : List ℕ) (line cause : ℕ) → HaveBadLine d s line cause �
 not_both d s line cause bad over = let good = over bad.found bad.described in
     let none : first_bad (plan_of bad.found.plan) [] (lines_of s) ≡ None = good.1.good in absurd cc
 
-refused_by_judging : (d s : List ℕ) (answer : Status) (why : Stop) → Judged d s why → AnswersOrMemory answer (stop_status why) → IsNoDescription d → AnswersOrMemory answer status.Refused
+refused_by_judging : (d s : List ℕ) (answer : Status) (why : Stop) → IsJudged d s why → AnswersOrMemory answer (stop_status why) → IsNoDescription d → AnswersOrMemory answer status.Refused
 refused_by_judging d s answer stop.Words j e none = absurd j
 refused_by_judging d s answer (stop.NotRead word) j e none = absurd j
 refused_by_judging d s answer (stop.Refused refusal) j e none = e
@@ -195,7 +263,7 @@ pub refused_comes : (words : Texts) (files : ToldFiles) (b a : ShelfCounts) (bef
 refused_comes words files b a before after f g answer why d s stopped says held none quiet =
     refused_by_judging d s answer why (judged words files b a d s why held quiet.shelf stopped) (said before after f g answer why says quiet.sink) none
 
-script_by_judging : (d s : List ℕ) (answer : Status) (why : Stop) → Judged d s why → AnswersOrMemory answer (stop_status why) → BreaksNoRule d → AnswersOrMemory answer status.Script
+script_by_judging : (d s : List ℕ) (answer : Status) (why : Stop) → IsJudged d s why → AnswersOrMemory answer (stop_status why) → BreaksNoRule d → AnswersOrMemory answer status.Script
 script_by_judging d s answer stop.Words j e keeps = absurd j
 script_by_judging d s answer (stop.NotRead word) j e keeps = absurd j
 script_by_judging d s answer (stop.Refused refusal) j e keeps = absurd (keeps refusal j)
@@ -207,7 +275,7 @@ pub script_comes : (words : Texts) (files : ToldFiles) (b a : ShelfCounts) (befo
 script_comes words files b a before after f g answer why d s stopped says held keeps quiet =
     script_by_judging d s answer why (judged words files b a d s why held quiet.shelf stopped) (said before after f g answer why says quiet.sink) keeps
 
-done_by_judging : (d s : List ℕ) (answer : Status) (why : Stop) → Judged d s why → AnswersOrMemory answer (stop_status why) → BreaksNoRule d → IsScriptOver d s → AnswersOrMemory answer status.Done
+done_by_judging : (d s : List ℕ) (answer : Status) (why : Stop) → IsJudged d s why → AnswersOrMemory answer (stop_status why) → BreaksNoRule d → IsScriptOver d s → AnswersOrMemory answer status.Done
 done_by_judging d s answer stop.Words j e keeps over = absurd j
 done_by_judging d s answer (stop.NotRead word) j e keeps over = absurd j
 done_by_judging d s answer (stop.Refused refusal) j e keeps over = absurd (keeps refusal j)
@@ -218,6 +286,58 @@ pub done_comes : (words : Texts) (files : ToldFiles) (b a : ShelfCounts) (before
     → IsStopped words files b a why → Says why answer before after f g → AreHeld words files d s → BreaksNoRule d → IsScriptOver d s → NoFault b.faults a.faults f g → AnswersOrMemory answer status.Done
 done_comes words files b a before after f g answer why d s stopped says held keeps over quiet =
     done_by_judging d s answer why (judged words files b a d s why held quiet.shelf stopped) (said before after f g answer why says quiet.sink) keeps over
+
+-- ---- the answers to `plan C`
+
+pub plan_refused_comes : (words : Texts) (files : ToldFiles) (b a : ShelfCounts) (before after : Option (List ℕ)) (f g : ℕ) (answer : Status) (why : Stop) (d : List ℕ)
+    → IsStopped words files b a why → Says why answer before after f g → IsOneHeld words files d → NoFault b.faults a.faults f g → AnswersOrMemory answer status.Refused
+plan_refused_comes words files b a before after f g answer why d stopped says held quiet = by why (unplanned words files b a d why held quiet.shelf stopped) (said before after f g answer why says quiet.sink)
+  where
+    by : (x : Stop) → IsNotPlanned d x → AnswersOrMemory answer (stop_status x) → AnswersOrMemory answer status.Refused
+    by (stop.Refused refusal) refused e = e
+    by stop.Memory refused e = for_memory answer status.Refused e
+    by (stop.Script line cause) refused e = absurd refused
+    by stop.Words refused e = absurd refused
+    by (stop.NotRead word) refused e = absurd refused
+
+pub plan_done_comes : (words : Texts) (files : ToldFiles) (b a : ShelfCounts) (before after : Option (List ℕ)) (f g : ℕ) (answer : Status) (why : Stop) (d : List ℕ)
+    → IsStopped words files b a why → Says why answer before after f g → IsOneHeld words files d → KeepsThirtyRules d → NoFault b.faults a.faults f g → AnswersOrMemory answer status.Done
+plan_done_comes words files b a before after f g answer why d stopped says held keeps quiet = by why (unplanned words files b a d why held quiet.shelf stopped) (said before after f g answer why says quiet.sink)
+  where
+    by : (x : Stop) → IsNotPlanned d x → AnswersOrMemory answer (stop_status x) → AnswersOrMemory answer status.Done
+    by (stop.Refused refusal) refused e = absurd (keeps refusal refused)
+    by stop.Memory refused e = for_memory answer status.Done e
+    by (stop.Script line cause) refused e = absurd refused
+    by stop.Words refused e = absurd refused
+    by (stop.NotRead word) refused e = absurd refused
+
+-- ---- the two commands together
+
+-- an answer without a run is none to the words `run C S`
+pub is_no_run : {P : Type 0} → (answer : Option Status) (status : Status) (words : Texts) (files : ToldFiles) (d s : List ℕ)
+    → (answer ≡ None) ↔ AskForRun words → answer ≡ Some status → AreHeld words files d s → P
+is_no_run answer status words files d s other is held = let none : answer ≡ None = other.1 (held.description_name, held.script_name, held.words_are) in absurd cc
+
+pub cut_of_run : {words : Texts} {files : ToldFiles} {b a : ShelfCounts} {before after : Option (List ℕ)} → CutsRefusal words files b a before after ⊎ CutsRun words files before after → CutsWhatIsPut words files b a before after
+cut_of_run (inl refusal) = inl (inl refusal)
+cut_of_run (inr run) = inr run
+
+-- words of the one form are not words of the other
+pub run_is_no_plan : (words : Texts) (files : ToldFiles) (d : List ℕ) → AskForRun words → IsOneHeld words files d → ⊥
+run_is_no_plan words files d run held = apart run.0 run.1 held.name (sym run.2 ∙ held.words_are)
+
+pub plan_is_a_form : (words : Texts) (files : ToldFiles) (found : PlannedDescription) → NamesPlanned words files found → IsForm words
+plan_is_a_form words files found n = inr (n.names.name, n.names.words_are)
+
+-- the answer to a plan that was put, where no put failed
+pub printed_quietly : (answer : Status) (f g : ℕ) → (answer ≡ status.Done) ⊎ ((answer ≡ status.NotWritten) ⊎ (answer ≡ status.Memory)) → (answer ≡ status.NotWritten → Rose f g) → ¬ Rose f g → AnswersOrMemory answer status.Done
+printed_quietly answer f g (inl done) fault quiet = inl done
+printed_quietly answer f g (inr (inl failed)) fault quiet = absurd (quiet (fault failed))
+printed_quietly answer f g (inr (inr memory)) fault quiet = inr memory
+
+-- where a description has a plan, it is not one without
+pub planned_again : (words : Texts) (files : ToldFiles) (d : List ℕ) (found : PlannedDescription) → NamesPlanned words files found → IsOneHeld words files d → HasNoPlan d → ⊥
+planned_again words files d found n held none = none found (subst (λ t. IsPlannedOf t found) (same_file words files d n.description_bytes held n.names) n.planned)
 
 -- ---- where a description and a script were read, neither is refused
 

@@ -18,6 +18,7 @@ ran are p m script n before after r = record {
   session = r.session;
   bytes = r.bytes;
   run = record { session = r.of_script; legal = are p m r.session r.legal };
+  quiet = r.quiet;
   spelled = r.spelled;
   put = r.put;
 }

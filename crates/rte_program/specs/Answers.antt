@@ -12,17 +12,28 @@ use Rattle.rte_program.specs.declared.stop.Stop.{Stop}
 use Rattle.rte_program.specs.declared.status.Status.{Status}
 use Rattle.rte_program.specs.declared.status.Status.TheVariants.{Memory}
 use Rattle.rte_program.specs.Stops.{stop_text, refusal_text, script_refusal_text}
-use Rattle.rte_program.specs.Inputs.{Texts, run_words, IsNoForm, NamesInputs, NamesRefused, NamesBadLine, NamesUnread, IsStopped}
+use Rattle.plan_text.specs.Lines.{plan_text}
+use Rattle.rte_program.specs.Inputs.{Texts, run_words, plan_words, AreFetched, IsNoForm, NamesInputs, NamesPlanned, NamesRefused, NamesBadLine, NamesUnread, IsStopped}
 use Rattle.rte_program.specs.Running.{PrintsRun, PrintsBeginning}
 
 -- ---- what each answer says
 
--- the headline: the words name a description and a script, and the bytes put spell a run of that script over its plan
+-- the headline: the words `run C S` name a description and a script, and the bytes put spell a run of that script over its plan
 pub record RunsWhatIsNamed (words : Texts) (files : ToldFiles) (before after : Option (List ℕ)) : Type 0 where
   pub found : PlannedDescription
   pub script : List Line
   pub named : NamesInputs words files found script
   pub printed : PrintsRun (plan_of found.plan) found.mapping script before after
+
+-- the words `plan C` name a description, and the bytes put are the text of its plan
+pub record PrintsPlan (words : Texts) (files : ToldFiles) (before after : Option (List ℕ)) : Type 0 where
+  pub found : PlannedDescription
+  pub named : NamesPlanned words files found
+  pub printed : AppendsWhereTold before after (plan_text found.description found.flat found.plan)
+
+-- what the words ask for was done
+abbrev pub DoesWhatIsNamed : Texts → ToldFiles → Option (List ℕ) → Option (List ℕ) → Type 0
+DoesWhatIsNamed words files before after = RunsWhatIsNamed words files before after ⊎ PrintsPlan words files before after
 
 -- the rule that is broken and its place
 pub record RefusesWhatIsNamed (words : Texts) (files : ToldFiles) (before after : Option (List ℕ)) : Type 0 where
@@ -39,12 +50,14 @@ pub record RefusesScript (words : Texts) (files : ToldFiles) (before after : Opt
   pub named : NamesBadLine words files line cause
   pub told : AppendsWhereTold before after (script_refusal_text line cause)
 
-pub record SaysUnread (words : Texts) (files : ToldFiles) (shelf_before shelf_after : ShelfCounts) (before after : Option (List ℕ)) : Type 0 where
+-- the number of the first word whose file was not read
+pub record SaysUnread (words : Texts) (files : ToldFiles) (shelf_before shelf_after : ShelfCounts) (fetches_before fetches_after : ℕ) (before after : Option (List ℕ)) : Type 0 where
   pub word : ℕ
   pub named : NamesUnread words files shelf_before shelf_after word
+  pub first : AreFetched files fetches_before fetches_after word
   pub told : AppendsWhereTold before after (codes "not read " ++ decimal word ++ codes "\n")
 
--- the text of a refusal was cut, or that of a run
+-- the text of a refusal was cut, that of a run, or that of a plan
 pub record CutsRefusal (words : Texts) (files : ToldFiles) (shelf_before shelf_after : ShelfCounts) (before after : Option (List ℕ)) : Type 0 where
   pub why : Stop
   pub stopped : IsStopped words files shelf_before shelf_after why
@@ -56,8 +69,16 @@ pub record CutsRun (words : Texts) (files : ToldFiles) (before after : Option (L
   pub named : NamesInputs words files found script
   pub printed : PrintsBeginning (plan_of found.plan) found.mapping script before after
 
+pub record CutsPlan (words : Texts) (files : ToldFiles) (before after : Option (List ℕ)) : Type 0 where
+  pub found : PlannedDescription
+  pub named : NamesPlanned words files found
+  pub printed : AppendsPrefixWhereTold before after (plan_text found.description found.flat found.plan)
+
+abbrev pub CutsRefusalOrPlan : Texts → ToldFiles → ShelfCounts → ShelfCounts → Option (List ℕ) → Option (List ℕ) → Type 0
+CutsRefusalOrPlan words files shelf_before shelf_after before after = CutsRefusal words files shelf_before shelf_after before after ⊎ CutsPlan words files before after
+
 abbrev pub CutsWhatIsPut : Texts → ToldFiles → ShelfCounts → ShelfCounts → Option (List ℕ) → Option (List ℕ) → Type 0
-CutsWhatIsPut words files shelf_before shelf_after before after = CutsRefusal words files shelf_before shelf_after before after ⊎ CutsRun words files before after
+CutsWhatIsPut words files shelf_before shelf_after before after = CutsRefusalOrPlan words files shelf_before shelf_after before after ⊎ CutsRun words files before after
 
 -- for want of memory nothing was put, or a run was cut
 abbrev pub EndsForMemory : Texts → ToldFiles → Option (List ℕ) → Option (List ℕ) → Type 0
@@ -72,13 +93,19 @@ pub record IsHeld (files : ToldFiles) (name bytes : List ℕ) : Type 0 where
   pub bytes_are : held name ≡ Some bytes
   pub within_limit : length bytes ≤ FILE_LIMIT
 
--- the words name two files that are held
+-- the words `run C S` name two files that are held
 pub record AreHeld (words : Texts) (files : ToldFiles) (description script : List ℕ) : Type 0 where
   pub description_name : List ℕ
   pub script_name : List ℕ
   pub words_are : words ≡ run_words description_name script_name
   pub description_held : IsHeld files description_name description
   pub script_held : IsHeld files script_name script
+
+-- the words `plan C` name a file that is held
+pub record IsOneHeld (words : Texts) (files : ToldFiles) (description : List ℕ) : Type 0 where
+  pub name : List ℕ
+  pub words_are : words ≡ plan_words name
+  pub held : IsHeld files name description
 
 -- no fetch and no put failed
 pub record NoFault (shelf_before shelf_after sink_before sink_after : ℕ) : Type 0 where

@@ -1,6 +1,6 @@
 -- What the words of a command name, and what the files that they name hold.
-use Rattle.std.specs.Prelude.{◌≡◌, ℕ, List, [], ◌∷◌, codes, true, false, Some, ◌⊎◌}
-use Rattle.rte_text.specs.Counts.{Rose}
+use Rattle.std.specs.Prelude.{◌≡◌, ℕ, ◌+◌, ◌<◌, ◌^◌, List, [], ◌∷◌, codes, true, false, slice_get, Some, OnSome, ◌⊎◌}
+use Rattle.rte_text.specs.Counts.{Rose, last_count}
 use Rattle.rte_text.specs.Shelves.{ToldFiles, HeldWhereTold, LongWhereTold, ShelfCounts}
 use Rattle.rte_text.specs.declared.refusal.Refusal.{Refusal}
 use Rattle.rte_text.specs.declared.refusal.Refused.TheVariants.{Rule}
@@ -17,23 +17,43 @@ use Rattle.rte_program.specs.declared.stop.Stop.TheVariants as stop
 abbrev pub Texts : Type 0
 Texts = List (List ℕ)
 
+-- ---- the forms of words
+
 -- the words `run C S`
 abbrev pub run_words : (description : List ℕ) → (script : List ℕ) → Texts
 run_words description script = codes "run" ∷ description ∷ script ∷ []
 
+abbrev pub AskForRun : Texts → Type 0
+AskForRun words = (description : List ℕ) × (script : List ℕ) × (words ≡ run_words description script)
+
+-- the words `plan C`
+abbrev pub plan_words : (description : List ℕ) → Texts
+plan_words description = codes "plan" ∷ description ∷ []
+
+abbrev pub AskForPlan : Texts → Type 0
+AskForPlan words = (description : List ℕ) × (words ≡ plan_words description)
+
 abbrev pub IsForm : Texts → Type 0
-IsForm words = (description : List ℕ) × (script : List ℕ) × (words ≡ run_words description script)
+IsForm words = AskForRun words ⊎ AskForPlan words
 
 abbrev pub IsNoForm : Texts → Type 0
-IsNoForm words = (description script : List ℕ) → words ≡ run_words description script → ⊥
+IsNoForm words = ¬ IsForm words
 
--- these are the bytes of the two files that the words name, where the shelf tells its files
+-- ---- the files that words name
+
+-- these are the bytes of the two files that the words `run C S` name, where the shelf tells its files
 pub record Names (words : Texts) (files : ToldFiles) (description script : List ℕ) : Type 0 where
   pub description_name : List ℕ
   pub script_name : List ℕ
   pub words_are : words ≡ run_words description_name script_name
   pub description_held : HeldWhereTold files description_name description
   pub script_held : HeldWhereTold files script_name script
+
+-- these are the bytes of the file that the words `plan C` name, where the shelf tells its files
+pub record NamesOne (words : Texts) (files : ToldFiles) (description : List ℕ) : Type 0 where
+  pub name : List ℕ
+  pub words_are : words ≡ plan_words name
+  pub held : HeldWhereTold files name description
 
 -- ---- what a file of a description is
 
@@ -58,6 +78,13 @@ IsRefusedBy bytes r = IsPlanRefusalOf bytes (Rule r) ⊎ ((r.rule ≡ 0) × (r.p
 -- no refusal is right
 abbrev pub BreaksNoRule : List ℕ → Type 0
 BreaksNoRule bytes = (r : Refusal) → ¬ IsRefusedBy bytes r
+
+-- the same of rules 1 to 30 alone: nothing has a plan of these bytes, or no refusal is right
+abbrev pub HasNoPlan : List ℕ → Type 0
+HasNoPlan bytes = (found : PlannedDescription) → ¬ IsPlannedOf bytes found
+
+abbrev pub KeepsThirtyRules : List ℕ → Type 0
+KeepsThirtyRules bytes = (r : Refusal) → ¬ IsPlanRefusalOf bytes (Rule r)
 
 -- ---- what two files are
 
@@ -87,6 +114,14 @@ IsNotTaken d (stop.Script line cause) = ⊥
 IsNotTaken d stop.Words = ⊥
 IsNotTaken d (stop.NotRead word) = ⊥
 
+-- why the bytes of a description have no plan
+abbrev pub IsNotPlanned : (description_bytes : List ℕ) → Stop → Type 0
+IsNotPlanned d (stop.Refused refusal) = IsPlanRefusalOf d (Rule refusal)
+IsNotPlanned d stop.Memory = Unit {0}
+IsNotPlanned d (stop.Script line cause) = ⊥
+IsNotPlanned d stop.Words = ⊥
+IsNotPlanned d (stop.NotRead word) = ⊥
+
 -- why the bytes of the two files are not run: the description first
 abbrev pub IsJudged : (description_bytes : List ℕ) → (script_bytes : List ℕ) → Stop → Type 0
 IsJudged d s (stop.Refused refusal) = IsRefusedBy d refusal
@@ -103,11 +138,25 @@ pub record NamesInputs (words : Texts) (files : ToldFiles) (found : PlannedDescr
   pub names : Names words files description_bytes script_bytes
   pub inputs : AreInputs description_bytes script_bytes found script
 
-pub record NamesRefused (words : Texts) (files : ToldFiles) (refusal : Refusal) : Type 0 where
+pub record NamesPlanned (words : Texts) (files : ToldFiles) (found : PlannedDescription) : Type 0 where
+  pub description_bytes : List ℕ
+  pub names : NamesOne words files description_bytes
+  pub planned : IsPlannedOf description_bytes found
+
+-- of `run C S` by rules 0 to 30, of `plan C` by rules 1 to 30
+pub record RunRefused (words : Texts) (files : ToldFiles) (refusal : Refusal) : Type 0 where
   pub description_bytes : List ℕ
   pub script_bytes : List ℕ
   pub names : Names words files description_bytes script_bytes
   pub refused : IsRefusedBy description_bytes refusal
+
+pub record PlanRefused (words : Texts) (files : ToldFiles) (refusal : Refusal) : Type 0 where
+  pub description_bytes : List ℕ
+  pub names : NamesOne words files description_bytes
+  pub refused : IsPlanRefusalOf description_bytes (Rule refusal)
+
+abbrev pub NamesRefused : Texts → ToldFiles → Refusal → Type 0
+NamesRefused words files refusal = RunRefused words files refusal ⊎ PlanRefused words files refusal
 
 pub record NamesBadLine (words : Texts) (files : ToldFiles) (line cause : ℕ) : Type 0 where
   pub description_bytes : List ℕ
@@ -123,14 +172,24 @@ counts_of faults long_files = record { faults = faults; long_files = long_files 
 abbrev pub IsUnread : ToldFiles → (name : List ℕ) → ShelfCounts → ShelfCounts → Type 0
 IsUnread files name before after = Rose before.faults after.faults ⊎ (Rose before.long_files after.long_files × LongWhereTold files name)
 
--- the file that the word of this number names was not read
+-- the file that the word of this number names was not read; the command is word 0
 pub record NamesUnread (words : Texts) (files : ToldFiles) (before after : ShelfCounts) (word : ℕ) : Type 0 where
-  pub description_name : List ℕ
-  pub script_name : List ℕ
-  pub words_are : words ≡ run_words description_name script_name
-  pub unread : ((word ≡ 1) × IsUnread files description_name before after) ⊎ ((word ≡ 2) × IsUnread files script_name before after)
+  pub name : List ℕ
+  pub is_form : IsForm words
+  pub after_command : 0 < word
+  pub name_is : slice_get words word ≡ Some name
+  pub unread : IsUnread files name before after
 
--- why nothing is run
+-- one fetch more
+abbrev pub IsFetched : ToldFiles → (before : ℕ) → (after : ℕ) → Type 0
+IsFetched files before after = OnSome files (before < last_count → after ≡ before + 1)
+
+-- Where the files are told, so many fetches were made. Since files are fetched in the order of the words up to the first that cannot be
+-- read, this is the number of its word.
+abbrev pub AreFetched : ToldFiles → (before : ℕ) → (after : ℕ) → (fetched : ℕ) → Type 0
+AreFetched files before after fetched = OnSome files (before < 2 ^ 63 → after ≡ before + fetched)
+
+-- why nothing is carried out
 abbrev pub IsStopped : Texts → ToldFiles → ShelfCounts → ShelfCounts → Stop → Type 0
 IsStopped words files before after stop.Words = IsNoForm words × (after ≡ before)
 IsStopped words files before after (stop.NotRead word) = NamesUnread words files before after word
@@ -145,3 +204,11 @@ IsFetchStopped files name word before after stop.Memory = after ≡ before
 IsFetchStopped files name word before after stop.Words = ⊥
 IsFetchStopped files name word before after (stop.Refused refusal) = ⊥
 IsFetchStopped files name word before after (stop.Script line cause) = ⊥
+
+-- the number of a word that is told is that of the fetches
+abbrev pub IsNumbered : ToldFiles → (before : ℕ) → (after : ℕ) → Stop → Type 0
+IsNumbered files before after (stop.NotRead word) = AreFetched files before after word
+IsNumbered files before after stop.Words = Unit {0}
+IsNumbered files before after (stop.Refused refusal) = Unit {0}
+IsNumbered files before after (stop.Script line cause) = Unit {0}
+IsNumbered files before after stop.Memory = Unit {0}

@@ -1,13 +1,17 @@
 //! What the program does: the top call, which carries out a command over any files and any output.
 #![tactic(auto)]
 
+mod plan;
 mod prepare;
+mod quiet;
 mod report;
 mod run;
+mod run_named;
 mod status;
 mod stop;
 mod top;
 
+pub use quiet::rte_quiet;
 pub use run::WRITTEN_VERSION;
 pub use status::Status;
 pub use top::rte_top;

@@ -1,9 +1,9 @@
 //! What is read before a run: the words, the two files, the description and the script.
 
-ghost use Rattle.std.specs.Prelude.{◌≡◌, ◌≤◌, ℕ, List, map, string_bytes, length, codes, IfOk, IfErr, OnOk, IfSome, IfNone};
+ghost use Rattle.std.specs.Prelude.{◌≡◌, ◌≤◌, map, string_bytes, length, IfOk, IfErr, OnOk, IfSome, IfNone};
 ghost use Rattle.rte_text.specs.declared.shelf.TheConstants.{FILE_LIMIT};
 ghost use Rattle.rte_text.specs.Shelves.{HeldWhereTold};
-ghost use Rattle.rte_program.specs.Inputs.{counts_of, run_words, AreInputs, IsJudged, IsTaken, IsNotTaken, NamesInputs, IsStopped, IsFetchStopped, IsNoForm};
+ghost use Rattle.rte_program.specs.Inputs.{counts_of, run_words, AreInputs, AskForRun, IsFetched, IsFetchStopped, IsJudged, IsNotTaken, IsNumbered, IsStopped, IsTaken, NamesInputs};
 ghost use Rattle.rte_program.specs.Stops.{IsShort, stop_of};
 
 use crate::stop::Stop;
@@ -22,9 +22,9 @@ pub struct Prepared {
 }
 
 /// The names of the description and of the script in the words `run C S`.
-fn names_in(words: &[String]) -> Option<(&str, &str)>
+pub fn names_in(words: &[String]) -> Option<(&str, &str)>
     ensures named { IfSome result (λ names. map string_bytes words.now ≡ run_words names.0.now names.1.now) }
-    ensures no_form { IfNone result (IsNoForm (map string_bytes words.now)) }
+    ensures no_form { IfNone result (¬ AskForRun (map string_bytes words.now)) }
 {
     let [command, description, script] = words else {
         return None;
@@ -37,8 +37,14 @@ fn names_in(words: &[String]) -> Option<(&str, &str)>
 }
 
 /// The bytes of the file that a word names.
-fn fetch_word<S: Shelf>(alloc: Global, shelf: &mut S, name: &str, word: u8) -> Result<Vec<u8>, Stop>
+pub fn fetch_word<S: Shelf>(
+    alloc: Global,
+    shelf: &mut S,
+    name: &str,
+    word: u8,
+) -> Result<Vec<u8>, Stop>
     ensures files_stay { S.files shelf.new ≡ S.files shelf.old }
+    ensures fetched { IsFetched (S.files shelf.old) (S.fetches shelf.old) (S.fetches shelf.new) }
     ensures held { IfOk result (λ bytes. HeldWhereTold (S.files shelf.old) name.now bytes.items) }
     ensures within_limit { IfOk result (λ bytes. length bytes.items ≤ FILE_LIMIT) }
     ensures counts { OnOk result ((S.faults shelf.new ≡ S.faults shelf.old) × (S.long_files shelf.new ≡ S.long_files shelf.old)) }
@@ -54,7 +60,8 @@ fn fetch_word<S: Shelf>(alloc: Global, shelf: &mut S, name: &str, word: u8) -> R
     }
 }
 
-fn stop_of(refused: Refused) -> Stop
+/// Why nothing is carried out if a description is refused.
+pub fn stop_of(refused: Refused) -> Stop
     ensures { result ≡ stop_of refused }
 {
     match refused {
@@ -97,16 +104,18 @@ fn judge(alloc: Global, description: &[u8], script: &[u8]) -> Result<Prepared, S
     }
 }
 
-/// Reads what the words name: the description's file, the script's file, the description, the script.
+/// Reads what the words `run C S` name: the description's file, the script's file, the description, the script.
 ///
 /// Ends with the first of these that cannot be had.
 pub fn prepare<S: Shelf>(alloc: Global, words: &[String], shelf: &mut S) -> Result<Prepared, Stop>
+    requires { AskForRun (map string_bytes words.now) }
     ensures files_stay { S.files shelf.new ≡ S.files shelf.old }
     ensures ready { IfOk result (λ x. NamesInputs (map string_bytes words.now) (S.files shelf.old) x.found x.script.lines) }
     ensures counts { OnOk result ((S.faults shelf.new ≡ S.faults shelf.old) × (S.long_files shelf.new ≡ S.long_files shelf.old)) }
     ensures stopped { IfErr result (IsStopped (map string_bytes words.now) (S.files shelf.old)
         (counts_of (S.faults shelf.old) (S.long_files shelf.old))
         (counts_of (S.faults shelf.new) (S.long_files shelf.new))) }
+    ensures numbered { IfErr result (IsNumbered (S.files shelf.old) (S.fetches shelf.old) (S.fetches shelf.new)) }
     ensures short { IfErr result IsShort }
 {
     let Some((description_name, script_name)) = names_in(words) else {

@@ -1,4 +1,4 @@
-//! What is said where nothing is run.
+//! What is said where nothing is carried out.
 
 ghost use Rattle.std.specs.Prelude.{◌≡◌, [], IfOk};
 ghost use Rattle.rte_program.specs.declared.stop.Stop.TheVariants as stop;
@@ -47,7 +47,7 @@ fn write_unread(word: u8, line: &mut LineBuf)
 }
 
 /// The status after the put of a text whose status is this one.
-fn status_after(put: Put, status: Status) -> Status
+pub fn status_after(put: Put, status: Status) -> Status
     ensures { result ≡ answer_after put status }
 {
     match put {

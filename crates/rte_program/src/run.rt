@@ -1,15 +1,17 @@
 //! Running a script on a new node.
 
-ghost use Rattle.std.specs.Prelude.{◌≡◌, ◌≢◌, ◌⊎◌, ℕ, List};
+ghost use Rattle.std.specs.Prelude.{◌≡◌, ◌≢◌, ◌⊎◌, ℕ, List, [], IfOk};
 ghost use Rattle.rte_text.specs.Counts.{Rose};
 ghost use Rattle.bus_semantics.specs.Plan.{plan_of};
-ghost use Rattle.rte_program.specs.Inputs.{AreInputs};
+ghost use Rattle.core_runtime.specs.Nodes.{IsLawfulNode};
+ghost use Rattle.rte_program.specs.Inputs.{AreInputs, IsTaken};
 ghost use Rattle.rte_program.specs.Running.{PrintsBeginning, PrintsRun};
 
 use crate::prepare::Prepared;
 use crate::status::Status;
 use bus_semantics::Version;
 use core_runtime::Node;
+use description_stages::PlannedDescription;
 use rte_text::{Gate, Sink};
 use script_reading::scripts_are_carriable;
 use script_run::{ScriptRun, run_script, runs_from_nothing_are_runs};
@@ -20,6 +22,20 @@ use task_generator::generate;
 
 /// The version of the trace that a run writes.
 pub const WRITTEN_VERSION: Version = Version::One;
+
+/// A node of the plan to which nothing has happened, with the bodies of the plan's programs. The only error is that there is no memory.
+fn new_node(alloc: Global, found: PlannedDescription) -> Result<Node, AllocError>
+    requires taken { (d : List ℕ) × IsTaken d found }
+    ensures plan { IfOk result (λ n. n.plan ≡ found.plan) }
+    ensures mapping { IfOk result (λ n. n.mapping ≡ found.mapping) }
+    ensures lawful { IfOk result (λ n. IsLawfulNode n []) }
+{
+    plans_of_the_stage_are_plain();
+    match generate(alloc, &found.plan, &found.mapping) {
+        Ok(bodies) => Node::new(alloc, found.plan, found.mapping, bodies),
+        Err(memory) => Err(memory),
+    }
+}
 
 /// Runs the script on a new node of the plan, and puts the trace. Want of memory may come before the first line is put or within a
 /// run line.
@@ -42,15 +58,9 @@ pub fn run_prepared<R: Threads + Sync, K: Sink, G: Gate>(
     ensures no_fault { result ≢ Status.NotWritten → K.faults out.new ≡ K.faults out.old }
 {
     scripts_are_carriable();
-    plans_of_the_stage_are_plain();
     runs_from_nothing_are_runs();
     let script = prepared.script;
-    let found = prepared.found;
-    let bodies = match generate(alloc, &found.plan, &found.mapping) {
-        Ok(bodies) => bodies,
-        Err(_) => return Status::Memory,
-    };
-    let mut node = match Node::new(alloc, found.plan, found.mapping, bodies) {
+    let mut node = match new_node(alloc, prepared.found) {
         Ok(node) => node,
         Err(_) => return Status::Memory,
     };

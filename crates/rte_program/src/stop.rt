@@ -1,8 +1,8 @@
-//! Why nothing is run, and what is said of it.
+//! Why nothing is carried out, and what is said of it.
 
 use rte_text::Refusal;
 
-/// Why nothing is run.
+/// Why nothing is carried out.
 #[derive(Drop)]
 pub enum Stop {
     /// The words are no command.

@@ -2,23 +2,22 @@
 
 ghost use Rattle.std.specs.Prelude.{◌≡◌, ◌≢◌, ◌⊎◌, ℕ, List, map, string_bytes};
 ghost use Rattle.rte_text.specs.Counts.{Rose};
-ghost use Rattle.rte_program.specs.Inputs.{counts_of, IsNoForm, IsNoDescription, BreaksNoRule, IsScriptOver, IsNoScriptOver};
-ghost use Rattle.rte_program.specs.Answers.{RunsWhatIsNamed, RefusesWhatIsNamed, RefusesWords, RefusesScript, SaysUnread, CutsWhatIsPut, EndsForMemory, AreHeld, NoFault, AnswersOrMemory};
+ghost use Rattle.rte_program.specs.Inputs.{counts_of, HasNoPlan, IsNoForm, IsNoDescription, BreaksNoRule, IsScriptOver, IsNoScriptOver, KeepsThirtyRules};
+ghost use Rattle.rte_program.specs.Answers.{DoesWhatIsNamed, RefusesWhatIsNamed, RefusesWords, RefusesScript, SaysUnread, CutsWhatIsPut, EndsForMemory, AreHeld, IsOneHeld, NoFault, AnswersOrMemory};
 
-use crate::prepare::prepare;
-use crate::report::report;
-use crate::run::run_prepared;
+use crate::quiet::rte_quiet;
+use crate::run_named::run_named;
 use crate::status::Status;
 use rte_text::{Gate, Shelf, Sink};
 use std::alloc::Global;
 use std::sync::Wait;
 use std::thread::Threads;
 
-/// Carries out the command that the words give: `run C S` reads the description C and the script S from the shelf,
-/// runs the script on the bus of the description, and puts the trace.
+/// Carries out the command that the words give. `run C S` reads the description C and the script S from the shelf,
+/// runs the script on the bus of the description, and puts the trace. `plan C` reads the description C and puts its plan.
 ///
-/// Refusals come in this order: the words, the files in the order of the words, the description, by rules 1 to 30 and then
-/// by rule 0, the script. Before the run nothing is put but a refusal's text. Each line is one put.
+/// Refusals come in this order: the words, the files in the order of the words, the description, by rules 1 to 30 and then,
+/// if it is to be run, by rule 0, the script. Before the run nothing is put but a refusal's text. Each line is one put.
 pub fn rte_top<R: Threads + Wait + Sync, S: Shelf, K: Sink, G: Gate>(
     rt: &R,
     alloc: Global,
@@ -29,7 +28,7 @@ pub fn rte_top<R: Threads + Wait + Sync, S: Shelf, K: Sink, G: Gate>(
 ) -> Status
     // The headline.
     ensures done { result ≡ Status.Done
-        → RunsWhatIsNamed (map string_bytes words.now) (S.files shelf.old) (K.told out.old) (K.told out.new) }
+        → DoesWhatIsNamed (map string_bytes words.now) (S.files shelf.old) (K.told out.old) (K.told out.new) }
 
     // What each other answer says.
     ensures refused { result ≡ Status.Refused
@@ -39,7 +38,7 @@ pub fn rte_top<R: Threads + Wait + Sync, S: Shelf, K: Sink, G: Gate>(
         → RefusesScript (map string_bytes words.now) (S.files shelf.old) (K.told out.old) (K.told out.new) }
     ensures not_read { result ≡ Status.NotRead
         → SaysUnread (map string_bytes words.now) (S.files shelf.old) (counts_of (S.faults shelf.old) (S.long_files shelf.old))
-        (counts_of (S.faults shelf.new) (S.long_files shelf.new)) (K.told out.old) (K.told out.new) }
+        (counts_of (S.faults shelf.new) (S.long_files shelf.new)) (S.fetches shelf.old) (S.fetches shelf.new) (K.told out.old) (K.told out.new) }
     ensures not_written { result ≡ Status.NotWritten → Rose (K.faults out.old) (K.faults out.new) }
     ensures cut { result ≡ Status.NotWritten
         → CutsWhatIsPut (map string_bytes words.now) (S.files shelf.old) (counts_of (S.faults shelf.old) (S.long_files shelf.old))
@@ -62,9 +61,13 @@ pub fn rte_top<R: Threads + Wait + Sync, S: Shelf, K: Sink, G: Gate>(
         → NoFault (S.faults shelf.old) (S.faults shelf.new) (K.faults out.old) (K.faults out.new) → AnswersOrMemory result Status.Script }
     ensures complete { (d s : List ℕ) → AreHeld (map string_bytes words.now) (S.files shelf.old) d s → BreaksNoRule d → IsScriptOver d s
         → NoFault (S.faults shelf.old) (S.faults shelf.new) (K.faults out.old) (K.faults out.new) → AnswersOrMemory result Status.Done }
+    ensures plan_refused { (d : List ℕ) → IsOneHeld (map string_bytes words.now) (S.files shelf.old) d → HasNoPlan d
+        → NoFault (S.faults shelf.old) (S.faults shelf.new) (K.faults out.old) (K.faults out.new) → AnswersOrMemory result Status.Refused }
+    ensures plan_complete { (d : List ℕ) → IsOneHeld (map string_bytes words.now) (S.files shelf.old) d → KeepsThirtyRules d
+        → NoFault (S.faults shelf.old) (S.faults shelf.new) (K.faults out.old) (K.faults out.new) → AnswersOrMemory result Status.Done }
 {
-    match prepare(alloc, words, shelf) {
-        Ok(prepared) => run_prepared(rt, alloc, prepared, out, gate),
-        Err(stop) => report(alloc, &stop, out),
+    match rte_quiet(alloc, words, shelf, out) {
+        Some(status) => status,
+        None => run_named(rt, alloc, words, shelf, out, gate),
     }
 }

@@ -17,6 +17,9 @@ returns-clause-stopped g c =
     let same : after ≡ before = search rules in
     by.judge_stopped words files before after d s names same c.judge.result c.judge.ensures.stopped
 
+pub returns-clause-numbered : goal.returns-clause-numbered
+returns-clause-numbered g c = by.judge_numbered c.as_slice.result.now c.as_slice-2.result.now _ _ _ c.judge.result c.judge.ensures.stopped
+
 pub returns-clause-short : goal.returns-clause-short
 returns-clause-short g c = let s = c.as_slice-2.result.now in let fits : length s ≤ FILE_LIMIT = search rules in
     by.judge_short c.as_slice.result.now s fits c.judge.result c.judge.ensures.stopped

@@ -1,46 +1,45 @@
-use Rattle.std.proofs.Common.{[], refl, inr, subst}
+use Rattle.std.proofs.Common.{[], refl, sym, inr, subst}
+use Rattle.std.specs.List.{All}
 use Rattle.bus_semantics.specs.declared.plan.BusPlan.{BusPlan}
 use Rattle.bus_semantics.specs.declared.script.Mapping.{Mapping}
 use Rattle.bus_semantics.specs.Plan.{plan_of}
+use Rattle.script_reading.specs.Carried.{IsCarriable}
 use Rattle.rte_program.specs.Running.{PrintsBeginning, PrintsRun}
 use Rattle.rte_program.proofs.Ran as by
 use Rattle.rte_program.proofs.run.run_prepared.Goals as goal
 
-pub new-requires-clause-built : goal.new-requires-clause-built
-new-requires-clause-built g c =
-    let found = c.args.prepared.found in
-    let described = c.requires.ready.2.described in
-    record {
-      sound = described.planned.is_sound;
-      plain = c.plans_of_the_stage_are_plain.ensures found.description found.flat found.plan found.mapping described.in_stage described.planned.is_whole;
-    }
+pub run_script-requires-clause-fits : goal.run_script-requires-clause-fits
+run_script-requires-clause-fits g c = λ κs lives.
+    let lines = c.args.prepared.script.lines in
+    subst (λ (p : BusPlan). All (IsCarriable (plan_of p)) lines) (sym c.in-Ok.ensures.plan)
+    (c.scripts_are_carriable.ensures (plan_of c.args.prepared.found.plan) c.requires.ready.1 lines c.requires.ready.2.scripted)
 
 pub returns-in-Finished-clause-done : goal.returns-in-Finished-clause-done
 returns-in-Finished-clause-done g c = λ is.
     let lines = c.args.prepared.script.lines in
     let told = g.K.Sink.told in
-    let n = c.in-Ok-new.node in
+    let n = c.in-Ok.node in
     let ran = by.ran c.runs_from_nothing_are_runs.ensures (plan_of n.plan) n.mapping lines c.run_script.new.n (told c.args.out.now) (told c.run_script.new.out)
-    (c.in-Finished.ensures.finished refl [] c.in-Ok-new.ensures.lawful) in
-    subst (λ (p : BusPlan). PrintsRun (plan_of p) c.args.prepared.found.mapping lines (told c.args.out.now) (told c.run_script.new.out)) c.in-Ok-new.ensures.plan
-    (subst (λ (m : Mapping). PrintsRun (plan_of n.plan) m lines (told c.args.out.now) (told c.run_script.new.out)) c.in-Ok-new.ensures.mapping ran)
+    (c.in-Finished.ensures.finished refl [] c.in-Ok.ensures.lawful) in
+    subst (λ (p : BusPlan). PrintsRun (plan_of p) c.args.prepared.found.mapping lines (told c.args.out.now) (told c.run_script.new.out)) c.in-Ok.ensures.plan
+    (subst (λ (m : Mapping). PrintsRun (plan_of n.plan) m lines (told c.args.out.now) (told c.run_script.new.out)) c.in-Ok.ensures.mapping ran)
 
 pub returns-in-Failed-clause-cut : goal.returns-in-Failed-clause-cut
 returns-in-Failed-clause-cut g c = λ is.
     let lines = c.args.prepared.script.lines in
     let told = g.K.Sink.told in
-    let n = c.in-Ok-new.node in
+    let n = c.in-Ok.node in
     let began = by.began c.runs_from_nothing_are_runs.ensures (plan_of n.plan) n.mapping lines (told c.args.out.now) (told c.run_script.new.out)
-    (c.in-Failed.ensures.cut (λ e. absurd cc) [] c.in-Ok-new.ensures.lawful) in
-    subst (λ (p : BusPlan). PrintsBeginning (plan_of p) c.args.prepared.found.mapping lines (told c.args.out.now) (told c.run_script.new.out)) c.in-Ok-new.ensures.plan
-    (subst (λ (m : Mapping). PrintsBeginning (plan_of n.plan) m lines (told c.args.out.now) (told c.run_script.new.out)) c.in-Ok-new.ensures.mapping began)
+    (c.in-Failed.ensures.cut (λ e. absurd cc) [] c.in-Ok.ensures.lawful) in
+    subst (λ (p : BusPlan). PrintsBeginning (plan_of p) c.args.prepared.found.mapping lines (told c.args.out.now) (told c.run_script.new.out)) c.in-Ok.ensures.plan
+    (subst (λ (m : Mapping). PrintsBeginning (plan_of n.plan) m lines (told c.args.out.now) (told c.run_script.new.out)) c.in-Ok.ensures.mapping began)
 
 pub returns-clause-memory : goal.returns-clause-memory
 returns-clause-memory g c = λ is.
     let lines = c.args.prepared.script.lines in
     let told = g.K.Sink.told in
-    let n = c.in-Ok-new.node in
+    let n = c.in-Ok.node in
     let began = by.began c.runs_from_nothing_are_runs.ensures (plan_of n.plan) n.mapping lines (told c.args.out.now) (told c.run_script.new.out)
-    (c.in-Memory.ensures.cut (λ e. absurd cc) [] c.in-Ok-new.ensures.lawful) in
-    inr (subst (λ (p : BusPlan). PrintsBeginning (plan_of p) c.args.prepared.found.mapping lines (told c.args.out.now) (told c.run_script.new.out)) c.in-Ok-new.ensures.plan
-    (subst (λ (m : Mapping). PrintsBeginning (plan_of n.plan) m lines (told c.args.out.now) (told c.run_script.new.out)) c.in-Ok-new.ensures.mapping began))
+    (c.in-Memory.ensures.cut (λ e. absurd cc) [] c.in-Ok.ensures.lawful) in
+    inr (subst (λ (p : BusPlan). PrintsBeginning (plan_of p) c.args.prepared.found.mapping lines (told c.args.out.now) (told c.run_script.new.out)) c.in-Ok.ensures.plan
+    (subst (λ (m : Mapping). PrintsBeginning (plan_of n.plan) m lines (told c.args.out.now) (told c.run_script.new.out)) c.in-Ok.ensures.mapping began))

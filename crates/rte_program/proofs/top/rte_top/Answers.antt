@@ -2,40 +2,77 @@ use Rattle.std.proofs.Common.{inl, inr}
 use Rattle.rte_program.proofs.Answering as by
 use Rattle.rte_program.proofs.top.rte_top.Goals as goal
 
-pub returns-in-Err-clause-refused : goal.returns-in-Err-clause-refused
-returns-in-Err-clause-refused g c = by.refusal_said _ _ _ _ _ _ _ _ c.report.result c.in-Err.stop c.in-Err.ensures.stopped c.report.ensures
+pub run_named-requires-clause-asked : goal.run_named-requires-clause-asked
+run_named-requires-clause-asked g c = λ κs lives. c.rte_quiet.ensures.other.0 c.in-None.is
 
-pub returns-in-Ok-clause-always_refused : goal.returns-in-Ok-clause-always_refused
-returns-in-Ok-clause-always_refused g c = λ d s held none quiet.
-    absurd (by.described_again _ _ d s _ _ c.in-Ok.ensures.ready held none)
+pub returns-in-Some-clause-done : goal.returns-in-Some-clause-done
+returns-in-Some-clause-done g c = λ is. inr (c.in-Some.ensures.done is)
 
-pub returns-in-Ok-clause-always_script : goal.returns-in-Ok-clause-always_script
-returns-in-Ok-clause-always_script g c = λ d s held keeps none quiet.
-    absurd (by.scripted_again _ _ d s _ _ c.in-Ok.ensures.ready held none)
+pub returns-in-Some-clause-script : goal.returns-in-Some-clause-script
+returns-in-Some-clause-script g c = λ is. absurd (c.in-Some.ensures.no_script is)
 
-pub returns-in-Err-clause-always_refused : goal.returns-in-Err-clause-always_refused
-returns-in-Err-clause-always_refused g c = λ d s held none quiet.
-    by.refused_comes _ _ _ _ _ _ _ _ c.report.result c.in-Err.stop d s c.in-Err.ensures.stopped c.report.ensures held none quiet
+pub returns-in-Some-clause-cut : goal.returns-in-Some-clause-cut
+returns-in-Some-clause-cut g c = λ is. inl (c.in-Some.ensures.cut is)
 
-pub returns-in-Err-clause-always_script : goal.returns-in-Err-clause-always_script
-returns-in-Err-clause-always_script g c = λ d s held keeps none quiet.
-    by.script_comes _ _ _ _ _ _ _ _ c.report.result c.in-Err.stop d s c.in-Err.ensures.stopped c.report.ensures held keeps quiet
+pub returns-in-Some-clause-memory : goal.returns-in-Some-clause-memory
+returns-in-Some-clause-memory g c = λ is. inl (c.in-Some.ensures.memory is)
 
-pub returns-in-Err-clause-complete : goal.returns-in-Err-clause-complete
-returns-in-Err-clause-complete g c = λ d s held keeps over quiet.
-    by.done_comes _ _ _ _ _ _ _ _ c.report.result c.in-Err.stop d s c.in-Err.ensures.stopped c.report.ensures held keeps over quiet
+pub returns-in-Some-clause-always_refused : goal.returns-in-Some-clause-always_refused
+returns-in-Some-clause-always_refused g c = λ d s held none quiet.
+    by.is_no_run c.rte_quiet.result c.in-Some.status _ _ d s c.rte_quiet.ensures.other c.in-Some.is held
 
-pub returns-in-Err-clause-script : goal.returns-in-Err-clause-script
-returns-in-Err-clause-script g c = by.script_said _ _ _ _ _ _ _ _ c.report.result c.in-Err.stop c.in-Err.ensures.stopped c.report.ensures
+pub returns-in-Some-clause-always_script : goal.returns-in-Some-clause-always_script
+returns-in-Some-clause-always_script g c = λ d s held keeps none quiet.
+    by.is_no_run c.rte_quiet.result c.in-Some.status _ _ d s c.rte_quiet.ensures.other c.in-Some.is held
 
-pub returns-in-Err-clause-cut : goal.returns-in-Err-clause-cut
-returns-in-Err-clause-cut g c = λ is. inl (by.cut_said _ _ _ _ _ _ _ _ c.report.result c.in-Err.stop c.in-Err.ensures.stopped c.report.ensures is)
+pub returns-in-Some-clause-complete : goal.returns-in-Some-clause-complete
+returns-in-Some-clause-complete g c = λ d s held keeps over quiet.
+    by.is_no_run c.rte_quiet.result c.in-Some.status _ _ d s c.rte_quiet.ensures.other c.in-Some.is held
 
-pub returns-in-Err-clause-memory : goal.returns-in-Err-clause-memory
-returns-in-Err-clause-memory g c = λ is. inl (by.memory_said _ _ _ _ c.report.result c.in-Err.stop c.report.ensures is)
+pub returns-in-None-clause-done : goal.returns-in-None-clause-done
+returns-in-None-clause-done g c = λ is. inl (rw (← c.in-None.ensures.unread, ← c.in-None.ensures.unwritten) (c.run_named.ensures.done is))
 
-pub returns-in-Ok-clause-cut : goal.returns-in-Ok-clause-cut
-returns-in-Ok-clause-cut g c = λ is. inr (by.run_cut _ _ _ _ c.in-Ok.prepared.found c.in-Ok.prepared.script.lines c.in-Ok.ensures.ready (c.run_prepared.ensures.cut is))
+pub returns-in-None-clause-refused : goal.returns-in-None-clause-refused
+returns-in-None-clause-refused g c = rw (← c.in-None.ensures.unread, ← c.in-None.ensures.unwritten) c.run_named.ensures.refused
 
-pub returns-in-Ok-clause-memory : goal.returns-in-Ok-clause-memory
-returns-in-Ok-clause-memory g c = λ is. by.memory_cut _ _ _ _ c.in-Ok.prepared.found c.in-Ok.prepared.script.lines c.in-Ok.ensures.ready (c.run_prepared.ensures.memory is)
+pub returns-in-None-clause-words : goal.returns-in-None-clause-words
+returns-in-None-clause-words g c = λ is. absurd (c.run_named.ensures.no_words is)
+
+pub returns-in-None-clause-script : goal.returns-in-None-clause-script
+returns-in-None-clause-script g c = rw (← c.in-None.ensures.unread, ← c.in-None.ensures.unwritten) c.run_named.ensures.script
+
+pub returns-in-None-clause-not_read : goal.returns-in-None-clause-not_read
+returns-in-None-clause-not_read g c = rw (← c.in-None.ensures.unread, ← c.in-None.ensures.unwritten) c.run_named.ensures.not_read
+
+pub returns-in-None-clause-not_written : goal.returns-in-None-clause-not_written
+returns-in-None-clause-not_written g c = rw (← c.in-None.ensures.unwritten) c.run_named.ensures.not_written
+
+pub returns-in-None-clause-cut : goal.returns-in-None-clause-cut
+returns-in-None-clause-cut g c = λ is. by.cut_of_run (rw (← c.in-None.ensures.unread, ← c.in-None.ensures.unwritten) (c.run_named.ensures.cut is))
+
+pub returns-in-None-clause-memory : goal.returns-in-None-clause-memory
+returns-in-None-clause-memory g c = rw (← c.in-None.ensures.unread, ← c.in-None.ensures.unwritten) c.run_named.ensures.memory
+
+pub returns-in-None-clause-no_write_fault : goal.returns-in-None-clause-no_write_fault
+returns-in-None-clause-no_write_fault g c = rw (← c.in-None.ensures.unwritten) c.run_named.ensures.no_write_fault
+
+pub returns-in-None-clause-no_read_fault : goal.returns-in-None-clause-no_read_fault
+returns-in-None-clause-no_read_fault g c = rw (← c.in-None.ensures.unread) c.run_named.ensures.no_read_fault
+
+pub returns-in-None-clause-always_words : goal.returns-in-None-clause-always_words
+returns-in-None-clause-always_words g c = λ none quiet. absurd (none (inl (c.rte_quiet.ensures.other.0 c.in-None.is)))
+
+pub returns-in-None-clause-always_refused : goal.returns-in-None-clause-always_refused
+returns-in-None-clause-always_refused g c = rw (← c.in-None.ensures.unread, ← c.in-None.ensures.unwritten) c.run_named.ensures.always_refused
+
+pub returns-in-None-clause-always_script : goal.returns-in-None-clause-always_script
+returns-in-None-clause-always_script g c = rw (← c.in-None.ensures.unread, ← c.in-None.ensures.unwritten) c.run_named.ensures.always_script
+
+pub returns-in-None-clause-complete : goal.returns-in-None-clause-complete
+returns-in-None-clause-complete g c = rw (← c.in-None.ensures.unread, ← c.in-None.ensures.unwritten) c.run_named.ensures.complete
+
+pub returns-in-None-clause-plan_refused : goal.returns-in-None-clause-plan_refused
+returns-in-None-clause-plan_refused g c = λ d held none quiet. absurd (by.run_is_no_plan _ _ d (c.rte_quiet.ensures.other.0 c.in-None.is) held)
+
+pub returns-in-None-clause-plan_complete : goal.returns-in-None-clause-plan_complete
+returns-in-None-clause-plan_complete g c = λ d held keeps quiet. absurd (by.run_is_no_plan _ _ d (c.rte_quiet.ensures.other.0 c.in-None.is) held)

@@ -1,0 +1,70 @@
+//! The commands that run nothing.
+
+ghost use Rattle.std.specs.Prelude.{◌≡◌, ◌≢◌, ◌↔◌, ℕ, List, map, string_bytes, IfSome, None};
+ghost use Rattle.rte_text.specs.Counts.{Rose};
+ghost use Rattle.rte_program.specs.Inputs.{counts_of, AskForRun, HasNoPlan, IsNoForm, KeepsThirtyRules};
+ghost use Rattle.rte_program.specs.Answers.{AnswersOrMemory, CutsRefusalOrPlan, IsOneHeld, NoFault, PrintsPlan, RefusesWhatIsNamed, RefusesWords, SaysUnread};
+
+use crate::plan::{print_plan, read_plan};
+use crate::prepare::names_in;
+use crate::report::report;
+use crate::status::Status;
+use rte_text::{Shelf, Sink};
+use std::alloc::Global;
+
+/// Carries out the command that the words give if it runs nothing, and answers words that are no command. `plan C` reads the
+/// description C from the shelf and puts its plan. None if the words are another command, `run C S`: then nothing was fetched
+/// and nothing put.
+///
+/// Refusals come in this order: the words, the file, the description, by rules 1 to 30. Each line is one put.
+pub fn rte_quiet<S: Shelf, K: Sink>(
+    alloc: Global,
+    words: &[String],
+    shelf: &mut S,
+    out: &mut K,
+) -> Option<Status>
+    // Another command.
+    ensures other { (result ≡ None) ↔ AskForRun (map string_bytes words.now) }
+    ensures unread { result ≡ None → shelf.new ≡ shelf.old }
+    ensures unwritten { result ≡ None → out.new ≡ out.old }
+
+    // What each answer says.
+    ensures done { IfSome result (λ status. status ≡ Status.Done
+        → PrintsPlan (map string_bytes words.now) (S.files shelf.old) (K.told out.old) (K.told out.new)) }
+    ensures refused { IfSome result (λ status. status ≡ Status.Refused
+        → RefusesWhatIsNamed (map string_bytes words.now) (S.files shelf.old) (K.told out.old) (K.told out.new)) }
+    ensures words { IfSome result (λ status. status ≡ Status.Words
+        → RefusesWords (map string_bytes words.now) (K.told out.old) (K.told out.new)) }
+    ensures not_read { IfSome result (λ status. status ≡ Status.NotRead
+        → SaysUnread (map string_bytes words.now) (S.files shelf.old) (counts_of (S.faults shelf.old) (S.long_files shelf.old))
+        (counts_of (S.faults shelf.new) (S.long_files shelf.new)) (S.fetches shelf.old) (S.fetches shelf.new) (K.told out.old) (K.told out.new)) }
+    ensures not_written { IfSome result (λ status. status ≡ Status.NotWritten → Rose (K.faults out.old) (K.faults out.new)) }
+    ensures cut { IfSome result (λ status. status ≡ Status.NotWritten
+        → CutsRefusalOrPlan (map string_bytes words.now) (S.files shelf.old) (counts_of (S.faults shelf.old) (S.long_files shelf.old))
+        (counts_of (S.faults shelf.new) (S.long_files shelf.new)) (K.told out.old) (K.told out.new)) }
+    ensures memory { IfSome result (λ status. status ≡ Status.Memory → K.told out.new ≡ K.told out.old) }
+    ensures no_script { IfSome result (λ status. status ≢ Status.Script) }
+    ensures no_trace { IfSome result (λ status. status ≢ Status.Trace) }
+
+    // Faults have their answers.
+    ensures no_write_fault { IfSome result (λ status. status ≢ Status.NotWritten → K.faults out.new ≡ K.faults out.old) }
+    ensures no_read_fault { IfSome result (λ status. status ≢ Status.NotRead → status ≢ Status.NotWritten
+        → counts_of (S.faults shelf.new) (S.long_files shelf.new) ≡ counts_of (S.faults shelf.old) (S.long_files shelf.old)) }
+    ensures files_stay { S.files shelf.new ≡ S.files shelf.old }
+
+    // When the answers come, except want of memory: if no file and no put failed.
+    ensures always_words { IfSome result (λ status. IsNoForm (map string_bytes words.now) → ¬ Rose (K.faults out.old) (K.faults out.new)
+        → status ≡ Status.Words) }
+    ensures always_refused { IfSome result (λ status. (d : List ℕ) → IsOneHeld (map string_bytes words.now) (S.files shelf.old) d → HasNoPlan d
+        → NoFault (S.faults shelf.old) (S.faults shelf.new) (K.faults out.old) (K.faults out.new) → AnswersOrMemory status Status.Refused) }
+    ensures complete { IfSome result (λ status. (d : List ℕ) → IsOneHeld (map string_bytes words.now) (S.files shelf.old) d → KeepsThirtyRules d
+        → NoFault (S.faults shelf.old) (S.faults shelf.new) (K.faults out.old) (K.faults out.new) → AnswersOrMemory status Status.Done) }
+{
+    if let Some(_) = names_in(words) {
+        return None;
+    }
+    match read_plan(alloc, words, shelf) {
+        Ok(found) => Some(print_plan(alloc, &found, out)),
+        Err(stop) => Some(report(alloc, &stop, out)),
+    }
+}
