@@ -46,6 +46,15 @@ explain_passes_through() {
     done
 }
 
+# So has the plan of each example that shows one.
+plans_are_as_shown() {
+    local shown
+    for shown in examples/*/plan.txt; do
+        "$RTE" plan "${shown%plan.txt}description.json" >"$held/plan" || return 1
+        cmp -- "$held/plan" "$shown" || return 1
+    done
+}
+
 lint_is_silent() {
     local example
     for example in examples/*/; do
@@ -83,8 +92,9 @@ try "timeline.py on the examples" timelines_are_drawn
 try "diagram.py on the examples" diagrams_are_drawn
 if [ -n "${RTE:-}" ]; then
     try "explain.py on the examples" explain_passes_through
+    try "plans of the examples" plans_are_as_shown
 else
-    echo "tools: explain.py on the examples: skipped, since the program is not built"
+    echo "tools: explain.py and plans on the examples: skipped, since the program is not built"
 fi
 if ! python3 -c 'import jsonschema' 2>/dev/null; then
     echo "tools: schema by jsonschema: skipped, since Python's jsonschema is not installed"

@@ -41,11 +41,16 @@ IN_DESCRIPTIONS = {
         ("There is a comma before `}`; take it out.", "Mend: "),
         (('"words":1}', '"words":1,}'),),
     ),
-    "iread, which is not run yet": Mistake(
+    "operations, which are not run yet": Mistake(
         "refused rule 0 at /",
-        '["iread","i","v"]',
-        ("`Look` of `R` has an access `iread`", "Mend: write `read` for `iread`"),
-        ((READS, '"accesses":[["iread","i","v"]],\n     "program":[["iread","i","v",["x"]]]'),),
+        '{"kind":"ClientServerInterface","shortName":"S","operations":[{"shortName":"op"}]}',
+        ("the interface `S` is a ClientServerInterface", "Mend: use data elements in place of calls and modes"),
+        (
+            (
+                '{"shortName":"v","type":"T","swImplPolicy":"standard"}]}],',
+                '{"shortName":"v","type":"T","swImplPolicy":"standard"}]},\n  {"kind":"ClientServerInterface","shortName":"S","operations":[{"shortName":"op"}]}],',
+            ),
+        ),
     ),
     "the wrong direction": Mistake(
         "refused rule 16 at /components/1/behavior/runnables/0/accesses/0",

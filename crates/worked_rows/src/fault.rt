@@ -12,6 +12,9 @@ pub enum Fault {
     /// A file could not be read, or is too long.
     #[error("no file {0}")]
     NoFile(String),
+    /// The folder's description is refused.
+    #[error("no plan")]
+    NoPlan,
     /// An edit has no arrow.
     #[error("no such edit")]
     NoEdit,

@@ -8,6 +8,7 @@ mod carry;
 mod edit;
 mod fault;
 mod notation;
+mod readings;
 mod row;
 mod summary;
 

@@ -1,5 +1,7 @@
 //! The kinds of rows.
 
+use bus_semantics::Version;
+
 /// A row of the table, as it is written. A folder has the files `description.json` and `script.txt`.
 pub enum Row<'a> {
     /// `words W W ..` carries out these words over the real files and standard output.
@@ -7,18 +9,57 @@ pub enum Row<'a> {
     /// `expect FOLDER` compares what is told with the folder's `expected.txt`.
     Expect(&'a str),
     /// `change FOLDER FROM => TO ;; ..` edits the folder's description.
-    Change { folder: &'a str, edits: &'a str },
+    Change {
+        folder: &'a str,
+        edits: &'a str,
+    },
+    /// `plan FOLDER FROM => TO ;; ..` prints the plan of the folder's description, edited.
+    Plan {
+        folder: &'a str,
+        edits: &'a str,
+    },
     /// `script FOLDER TEXT` has this text for the script.
-    Script { folder: &'a str, text: &'a str },
+    Script {
+        folder: &'a str,
+        text: &'a str,
+    },
     /// `count FOLDER TEXT` has this text for the script, and shows the first lines and the last of what is told.
-    Count { folder: &'a str, text: &'a str },
+    Count {
+        folder: &'a str,
+        text: &'a str,
+    },
+    /// `last FOLDER PIECE ;; TEXT` has this text for the script, and shows how many of the lines that are told have the piece, and
+    /// what comes after it in the last of them.
+    Last {
+        folder: &'a str,
+        piece: &'a str,
+        text: &'a str,
+    },
     /// `text TEXT` has this text for the description, and an empty script.
     Text(&'a str),
+    /// `lines FOLDER VERSION TEXT` shows what each line of the text is read as in a trace of the version, 1 or 2, over the plan of the
+    /// folder's description.
+    Lines {
+        folder: &'a str,
+        version: Version,
+        text: &'a str,
+    },
+    /// `back FOLDER` reads each line of the trace that is the folder's `expected.txt`, and writes it back in both versions.
+    Back(&'a str),
 }
 
 /// What comes before the first space, and what comes after it.
 fn split_word(text: &str) -> (&str, &str) {
     text.split_once(' ').unwrap_or((text, ""))
+}
+
+/// The version of this number.
+fn version_named(number: &str) -> Option<Version> {
+    match number {
+        "1" => Some(Version::One),
+        "2" => Some(Version::Two),
+        _ => None,
+    }
 }
 
 impl<'a> Row<'a> {
@@ -33,9 +74,31 @@ impl<'a> Row<'a> {
                 folder,
                 edits: text,
             }),
+            "plan" => Some(Row::Plan {
+                folder,
+                edits: text,
+            }),
             "script" => Some(Row::Script { folder, text }),
             "count" => Some(Row::Count { folder, text }),
+            "last" => {
+                let (piece, text) = text.split_once(" ;; ")?;
+                Some(Row::Last {
+                    folder,
+                    piece,
+                    text,
+                })
+            }
             "text" => Some(Row::Text(rest)),
+            "lines" => {
+                let (version, text) = split_word(text);
+                let version = version_named(version)?;
+                Some(Row::Lines {
+                    folder,
+                    version,
+                    text,
+                })
+            }
+            "back" => Some(Row::Back(rest)),
             _ => None,
         }
     }

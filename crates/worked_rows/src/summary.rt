@@ -21,6 +21,36 @@ pub fn ends(alloc: Global, told: &[u8]) -> Result<Vec<u8>, AllocError> {
     Ok(shown)
 }
 
+/// What comes after the piece in a line, if the line has it.
+fn after<'a>(line: &'a [u8], piece: &[u8]) -> Option<&'a [u8]> {
+    for at in 0..line.len() {
+        let (_, rest) = line.split_at(at);
+        if let Some(more) = rest.strip_prefix(piece) {
+            return Some(more);
+        }
+    }
+    None
+}
+
+/// In how many lines the piece stands, and what comes after it in the last of them.
+pub fn last_with(alloc: Global, told: &[u8], piece: &[u8]) -> Result<Vec<u8>, AllocError> {
+    let mut count: u64 = 0;
+    let mut last: &[u8] = b"nothing";
+    for line in told.split(|byte| *byte == b'\n') {
+        if let Some(more) = after(line, piece) {
+            count = count.saturating_add(1);
+            last = more;
+        }
+    }
+    let mut text = Vec::from_slice(
+        alloc,
+        format!(in alloc; "{count} times, at last ")?.as_bytes(),
+    )?;
+    text.extend_from_slice(last)?;
+    text.extend_from_slice(b"\n")?;
+    Ok(text)
+}
+
 /// The lines of a text; after its last newline comes an empty one.
 fn lines_of(alloc: Global, text: &[u8]) -> Result<Vec<&[u8]>, AllocError> {
     text.split(|byte| *byte == b'\n').collect(alloc)
