@@ -43,14 +43,14 @@ def assembly(provider, requester):
     return {"kind": "AssemblySwConnector", "provider": provider, "requester": requester}
 
 
-def described(components, prototypes, connectors, cores, tasks, events):
+def described(components, prototypes, connectors, cores, tasks, events, policy="standard", words=1):
     return {
-        "dataTypes": [{"shortName": "T", "baseType": "sint32", "lower": 0, "upper": 1000, "words": 1}],
+        "dataTypes": [{"shortName": "T", "baseType": "sint32", "lower": 0, "upper": 1000, "words": words}],
         "interfaces": [
             {
                 "kind": "SenderReceiverInterface",
                 "shortName": "I",
-                "dataElements": [{"shortName": "v", "type": "T", "swImplPolicy": "standard"}],
+                "dataElements": [{"shortName": "v", "type": "T", "swImplPolicy": policy}],
             }
         ],
         "components": components,
@@ -87,6 +87,42 @@ def chatter(size):
     return described([writer(size, 1), reader(size)], prototypes(1), joined, 1, tasks, events), "tick 1\nrun\n" * 1000
 
 
+def counting(name, repeats):
+    """A runnable that so many times reads the variable `n` and writes one more, each time within the area `x`."""
+    step = ["area", "x", [["irvRead", "n", ["a"]], ["irvWrite", "n", [["add", "a", 1]]]]]
+    return runnable(name, [["enter", "x"], ["irvRead", "n"], ["irvWrite", "n"]], [["repeat", repeats, [step]]])
+
+
+def counters(size, repeats, cores):
+    """One instance of so many of these runnables, each in a task of its own, dealt out to the cores, for 100 run lines."""
+    part = component("C", [], [counting(f"R{n}", repeats) for n in range(size)], [timing(f"E{n}", f"R{n}", 1) for n in range(size)])
+    part["behavior"] |= {"exclusiveAreas": ["x"], "variables": [{"shortName": "n", "type": "T"}]}
+    tasks = [{"shortName": f"T{n}", "core": n % cores} for n in range(size)]
+    events = [mapped("c", f"E{n}", f"T{n}", 0) for n in range(size)]
+    return described([part], [{"shortName": "c", "type": "C"}], [], cores, tasks, events), "tick 1\nrun\n" * 100
+
+
+def contention(size):
+    """Two cores that fight for one area, each so many times in each of 100 run lines."""
+    return counters(2, size, 2)
+
+
+def waiters(size):
+    """So many tasks of one core that wait for one area, for 100 run lines."""
+    return counters(size, 1, 1)
+
+
+def variables(size):
+    """One instance with so many variables, each of which is written and read, for 100 run lines."""
+    names = [f"n{n}" for n in range(size)]
+    program = [["irvWrite", name, [number % 1000]] for number, name in enumerate(names)] + [["irvRead", name, ["x"]] for name in names]
+    accesses = [["irvWrite", name] for name in names] + [["irvRead", name] for name in names]
+    part = component("C", [], [runnable("R", accesses, program)], [timing("E", "R", 1)])
+    part["behavior"]["variables"] = [{"shortName": name, "type": "T"} for name in names]
+    tasks = [{"shortName": "T", "core": 0}]
+    return described([part], [{"shortName": "c", "type": "C"}], [], 1, tasks, [mapped("c", "E", "T", 0)]), "tick 1\nrun\n" * 100
+
+
 def spread(times, size):
     """One writer that writes so many times and then so many readers, each started by what it received, for 100 run lines."""
     events = [mapped("w", "E", "T", 0)] + [mapped(f"r{n}", "D", "T", n + 1) for n in range(size)]
@@ -103,6 +139,53 @@ def fan(size):
 def bursts(size):
     """As `fan`, but the writer writes 900 times before the readers start."""
     return spread(900, size)
+
+
+def repeated(times, statements):
+    """The statements so many times. A count is at most 1,000, so 1,024 is 2 times 512."""
+    return [["repeat", 2, [["repeat", times // 2, statements]]]] if times > 1000 else [["repeat", times, statements]]
+
+
+def sender(times, words):
+    """Sends so many values of so many words at each tick."""
+    program = repeated(times, [["set", "x", ["add", "x", 1]], ["send", "o", "v", ["x"] * words, "s"]])
+    return component("W", [port("P", "o")], [runnable("Step", [["send", "o", "v"]], program)], [timing("E", "Step", 1)])
+
+
+def receiver(places, words):
+    """Receives at each start as often as its queue has places."""
+    queued = port("R", "i") | {"comSpecs": [{"element": "v", "queueLength": places}]}
+    program = repeated(places, [["receive", "i", "v", [f"x{n}" for n in range(words)], "s"]])
+    return component("R", [queued], [runnable("Look", [["receive", "i", "v"]], program)], [received("D", "Look", "i")])
+
+
+def sent(places, words, size, runs):
+    """One sender that fills the queues of so many receivers, which then empty them, in one task and for so many run lines."""
+    events = [mapped("w", "E", "T", 0)] + [mapped(f"r{n}", "D", "T", n + 1) for n in range(size)]
+    tasks = [{"shortName": "T", "core": 0}]
+    joined = [assembly(["w", "o"], [f"r{n}", "i"]) for n in range(size)]
+    parts = [sender(places, words), receiver(places, words)]
+    return described(parts, prototypes(size), joined, 1, tasks, events, "queued", words), "tick 1\nrun\n" * runs
+
+
+def queue(size):
+    """A queue of so many values of one word, which is filled and then emptied, for 1,000 run lines."""
+    return sent(size, 1, 1, 1000)
+
+
+def wide_queue(size):
+    """As `queue`, but of values of 16 words."""
+    return sent(size, 16, 1, 1000)
+
+
+def audience(size):
+    """One sender and so many receivers, each with a queue of its own, for 100 run lines."""
+    return sent(1, 1, size, 100)
+
+
+def queue_bursts(size):
+    """1,024 values of 16 words are sent and then received, for so many run lines."""
+    return sent(1024, 16, 1, size)
 
 
 def instances(size):
@@ -135,7 +218,21 @@ def periods(size):
     return clocked([1000 + n for n in range(size)])
 
 
-CASES = {chatter: 250, fan: 500, bursts: 500, instances: 500, timers: 500, periods: 500}
+CASES = {
+    chatter: 250,
+    fan: 500,
+    bursts: 500,
+    queue: 250,
+    wide_queue: 250,
+    audience: 500,
+    queue_bursts: 250,
+    instances: 500,
+    timers: 500,
+    periods: 500,
+    contention: 250,
+    waiters: 125,
+    variables: 500,
+}
 
 
 def run(case, size):
@@ -152,7 +249,7 @@ def run(case, size):
     if status != 0:
         sys.exit(f"{case.__name__} {size} ended with {os.waitstatus_to_exitcode(status)}: {told[:200]!r}")
     lines = told.count(b"\n")
-    print(f"{case.__name__:10} {size:6} {lines:9} {seconds:8.2f} s {lines / seconds:12.0f} a second {used.ru_maxrss / 1024:8.1f} MiB")
+    print(f"{case.__name__:12} {size:6} {lines:9} {seconds:8.2f} s {lines / seconds:12.0f} a second {used.ru_maxrss / 1024:8.1f} MiB")
 
 
 def main():
