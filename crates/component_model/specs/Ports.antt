@@ -22,6 +22,7 @@ com_spec_reading items interface d = record {
   init_value = init_value_reading d;
   handle_never_received = flag_at (codes "handleNeverReceived") d;
   queue_length = number_at (2 ^ 32) 1 (codes "queueLength") d;
+  supports_asynchronous_mode_switch = flag_at (codes "supportsAsynchronousModeSwitch") d;
 }
 
 abbrev pub port_kind_reading : List ℕ → PortKind

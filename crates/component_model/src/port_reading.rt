@@ -59,6 +59,7 @@ impl<'s, 'a> FromValue<AtInterface<'s, 'a>> for ComSpec {
             init_value,
             handle_never_received: flag_at(value, "handleNeverReceived"),
             queue_length: number_at(value, "queueLength", 1),
+            supports_asynchronous_mode_switch: flag_at(value, "supportsAsynchronousModeSwitch"),
         })
     }
 }

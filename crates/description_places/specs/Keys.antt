@@ -106,6 +106,7 @@ keys_of ComSpec =
     optional "initValue" Words ∷
     optional "handleNeverReceived" Flag ∷
     optional "queueLength" QueueLength ∷
+    optional "supportsAsynchronousModeSwitch" Flag ∷
     []
 keys_of Behavior =
     optional "exclusiveAreas" DeclaredAreas ∷

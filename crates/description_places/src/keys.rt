@@ -123,6 +123,7 @@ pub fn keys_of(kind: Kind) -> &'static [Field]
             optional!("initValue", Words),
             optional!("handleNeverReceived", Flag),
             optional!("queueLength", QueueLength),
+            optional!("supportsAsynchronousModeSwitch", Flag),
         ],
         Kind::Behavior => &[
             optional!("exclusiveAreas", DeclaredAreas),

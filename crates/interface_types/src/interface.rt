@@ -103,6 +103,9 @@ pub struct ComSpec {
     pub handle_never_received: bool,
     /// How many values, requests or switches wait at most, 1 to 1,024. 1 where the description does not say.
     pub queue_length: u32,
+    /// A mode switch need not wait, before its on-exit events, for what the next mode disables to end
+    /// (ModeSwitchReceiverComSpec). False where the description does not say.
+    pub supports_asynchronous_mode_switch: bool,
 }
 
 /// The types of a description, each list in declared order.

@@ -1,3 +1,4 @@
 pub mod Listing
 pub mod Pointing
 pub mod Invoking
+pub mod Using

@@ -8,6 +8,7 @@ mod listed_callings;
 mod machines;
 mod points;
 mod servers;
+mod users;
 
 pub use callings::Calling;
 pub use invoked::invoked_by;

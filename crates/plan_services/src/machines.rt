@@ -3,7 +3,9 @@
 ghost use Rattle.std.specs.Prelude.{◌≡◌, [], IfOk, Some, map, option_copied};
 ghost use Rattle.std.specs.Option.{option_map_or, unwrap_or};
 ghost use Rattle.plan_services.specs.Modes.{group_at, group_in, machine_at, machines, mode_port_at, mode_ports};
+ghost use Rattle.plan_services.specs.Users.{AreUsers};
 
+use crate::users::Users;
 use bus_semantics::{MachinePlan, ModePortPlan};
 use description_types::Description;
 use interface_types::{InterfaceKind, ModeGroup};
@@ -66,9 +68,11 @@ fn initial_at(source: &Source<'_>, owner: Option<u32>, port: u32) -> u32
 fn machine_at(
     alloc: Global,
     source: &Source<'_>,
+    users: &Users,
     owner: Option<u32>,
     port: u32,
 ) -> Result<MachinePlan, Memory>
+    requires { AreUsers source.now.d.now source.now.f.now users.now }
     ensures { IfOk result (λ machine. machine ≡ machine_at source.now.d.now source.now.f.now owner port) }
 {
     let name = item_text(alloc, source.d, source.f, owner, port, 0)?;
@@ -79,20 +83,22 @@ fn machine_at(
         modes,
         initial: initial_at(source, owner, port),
         queue: source.queue_length_of(owner, port, 0),
-        waits: true,
+        waits: users.wait(source, source.machine_number(owner, port, 0)),
     })
 }
 
 fn machines_at(
     alloc: Global,
     source: &Source<'_>,
+    users: &Users,
     sites: &[Site],
 ) -> Result<Vec<MachinePlan>, Memory>
+    requires { AreUsers source.now.d.now source.now.f.now users.now }
     ensures { IfOk result (λ list. list.items ≡ map (λ s. machine_at source.now.d.now source.now.f.now s.owner (unwrap_or s.port 0)) sites.now) }
 {
     let mut list = Vec::new(alloc);
     for site in sites {
-        list.push(machine_at(alloc, source, site.owner, site.port.unwrap_or(0))?)?;
+        list.push(machine_at(alloc, source, users, site.owner, site.port.unwrap_or(0))?)?;
     }
     Ok(list)
 }
@@ -101,7 +107,8 @@ fn machines_at(
 pub fn machine_plans(alloc: Global, source: &Source<'_>) -> Result<Vec<MachinePlan>, Memory>
     ensures { IfOk result (λ list. list.items ≡ machines source.now.d.now source.now.f.now) }
 {
-    machines_at(alloc, source, source.lists.machines.as_slice())
+    let users = Users::new(alloc, source)?;
+    machines_at(alloc, source, &users, source.lists.machines.as_slice())
 }
 
 fn mode_port_at(

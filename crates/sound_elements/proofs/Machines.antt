@@ -20,8 +20,8 @@ use Rattle.plan_numbers.specs.declared.site.Site.{Site}
 use Rattle.plan_numbers.specs.Keys.{is_machine}
 use Rattle.plan_numbers.specs.Sites.{kind_at, sites}
 use Rattle.plan_ports.specs.Ports.{item_text, queue_length_of}
-use Rattle.plan_ports.specs.Things.{machines_of}
-use Rattle.plan_services.specs.Modes.{group_at, group_in, machine_at, machines}
+use Rattle.plan_ports.specs.Things.{machine_number, machines_of}
+use Rattle.plan_services.specs.Modes.{group_at, group_in, machine_at, machines, waits_of}
 use Rattle.sound_descriptions.specs.WellFormed.{IsWellFormed, group_fits, kind_fits, names_fit}
 use Rattle.planned_descriptions.specs.Whole.{IsWhole}
 use Rattle.sound_elements.proofs.Kept.{interface_is, interface_keeps, queue_keeps, some_group}
@@ -37,7 +37,7 @@ machine_kind owner side (ModeSwitch x) h = (x, refl)
 
 module _ (d : Description) (w : IsWellFormed d) (f : Flat) where
   by_group : (owner : Option ℕ) (k : ℕ) (g : ModeGroup) → group_at d f owner k ≡ Some g → group_fits g ≡ true → is_in 1 1024 (queue_length_of d f owner k 0) ≡ true → machine_sound (machine_at d f owner k) ≡ true
-  by_group owner k g is fits queue = subst (λ o. machine_sound (record { instance = owner; name = item_text d f owner k 0; modes = option_map_or (λ (x : ModeGroup). x.modes) o []; initial = option_map_or (λ (x : ModeGroup). x.initial_mode) o 0; queue = queue_length_of d f owner k 0; waits = true }) ≡ true) (sym is)
+  by_group owner k g is fits queue = subst (λ o. machine_sound (record { instance = owner; name = item_text d f owner k 0; modes = option_map_or (λ (x : ModeGroup). x.modes) o []; initial = option_map_or (λ (x : ModeGroup). x.initial_mode) o 0; queue = queue_length_of d f owner k 0; waits = waits_of d f (machine_number d f (owner, Some k, 0)) }) ≡ true) (sym is)
       (let p = and_parts (is_in 1 32 (length g.modes)) (names_fit g.modes && nat_lt g.initial_mode (length g.modes)) fits in
       let q = and_parts (names_fit g.modes) (nat_lt g.initial_mode (length g.modes)) p.1 in
       and_from (is_in 1 32 (length g.modes)) (nat_lt g.initial_mode (length g.modes) && is_in 1 1024 (queue_length_of d f owner k 0)) p.0

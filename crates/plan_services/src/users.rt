@@ -1,0 +1,92 @@
+//! Who requires mode machines.
+
+ghost use Rattle.std.specs.Prelude.{◌≡◌, ℕ, IfOk, filter, map, nat_eq};
+ghost use Rattle.std.specs.List.{list_any};
+ghost use Rattle.indexmap.specs.IndexSet.{contains};
+ghost use Rattle.plan_ports.specs.Things.{mode_ports_of};
+ghost use Rattle.plan_services.specs.Modes.{machine_required, supports_asynchronous, waits_of};
+ghost use Rattle.plan_services.specs.Users.{AreUsers, is_refusal, is_use};
+
+use indexmap::IndexSet;
+use plan_numbers::Site;
+use plan_ports::Source;
+use rte_text::Memory;
+use std::alloc::Global;
+
+/// The machines that an instance requires, and those of which a mode element of an instance does not support an asynchronous mode
+/// switch.
+#[derive(Drop)]
+pub struct Users {
+    pub used: IndexSet<u32>,
+    pub refused: IndexSet<u32>,
+}
+
+fn machine_required(source: &Source<'_>, site: Site) -> u32
+    ensures { result ≡ machine_required source.now.d.now source.now.f.now site }
+{
+    source.machine_for(site.owner, site.port.unwrap_or(0))
+}
+
+fn supports_asynchronous(source: &Source<'_>, site: Site) -> bool
+    ensures { result ≡ supports_asynchronous source.now.d.now source.now.f.now site }
+{
+    match source.com_spec_of(site.owner, site.port.unwrap_or(0), 0) {
+        Some(spec) => spec.supports_asynchronous_mode_switch,
+        None => false,
+    }
+}
+
+/// The machines that instances require, one for each required mode element.
+fn used(alloc: Global, source: &Source<'_>, sites: &[Site]) -> Result<Vec<u32>, Memory>
+    ensures { IfOk result (λ list. list.items ≡ map (machine_required source.now.d.now source.now.f.now) (filter is_use sites.now)) }
+{
+    sites
+        .iter()
+        .filter(|s| s.owner.is_some())
+        .map(|s| machine_required(source, *s))
+        .collect(alloc)
+}
+
+/// Those among them that the mode element does not support to switch asynchronously.
+fn refused(alloc: Global, source: &Source<'_>, sites: &[Site]) -> Result<Vec<u32>, Memory>
+    ensures { IfOk result (λ list. list.items ≡ map (machine_required source.now.d.now source.now.f.now) (filter (is_refusal source.now.d.now source.now.f.now) sites.now)) }
+{
+    sites
+        .iter()
+        .filter(|s| s.owner.is_some() && !supports_asynchronous(source, **s))
+        .map(|s| machine_required(source, *s))
+        .collect(alloc)
+}
+
+fn set_of(alloc: Global, numbers: &[u32]) -> Result<IndexSet<u32>, Memory>
+    ensures { IfOk result (λ set. (n : ℕ) → contains nat_eq set n ≡ list_any (nat_eq n) numbers.now) }
+{
+    let mut set = IndexSet::new(alloc);
+    for number in numbers {
+        set.insert(*number)?;
+    }
+    Ok(set)
+}
+
+impl Users {
+    /// Those of the machines of a plan. The only error is that there is no memory.
+    pub fn new(alloc: Global, source: &Source<'_>) -> Result<Users, Memory>
+        ensures { IfOk result (AreUsers source.now.d.now source.now.f.now) }
+    {
+        let sites = source.lists.mode_ports.as_slice();
+        let used = used(alloc, source, sites)?;
+        let refused = refused(alloc, source, sites)?;
+        Ok(Users {
+            used: set_of(alloc, used.as_slice())?,
+            refused: set_of(alloc, refused.as_slice())?,
+        })
+    }
+
+    /// Whether the machine waits, between Close and Exit, for what the next mode disables.
+    pub fn wait(&self, source: &Source<'_>, machine: u32) -> bool
+        requires { AreUsers source.now.d.now source.now.f.now self.now }
+        ensures { result ≡ waits_of source.now.d.now source.now.f.now machine }
+    {
+        !self.used.contains(&machine) || self.refused.contains(&machine)
+    }
+}
