@@ -8,6 +8,7 @@ mod groups;
 mod hints;
 mod items;
 mod judge;
+mod laws;
 mod names;
 mod operations;
 mod partners;
@@ -18,3 +19,4 @@ mod rule;
 mod types;
 
 pub use check::check_joins;
+pub use laws::crowded_groups_are_many_to_many;

@@ -20,3 +20,4 @@ mod Fair
 mod Partners
 mod Linked
 mod Joins
+mod Connected

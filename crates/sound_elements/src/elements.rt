@@ -10,6 +10,7 @@ ghost use Rattle.bus_semantics.specs.Plan.{plan_of};
 ghost use Rattle.bus_semantics.specs.SoundPlan.{groups_fit};
 ghost use Rattle.bus_semantics.specs.SoundElements.{elem_sound, joins_fit};
 ghost use Rattle.planned_descriptions.specs.Whole.{IsWhole};
+ghost use Rattle.sound_elements.specs.Connected.{GroupsAreConnected};
 
 /// A data element has 1 to 16 words within limits that a base type holds, its initial words fit, its queue has room for 1 to
 /// 1,024 values, and a key that its side does not use is as if it were missing. A variable is of an instance, and joined with none.
@@ -26,4 +27,10 @@ pub fn groups_of_plans_fit()
 /// of the sides has one element.
 pub fn joined_elements_of_plans_agree()
     ensures { (d : Description) (f : Flat) (p : BusPlan) (m : Mapping) → IsWhole d f p m → joins_fit (plan_of p) ≡ true }
+{}
+
+/// Two data elements of a plan are in one group exactly where a chain of joins connects them. An element of the plan is that of the
+/// site at its number; a variable is connected with none but itself (SWS_RTE: sender-receiver communication 1:n and n:1).
+pub fn groups_are_what_joins_connect()
+    ensures { (d : Description) (f : Flat) (p : BusPlan) (m : Mapping) → IsWhole d f p m → GroupsAreConnected d f p }
 {}

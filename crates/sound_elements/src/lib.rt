@@ -6,7 +6,8 @@ mod elements;
 mod sizes;
 
 pub use elements::{
-    elements_of_plans_are_sound, groups_of_plans_fit, joined_elements_of_plans_agree,
+    elements_of_plans_are_sound, groups_are_what_joins_connect, groups_of_plans_fit,
+    joined_elements_of_plans_agree,
 };
 pub use sizes::{
     machines_of_plans_are_sound, objects_of_plans_are_counted, queues_of_plans_are_bounded,
