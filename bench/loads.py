@@ -6,12 +6,13 @@
 Without a case each one is run at its size and at twice that. The functions below that take one number are the cases, and
 their first lines say what each is. The program is `./rte` at the top of the repository. For each run one line is printed:
 the case, its size, the lines of the trace, the seconds of the processor, the lines in one of these, and the peak of memory in
-MiB.
+MiB, which only GNU `time` can tell: where it is missing, that column is left out.
 """
 
 import json
 import os
 import pathlib
+import shutil
 import subprocess
 import sys
 import tempfile
@@ -235,21 +236,32 @@ CASES = {
 }
 
 
+def measured(words, trace, peak):
+    """Runs the program, and gives its status, its seconds of the processor and its peak of memory in MiB, or None."""
+    # The peak that the system gives for a child has that of this program in it; GNU `time` is small.
+    clock = shutil.which("time")
+    before = [clock, "--quiet", "--format=%M", f"--output={peak}"] if clock else []
+    with open(trace, "wb") as told:
+        child = subprocess.Popen([*before, TOP / "rte", "run", *words], stdout=told)
+        _, status, used = os.wait4(child.pid, 0)
+    kibibytes = peak.read_text().split()[-1] if clock else None
+    return os.waitstatus_to_exitcode(status), used.ru_utime + used.ru_stime, int(kibibytes) / 1024 if kibibytes else None
+
+
 def run(case, size):
     description, script = case(size)
-    with tempfile.TemporaryDirectory() as folder:
-        words = [pathlib.Path(folder) / "description.json", pathlib.Path(folder) / "script.txt", pathlib.Path(folder) / "trace.txt"]
+    with tempfile.TemporaryDirectory() as name:
+        folder = pathlib.Path(name)
+        words = [folder / "description.json", folder / "script.txt"]
         words[0].write_text(json.dumps(description))
         words[1].write_text(script)
-        with open(words[2], "wb") as trace:
-            child = subprocess.Popen([TOP / "rte", "run", words[0], words[1]], stdout=trace)
-            _, status, used = os.wait4(child.pid, 0)
-        told = words[2].read_bytes()
-    seconds = used.ru_utime + used.ru_stime
+        status, seconds, peak = measured(words, folder / "trace.txt", folder / "peak.txt")
+        told = (folder / "trace.txt").read_bytes()
     if status != 0:
-        sys.exit(f"{case.__name__} {size} ended with {os.waitstatus_to_exitcode(status)}: {told[:200]!r}")
+        sys.exit(f"{case.__name__} {size} ended with {status}: {told[:200]!r}")
     lines = told.count(b"\n")
-    print(f"{case.__name__:12} {size:6} {lines:9} {seconds:8.2f} s {lines / seconds:12.0f} a second {used.ru_maxrss / 1024:8.1f} MiB")
+    memory = f" {peak:8.1f} MiB" if peak else ""
+    print(f"{case.__name__:12} {size:6} {lines:9} {seconds:8.2f} s {lines / seconds:12.0f} a second{memory}")
 
 
 def main():
