@@ -15,7 +15,7 @@ use Rattle.client_server.specs.declared.point.Point.{Point}
 use Rattle.client_server.specs.declared.point.Stage.{Stage}
 use Rattle.client_server.specs.declared.point.Stage.TheVariants.{Idle, Asked, Started, Returned}
 
-idle_not_asked : (s : Stage) → is_idle s ≡ true → is_some (value_asked s) ≡ false
+pub idle_not_asked : (s : Stage) → is_idle s ≡ true → is_some (value_asked s) ≡ false
 idle_not_asked Idle idle = refl
 idle_not_asked (Asked v) idle = absurd (false≢true idle)
 idle_not_asked Started idle = refl
@@ -29,13 +29,13 @@ none_asked points (p ∷ waiting) none = absurd (cc none)
 
 module _ (points : List Point) (p : ℕ) (x : Point) where
   -- what is known of another point
-  other_asked : (q : ℕ) → (q ≡ p → ⊥) → IsAsked points q → IsAsked (set points p x) q
+  pub other_asked : (q : ℕ) → (q ≡ p → ⊥) → IsAsked points q → IsAsked (set points p x) q
   other_asked q apart was = record {
     within = omega (arith, was.within, length-set points p x);
     asked = ap (λ (y : Point). is_some (value_asked y.stage)) (get_or-set_other points p q x new_point apart) ∙ was.asked;
   }
 
-  not_waiting : (waiting : List ℕ) → is_some (value_asked (get_or points p new_point).stage) ≡ false → AreAsked points waiting → list_any (λ q. p == q) waiting ≡ false
+  pub not_waiting : (waiting : List ℕ) → is_some (value_asked (get_or points p new_point).stage) ≡ false → AreAsked points waiting → list_any (λ q. p == q) waiting ≡ false
   not_waiting waiting idle all = by_test (list_any (λ q. p == q) waiting) refl
     where
       by_test : (b : Bool) → list_any (λ q. p == q) waiting ≡ b → b ≡ false
@@ -44,7 +44,7 @@ module _ (points : List Point) (p : ℕ) (x : Point) where
 
   -- ---- one more waits
 
-  one_more : (waiting : List ℕ) → p < length points → is_some (value_asked (get_or points p new_point).stage) ≡ false → is_some (value_asked x.stage) ≡ true → AreAsked points waiting → AreAsked (set points p x) (waiting ++ p ∷ [])
+  pub one_more : (waiting : List ℕ) → p < length points → is_some (value_asked (get_or points p new_point).stage) ≡ false → is_some (value_asked x.stage) ≡ true → AreAsked points waiting → AreAsked (set points p x) (waiting ++ p ∷ [])
   one_more waiting within idle now all = record { distinct = IsDistinct-push nat_eq_equiv waiting p all.distinct (not_waiting waiting idle all); asked = asked }
     where
       asked : (q : ℕ) → list_any (λ r. q == r) (waiting ++ p ∷ []) ≡ true → IsAsked (set points p x) q
@@ -69,10 +69,10 @@ module _ (points : List Point) (p : ℕ) (x : Point) where
 
   -- ---- the first starts
 
-  not_again : (waiting : List ℕ) → IsDistinct nat_eq (p ∷ waiting) → list_any (λ q. p == q) waiting ≡ false
+  pub not_again : (waiting : List ℕ) → IsDistinct nat_eq (p ∷ waiting) → list_any (λ q. p == q) waiting ≡ false
   not_again waiting distinct = list_any_none (λ q. p == q) waiting (λ i d within. apart_from_distinct nat_eq (p ∷ waiting) 0 (suc i) d distinct (omega arith) (omega arith))
 
-  one_less : (waiting : List ℕ) → AreAsked points (p ∷ waiting) → AreAsked (set points p x) waiting
+  pub one_less : (waiting : List ℕ) → AreAsked points (p ∷ waiting) → AreAsked (set points p x) waiting
   one_less waiting all = record { distinct = IsDistinct-tail nat_eq p waiting all.distinct; asked = asked }
     where
       asked : (q : ℕ) → list_any (λ r. q == r) waiting ≡ true → IsAsked (set points p x) q
@@ -81,7 +81,7 @@ module _ (points : List Point) (p : ℕ) (x : Point) where
           apart : q ≡ p → ⊥
           apart same = false≢true (sym (not_again waiting all.distinct) ∙ ap (λ s. list_any (λ r. s == r) waiting) (sym same) ∙ found)
 
-  started_list : (waiting : List ℕ) → slice_get waiting 0 ≡ Some p → AreAsked points waiting → AreAsked (set points p x) (drop 1 waiting)
+  pub started_list : (waiting : List ℕ) → slice_get waiting 0 ≡ Some p → AreAsked points waiting → AreAsked (set points p x) (drop 1 waiting)
   started_list [] first all = absurd (cc first)
   started_list (q ∷ waiting) first all = one_less waiting (subst (λ r. AreAsked points (r ∷ waiting)) (same_Some q p first) all)
 

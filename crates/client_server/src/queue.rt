@@ -1,6 +1,6 @@
 //! The queue of a server, which a direct one does not have.
 
-ghost use Rattle.std.specs.Prelude.{◌≡◌, None, Some, slice_get};
+ghost use Rattle.std.specs.Prelude.{◌≡◌, None, Some, is_some, slice_get};
 ghost use Rattle.client_server.specs.Queue.{after_first, after_queueing, has_place_in, waiting_in};
 
 use circular_buffer::HeapCircularBuffer;
@@ -27,5 +27,15 @@ pub(crate) fn take_first(waiting: &mut Waiting) -> Option<u32>
     match waiting {
         Some(ring) => ring.pop_front(),
         None => None,
+    }
+}
+
+/// Whether a point waits.
+pub(crate) fn has_first(waiting: &Waiting) -> bool
+    ensures { result ≡ is_some (slice_get (waiting_in waiting.now) 0) }
+{
+    match waiting {
+        Some(ring) => !ring.is_empty(),
+        None => false,
     }
 }

@@ -1,12 +1,12 @@
 //! A server and the points that call it.
 
-ghost use Rattle.std.specs.Prelude.{◌≡◌, ◌<◌, None, Some, IsSome, IfOk, is_some, length};
+ghost use Rattle.std.specs.Prelude.{◌≡◌, ◌<◌, None, Some, IsSome, IfOk, IfSome, is_some, length};
 ghost use Rattle.client_server.specs.Kept.{after_answer, after_ask, after_direct_start, after_reply, after_return_start, after_start, answer_to_ask, fresh, next_point, point_at, starting};
 ghost use Rattle.client_server.specs.Points.{is_started, outcome_in, value_asked};
 
 use crate::Memory;
 use crate::point::{Outcome, Point, Request, Stage};
-use crate::queue::{Waiting, queue_up, take_first};
+use crate::queue::{Waiting, has_first, queue_up, take_first};
 use circular_buffer::HeapCircularBuffer;
 use rte_value::{Code, Value};
 use std::alloc::Global;
@@ -83,6 +83,7 @@ impl Server {
         requires { IsSome self.old.queue }
         ensures answer { result ≡ starting self.old }
         ensures variant { is_some result ≡ is_some (next_point self.old) }
+        ensures within { IfSome result (λ r. r.point < length self.old.points) }
         ensures kept { self.new ≡ after_start self.old }
     {
         if self.serving.is_some() {
@@ -97,6 +98,20 @@ impl Server {
             }
             None => None,
         }
+    }
+
+    /// Whether it is a queued server.
+    pub fn is_queued(&self) -> bool
+        ensures { result ≡ is_some self.now.queue }
+    {
+        self.waiting.is_some()
+    }
+
+    /// Whether a start of a queued server may come: a request waits, and none is being served.
+    pub fn may_start(&self) -> bool
+        ensures { result ≡ is_some (next_point self.now) }
+    {
+        self.serving.is_none() && has_first(&self.waiting)
     }
 
     /// Starts a direct server with the request of a point. None exactly where the point has none that has not started.
