@@ -1,18 +1,15 @@
 -- What the calls of a server answer is what the lead gives.
-use Rattle.std.proofs.Common.{◌≡◌, ◌<◌, ℕ, ℤ, zero, suc, Bool, true, false, ◌&&◌, ◌==◌, if◌then◌else◌, refl, sym, ◌∙◌, ap, subst, arith, List, [], ◌∷◌, length, get_or, set, Option, Some, None, is_some}
-use Rattle.std.specs.Prelude.{IsSome, is_none, unwrap_or, option_map, option_and_then}
+use Rattle.std.proofs.Common.{◌≡◌, ℕ, ℤ, Bool, true, false, ◌&&◌, ◌==◌, if◌then◌else◌, refl, sym, ◌∙◌, ap, subst, List, [], set, Option, Some, None, is_some}
+use Rattle.std.specs.Prelude.{IsSome, unwrap_or, option_map, option_and_then}
 use Rattle.std.specs.List.{Contains, slice_get}
-use Rattle.std.proofs.lemmas.Bool.{and_parts, eq-eqb, eqb-true, false≢true}
+use Rattle.std.proofs.lemmas.Bool.{eq-eqb, eqb-true, false≢true}
 use Rattle.std.proofs.lemmas.List.{set-get_or}
-use Rattle.std.proofs.lemmas.Option.{same_Some, slice_get-get_or}
 use Rattle.rte_value.specs.declared.value.Value.{Value}
 use Rattle.rte_value.specs.Values.{words_of, same_words, same_number}
-use Rattle.rte_value.specs.ShortValues.{empty_value}
 use Rattle.rte_value.specs.EqualValues.{same_words-Decides}
-use Rattle.bus_semantics.specs.declared.plan.EventKind.{EventKind}
-use Rattle.bus_semantics.specs.declared.plan.EventKind.TheVariants.{Invoked, Returns}
+use Rattle.bus_semantics.specs.declared.plan.EventKind.TheVariants.{Invoked}
 use Rattle.bus_semantics.specs.declared.entries.Actor.{Actor}
-use Rattle.bus_semantics.specs.declared.entries.Actor.TheVariants.{Env, Machine, Act}
+use Rattle.bus_semantics.specs.declared.entries.Actor.TheVariants.{Act}
 use Rattle.bus_semantics.specs.declared.entries.Deed.{Deed}
 use Rattle.bus_semantics.specs.declared.entries.Deed.TheVariants as deed
 use Rattle.bus_semantics.specs.Plan.{Plan, kind_of, server_of}
@@ -21,9 +18,7 @@ use Rattle.bus_semantics.specs.Rest.{plain_key}
 use Rattle.bus_semantics.specs.Fitting.{start_fits}
 use Rattle.bus_semantics.specs.Asked.{event_of}
 use Rattle.client_server.specs.declared.point.Outcome.{Outcome}
-use Rattle.client_server.specs.declared.point.Point.{Point}
 use Rattle.client_server.specs.declared.point.Request.{Request}
-use Rattle.client_server.specs.declared.point.Stage.TheVariants.{Returned}
 use Rattle.client_server.specs.Kept as calls
 use Rattle.client_server.specs.Points.{is_started, new_point, outcome_in, value_asked}
 use Rattle.object_kinds.specs.declared.acted.Acted.{Acted}
@@ -32,15 +27,14 @@ use Rattle.object_kinds.specs.declared.acted.Shown.{Shown}
 use Rattle.object_kinds.specs.Kinds.{IsAnswerOf}
 use Rattle.object_kinds.specs.Flags.{given}
 use Rattle.object_kinds.specs.Layout.{place}
-use Rattle.object_kinds.proofs.Options.{clash, given_none}
-use Rattle.server_objects.specs.Acting.{Tells, Leads, Holds, IsActed, StartLeads, NoStart, IsStart, ReturnLeads, NoReturn, IsReturned, IsAskedAt, IsTaken}
+use Rattle.server_objects.specs.Acting.{Leads, Holds, IsActed, StartLeads, NoStart, ReturnLeads, IsAskedAt, IsTaken}
 use Rattle.server_objects.specs.Kept.{Kept, ServerState, awaited_at, has_next, is_due_at, may_start}
 use Rattle.server_objects.specs.Layout.{server_in}
-use Rattle.server_objects.specs.Leading.{is_outcome, is_result, asked_at, heard_at, taken_at, own_place, started_next, started_directly, started_server, started_return, lead_of_start, serving_of, returned_at, lead_of_server, with_served, lead, why_held, wakes}
+use Rattle.server_objects.specs.Leading.{is_outcome, is_result, asked_at, heard_at, taken_at, own_place, started_directly, started_server, started_return, lead_of_start, serving_of, returned_at, lead_of_server, with_served, lead, why_held}
 use Rattle.server_objects.specs.Plans.{IsOfPlan}
 use Rattle.server_objects.proofs.Facts.{points_joined}
 use Rattle.server_objects.proofs.Next.{awaited}
-use Rattle.server_objects.proofs.Starting.{flags_left, plain_off, no_start}
+use Rattle.server_objects.proofs.Starting.{flags_left, no_start}
 use Rattle.server_objects.proofs.Staying.{stays_planned}
 use Rattle.server_objects.proofs.Telling.{none_tells}
 

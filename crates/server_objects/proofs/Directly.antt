@@ -10,10 +10,9 @@ use Rattle.bus_semantics.specs.declared.entries.Actor.{Actor}
 use Rattle.bus_semantics.specs.declared.entries.Actor.TheVariants.{Act}
 use Rattle.bus_semantics.specs.declared.entries.Deed.TheVariants as deed
 use Rattle.bus_semantics.specs.Plan.{Plan}
-use Rattle.bus_semantics.specs.History.{Noted, Past, made_by}
+use Rattle.bus_semantics.specs.History.{Noted, Past}
 use Rattle.client_server.specs.declared.point.Point.{Point}
-use Rattle.client_server.specs.declared.point.Stage.{Stage}
-use Rattle.client_server.specs.declared.point.Stage.TheVariants.{Idle, Asked, Started, Returned}
+use Rattle.client_server.specs.declared.point.Stage.TheVariants.{Asked, Started, Returned}
 use Rattle.client_server.specs.Kept as calls
 use Rattle.client_server.specs.Points.{is_idle, is_started, new_point, value_asked}
 use Rattle.object_kinds.proofs.Proper.{noting}

@@ -1,43 +1,33 @@
 -- What a server keeps after each of its entries is what the definitions give from its past and the entry.
-use Rattle.std.proofs.Common.{◌≡◌, ◌<◌, ◌≤◌, ℕ, ℤ, zero, suc, Bool, true, false, ◌&&◌, ◌||◌, ◌==◌, not, if◌then◌else◌, refl, sym, ◌∙◌, ap, subst, arith, List, [], ◌∷◌, ◌++◌, length, map, get_or, set, Option, Some, None, is_some}
-use Rattle.std.specs.Prelude.{option_map, nat_lt}
+use Rattle.std.proofs.Common.{◌≡◌, ◌<◌, ℕ, zero, suc, Bool, true, false, ◌&&◌, ◌==◌, if◌then◌else◌, refl, sym, ◌∙◌, ap, subst, arith, List, [], ◌∷◌, ◌++◌, length, get_or, set, Option, Some, None, is_some}
+use Rattle.std.specs.Prelude.{nat_lt}
 use Rattle.std.specs.List.{slice_get}
-use Rattle.std.proofs.lemmas.Bool.{and_parts, eq-eqb, eqb-true, false≢true}
+use Rattle.std.proofs.lemmas.Bool.{and_parts, eq-eqb, eqb-true}
 use Rattle.std.proofs.lemmas.List.{length-set}
-use Rattle.std.proofs.lemmas.Option.{same_Some, slice_get-get_or, slice_get_within}
+use Rattle.std.proofs.lemmas.Option.{same_Some, slice_get_within}
 use Rattle.rte_value.specs.declared.kinds.ActKey.{ActKey}
 use Rattle.rte_value.specs.declared.value.Value.{Value}
-use Rattle.rte_value.specs.Values.{words_of, same_words, same_number}
-use Rattle.bus_semantics.specs.declared.plan.EventKind.{EventKind}
+use Rattle.rte_value.specs.Values.{words_of, same_number}
 use Rattle.bus_semantics.specs.declared.plan.EventKind.TheVariants.{Invoked, Returns}
 use Rattle.bus_semantics.specs.declared.entries.Actor.{Actor}
 use Rattle.bus_semantics.specs.declared.entries.Actor.TheVariants.{Act}
-use Rattle.bus_semantics.specs.declared.entries.Deed.{Deed}
 use Rattle.bus_semantics.specs.declared.entries.Deed.TheVariants as deed
-use Rattle.bus_semantics.specs.Plan.{Plan, server_of, queue_of, kind_of, runnable_of_event}
+use Rattle.bus_semantics.specs.Plan.{Plan, server_of, kind_of}
 use Rattle.bus_semantics.specs.History.{Noted, Past, made_by}
-use Rattle.bus_semantics.specs.Calls.{is_request_at, returned_by, serves}
+use Rattle.bus_semantics.specs.Calls.{serves}
 use Rattle.bus_semantics.specs.Due.{is_start_by_return_of}
-use Rattle.bus_semantics.specs.Owners.{key_fits}
-use Rattle.bus_semantics.specs.Objects.{served_by}
 use Rattle.client_server.specs.declared.point.Outcome.{Outcome}
 use Rattle.client_server.specs.declared.point.Point.{Point}
-use Rattle.client_server.specs.declared.point.Request.{Request}
-use Rattle.client_server.specs.declared.point.Stage.{Stage}
 use Rattle.client_server.specs.declared.point.Stage.TheVariants.{Idle, Asked, Started, Returned}
 use Rattle.client_server.specs.Kept as calls
 use Rattle.client_server.specs.Points.{is_idle, is_started, new_point, outcome_in, value_asked}
-use Rattle.object_kinds.specs.Layout.{place}
 use Rattle.object_kinds.specs.Rising.{is_rising}
-use Rattle.object_kinds.proofs.Options.{clash, given_some, then_some}
-use Rattle.object_kinds.proofs.Placing.{place_at}
 use Rattle.object_kinds.proofs.Proper.{noting}
-use Rattle.server_objects.specs.Kept.{Kept, awaited_at}
-use Rattle.server_objects.specs.Layout.{server_in, event_in, runnable_in, is_joined_to, IsServer}
-use Rattle.server_objects.specs.Leading.{is_outcome, is_result, with_served}
-use Rattle.server_objects.specs.Standing.{number_at, words_asked, is_returnable, PointStands, RequestsStand, QueueStands, DirectStands, CallsStand, Keeps}
-use Rattle.server_objects.proofs.Facts.{apart_numbers, if_same, key_is, number_there, one_place, other_runnable, own_key, points_joined, points_rise, same_option, set_point}
-use Rattle.server_objects.proofs.Next.{NextStart, Awaited, awaited}
+use Rattle.server_objects.specs.Kept.{Kept}
+use Rattle.server_objects.specs.Layout.{server_in, runnable_in, is_joined_to}
+use Rattle.server_objects.specs.Leading.{with_served}
+use Rattle.server_objects.specs.Standing.{is_returnable, PointStands, QueueStands, DirectStands, CallsStand, Keeps}
+use Rattle.server_objects.proofs.Facts.{apart_numbers, one_place, other_runnable, own_key, points_joined, points_rise, set_point}
 use Rattle.server_objects.proofs.Points as point
 use Rattle.server_objects.proofs.Queued as queued
 use Rattle.server_objects.proofs.Directly as directly

@@ -1,29 +1,25 @@
 -- The law of leads: an entry by which a server leads on follows its past, and what is kept then is what the definitions give.
-use Rattle.std.proofs.Common.{◌≡◌, ◌<◌, ◌≤◌, ℕ, ℤ, zero, suc, Bool, true, false, ◌&&◌, ◌||◌, ◌==◌, not, if◌then◌else◌, refl, sym, ◌∙◌, ap, subst, arith, List, [], ◌∷◌, length, map, set, Option, Some, None, is_some}
-use Rattle.std.specs.Prelude.{option_map, option_and_then, is_none, nat_lt}
+use Rattle.std.proofs.Common.{◌≡◌, ◌<◌, ℕ, Bool, true, false, ◌&&◌, ◌||◌, ◌==◌, not, if◌then◌else◌, refl, sym, ◌∙◌, ap, subst, arith, [], ◌∷◌, length, map, set, Option, Some, None, is_some}
+use Rattle.std.specs.Prelude.{option_map, option_and_then, nat_lt}
 use Rattle.std.specs.List.{slice_get}
 use Rattle.std.proofs.lemmas.Bool.{and_parts, eq-eqb, eqb-true, false≢true}
 use Rattle.std.proofs.lemmas.Option.{same_Some, slice_get-get_or}
 use Rattle.rte_value.specs.declared.kinds.ActKey.{ActKey}
 use Rattle.rte_value.specs.declared.value.Value.{Value}
 use Rattle.rte_value.specs.Values.{words_of, same_words, same_number}
-use Rattle.bus_semantics.specs.declared.plan.EventKind.{EventKind}
 use Rattle.bus_semantics.specs.declared.plan.EventKind.TheVariants.{Invoked, Returns}
 use Rattle.bus_semantics.specs.declared.entries.Actor.{Actor}
 use Rattle.bus_semantics.specs.declared.entries.Actor.TheVariants.{Env, Machine, Act}
 use Rattle.bus_semantics.specs.declared.entries.Deed.{Deed}
 use Rattle.bus_semantics.specs.declared.entries.Deed.TheVariants as deed
-use Rattle.bus_semantics.specs.Plan.{Plan, server_of, queue_of, kind_of, runnable_of_event, instance_of}
+use Rattle.bus_semantics.specs.Plan.{Plan, queue_of, kind_of, runnable_of_event}
 use Rattle.bus_semantics.specs.History.{Noted, Past}
 use Rattle.bus_semantics.specs.Objects.{served_by, touches}
 use Rattle.bus_semantics.specs.Owners.{key_fits}
-use Rattle.bus_semantics.specs.Fitting.{activation_may_want}
-use Rattle.bus_semantics.specs.Wanted.{to_return}
 use Rattle.bus_semantics.specs.Calls.{is_key_point, starts_request, serves}
 use Rattle.bus_semantics.specs.Due.{is_due, is_due_kind}
-use Rattle.bus_semantics.specs.Legal.{calls_allow, due_allows}
 use Rattle.bus_semantics.specs.Locality.{is_proper}
-use Rattle.bus_semantics.specs.Matching.{matches, start_matches, is_open, serves_by, serves_any}
+use Rattle.bus_semantics.specs.Matching.{start_matches, is_open, serves_by, serves_any}
 use Rattle.bus_semantics.specs.Pasts.{Follows}
 use Rattle.client_server.specs.declared.point.Outcome.{Outcome}
 use Rattle.client_server.specs.declared.point.Request.{Request}
@@ -42,7 +38,7 @@ use Rattle.server_objects.specs.Leading.{asked_at, heard_at, is_outcome, is_resu
 use Rattle.server_objects.specs.Standing.{number_at, words_of_asked, request_at, RequestsStand, QueueStands, DirectStands, CallsStand, Keeps}
 use Rattle.server_objects.proofs.Answering as answering
 use Rattle.server_objects.proofs.Directly.{asked_stands, started_stands}
-use Rattle.server_objects.proofs.Facts.{server_is, home_of, runnable_is, queued_point, direct_point, key_is, key_part, own_event, start_part, invoked_names, returns_unnamed, number_there, same_option}
+use Rattle.server_objects.proofs.Facts.{server_is, home_of, queued_point, direct_point, key_is, key_part, own_event, start_part, invoked_names, returns_unnamed, number_there, same_option}
 use Rattle.server_objects.proofs.Keeping as keeping
 use Rattle.server_objects.proofs.Next.{next_start, answer_taken, answer_left, awaited}
 use Rattle.server_objects.proofs.Queued.{started_within}

@@ -1,24 +1,23 @@
 -- What the calls of a server made of what was kept, from what the lead says of them.
-use Rattle.std.proofs.Common.{◌≡◌, ◌<◌, ℕ, ℤ, zero, suc, Bool, true, false, ◌&&◌, ◌==◌, if◌then◌else◌, refl, sym, ◌∙◌, ap, subst, List, [], ◌∷◌, ◌++◌, length, map, drop, set, Option, Some, None, is_some}
-use Rattle.std.specs.Prelude.{option_map, option_and_then, unwrap_or}
+use Rattle.std.proofs.Common.{◌≡◌, ◌<◌, ℕ, true, refl, sym, ◌∙◌, ap, subst, List, [], ◌∷◌, length, map, drop, Option, Some, None}
+use Rattle.std.specs.Prelude.{unwrap_or}
 use Rattle.std.specs.List.{list_all, slice_get}
-use Rattle.std.proofs.lemmas.Bool.{and_parts, eqb-true, eq-eqb, false≢true}
+use Rattle.std.proofs.lemmas.Bool.{false≢true}
 use Rattle.std.proofs.lemmas.Option.{same_Some, slice_get_within}
 use Rattle.rte_value.specs.declared.value.Value.{Value}
-use Rattle.rte_value.specs.Values.{same_number}
 use Rattle.bus_semantics.specs.declared.plan.PointPlan.{PointPlan}
 use Rattle.bus_semantics.specs.declared.plan.EventKind.{EventKind}
 use Rattle.bus_semantics.specs.declared.plan.EventKind.TheVariants.{Returns}
 use Rattle.bus_semantics.specs.Plan.{Plan, server_of, kind_of}
 use Rattle.client_server.specs.declared.point.Outcome.{Outcome}
 use Rattle.client_server.specs.declared.point.Request.{Request}
-use Rattle.client_server.specs.declared.point.Stage.TheVariants.{Idle, Asked, Started, Returned}
+use Rattle.client_server.specs.declared.point.Stage.TheVariants.{Idle, Started}
 use Rattle.client_server.specs.Kept as calls
-use Rattle.client_server.specs.Points.{is_started, outcome_in, value_asked}
+use Rattle.client_server.specs.Points.{outcome_in, value_asked}
 use Rattle.object_kinds.specs.Layout.{events_of, place}
 use Rattle.object_kinds.proofs.Events.{events_all}
 use Rattle.object_kinds.proofs.Lists.{all_at, mapped_at}
-use Rattle.object_kinds.proofs.Options.{clash, then_some, mapped_some}
+use Rattle.object_kinds.proofs.Options.{then_some, mapped_some}
 use Rattle.object_kinds.proofs.Placing.{Placed, placed, place_at}
 use Rattle.object_kinds.proofs.Ranges.{given_at}
 use Rattle.server_objects.specs.Kept.{Kept, awaited_at}

@@ -1,19 +1,16 @@
 -- What a server keeps at first is what the definitions give from no entry.
-use Rattle.std.proofs.Common.{◌≡◌, ℕ, zero, suc, Bool, true, false, refl, sym, ◌∙◌, ap, subst, List, [], ◌∷◌, length, map, get_or, Option, Some, None}
+use Rattle.std.proofs.Common.{◌≡◌, ℕ, zero, suc, refl, sym, ap, subst, [], length, get_or, Option, Some, None}
 use Rattle.std.specs.Prelude.{replicate}
-use Rattle.std.specs.List.{slice_get}
 use Rattle.std.proofs.lemmas.List.{length-replicate}
-use Rattle.rte_value.specs.Values.{same_number}
 use Rattle.bus_semantics.specs.Plan.{Plan, queue_of}
 use Rattle.client_server.specs.declared.point.Point.{Point}
 use Rattle.client_server.specs.Kept as calls
 use Rattle.client_server.specs.Points.{is_started, new_point}
 use Rattle.client_server.proofs.Asked.{none_asked}
-use Rattle.object_kinds.specs.Layout.{events_of}
-use Rattle.server_objects.specs.Kept.{Kept, opening, opening_at}
-use Rattle.server_objects.specs.Layout.{server_in, event_in, points_of, returns_for, awaited_by, IsServer}
+use Rattle.server_objects.specs.Kept.{opening}
+use Rattle.server_objects.specs.Layout.{server_in, points_of, IsServer}
 use Rattle.server_objects.specs.Plans.{IsOfPlan}
-use Rattle.server_objects.specs.Standing.{PointStands, QueueStands, DirectStands, CallsStand, Keeps}
+use Rattle.server_objects.specs.Standing.{PointStands, DirectStands, CallsStand, Keeps}
 
 -- each point is new, and so is one that there is not
 pub new_at : (n i : ℕ) → get_or (replicate n new_point) i new_point ≡ new_point

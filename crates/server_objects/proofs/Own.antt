@@ -1,10 +1,8 @@
 -- An Answer gives the Return of the point's own request.
-use Rattle.std.proofs.Common.{◌≡◌, ◌<◌, ◌≤◌, ℕ, ℤ, zero, suc, Bool, true, false, ◌&&◌, ◌==◌, not, if◌then◌else◌, refl, sym, ◌∙◌, ap, subst, arith, List, [], ◌∷◌, ◌++◌, Option, Some, None, is_some}
-use Rattle.std.specs.Prelude.{is_none, nat_lt, unwrap_or}
-use Rattle.std.specs.List.{list_all}
+use Rattle.std.proofs.Common.{◌≡◌, ◌<◌, ℕ, ℤ, Bool, true, false, ◌&&◌, ◌==◌, not, if◌then◌else◌, refl, sym, ◌∙◌, ap, subst, arith, List, [], ◌∷◌, ◌++◌, Option, Some, None, is_some}
+use Rattle.std.specs.Prelude.{is_none, unwrap_or}
 use Rattle.std.specs.Option.{option_or}
-use Rattle.std.proofs.lemmas.Bool.{and_parts, eq-eqb, eqb-true, false≢true}
-use Rattle.std.proofs.lemmas.Bool.Decides.{nat_tests}
+use Rattle.std.proofs.lemmas.Bool.{and_parts, eqb-true, false≢true}
 use Rattle.std.proofs.lemmas.Option.{same_Some}
 use Rattle.rte_value.specs.declared.kinds.ActKey.{ActKey}
 use Rattle.rte_value.specs.declared.value.Value.{Value}
@@ -19,7 +17,7 @@ use Rattle.bus_semantics.specs.declared.entries.Deed.{Deed}
 use Rattle.bus_semantics.specs.declared.entries.Deed.TheVariants as deed
 use Rattle.bus_semantics.specs.Plan.{Plan, kind_of, server_of}
 use Rattle.bus_semantics.specs.History.{Noted, Past, newest, made_by}
-use Rattle.bus_semantics.specs.Calls.{is_request_at, is_outstanding, returned_by, returned_to, answer_to, result_of, serves, start_names}
+use Rattle.bus_semantics.specs.Calls.{is_request_at, is_outstanding, returned_by, returned_to, answer_to, serves, start_names}
 use Rattle.bus_semantics.specs.Fitting.{start_fits}
 use Rattle.bus_semantics.specs.Objects.{object_of_kind}
 use Rattle.bus_semantics.specs.Legal as legal
@@ -37,7 +35,7 @@ use Rattle.server_objects.proofs.Facts.{if_same, same_keys, same_option, server_
 use Rattle.server_objects.proofs.Leading.{leads_keep}
 use Rattle.server_objects.proofs.Missing.{misses_nothing, named_request}
 use Rattle.server_objects.proofs.Opening.{server_opens}
-use Rattle.server_objects.proofs.Points.{is_return, returns_none}
+use Rattle.server_objects.proofs.Points.{returns_none}
 
 invoked_kind : (p : Plan) (k : EventKind) (q : ℕ) (ws : List ℤ) → start_fits p k (Some q) ws ≡ true → (s : ℕ) × (k ≡ Invoked s)
 invoked_kind p (Invoked s) q ws fit = (s, refl)

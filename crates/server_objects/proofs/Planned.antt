@@ -1,9 +1,9 @@
 -- In a sound plan each server has one event and one runnable, and that event alone starts that runnable.
-use Rattle.std.proofs.Common.{◌≡◌, ◌<◌, ◌≤◌, ◌+◌, ◌-◌, ℕ, zero, suc, Bool, true, false, ◌&&◌, ◌||◌, ◌==◌, not, refl, sym, ◌∙◌, ap, subst, arith, List, [], ◌∷◌, length, Option, Some, None}
+use Rattle.std.proofs.Common.{◌≡◌, ◌<◌, ◌+◌, ℕ, zero, suc, Bool, true, false, ◌&&◌, ◌||◌, ◌==◌, not, refl, sym, ◌∙◌, ap, subst, arith, List, [], ◌∷◌, length, Option, Some, None}
 use Rattle.std.specs.Prelude.{nat_lt, nat_le}
 use Rattle.std.specs.List.{slice_get}
 use Rattle.std.specs.Option.{option_map_or}
-use Rattle.std.proofs.lemmas.Bool.{and_parts, eq-eqb, eqb-true, false≢true}
+use Rattle.std.proofs.lemmas.Bool.{and_parts, eq-eqb, eqb-true}
 use Rattle.std.proofs.lemmas.Option.{same_Some}
 use Rattle.rte_value.specs.Values.{same_number}
 use Rattle.bus_semantics.specs.declared.plan.EventPlan.{EventPlan}
@@ -12,7 +12,7 @@ use Rattle.bus_semantics.specs.declared.plan.EventKind.TheVariants.{Init, Invoke
 use Rattle.bus_semantics.specs.declared.plan.ServerPlan.{ServerPlan}
 use Rattle.bus_semantics.specs.declared.script.Mapping.{Mapping}
 use Rattle.bus_semantics.specs.Plan.{Plan, Runnable, look, every_from, kind_of, runnable_of_event, instance_of}
-use Rattle.bus_semantics.specs.Objects.{first_server, first_area}
+use Rattle.bus_semantics.specs.Objects.{first_server}
 use Rattle.bus_semantics.specs.SoundElements.{server_sound}
 use Rattle.bus_semantics.specs.SoundEvents.{kind_sound, disabling_sound, is_invoked, event_sound, server_served, serves_back}
 use Rattle.bus_semantics.specs.Sound.{IsSound}

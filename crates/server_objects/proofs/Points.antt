@@ -1,8 +1,8 @@
 -- A point: what each entry makes of it.
-use Rattle.std.proofs.Common.{◌≡◌, ℕ, ℤ, zero, suc, Bool, true, false, ◌&&◌, ◌||◌, ◌==◌, not, if◌then◌else◌, refl, sym, ◌∙◌, ap, subst, List, [], ◌∷◌, Option, Some, None, is_some}
+use Rattle.std.proofs.Common.{◌≡◌, ℕ, ℤ, zero, Bool, true, false, ◌&&◌, ◌||◌, ◌==◌, not, if◌then◌else◌, refl, sym, ◌∙◌, ap, List, ◌∷◌, Option, Some, None, is_some}
 use Rattle.std.specs.Prelude.{option_map, nat_lt}
 use Rattle.std.specs.Option.{option_or}
-use Rattle.std.proofs.lemmas.Bool.{eq-eqb, eqb-true, false≢true}
+use Rattle.std.proofs.lemmas.Bool.{eq-eqb, false≢true}
 use Rattle.std.proofs.lemmas.Option.{same_Some}
 use Rattle.rte_value.specs.declared.kinds.ActKey.{ActKey}
 use Rattle.rte_value.specs.declared.value.Value.{Value}
@@ -12,15 +12,14 @@ use Rattle.bus_semantics.specs.declared.entries.Actor.TheVariants.{Env, Machine,
 use Rattle.bus_semantics.specs.declared.entries.Deed.{Deed}
 use Rattle.bus_semantics.specs.declared.entries.Deed.TheVariants as deed
 use Rattle.bus_semantics.specs.Plan.{Plan}
-use Rattle.bus_semantics.specs.History.{Noted, Past, newest}
-use Rattle.bus_semantics.specs.Calls.{is_request_at, takes_reply_at, is_outstanding, returned_by, returned_to, answer_to, serves}
+use Rattle.bus_semantics.specs.History.{Noted, Past}
+use Rattle.bus_semantics.specs.Calls.{is_request_at, takes_reply_at, is_outstanding, returned_by, returned_to, serves}
 use Rattle.bus_semantics.specs.Due.{follows_last, returns_to, is_start_by_return_of}
 use Rattle.client_server.specs.declared.point.Outcome.{Outcome}
 use Rattle.client_server.specs.declared.point.Point.{Point}
 use Rattle.client_server.specs.declared.point.Stage.{Stage}
 use Rattle.client_server.specs.declared.point.Stage.TheVariants.{Idle, Asked, Started, Returned}
 use Rattle.client_server.specs.Points.{is_idle, is_started, outcome_in, value_asked}
-use Rattle.object_kinds.proofs.Options.{clash}
 use Rattle.object_kinds.proofs.Proper.{noting}
 use Rattle.server_objects.specs.Standing.{words_asked, last_asked, told, is_returnable, PointStands}
 

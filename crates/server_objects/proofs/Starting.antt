@@ -1,9 +1,8 @@
 -- A start goes by its flag, and only an Ask or a Return sets one.
 use Rattle.std.proofs.Common.{◌≡◌, ℕ, zero, suc, Bool, true, false, ◌&&◌, ◌==◌, if◌then◌else◌, refl, sym, ◌∙◌, ap, subst, List, [], ◌∷◌, get_or, set, Option, Some, None, is_some}
-use Rattle.std.specs.Prelude.{option_map, option_and_then, is_none, unwrap_or}
+use Rattle.std.specs.Prelude.{option_map, option_and_then, unwrap_or}
 use Rattle.std.specs.List.{slice_get}
 use Rattle.std.proofs.lemmas.Bool.{false≢true}
-use Rattle.rte_value.specs.declared.kinds.ActKey.{ActKey}
 use Rattle.rte_value.specs.declared.value.Value.{Value}
 use Rattle.rte_value.specs.Values.{words_of, same_words, same_number}
 use Rattle.bus_semantics.specs.declared.entries.Actor.{Actor}
@@ -23,7 +22,7 @@ use Rattle.object_kinds.specs.Flags.{given}
 use Rattle.object_kinds.specs.Layout.{place}
 use Rattle.object_kinds.proofs.Options.{given_some, given_none, then_some, mapped_some}
 use Rattle.server_objects.specs.Kept.{Kept, awaited_at, is_due_at, has_next, may_start}
-use Rattle.server_objects.specs.Leading.{is_outcome, is_result, own_place, started_next, started_directly, started_server, started_return, lead_of_start, lead_of_server, with_served, lead, wakes}
+use Rattle.server_objects.specs.Leading.{is_outcome, is_result, own_place, started_server, started_return, lead_of_start, lead_of_server, with_served, lead, wakes}
 use Rattle.server_objects.proofs.Next.{next_start}
 
 -- ---- a start that is not pending

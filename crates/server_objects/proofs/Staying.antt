@@ -1,6 +1,6 @@
 -- No entry changes what a server is of its plan, nor how many points it has.
-use Rattle.std.proofs.Common.{◌≡◌, ℕ, Bool, true, false, ◌&&◌, ◌==◌, if◌then◌else◌, refl, sym, ◌∙◌, ap, subst, List, [], ◌∷◌, length, set, Option, Some, None, is_some}
-use Rattle.std.specs.Prelude.{option_and_then, option_map, is_none}
+use Rattle.std.proofs.Common.{◌≡◌, ℕ, Bool, true, false, ◌&&◌, ◌==◌, if◌then◌else◌, refl, sym, ◌∙◌, subst, length, Option, Some, None, is_some}
+use Rattle.std.specs.Prelude.{option_and_then}
 use Rattle.std.specs.List.{slice_get}
 use Rattle.std.proofs.lemmas.List.{length-set}
 use Rattle.rte_value.specs.declared.value.Value.{Value}
@@ -12,7 +12,6 @@ use Rattle.bus_semantics.specs.declared.entries.Deed.TheVariants as deed
 use Rattle.bus_semantics.specs.Plan.{Plan}
 use Rattle.client_server.specs.declared.point.Outcome.{Outcome}
 use Rattle.client_server.specs.declared.point.Request.{Request}
-use Rattle.client_server.specs.declared.point.Stage.{Stage}
 use Rattle.client_server.specs.Kept as calls
 use Rattle.client_server.specs.Points.{is_started, outcome_in, value_asked}
 use Rattle.object_kinds.specs.Flags.{given}

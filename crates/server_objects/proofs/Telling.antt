@@ -1,5 +1,5 @@
 -- What an Ask or a Return tells is exactly what it made pending.
-use Rattle.std.proofs.Common.{◌≡◌, ◌<◌, ℕ, zero, suc, Bool, true, false, ◌&&◌, ◌==◌, not, if◌then◌else◌, refl, sym, ◌∙◌, ap, subst, arith, List, [], ◌∷◌, ◌++◌, length, get_or, set, Option, Some, None, is_some, ◌⊎◌, inl, inr}
+use Rattle.std.proofs.Common.{◌≡◌, ℕ, zero, suc, Bool, true, false, ◌==◌, if◌then◌else◌, refl, sym, ◌∙◌, ap, subst, arith, List, [], ◌∷◌, ◌++◌, get_or, set, Option, Some, None, ◌⊎◌, inl, inr}
 use Rattle.std.specs.Prelude.{option_and_then}
 use Rattle.std.specs.List.{Contains, slice_get}
 use Rattle.std.proofs.lemmas.Bool.{cases_eq, eq-eqb, eqb-true, false≢true}
@@ -12,7 +12,7 @@ use Rattle.bus_semantics.specs.declared.entries.Deed.TheVariants as deed
 use Rattle.client_server.specs.declared.point.Point.{Point}
 use Rattle.client_server.specs.declared.point.Stage.TheVariants.{Asked, Returned}
 use Rattle.client_server.specs.Kept as calls
-use Rattle.client_server.specs.Points.{is_started, new_point}
+use Rattle.client_server.specs.Points.{new_point}
 use Rattle.object_kinds.specs.Layout.{place}
 use Rattle.object_kinds.specs.Rising.{is_rising}
 use Rattle.object_kinds.proofs.Options.{clash, then_some}
@@ -115,8 +115,7 @@ module _ (k : Kept) (c : calls.Kept) (i : ℕ) (apart : place k.event k.returns 
           let of = awaiting_stands k.returns k.awaited i e told in
           let there : place e k.returns ≡ Some of.at = place_here k.returns of.at e up of.event in
           let at : awaited_at k e ≡ Some i = ap (option_and_then (λ n. slice_get k.awaited n)) there ∙ of.place in
-          let other : (e == k.event) ≡ false = differ (e == k.event) refl of.at there in
-          (
+          let other : (e == k.event) ≡ false = differ (e == k.event) refl of.at there in (
             (λ t. if other t then has_next k.served else is_due_at k.served (at t)) ∙ was,
             (λ t. if other t then has_next c else is_due_at c (at t)) ∙ now,
           )

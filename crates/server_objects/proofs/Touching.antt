@@ -1,6 +1,6 @@
 -- What touches a server: a call at one of its points, a start by its event or by a return event of such a point, a Return by an activation
 -- that serves it.
-use Rattle.std.proofs.Common.{◌≡◌, ◌<◌, ◌+◌, ℕ, true, refl, sym, ◌∙◌, ap, subst, arith, length, Option, Some, None}
+use Rattle.std.proofs.Common.{◌≡◌, ◌<◌, ◌+◌, ℕ, true, ◌∙◌, ap, subst, arith, length, Option, Some}
 use Rattle.std.specs.Prelude.{option_map, option_and_then}
 use Rattle.bus_semantics.specs.declared.plan.EventKind.{EventKind}
 use Rattle.bus_semantics.specs.declared.plan.EventKind.TheVariants.{Timing, Init, DataReceived, Invoked, Returns, ModeSwitch, Ack}

@@ -1,5 +1,5 @@
 -- What the code of a server needs, and what its calls made, in the words of contracts.
-use Rattle.std.proofs.Common.{◌≡◌, ◌<◌, ◌≤◌, ◌+◌, ℕ, zero, suc, Bool, true, false, ◌==◌, if◌then◌else◌, refl, sym, ◌∙◌, ap, subst, arith, List, [], ◌∷◌, ◌++◌, length, get_or, set, take, Option, Some, None, is_some}
+use Rattle.std.proofs.Common.{◌≡◌, ◌<◌, ◌≤◌, ℕ, zero, suc, Bool, true, false, ◌==◌, if◌then◌else◌, refl, sym, ◌∙◌, ap, subst, arith, List, [], ◌∷◌, ◌++◌, length, get_or, set, take, Option, Some, None}
 use Rattle.std.specs.Prelude.{All, IfSome, Vec, map, option_and_then, slice_index_or, unwrap_or}
 use Rattle.std.specs.Global.{Global}
 use Rattle.std.specs.Option.{option_map_or}
@@ -20,7 +20,6 @@ use Rattle.std.proofs.lemmas.List.{get_or-set_same}
 use Rattle.rte_value.specs.declared.value.Value.{Value}
 use Rattle.rte_value.specs.Values.{same_number}
 use Rattle.bus_semantics.specs.declared.entries.Deed.TheVariants as deed
-use Rattle.client_server.specs.declared.point.Outcome.{Outcome}
 use Rattle.client_server.specs.declared.point.Point.{Point}
 use Rattle.client_server.specs.declared.point.Stage.TheVariants.{Returned}
 use Rattle.client_server.specs.Kept as calls
@@ -31,7 +30,7 @@ use Rattle.object_kinds.specs.Rising.{is_rising}
 use Rattle.object_kinds.proofs.Placing.{place_none, place_within}
 use Rattle.server_objects.specs.Acting.{Tells, IsAskedAt, ReturnLeads}
 use Rattle.server_objects.specs.Kept.{Kept, ServerState, awaiting, awaited_at, has_next, told_where}
-use Rattle.server_objects.specs.Leading.{returned_at, with_served}
+use Rattle.server_objects.specs.Leading.{with_served}
 use Rattle.server_objects.proofs.Telling.{ask_tells, return_tells}
 
 pub place_inside : (o : Option ℕ) (x : ℕ) (xs : List ℕ) (n : ℕ) → o ≡ place x xs → n ≡ length xs → IfSome o (λ i. i < n)

@@ -3,7 +3,6 @@
 -- touches the server.
 use Rattle.std.specs.Prelude.{ℕ, List, [], Bool, true, false, ◌&&◌, ◌==◌, if◌then◌else◌, Option, Some, None, is_none, option_map, slice_get}
 use Rattle.std.specs.Option.{option_and_then}
-use Rattle.rte_value.specs.declared.kinds.ActKey.{ActKey}
 use Rattle.rte_value.specs.declared.value.Value.{Value}
 use Rattle.rte_value.specs.Values.{words_of, same_words, same_number}
 use Rattle.bus_semantics.specs.declared.entries.Actor.{Actor}

@@ -5,7 +5,7 @@ ghost use Rattle.bus_semantics.specs.Plan.{plan_of, queue_of};
 ghost use Rattle.bus_semantics.specs.Objects.{first_server};
 ghost use Rattle.object_kinds.specs.Gathered.{listed_at};
 ghost use Rattle.object_kinds.specs.Layout.{events_of};
-ghost use Rattle.server_objects.specs.Kept.{awaiting, opening_at};
+ghost use Rattle.server_objects.specs.Kept.{awaiting, opening};
 ghost use Rattle.server_objects.specs.Layout.{awaited_by, event_in, points_of, returns_for, IsServer};
 ghost use Rattle.server_objects.specs.Plans.{IsOfPlan};
 
@@ -20,16 +20,27 @@ use std::alloc::Global;
 impl ServerObject {
     /// The server of this number, which these points call and for whose points these return events of the plan wait, as `joined_points` and
     /// `return_events` list them. Nothing has happened to it yet. The only error is that there is no memory for it; no later call takes any.
-    pub fn new(alloc: Global, p: &BusPlan, server: u32, points: Vec<u32>, returns: Vec<u32>) -> Result<ServerObject, Memory>
+    pub fn new(
+        alloc: Global,
+        p: &BusPlan,
+        server: u32,
+        points: Vec<u32>,
+        returns: Vec<u32>,
+    ) -> Result<ServerObject, Memory>
         requires server { IsServer (plan_of p.now) (first_server (plan_of p.now) + server) }
         requires points { points.items ≡ points_of (plan_of p.now) server }
         requires few { length p.now.points < 2 ^ 32 }
         requires returns { returns.items ≡ events_of (plan_of p.now) (returns_for (plan_of p.now) server) }
-        ensures kept { IfOk result (λ o. o.kept ≡ opening_at (plan_of p.now) server) }
+        ensures kept { IfOk result (λ o. o.kept ≡ opening (plan_of p.now) (first_server (plan_of p.now) + server)) }
         ensures planned { IfOk result (λ o. IsOfPlan (plan_of p.now) (first_server (plan_of p.now) + server) o.kept) }
     {
         let awaited = awaited_places(alloc, p, server, points.as_slice(), returns.as_slice())?;
-        let by_point = listed_by_point(alloc, points.len(), returns.as_slice(), awaited.as_slice())?;
+        let by_point = listed_by_point(
+            alloc,
+            points.len(),
+            returns.as_slice(),
+            awaited.as_slice(),
+        )?;
         let queue = queue_of(p, server);
         let served = Server::new(alloc, points.len() as u32, queue)?;
         let woken = Vec::with_capacity(alloc, returns.len() + 1)?;
@@ -100,7 +111,12 @@ fn awaited_place(p: &BusPlan, server: u32, points: &[u32], event: u32) -> u32
 }
 
 /// The return events of each of so many points.
-fn listed_by_point(alloc: Global, count: usize, returns: &[u32], awaited: &[u32]) -> Result<Vec<Vec<u32>>, Memory>
+fn listed_by_point(
+    alloc: Global,
+    count: usize,
+    returns: &[u32],
+    awaited: &[u32],
+) -> Result<Vec<Vec<u32>>, Memory>
     requires many { length awaited.now ≡ length returns.now }
     requires within { All (λ i. i < count) awaited.now }
     ensures long { IfOk result (λ lists. length lists.items ≡ count) }

@@ -1,6 +1,4 @@
-use Rattle.std.proofs.Common.{◌≡◌, true, sym, subst}
 use Rattle.bus_semantics.specs.Plan.{plan_of}
-use Rattle.object_kinds.specs.Rising.{is_rising}
 use Rattle.server_objects.proofs.Facts.{points_rise}
 use Rattle.server_objects.proofs.making.awaited_place.Goals as goal
 

@@ -1,4 +1,4 @@
-use Rattle.std.proofs.Common.{◌≡◌, ◌<◌, ◌==◌, ◌+◌, ◌++◌, [], ◌∷◌, suc, if◌then◌else◌, arith, length, get_or, take, sym, ◌∙◌, ap, subst}
+use Rattle.std.proofs.Common.{◌≡◌, ◌<◌, ◌==◌, ◌+◌, ◌++◌, [], ◌∷◌, suc, if◌then◌else◌, arith, length, get_or, take, sym, ◌∙◌, ap}
 use Rattle.server_objects.specs.Kept.{awaiting}
 use Rattle.server_objects.proofs.Whole.{awaiting_more}
 use Rattle.server_objects.proofs.making.listed_by_point.Goals as goal

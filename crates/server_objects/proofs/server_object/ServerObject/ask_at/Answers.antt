@@ -1,4 +1,4 @@
-use Rattle.std.proofs.Common.{◌≡◌, [], ◌∷◌, sym, ◌∙◌, ap, subst}
+use Rattle.std.proofs.Common.{[], ◌∷◌, sym, ◌∙◌, ap, subst}
 use Rattle.server_objects.specs.Acting.{IsAskedAt}
 use Rattle.server_objects.specs.Kept.{ServerState, has_next, told_where}
 use Rattle.server_objects.proofs.Acted.{state}

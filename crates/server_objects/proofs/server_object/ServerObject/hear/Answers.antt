@@ -4,7 +4,7 @@ use Rattle.bus_semantics.specs.Wanted.{to_hear}
 use Rattle.object_kinds.specs.declared.acted.Acted.TheVariants.{NotYet}
 use Rattle.object_kinds.specs.declared.acted.Shown.TheVariants.{NotReturned}
 use Rattle.object_kinds.specs.Layout.{place}
-use Rattle.server_objects.specs.Acting.{IsActed, Leads, Holds}
+use Rattle.server_objects.specs.Acting.{IsActed, Leads}
 use Rattle.server_objects.specs.Kept.{Kept, ServerState}
 use Rattle.server_objects.proofs.Acted.{state, hear_leads, hear_holds, none_heard, nothing_taken}
 use Rattle.server_objects.proofs.server_object.ServerObject.hear.Goals as goal

@@ -1,5 +1,5 @@
-use Rattle.std.proofs.Common.{◌≡◌, ◌<◌, ◌≤◌, ◌+◌, ℕ, arith, length, map, sym, ◌∙◌, ap, subst, is_some, true, None}
-use Rattle.std.specs.Prelude.{All, IfSome, filter}
+use Rattle.std.proofs.Common.{◌≡◌, ◌<◌, ◌≤◌, ◌+◌, arith, length, map, sym, ◌∙◌, ap, subst, is_some, true}
+use Rattle.std.specs.Prelude.{All, IfSome}
 use Rattle.std.proofs.lemmas.List.{length-map, length-replicate}
 use Rattle.std.proofs.lemmas.List.Elements.{filter_passes}
 use Rattle.bus_semantics.specs.declared.plan.EventKind.TheVariants.{Invoked}
@@ -59,6 +59,18 @@ invariant_of-result c =
       lists_many = omega (arith, c.in_ok-by_point.ensures.long, c.len.ensures, c.args.points.ok);
       room_for = omega (arith, c.in_ok-woken.ensures.capacity, c.len-3.ensures, c.args.returns.ok);
     }
+
+pub returns-clause-kept : goal.returns-clause-kept
+returns-clause-kept c =
+    let p = plan_of c.args.p.now in
+    let s = c.args.server in
+    let number : server_in p (first_server p + s) ≡ s = omega arith in
+    let long : c.len-2.result ≡ length (points_of p s) = omega (arith, c.len-2.ensures, c.args.points.ok, ap length c.requires.points) in
+    let served : c.in_ok-served.served ≡ calls.fresh (length (points_of p s)) (queue_of p s) = c.in_ok-served.ensures ∙ (λ t. calls.fresh (long t) (c.queue_of-queue.ensures t)) in
+    let awaited : c.in_ok-awaited.awaited.items ≡ map (awaited_by p s) (events_of p (returns_for p s)) = c.in_ok-awaited.ensures ∙ ap (map (awaited_by p s)) (c.as_slice-2.ensures.value ∙ c.requires.returns) in
+    let made : Kept = record { points = c.args.points.items; event = c.event_of.result; returns = c.args.returns.items; awaited = c.in_ok-awaited.awaited.items; served = c.in_ok-served.served } in
+    let is : made ≡ opening_at p s = λ t. record { points = c.requires.points t; event = c.event_of.ensures t; returns = c.requires.returns t; awaited = awaited t; served = served t } in
+    is ∙ ap (opening_at p) (sym number)
 
 pub returns-clause-planned : goal.returns-clause-planned
 returns-clause-planned c =

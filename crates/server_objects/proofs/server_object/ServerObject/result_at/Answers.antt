@@ -1,6 +1,6 @@
-use Rattle.std.proofs.Common.{◌≡◌, refl, sym, ◌∙◌, ap, subst, Some}
+use Rattle.std.proofs.Common.{sym, ◌∙◌, subst}
 use Rattle.server_objects.specs.Acting.{IsTaken}
-use Rattle.server_objects.specs.Kept.{Kept, ServerState}
+use Rattle.server_objects.specs.Kept.{Kept}
 use Rattle.server_objects.proofs.Acted.{state, outcome_taken, nothing_there}
 use Rattle.server_objects.proofs.server_object.ServerObject.result_at.Goals as goal
 use Rattle.server_objects.proofs.server_object.ServerObject.result_at.Goals.{in-Some, in-None}

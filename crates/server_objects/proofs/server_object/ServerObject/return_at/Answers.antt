@@ -1,4 +1,4 @@
-use Rattle.std.proofs.Common.{◌≡◌, ◌<◌, ◌++◌, [], ◌∷◌, true, arith, length, sym, ◌∙◌, ap, subst}
+use Rattle.std.proofs.Common.{◌<◌, ◌++◌, [], ◌∷◌, true, arith, length, sym, ◌∙◌, ap, subst}
 use Rattle.server_objects.specs.Acting.{ReturnLeads}
 use Rattle.server_objects.specs.Kept.{Kept, ServerState, awaiting, has_next, told_where}
 use Rattle.server_objects.proofs.Acted.{state}

@@ -1,4 +1,4 @@
-use Rattle.std.proofs.Common.{◌≡◌, refl, sym, ◌∙◌, ap, subst, Some, None}
+use Rattle.std.proofs.Common.{◌≡◌, sym, ◌∙◌, ap, subst, Some, None}
 use Rattle.rte_value.specs.Values.{words_of}
 use Rattle.object_kinds.proofs.Placing.{place_at}
 use Rattle.server_objects.specs.Acting.{IsStart}

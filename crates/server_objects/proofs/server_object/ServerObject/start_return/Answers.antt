@@ -1,4 +1,4 @@
-use Rattle.std.proofs.Common.{◌≡◌, refl, sym, ◌∙◌, ap, subst, Some}
+use Rattle.std.proofs.Common.{◌≡◌, sym, ◌∙◌, ap, subst, Some}
 use Rattle.server_objects.specs.Acting.{IsStart}
 use Rattle.server_objects.specs.Kept.{Kept, ServerState, awaited_at}
 use Rattle.server_objects.proofs.Acted.{state, return_start_leads, return_start_none}

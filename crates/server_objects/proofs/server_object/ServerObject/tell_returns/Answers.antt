@@ -1,4 +1,4 @@
-use Rattle.std.proofs.Common.{◌≡◌, ◌<◌, ◌≤◌, ◌++◌, true, arith, length, sym, ◌∙◌, ap, subst}
+use Rattle.std.proofs.Common.{◌≡◌, ◌<◌, ◌≤◌, ◌++◌, true, arith, length, sym, ◌∙◌, ap}
 use Rattle.server_objects.specs.Kept.{ServerState, awaiting, told_where}
 use Rattle.server_objects.proofs.Whole.{few_awaiting, listed_there}
 use Rattle.server_objects.proofs.server_object.ServerObject.tell_returns.Goals as goal
