@@ -225,7 +225,7 @@ impl Machine {
 
     /// Makes the next phase, where it may come (mode switch procedure). The list then has the names of the mode switch events by
     /// which a start became possible and of the acknowledgement events that became pending, and no others; each of these events has
-    /// a name, at its place in its list of names. A phase costs as much as there are such events.
+    /// a name, at its place in its list of names. A phase costs as much as there are such events. Where none may come nothing changes.
     pub fn advance(&mut self, names: &[u32], ack_names: &[u32], woken: &mut Vec<u32>) -> Advanced
         requires named { length names.now ≡ length self.old.owed }
         requires acks_named { length ack_names.now ≡ length self.old.acks }
@@ -234,12 +234,13 @@ impl Machine {
         ensures kept { self.new ≡ after_advance result self.old }
         ensures woken { (event name : ℕ) → may_start (owed_at event self.old) ≡ false → may_start (owed_at event self.new) ≡ true → slice_get names.now event ≡ Some name → Contains woken.new.items name }
         ensures acked { (event name : ℕ) → is_acked event self.old ≡ false → is_acked event self.new ≡ true → slice_get ack_names.now event ≡ Some name → Contains woken.new.items name }
-        ensures only { (name : ℕ) → Contains woken.new.items name → IsStartable names.now self.old self.new name ⊎ IsAcknowledged ack_names.now self.old self.new name }
+        ensures only { is_phase result ≡ true → (name : ℕ) → Contains woken.new.items name → IsStartable names.now self.old self.new name ⊎ IsAcknowledged ack_names.now self.old self.new name }
+        ensures left { is_phase result ≡ false → woken.new ≡ woken.old }
         ensures capacity { vec_capacity woken.new ≡ vec_capacity woken.old }
     {
-        woken.clear();
         let advanced = self.next_phase();
         if let Advanced::Did(step) = advanced {
+            woken.clear();
             self.tell(step, names, ack_names, woken);
             self.make(step);
         }

@@ -1,0 +1,16 @@
+mod Picking
+mod Moves
+mod Touches
+mod Past
+mod Steps
+mod Answering
+mod Leading
+mod Missing
+mod Opening
+mod Planned
+mod Starting
+mod Telling
+mod Acting
+mod Ending
+mod Acted
+mod Made

@@ -1,0 +1,6 @@
+pub mod Layout
+pub mod Kept
+pub mod Plans
+pub mod Leading
+pub mod Standing
+pub mod Acting

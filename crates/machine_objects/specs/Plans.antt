@@ -1,0 +1,27 @@
+-- A machine as it is of a plan: what no call changes, and that each mode in it is one of the plan's.
+use Rattle.std.specs.Prelude.{◌≡◌, ℕ, ◌≤◌, true, nat_lt, Some}
+use Rattle.std.specs.List.{list_all}
+use Rattle.bus_semantics.specs.declared.entries.Actor.{Actor}
+use Rattle.bus_semantics.specs.Plan.{Plan}
+use Rattle.bus_semantics.specs.Owners.{modes_of}
+use Rattle.bus_semantics.specs.Objects.{object_of}
+use Rattle.bus_semantics.specs.Fitting.{wish_fits}
+use Rattle.bus_semantics.specs.Wanted.{Wanted}
+use Rattle.machine_objects.specs.Layout.{IsMachine, machine_of, owed_events, ack_events, disabled_events}
+use Rattle.machine_objects.specs.Kept.{Kept}
+
+pub record IsOfPlan (p : Plan) (object : ℕ) (k : Kept) : Type 0 where
+  pub is_machine : IsMachine p object
+  pub owed : k.owed ≡ owed_events p (machine_of p object)
+  pub acks : k.acks ≡ ack_events p (machine_of p object)
+  pub disabled : k.disabled ≡ disabled_events p (machine_of p object)
+  pub modes : k.machine.modes ≡ modes_of p (machine_of p object)
+  pub settled : k.machine.settled ≤ modes_of p (machine_of p object)
+  pub next : k.machine.next ≤ modes_of p (machine_of p object)
+  pub unbegun : list_all (λ mode. nat_lt mode (modes_of p (machine_of p object))) k.machine.unbegun ≡ true
+
+-- the wish fits its actor and touches the machine
+pub record IsAskedOf (p : Plan) (object : ℕ) (a : Actor) (w : Wanted) (k : Kept) : Type 0 where
+  pub fits : wish_fits p a w ≡ true
+  pub touching : object_of p a w ≡ Some object
+  pub planned : IsOfPlan p object k
