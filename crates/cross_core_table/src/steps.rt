@@ -1,0 +1,160 @@
+//! The atomic steps of a seat, and its work on the object that it holds.
+
+ghost use Rattle.std.specs.Prelude.{◌≡◌, ◌<◌, suc, [], ◌∷◌, length, true, Some, None};
+ghost use Rattle.bus_semantics.specs.Plan.{plan_of};
+ghost use Rattle.bus_semantics.specs.SoundPlan.{groups_fit};
+ghost use Rattle.bus_semantics.specs.Wanted.{wanted_of};
+ghost use Rattle.bus_semantics.specs.Fitting.{wish_fits};
+ghost use Rattle.bus_semantics.specs.Objects.{object_of, touched_by};
+ghost use Rattle.bus_semantics.specs.Asked.{asks_its_own};
+ghost use Rattle.port_objects.specs.declared.object.Object.{Object};
+ghost use Rattle.port_objects.specs.Objects.{kept_of, IsOfPlan};
+ghost use Rattle.port_objects.specs.Answers.{IsAnswer};
+ghost use Rattle.cross_core_table.specs.declared.views.Held.{Held};
+ghost use Rattle.cross_core_table.specs.Logs.{plan_in, kept_after};
+ghost use Rattle.cross_core_table.specs.Plays.{as_stamped, held_of, held_after, making, letting_go, having_looked};
+ghost use Rattle.cross_core_table.specs.Places.{IsSamePlace, IsIdle, IsHolding, HasTried};
+
+use crate::plays::{Lock, Look, Names, Ruled, StampOff, StampOn, Unlock};
+use crate::views::{Opening, View};
+use atomic_table::{Seat, Shared};
+use bus_semantics::{Actor, BusPlan, Entry, Wish};
+use object_kinds::Acted;
+use port_objects::{Object, act};
+use std::marker::Brand;
+
+/// The table as its seats see it.
+pub(crate) type Top = Shared<Object, View, Opening, Ruled>;
+
+/// A seat of it.
+pub(crate) type Place = Seat<Object, View>;
+
+/// A single try for an object: the word that was found, which is 0 exactly if the seat then holds the object.
+pub(crate) fn try_lock(top: &Top, place: &mut Place, core: u32, object: u32) -> u64
+    requires table { place.old.table_id ≡ top.now.table_id }
+    requires words { top.now.table_id.words ≡ suc top.now.table_id.slots }
+    requires idle { IsIdle top.now.key core place.old.me }
+    requires within { object < top.now.table_id.slots }
+    ensures same { IsSamePlace place.old place.new }
+    ensures tried { HasTried top.now.key core object result place.old.me place.new.me }
+{
+    top.compare_exchange::<Lock>(place, object as usize + 1, 0, core as u64 + 1)
+}
+
+/// Makes the entry of a wish on the object that the seat holds, if one may come.
+pub(crate) fn act_on(
+    top: &Top,
+    place: &mut Place,
+    p: &BusPlan,
+    object: u32,
+    who: &Actor,
+    wish: &Wish,
+) -> Acted
+    requires table { place.old.table_id ≡ top.now.table_id }
+    requires groups { groups_fit (plan_of p.now) ≡ true }
+    requires touching { object_of (plan_of p.now) who.now (wanted_of wish.now) ≡ Some object }
+    requires fits { wish_fits (plan_of p.now) who.now (wanted_of wish.now) ≡ true }
+    requires own { asks_its_own (plan_of p.now) who.now (wanted_of wish.now) ≡ true }
+    requires holds { (held : Object) × (place.old.me.1 ≡ (object, held) ∷ []) × IsOfPlan (plan_of p.now) object held }
+    ensures same { IsSamePlace place.old place.new }
+    ensures view { place.new.me.0 ≡ place.old.me.0 }
+    ensures acted { (held : Object) → place.old.me.1 ≡ (object, held) ∷ [] → (now : Object) × (place.new.me.1 ≡ (object, now) ∷ [])
+        × IsAnswer (plan_of p.now) object who.now (wanted_of wish.now) held now result × IsOfPlan (plan_of p.now) object now }
+{
+    let held = place.slot_mut(top, object as usize);
+    act(p, held, who, wish)
+}
+
+/// Stamps an entry of the object that the seat holds, and answers its stamp.
+pub(crate) fn stamp_on(
+    top: &Top,
+    place: &mut Place,
+    object: u32,
+    entry: &Entry,
+    event: Option<u32>,
+) -> u64
+    requires table { place.old.table_id ≡ top.now.table_id }
+    requires words { 0 < top.now.table_id.words }
+    requires opening { place.old.me.0.opening ≡ Some top.now.key }
+    requires holds { (h : Held) × (place.old.me.0.held ≡ Some h) × (h.object ≡ object) }
+    requires touching { touched_by (plan_in top.now.key) (record { entry = entry.now; event = event }) ≡ Some object }
+    requires room { length place.old.me.0.made < top.now.key.room }
+    ensures same { IsSamePlace place.old place.new }
+    ensures stamped { place.new.me ≡ (record (making place.old.me.0 (as_stamped result entry.now event)) { held = held_after place.old.me.0.held (as_stamped result entry.now event) }, place.old.me.1) }
+{
+    stamp_on_as::<Brand>(top, place, object, entry, event)
+}
+
+/// The same, where the entry is named.
+fn stamp_on_as<N: Names>(
+    top: &Top,
+    place: &mut Place,
+    object: u32,
+    entry: &Entry,
+    event: Option<u32>,
+) -> u64
+    requires named { (N.entry ≡ entry.now) × (N.event ≡ event) }
+    requires table { place.old.table_id ≡ top.now.table_id }
+    requires words { 0 < top.now.table_id.words }
+    requires opening { place.old.me.0.opening ≡ Some top.now.key }
+    requires holds { (h : Held) × (place.old.me.0.held ≡ Some h) × (h.object ≡ object) }
+    requires touching { touched_by (plan_in top.now.key) (record { entry = entry.now; event = event }) ≡ Some object }
+    requires room { length place.old.me.0.made < top.now.key.room }
+    ensures same { IsSamePlace place.old place.new }
+    ensures stamped { place.new.me ≡ (record (making place.old.me.0 (as_stamped result entry.now event)) { held = held_after place.old.me.0.held (as_stamped result entry.now event) }, place.old.me.1) }
+{
+    let (_object, _entry, _event) = (object, entry, event);
+    top.fetch_add::<StampOn<N>>(place, 0, 1)
+}
+
+/// Stamps an entry that touches no object, and answers its stamp.
+pub(crate) fn stamp_off(top: &Top, place: &mut Place, entry: &Entry) -> u64
+    requires table { place.old.table_id ≡ top.now.table_id }
+    requires words { 0 < top.now.table_id.words }
+    requires opening { place.old.me.0.opening ≡ Some top.now.key }
+    requires alone { touched_by (plan_in top.now.key) (record { entry = entry.now; event = None }) ≡ None }
+    requires room { length place.old.me.0.made < top.now.key.room }
+    ensures same { IsSamePlace place.old place.new }
+    ensures stamped { place.new.me ≡ (making place.old.me.0 (as_stamped result entry.now None), place.old.me.1) }
+{
+    stamp_off_as::<Brand>(top, place, entry)
+}
+
+/// The same, where the entry is named.
+fn stamp_off_as<N: Names>(top: &Top, place: &mut Place, entry: &Entry) -> u64
+    requires named { N.entry ≡ entry.now }
+    requires table { place.old.table_id ≡ top.now.table_id }
+    requires words { 0 < top.now.table_id.words }
+    requires opening { place.old.me.0.opening ≡ Some top.now.key }
+    requires alone { touched_by (plan_in top.now.key) (record { entry = entry.now; event = None }) ≡ None }
+    requires room { length place.old.me.0.made < top.now.key.room }
+    ensures same { IsSamePlace place.old place.new }
+    ensures stamped { place.new.me ≡ (making place.old.me.0 (as_stamped result entry.now None), place.old.me.1) }
+{
+    let _entry = entry;
+    top.fetch_add::<StampOff<N>>(place, 0, 1)
+}
+
+/// Gives back the object that the seat holds, after an entry.
+pub(crate) fn unlock(top: &Top, place: &mut Place, object: u32)
+    requires table { place.old.table_id ≡ top.now.table_id }
+    requires words { top.now.table_id.words ≡ suc top.now.table_id.slots }
+    requires within { object < top.now.table_id.slots }
+    requires holds { IsHolding top.now.key place.old.me object }
+    ensures same { IsSamePlace place.old place.new }
+    ensures idle { place.new.me ≡ (letting_go place.old.me.0, []) }
+{
+    top.store::<Unlock>(place, object as usize + 1, 0);
+}
+
+/// Gives back the object that the seat holds, without an entry: it has looked.
+pub(crate) fn look(top: &Top, place: &mut Place, object: u32)
+    requires table { place.old.table_id ≡ top.now.table_id }
+    requires words { top.now.table_id.words ≡ suc top.now.table_id.slots }
+    requires within { object < top.now.table_id.slots }
+    requires holds { IsHolding top.now.key place.old.me object }
+    ensures same { IsSamePlace place.old place.new }
+    ensures idle { place.new.me ≡ (having_looked place.old.me.0, []) }
+{
+    top.store::<Look>(place, object as usize + 1, 0);
+}
