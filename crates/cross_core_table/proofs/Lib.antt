@@ -1,6 +1,10 @@
-pub mod Lists
-pub mod Logs
-pub mod Frames
-pub mod Keeping
-pub mod Seats
-pub mod Hands
+mod Lists
+mod Logs
+mod Frames
+mod Keeping
+mod Seating
+mod Hands
+mod Acts
+mod Ends
+mod Orders
+mod Takings

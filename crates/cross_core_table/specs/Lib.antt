@@ -3,3 +3,8 @@ pub mod Rules
 pub mod Plays
 pub mod Keeping
 pub mod Places
+pub mod OpenRounds
+pub mod Seats
+pub mod Closing
+pub mod Ordering
+pub mod Taking

@@ -2,6 +2,7 @@
 use Rattle.std.specs.Prelude.{◌≡◌, ◌≢◌, ◌<◌, ℕ, suc, List, [], ◌∷◌, Option, Some, None, unwrap_or}
 use Rattle.atomic_table.specs.declared.shared.Seat.{Seat}
 use Rattle.bus_semantics.specs.declared.entries.Actor.{Actor}
+use Rattle.bus_semantics.specs.declared.entries.Entry.{Entry}
 use Rattle.bus_semantics.specs.declared.entries.Stamped.{Stamped}
 use Rattle.bus_semantics.specs.Plan.{Plan}
 use Rattle.bus_semantics.specs.Wanted.{Wanted, wanted_by}
@@ -53,6 +54,17 @@ pub record IsHolding (k : Opening) (m : Sat) (o : ℕ) : Type 0 where
   pub entries : List Stamped
   pub held : m.0.held ≡ Some (held_of o entries)
   pub kept : kept_after k o entries ≡ Some (kept_of object)
+  pub planned : IsOfPlan (plan_in k) o object
+
+-- an entry was made on the object that a seat holds, and is not stamped yet: what it kept leads by it to what it keeps
+pub record IsToKeep (k : Opening) (m : Sat) (o : ℕ) (e : Entry) (event : Option ℕ) : Type 0 where
+  pub object : Object
+  pub slots : m.1 ≡ (o, object) ∷ []
+  pub entries : List Stamped
+  pub held : m.0.held ≡ Some (held_of o entries)
+  pub before : Kept
+  pub kept : kept_after k o entries ≡ Some before
+  pub leads : lead (plan_in k) o before (record { entry = e; event = event }) ≡ Some (kept_of object)
   pub planned : IsOfPlan (plan_in k) o object
 
 -- a try for an object: the seat has it, or the word named another core and the seat holds nothing

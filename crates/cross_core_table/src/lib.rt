@@ -1,10 +1,19 @@
 //! The shared table of a round: cores act on the objects of a bus at the same time, each by its own seat.
 #![tactic(auto)]
 
+mod acting;
+mod bench;
 mod laws;
 mod plays;
+mod round;
+mod seats;
 mod steps;
+mod threads;
 mod views;
 
-pub use laws::each_step_keeps_the_rule;
+pub use bench::SeatBench;
+pub use laws::{each_step_keeps_the_rule, rounds_end_whole};
+pub use plays::Ruled;
+pub use round::Round;
+pub use seats::CoreSeat;
 pub use views::{Held, Opening, Part, Tried, View};

@@ -1,5 +1,5 @@
 use Rattle.cross_core_table.proofs.Keeping as steps
-use Rattle.cross_core_table.proofs.Seats as seats
+use Rattle.cross_core_table.proofs.Seating as seats
 use Rattle.cross_core_table.proofs.laws.each_step_keeps_the_rule.Goals as goal
 
 pub returns-clause-opening : goal.returns-clause-opening

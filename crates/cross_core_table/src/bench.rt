@@ -1,0 +1,113 @@
+//! A seat at its bench.
+
+ghost use Rattle.std.specs.Prelude.{◌≡◌, ◌<◌, length};
+ghost use Rattle.bus_semantics.specs.Plan.{plan_of};
+ghost use Rattle.bus_semantics.specs.Wanted.{wanted_of};
+ghost use Rattle.port_objects.specs.Benches.{IsAsked};
+ghost use Rattle.cross_core_table.specs.Logs.{plan_in};
+ghost use Rattle.cross_core_table.specs.Places.{KnowsAfter};
+ghost use Rattle.cross_core_table.specs.Seats.{IsSeatOf, view_of, core_of};
+
+use crate::acting::{act_at, stamp_at};
+use crate::round::Round;
+use crate::seats::CoreSeat;
+use bus_semantics::{Actor, BusPlan, Entry, Wish};
+use port_objects::{Bench, Benched};
+use std::marker::Model;
+
+/// A seat of a round, as the bench of its core's turns. It borrows the round and the plan. Contracts see the round, the core, and
+/// what the seat knows. It tells its work, and not its objects. No call takes memory, and none waits.
+#[derive(Drop)]
+pub struct SeatBench<'a> {
+    round: &'a Round,
+    plan: &'a BusPlan,
+    seat: CoreSeat,
+}
+
+impl<'a> Model for SeatBench<'a> {
+    ghost use Rattle.std.specs.Prelude.{◌≡◌};
+    ghost use Rattle.bus_semantics.specs.Plan.{plan_of};
+    ghost use Rattle.cross_core_table.specs.Logs.{plan_in};
+    ghost use Rattle.cross_core_table.specs.OpenRounds.{Sitting};
+    ghost use Rattle.cross_core_table.specs.Seats.{IsSeatOf};
+    ghost use Rattle.runnable_lang.specs.contracts.stmt.Stmt as statements;
+    ghost use Rattle.runnable_lang.specs.contracts.stmt.Expr as expressions;
+    ghost use Rattle.std.specs.Coded.{codes};
+
+    ghost Value = { Sitting };
+
+    ghost coded = { Prim.hlevel (codes, statements.the_row.coded, expressions.the_row.coded) };
+
+    ghost view = { λ b. record { round = b.round.now; core = b.seat.core; view = b.seat.place.me.0 } };
+
+    ghost invariant = { λ b. IsSeatOf b.round.now b.seat.core b.seat × (plan_of b.plan.now ≡ plan_in b.round.now.opening) };
+}
+
+impl Round {
+    /// The bench of a seat of this round, over the plan of the round. It takes no memory.
+    pub fn bench<'a>(&'a self, p: &'a BusPlan, seat: CoreSeat) -> SeatBench<'a>
+        requires plan { plan_of p.now ≡ plan_in self.now.opening }
+        requires seat { IsSeatOf self.now (core_of seat) seat }
+        ensures { result ≡ record { round = self.now; core = core_of seat; view = view_of seat } }
+    {
+        SeatBench {
+            round: self,
+            plan: p,
+            seat,
+        }
+    }
+}
+
+impl<'a> SeatBench<'a> {
+    /// The seat, given back. It takes no memory.
+    pub fn leave(self) -> CoreSeat
+        ensures seat { IsSeatOf self.entry.round self.entry.core result }
+        ensures view { view_of result ≡ self.entry.view }
+    {
+        self.seat
+    }
+
+    /// Makes the entry of a wish on the object of this number, if no other core holds it and one may come. It tries the object
+    /// once, and waits for nobody.
+    ///
+    /// What the seat then knows says why: after `Done` the entry is the last of what the core made; after `NotYet` the seat has
+    /// looked at the object, and after the entries that it saw there no entry of the wish leads on; after `Contended` its one try
+    /// found the word of the object naming another core.
+    pub fn act_once(&mut self, object: u32, who: &Actor, wish: &Wish) -> Benched
+        requires room { length self.old.view.made < self.old.round.opening.room }
+        requires asked { IsAsked (plan_in self.old.round.opening) object who.now (wanted_of wish.now) }
+        ensures round { self.new.round ≡ self.old.round }
+        ensures core { self.new.core ≡ self.old.core }
+        ensures knows { KnowsAfter self.old.round.opening self.old.core object who.now (wanted_of wish.now) self.old.view self.new.view result }
+    {
+        act_at(
+            self.round.top(),
+            self.plan,
+            &mut self.seat,
+            object,
+            who,
+            wish,
+        )
+    }
+}
+
+impl<'a> Bench for SeatBench<'a> {
+    ghost use Rattle.cross_core_table.specs.Logs.{plan_in};
+    ghost use Rattle.cross_core_table.specs.OpenRounds.{told_of};
+
+    type Home = (Round, u32);
+
+    ghost home = { λ b. (b.round, b.core) };
+
+    ghost plan = { λ b. plan_in b.round.opening };
+
+    ghost told = { told_of };
+
+    fn act(&mut self, object: u32, who: &Actor, wish: &Wish) -> Benched {
+        self.act_once(object, who, wish)
+    }
+
+    fn stamp(&mut self, entry: &Entry) -> u64 {
+        stamp_at(self.round.top(), &mut self.seat, entry)
+    }
+}
