@@ -8,3 +8,5 @@ mod Acts
 mod Ends
 mod Orders
 mod Takings
+mod Givings
+mod Opens

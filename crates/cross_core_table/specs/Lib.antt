@@ -6,5 +6,8 @@ pub mod Places
 pub mod OpenRounds
 pub mod Seats
 pub mod Closing
+pub mod Ready
+pub mod Opened
+pub mod Openings
 pub mod Ordering
 pub mod Taking

@@ -3,16 +3,21 @@
 
 mod acting;
 mod bench;
+mod giving;
 mod laws;
+mod opened;
+mod opening;
 mod plays;
 mod round;
 mod seats;
+mod space;
 mod steps;
 mod threads;
 mod views;
 
 pub use bench::SeatBench;
 pub use laws::{each_step_keeps_the_rule, rounds_end_whole};
+pub use opened::Opened;
 pub use plays::Ruled;
 pub use round::Round;
 pub use seats::CoreSeat;

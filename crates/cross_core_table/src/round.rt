@@ -1,7 +1,6 @@
 //! A round: cores act on the objects of a bus at the same time.
 
 ghost use Rattle.std.specs.Prelude.{◌≡◌, suc, true};
-ghost use Rattle.bus_semantics.specs.Plan.{plan_of};
 ghost use Rattle.bus_semantics.specs.SoundPlan.{groups_fit};
 ghost use Rattle.cross_core_table.specs.Logs.{plan_in};
 
@@ -21,13 +20,15 @@ pub struct Round {
     pub(crate) table: Table<Object, View, Opening, Ruled, Global>,
     /// Empty, with room for all entries of the round.
     pub(crate) entries: Vec<Stamped>,
+    /// Empty, with room for the part of each core.
+    pub(crate) rooms: Vec<Vec<Stamped>>,
+    /// Empty, with room for all objects.
+    pub(crate) returned: Vec<Object>,
     pub(crate) cores: u32,
 }
 
 impl Model for Round {
-    ghost use Rattle.std.specs.Prelude.{◌≡◌, suc, true};
-    ghost use Rattle.bus_semantics.specs.SoundPlan.{groups_fit};
-    ghost use Rattle.cross_core_table.specs.Logs.{plan_in};
+    ghost use Rattle.cross_core_table.specs.Ready.{IsReady};
     ghost use Rattle.cross_core_table.specs.OpenRounds.{OpenRound};
     ghost use Rattle.runnable_lang.specs.contracts.stmt.Stmt as statements;
     ghost use Rattle.runnable_lang.specs.contracts.stmt.Expr as expressions;
@@ -39,7 +40,7 @@ impl Model for Round {
 
     ghost view = { λ r. record { table = r.table.shared.table_id; opening = r.table.shared.key; cores = r.cores } };
 
-    ghost invariant = { λ r. (r.table.shared.table_id.words ≡ suc r.table.shared.table_id.slots) × (r.table.shared.table_id.slots ≡ (plan_in r.table.shared.key).objects) × (groups_fit (plan_in r.table.shared.key) ≡ true) };
+    ghost invariant = { λ r. IsReady r.table.shared.table_id r.table.shared.key r.cores r.entries r.rooms r.returned };
 }
 
 impl Round {

@@ -6,6 +6,7 @@ use std::collections::LinkedList;
 use std::snapshot::Snapshot;
 
 /// What a round was opened with: the plan, the objects as they were, and how many entries each core may make.
+#[derive(Drop)]
 pub struct Opening {
     pub plan: Snapshot<BusPlan>,
     pub objects: Snapshot<Vec<Object>>,

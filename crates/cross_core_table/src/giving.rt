@@ -1,0 +1,98 @@
+//! The memory of a round, and how its seats are given.
+
+ghost use Rattle.std.specs.Prelude.{◌≡◌, ◌≤◌, ◌<◌, ◌^◌, ℕ, suc, [], IfOk};
+ghost use Rattle.std.specs.Vec.{vec_capacity};
+ghost use Rattle.cross_core_table.specs.Plays.{first_view};
+ghost use Rattle.cross_core_table.specs.Opened.{HasSpace, AreRooms, AreGiven};
+
+use crate::plays::Give;
+use crate::seats::CoreSeat;
+use crate::space::Space;
+use crate::steps::{Place, Top};
+use bus_semantics::Stamped;
+use port_objects::{Memory, Object};
+use std::alloc::Global;
+
+/// Takes the memory of a round with so many objects and cores, and room for so many entries of each core.
+pub(crate) fn take_space(
+    alloc: Global,
+    objects: usize,
+    cores: u32,
+    room: u32,
+) -> Result<Space, Memory>
+    requires { (objects < 2 ^ 32) × (cores ≤ 8) }
+    ensures { IfOk result (HasSpace objects cores room) }
+{
+    let words = Vec::from_elem(alloc, 0u64, objects + 1)?;
+    let seats = Vec::with_capacity(alloc, cores as usize)?;
+    let entries = Vec::with_capacity(alloc, cores as usize * room as usize)?;
+    let returned = Vec::with_capacity(alloc, objects)?;
+    let rooms = take_rooms(alloc, cores, room)?;
+    Ok(Space {
+        words,
+        rooms,
+        seats,
+        entries,
+        returned,
+    })
+}
+
+/// Takes room for so many entries of each core.
+fn take_rooms(alloc: Global, cores: u32, room: u32) -> Result<Vec<Vec<Stamped>>, Memory>
+    ensures rooms { IfOk result (λ v. AreRooms cores room v.items) }
+    ensures space { IfOk result (λ v. cores ≤ vec_capacity v) }
+{
+    let mut rooms = Vec::with_capacity(alloc, cores as usize)?;
+    for _core in 0..cores {
+        let made = Vec::with_capacity(alloc, room as usize)?;
+        rooms.push_reserved(made);
+    }
+    Ok(rooms)
+}
+
+/// Gives a seat to each core: the first one is that of core 0, and gives the others.
+pub(crate) fn give_seats(
+    top: &Top,
+    first: Place,
+    rooms: &mut Vec<Vec<Stamped>>,
+    seats: &mut Vec<CoreSeat>,
+    cores: u32,
+)
+    requires table { first.table_id ≡ top.now.table_id }
+    requires words { 0 < top.now.table_id.words }
+    requires seat { first.me ≡ (first_view top.now.key, []) }
+    requires cores { (1 ≤ cores) × (cores ≤ 8) }
+    requires rooms { AreRooms cores top.now.key.room rooms.old.items }
+    requires seats { (seats.old.items ≡ []) × (cores ≤ vec_capacity seats.old) }
+    ensures rooms { (rooms.new.items ≡ []) × (vec_capacity rooms.new ≡ vec_capacity rooms.old) }
+    ensures seats { AreGiven top.now.table_id top.now.key cores seats.new.items }
+{
+    let Some(made) = rooms.pop() else {
+        unreachable!()
+    };
+    seats.push_reserved(CoreSeat {
+        place: first,
+        made,
+        core: 0,
+    });
+    for core in 1..cores {
+        let Some(made) = rooms.pop() else {
+            unreachable!()
+        };
+        give_next(top, seats, made, core);
+    }
+}
+
+/// Gives the next core its seat.
+fn give_next(top: &Top, seats: &mut Vec<CoreSeat>, made: Vec<Stamped>, core: u32)
+    requires words { 0 < top.now.table_id.words }
+    requires core { (1 ≤ core) × (core < 8) }
+    requires seats { AreGiven top.now.table_id top.now.key core seats.old.items }
+    requires space { core < vec_capacity seats.old }
+    requires made { (made.items ≡ []) × (top.now.key.room ≤ vec_capacity made) }
+    ensures seats { AreGiven top.now.table_id top.now.key (suc core) seats.new.items }
+    ensures space { vec_capacity seats.new ≡ vec_capacity seats.old }
+{
+    let place = top.split_seat::<Give>(&mut seats[0].place);
+    seats.push_reserved(CoreSeat { place, made, core });
+}
