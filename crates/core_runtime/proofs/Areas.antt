@@ -11,7 +11,7 @@ use Rattle.port_objects.specs.Leading.{lead}
 use Rattle.port_objects.specs.Objects.{kept_of}
 use Rattle.port_objects.specs.Waking.{is_leave}
 use Rattle.task_machine.specs.declared.instr.TaskSet.{TaskSet}
-use Rattle.core_turn.specs.declared.slot.Slot.{Slot}
+use Rattle.task_slots.specs.declared.slot.Slot.{Slot}
 use Rattle.core_turn.specs.Cores.{CoreState}
 use Rattle.core_turn.specs.Awake.{AwakeState, WaitersHeld}
 use Rattle.core_runtime.specs.Watching.{AreWatched, AreWaiting, AreWoken, AreEven, IsWokenAt, AreWokenAt, IsAfter}

@@ -16,7 +16,7 @@ use Rattle.task_generator.specs.Promise.{AsksAsPlanned}
 use Rattle.core_turn.specs.Cores.{CoreState}
 use Rattle.core_turn.specs.Lawful.{IsLawful}
 use Rattle.port_objects.specs.Benches.{Told}
-use Rattle.core_turn.specs.Plans.{IsBuilt}
+use Rattle.bus_semantics.specs.Sound.{IsSound}
 use Rattle.core_turn.specs.Resting.{CoreRests}
 use Rattle.core_turn.specs.Turning.{NothingComes}
 use Rattle.core_runtime.specs.After.{after}
@@ -36,13 +36,13 @@ RestLaw = (p : Plan) (m : Mapping) (t : TaskSet) (cores : List CoreState) (i : �
     → slice_get cores i ≡ Some old → before.objects ≡ Some objects → NothingComes p t old new before now → CoreRests p m h i
 
 abbrev pub AllRestLaw : Type 0
-AllRestLaw = (p : Plan) (m : Mapping) (h : History) → IsBuilt p m → IsLegal p h → ((n : ℕ) → n < m.cores → CoreRests p m h n) → IsAtRest p m h
+AllRestLaw = (p : Plan) (m : Mapping) (h : History) → IsSound p m → IsLegal p h → ((n : ℕ) → n < m.cores → CoreRests p m h n) → IsAtRest p m h
 
 abbrev pub QuietLaw : Type 0
 QuietLaw = (p : Plan) (m : Mapping) (h : History) → IsSound p m → IsLegal p h → IsAtRest p m h → IsQuiet p h
 
 module _ (rests : RestLaw) (all_rest : AllRestLaw) (quiet : QuietLaw) (p : Plan) (m : Mapping) (t : TaskSet) (cores : List CoreState) (objects : List Object) (h : History)
-    (built : IsBuilt p m) (asks : AsksAsPlanned p t) (count : length cores ≡ m.cores) (lawful : IsLawful p m t cores objects h) (nothing : NothingMayCome p t cores objects) where
+    (built : IsSound p m) (asks : AsksAsPlanned p t) (count : length cores ≡ m.cores) (lawful : IsLawful p m t cores objects h) (nothing : NothingMayCome p t cores objects) where
   each_rests : (n : ℕ) → n < m.cores → CoreRests p m h n
   each_rests n below =
       let within : n < length cores = omega (arith, count) in
@@ -54,7 +54,7 @@ module _ (rests : RestLaw) (all_rest : AllRestLaw) (quiet : QuietLaw) (p : Plan)
   at_rest = all_rest p m h built lawful.legal each_rests
 
   pub is_quiet : IsQuiet p h
-  is_quiet = quiet p m h built.sound lawful.legal at_rest
+  is_quiet = quiet p m h built lawful.legal at_rest
 
   pub is_idle : IsIdle p m h
   is_idle = record { rest = at_rest; none = is_quiet.none }
@@ -64,7 +64,7 @@ module _ (rests : RestLaw) (all_rest : AllRestLaw) (quiet : QuietLaw) (p : Plan)
 pub node_on : (p : Plan) (m : Mapping) (t : TaskSet) (cores now : List CoreState) (objects later : List Object) (entries : List Stamped) → IsNode p m t cores objects → ArePlans p later
     → Made p t cores now objects later entries → IsNode p m t now later
 node_on p m t cores now objects later entries node planned made = record {
-  built = node.built;
+  sound = node.sound;
   bodies = node.bodies;
   counted = node.counted;
   planned = planned;

@@ -9,7 +9,8 @@ use Rattle.bus_semantics.specs.Plan.{Plan}
 use Rattle.bus_semantics.specs.History.{History}
 use Rattle.port_objects.specs.declared.object.Object.{Object}
 use Rattle.task_machine.specs.declared.instr.TaskSet.{TaskSet}
-use Rattle.core_turn.specs.Cores.{CoreState, events_of_slot, tasks_of_core}
+use Rattle.core_turn.specs.Cores.{CoreState, tables_of_core}
+use Rattle.task_slots.specs.Slots.{table_of}
 use Rattle.core_turn.specs.Lawful.{IsLawful}
 use Rattle.core_turn.specs.Ready.{IsReady}
 use Rattle.core_turn.specs.Standing.{CoreStands}
@@ -33,8 +34,8 @@ pub record SameCore (c k : CoreState) : Type 0 where
 module _ (p : Plan) (m : Mapping) (t : TaskSet) (c k : CoreState) (same : SameCore c k) where
   pub same_ready : IsReady p m t c → IsReady p m t k
   same_ready ready = record {
-    built = ready.built;
-    tasks = ap (map events_of_slot) same.slots ∙ ready.tasks ∙ ap (λ n. map (λ (t : Task). t.events) (tasks_of_core m n)) (sym same.number);
+    sound = ready.sound;
+    has = ap (map table_of) same.slots ∙ ready.has ∙ ap (tables_of_core p m) (sym same.number);
     each = λ i s found. ready.each i s (subst (λ xs. slice_get xs i ≡ Some s) same.slots found);
   }
 

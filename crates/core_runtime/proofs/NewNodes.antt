@@ -9,7 +9,7 @@ use Rattle.port_objects.specs.Standing.{Stands}
 use Rattle.task_machine.specs.declared.instr.TaskSet.{TaskSet}
 use Rattle.core_turn.specs.Cores.{CoreState}
 use Rattle.core_turn.specs.Lawful.{IsLawful}
-use Rattle.core_turn.specs.Plans.{IsBuilt}
+use Rattle.bus_semantics.specs.Sound.{IsSound}
 use Rattle.core_runtime.specs.Nodes.{AreNewCores, IsNewCore, HaveRoom}
 
 pub data Last (X : Type 0) (xs : List X) (y : X) (i : ℕ) (x : X) : Type 0 where
@@ -26,22 +26,22 @@ last_or (z ∷ xs) y (suc i) x e = deeper (last_or xs y i x e)
     deeper (earlier found) = earlier found
     deeper (last at same) = last (ap suc at) same
 
-pub one_more : (m : Mapping) (t : TaskSet) (cores : List CoreState) (number : ℕ) (c : CoreState) → length cores ≡ number → AreNewCores m t cores → IsNewCore m t number c → AreNewCores m t (cores ++ c ∷ [])
-one_more m t cores number c count are new = λ i x found. of_place i x (last_or cores c i x found)
+pub one_more : (p : Plan) (m : Mapping) (t : TaskSet) (cores : List CoreState) (number : ℕ) (c : CoreState) → length cores ≡ number → AreNewCores p m t cores → IsNewCore p m t number c → AreNewCores p m t (cores ++ c ∷ [])
+one_more p m t cores number c count are new = λ i x found. of_place i x (last_or cores c i x found)
   where
-    of_place : (i : ℕ) (x : CoreState) → Last CoreState cores c i x → IsNewCore m t i x
+    of_place : (i : ℕ) (x : CoreState) → Last CoreState cores c i x → IsNewCore p m t i x
     of_place i x (earlier found) = are i x found
-    of_place i x (last at same) = subst (λ n. IsNewCore m t n x) (sym (at ∙ count)) (subst (IsNewCore m t number) (sym same) new)
+    of_place i x (last at same) = subst (λ n. IsNewCore p m t n x) (sym (at ∙ count)) (subst (IsNewCore p m t number) (sym same) new)
 
-module _ (p : Plan) (m : Mapping) (t : TaskSet) (cores : List CoreState) (objects : List Object) (built : IsBuilt p m) (are : AreNewCores m t cores)
+module _ (p : Plan) (m : Mapping) (t : TaskSet) (cores : List CoreState) (objects : List Object) (built : IsSound p m) (are : AreNewCores p m t cores)
     (standing : (i : ℕ) (o : Object) → slice_get objects i ≡ Some o → Stands p i (kept_of o) []) where
   pub new_lawful : IsLawful p m t cores objects []
   new_lawful = record {
     legal = tt;
     stand = standing;
     number = λ i c found. (are i c found).is_number;
-    ready = λ i c found. (are i c found).is_ready p built;
-    stands = λ i c found. (are i c found).stands p;
+    ready = λ i c found. (are i c found).is_ready built;
+    stands = λ i c found. (are i c found).stands;
   }
 
   pub new_room : HaveRoom cores

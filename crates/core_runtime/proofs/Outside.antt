@@ -105,7 +105,7 @@ module _ {p : Plan} {m : Mapping} {t : TaskSet} {cores : List CoreState} {object
 
   pub is_there : TouchedLaw → object < length objects
   is_there law =
-      let below : object < p.objects = subst (λ o. IfSome o (IsObject p)) (sym touching) (law p m Env w node.built.sound may_want) in
+      let below : object < p.objects = subst (λ o. IfSome o (IsObject p)) (sym touching) (law p m Env w node.sound may_want) in
       let counted : p.objects ≡ clock p + 1 = (unsigned_Decides p.objects (clock p + 1)).0 (and_parts (p.objects == clock p + 1) _ node.counted.counted).0 in
       let count : length objects ≡ suc (clock p) = node.planned.count in
       omega arith
@@ -119,7 +119,7 @@ module _ {p : Plan} {m : Mapping} {t : TaskSet} {cores : List CoreState} {object
 
     pub may_ask : (h : History) → IsLawful p m t cores objects h → MayAsk p m Env w (kept_of old) (entries_of p h object)
     may_ask h lawful = record {
-      sound = node.built.sound;
+      sound = node.sound;
       fits = may_want;
       own = refl;
       stands = subst (λ n. Stands p n (kept_of old) (entries_of p h object)) (sym at) (lawful.stand object old found);
@@ -141,7 +141,7 @@ module _ {p : Plan} {m : Mapping} {t : TaskSet} {cores : List CoreState} {object
     -- which is one of the plan's
     pub within_then : (new : Object) (e : Entry) → IsMade p (touched p Env w) Env w old new e → IfSome (touched_by p (record { entry = e; event = None })) (IsObject p)
     unfolding touches_then
-    within_then new e made = subst (λ o. IfSome o (IsObject p)) (sym (touches_then new e made).touching) (subst (λ o. IfSome o (IsObject p)) (sym touching) (law p m Env w node.built.sound may_want))
+    within_then new e made = subst (λ o. IfSome o (IsObject p)) (sym (touches_then new e made).touching) (subst (λ o. IfSome o (IsObject p)) (sym touching) (law p m Env w node.sound may_want))
 
     -- ---- its entry
 
@@ -168,7 +168,7 @@ module _ {p : Plan} {m : Mapping} {t : TaskSet} {cores : List CoreState} {object
         stands = subst (λ n. Stands p n (kept_of new) (note h e ∷ entries_of p h object)) at (subst (λ n. Stands p (touched p Env w) (kept_of new) (n ∷ entries_of p h object)) same one.stands)
 
         may_follow : MayFollow p h e
-        may_follow = comes p m h Env w (noted_for w e) node.built.sound lawful.legal (eventless p w e.deed (unwrap_or (event_of w) 0) may_want one.comes.wish) refl
+        may_follow = comes p m h Env w (noted_for w e) node.sound lawful.legal (eventless p w e.deed (unwrap_or (event_of w) 0) may_want one.comes.wish) refl
             (subst (λ n. MayCome p Env w (entries_of p h n) (noted_for w e)) (sym at) one.comes)
 
         of_place : (i : ℕ) (o : Object) → Placed Object objects object new i o → Stands p i (kept_of o) (entries_of p (e ∷ h) i)
@@ -189,7 +189,7 @@ module _ {p : Plan} {m : Mapping} {t : TaskSet} {cores : List CoreState} {object
 
       pub node_then : IsOfPlan p (touched p Env w) new → IsNode p m t cores (set objects object new)
       node_then planned = record {
-        built = node.built;
+        sound = node.sound;
         bodies = node.bodies;
         counted = node.counted;
         planned = record { count = length-set objects object new ∙ node.planned.count; each = λ i o is. plan_at i o (placed objects object new i o is) };
@@ -274,7 +274,7 @@ module _ {p : Plan} {m : Mapping} {t : TaskSet} {cores : List CoreState} {object
       record {
         fit = (λ i. (if no_need i then activation_fits p Env else wish_fits p Env (wish i)) && names_nothing p Env w d 0 frees.0 wish i) ∙ ap (λ b. b && true) may_want;
         actor = refl;
-        answers = subst (Answers p (noted h)) (sym (alone h)) (answers p m Env w d (noted h) node.built.sound may_want none frees.1 frees.0);
+        answers = subst (Answers p (noted h)) (sym (alone h)) (answers p m Env w d (noted h) node.sound may_want none frees.1 frees.0);
       },
     );
     stand = λ i o is. subst (Stands p i (kept_of o)) (sym (parted p h e i false (ap (λ v. same_number v (Some i)) (untouched h)))) (lawful.stand i o is);

@@ -11,6 +11,9 @@ use Rattle.bus_semantics.specs.Plan.{Plan}
 use Rattle.bus_semantics.specs.History.{History, is_environment}
 use Rattle.port_objects.specs.Benches.{Plain}
 use Rattle.task_machine.specs.declared.instr.TaskSet.{TaskSet}
+use Rattle.task_slots.specs.declared.slot.Slot.{Slot}
+use Rattle.task_slots.specs.declared.slot.Slot.TheVariants as of
+use Rattle.task_slots.specs.Stepping.{IsOwn}
 use Rattle.core_turn.specs.Cores.{CoreState}
 use Rattle.core_turn.specs.Lawful.{IsLawful}
 use Rattle.port_objects.specs.Benches.{Told}
@@ -27,6 +30,11 @@ told_by b = record { room = b.room; next = Some b.next; objects = Some b.objects
 pub last_is : (xs old : List Stamped) (s : Stamped) (o : Option Stamped) → old ≡ [] → xs ≡ old ++ s ∷ [] → o ≡ slice_get xs (length xs - 1) → o ≡ Some s
 last_is xs old s o none is last = last ∙ ap (λ ys. slice_get ys (length ys - 1)) (is ∙ ap (λ ys. ys ++ s ∷ []) none)
 
+-- an actor of a slot is not the environment
+own_within : (p : Plan) (slot : Slot) (a : Actor) → IsOwn p slot a → not (is_environment a) ≡ true
+own_within p (of.Task s) a own = ap (λ x. not (is_environment x)) own.is
+own_within p (of.Machine n) a own = ap (λ x. not (is_environment x)) own
+
 module _ (p : Plan) (t : TaskSet) (old : CoreState) (before now : Plain) (entries : List Stamped) where
   -- the law of turns, at these
   abbrev pub KeepsLaw : (turned : CoreState) → Stamped → Type 0
@@ -38,16 +46,13 @@ module _ (p : Plan) (t : TaskSet) (old : CoreState) (before now : Plain) (entrie
   makes turned new s all steps same added ready law = record {
     made = s;
     added = added;
-    within = within s.entry.actor steps.step.actor;
+    within = own_within p steps.slot s.entry.actor steps.step.own;
     stamp = steps.next.0;
     next = same_Some _ _ steps.next.1;
     room = steps.bench_room;
     ready = λ m is. same_ready p m t turned new same (ready m is);
     goes = λ m cores i found is h lawful. same_lawful p m t turned new same cores i old found now.objects (s.entry ∷ h) (law m cores i h lawful found (ready m is));
   }
-    where
-      within : (a : Actor) → a ≡ Act steps.step.key → not (is_environment a) ≡ true
-      within a is = ap (λ x. not (is_environment x)) is
 
   pub rests : (new : CoreState) → NothingComes p t old new (told_by before) (told_by now) → Rests p t old new before now entries entries
   rests new nothing = record {

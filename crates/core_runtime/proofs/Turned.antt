@@ -19,9 +19,10 @@ use Rattle.bus_semantics.specs.Asked.{event_of, noted_for}
 use Rattle.port_objects.specs.declared.object.Object.{Object}
 use Rattle.port_objects.specs.Benches.{Plain}
 use Rattle.task_machine.specs.declared.instr.TaskSet.{TaskSet}
-use Rattle.core_turn.specs.declared.slot.Slot.{Slot}
-use Rattle.core_turn.specs.Cores.{CoreState, events_of_slot}
-use Rattle.core_turn.specs.Looking.{MadeAt, event_for}
+use Rattle.task_slots.specs.declared.slot.Slot.{Slot}
+use Rattle.core_turn.specs.Cores.{CoreState}
+use Rattle.task_slots.specs.Slots.{table_of, listed_in, events_of_slot}
+use Rattle.task_slots.specs.Looking.{MadeAt, event_for}
 use Rattle.core_turn.specs.Awake.{AwakeState, Fits, StartsHeld, WaitersHeld}
 use Rattle.core_turn.specs.Turning.{Steps}
 use Rattle.core_runtime.specs.declared.seats.Seat.{Seat}
@@ -31,12 +32,12 @@ use Rattle.core_runtime.proofs.NewNodes.{Last, earlier, last, last_or}
 use Rattle.core_runtime.proofs.Stepping.{told_by}
 
 -- a slot that keeps its events
-pub events_kept : (slots : List Slot) (at : ℕ) (slot stepped : Slot) → slice_get slots at ≡ Some slot → stepped.events ≡ slot.events → map events_of_slot (set slots at stepped) ≡ map events_of_slot slots
+pub events_kept : (slots : List Slot) (at : ℕ) (slot stepped : Slot) → slice_get slots at ≡ Some slot → table_of stepped ≡ table_of slot → map events_of_slot (set slots at stepped) ≡ map events_of_slot slots
 events_kept [] at slot stepped found same = absurd (cc found)
 events_kept (s ∷ slots) zero slot stepped found same =
     let is : s ≡ slot = same_Some _ _ found in
-    ap (λ es. es ∷ map events_of_slot slots) (ap (λ (v : _). v.items) same ∙ ap (λ (x : Slot). x.events.items) (sym is))
-events_kept (s ∷ slots) (suc at) slot stepped found same = ap (λ es. s.events.items ∷ es) (events_kept slots at slot stepped found same)
+    ap (λ es. es ∷ map events_of_slot slots) (ap listed_in same ∙ ap events_of_slot (sym is))
+events_kept (s ∷ slots) (suc at) slot stepped found same = ap (λ es. events_of_slot s ∷ es) (events_kept slots at slot stepped found same)
 
 -- a core that keeps its events
 pub tables_kept : (cores : List CoreState) (n : ℕ) (old new : CoreState) → slice_get cores n ≡ Some old → map events_of_slot new.slots ≡ map events_of_slot old.slots → tables_of (set cores n new) ≡ tables_of cores

@@ -19,9 +19,11 @@ use Rattle.port_objects.specs.Kept.{Kept}
 use Rattle.port_objects.specs.Leading.{lead}
 use Rattle.port_objects.specs.Objects.{kept_of}
 use Rattle.port_objects.specs.Waking.{may_start_in, wakes, woken_in}
-use Rattle.core_turn.specs.declared.slot.Slot.{Slot}
-use Rattle.core_turn.specs.Cores.{CoreState, events_of_slot}
-use Rattle.core_turn.specs.Looking.{AllHeld, IsHeldOn, IsHeldAt}
+use Rattle.task_slots.specs.declared.slot.Slot.{Slot}
+use Rattle.core_turn.specs.Cores.{CoreState}
+use Rattle.task_slots.specs.Slots.{events_of_slot}
+use Rattle.task_slots.specs.Looking.{AllHeld, IsHeldOn, IsHeldAt}
+use Rattle.task_slots.specs.Waiting.{is_free}
 use Rattle.core_turn.specs.Awake.{AwakeState, StartsHeld}
 use Rattle.core_runtime.specs.declared.seats.Seat.{Seat}
 use Rattle.core_runtime.specs.Watching.{tables_of, IsOfCores, IsAt, AreSeated, IsWatched, AreWatched, is_awake, IsWoken, AreWoken, IsThere, IsSeen, Touches, IsAfter}
@@ -122,7 +124,7 @@ module _ (nowhere : NowhereLaw) (others : OthersLaw) (p : Plan) (before later : 
   IsCalm t = (wakes e.entry.deed ≡ false) ⊎ IsLookedAt t
 
   module _ (t : Touches p before later e) (calm : IsCalm t) (n : ℕ) (c : CoreState) (b : AwakeState) (core_is : slice_get cores n ≡ Some c) (awake_is : slice_get new n ≡ Some b) where
-    module _ (i j event : ℕ) (s : Slot) (slot_is : slice_get c.slots i ≡ Some s) (place_is : slice_get s.events.items j ≡ Some event) (sleeps : is_awake b i j ≡ false) where
+    module _ (i j event : ℕ) (s : Slot) (slot_is : slice_get c.slots i ≡ Some s) (place_is : slice_get (events_of_slot s) j ≡ Some event) (sleeps : is_awake b i j ≡ false) where
       seat : Seat
       seat = record { core = n; slot = i; place = j }
 
@@ -132,7 +134,7 @@ module _ (nowhere : NowhereLaw) (others : OthersLaw) (p : Plan) (before later : 
         tasks = map events_of_slot c.slots;
         core_is = slice_get-map (λ (k : CoreState). map events_of_slot k.slots) cores n ∙ ap (option_map (λ (k : CoreState). map events_of_slot k.slots)) core_is;
         seat = record {
-          events = s.events.items;
+          events = events_of_slot s;
           task_is = slice_get-map events_of_slot c.slots i ∙ ap (option_map events_of_slot) slot_is;
           seat = record { core_is = refl; slot_is = refl; place_is = place_is };
         };
@@ -156,7 +158,7 @@ module _ (nowhere : NowhereLaw) (others : OthersLaw) (p : Plan) (before later : 
 
   -- what sleeps is held still
   abbrev Moves : Type 0
-  Moves = (n : ℕ) (c : CoreState) (b : AwakeState) → slice_get cores n ≡ Some c → slice_get new n ≡ Some b → (i j event : ℕ) (s : Slot) → slice_get c.slots i ≡ Some s → slice_get s.events.items j ≡ Some event
+  Moves = (n : ℕ) (c : CoreState) (b : AwakeState) → slice_get cores n ≡ Some c → slice_get new n ≡ Some b → (i j event : ℕ) (s : Slot) → slice_get c.slots i ≡ Some s → slice_get (events_of_slot s) j ≡ Some event
       → is_awake b i j ≡ false → AllHeld p before (start_try p event) → AllHeld p later (start_try p event)
 
   touched_moves : (t : Touches p before later e) → IsCalm t → Moves
@@ -167,19 +169,19 @@ module _ (nowhere : NowhereLaw) (others : OthersLaw) (p : Plan) (before later : 
 
   module _ (moves : Moves) (n : ℕ) (c : CoreState) (b : AwakeState) (core_is : slice_get cores n ≡ Some c) (awake_is : slice_get new n ≡ Some b) where
     module _ (starts : StartsHeld p before c.slots b) where
-      events_on : (i j event : ℕ) (s : Slot) (row : List Bool) → slice_get c.slots i ≡ Some s → slice_get b.events i ≡ Some row → slice_get s.events.items j ≡ Some event → slice_get row j ≡ Some false → AllHeld p later (start_try p event)
+      events_on : (i j event : ℕ) (s : Slot) (row : List Bool) → slice_get c.slots i ≡ Some s → slice_get b.events i ≡ Some row → slice_get (events_of_slot s) j ≡ Some event → slice_get row j ≡ Some false → AllHeld p later (start_try p event)
       events_on i j event s row slot_is row_is place_is sleeps =
           let here : get_or b.events i [] ≡ row = get_or_from_slice_get b.events i row [] row_is in
           let off_here : slice_get (get_or b.events i []) j ≡ Some false = ap (λ r. slice_get r j) here ∙ sleeps in
           let flag : get_or (get_or b.events i []) j false ≡ false = get_or_from_slice_get (get_or b.events i []) j false false off_here in
           moves n c b core_is awake_is i j event s slot_is place_is (and_right (get_or b.slots i false) (get_or (get_or b.events i []) j false) flag) (starts.events i j event s row slot_is row_is place_is sleeps)
 
-      slots_on : (i : ℕ) (s : Slot) → slice_get c.slots i ≡ Some s → slice_get b.slots i ≡ Some false → slice_get b.waiting i ≡ Some false → (s.running ≡ None) × AllHeld p later (gathered (start_try p) s.events.items)
+      slots_on : (i : ℕ) (s : Slot) → slice_get c.slots i ≡ Some s → slice_get b.slots i ≡ Some false → slice_get b.waiting i ≡ Some false → (is_free s ≡ true) × AllHeld p later (gathered (start_try p) (events_of_slot s))
       slots_on i s slot_is sleeps waits =
           let was = starts.slots i s slot_is sleeps waits in
           let flag : get_or b.slots i false ≡ false = get_or_from_slice_get b.slots i false false sleeps in (
             was.0,
-            held_each p before later s.events.items (λ j event place_is. moves n c b core_is awake_is i j event s slot_is place_is (and_left (get_or b.slots i false) (get_or (get_or b.events i []) j false) flag)) was.1,
+            held_each p before later (events_of_slot s) (λ j event place_is. moves n c b core_is awake_is i j event s slot_is place_is (and_left (get_or b.slots i false) (get_or (get_or b.events i []) j false) flag)) was.1,
           )
 
       starts_on : StartsHeld p later c.slots b
@@ -221,7 +223,7 @@ seats_there p objects cores awake seats watched seated event s at =
     let fits = (watched.each s.core core.item a core.is found).fits in
     let slot_in : s.slot < length core.item.slots = slice_get_within core.item.slots s.slot slot.item slot.is in
     let row_in : s.slot < length a.events = omega (arith, fits.rows) in
-    let width : length (get_or a.events s.slot []) ≡ length slot.item.events.items = fits.widths s.slot slot.item (get_or a.events s.slot []) slot.is (slice_get-get_or a.events s.slot [] row_in) in
+    let width : length (get_or a.events s.slot []) ≡ length (events_of_slot slot.item) = fits.widths s.slot slot.item (get_or a.events s.slot []) slot.is (slice_get-get_or a.events s.slot [] row_in) in
     let place_in : s.place < length of.seat.events = slice_get_within of.seat.events s.place event of.seat.seat.place_is in
-    let same : length slot.item.events.items ≡ length of.seat.events = ap length slot.gives in
+    let same : length (events_of_slot slot.item) ≡ length of.seat.events = ap length slot.gives in
     record { core = a; core_is = found; slot = omega (arith, fits.count); place = omega (arith, width, same); even = record { waiting = fits.waiting ∙ sym fits.count; areas = fits.areas ∙ sym fits.count } }

@@ -12,7 +12,7 @@ use Rattle.task_machine.specs.declared.instr.TaskSet.{TaskSet}
 use Rattle.task_generator.specs.Promise.{AsksAsPlanned}
 use Rattle.core_turn.specs.Cores.{CoreState}
 use Rattle.core_turn.specs.Lawful.{IsLawful}
-use Rattle.core_turn.specs.Plans.{IsBuilt}
+use Rattle.bus_semantics.specs.Sound.{IsSound}
 use Rattle.core_turn.specs.Ready.{IsReady}
 use Rattle.core_turn.specs.Standing.{CoreStands}
 
@@ -42,7 +42,7 @@ HaveRoom cores = (i : ℕ) (c : CoreState) → slice_get cores i ≡ Some c → 
 -- The plan is sound with the mapping, the bodies ask what it wants, each of the mapping's cores is there with room for an entry, and
 -- all is lawful for some history.
 pub record IsNode (p : Plan) (m : Mapping) (t : TaskSet) (cores : List CoreState) (objects : List Object) : Type 0 where
-  pub built : IsBuilt p m
+  pub sound : IsSound p m
   pub bodies : AsksAsPlanned p t
   pub counted : HasObjects p
   pub planned : ArePlans p objects
@@ -52,15 +52,15 @@ pub record IsNode (p : Plan) (m : Mapping) (t : TaskSet) (cores : List CoreState
   pub lawful : IsLawful p m t cores objects history
 
 -- A core of a mapping to which nothing has happened: it has its tasks, in which nothing runs, and room for an entry.
-pub record IsNewCore (m : Mapping) (t : TaskSet) (number : ℕ) (c : CoreState) : Type 0 where
+pub record IsNewCore (p : Plan) (m : Mapping) (t : TaskSet) (number : ℕ) (c : CoreState) : Type 0 where
   pub is_number : c.number ≡ number
   pub has_room : HasRoom c
-  pub is_ready : (p : Plan) → IsBuilt p m → IsReady p m t c
-  pub stands : (p : Plan) → CoreStands p t [] c
+  pub is_ready : IsSound p m → IsReady p m t c
+  pub stands : CoreStands p t [] c
 
 -- such cores, each at its number
-abbrev pub AreNewCores : Mapping → TaskSet → List CoreState → Type 0
-AreNewCores m t cores = (i : ℕ) (c : CoreState) → slice_get cores i ≡ Some c → IsNewCore m t i c
+abbrev pub AreNewCores : Plan → Mapping → TaskSet → List CoreState → Type 0
+AreNewCores p m t cores = (i : ℕ) (c : CoreState) → slice_get cores i ≡ Some c → IsNewCore p m t i c
 
 -- the same node, but for how many entries it has room for
 pub record IsSameNode (old new : NodeState) : Type 0 where

@@ -10,8 +10,9 @@ use Rattle.port_objects.specs.Leading.{lead}
 use Rattle.port_objects.specs.Objects.{kept_of}
 use Rattle.port_objects.specs.Waking.{may_start_in, Tells}
 use Rattle.task_machine.specs.declared.instr.TaskSet.{TaskSet}
-use Rattle.core_turn.specs.declared.slot.Slot.{Slot}
-use Rattle.core_turn.specs.Cores.{CoreState, events_of_slot}
+use Rattle.task_slots.specs.declared.slot.Slot.{Slot}
+use Rattle.core_turn.specs.Cores.{CoreState}
+use Rattle.task_slots.specs.Slots.{events_of_slot}
 use Rattle.core_turn.specs.Awake.{AwakeState, Fits, StartsHeld, WaitersHeld}
 use Rattle.core_runtime.specs.declared.seats.Seat.{Seat}
 use Rattle.core_runtime.specs.declared.watch.Watch.{Watch}

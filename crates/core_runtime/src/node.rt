@@ -5,7 +5,6 @@ ghost use Rattle.bus_semantics.specs.Plan.{plan_of};
 ghost use Rattle.bus_semantics.specs.Sound.{IsSound};
 ghost use Rattle.port_objects.specs.Plans.{IsMadePlan};
 ghost use Rattle.task_generator.specs.Promise.{AsksAsPlanned};
-ghost use Rattle.core_turn.specs.Plans.{IsBuilt};
 ghost use Rattle.core_runtime.specs.Nodes.{IsLawfulNode};
 
 use crate::Memory;
@@ -51,7 +50,7 @@ impl Node {
     /// A node to which nothing has happened. The plan is sound with the mapping and one of those of which objects are made, and the
     /// bodies are those that `generate` makes of it. The only error is that there is no memory.
     pub fn new(alloc: Global, p: BusPlan, m: Mapping, t: TaskSet) -> Result<Node, Memory>
-        requires built { IsBuilt (plan_of p) m }
+        requires sound { IsSound (plan_of p) m }
         requires made { IsMadePlan (plan_of p) }
         requires bodies { AsksAsPlanned (plan_of p) t }
         ensures plan { IfOk result (λ n. n.plan ≡ p) }
@@ -61,7 +60,7 @@ impl Node {
     {
         sound_plans_have_objects();
         let objects = make_objects(alloc, &p)?;
-        let cores = cores_of(alloc, &m, &t)?;
+        let cores = cores_of(alloc, &p, &m, &t)?;
         let watch = Watch::new(alloc, &p, cores.as_slice())?;
         Ok(Node {
             plan: p,

@@ -4,7 +4,7 @@ ghost use Rattle.std.specs.Prelude.{◌≡◌, ◌<◌, ℕ, List, [], All, IfOk
 ghost use Rattle.bus_semantics.specs.declared.script.Mapping.{Mapping};
 ghost use Rattle.bus_semantics.specs.Plan.{plan_of};
 ghost use Rattle.task_machine.specs.declared.instr.TaskSet.{TaskSet};
-ghost use Rattle.core_turn.specs.Cores.{events_of_slot};
+ghost use Rattle.task_slots.specs.Slots.{events_of_slot};
 ghost use Rattle.core_runtime.specs.Turns.{AreReady};
 ghost use Rattle.core_runtime.specs.Watching.{Adds, AreSeated, IsOfTask, IsOfCore, tables_of};
 
@@ -45,7 +45,7 @@ fn seat_core(seats: &mut Vec<Vec<Seat>>, core: &Core, number: usize) -> Result<(
     requires { (i : ℕ) (events : List ℕ) → slice_get (map events_of_slot core.now.slots) i ≡ Some events → All (λ e. e < length seats.old.items) events }
     ensures { OnOk result (Adds (IsOfCore (map events_of_slot core.now.slots) number) seats.old.items seats.new.items) }
 {
-    for slot in 0..core.tasks() {
+    for slot in 0..core.slots() {
         seat_task(seats, core.events(slot), number, slot)?;
     }
     Ok(())

@@ -1,6 +1,6 @@
 -- No activation is of two tasks: the events of a runnable are all mapped to one.
-use Rattle.std.proofs.Common.{◌≡◌, ◌≢◌, ℕ, zero, suc, ◌+◌, ◌<◌, ◌≤◌, Bool, true, false, ◌&&◌, ◌||◌, not, ◌==◌, if◌then◌else◌, refl, sym, ◌∙◌, ap, subst, arith, List, [], ◌∷◌, ◌++◌, length, map, take, length-append, Some}
-use Rattle.std.specs.Prelude.{filter, nat_lt, nat_le, is_none}
+use Rattle.std.proofs.Common.{◌≡◌, ◌≢◌, ℕ, zero, suc, ◌+◌, ◌<◌, ◌≤◌, Bool, true, false, ◌&&◌, ◌||◌, not, ◌==◌, if◌then◌else◌, refl, sym, ◌∙◌, ap, subst, arith, List, [], ◌∷◌, ◌++◌, length, map, take, length-append, Option, Some, None}
+use Rattle.std.specs.Prelude.{filter, nat_lt, nat_le}
 use Rattle.std.specs.List.{list_all, slice_get}
 use Rattle.std.proofs.lemmas.Bool.{and_from, and_parts, eq-eqb, eqb-true, false≢true}
 use Rattle.std.proofs.lemmas.Bool.Decides.{nat_tests}
@@ -8,25 +8,28 @@ use Rattle.std.proofs.lemmas.List.{take_more, append-nil}
 use Rattle.std.proofs.Math.Seq.{take-length}
 use Rattle.std.proofs.lemmas.Option.{get_or_from_slice_get, same_Some}
 use Rattle.rte_value.specs.declared.kinds.ActKey.{ActKey}
-use Rattle.rte_value.specs.Values.{same_number}
 use Rattle.bus_semantics.specs.declared.script.Mapping.{Mapping}
 use Rattle.bus_semantics.specs.declared.script.Task.{Task}
 use Rattle.bus_semantics.specs.Plan.{Plan, look, positions, every_from, runnable_of_event}
-use Rattle.bus_semantics.specs.History.{count}
 use Rattle.bus_semantics.specs.Rest.{gathered}
 use Rattle.bus_semantics.specs.declared.plan.EventPlan.{EventPlan}
 use Rattle.bus_semantics.specs.SoundPlan.{is_in, same_numbers}
 use Rattle.bus_semantics.specs.SoundNames.{is_name}
-use Rattle.bus_semantics.specs.Sound.{mapped_events, times_mapped, tasks_of}
 use Rattle.bus_laws.proofs.Thinning.{option_same}
 use Rattle.activation_laws.specs.LookUps.{clash, looked}
 use Rattle.history_laws.proofs.Lists.{there_is}
-use Rattle.core_turn.specs.declared.slot.Slot.{Slot}
-use Rattle.core_turn.specs.Plans.{IsBuilt}
-use Rattle.core_turn.specs.Slots.{starts, is_key_of}
-use Rattle.core_turn.specs.Cores.{CoreState, events_of_slot, tasks_of_core, HasTasks}
-use Rattle.core_turn.proofs.Looks.{gathered_on, count_on}
-use Rattle.core_turn.proofs.Facts.{started, event_known}
+use Rattle.bus_semantics.specs.Sound.{mapped_events, times_mapped, tasks_of, IsSound}
+use Rattle.bus_semantics.specs.declared.entries.Actor.{Actor}
+use Rattle.bus_semantics.specs.History.{count, made_by}
+use Rattle.rte_value.specs.Values.{same_number, same_key}
+use Rattle.task_slots.specs.declared.slot.Slot.{Slot}
+use Rattle.task_slots.specs.declared.slot.Slot.TheVariants as of
+use Rattle.task_slots.specs.Slots.{Table, of_task, of_machine, table_of, listed_in, events_of_slot, starts, home_of, starts_at, is_key_of}
+use Rattle.task_slots.specs.Stepping.{IsOwn}
+use Rattle.task_slots.proofs.Basics.{key_same}
+use Rattle.task_slots.proofs.Looks.{gathered_on, count_on}
+use Rattle.task_slots.proofs.Facts.{started, event_known}
+use Rattle.core_turn.specs.Cores.{CoreState, tasks_of_core, task_tables, machine_tables, tables_of_core, HasSlots}
 
 -- ---- counts
 
@@ -167,11 +170,11 @@ starts_one p r (x ∷ events) e = by_test (same_number (runnable_of_event p x) (
     by_test true is any rest = (x, option_same (runnable_of_event p x) (Some r) is)
     by_test false is any rest = rest any
 
-module _ (p : Plan) (m : Mapping) (built : IsBuilt p m) where
+module _ (p : Plan) (m : Mapping) (sound : IsSound p m) where
   pub runnable_inside : (r : ℕ) (events : List ℕ) → starts p r events ≡ true → r < length p.runnables
   runnable_inside r events is =
       let e = starts_one p r events is in
-      let s = started p m built e.0 (event_known p e.0 r e.1) in
+      let s = started p m sound e.0 (event_known p e.0 r e.1) in
       let inside = s.inside in
       subst (λ n. n < length p.runnables) (same_Some s.number r (sym s.starts ∙ e.1)) inside
 
@@ -194,7 +197,7 @@ module _ (p : Plan) (m : Mapping) (built : IsBuilt p m) where
   alone = list_all (λ r. nat_le (length (tasks_of p m r)) 1) (positions (length p.runnables))
 
   after_two : (each_task && (names && (mapped && alone))) ≡ true
-  after_two = (and_parts numbers (each_task && (names && (mapped && alone))) (and_parts limits (numbers && (each_task && (names && (mapped && alone)))) built.sound.tasks).1).1
+  after_two = (and_parts numbers (each_task && (names && (mapped && alone))) (and_parts limits (numbers && (each_task && (names && (mapped && alone)))) sound.tasks).1).1
 
   pub tasks_fit : list_all (λ (t : Task). nat_lt t.core m.cores && (is_name t.name && list_all (λ e. nat_lt e (length p.events)) t.events)) m.tasks ≡ true
   tasks_fit = (and_parts each_task (names && (mapped && alone)) after_two).0
@@ -215,42 +218,84 @@ module _ (p : Plan) (m : Mapping) (built : IsBuilt p m) where
       let n = all_counted p r m in
       omega arith
 
-  -- the slots of a core have the tasks of the core
-  slots_counted : (c : CoreState) (r : ℕ) → HasTasks m c → count (λ s. starts p r (events_of_slot s)) c.slots ≡ count (in_task p r) (tasks_of_core m c.number)
-  slots_counted c r tasks =
-      sym (count_map (starts p r) events_of_slot c.slots) ∙ ap (count (starts p r)) tasks ∙ count_map (starts p r) (λ (t : Task). t.events) (tasks_of_core m c.number)
+  -- the slots of a core have the tasks of the core; a machine has no events
+  none_counted : (r : ℕ) (ns : List ℕ) → count (λ (x : Table). starts p r (listed_in x)) (map of_machine ns) ≡ 0
+  none_counted r [] = refl
+  none_counted r (n ∷ ns) = none_counted r ns
 
-  pub apart : (c : CoreState) (k : ActKey) (i j : ℕ) (a b : Slot) → HasTasks m c → slice_get c.slots i ≡ Some a → is_key_of p a.events.items k ≡ true → slice_get c.slots j ≡ Some b → i ≢ j → is_key_of p b.events.items k ≡ false
-  apart c k i j a b tasks here own there other = of_test (is_key_of p b.events.items k) refl
+  machines_counted : (r n : ℕ) → count (λ (x : Table). starts p r (listed_in x)) (machine_tables p n) ≡ 0
+  machines_counted r zero = none_counted r (positions (length p.machines))
+  machines_counted r (suc n) = refl
+
+  slots_counted : (c : CoreState) (r : ℕ) → HasSlots p m c → count (λ s. starts p r (events_of_slot s)) c.slots ≡ count (in_task p r) (tasks_of_core m c.number)
+  slots_counted c r has =
+      let none = machines_counted r c.number in
+      let parts : count (λ (x : Table). starts p r (listed_in x)) (tables_of_core p m c.number) ≡ count (λ (x : Table). starts p r (listed_in x)) (task_tables m c.number) =
+      count_on (λ (x : Table). starts p r (listed_in x)) (task_tables m c.number) (machine_tables p c.number) ∙ ap (λ n. count (λ (x : Table). starts p r (listed_in x)) (task_tables m c.number) + n) none ∙ plus_none (count (λ (x : Table). starts p r (listed_in x)) (task_tables m c.number)) in
+      sym (count_map (λ (x : Table). starts p r (listed_in x)) table_of c.slots) ∙ ap (count (λ (x : Table). starts p r (listed_in x))) has ∙ parts
+      ∙ count_map (λ (x : Table). starts p r (listed_in x)) (λ (t : Task). of_task t.events) (tasks_of_core m c.number)
     where
-      of_test : (v : Bool) → is_key_of p b.events.items k ≡ v → v ≡ false
+      plus_none : (n : ℕ) → n + 0 ≡ n
+      plus_none n = omega arith
+
+  -- the runnable of a key's home
+  record AtHome (events : List ℕ) (k : ActKey) : Type 0 where
+    runnable : ℕ
+    is : home_of p k ≡ Some runnable
+    own : starts p runnable events ≡ true
+
+  at_home : (events : List ℕ) (k : ActKey) → is_key_of p events k ≡ true → AtHome events k
+  at_home events k own = by_home (home_of p k) refl own
+    where
+      by_home : (o : Option ℕ) → home_of p k ≡ o → starts_at p o events ≡ true → AtHome events k
+      by_home None is own = absurd (false≢true own)
+      by_home (Some r) is own = record { runnable = r; is = is; own = own }
+
+  also_home : (events : List ℕ) (k : ActKey) (r : ℕ) → home_of p k ≡ Some r → is_key_of p events k ≡ true → starts p r events ≡ true
+  also_home events k r is own = sym (ap (λ o. starts_at p o events) is) ∙ own
+
+  pub apart : (c : CoreState) (k : ActKey) (i j : ℕ) (a b : Slot) → HasSlots p m c → slice_get c.slots i ≡ Some a → is_key_of p (events_of_slot a) k ≡ true → slice_get c.slots j ≡ Some b → i ≢ j → is_key_of p (events_of_slot b) k ≡ false
+  apart c k i j a b has here own there other = of_test (is_key_of p (events_of_slot b) k) refl
+    where
+      of_test : (v : Bool) → is_key_of p (events_of_slot b) k ≡ v → v ≡ false
       of_test false is = refl
       of_test true is =
-          let mine = (and_parts (is_none k.point) (starts p k.runnable a.events.items) own).1 in
-          let also = (and_parts (is_none k.point) (starts p k.runnable b.events.items) is).1 in
-          let whole = few k.runnable (runnable_inside k.runnable a.events.items mine) in
-          let part = count_kept (in_task p k.runnable) (λ (t : Task). t.core == c.number) m.tasks in
-          let slots = slots_counted c k.runnable tasks in
-          let n : count (λ s. starts p k.runnable (events_of_slot s)) c.slots ≤ 1 = omega arith in
-          absurd (other (one_place (λ s. starts p k.runnable (events_of_slot s)) c.slots i j a b n here mine there also))
+          let mine = at_home (events_of_slot a) k own in
+          let also = also_home (events_of_slot b) k mine.runnable mine.is is in
+          let whole = few mine.runnable (runnable_inside mine.runnable (events_of_slot a) mine.own) in
+          let part = count_kept (in_task p mine.runnable) (λ (t : Task). t.core == c.number) m.tasks in
+          let slots = slots_counted c mine.runnable has in
+          let n : count (λ s. starts p mine.runnable (events_of_slot s)) c.slots ≤ 1 = omega arith in
+          absurd (other (one_place (λ s. starts p mine.runnable (events_of_slot s)) c.slots i j a b n here mine.own there also))
 
   -- nor are two cores
-  pub cores_apart : (c d : CoreState) (k : ActKey) (i j : ℕ) (a b : Slot) → HasTasks m c → HasTasks m d → c.number ≢ d.number → slice_get c.slots i ≡ Some a → is_key_of p a.events.items k ≡ true → slice_get d.slots j ≡ Some b
-      → is_key_of p b.events.items k ≡ false
-  cores_apart c d k i j a b tasks others differ here own there = of_test (is_key_of p b.events.items k) refl
+  pub cores_apart : (c d : CoreState) (k : ActKey) (i j : ℕ) (a b : Slot) → HasSlots p m c → HasSlots p m d → c.number ≢ d.number → slice_get c.slots i ≡ Some a → is_key_of p (events_of_slot a) k ≡ true → slice_get d.slots j ≡ Some b
+      → is_key_of p (events_of_slot b) k ≡ false
+  cores_apart c d k i j a b has others differ here own there = of_test (is_key_of p (events_of_slot b) k) refl
     where
       never : (t : Task) → (t.core == c.number) ≡ true → (t.core == d.number) ≡ true → ⊥
       never t one two = differ (sym (eqb-true t.core c.number one) ∙ eqb-true t.core d.number two)
 
-      of_test : (v : Bool) → is_key_of p b.events.items k ≡ v → v ≡ false
+      of_test : (v : Bool) → is_key_of p (events_of_slot b) k ≡ v → v ≡ false
       of_test false is = refl
       of_test true is =
-          let mine = (and_parts (is_none k.point) (starts p k.runnable a.events.items) own).1 in
-          let also = (and_parts (is_none k.point) (starts p k.runnable b.events.items) is).1 in
-          let whole = few k.runnable (runnable_inside k.runnable a.events.items mine) in
-          let parts = count_parts (in_task p k.runnable) (λ (t : Task). t.core == c.number) (λ (t : Task). t.core == d.number) m.tasks never in
-          let first = slots_counted c k.runnable tasks in
-          let second = slots_counted d k.runnable others in
-          let one = some_counts (λ s. starts p k.runnable (events_of_slot s)) c.slots i a here mine in
-          let two = some_counts (λ s. starts p k.runnable (events_of_slot s)) d.slots j b there also in
+          let mine = at_home (events_of_slot a) k own in
+          let also = also_home (events_of_slot b) k mine.runnable mine.is is in
+          let whole = few mine.runnable (runnable_inside mine.runnable (events_of_slot a) mine.own) in
+          let parts = count_parts (in_task p mine.runnable) (λ (t : Task). t.core == c.number) (λ (t : Task). t.core == d.number) m.tasks never in
+          let first = slots_counted c mine.runnable has in
+          let second = slots_counted d mine.runnable others in
+          let one = some_counts (λ s. starts p mine.runnable (events_of_slot s)) c.slots i a here mine.own in
+          let two = some_counts (λ s. starts p mine.runnable (events_of_slot s)) d.slots j b there also in
           absurd (omega arith)
+
+-- ---- an entry of a slot
+
+-- it is of no key of another task
+pub other_entry : (p : Plan) (slot : Slot) (a : Actor) (events : List ℕ) → IsOwn p slot a → ((k : ActKey) → is_key_of p (events_of_slot slot) k ≡ true → is_key_of p events k ≡ false) → (j : ActKey) → is_key_of p events j ≡ true → made_by j a ≡ false
+other_entry p (of.Machine n) a events own foreign j mine = ap (made_by j) own
+other_entry p (of.Task s) a events own foreign j mine = ap (made_by j) own.is ∙ by_test (same_key j own.key) refl
+  where
+    by_test : (b : Bool) → same_key j own.key ≡ b → b ≡ false
+    by_test false is = refl
+    by_test true is = absurd (false≢true (sym (foreign own.key own.own) ∙ ap (is_key_of p events) (sym (key_same j own.key is)) ∙ mine))

@@ -5,19 +5,34 @@ use Rattle.std.specs.List.{slice_get}
 use Rattle.std.proofs.lemmas.Bool.{cases_lt, false≢true}
 use Rattle.std.proofs.lemmas.List.{get_or_past, length-set, length-replicate, length-map, get_or-replicate}
 use Rattle.std.proofs.lemmas.Option.{get_or_from_slice_get, slice_get-get_or, slice_get_within, slice_get-map}
-use Rattle.rte_value.specs.declared.kinds.ActKey.{ActKey}
 use Rattle.bus_semantics.specs.Plan.{Plan}
 use Rattle.bus_semantics.specs.Rest.{Try, gathered, start_try}
 use Rattle.port_objects.specs.declared.object.Object.{Object}
 use Rattle.place_set.specs.Places.{NoneBetween}
 use Rattle.task_machine.specs.declared.instr.TaskSet.{TaskSet}
-use Rattle.core_turn.specs.declared.slot.Slot.{Slot}
-use Rattle.core_turn.specs.Slots.{tries_of, slot_tries}
-use Rattle.core_turn.specs.Looking.{AllHeld}
-use Rattle.core_turn.specs.Awake.{AwakeState, all_awake, Fits, AreHeld, StartsHeld, HeldTold, EventsHeld, IsSettled, with_slots}
-use Rattle.core_turn.proofs.Stepped.{Placed, here, there, placed}
+use Rattle.task_slots.specs.declared.slot.Slot.{Slot}
+use Rattle.task_slots.specs.declared.slot.Slot.TheVariants as of
+use Rattle.task_slots.specs.declared.slot.Activity.{Activity}
+use Rattle.task_slots.specs.declared.slot.Activity.TheVariants.{Free, Runs, Calls, Serves}
+use Rattle.task_slots.specs.Slots.{tries_of, slot_tries, events_of_slot}
+use Rattle.task_slots.specs.Looking.{AllHeld}
+use Rattle.task_slots.specs.Waiting.{EventsHeld, is_free_task, is_free}
+use Rattle.task_slots.proofs.Placed.{Placed, here, there, placed}
+use Rattle.task_slots.proofs.Unchanged.{TriesHeld}
+use Rattle.core_turn.specs.Awake.{AwakeState, all_awake, Fits, AreHeld, StartsHeld, HeldTold, IsSettled, with_slots}
 use Rattle.core_turn.proofs.Order.{no_both}
 use Rattle.core_turn.proofs.Waiters.{none_waits, waiter_held}
+
+-- all that a free task tries is to start its events
+pub free_tries : (p : Plan) (t : TaskSet) (s : Slot) → is_free s ≡ true → slot_tries p t s ≡ gathered (start_try p) (events_of_slot s)
+free_tries p t (of.Machine n) free = absurd (false≢true free)
+free_tries p t (of.Task s) free = by_activity s.activity free
+  where
+    by_activity : (a : Activity) → is_free_task a ≡ true → tries_of p t s.events.items s.frame s.inner a ≡ gathered (start_try p) s.events.items
+    by_activity Free free = refl
+    by_activity (Runs k) free = absurd (false≢true free)
+    by_activity (Calls c) free = absurd (false≢true free)
+    by_activity (Serves c) free = absurd (false≢true free)
 
 -- ---- all awake
 
@@ -29,10 +44,10 @@ none_asleep n i e =
 pub all_starts : (p : Plan) (objects : List Object) (slots : List Slot) (a : AwakeState) → a.slots ≡ replicate (length slots) true → a.events ≡ all_awake slots → StartsHeld p objects slots a
 all_starts p objects slots a flags rows = record {
   events = λ i j e s row found at event sleeps.
-      let f : Slot → List Bool = λ (s : Slot). replicate (length s.events.items) true in
+      let f : Slot → List Bool = λ (s : Slot). replicate (length (events_of_slot s)) true in
       let is : Some row ≡ Some (f s) = sym at ∙ ap (λ xs. slice_get xs i) rows ∙ slice_get-map f slots i ∙ ap (option_map f) found in
       let same : row ≡ f s = cc in
-      absurd (none_asleep (length s.events.items) j (subst (λ r. slice_get r j ≡ Some false) same sleeps));
+      absurd (none_asleep (length (events_of_slot s)) j (subst (λ r. slice_get r j ≡ Some false) same sleeps));
   slots = λ i s found sleeps dry. absurd (none_asleep (length slots) i (subst (λ r. slice_get r i ≡ Some false) flags sleeps));
 }
 
@@ -43,12 +58,12 @@ all_held p t objects touched slots first a n flags rows count none = record { st
 pub all_fits : (slots : List Slot) (first : ℕ) (a : AwakeState) → a.slots ≡ replicate (length slots) true → a.events ≡ all_awake slots → length a.waiting ≡ length slots → length a.areas ≡ length slots → a.first ≡ first → Fits slots first a
 all_fits slots first a flags rows waiting areas begins = record {
   count = ap length flags ∙ length-replicate (length slots) true;
-  rows = ap length rows ∙ length-map slots (λ (s : Slot). replicate (length s.events.items) true);
+  rows = ap length rows ∙ length-map slots (λ (s : Slot). replicate (length (events_of_slot s)) true);
   widths = λ i s row found at.
-      let f : Slot → List Bool = λ (s : Slot). replicate (length s.events.items) true in
+      let f : Slot → List Bool = λ (s : Slot). replicate (length (events_of_slot s)) true in
       let is : Some row ≡ Some (f s) = sym at ∙ ap (λ xs. slice_get xs i) rows ∙ slice_get-map f slots i ∙ ap (option_map f) found in
       let same : row ≡ f s = cc in
-      ap length same ∙ length-replicate (length s.events.items) true;
+      ap length same ∙ length-replicate (length (events_of_slot s)) true;
   waiting = waiting;
   areas = areas;
   begins = begins;
@@ -98,92 +113,75 @@ starts_on p objects slots a n place row at held = record {
   slots = held.slots;
 }
   where
-    of_place : (i j e : ℕ) (s : Slot) (r : List Bool) → slice_get slots i ≡ Some s → slice_get s.events.items j ≡ Some e → slice_get r j ≡ Some false → Placed (List Bool) a.events n (set row place true) i r → AllHeld p objects (start_try p e)
+    of_place : (i j e : ℕ) (s : Slot) (r : List Bool) → slice_get slots i ≡ Some s → slice_get (events_of_slot s) j ≡ Some e → slice_get r j ≡ Some false → Placed (List Bool) a.events n (set row place true) i r → AllHeld p objects (start_try p e)
     of_place i j e s r found event sleeps (here same is) =
         held.events i j e s row found (ap (slice_get a.events) same ∙ at) event (not_before row place j (subst (λ x. slice_get x j ≡ Some false) is sleeps)).1
     of_place i j e s r found event sleeps (there other here_it) = held.events i j e s r found here_it event sleeps
 
 -- ---- where a bench tells its objects
 
--- the wishes of these tries may not come
-abbrev pub TriesHeld : Plan → Option (List Object) → List Try → Type 0
-TriesHeld p None ts = Unit {0}
-TriesHeld p (Some objects) ts = AllHeld p objects ts
-
 module _ (p : Plan) where
   pub events_held : (t : TaskSet) (o : Option (List Object)) (slots : List Slot) (first : ℕ) (a : AwakeState) (i : ℕ) (s : Slot) (row : List Bool) → slice_get slots i ≡ Some s → slice_get a.events i ≡ Some row → HeldTold p t o None slots first a
-      → EventsHeld p o s.events.items row
+      → EventsHeld p o (events_of_slot s) row
   events_held t None slots first a i s row found at held = tt
   events_held t (Some objects) slots first a i s row found at held = λ j e event sleeps. held.starts.events i j e s row found at event sleeps
 
-  -- an event that may not start falls asleep
-  pub held_more : (o : Option (List Object)) (events : List ℕ) (row : List Bool) (at e : ℕ) → slice_get events at ≡ Some e → TriesHeld p o (start_try p e) → EventsHeld p o events row → EventsHeld p o events (set row at false)
-  held_more None events row at e found held before = tt
-  held_more (Some objects) events row at e found held before = λ j d event sleeps. of_place j d event (placed row at false j false sleeps)
-    where
-      of_place : (j d : ℕ) → slice_get events j ≡ Some d → Placed Bool row at false j false → AllHeld p objects (start_try p d)
-      of_place j d event (here same is) =
-          let one : Some d ≡ Some e = sym event ∙ ap (slice_get events) same ∙ found in
-          let own : d ≡ e = cc in
-          subst (λ x. AllHeld p objects (start_try p x)) (sym own) held
-      of_place j d event (there other sleeps) = before j d event sleeps
-
   module _ (objects : List Object) where
     -- the events of one slot fell asleep
-    pub starts_row : (slots : List Slot) (a : AwakeState) (at : ℕ) (s : Slot) (row : List Bool) → slice_get slots at ≡ Some s → EventsHeld p (Some objects) s.events.items row
+    pub starts_row : (slots : List Slot) (a : AwakeState) (at : ℕ) (s : Slot) (row : List Bool) → slice_get slots at ≡ Some s → EventsHeld p (Some objects) (events_of_slot s) row
         → StartsHeld p objects slots a → StartsHeld p objects slots (with_rows a (set a.events at row))
     starts_row slots a at s row found held before = record {
       events = λ i j e x r there_it at_it event sleeps. of_place i j e x r there_it event sleeps (placed a.events at row i r at_it);
       slots = before.slots;
     }
       where
-        of_place : (i j e : ℕ) (x : Slot) (r : List Bool) → slice_get slots i ≡ Some x → slice_get x.events.items j ≡ Some e → slice_get r j ≡ Some false → Placed (List Bool) a.events at row i r → AllHeld p objects (start_try p e)
+        of_place : (i j e : ℕ) (x : Slot) (r : List Bool) → slice_get slots i ≡ Some x → slice_get (events_of_slot x) j ≡ Some e → slice_get r j ≡ Some false → Placed (List Bool) a.events at row i r → AllHeld p objects (start_try p e)
         of_place i j e x r there_it event sleeps (here same is) =
             let one : Some x ≡ Some s = sym there_it ∙ ap (slice_get slots) same ∙ found in
             let own : x ≡ s = cc in
-            held j e (subst (λ y. slice_get y.events.items j ≡ Some e) own event) (subst (λ y. slice_get y j ≡ Some false) is sleeps)
+            held j e (subst (λ y. slice_get (events_of_slot y) j ≡ Some e) own event) (subst (λ y. slice_get y j ≡ Some false) is sleeps)
         of_place i j e x r there_it event sleeps (there other here_it) = before.events i j e x r there_it here_it event sleeps
 
     -- a slot of which nothing may come fell asleep
-    pub starts_settled : (t : TaskSet) (slots : List Slot) (a a' : AwakeState) (at : ℕ) (s : Slot) → slice_get slots at ≡ Some s → AllHeld p objects (slot_tries p t s) → IsSettled p t s s.running at a a' → StartsHeld p objects slots a
+    pub starts_settled : (t : TaskSet) (slots : List Slot) (a a' : AwakeState) (at : ℕ) (s : Slot) → slice_get slots at ≡ Some s → AllHeld p objects (slot_tries p t s) → IsSettled p t s (is_free s) at a a' → StartsHeld p objects slots a
         → StartsHeld p objects slots a'
-    starts_settled t slots a a' at s found held settled before = of_running s.running refl held settled
+    starts_settled t slots a a' at s found held settled before = of_free (is_free s) refl settled
       where
-        of_running : (r : Option ActKey) → s.running ≡ r → AllHeld p objects (tries_of p t s.events.items s.frame r) → IsSettled p t s r at a a' → StartsHeld p objects slots a'
-        of_running (Some k) running own (inl same) = subst (StartsHeld p objects slots) (sym same) before
-        of_running (Some k) running own (inr f) = subst (StartsHeld p objects slots) (sym f.changed) (record {
+        of_free : (r : Bool) → is_free s ≡ r → IsSettled p t s r at a a' → StartsHeld p objects slots a'
+        of_free false free (inl same) = subst (StartsHeld p objects slots) (sym same) before
+        of_free false free (inr f) = subst (StartsHeld p objects slots) (sym f.changed) (record {
           events = before.events;
           slots = λ i x there_it sleeps dry.
               let waits = not_before a.waiting at i dry in
               before.slots i x there_it (other_flag a.slots at i false waits.0 sleeps) waits.1;
         })
-        of_running None running own put = subst (StartsHeld p objects slots) (sym put) (record {
+        of_free true free put = subst (StartsHeld p objects slots) (sym put) (record {
           events = before.events;
           slots = λ i x there_it sleeps dry. of_place i x there_it dry (placed a.slots at false i false sleeps);
         })
           where
-            of_place : (i : ℕ) (x : Slot) → slice_get slots i ≡ Some x → slice_get a.waiting i ≡ Some false → Placed Bool a.slots at false i false → (x.running ≡ None) × AllHeld p objects (gathered (start_try p) x.events.items)
+            of_place : (i : ℕ) (x : Slot) → slice_get slots i ≡ Some x → slice_get a.waiting i ≡ Some false → Placed Bool a.slots at false i false → (is_free x ≡ true) × AllHeld p objects (gathered (start_try p) (events_of_slot x))
             of_place i x there_it dry (here same is) =
                 let one : Some x ≡ Some s = sym there_it ∙ ap (slice_get slots) same ∙ found in
                 let own_slot : x ≡ s = cc in
-                subst (λ y. (y.running ≡ None) × AllHeld p objects (gathered (start_try p) y.events.items)) (sym own_slot) (running, own)
+                subst (λ y. (is_free y ≡ true) × AllHeld p objects (gathered (start_try p) (events_of_slot y))) (sym own_slot) (free, subst (AllHeld p objects) (free_tries p t s free) held)
             of_place i x there_it dry (there other sleeps) = before.slots i x there_it sleeps dry
 
     -- a slot that is awake stepped
-    pub starts_stepped : (slots : List Slot) (a : AwakeState) (at : ℕ) (s stepped : Slot) → slice_get slots at ≡ Some s → stepped.events ≡ s.events → slice_get a.slots at ≡ Some true → StartsHeld p objects slots a
+    pub starts_stepped : (slots : List Slot) (a : AwakeState) (at : ℕ) (s stepped : Slot) → slice_get slots at ≡ Some s → events_of_slot stepped ≡ events_of_slot s → slice_get a.slots at ≡ Some true → StartsHeld p objects slots a
         → StartsHeld p objects (set slots at stepped) a
     starts_stepped slots a at s stepped found same awake before = record {
       events = λ i j e x row there_it at_it event sleeps. of_events i j e x row at_it event sleeps (placed slots at stepped i x there_it);
       slots = λ i x there_it sleeps dry. of_slots i x sleeps dry (placed slots at stepped i x there_it);
     }
       where
-        of_events : (i j e : ℕ) (x : Slot) (row : List Bool) → slice_get a.events i ≡ Some row → slice_get x.events.items j ≡ Some e → slice_get row j ≡ Some false → Placed Slot slots at stepped i x → AllHeld p objects (start_try p e)
+        of_events : (i j e : ℕ) (x : Slot) (row : List Bool) → slice_get a.events i ≡ Some row → slice_get (events_of_slot x) j ≡ Some e → slice_get row j ≡ Some false → Placed Slot slots at stepped i x → AllHeld p objects (start_try p e)
         of_events i j e x row at_it event sleeps (here place is) =
-            let listed : x.events ≡ s.events = ap (λ (y : Slot). y.events) is ∙ same in
-            before.events i j e s row (ap (slice_get slots) place ∙ found) at_it (subst (λ v. slice_get v.items j ≡ Some e) listed event) sleeps
+            let listed : events_of_slot x ≡ events_of_slot s = ap events_of_slot is ∙ same in
+            before.events i j e s row (ap (slice_get slots) place ∙ found) at_it (subst (λ v. slice_get v j ≡ Some e) listed event) sleeps
         of_events i j e x row at_it event sleeps (there other here_it) = before.events i j e x row here_it at_it event sleeps
 
-        of_slots : (i : ℕ) (x : Slot) → slice_get a.slots i ≡ Some false → slice_get a.waiting i ≡ Some false → Placed Slot slots at stepped i x → (x.running ≡ None) × AllHeld p objects (gathered (start_try p) x.events.items)
+        of_slots : (i : ℕ) (x : Slot) → slice_get a.slots i ≡ Some false → slice_get a.waiting i ≡ Some false → Placed Slot slots at stepped i x → (is_free x ≡ true) × AllHeld p objects (gathered (start_try p) (events_of_slot x))
         of_slots i x sleeps dry (here place is) = no_both (slice_get a.slots at) awake (ap (slice_get a.slots) (sym place) ∙ sleeps)
         of_slots i x sleeps dry (there other here_it) = before.slots i x here_it sleeps dry
 
@@ -200,7 +198,7 @@ module _ (p : Plan) where
       of_flag true is = waiter_held p t objects slots a from i s found begun none (flag ∙ ap (λ b. Some b) is) held.waiters
       of_flag false is =
           let facts = held.starts.slots i s found sleeps (flag ∙ ap (λ b. Some b) is) in
-          subst (λ r. AllHeld p objects (tries_of p t s.events.items s.frame r)) (sym facts.0) facts.1
+          subst (AllHeld p objects) (sym (free_tries p t s facts.0)) facts.1
 
 -- ---- a place for each
 
@@ -214,8 +212,8 @@ fits_waking slots first a n fits = record {
   begins = fits.begins;
 }
 
-pub fits_settled : (p : Plan) (t : TaskSet) (slots : List Slot) (first : ℕ) (a a' : AwakeState) (at : ℕ) (s : Slot) (running : Option ActKey) → IsSettled p t s running at a a' → Fits slots first a → Fits slots first a'
-fits_settled p t slots first a a' at s None put fits = subst (Fits slots first) (sym put) (record {
+pub fits_settled : (p : Plan) (t : TaskSet) (slots : List Slot) (first : ℕ) (a a' : AwakeState) (at : ℕ) (s : Slot) (free : Bool) → IsSettled p t s free at a a' → Fits slots first a → Fits slots first a'
+fits_settled p t slots first a a' at s true put fits = subst (Fits slots first) (sym put) (record {
   count = length-set a.slots at false ∙ fits.count;
   rows = fits.rows;
   widths = fits.widths;
@@ -223,8 +221,8 @@ fits_settled p t slots first a a' at s None put fits = subst (Fits slots first) 
   areas = fits.areas;
   begins = fits.begins;
 })
-fits_settled p t slots first a a' at s (Some k) (inl same) fits = subst (Fits slots first) (sym same) fits
-fits_settled p t slots first a a' at s (Some k) (inr f) fits = subst (Fits slots first) (sym f.changed) (record {
+fits_settled p t slots first a a' at s false (inl same) fits = subst (Fits slots first) (sym same) fits
+fits_settled p t slots first a a' at s false (inr f) fits = subst (Fits slots first) (sym f.changed) (record {
   count = length-set a.slots at false ∙ fits.count;
   rows = fits.rows;
   widths = fits.widths;
@@ -233,7 +231,7 @@ fits_settled p t slots first a a' at s (Some k) (inr f) fits = subst (Fits slots
   begins = fits.begins;
 })
 
-pub fits_row : (slots : List Slot) (first : ℕ) (a : AwakeState) (at : ℕ) (s : Slot) (row : List Bool) → slice_get slots at ≡ Some s → length row ≡ length s.events.items → Fits slots first a → Fits slots first (with_rows a (set a.events at row))
+pub fits_row : (slots : List Slot) (first : ℕ) (a : AwakeState) (at : ℕ) (s : Slot) (row : List Bool) → slice_get slots at ≡ Some s → length row ≡ length (events_of_slot s) → Fits slots first a → Fits slots first (with_rows a (set a.events at row))
 fits_row slots first a at s row found width fits = record {
   count = fits.count;
   rows = length-set a.events at row ∙ fits.rows;
@@ -243,14 +241,14 @@ fits_row slots first a at s row found width fits = record {
   begins = fits.begins;
 }
   where
-    of_place : (i : ℕ) (x : Slot) (r : List Bool) → slice_get slots i ≡ Some x → Placed (List Bool) a.events at row i r → length r ≡ length x.events.items
+    of_place : (i : ℕ) (x : Slot) (r : List Bool) → slice_get slots i ≡ Some x → Placed (List Bool) a.events at row i r → length r ≡ length (events_of_slot x)
     of_place i x r there_it (here same is) =
         let one : Some x ≡ Some s = sym there_it ∙ ap (slice_get slots) same ∙ found in
         let own : s ≡ x = cc in
-        ap length is ∙ width ∙ ap (λ (y : Slot). length y.events.items) own
+        ap length is ∙ width ∙ ap (λ (y : Slot). length (events_of_slot y)) own
     of_place i x r there_it (there other here_it) = fits.widths i x r there_it here_it
 
-pub fits_stepped : (slots : List Slot) (first : ℕ) (a : AwakeState) (at : ℕ) (s stepped : Slot) → slice_get slots at ≡ Some s → stepped.events ≡ s.events → Fits slots first a → Fits (set slots at stepped) first a
+pub fits_stepped : (slots : List Slot) (first : ℕ) (a : AwakeState) (at : ℕ) (s stepped : Slot) → slice_get slots at ≡ Some s → events_of_slot stepped ≡ events_of_slot s → Fits slots first a → Fits (set slots at stepped) first a
 fits_stepped slots first a at s stepped found same fits = record {
   count = fits.count ∙ sym (length-set slots at stepped);
   rows = fits.rows ∙ sym (length-set slots at stepped);
@@ -260,7 +258,7 @@ fits_stepped slots first a at s stepped found same fits = record {
   begins = fits.begins;
 }
   where
-    of_place : (i : ℕ) (x : Slot) (row : List Bool) → slice_get a.events i ≡ Some row → Placed Slot slots at stepped i x → length row ≡ length x.events.items
+    of_place : (i : ℕ) (x : Slot) (row : List Bool) → slice_get a.events i ≡ Some row → Placed Slot slots at stepped i x → length row ≡ length (events_of_slot x)
     of_place i x row at_it (here place is) =
-        fits.widths i s row (ap (slice_get slots) place ∙ found) at_it ∙ sym (ap (λ (y : Slot). length y.events.items) is ∙ ap (λ (v : _). length v.items) same)
+        fits.widths i s row (ap (slice_get slots) place ∙ found) at_it ∙ sym (ap (λ (y : Slot). length (events_of_slot y)) is ∙ ap length same)
     of_place i x row at_it (there other here_it) = fits.widths i x row here_it at_it

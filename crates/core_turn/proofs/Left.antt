@@ -9,9 +9,10 @@ use Rattle.port_objects.specs.declared.object.Object.{Object}
 use Rattle.port_objects.specs.Objects.{kept_of}
 use Rattle.port_objects.specs.Waking.{IsClosed}
 use Rattle.task_machine.specs.declared.instr.TaskSet.{TaskSet}
-use Rattle.core_turn.specs.declared.slot.Slot.{Slot}
-use Rattle.core_turn.specs.Awake.{AwakeState, ComesBefore, MaySleep, IsWaiting, WaitersHeld, with_slots, waits_for, IsFirstWaiter, FirstIs, FirstWakes, woken_at, Fits, StartsHeld, WaitsAt}
-use Rattle.core_turn.proofs.Stepped.{Placed, here, there, placed}
+use Rattle.task_slots.specs.declared.slot.Slot.{Slot}
+use Rattle.core_turn.specs.Awake.{AwakeState, ComesBefore, MaySleep, IsWaiting, WaitersHeld, with_slots, waits_for, IsFirstWaiter, FirstIs, FirstWakes, woken_at, Fits, StartsHeld}
+use Rattle.task_slots.specs.Waiting.{WaitsAt}
+use Rattle.task_slots.proofs.Placed.{Placed, here, there, placed}
 use Rattle.core_turn.proofs.Order.{set_there, set_here, same_or_not, either}
 use Rattle.core_turn.proofs.Awakes.{fits_waking, starts_waking}
 use Rattle.core_turn.proofs.Waiters.{waiters_waking}

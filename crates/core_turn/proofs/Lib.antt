@@ -1,19 +1,9 @@
-pub mod Basics
-pub mod Facts
-pub mod Wishes
-pub mod Histories
-pub mod Until
-pub mod Tries
-pub mod Begun
-pub mod Stepping
-pub mod Looks
-pub mod Starts
-pub mod Beginning
 pub mod Passing
 pub mod Apart
 pub mod Stepped
 pub mod Made
 pub mod Keeping
+pub mod Beside
 pub mod Places
 pub mod Mapped
 pub mod Resting
@@ -22,5 +12,4 @@ pub mod Order
 pub mod Waiters
 pub mod Awakes
 pub mod Left
-pub mod Unchanged
 pub mod Settling

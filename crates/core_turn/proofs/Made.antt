@@ -1,95 +1,208 @@
--- A new core has its tasks, is ready for turns, and stands for no entry.
-use Rattle.std.proofs.Common.{◌≡◌, ℕ, zero, suc, ◌+◌, ◌<◌, Bool, true, false, ◌&&◌, ◌==◌, if◌then◌else◌, refl, sym, ◌∙◌, ap, subst, List, [], ◌∷◌, ◌++◌, length, map, take, get_or, Some}
+-- A new core has its slots, is ready for turns, and stands for no entry.
+use Rattle.std.proofs.Common.{◌≡◌, ℕ, zero, suc, ◌+◌, ◌<◌, ◌≤◌, Bool, true, false, ◌&&◌, ◌==◌, if◌then◌else◌, refl, sym, ◌∙◌, ap, subst, arith, List, [], ◌∷◌, ◌++◌, length, map, take, get_or, append_assoc, Some}
 use Rattle.std.specs.Prelude.{filter, nat_lt}
 use Rattle.std.specs.List.{list_all, slice_get}
-use Rattle.std.proofs.lemmas.List.{take_more}
+use Rattle.std.proofs.lemmas.List.{take_more, append-nil}
 use Rattle.std.proofs.lemmas.List.Elements.{filter-append}
-use Rattle.std.proofs.lemmas.Bool.{and_parts}
+use Rattle.std.proofs.lemmas.Bool.{and_parts, eq-eqb}
 use Rattle.bus_semantics.specs.declared.script.Mapping.{Mapping}
 use Rattle.bus_semantics.specs.declared.script.Task.{Task}
-use Rattle.bus_semantics.specs.Plan.{Plan}
+use Rattle.bus_semantics.specs.Plan.{Plan, positions}
+use Rattle.bus_semantics.specs.History.{count}
+use Rattle.bus_semantics.specs.Rest.{gathered}
 use Rattle.bus_semantics.specs.SoundNames.{is_name}
+use Rattle.bus_semantics.specs.Sound.{mapped_events, IsSound}
 use Rattle.task_machine.specs.declared.instr.TaskSet.{TaskSet}
-use Rattle.core_turn.specs.declared.slot.Slot.{Slot}
-use Rattle.core_turn.specs.Plans.{IsBuilt}
-use Rattle.core_turn.specs.Slots.{is_running}
-use Rattle.core_turn.specs.Cores.{CoreState, events_of_slot, tasks_of_core, HasTasks}
-use Rattle.core_turn.specs.Made.{IsNew, AreNew}
-use Rattle.core_turn.specs.Ready.{IsBegunIn, IsReadySlot, IsReady}
-use Rattle.core_turn.specs.Standing.{StandsForRunning, CoreStands}
-use Rattle.core_turn.proofs.Apart.{tasks_fit}
+use Rattle.task_slots.specs.declared.slot.Slot.{Slot}
+use Rattle.task_slots.specs.declared.slot.Slot.TheVariants as of
+use Rattle.task_slots.specs.declared.slot.TaskSlot.{TaskSlot}
+use Rattle.task_slots.specs.declared.slot.Activity.{Activity}
+use Rattle.task_slots.specs.declared.slot.Activity.TheVariants.{Free}
+use Rattle.task_slots.specs.Slots.{Table, of_task, of_machine, table_of, is_running}
+use Rattle.task_slots.specs.Made.{IsNew}
+use Rattle.task_slots.specs.Ready.{may_be_mapped, IsActive, IsReadyTask, IsReadySlot}
+use Rattle.task_slots.specs.Standing.{ActivityStands, SlotStands}
+use Rattle.core_turn.specs.Cores.{CoreState, tasks_of_core, task_tables, machine_tables, tables_of_core, HasSlots}
+use Rattle.core_turn.specs.Made.{IsNewSlot, AreNew}
+use Rattle.core_turn.specs.Ready.{IsReady}
+use Rattle.core_turn.specs.Standing.{CoreStands}
+use Rattle.activation_laws.specs.LookUps.{all_at}
+use Rattle.history_laws.proofs.Lists as lists
+use Rattle.task_slots.proofs.Looks.{count_on}
+use Rattle.core_turn.proofs.Apart.{tasks_fit, some_counts}
+use Rattle.core_turn.proofs.Places.{kept_from, mapped_from, all_from}
+use Rattle.core_turn.proofs.Mapped.{listed_mapped}
 
-new_on : (t : TaskSet) (tasks : List Task) (slots : List Slot) (task : Task) (s : Slot) → AreNew t tasks slots → IsNew t task.events s → AreNew t (tasks ++ task ∷ []) (slots ++ s ∷ [])
-new_on t [] [] task s before new = (new, tt)
-new_on t [] (x ∷ slots) task s before new = absurd before
-new_on t (y ∷ tasks) [] task s before new = absurd before
-new_on t (y ∷ tasks) (x ∷ slots) task s before new = (before.0, new_on t tasks slots task s before.1 new)
+new_on : (t : TaskSet) (tables : List Table) (slots : List Slot) (x : Table) (s : Slot) → AreNew t tables slots → IsNewSlot t x s → AreNew t (tables ++ x ∷ []) (slots ++ s ∷ [])
+new_on t [] [] x s before new = (new, tt)
+new_on t [] (y ∷ slots) x s before new = absurd before
+new_on t (y ∷ tables) [] x s before new = absurd before
+new_on t (y ∷ tables) (z ∷ slots) x s before new = (before.0, new_on t tables slots x s before.1 new)
+
+-- more of them behind
+pub all_on : (t : TaskSet) (tables others : List Table) (slots more : List Slot) → AreNew t tables slots → AreNew t others more → AreNew t (tables ++ others) (slots ++ more)
+all_on t [] others [] more before after = after
+all_on t [] others (y ∷ slots) more before after = absurd before
+all_on t (x ∷ tables) others [] more before after = absurd before
+all_on t (x ∷ tables) others (y ∷ slots) more before after = (before.0, all_on t tables others slots more before.1 after)
+
+-- machines are new
+pub machines_new : (t : TaskSet) (ns : List ℕ) → AreNew t (map of_machine ns) (map (λ n. of.Machine n) ns)
+machines_new t [] = tt
+machines_new t (n ∷ ns) = (refl, machines_new t ns)
 
 -- one task more
 module _ (t : TaskSet) (number : ℕ) (tasks : List Task) (slots : List Slot) (i : ℕ) (task : Task) (within : i < length tasks) (is : task ≡ get_or tasks i task) where
   abbrev here : Task → Bool
   here x = x.core == number
 
+  abbrev tables : List Task → List Table
+  tables ts = map (λ (x : Task). of_task x.events) ts
+
   more : filter here (take (i + 1) tasks) ≡ filter here (take i tasks) ++ (if task.core == number then task ∷ [] else [])
   more = ap (filter here) (take_more tasks i task within ∙ ap (λ x. take i tasks ++ x ∷ []) (sym is)) ∙ filter-append here (take i tasks) (task ∷ [])
 
-  pub taken_on : (s : Slot) → (task.core == number) ≡ true → AreNew t (filter here (take i tasks)) slots → IsNew t task.events s → AreNew t (filter here (take (i + 1) tasks)) (slots ++ s ∷ [])
-  taken_on s ours before new =
-      subst (λ ts. AreNew t ts (slots ++ s ∷ [])) (sym (more ∙ ap (λ b. filter here (take i tasks) ++ (if b then task ∷ [] else [])) ours)) (new_on t (filter here (take i tasks)) slots task s before new)
+  tables_on : (xs ys : List Task) → tables (xs ++ ys) ≡ tables xs ++ tables ys
+  tables_on [] ys = refl
+  tables_on (x ∷ xs) ys = ap (λ zs. of_task x.events ∷ zs) (tables_on xs ys)
 
-  pub left_out : (task.core == number) ≡ false → AreNew t (filter here (take i tasks)) slots → AreNew t (filter here (take (i + 1) tasks)) slots
+  pub taken_on : (s : TaskSlot) → (task.core == number) ≡ true → AreNew t (tables (filter here (take i tasks))) slots → IsNew t task.events s → AreNew t (tables (filter here (take (i + 1) tasks))) (slots ++ of.Task s ∷ [])
+  taken_on s ours before new =
+      subst (λ ts. AreNew t ts (slots ++ of.Task s ∷ [])) (sym (ap tables (more ∙ ap (λ b. filter here (take i tasks) ++ (if b then task ∷ [] else [])) ours) ∙ tables_on (filter here (take i tasks)) (task ∷ [])))
+      (new_on t (tables (filter here (take i tasks))) slots (of_task task.events) (of.Task s) before new)
+
+  pub left_out : (task.core == number) ≡ false → AreNew t (tables (filter here (take i tasks))) slots → AreNew t (tables (filter here (take (i + 1) tasks))) slots
   left_out other before =
-      subst (λ ts. AreNew t ts slots) (sym (more ∙ ap (λ b. filter here (take i tasks) ++ (if b then task ∷ [] else [])) other ∙ Rattle.std.proofs.lemmas.List.append-nil (filter here (take i tasks)))) before
+      subst (λ ts. AreNew t (tables ts) slots) (sym (more ∙ ap (λ b. filter here (take i tasks) ++ (if b then task ∷ [] else [])) other ∙ append-nil (filter here (take i tasks)))) before
 
 -- ---- the core
 
-events_listed : (t : TaskSet) (tasks : List Task) (slots : List Slot) → AreNew t tasks slots → map events_of_slot slots ≡ map (λ (x : Task). x.events) tasks
-events_listed t [] [] new = refl
-events_listed t [] (s ∷ slots) new = absurd new
-events_listed t (x ∷ tasks) [] new = absurd new
-events_listed t (x ∷ tasks) (s ∷ slots) new = λ i. new.0.listed i ∷ events_listed t tasks slots new.1 i
-
-slot_new : (t : TaskSet) (tasks : List Task) (slots : List Slot) (i : ℕ) (s : Slot) (ok : Task → Bool) → AreNew t tasks slots → list_all ok tasks ≡ true → slice_get slots i ≡ Some s → (x : Task) × (ok x ≡ true) × IsNew t x.events s
-slot_new t tasks [] i s ok new all e = absurd (cc e)
-slot_new t [] (y ∷ slots) i s ok new all e = absurd new
-slot_new t (x ∷ tasks) (y ∷ slots) zero s ok new all e =
-    let same : y ≡ s = cc in (x, (and_parts (ok x) (list_all ok tasks) all).0, subst (IsNew t x.events) same new.0)
-slot_new t (x ∷ tasks) (y ∷ slots) (suc i) s ok new all e = slot_new t tasks slots i s ok new.1 (and_parts (ok x) (list_all ok tasks) all).1 e
-
-all_kept : (ok keep : Task → Bool) (xs : List Task) → list_all ok xs ≡ true → list_all ok (filter keep xs) ≡ true
-all_kept ok keep [] all = refl
-all_kept ok keep (x ∷ xs) all = by_test (keep x) (and_parts (ok x) (list_all ok xs) all).0 (all_kept ok keep xs (and_parts (ok x) (list_all ok xs) all).1)
+slots_listed : (t : TaskSet) (tables : List Table) (slots : List Slot) → AreNew t tables slots → map table_of slots ≡ tables
+slots_listed t [] [] new = refl
+slots_listed t [] (s ∷ slots) new = absurd new
+slots_listed t (x ∷ tables) [] new = absurd new
+slots_listed t (x ∷ tables) (s ∷ slots) new = λ i. one x s new.0 i ∷ slots_listed t tables slots new.1 i
   where
-    by_test : (b : Bool) → ok x ≡ true → list_all ok (filter keep xs) ≡ true → list_all ok (if b then x ∷ filter keep xs else filter keep xs) ≡ true
-    by_test true one rest = ap (λ v. v && list_all ok (filter keep xs)) one ∙ rest
-    by_test false one rest = rest
+    one : (x : Table) (s : Slot) → IsNewSlot t x s → table_of s ≡ x
+    one (of_task events) (of.Task s) new = ap of_task new.listed
+    one (of_machine n) (of.Machine k) new = ap of_machine new
+    one (of_task events) (of.Machine k) new = absurd new
+    one (of_machine n) (of.Task s) new = absurd new
 
-module _ (m : Mapping) (t : TaskSet) (c : CoreState) (new : AreNew t (tasks_of_core m c.number) c.slots) where
-  pub has_tasks : HasTasks m c
-  has_tasks = events_listed t (tasks_of_core m c.number) c.slots new
+-- what stands at a place is new
+record NewAt (t : TaskSet) (tables : List Table) (s : Slot) : Type 0 where
+  place : ℕ
+  table : Table
+  found : slice_get tables place ≡ Some table
+  new : IsNewSlot t table s
 
-  pub is_ready : (p : Plan) → IsBuilt p m → IsReady p m t c
-  is_ready p built = record { built = built; tasks = has_tasks; each = each }
+new_at : (t : TaskSet) (tables : List Table) (slots : List Slot) (i : ℕ) (s : Slot) → AreNew t tables slots → slice_get slots i ≡ Some s → NewAt t tables s
+new_at t tables [] i s new e = absurd (cc e)
+new_at t [] (y ∷ slots) i s new e = absurd new
+new_at t (x ∷ tables) (y ∷ slots) zero s new e = let same : y ≡ s = cc in record { place = 0; table = x; found = refl; new = subst (IsNewSlot t x) same new.0 }
+new_at t (x ∷ tables) (y ∷ slots) (suc i) s new e = let more = new_at t tables slots i s new.1 e in record { place = suc more.place; table = more.table; found = more.found; new = more.new }
+
+module _ (p : Plan) (m : Mapping) (t : TaskSet) (c : CoreState) (new : AreNew t (tables_of_core p m c.number) c.slots) where
+  pub has_slots : HasSlots p m c
+  has_slots = slots_listed t (tables_of_core p m c.number) c.slots new
+
+  -- ---- each slot is ready
+
+  -- the table is one of these
+  data Among (xs ys : List Table) (x : Table) : Type 0 where
+    first : (i : ℕ) → slice_get xs i ≡ Some x → Among xs ys x
+    last : (i : ℕ) → slice_get ys i ≡ Some x → Among xs ys x
+
+  among : (xs ys : List Table) (i : ℕ) (x : Table) → slice_get (xs ++ ys) i ≡ Some x → Among xs ys x
+  among [] ys i x e = last i e
+  among (z ∷ xs) ys zero x e = first 0 e
+  among (z ∷ xs) ys (suc i) x e = deeper (among xs ys i x e)
     where
-      each : (i : ℕ) (s : Slot) → slice_get c.slots i ≡ Some s → IsReadySlot p t s
-      each i s found =
-          let ok = all_kept (λ (x : Task). nat_lt x.core m.cores && (is_name x.name && list_all (λ e. nat_lt e (length p.events)) x.events)) (λ (x : Task). x.core == c.number) m.tasks (tasks_fit p m built) in
-          let x = slot_new t (tasks_of_core m c.number) c.slots i s (λ (x : Task). nat_lt x.core m.cores && (is_name x.name && list_all (λ e. nat_lt e (length p.events)) x.events)) new ok found in
-          let known = (and_parts (is_name x.0.name) (list_all (λ e. nat_lt e (length p.events)) x.0.events) (and_parts (nat_lt x.0.core m.cores) _ x.1).1).1 in
-          record {
-            mapped = subst (λ es. list_all (λ e. nat_lt e (length p.events)) es ≡ true) (sym x.2.listed) known;
-            made = x.2.made;
-            begun = subst (IsBegunIn p t s.events.items s.frame) (sym x.2.free) tt;
-          }
+      deeper : Among xs ys x → Among (z ∷ xs) ys x
+      deeper (first j e) = first (suc j) e
+      deeper (last j e) = last j e
 
-  true_all : (xs : List Task) → list_all (λ x. true) xs ≡ true
-  true_all [] = refl
-  true_all (x ∷ xs) = true_all xs
+  module _ (sound : IsSound p m) where
+    -- an event of a task may be mapped
+    events_mapped : (task : Task) (i : ℕ) → slice_get m.tasks i ≡ Some task → list_all (may_be_mapped p) task.events ≡ true
+    events_mapped task i found = all_from (may_be_mapped p) task.events (λ j e at. listed_mapped p m sound e (inside j e at) (some_mapped m.tasks i found j e at))
+      where
+        known : list_all (λ e. nat_lt e (length p.events)) task.events ≡ true
+        known =
+            let whole = all_at (λ (x : Task). nat_lt x.core m.cores && (is_name x.name && list_all (λ e. nat_lt e (length p.events)) x.events)) m.tasks i task (tasks_fit p m sound) found in
+            (and_parts (is_name task.name) (list_all (λ e. nat_lt e (length p.events)) task.events) (and_parts (nat_lt task.core m.cores) _ whole).1).1
 
-  pub stands_for_none : (p : Plan) → CoreStands p t [] c
-  stands_for_none p i s found =
-      let x = slot_new t (tasks_of_core m c.number) c.slots i s (λ x. true) new (true_all (tasks_of_core m c.number)) found in
-      record {
-        one = λ k mine. sym (ap (is_running k) x.2.free);
-        frame = subst (StandsForRunning t [] s.frame) (sym x.2.free) tt;
+        inside : (j e : ℕ) → slice_get task.events j ≡ Some e → nat_lt e (length p.events) ≡ true
+        inside j e at = all_at (λ e. nat_lt e (length p.events)) task.events j e known at
+
+        some_mapped : (ts : List Task) (i : ℕ) → slice_get ts i ≡ Some task → (j e : ℕ) → slice_get task.events j ≡ Some e → 1 ≤ count (λ d. d == e) (gathered (λ (x : Task). x.events) ts)
+        some_mapped [] i found j e at = absurd (cc found)
+        some_mapped (x ∷ ts) zero found j e at =
+            let same : x ≡ task = cc in
+            let here = some_counts (λ d. d == e) x.events j e (ap (λ (y : Task). slice_get y.events j) same ∙ at) (eq-eqb e e refl) in
+            let parts = count_on (λ d. d == e) x.events (gathered (λ (x : Task). x.events) ts) in
+            omega arith
+        some_mapped (x ∷ ts) (suc i) found j e at =
+            let more = some_mapped ts i found j e at in
+            let parts = count_on (λ d. d == e) x.events (gathered (λ (x : Task). x.events) ts) in
+            omega arith
+
+    task_ready : (i : ℕ) (x : Table) (s : Slot) → slice_get (task_tables m c.number) i ≡ Some x → IsNewSlot t x s → IsReadySlot p t s
+    task_ready i x s found new =
+        let from = mapped_from (λ (y : Task). of_task y.events) (tasks_of_core m c.number) i x found in
+        let at = (kept_from (λ (y : Task). y.core == c.number) m.tasks from.at.place from.from from.at.found).at in
+        of_slot s (events_mapped from.from at.place at.found) (subst (λ y. IsNewSlot t y s) (sym from.is) new)
+      where
+        of_slot : (s : Slot) {events : List ℕ} → list_all (may_be_mapped p) events ≡ true → IsNewSlot t (of_task events) s → IsReadySlot p t s
+        of_slot (of.Machine k) mapped new = absurd new
+        of_slot (of.Task s) mapped new = record {
+          mapped = subst (λ es. list_all (may_be_mapped p) es ≡ true) (sym new.listed) mapped;
+          made = new.made;
+          made_inner = new.made_inner;
+          active = subst (IsActive p t s.events.items s.frame s.inner) (sym new.free) tt;
+        }
+
+    machine_ready : (n i : ℕ) (x : Table) (s : Slot) → slice_get (machine_tables p n) i ≡ Some x → IsNewSlot t x s → IsReadySlot p t s
+    machine_ready (suc n) i x s found new = absurd (cc found)
+    machine_ready zero i x s found new =
+        let from = mapped_from of_machine (positions (length p.machines)) i x found in
+        of_slot s (below (length p.machines) from.at.place from.from from.at.found) (subst (λ y. IsNewSlot t y s) (sym from.is) new)
+      where
+        below : (n i k : ℕ) → slice_get (positions n) i ≡ Some k → k < n
+        below zero i k e = absurd (cc e)
+        below (suc n) i k e = by_end (lists.at_end (positions n) n i k e)
+          where
+            by_end : lists.AtEnd (positions n) n i k → k < suc n
+            by_end (lists.earlier e) = let less = below n i k e in omega arith
+            by_end (lists.last same) = omega arith
+
+        of_slot : (s : Slot) {n : ℕ} → n < length p.machines → IsNewSlot t (of_machine n) s → IsReadySlot p t s
+        of_slot (of.Task s) less new = absurd new
+        of_slot (of.Machine k) less new = subst (λ j. j < length p.machines) (sym new) less
+
+    pub is_ready : IsReady p m t c
+    is_ready = record { sound = sound; has = has_slots; each = each }
+      where
+        each : (i : ℕ) (s : Slot) → slice_get c.slots i ≡ Some s → IsReadySlot p t s
+        each i s found = of_among (new_at t (tables_of_core p m c.number) c.slots i s new found)
+          where
+            of_part : (x : Table) → IsNewSlot t x s → Among (task_tables m c.number) (machine_tables p c.number) x → IsReadySlot p t s
+            of_part x new (first j e) = task_ready j x s e new
+            of_part x new (last j e) = machine_ready c.number j x s e new
+
+            of_among : NewAt t (tables_of_core p m c.number) s → IsReadySlot p t s
+            of_among at = of_part at.table at.new (among (task_tables m c.number) (machine_tables p c.number) at.place at.table at.found)
+
+  pub stands_for_none : CoreStands p t [] c
+  stands_for_none i s found = of_new s (new_at t (tables_of_core p m c.number) c.slots i s new found)
+    where
+      of_slot : (x : Table) (s : Slot) → IsNewSlot t x s → SlotStands p t [] s
+      of_slot x (of.Machine n) new = tt
+      of_slot (of_machine n) (of.Task s) new = absurd new
+      of_slot (of_task events) (of.Task s) new = record {
+        one = λ k mine. sym (ap (is_running k) new.free);
+        doing = subst (ActivityStands p t [] s.frame s.inner) (sym new.free) tt;
       }
+
+      of_new : (s : Slot) → NewAt t (tables_of_core p m c.number) s → SlotStands p t [] s
+      of_new s at = of_slot at.table s at.new

@@ -8,14 +8,15 @@ use Rattle.bus_semantics.specs.Plan.{Plan}
 use Rattle.bus_semantics.specs.Rest.{gathered}
 use Rattle.port_objects.specs.Benches.{Told}
 use Rattle.task_machine.specs.declared.instr.TaskSet.{TaskSet}
-use Rattle.core_turn.specs.declared.slot.Slot.{Slot}
-use Rattle.core_turn.specs.declared.look.Look.{Look}
-use Rattle.core_turn.specs.declared.look.Look.TheVariants.{Made, Nothing, Contended}
-use Rattle.core_turn.specs.Slots.{slot_tries, looks}
+use Rattle.task_slots.specs.declared.slot.Slot.{Slot}
+use Rattle.task_slots.specs.declared.look.Look.{Look}
+use Rattle.task_slots.specs.declared.look.Look.TheVariants.{Made, Nothing, Contended}
+use Rattle.task_slots.specs.Slots.{slot_tries, looks}
 use Rattle.core_turn.specs.Cores.{slots_between, looks_in}
-use Rattle.core_turn.specs.Looking.{Looked}
-use Rattle.core_turn.specs.Turning.{SlotStep, PassMade}
-use Rattle.core_turn.proofs.Looks.{looked_on, looked_as, looked_none, lost_more, gathered_on, gathered_one}
+use Rattle.task_slots.specs.Looking.{Looked}
+use Rattle.task_slots.specs.Stepping.{SlotStep}
+use Rattle.core_turn.specs.Turning.{PassMade}
+use Rattle.task_slots.proofs.Looks.{looked_on, looked_as, looked_none, lost_more, gathered_on, gathered_one}
 
 pub looks_on : (p : Plan) (xs ys : List Slot) → looks_in p (xs ++ ys) ≡ looks_in p xs + looks_in p ys
 looks_on p [] ys = omega arith

@@ -1,5 +1,5 @@
 -- Looks at the slots of a core that are awake, one after the other.
-use Rattle.std.proofs.Common.{◌≡◌, ℕ, suc, ◌<◌, ◌≤◌, Bool, true, false, refl, sym, ◌∙◌, ap, subst, arith, List, [], ◌∷◌, ◌++◌, length, get_or, set, inl, inr, Option, Some, None}
+use Rattle.std.proofs.Common.{◌≡◌, ℕ, suc, ◌+◌, ◌-◌, ◌<◌, ◌≤◌, drop, Bool, true, false, refl, sym, ◌∙◌, ap, subst, arith, List, [], ◌∷◌, ◌++◌, length, get_or, set, inl, inr, Option, Some, None}
 use Rattle.std.specs.List.{slice_get}
 use Rattle.std.proofs.lemmas.Bool.{cases_lt}
 use Rattle.std.proofs.lemmas.List.{append_cancel_left}
@@ -10,15 +10,28 @@ use Rattle.bus_semantics.specs.Objects.{touched_by}
 use Rattle.port_objects.specs.declared.object.Object.{Object}
 use Rattle.place_set.specs.Places.{NoneBetween}
 use Rattle.task_machine.specs.declared.instr.TaskSet.{TaskSet}
-use Rattle.core_turn.specs.declared.slot.Slot.{Slot}
-use Rattle.core_turn.specs.declared.look.Look.TheVariants.{Made}
-use Rattle.core_turn.specs.Slots.{slot_tries}
-use Rattle.core_turn.specs.Looking.{ObjectsLooked}
-use Rattle.core_turn.specs.Awake.{AwakeState, Fits, AreHeld, HeldTold, EventsHeld, IsSettled, noting_of}
-use Rattle.core_turn.proofs.Awakes.{TriesHeld, asleep_held, with_rows, starts_row, starts_settled, starts_stepped, fits_settled, fits_row, fits_stepped}
+use Rattle.task_slots.specs.declared.slot.Slot.{Slot}
+use Rattle.task_slots.specs.declared.look.Look.TheVariants.{Made}
+use Rattle.task_slots.specs.Slots.{slot_tries, events_of_slot}
+use Rattle.task_slots.specs.Looking.{ObjectsLooked}
+use Rattle.bus_semantics.specs.Rest.{gathered}
+use Rattle.core_turn.specs.Cores.{slots_between}
+use Rattle.core_turn.specs.Awake.{AwakeState, Fits, AreHeld, HeldTold, IsSettled}
+use Rattle.task_slots.specs.Waiting.{is_free, EventsHeld}
+use Rattle.task_slots.specs.Stepping.{noting_of}
+use Rattle.task_slots.proofs.Unchanged.{TriesHeld, gathered_held, taken, dropped}
+use Rattle.core_turn.proofs.Awakes.{asleep_held, with_rows, starts_row, starts_settled, starts_stepped, fits_settled, fits_row, fits_stepped}
 use Rattle.core_turn.proofs.Waiters.{AlikeLaw, touches_own, waiters_onward, waiters_round, waiters_settled, waiters_stepped}
 
 -- ---- slots that were passed
+
+-- the slots from one place up to another
+pub between_held : (p : Plan) (t : TaskSet) (o : Option (List Object)) (slots : List Slot) (from to : ℕ) → ((i : ℕ) (s : Slot) → from ≤ i → i < to → slice_get slots i ≡ Some s → TriesHeld p o (slot_tries p t s))
+    → TriesHeld p o (gathered (slot_tries p t) (slots_between from to slots))
+between_held p t o slots from to each = gathered_held p o (slot_tries p t) (slots_between from to slots) (λ i s found.
+    let at = taken (drop from slots) (to - from) i s found in
+    let before : i < to - from = at.0 in
+    each (from + i) s (omega arith) (omega arith) (dropped slots from i s at.1))
 
 module _ (p : Plan) (t : TaskSet) (o : Option (List Object)) (slots : List Slot) (a : AwakeState) (first : ℕ) (fits : Fits slots first a) (from behind : ℕ) (held : HeldTold p t o None slots behind a)
     (passed : (i : ℕ) (s : Slot) → from ≤ i → i < behind → slice_get slots i ≡ Some s → TriesHeld p o (slot_tries p t s)) where
@@ -91,20 +104,20 @@ module _ (slots : List Slot) (a : AwakeState) (first : ℕ) (fits : Fits slots f
   flag_found chosen = slice_get-get_or a.slots at false inside ∙ ap (λ b. Some b) chosen
 
   -- it stepped
-  pub fits_made : (s stepped : Slot) (row : List Bool) → s ≡ get_or slots at s → length row ≡ length s.events.items → stepped.events ≡ s.events → Fits (set slots at stepped) first (with_rows a (set a.events at row))
+  pub fits_made : (s stepped : Slot) (row : List Bool) → s ≡ get_or slots at s → length row ≡ length (events_of_slot s) → events_of_slot stepped ≡ events_of_slot s → Fits (set slots at stepped) first (with_rows a (set a.events at row))
   fits_made s stepped row is width events =
       fits_stepped slots first (with_rows a (set a.events at row)) at s stepped (slot_found s is) events (fits_row slots first a at s row (slot_found s is) width fits)
 
   -- nothing of it may come
-  pub fits_nothing : (p : Plan) (t : TaskSet) (a' : AwakeState) (s : Slot) (row : List Bool) → s ≡ get_or slots at s → length row ≡ length s.events.items → IsSettled p t s s.running at (with_rows a (set a.events at row)) a' → Fits slots first a'
-  fits_nothing p t a' s row is width settled = fits_settled p t slots first (with_rows a (set a.events at row)) a' at s s.running settled (fits_row slots first a at s row (slot_found s is) width fits)
+  pub fits_nothing : (p : Plan) (t : TaskSet) (a' : AwakeState) (s : Slot) (row : List Bool) → s ≡ get_or slots at s → length row ≡ length (events_of_slot s) → IsSettled p t s (is_free s) at (with_rows a (set a.events at row)) a' → Fits slots first a'
+  fits_nothing p t a' s row is width settled = fits_settled p t slots first (with_rows a (set a.events at row)) a' at s (is_free s) settled (fits_row slots first a at s row (slot_found s is) width fits)
 
   module _ (p : Plan) (t : TaskSet) (o : Option (List Object)) (from : ℕ) (begun : from ≤ at) (none : NoneBetween a.slots from at) (chosen : get_or a.slots at false ≡ true) (held : HeldTold p t o None slots from a) where
-    pub held_made : (s stepped : Slot) (row : List Bool) (e : Stamped) (after : Option (List Object)) → s ≡ get_or slots at s → EventsHeld p o s.events.items row → stepped.events ≡ s.events → ObjectsLooked p (slot_tries p t s) o after (Made e)
+    pub held_made : (s stepped : Slot) (row : List Bool) (e : Stamped) (after : Option (List Object)) → s ≡ get_or slots at s → EventsHeld p o (events_of_slot s) row → events_of_slot stepped ≡ events_of_slot s → ObjectsLooked p (slot_tries p t s) o after (Made e)
         → HeldTold p t o (touched_by p (noting_of e)) (set slots at stepped) (suc at) (with_rows a (set a.events at row))
     held_made s stepped row e after is asleep events looked = of_told o held asleep looked
       where
-        of_told : (o : Option (List Object)) → HeldTold p t o None slots from a → EventsHeld p o s.events.items row → ObjectsLooked p (slot_tries p t s) o after (Made e)
+        of_told : (o : Option (List Object)) → HeldTold p t o None slots from a → EventsHeld p o (events_of_slot s) row → ObjectsLooked p (slot_tries p t s) o after (Made e)
             → HeldTold p t o (touched_by p (noting_of e)) (set slots at stepped) (suc at) (with_rows a (set a.events at row))
         of_told None held asleep looked = tt
         of_told (Some objects) held asleep looked = record {
@@ -113,11 +126,11 @@ module _ (slots : List Slot) (a : AwakeState) (first : ℕ) (fits : Fits slots f
               (λ object waits. touches_own p t s object objects after e waits looked) held.waiters;
         }
 
-    pub held_nothing : AlikeLaw → (a' : AwakeState) (s : Slot) (row : List Bool) → s ≡ get_or slots at s → EventsHeld p o s.events.items row → TriesHeld p o (slot_tries p t s) → IsSettled p t s s.running at (with_rows a (set a.events at row)) a'
+    pub held_nothing : AlikeLaw → (a' : AwakeState) (s : Slot) (row : List Bool) → s ≡ get_or slots at s → EventsHeld p o (events_of_slot s) row → TriesHeld p o (slot_tries p t s) → IsSettled p t s (is_free s) at (with_rows a (set a.events at row)) a'
         → HeldTold p t o None slots (suc at) a'
     held_nothing alike a' s row is asleep tries settled = of_told o held asleep tries
       where
-        of_told : (o : Option (List Object)) → HeldTold p t o None slots from a → EventsHeld p o s.events.items row → TriesHeld p o (slot_tries p t s) → HeldTold p t o None slots (suc at) a'
+        of_told : (o : Option (List Object)) → HeldTold p t o None slots from a → EventsHeld p o (events_of_slot s) row → TriesHeld p o (slot_tries p t s) → HeldTold p t o None slots (suc at) a'
         of_told None held asleep tries = tt
         of_told (Some objects) held asleep tries =
             let count = fits.count in

@@ -8,72 +8,56 @@ use Rattle.std.proofs.lemmas.Bool.{le-leb, lt-leb}
 use Rattle.rte_value.specs.declared.kinds.ActKey.{ActKey}
 use Rattle.bus_semantics.specs.declared.entries.Stamped.{Stamped}
 use Rattle.bus_semantics.specs.declared.script.Mapping.{Mapping}
-use Rattle.bus_semantics.specs.declared.script.Task.{Task}
 use Rattle.bus_semantics.specs.Plan.{Plan}
 use Rattle.bus_semantics.specs.History.{History}
 use Rattle.bus_semantics.specs.Rest.{Try, gathered}
 use Rattle.port_objects.specs.declared.object.Object.{Object}
 use Rattle.port_objects.specs.Benches.{IsFurther, Told}
 use Rattle.task_machine.specs.declared.instr.TaskSet.{TaskSet}
-use Rattle.core_turn.specs.declared.slot.Slot.{Slot}
-use Rattle.core_turn.specs.declared.look.Look.TheVariants.{Made, Nothing, Contended}
-use Rattle.core_turn.specs.Slots.{is_key_of, slot_tries, looks}
-use Rattle.core_turn.specs.Cores.{CoreState, events_of_slot, tasks_of_core, slots_between, slots_before, looks_in}
-use Rattle.core_turn.specs.Ready.{IsBegunIn, IsReadySlot, IsReady}
-use Rattle.core_turn.specs.Standing.{SlotStands, CoreStands}
-use Rattle.core_turn.specs.Looking.{AllHeld, ObjectsLooked, is_touched, Looked}
-use Rattle.core_turn.specs.Turning.{SlotStep, PassMade, OrderTold, Steps, NothingComes, NoneTold, IsContended, NeverTold}
-use Rattle.core_turn.proofs.Looks.{looked_on, looked_as, touched_first, touched_last, gathered_on, all_on}
+use Rattle.task_slots.specs.declared.slot.Slot.{Slot}
+use Rattle.task_slots.specs.declared.look.Look.TheVariants.{Made, Nothing, Contended}
+use Rattle.task_slots.specs.declared.slot.Slot.TheVariants as of
+use Rattle.task_slots.specs.Slots.{is_key_of, table_of, slot_tries, looks, events_of_slot}
+use Rattle.core_turn.specs.Cores.{CoreState, tables_of_core, slots_between, slots_before, looks_in}
+use Rattle.task_slots.specs.Ready.{IsReadySlot}
+use Rattle.core_turn.specs.Ready.{IsReady}
+use Rattle.task_slots.specs.Standing.{SlotStands}
+use Rattle.core_turn.specs.Standing.{CoreStands}
+use Rattle.task_slots.specs.Looking.{AllHeld, ObjectsLooked, is_touched, Looked}
+use Rattle.task_slots.specs.Stepping.{SlotStep}
+use Rattle.core_turn.specs.Turning.{PassMade, OrderTold, Steps, NothingComes, NoneTold, IsContended, NeverTold}
+use Rattle.task_slots.proofs.Looks.{looked_on, looked_as, touched_first, touched_last, gathered_on, all_on}
 use Rattle.core_turn.proofs.Passing.{looks_on}
-use Rattle.core_turn.proofs.Histories.{entry_by, other_stands}
-use Rattle.core_turn.proofs.Apart.{apart}
-
--- ---- what stands at a place of a list in which one item was set
-
-pub data Placed (X : Type 0) (xs : List X) (n : ℕ) (y : X) (i : ℕ) (x : X) : Type 0 where
-  here : i ≡ n → x ≡ y → Placed X xs n y i x
-  there : i ≢ n → slice_get xs i ≡ Some x → Placed X xs n y i x
-
-pub placed : {X : Type 0} (xs : List X) (n : ℕ) (y : X) (i : ℕ) (x : X) → slice_get (set xs n y) i ≡ Some x → Placed X xs n y i x
-placed [] n y i x e = absurd (cc e)
-placed (z ∷ xs) zero y zero x e = here refl cc
-placed (z ∷ xs) zero y (suc i) x e = there (omega arith) e
-placed (z ∷ xs) (suc n) y zero x e = there (omega arith) e
-placed (z ∷ xs) (suc n) y (suc i) x e = deeper (placed xs n y i x e)
-  where
-    deeper : Placed _ xs n y i x → Placed _ (z ∷ xs) (suc n) y (suc i) x
-    deeper (here at same) = here (ap suc at) same
-    deeper (there other found) = there (omega arith) found
+use Rattle.task_slots.proofs.Placed.{Placed, here, there, placed}
+use Rattle.task_slots.proofs.Changing.{other_stands}
+use Rattle.core_turn.proofs.Apart.{apart, other_entry}
 
 module _ (p : Plan) (m : Mapping) (t : TaskSet) (old new : CoreState) (ready : IsReady p m t old) (at : ℕ) (slot stepped : Slot) (s : Stamped)
     (is : slice_get old.slots at ≡ Some slot) (slots : new.slots ≡ set old.slots at stepped) (number : new.number ≡ old.number) (step : SlotStep p t slot stepped s) where
-  entry_is : s.entry ≡ entry_by step.key s.entry.deed
-  entry_is = λ i. record { actor = step.actor i; deed = s.entry.deed }
-
-  own_of : (x : Slot) → IsReadySlot p t x → (j : ActKey) → x.running ≡ Some j → is_key_of p x.events.items j ≡ true
-  own_of x r j running = (subst (IsBegunIn p t x.events.items x.frame) running r.begun).own
-
   pub stands_on : (g : History) → CoreStands p t g old → CoreStands p t (s.entry ∷ g) new
   stands_on g stands i x found = of_place (placed old.slots at stepped i x (subst (λ xs. slice_get xs i ≡ Some x) slots found))
     where
+      of_slot : (x : Slot) → i ≢ at → slice_get old.slots i ≡ Some x → IsReadySlot p t x → SlotStands p t g x → SlotStands p t (s.entry ∷ g) x
+      of_slot (of.Machine n) other here_it ready_it stands_it = tt
+      of_slot (of.Task y) other here_it ready_it stands_it =
+          let foreign = λ (k : ActKey) own. apart p m ready.sound old k at i slot (of.Task y) ready.has is own here_it (λ e. other (sym e)) in
+          other_stands p t g y.events.items y.frame y.inner s.entry y.activity (other_entry p slot s.entry.actor y.events.items step.own foreign) ready_it.active stands_it
+
       of_place : Placed Slot old.slots at stepped i x → SlotStands p t (s.entry ∷ g) x
       of_place (here place same) = subst (SlotStands p t (s.entry ∷ g)) (sym same) (step.follows g (stands at slot is)).stands
-      of_place (there other here_it) =
-          let foreign = apart p m ready.built old step.key at i slot x ready.tasks is step.own here_it (λ e. other (sym e)) in
-          subst (λ e. SlotStands p t (e ∷ g) x) (sym entry_is)
-          (other_stands p t g x.events.items step.key s.entry.deed x.frame x.running foreign (own_of x (ready.each i x here_it)) (stands i x here_it))
+      of_place (there other here_it) = of_slot x other here_it (ready.each i x here_it) (stands i x here_it)
 
-  set_events : (xs : List Slot) (n : ℕ) → slice_get xs n ≡ Some slot → map events_of_slot (set xs n stepped) ≡ map events_of_slot xs
-  set_events [] n e = refl
-  set_events (x ∷ xs) zero e =
+  set_tables : (xs : List Slot) (n : ℕ) → slice_get xs n ≡ Some slot → map table_of (set xs n stepped) ≡ map table_of xs
+  set_tables [] n e = refl
+  set_tables (x ∷ xs) zero e =
       let same : x ≡ slot = cc in
-      ap (λ (y : List ℕ). y ∷ map events_of_slot xs) (ap (λ (v : _). v.items) step.events ∙ ap events_of_slot (sym same))
-  set_events (x ∷ xs) (suc n) e = ap (λ ys. x.events.items ∷ ys) (set_events xs n e)
+      ap (λ y. y ∷ map table_of xs) (step.table ∙ ap table_of (sym same))
+  set_tables (x ∷ xs) (suc n) e = ap (λ ys. table_of x ∷ ys) (set_tables xs n e)
 
   pub ready_on : IsReady p m t new
   ready_on = record {
-    built = ready.built;
-    tasks = subst (λ n. map events_of_slot new.slots ≡ map (λ (t : Task). t.events) (tasks_of_core m n)) (sym number) (ap (map events_of_slot) slots ∙ set_events old.slots at is ∙ ready.tasks);
+    sound = ready.sound;
+    has = subst (λ n. map table_of new.slots ≡ tables_of_core p m n) (sym number) (ap (map table_of) slots ∙ set_tables old.slots at is ∙ ready.has);
     each = λ i x found. of_place i x (placed old.slots at stepped i x (subst (λ xs. slice_get xs i ≡ Some x) slots found));
   }
     where

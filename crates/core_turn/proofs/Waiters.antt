@@ -15,7 +15,7 @@ use Rattle.bus_semantics.specs.Wanted.{to_enter, wanted_by}
 use Rattle.bus_semantics.specs.History.{Noted}
 use Rattle.bus_semantics.specs.Objects.{object_of, touched_by}
 use Rattle.bus_semantics.specs.Fitting.{wish_fits}
-use Rattle.bus_semantics.specs.Rest.{Try, option_list}
+use Rattle.bus_semantics.specs.Rest.{Try}
 use Rattle.port_objects.specs.declared.object.Object.{Object}
 use Rattle.port_objects.specs.Kept.{Kept}
 use Rattle.port_objects.specs.Leading.{lead}
@@ -23,11 +23,13 @@ use Rattle.port_objects.specs.Objects.{kept_of}
 use Rattle.port_objects.specs.Waking.{IsClosed}
 use Rattle.place_set.specs.Places.{NoneBetween}
 use Rattle.task_machine.specs.declared.instr.TaskSet.{TaskSet}
-use Rattle.core_turn.specs.declared.slot.Slot.{Slot}
-use Rattle.core_turn.specs.Slots.{tries_of, slot_tries}
-use Rattle.core_turn.specs.Looking.{IsHeldOn, IsHeldAt, AllHeld, FirstMade}
-use Rattle.core_turn.specs.Awake.{AwakeState, WaitsAt, IsClosedAt, IsPreceded, MaySleep, IsWaiting, WaitersHeld, FallsAsleep, IsSettled, with_slots, noting_of, ComesBefore, onward, around, behind}
-use Rattle.core_turn.proofs.Stepped.{Placed, here, there, placed}
+use Rattle.task_slots.specs.declared.slot.Slot.{Slot}
+use Rattle.task_slots.specs.Slots.{slot_tries}
+use Rattle.task_slots.specs.Looking.{IsHeldOn, IsHeldAt, AllHeld, FirstMade}
+use Rattle.core_turn.specs.Awake.{AwakeState, IsClosedAt, IsPreceded, MaySleep, IsWaiting, WaitersHeld, FallsAsleep, IsSettled, with_slots, ComesBefore, onward, around, behind}
+use Rattle.task_slots.specs.Waiting.{is_free, WaitsAt}
+use Rattle.task_slots.specs.Stepping.{noting_of}
+use Rattle.task_slots.proofs.Placed.{Placed, here, there, placed}
 use Rattle.core_turn.proofs.Order.{set_there, set_here, no_both, same_or_not, later, outside, round}
 
 -- ---- the tries of a slot that waits
@@ -39,7 +41,7 @@ AlikeLaw = (p : Plan) (object area : ℕ) (k : Kept) (a : ActKey) → wish_fits 
 
 module _ (p : Plan) (t : TaskSet) (s : Slot) (object : ℕ) (w : WaitsAt p t s object) where
   tries_are : slot_tries p t s ≡ (Act w.key, to_enter w.area) ∷ []
-  tries_are = ap (tries_of p t s.events.items s.frame) w.running ∙ ap (λ o. map (λ v. (Act w.key, v)) (option_list o)) w.asks
+  tries_are = w.tries
 
   pub shut_by : AlikeLaw → (objects : List Object) → AllHeld p objects (slot_tries p t s) → IsClosedAt p objects object
   shut_by alike objects held =
@@ -218,8 +220,8 @@ module _ (p : Plan) (t : TaskSet) where
             of_why object (inr (inl closed)) = inr (inl closed)
             of_why object (inr (inr pre)) = of_other object pre (same_or_not pre.other at)
 
-      pub waiters_settled : AlikeLaw → AllHeld p objects (slot_tries p t s) → (a' : AwakeState) → IsSettled p t s s.running at a a' → length a.areas ≡ length a.slots → WaitersHeld p t objects None of from a → WaitersHeld p t objects None of (suc at) a'
-      waiters_settled alike tries a' settled widths held = of_running s.running settled
+      pub waiters_settled : AlikeLaw → AllHeld p objects (slot_tries p t s) → (a' : AwakeState) → IsSettled p t s (is_free s) at a a' → length a.areas ≡ length a.slots → WaitersHeld p t objects None of from a → WaitersHeld p t objects None of (suc at) a'
+      waiters_settled alike tries a' settled widths held = of_free (is_free s) settled
         where
           shut : (object : ℕ) → WaitsAt p t s object → IsClosedAt p objects object
           shut object w = shut_by p t s object w alike objects tries
@@ -241,10 +243,10 @@ module _ (p : Plan) (t : TaskSet) where
               })
           of_place f i (there other waits) = fallen (set a.areas at f.object) (λ j n apart is. set_there a.areas at j f.object n apart is) i (held i waits)
 
-          of_running : (r : Option ActKey) → IsSettled p t s r at a a' → WaitersHeld p t objects None of (suc at) a'
-          of_running None same = subst (WaitersHeld p t objects None of (suc at)) (sym same) (λ i waits. fallen a.areas (λ j n other is. is) i (held i waits))
-          of_running (Some k) (inl same) = subst (WaitersHeld p t objects None of (suc at)) (sym same) (λ i waits. waiter_on shut a.slots a.areas (λ j b other is. is) (λ j n other is. is) i (held i waits))
-          of_running (Some k) (inr f) = subst (WaitersHeld p t objects None of (suc at)) (sym f.changed) (λ i waits. of_place f i (placed a.waiting at true i true waits))
+          of_free : (r : Bool) → IsSettled p t s r at a a' → WaitersHeld p t objects None of (suc at) a'
+          of_free true same = subst (WaitersHeld p t objects None of (suc at)) (sym same) (λ i waits. fallen a.areas (λ j n other is. is) i (held i waits))
+          of_free false (inl same) = subst (WaitersHeld p t objects None of (suc at)) (sym same) (λ i waits. waiter_on shut a.slots a.areas (λ j b other is. is) (λ j n other is. is) i (held i waits))
+          of_free false (inr f) = subst (WaitersHeld p t objects None of (suc at)) (sym f.changed) (λ i waits. of_place f i (placed a.waiting at true i true waits))
 
       -- it stepped
       pub waiters_stepped : (touched : Option ℕ) (stepped : Slot) → ((object : ℕ) → WaitsAt p t s object → touched ≡ Some object) → WaitersHeld p t objects None of from a → WaitersHeld p t objects touched (set of at stepped) (suc at) a

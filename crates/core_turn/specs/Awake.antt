@@ -1,27 +1,24 @@
 -- Which slots and events of a core may step. What sleeps is held: no start of it may come, as the objects are; and an activation that waits
 -- at an area may not enter it, or another that waits there is awake and is tried before it.
 use Rattle.std.specs.Prelude.{◌≡◌, ◌<◌, ◌≤◌, ◌⊎◌, ◌++◌, ◌∷◌, [], ℕ, suc, List, Bool, true, false, ◌&&◌, ◌==◌, length, map, replicate, set, slice_get, slice_index_or, Option, Some, None}
-use Rattle.rte_value.specs.declared.kinds.ActKey.{ActKey}
-use Rattle.bus_semantics.specs.declared.entries.Actor.TheVariants.{Act}
 use Rattle.bus_semantics.specs.declared.entries.Stamped.{Stamped}
 use Rattle.bus_semantics.specs.Plan.{Plan}
-use Rattle.bus_semantics.specs.Wanted.{to_enter}
-use Rattle.bus_semantics.specs.History.{Noted}
-use Rattle.bus_semantics.specs.Objects.{object_of, touched_by}
-use Rattle.bus_semantics.specs.Fitting.{wish_fits}
+use Rattle.bus_semantics.specs.Objects.{touched_by}
 use Rattle.bus_semantics.specs.Rest.{gathered, start_try}
 use Rattle.port_objects.specs.declared.object.Object.{Object}
 use Rattle.port_objects.specs.Objects.{kept_of}
 use Rattle.port_objects.specs.Waking.{IsClosed}
 use Rattle.task_machine.specs.declared.instr.TaskSet.{TaskSet}
-use Rattle.core_turn.specs.declared.slot.Slot.{Slot}
-use Rattle.core_turn.specs.declared.look.Passed.{Passed}
-use Rattle.core_turn.specs.declared.look.Passed.TheVariants as pass
+use Rattle.task_slots.specs.declared.slot.Slot.{Slot}
+use Rattle.task_slots.specs.Slots.{events_of_slot}
+use Rattle.task_slots.specs.Looking.{AllHeld}
+use Rattle.task_slots.specs.Stepping.{noting_of}
+use Rattle.task_slots.specs.Waiting.{is_free, WaitsAt}
+use Rattle.core_turn.specs.declared.passed.Passed.{Passed}
+use Rattle.core_turn.specs.declared.passed.Passed.TheVariants as pass
 use Rattle.core_turn.specs.declared.turning.Turned.{Turned}
 use Rattle.core_turn.specs.declared.turning.Turned.TheVariants.{Stepped, NothingNow, Contended}
-use Rattle.core_turn.specs.Slots.{asked_by}
 use Rattle.core_turn.specs.Cores.{CoreState}
-use Rattle.core_turn.specs.Looking.{AllHeld}
 
 -- a flag for each slot, and for each of its events by position: whether it is awake; for each slot whether it sleeps since its activation
 -- waits at an area, and the object of the area at which it waited last; and the slot at which the core's next turn begins
@@ -34,13 +31,13 @@ pub record AwakeState : Type 0 where
 
 -- all events of these slots are awake
 abbrev pub all_awake : List Slot → List (List Bool)
-all_awake slots = map (λ (s : Slot). replicate (length s.events.items) true) slots
+all_awake slots = map (λ (s : Slot). replicate (length (events_of_slot s)) true) slots
 
 -- a place for each of a core's slots, and for each of its events; and the next turn begins at this slot
 pub record Fits (slots : List Slot) (first : ℕ) (a : AwakeState) : Type 0 where
   pub count : length a.slots ≡ length slots
   pub rows : length a.events ≡ length slots
-  pub widths : (i : ℕ) (s : Slot) (row : List Bool) → slice_get slots i ≡ Some s → slice_get a.events i ≡ Some row → length row ≡ length s.events.items
+  pub widths : (i : ℕ) (s : Slot) (row : List Bool) → slice_get slots i ≡ Some s → slice_get a.events i ≡ Some row → length row ≡ length (events_of_slot s)
   pub waiting : length a.waiting ≡ length slots
   pub areas : length a.areas ≡ length slots
   pub begins : a.first ≡ first
@@ -49,20 +46,11 @@ pub record Fits (slots : List Slot) (first : ℕ) (a : AwakeState) : Type 0 wher
 
 -- no event that sleeps may start; and in a slot that sleeps, and waits at no area, nothing runs, and no event of it may start
 pub record StartsHeld (p : Plan) (objects : List Object) (of : List Slot) (a : AwakeState) : Type 0 where
-  pub events : (i j e : ℕ) (s : Slot) (row : List Bool) → slice_get of i ≡ Some s → slice_get a.events i ≡ Some row → slice_get s.events.items j ≡ Some e → slice_get row j ≡ Some false
+  pub events : (i j e : ℕ) (s : Slot) (row : List Bool) → slice_get of i ≡ Some s → slice_get a.events i ≡ Some row → slice_get (events_of_slot s) j ≡ Some e → slice_get row j ≡ Some false
       → AllHeld p objects (start_try p e)
-  pub slots : (i : ℕ) (s : Slot) → slice_get of i ≡ Some s → slice_get a.slots i ≡ Some false → slice_get a.waiting i ≡ Some false → (s.running ≡ None) × AllHeld p objects (gathered (start_try p) s.events.items)
+  pub slots : (i : ℕ) (s : Slot) → slice_get of i ≡ Some s → slice_get a.slots i ≡ Some false → slice_get a.waiting i ≡ Some false → (is_free s ≡ true) × AllHeld p objects (gathered (start_try p) (events_of_slot s))
 
 -- ---- activations that wait at areas
-
--- the running activation of a slot asks to enter the area that is this object
-pub record WaitsAt (p : Plan) (t : TaskSet) (s : Slot) (object : ℕ) : Type 0 where
-  pub key : ActKey
-  pub running : s.running ≡ Some key
-  pub area : ℕ
-  pub asks : asked_by t s.frame ≡ Some (to_enter area)
-  pub fits : wish_fits p (Act key) (to_enter area) ≡ true
-  pub there : object_of p (Act key) (to_enter area) ≡ Some object
 
 -- nobody may enter the area that is this object
 pub record IsClosedAt (p : Plan) (objects : List Object) (object : ℕ) : Type 0 where
@@ -117,10 +105,6 @@ abbrev pub HeldTold : Plan → TaskSet → Option (List Object) → (touched : O
 HeldTold p t None touched slots first a = Unit {0}
 HeldTold p t (Some objects) touched slots first a = AreHeld p t objects touched slots first a
 
--- an entry with the event with which it was stamped
-abbrev pub noting_of : Stamped → Noted
-noting_of s = record { entry = s.entry; event = s.event }
-
 -- after a turn: by the objects as they were before it. If it made an entry, those that wait at the area which it touched are to be told
 abbrev pub HeldTurned : Plan → TaskSet → Option (List Object) → (old new : CoreState) → AwakeState → Turned → Type 0
 HeldTurned p t o old new a Stepped = (s : Stamped) → new.trace ≡ old.trace ++ s ∷ [] → HeldTold p t o (touched_by p (noting_of s)) new.slots a.first a
@@ -133,27 +117,22 @@ HeldPassed p t o slots to a (pass.Made at s) = HeldTold p t o (touched_by p (not
 HeldPassed p t o slots to a pass.Nothing = HeldTold p t o None slots to a
 HeldPassed p t o slots to a (pass.Contended object) = HeldTold p t o None slots to a
 
--- so of the events of one slot
-abbrev pub EventsHeld : Plan → Option (List Object) → (events : List ℕ) → (row : List Bool) → Type 0
-EventsHeld p None events row = Unit {0}
-EventsHeld p (Some objects) events row = (j e : ℕ) → slice_get events j ≡ Some e → slice_get row j ≡ Some false → AllHeld p objects (start_try p e)
-
 -- ---- a slot falls asleep
 
 -- with these flags of slots, of those that wait, and these areas
 abbrev pub with_slots : AwakeState → (slots waiting : List Bool) → (areas : List ℕ) → AwakeState
 with_slots a slots waiting areas = record { slots = slots; events = a.events; waiting = waiting; areas = areas; first = a.first }
 
--- a running activation waits at an area, which is recorded
+-- an activation waits at an area, which is recorded
 pub record FallsAsleep (p : Plan) (t : TaskSet) (s : Slot) (place : ℕ) (old new : AwakeState) : Type 0 where
   pub object : ℕ
   pub waits : WaitsAt p t s object
   pub changed : new ≡ with_slots old (set old.slots place false) (set old.waiting place true) (set old.areas place object)
 
 -- a slot of which nothing may come sleeps if nothing runs in it, and may sleep if its activation waits at an area
-abbrev pub IsSettled : Plan → TaskSet → (s : Slot) → (running : Option ActKey) → (place : ℕ) → (old new : AwakeState) → Type 0
-IsSettled p t s None place old new = new ≡ with_slots old (set old.slots place false) old.waiting old.areas
-IsSettled p t s (Some k) place old new = (new ≡ old) ⊎ FallsAsleep p t s place old new
+abbrev pub IsSettled : Plan → TaskSet → (s : Slot) → (free : Bool) → (place : ℕ) → (old new : AwakeState) → Type 0
+IsSettled p t s true place old new = new ≡ with_slots old (set old.slots place false) old.waiting old.areas
+IsSettled p t s false place old new = (new ≡ old) ⊎ FallsAsleep p t s place old new
 
 -- ---- the first that waits at an area wakes
 

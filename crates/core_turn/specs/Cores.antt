@@ -1,11 +1,11 @@
 -- What a core keeps, and the order in which it looks at its slots.
-use Rattle.std.specs.Prelude.{◌≡◌, ℕ, ◌+◌, ◌-◌, List, [], ◌∷◌, ◌++◌, take, drop, map, filter, ◌==◌, nat_le, if◌then◌else◌}
+use Rattle.std.specs.Prelude.{◌≡◌, ℕ, zero, suc, ◌+◌, ◌-◌, List, [], ◌∷◌, ◌++◌, take, drop, map, filter, length, ◌==◌, nat_le, if◌then◌else◌}
 use Rattle.bus_semantics.specs.declared.script.Mapping.{Mapping}
 use Rattle.bus_semantics.specs.declared.script.Task.{Task}
 use Rattle.bus_semantics.specs.declared.entries.Stamped.{Stamped}
-use Rattle.bus_semantics.specs.Plan.{Plan}
-use Rattle.core_turn.specs.declared.slot.Slot.{Slot}
-use Rattle.core_turn.specs.Slots.{looks}
+use Rattle.bus_semantics.specs.Plan.{Plan, positions}
+use Rattle.task_slots.specs.declared.slot.Slot.{Slot}
+use Rattle.task_slots.specs.Slots.{Table, of_task, of_machine, table_of, looks}
 
 -- its number, its slots, the slot at which the next turn begins, its trace with the oldest entry first, and how many entries the trace
 -- still has room for
@@ -16,16 +16,24 @@ pub record CoreState : Type 0 where
   pub trace : List Stamped
   pub room : ℕ
 
-abbrev pub events_of_slot : Slot → List ℕ
-events_of_slot s = s.events.items
-
 -- its tasks in the order of the description (SWS_RTE: mapping to cores)
 abbrev pub tasks_of_core : Mapping → (number : ℕ) → List Task
 tasks_of_core m n = filter (λ (t : Task). t.core == n) m.tasks
 
--- it has a slot for each of them, with that task's events
-abbrev pub HasTasks : Mapping → CoreState → Type 0
-HasTasks m c = map events_of_slot c.slots ≡ map (λ (t : Task). t.events) (tasks_of_core m c.number)
+abbrev pub task_tables : Mapping → (number : ℕ) → List Table
+task_tables m n = map (λ (t : Task). of_task t.events) (tasks_of_core m n)
+
+-- the mode machines are those of core 0
+abbrev pub machine_tables : Plan → (number : ℕ) → List Table
+machine_tables p zero = map of_machine (positions (length p.machines))
+machine_tables p (suc n) = []
+
+-- it has a slot for each of its tasks, and behind them one for each of its mode machines
+abbrev pub tables_of_core : Plan → Mapping → (number : ℕ) → List Table
+tables_of_core p m n = task_tables m n ++ machine_tables p n
+
+abbrev pub HasSlots : Plan → Mapping → CoreState → Type 0
+HasSlots p m c = map table_of c.slots ≡ tables_of_core p m c.number
 
 -- the slots from one place up to another
 abbrev pub slots_between : (from : ℕ) → (to : ℕ) → List Slot → List Slot

@@ -1,11 +1,7 @@
-pub mod Plans
-pub mod Calls
-pub mod Slots
 pub mod Cores
 pub mod Made
 pub mod Ready
 pub mod Standing
-pub mod Looking
 pub mod Turning
 pub mod Awake
 pub mod Lawful

@@ -1,73 +1,24 @@
 -- What comes of a turn: one entry of one slot, and what its core stands for then; or nothing, and why (OS: scheduling; the order of slots is
 -- this project's own).
-use Rattle.std.specs.Prelude.{◌≡◌, ℕ, suc, ◌<◌, ◌≤◌, List, [], ◌∷◌, ◌++◌, set, slice_get, true, false, if◌then◌else◌, Option, Some, None}
-use Rattle.rte_value.specs.declared.kinds.ActKey.{ActKey}
-use Rattle.bus_semantics.specs.declared.entries.Actor.TheVariants.{Act}
-use Rattle.bus_semantics.specs.declared.entries.Deed.{Deed}
-use Rattle.bus_semantics.specs.declared.entries.Entry.{Entry}
+use Rattle.std.specs.Prelude.{◌≡◌, ℕ, suc, ◌<◌, ◌≤◌, List, [], ◌∷◌, ◌++◌, set, slice_get, true, Option, Some, None}
 use Rattle.bus_semantics.specs.declared.entries.Stamped.{Stamped}
 use Rattle.bus_semantics.specs.Plan.{Plan}
-use Rattle.bus_semantics.specs.History.{History, note, noted, is_end}
-use Rattle.bus_semantics.specs.Objects.{touched_by}
-use Rattle.bus_semantics.specs.Actor.{follows_program}
-use Rattle.bus_semantics.specs.Legal.{Answers}
-use Rattle.bus_semantics.specs.Locality.{is_proper}
+use Rattle.bus_semantics.specs.History.{History}
 use Rattle.bus_semantics.specs.Rest.{gathered}
 use Rattle.port_objects.specs.declared.object.Object.{Object}
 use Rattle.port_objects.specs.Benches.{IsFurther, StampAfter, Told}
 use Rattle.task_machine.specs.declared.instr.TaskSet.{TaskSet}
-use Rattle.task_machine.specs.Frames.{Stands}
-use Rattle.core_turn.specs.declared.slot.Slot.{Slot}
-use Rattle.core_turn.specs.declared.look.Look.{Look}
-use Rattle.core_turn.specs.declared.look.Look.TheVariants as look
-use Rattle.core_turn.specs.declared.look.Passed.{Passed}
-use Rattle.core_turn.specs.declared.look.Passed.TheVariants as pass
+use Rattle.task_slots.specs.declared.slot.Slot.{Slot}
+use Rattle.task_slots.specs.declared.look.Look.TheVariants as look
+use Rattle.task_slots.specs.Slots.{slot_tries, looks}
+use Rattle.task_slots.specs.Looking.{AllHeld, FirstMade, is_touched, Looked}
+use Rattle.task_slots.specs.Stepping.{SlotStep}
+use Rattle.core_turn.specs.declared.passed.Passed.{Passed}
+use Rattle.core_turn.specs.declared.passed.Passed.TheVariants as pass
 use Rattle.core_turn.specs.declared.turning.Turned.{Turned}
 use Rattle.core_turn.specs.declared.turning.Turned.TheVariants.{Stepped, NothingNow, Contended}
-use Rattle.core_turn.specs.Slots.{is_key_of, slot_tries, looks}
 use Rattle.core_turn.specs.Cores.{CoreState, slots_between, slots_before, looks_in}
-use Rattle.core_turn.specs.Ready.{IsReadySlot}
-use Rattle.core_turn.specs.Standing.{SlotStands, CoreStands}
-use Rattle.core_turn.specs.Looking.{AllHeld, FirstMade, is_touched, Looked}
-
--- ---- a slot steps
-
--- the entry follows its actor's program; where it touches no object it is what the bus answers; and the slot then stands for it too
-pub record StepFollows (p : Plan) (t : TaskSet) (g : History) (after : Slot) (e : Entry) : Type 0 where
-  pub rule : follows_program p g e.actor e.deed ≡ true
-  pub free : touched_by p (note g e) ≡ None → Answers p (noted g) (note g e)
-  pub stands : SlotStands p t (e ∷ g) after
-
--- the entry is of an activation of the slot's task, fits, and follows each history for which the slot stands
-pub record SlotStep (p : Plan) (t : TaskSet) (slot after : Slot) (s : Stamped) : Type 0 where
-  pub key : ActKey
-  pub actor : s.entry.actor ≡ Act key
-  pub own : is_key_of p slot.events.items key ≡ true
-  pub proper : is_proper p (record { entry = s.entry; event = s.event }) ≡ true
-  pub events : after.events ≡ slot.events
-  pub ready : IsReadySlot p t after
-  pub follows : (g : History) → SlotStands p t g slot → StepFollows p t g after s.entry
-
--- a slot whose running activation has heard an answer: it goes on, or is over with its end
-pub record Heard (t : TaskSet) (d : Deed) (old new : Slot) : Type 0 where
-  pub events : new.events ≡ old.events
-  pub running : new.running ≡ (if is_end d then None else old.running)
-  pub room : new.frame.room ≡ old.frame.room
-  pub counters_room : new.frame.counters_room ≡ old.frame.counters_room
-  pub stands : is_end d ≡ false → (k : ActKey) (start : Deed) (answers : List Deed) → Stands t k start answers old.frame → Stands t k start (answers ++ d ∷ []) new.frame
-
--- a slot in which the activation of an entry's actor has begun with its deed
-pub record BegunBy (t : TaskSet) (e : Entry) (old new : Slot) : Type 0 where
-  pub events : new.events ≡ old.events
-  pub running : (k : ActKey) → e.actor ≡ Act k → new.running ≡ Some k
-  pub room : new.frame.room ≡ old.frame.room
-  pub counters_room : new.frame.counters_room ≡ old.frame.counters_room
-  pub stands : (k : ActKey) → e.actor ≡ Act k → Stands t k e.deed [] new.frame
-
--- after a look: it stepped, or is as it was
-abbrev pub SlotLooked : Plan → TaskSet → (old new : Slot) → Look → Type 0
-SlotLooked p t old new (look.Made s) = SlotStep p t old new s
-SlotLooked p t old new l = new ≡ old
+use Rattle.core_turn.specs.Standing.{CoreStands}
 
 -- ---- slots are passed
 

@@ -5,15 +5,15 @@ ghost use Rattle.bus_semantics.specs.Plan.{Plan};
 ghost use Rattle.port_objects.specs.declared.object.Object.{Object};
 ghost use Rattle.place_set.specs.Places.{NoneBetween};
 ghost use Rattle.task_machine.specs.declared.instr.TaskSet.{TaskSet};
-ghost use Rattle.core_turn.specs.declared.slot.Slot.{Slot};
+ghost use Rattle.task_slots.specs.declared.slot.Slot.{Slot};
 ghost use Rattle.core_turn.specs.Awake.{Fits, AreHeld, StartsHeld, WaitersHeld, IsNextWaiter, FirstIs, FirstWakes, all_awake};
 
 use crate::Memory;
 use crate::cores::Core;
-use crate::slot::Slot;
 use place_set::PlaceSet;
 use std::alloc::Global;
 use std::marker::Model;
+use task_slots::Slot;
 
 /// Which slots of a core may step, and which events of each slot may start their runnables (SWS_RTE: runnable
 /// activation). What is not awake is known to be held by the objects as they are, so that no turn looks at it. A set of
@@ -47,7 +47,7 @@ fn all_events(alloc: Global, slots: &[Slot]) -> Result<Vec<PlaceSet>, Memory>
 {
     let mut events = Vec::new(alloc);
     for slot in slots {
-        let all = PlaceSet::full(alloc, slot.events.len())?;
+        let all = PlaceSet::full(alloc, slot.events().len())?;
         events.push(all)?;
     }
     Ok(events)

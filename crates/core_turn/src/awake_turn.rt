@@ -11,7 +11,7 @@ ghost use Rattle.core_turn.specs.Awake.{Fits, HeldTold, HeldTurned};
 use crate::awake::Awake;
 use crate::awake_looks::look_through;
 use crate::cores::Core;
-use crate::look::Passed;
+use crate::passed::Passed;
 use crate::turning::Turned;
 use bus_semantics::BusPlan;
 use port_objects::Bench;

@@ -1,23 +1,23 @@
 //! A core.
 
-ghost use Rattle.std.specs.Prelude.{◌≡◌, ◌+◌, ◌<◌, ◌≤◌, suc, [], ◌∷◌, ◌++◌, length, IfOk, OnOk, min};
+ghost use Rattle.std.specs.Prelude.{◌≡◌, ◌+◌, ◌<◌, ◌≤◌, suc, [], ◌∷◌, ◌++◌, length, true, IfOk, OnOk, min};
 ghost use Rattle.std.specs.Vec.{vec_capacity};
-ghost use Rattle.bus_semantics.specs.Plan.{Plan};
-ghost use Rattle.bus_semantics.specs.declared.script.Mapping.{Mapping};
-ghost use Rattle.core_turn.specs.Plans.{IsBuilt};
-ghost use Rattle.core_turn.specs.Cores.{HasTasks};
+ghost use Rattle.bus_semantics.specs.Plan.{plan_of};
+ghost use Rattle.bus_semantics.specs.Sound.{IsSound};
+ghost use Rattle.bus_semantics.specs.SoundPlan.{objects_counted};
+ghost use Rattle.core_turn.specs.Cores.{HasSlots};
 ghost use Rattle.core_turn.specs.Ready.{IsReady};
 ghost use Rattle.core_turn.specs.Standing.{CoreStands};
 
 use crate::Memory;
 use crate::making::slots_of;
-use crate::slot::Slot;
-use bus_semantics::{Mapping, Stamped};
+use bus_semantics::{BusPlan, Mapping, Stamped};
 use std::alloc::Global;
 use std::marker::Model;
 use task_machine::TaskSet;
+use task_slots::Slot;
 
-/// A core with its tasks, which makes one turn after the other, and the trace of what it made.
+/// A core with its tasks and mode machines, which makes one turn after the other, and the trace of what it made.
 #[derive(Drop)]
 pub struct Core {
     pub(crate) number: u32,
@@ -40,17 +40,24 @@ impl Model for Core {
 
 impl Core {
     /// The core of this number of the mapping, with its tasks in the order of the description and frames for these
-    /// bodies (SWS_RTE: mapping of RTEEvents to tasks). No activation runs, and the trace is empty and has no room. The
-    /// only error is that there is no memory.
-    pub fn new(alloc: Global, m: &Mapping, t: &TaskSet, number: u32) -> Result<Core, Memory>
+    /// bodies, and core 0 with the plan's mode machines behind them (SWS_RTE: mapping of RTEEvents to tasks). No activation
+    /// runs, and the trace is empty and has no room. The only error is that there is no memory.
+    pub fn new(
+        alloc: Global,
+        p: &BusPlan,
+        m: &Mapping,
+        t: &TaskSet,
+        number: u32,
+    ) -> Result<Core, Memory>
+        requires counted { objects_counted (plan_of p.now) ≡ true }
         ensures number { IfOk result (λ c. c.number ≡ number) }
-        ensures tasks { IfOk result (λ c. HasTasks m.now c) }
+        ensures slots { IfOk result (λ c. HasSlots (plan_of p.now) m.now c) }
         ensures first { IfOk result (λ c. c.first ≡ 0) }
         ensures trace { IfOk result (λ c. c.trace ≡ []) }
-        ensures ready { IfOk result (λ c. (p : Plan) → IsBuilt p m.now → IsReady p m.now t.now c) }
-        ensures stands { IfOk result (λ c. (p : Plan) → CoreStands p t.now [] c) }
+        ensures ready { IfOk result (λ c. IsSound (plan_of p.now) m.now → IsReady (plan_of p.now) m.now t.now c) }
+        ensures stands { IfOk result (λ c. CoreStands (plan_of p.now) t.now [] c) }
     {
-        let slots = slots_of(alloc, m, t, number)?;
+        let slots = slots_of(alloc, p, m, t, number)?;
         Ok(Core {
             number,
             slots,

@@ -13,7 +13,7 @@ ghost use Rattle.port_objects.specs.Leading.{lead};
 ghost use Rattle.port_objects.specs.Objects.{kept_of};
 ghost use Rattle.port_objects.specs.Waking.{is_leave};
 ghost use Rattle.task_machine.specs.declared.instr.TaskSet.{TaskSet};
-ghost use Rattle.core_turn.specs.declared.slot.Slot.{Slot};
+ghost use Rattle.task_slots.specs.declared.slot.Slot.{Slot};
 ghost use Rattle.core_turn.specs.Awake.{AwakeState, WaitersHeld};
 ghost use Rattle.task_generator.specs.Promise.{AsksAsPlanned};
 ghost use Rattle.core_turn.specs.Cores.{CoreState};
@@ -22,12 +22,12 @@ ghost use Rattle.core_turn.specs.Standing.{CoreStands};
 ghost use Rattle.port_objects.specs.Benches.{Told};
 ghost use Rattle.core_turn.specs.Turning.{Steps, NothingComes};
 ghost use Rattle.core_turn.specs.Lawful.{IsLawful};
-ghost use Rattle.core_turn.specs.Plans.{IsBuilt};
+ghost use Rattle.bus_semantics.specs.Sound.{IsSound};
 ghost use Rattle.core_turn.specs.Resting.{CoreRests};
 
 use history_laws::{
-    legal_histories_part_into_objects, running_activations_go_on, unjoined_points_return_nothing,
-    what_comes_may_follow,
+    direct_callers_wait, legal_histories_part_into_objects, running_activations_go_on,
+    unjoined_points_return_nothing, what_comes_may_follow,
 };
 use port_objects::{answers_are_what_may_come, leads_miss_nothing, only_a_leave_opens};
 
@@ -45,6 +45,7 @@ pub fn turns_keep_the_law()
         before.objects ≡ Some objects → now.objects ≡ Some after → NothingComes p t old new before now →
         IsLawful p m t (set cores i new) after h }
 {
+    running_activations_go_on();
     answers_are_what_may_come();
     what_comes_may_follow();
 }
@@ -55,8 +56,8 @@ pub fn cores_stand_beside_the_environment()
 {}
 
 /// Where cores and objects are lawful for a history, and a turn of a core over a bench that tells these objects makes
-/// nothing, the core rests: no next wish of a running activation of its tasks may follow the history, and no start by an
-/// event of a free one.
+/// nothing, the core rests: no next wish of a running activation of its tasks may follow the history, no start of a direct one
+/// that is called, no start by an event of a free task, and no phase of its mode machines.
 pub fn nothing_now_is_rest_of_the_core()
     ensures { (p : Plan) (m : Mapping) (t : TaskSet) (cores : List CoreState) (i : ℕ) (old new : CoreState) (objects : List Object) (before now : Told) (h : History) →
         AsksAsPlanned p t → IsLawful p m t cores objects h → slice_get cores i ≡ Some old →
@@ -65,13 +66,16 @@ pub fn nothing_now_is_rest_of_the_core()
     legal_histories_part_into_objects();
     leads_miss_nothing();
     unjoined_points_return_nothing();
+    running_activations_go_on();
+    direct_callers_wait();
 }
 
 /// If each core of the mapping rests after a legal history, this is at rest.
 pub fn resting_cores_are_at_rest()
-    ensures rest { (p : Plan) (m : Mapping) (h : History) → IsBuilt p m → IsLegal p h →
+    ensures rest { (p : Plan) (m : Mapping) (h : History) → IsSound p m → IsLegal p h →
         ((n : ℕ) → n < m.cores → CoreRests p m h n) → IsAtRest p m h }
 {
+    direct_callers_wait();
     running_activations_go_on();
 }
 

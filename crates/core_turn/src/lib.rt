@@ -1,21 +1,16 @@
-//! The turn of a core: one entry of one of its tasks, in cyclic order, over any bench.
+//! The turn of a core: one entry of one of its tasks or mode machines, in cyclic order, over any bench.
 #![tactic(auto)]
 
-mod asking;
 mod awake;
 mod awake_looks;
 mod awake_turn;
 mod cores;
-mod going;
 mod laws;
-mod look;
 mod looking;
 mod making;
-mod slot;
-mod starting;
+mod passed;
 mod tasks;
 mod threads;
-mod trying;
 mod turning;
 
 pub use awake::Awake;

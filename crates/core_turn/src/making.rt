@@ -1,44 +1,57 @@
 //! The slots of a new core.
 
-ghost use Rattle.std.specs.Prelude.{◌==◌, IfOk, filter};
-ghost use Rattle.bus_semantics.specs.declared.script.Task.{Task};
-ghost use Rattle.core_turn.specs.Cores.{tasks_of_core};
-ghost use Rattle.core_turn.specs.Made.{IsNew, AreNew};
+ghost use Rattle.std.specs.Prelude.{◌≡◌, ◌==◌, ◌++◌, IfOk, OnOk, true, map, length};
+ghost use Rattle.bus_semantics.specs.Plan.{plan_of, positions};
+ghost use Rattle.bus_semantics.specs.SoundPlan.{objects_counted};
+ghost use Rattle.task_slots.specs.declared.slot.Slot.TheVariants as of;
+ghost use Rattle.core_turn.specs.Cores.{task_tables, tables_of_core};
+ghost use Rattle.core_turn.specs.Made.{AreNew};
 
 use crate::Memory;
-use crate::slot::Slot;
-use bus_semantics::{Mapping, Task};
+use bus_semantics::{BusPlan, Mapping};
 use std::alloc::Global;
-use task_machine::{Frame, TaskSet};
-
-/// A slot of a task, in which nothing runs.
-fn slot_of(alloc: Global, t: &TaskSet, task: &Task) -> Result<Slot, Memory>
-    ensures { IfOk result (λ s. IsNew t.now task.now.events s) }
-{
-    let events = Vec::from_slice(alloc, task.events.items())?;
-    let frame = Frame::new(alloc, t)?;
-    Ok(Slot {
-        events,
-        running: None,
-        frame,
-    })
-}
+use task_machine::TaskSet;
+use task_slots::{Slot, TaskSlot};
 
 /// A slot for each of the tasks of a core, in their order.
-pub(crate) fn slots_of(
-    alloc: Global,
-    m: &Mapping,
-    t: &TaskSet,
-    number: u32,
-) -> Result<Vec<Slot>, Memory>
-    ensures { IfOk result (λ slots. AreNew t.now (tasks_of_core m.now number) slots.items) }
+fn slots_of_tasks(alloc: Global, m: &Mapping, t: &TaskSet, number: u32) -> Result<Vec<Slot>, Memory>
+    ensures { IfOk result (λ slots. AreNew t.now (task_tables m.now number) slots.items) }
 {
     let mut slots = Vec::new(alloc);
     for task in m.tasks.items() {
         if task.core == number {
-            let slot = slot_of(alloc, t, task)?;
-            slots.push(slot)?;
+            let slot = TaskSlot::new(alloc, t, task)?;
+            slots.push(Slot::Task(slot))?;
         }
+    }
+    Ok(slots)
+}
+
+/// Adds a slot for each mode machine, in their order.
+fn add_machines(p: &BusPlan, slots: &mut Vec<Slot>) -> Result<(), Memory>
+    requires { objects_counted (plan_of p.now) ≡ true }
+    ensures { OnOk result (slots.new.items ≡ slots.old.items ++ map of.Machine (positions (length p.now.machines))) }
+{
+    for number in 0..p.machines.len() as u32 {
+        slots.push(Slot::Machine(number))?;
+    }
+    Ok(())
+}
+
+/// A slot for each of the tasks of a core, and behind them on core 0 one for each mode machine.
+pub(crate) fn slots_of(
+    alloc: Global,
+    p: &BusPlan,
+    m: &Mapping,
+    t: &TaskSet,
+    number: u32,
+) -> Result<Vec<Slot>, Memory>
+    requires { objects_counted (plan_of p.now) ≡ true }
+    ensures { IfOk result (λ slots. AreNew t.now (tables_of_core (plan_of p.now) m.now number) slots.items) }
+{
+    let mut slots = slots_of_tasks(alloc, m, t, number)?;
+    if number == 0 {
+        add_machines(p, &mut slots)?;
     }
     Ok(slots)
 }

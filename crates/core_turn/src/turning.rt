@@ -8,8 +8,8 @@ ghost use Rattle.core_turn.specs.Ready.{IsReady};
 ghost use Rattle.core_turn.specs.Turning.{IsTurn};
 
 use crate::cores::Core;
-use crate::look::Passed;
 use crate::looking::look_through;
+use crate::passed::Passed;
 use bus_semantics::BusPlan;
 use port_objects::Bench;
 use task_machine::TaskSet;
@@ -29,8 +29,9 @@ pub enum Turned {
 /// stepped last, and makes the first entry that may come (OS: scheduling; SWS_RTE: runnable activation). It takes no
 /// memory.
 ///
-/// A task with a running activation tries that activation's next call; a free task tries its events in order of
-/// position. So far the plan has no servers and no mode machines.
+/// A task with a running activation tries that activation's next call, and after its ask at a direct point the direct activation, up
+/// to its end (SWS_RTE: Rte_Call); a free task tries its events in order of position. On core 0 the mode machines come behind the
+/// tasks.
 pub fn turn<B: Bench>(p: &BusPlan, t: &TaskSet, c: &mut Core, b: &mut B) -> Turned
     requires room { 0 < c.old.room }
     requires bench_room { 0 < (B.told b.old).room }

@@ -5,7 +5,7 @@ ghost use Rattle.bus_semantics.specs.declared.script.Mapping.{Mapping};
 ghost use Rattle.bus_semantics.specs.Plan.{plan_of};
 ghost use Rattle.port_objects.specs.Plans.{IsMadePlan};
 ghost use Rattle.task_generator.specs.Promise.{AsksAsPlanned};
-ghost use Rattle.core_turn.specs.Plans.{IsBuilt};
+ghost use Rattle.bus_semantics.specs.Sound.{IsSound};
 ghost use Rattle.core_turn.specs.Ready.{IsReady};
 
 use crate::counting::CountingBench;
@@ -94,7 +94,7 @@ fn run<L: Ledger>(
     t: &TaskSet,
     blank: Blank,
 ) -> Result<(String, String), AllocError>
-    requires built { IsBuilt (plan_of p.now) m.now }
+    requires sound { IsSound (plan_of p.now) m.now }
     requires made { IsMadePlan (plan_of p.now) }
     requires bodies { AsksAsPlanned (plan_of p.now) t.now }
     requires name { blank.name ≡ L.name }
@@ -103,7 +103,7 @@ fn run<L: Ledger>(
 {
     sound_plans_have_objects();
     let objects = make_objects(alloc, p)?;
-    let mut core = Core::new(alloc, m, t, 0)?;
+    let mut core = Core::new(alloc, p, m, t, 0)?;
     core.make_room(alloc, COUNT)?;
     let mut bench = CountingBench::<L>::new(alloc, p, objects, COUNT, blank)?;
     let mut turns = String::new(alloc);
@@ -120,7 +120,7 @@ fn run<L: Ledger>(
 
 /// The description with its plan, if it breaks no rule and is of the stage.
 fn planned(alloc: Global) -> Option<PlannedDescription>
-    ensures built { IfSome result (λ x. IsBuilt (plan_of x.plan) x.mapping) }
+    ensures sound { IfSome result (λ x. IsSound (plan_of x.plan) x.mapping) }
     ensures made { IfSome result (λ x. IsMadePlan (plan_of x.plan)) }
 {
     plans_of_the_stage_are_plain();

@@ -39,6 +39,7 @@ use Rattle.bus_laws.proofs.Thinning.{clash, option_same, sought_where}
 use Rattle.bus_laws.proofs.Local.{proper_legal}
 use Rattle.bus_laws.proofs.OneEvent.{invoked_serves, serves_invoked}
 use Rattle.bus_laws.proofs.LocalServers.{start_named, start_owned}
+use Rattle.history_laws.specs.Callers.{CallerWaits}
 use Rattle.history_laws.specs.Serving.{IsOpen, IsServedBy, IsBegunOrServed, begins, served}
 use Rattle.history_laws.proofs.Keys.{mine, itself, key_is, is_mine, alive, IsTo, others, starts, goes_on, is_to, runs_mine, runs_other}
 use Rattle.history_laws.proofs.GoingOn.{acting}
@@ -394,4 +395,21 @@ module _ (p : Plan) (m : Mapping) (sound : IsSound p m) (q : ℕ) (d : ActKey) (
       by_state : State h → started h < length (requests h) → caller_has_asked p h d ≡ true
       by_state (idle_one counted idle none) less = absurd (omega arith)
       by_state (asked_one counted idle asked ended) less = caller_asked h asked
+      by_state (busy_one counted running asked ended serving_it) less = absurd (omega arith)
+
+  -- while the direct activation runs, and before it starts with a request, its caller waits
+  pub running_waits : (h : History) → IsLegal p h → runs d h ≡ true → CallerWaits p q d h
+  running_waits h legal running = by_state (state h legal)
+    where
+      by_state : State h → CallerWaits p q d h
+      by_state (idle_one counted idle none) = clash (runs d h) running idle
+      by_state (asked_one counted idle asked ended) = clash (runs d h) running idle
+      by_state (busy_one counted still asked ended serving_it) = record { caller = caller.0; calls = caller.1; asked = asked; waits = ended }
+
+  pub unstarted_waits : (h : History) → IsLegal p h → has_unstarted counts (noted h) ≡ true → CallerWaits p q d h
+  unstarted_waits h legal some = by_state (state h legal) (ltb-true (started h) (length (requests h)) some)
+    where
+      by_state : State h → started h < length (requests h) → CallerWaits p q d h
+      by_state (idle_one counted idle none) less = absurd (omega arith)
+      by_state (asked_one counted idle asked ended) less = record { caller = caller.0; calls = caller.1; asked = asked; waits = ended }
       by_state (busy_one counted running asked ended serving_it) less = absurd (omega arith)

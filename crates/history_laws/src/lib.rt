@@ -15,4 +15,4 @@ pub use coming::{one_entry_of_a_wish, unjoined_points_return_nothing};
 pub use modes::none_disabled_runs;
 pub use parts::{legal_histories_part_into_objects, what_comes_may_follow, wishes_match};
 pub use running::running_activations_go_on;
-pub use servers::{hearers_have_asked, requests_have_servers};
+pub use servers::{direct_callers_wait, hearers_have_asked, requests_have_servers};

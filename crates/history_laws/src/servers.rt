@@ -5,13 +5,14 @@ ghost use Rattle.rte_value.specs.declared.kinds.ActKey.{ActKey};
 ghost use Rattle.bus_semantics.specs.declared.plan.ServerPlan.{ServerPlan};
 ghost use Rattle.bus_semantics.specs.declared.script.Mapping.{Mapping};
 ghost use Rattle.bus_semantics.specs.Plan.{Plan, server_of};
-ghost use Rattle.bus_semantics.specs.History.{History, noted};
+ghost use Rattle.bus_semantics.specs.History.{History, noted, runs};
 ghost use Rattle.bus_semantics.specs.Wanted.{to_hear};
 ghost use Rattle.bus_semantics.specs.Actor.{next_wish, direct_key, asked_last, caller_has_asked};
 ghost use Rattle.bus_semantics.specs.Rest.{plain_key};
 ghost use Rattle.bus_semantics.specs.Calls.{has_unstarted, is_outstanding};
 ghost use Rattle.bus_semantics.specs.Legal.{IsLegal};
 ghost use Rattle.bus_semantics.specs.Sound.{IsSound};
+ghost use Rattle.history_laws.specs.Callers.{CallerWaits};
 ghost use Rattle.history_laws.specs.Serving.{IsOpen, IsQueuedOrServed, IsBegunOrServed};
 
 /// A request that is neither taken nor returned, at a point of a queued server, is waited for: some request of the server has
@@ -25,6 +26,15 @@ pub fn requests_have_servers()
         direct_key p point ≡ Some k → IsOpen point h → IsBegunOrServed p point k h }
     ensures unstarted { (p : Plan) (m : Mapping) (h : History) (point : ℕ) (k : ActKey) → IsSound p m → IsLegal p h →
         direct_key p point ≡ Some k → has_unstarted (λ q. point == q) (noted h) ≡ true → caller_has_asked p h k ≡ true }
+{}
+
+/// While a direct activation runs, and while a request at its point has not started, the caller waits: its last entry is the ask
+/// there, and the activation has not ended since (SWS_RTE: Rte_Call).
+pub fn direct_callers_wait()
+    ensures running { (p : Plan) (m : Mapping) (h : History) (point : ℕ) (k : ActKey) → IsSound p m → IsLegal p h →
+        direct_key p point ≡ Some k → runs k h ≡ true → CallerWaits p point k h }
+    ensures unstarted { (p : Plan) (m : Mapping) (h : History) (point : ℕ) (k : ActKey) → IsSound p m → IsLegal p h →
+        direct_key p point ≡ Some k → has_unstarted (λ q. point == q) (noted h) ≡ true → CallerWaits p point k h }
 {}
 
 /// The last entry of an activation that wants to hear an answer is its accepted ask at that point, and the point's request is

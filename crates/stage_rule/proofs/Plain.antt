@@ -10,9 +10,7 @@ use Rattle.plan_numbers.specs.Keys.{is_machine, is_server}
 use Rattle.plan_services.specs.Modes.{machine_at}
 use Rattle.plan_services.specs.Services.{server_of}
 use Rattle.planned_descriptions.specs.Whole.{IsWhole}
-use Rattle.bus_semantics.specs.Sound.{IsSound}
 use Rattle.port_objects.specs.Plans.{IsMadePlan}
-use Rattle.core_turn.specs.Plans.{IsBuilt}
 use Rattle.stage_rule.specs.Stage.{is_in_stage}
 use Rattle.stage_rule.proofs.Numbered.{none_of_kind}
 
@@ -25,6 +23,3 @@ module _ (d : Description) (f : Flat) (p : BusPlan) (m : Mapping) (stage : is_in
 
   pub plan_made : IsMadePlan (plan_of p)
   plan_made = record { servers = no_servers; machines = no_machines }
-
-  pub plan_built : IsSound (plan_of p) m → IsBuilt (plan_of p) m
-  plan_built sound = record { sound = sound; servers = no_servers; machines = no_machines }

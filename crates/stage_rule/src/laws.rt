@@ -7,15 +7,11 @@ ghost use Rattle.bus_semantics.specs.declared.plan.BusPlan.{BusPlan};
 ghost use Rattle.bus_semantics.specs.declared.script.Mapping.{Mapping};
 ghost use Rattle.bus_semantics.specs.Plan.{plan_of};
 ghost use Rattle.planned_descriptions.specs.Whole.{IsWhole};
-ghost use Rattle.bus_semantics.specs.Sound.{IsSound};
 ghost use Rattle.port_objects.specs.Plans.{IsMadePlan};
-ghost use Rattle.core_turn.specs.Plans.{IsBuilt};
 ghost use Rattle.stage_rule.specs.Stage.{is_in_stage};
 
-/// The plan of a description of this stage that breaks no rule is one that nodes run: its objects are made, and if it is sound
-/// its cores make turns. It has no server and no mode machine.
+/// The plan of a description of this stage that breaks no rule is one of those of which objects are made: it has no server and no
+/// mode machine.
 pub fn plans_of_the_stage_are_plain()
     ensures made { (d : Description) (f : Flat) (p : BusPlan) (m : Mapping) → is_in_stage d ≡ true → IsWhole d f p m → IsMadePlan (plan_of p) }
-    ensures built { (d : Description) (f : Flat) (p : BusPlan) (m : Mapping) → is_in_stage d ≡ true → IsWhole d f p m → IsSound (plan_of p) m →
-        IsBuilt (plan_of p) m }
 {}

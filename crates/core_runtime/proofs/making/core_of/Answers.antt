@@ -1,4 +1,5 @@
 use Rattle.std.proofs.Common.{[], ◌∙◌, arith}
+use Rattle.bus_semantics.specs.Plan.{plan_of}
 use Rattle.core_runtime.proofs.Going.{SameCore, same_ready, same_stands}
 use Rattle.core_runtime.proofs.making.core_of.Goals as goal
 
@@ -8,6 +9,6 @@ returns c =
     record {
       is_number = c.in_ok-make_room.ensures.number ∙ c.in_ok-core.ensures.number;
       has_room = record { trace = c.in_ok-make_room.ensures.trace ∙ c.in_ok-core.ensures.trace; room = omega (arith, c.in_ok-make_room.ensures.room) };
-      is_ready = λ p built. same_ready p c.args.m.now c.args.t.now c.in_ok-core.core c.make_room.new.self same (c.in_ok-core.ensures.ready p built);
-      stands = λ p. same_stands p c.args.m.now c.args.t.now c.in_ok-core.core c.make_room.new.self same [] (c.in_ok-core.ensures.stands p);
+      is_ready = λ sound. same_ready (plan_of c.args.p.now) c.args.m.now c.args.t.now c.in_ok-core.core c.make_room.new.self same (c.in_ok-core.ensures.ready sound);
+      stands = same_stands (plan_of c.args.p.now) c.args.m.now c.args.t.now c.in_ok-core.core c.make_room.new.self same [] c.in_ok-core.ensures.stands;
     }

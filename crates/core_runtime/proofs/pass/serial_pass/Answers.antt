@@ -34,7 +34,7 @@ returns-clause-rest c = λ none h lawful.
     subst (λ (n : NodeState). IsIdle (plan_of n.plan) n.mapping h) c.n.view_is
     (is_idle c.nothing_now_is_rest_of_the_core.ensures c.resting_cores_are_at_rest.ensures.rest c.no_history_stalls.ensures.quiet
     (plan_of c.n.inside.plan) c.n.inside.mapping c.n.inside.bodies c.n.inside.live.cores.items c.n.inside.live.objects.items h
-    c.n.invariant.0.built c.n.invariant.0.bodies c.n.invariant.0.cores_are (subst (λ (n : NodeState). IsLawfulNode n h) (sym c.n.view_is) lawful) nothing)
+    c.n.invariant.0.sound c.n.invariant.0.bodies c.n.invariant.0.cores_are (subst (λ (n : NodeState). IsLawfulNode n h) (sym c.n.view_is) lawful) nothing)
 
 pub returns-clause-quiet : goal.returns-clause-quiet
 returns-clause-quiet c = λ none h lawful.
@@ -42,4 +42,4 @@ returns-clause-quiet c = λ none h lawful.
     subst (λ (n : NodeState). IsQuiet (plan_of n.plan) h) c.n.view_is
     (is_quiet c.nothing_now_is_rest_of_the_core.ensures c.resting_cores_are_at_rest.ensures.rest c.no_history_stalls.ensures.quiet
     (plan_of c.n.inside.plan) c.n.inside.mapping c.n.inside.bodies c.n.inside.live.cores.items c.n.inside.live.objects.items h
-    c.n.invariant.0.built c.n.invariant.0.bodies c.n.invariant.0.cores_are (subst (λ (n : NodeState). IsLawfulNode n h) (sym c.n.view_is) lawful) nothing)
+    c.n.invariant.0.sound c.n.invariant.0.bodies c.n.invariant.0.cores_are (subst (λ (n : NodeState). IsLawfulNode n h) (sym c.n.view_is) lawful) nothing)

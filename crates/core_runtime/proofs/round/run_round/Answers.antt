@@ -51,6 +51,6 @@ returns-clause-one_core g c = λ ran one.
         (subst (λ (m : _). IsIdle (plan_of c.n.inside.plan) m (after c.into_live.result.entries.items h)) mapping
         (is_idle c.nothing_now_is_rest_of_the_core.ensures c.resting_cores_are_at_rest.ensures.rest c.no_history_stalls.ensures.quiet
         (plan_of c.n.inside.plan) c.n.inside.mapping c.n.inside.bodies c.into_live.result.cores.items c.into_live.result.objects.items (after c.into_live.result.entries.items h)
-        c.n.invariant.0.built c.n.invariant.0.bodies (made.count ∙ c.n.invariant.0.cores_are)
+        c.n.invariant.0.sound c.n.invariant.0.bodies (made.count ∙ c.n.invariant.0.cores_are)
         (made.goes c.n.inside.mapping c.n.invariant.0.lawful.ready h (same_is_lawful c.args.n.now c.make_ready.new.n _ h c.make_ready.ensures.same c.n.view_is lawful))
         (nothing_at_last c.n.invariant.0 c.replace-live.ensures.value c.new-round.ensures c.go.ensures.later c.into_live.result given.cores given.objects given.entries nothing))))

@@ -1,7 +1,7 @@
 use Rattle.std.proofs.Common.{◌<◌, map, subst, sym, arith}
 use Rattle.std.specs.Prelude.{All}
 use Rattle.std.proofs.lemmas.List.{length-map}
-use Rattle.core_turn.specs.Cores.{events_of_slot}
+use Rattle.task_slots.specs.Slots.{events_of_slot}
 use Rattle.core_runtime.specs.Watching.{IsOfCore}
 use Rattle.core_runtime.proofs.Seated.{adds_none, core_on, core_all}
 use Rattle.core_runtime.proofs.seats.seat_core.Goals as goal
@@ -20,4 +20,4 @@ loop-slot-preserved c =
 pub returns : goal.returns
 returns c =
     let count = length-map c.args.core.now.slots events_of_slot in
-    core_all c.args.seats.now.items c.loop-slot.seats.items (map events_of_slot c.args.core.now.slots) c.args.number c.loop-slot.slot (omega (arith, count, c.tasks-slot-end.ensures)) c.loop-slot.invariant
+    core_all c.args.seats.now.items c.loop-slot.seats.items (map events_of_slot c.args.core.now.slots) c.args.number c.loop-slot.slot (omega (arith, count, c.slots-slot-end.ensures)) c.loop-slot.invariant

@@ -1,5 +1,5 @@
 use Rattle.std.proofs.Common.{map}
-use Rattle.core_turn.specs.Cores.{events_of_slot}
+use Rattle.task_slots.specs.Slots.{events_of_slot}
 use Rattle.core_runtime.specs.Watching.{Adds}
 use Rattle.core_runtime.proofs.Seated.{OfCoreBelow}
 use Rattle.core_runtime.proofs.seats.seat_core.Given as goal

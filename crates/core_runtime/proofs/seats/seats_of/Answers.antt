@@ -4,7 +4,8 @@ use Rattle.std.specs.List.{list_all}
 use Rattle.std.specs.Option.{option_map}
 use Rattle.std.proofs.lemmas.List.{length-map}
 use Rattle.std.proofs.lemmas.Option.{slice_get-map}
-use Rattle.core_turn.specs.Cores.{CoreState, events_of_slot}
+use Rattle.core_turn.specs.Cores.{CoreState}
+use Rattle.task_slots.specs.Slots.{events_of_slot}
 use Rattle.core_runtime.specs.Watching.{IsOfCores, tables_of}
 use Rattle.core_runtime.proofs.Places.{found_at}
 use Rattle.core_runtime.proofs.Seated.{adds_none, all_below, cores_on, cores_all}

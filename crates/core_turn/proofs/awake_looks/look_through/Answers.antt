@@ -5,16 +5,18 @@ use Rattle.std.proofs.lemmas.List.{get_or-set_same}
 use Rattle.bus_semantics.specs.Plan.{plan_of}
 use Rattle.bus_semantics.specs.Objects.{touched_by}
 use Rattle.place_set.specs.Places.{NoneBetween, IsFirst}
-use Rattle.core_turn.specs.declared.slot.Slot.{Slot}
-use Rattle.core_turn.specs.declared.look.Look.TheVariants.{Made}
-use Rattle.core_turn.specs.Slots.{slot_tries}
-use Rattle.core_turn.specs.Ready.{IsReadySlot}
-use Rattle.core_turn.specs.Looking.{ObjectsLooked}
-use Rattle.core_turn.specs.Awake.{AwakeState, Fits, HeldTold, EventsHeld, IsSettled, noting_of}
+use Rattle.task_slots.specs.declared.slot.Slot.{Slot}
+use Rattle.task_slots.specs.declared.look.Look.TheVariants.{Made}
+use Rattle.task_slots.specs.Slots.{listed_in, slot_tries, events_of_slot}
+use Rattle.task_slots.specs.Ready.{IsReadySlot}
+use Rattle.task_slots.specs.Looking.{ObjectsLooked}
+use Rattle.core_turn.specs.Awake.{AwakeState, Fits, HeldTold, IsSettled}
+use Rattle.task_slots.specs.Waiting.{is_free, EventsHeld}
+use Rattle.task_slots.specs.Stepping.{noting_of}
 use Rattle.core_turn.proofs.Passing.{set_same, pass_made, pass_lost}
-use Rattle.core_turn.proofs.Awakes.{TriesHeld, events_held, with_rows}
-use Rattle.core_turn.proofs.Unchanged.{unchanged_on, unchanged_by, held_by, looked_at, between_held}
-use Rattle.core_turn.proofs.Settling.{passed_on, held_onward, slot_within, slot_found, row_found, fits_made, held_made, fits_nothing, held_nothing}
+use Rattle.task_slots.proofs.Unchanged.{TriesHeld, unchanged_on, unchanged_by, held_by, looked_at}
+use Rattle.core_turn.proofs.Awakes.{events_held, with_rows}
+use Rattle.core_turn.proofs.Settling.{between_held, passed_on, held_onward, slot_within, slot_found, row_found, fits_made, held_made, fits_nothing, held_nothing}
 use Rattle.core_turn.proofs.awake_looks.look_through.Goals as goal
 
 pub returns-then-at-to-clause-pass : goal.returns-then-at-to-clause-pass
@@ -92,8 +94,8 @@ returns-clause-held g c =
     let less : c.args.to ≤ length a.slots = omega (arith, c.requires.within) in
     subst (λ ys. HeldTold p t o None ys c.args.to a) (sym loop.slots) (held_onward p t o xs a behind c.args.to loop.short (λ j begun low. none j begun (omega arith)) held)
 
-pub look-requires-clause-ready : goal.look-requires-clause-ready
-look-requires-clause-ready g c =
+pub look_at_awake-requires-clause-ready : goal.look_at_awake-requires-clause-ready
+look_at_awake-requires-clause-ready g c =
     let p = plan_of c.args.p.now in
     let t = c.args.t.now in
     let o = (g.B.Bench.told c.args.bench.now).objects in
@@ -112,8 +114,8 @@ look-requires-clause-ready g c =
     let found : slice_get xs at ≡ Some s = slot_found xs a first fits at next.within s is in
     c.requires.ready at s found
 
-pub look-requires-clause-width : goal.look-requires-clause-width
-look-requires-clause-width g c =
+pub look_at_awake-requires-clause-width : goal.look_at_awake-requires-clause-width
+look_at_awake-requires-clause-width g c =
     let p = plan_of c.args.p.now in
     let t = c.args.t.now in
     let o = (g.B.Bench.told c.args.bench.now).objects in
@@ -132,8 +134,8 @@ look-requires-clause-width g c =
     let found : slice_get xs at ≡ Some s = slot_found xs a first fits at next.within s is in
     fits.widths at s c.index_mut-in-Some.result.now found (row_found xs a first fits at next.within _ c.index_mut-in-Some.ensures.value)
 
-pub look-requires-clause-held : goal.look-requires-clause-held
-look-requires-clause-held g c =
+pub look_at_awake-requires-clause-held : goal.look_at_awake-requires-clause-held
+look_at_awake-requires-clause-held g c =
     let p = plan_of c.args.p.now in
     let t = c.args.t.now in
     let o = (g.B.Bench.told c.args.bench.now).objects in
@@ -150,7 +152,7 @@ look-requires-clause-held g c =
     let s = c.index_mut.result.now in
     let is : s ≡ get_or xs at s = c.index_mut.ensures.value ∙ ap (λ ys. get_or ys at s) loop.slots in
     let found : slice_get xs at ≡ Some s = slot_found xs a first fits at next.within s is in
-    subst (λ b. EventsHeld p b s.events.items c.index_mut-in-Some.result.now) (sym loop.same.objects)
+    subst (λ b. EventsHeld p b (events_of_slot s) c.index_mut-in-Some.result.now) (sym loop.same.objects)
     (events_held p t o xs behind a at s c.index_mut-in-Some.result.now found (row_found xs a first fits at next.within _ c.index_mut-in-Some.ensures.value) held)
 
 pub returns-in-Made-clause-pass : goal.returns-in-Made-clause-pass
@@ -177,7 +179,7 @@ returns-in-Made-clause-pass g c =
     let within : at < length xs = slot_within xs a first fits at next.within in
     let passed = between_held p t o xs c.args.from at (passed_on p t o xs a first fits c.args.from behind held loop.passed at at (omega arith) next.none) in (
       c.if-at-to.false,
-      pass_made p t xs c.args.from at s behind_it within is _ c.look.new.slot _ _ _ c.in-Made.stamped (ap (λ ys. set ys at c.look.new.slot) loop.slots) c.in-Made.ensures.slot (looked_at p _ _ _ _ loop.same passed) c.in-Made.ensures.looked,
+      pass_made p t xs c.args.from at s behind_it within is _ c.look_at_awake.new.slot _ _ _ c.in-Made.stamped (ap (λ ys. set ys at c.look_at_awake.new.slot) loop.slots) c.in-Made.ensures.slot (looked_at p _ _ _ _ loop.same passed) c.in-Made.ensures.looked,
     )
 
 pub returns-in-Made-clause-fits : goal.returns-in-Made-clause-fits
@@ -198,8 +200,8 @@ returns-in-Made-clause-fits g c =
     let s = c.index_mut.result.now in
     let is : s ≡ get_or xs at s = c.index_mut.ensures.value ∙ ap (λ ys. get_or ys at s) loop.slots in
     let found : slice_get xs at ≡ Some s = slot_found xs a first fits at next.within s is in
-    subst (λ ys. Fits (set ys at c.look.new.slot) first (with_rows a (set a.events at c.look.new.row))) (sym loop.slots)
-    (fits_made xs a first fits at next.within s c.look.new.slot c.look.new.row is c.in-Made.ensures.width c.in-Made.ensures.slot.events)
+    subst (λ ys. Fits (set ys at c.look_at_awake.new.slot) first (with_rows a (set a.events at c.look_at_awake.new.row))) (sym loop.slots)
+    (fits_made xs a first fits at next.within s c.look_at_awake.new.slot c.look_at_awake.new.row is c.in-Made.ensures.width (ap listed_in c.in-Made.ensures.slot.table))
 
 pub returns-in-Made-clause-held : goal.returns-in-Made-clause-held
 returns-in-Made-clause-held g c =
@@ -219,10 +221,10 @@ returns-in-Made-clause-held g c =
     let s = c.index_mut.result.now in
     let is : s ≡ get_or xs at s = c.index_mut.ensures.value ∙ ap (λ ys. get_or ys at s) loop.slots in
     let found : slice_get xs at ≡ Some s = slot_found xs a first fits at next.within s is in
-    let asleep = subst (λ b. EventsHeld p b s.events.items c.look.new.row) loop.same.objects c.in-Made.ensures.held in
-    let looked = subst (λ b. ObjectsLooked p (slot_tries p t s) b (g.B.Bench.told c.look.new.bench).objects (Made c.in-Made.stamped)) loop.same.objects c.in-Made.ensures.looked.objects in
-    subst (λ ys. HeldTold p t o (touched_by p (noting_of c.in-Made.stamped)) (set ys at c.look.new.slot) (suc at) (with_rows a (set a.events at c.look.new.row))) (sym loop.slots)
-    (held_made xs a first fits at next.within p t o behind next.behind next.none next.chosen held s c.look.new.slot c.look.new.row c.in-Made.stamped (g.B.Bench.told c.look.new.bench).objects is asleep c.in-Made.ensures.slot.events looked)
+    let asleep = subst (λ b. EventsHeld p b (events_of_slot s) c.look_at_awake.new.row) loop.same.objects c.in-Made.ensures.held in
+    let looked = subst (λ b. ObjectsLooked p (slot_tries p t s) b (g.B.Bench.told c.look_at_awake.new.bench).objects (Made c.in-Made.stamped)) loop.same.objects c.in-Made.ensures.looked.objects in
+    subst (λ ys. HeldTold p t o (touched_by p (noting_of c.in-Made.stamped)) (set ys at c.look_at_awake.new.slot) (suc at) (with_rows a (set a.events at c.look_at_awake.new.row))) (sym loop.slots)
+    (held_made xs a first fits at next.within p t o behind next.behind next.none next.chosen held s c.look_at_awake.new.slot c.look_at_awake.new.row c.in-Made.stamped (g.B.Bench.told c.look_at_awake.new.bench).objects is asleep (ap listed_in c.in-Made.ensures.slot.table) looked)
 
 pub returns-in-Contended-clause-pass : goal.returns-in-Contended-clause-pass
 returns-in-Contended-clause-pass g c =
@@ -247,7 +249,7 @@ returns-in-Contended-clause-pass g c =
     let behind_it : c.args.from ≤ at = omega arith in
     let within : at < length xs = slot_within xs a first fits at next.within in
     let passed = between_held p t o xs c.args.from at (passed_on p t o xs a first fits c.args.from behind held loop.passed at at (omega arith) next.none) in (
-      ap (λ ys. set ys at c.look.new.slot) loop.slots ∙ ap (set xs at) c.in-Contended.ensures.slot ∙ set_same xs at s is,
+      ap (λ ys. set ys at c.look_at_awake.new.slot) loop.slots ∙ ap (set xs at) c.in-Contended.ensures.slot ∙ set_same xs at s is,
       pass_lost p t xs c.args.from at s behind_it within is c.args.to _ _ _ c.in-Contended.object c.if-at-to.false (looked_at p _ _ _ _ loop.same passed) c.in-Contended.ensures.looked,
     )
 
@@ -269,8 +271,8 @@ returns-in-Contended-clause-fits g c =
     let s = c.index_mut.result.now in
     let is : s ≡ get_or xs at s = c.index_mut.ensures.value ∙ ap (λ ys. get_or ys at s) loop.slots in
     let found : slice_get xs at ≡ Some s = slot_found xs a first fits at next.within s is in
-    subst (λ ys. Fits (set ys at c.look.new.slot) first (with_rows a (set a.events at c.look.new.row))) (sym loop.slots)
-    (fits_made xs a first fits at next.within s c.look.new.slot c.look.new.row is c.in-Contended.ensures.width (ap (λ (x : Slot). x.events) c.in-Contended.ensures.slot))
+    subst (λ ys. Fits (set ys at c.look_at_awake.new.slot) first (with_rows a (set a.events at c.look_at_awake.new.row))) (sym loop.slots)
+    (fits_made xs a first fits at next.within s c.look_at_awake.new.slot c.look_at_awake.new.row is c.in-Contended.ensures.width (ap events_of_slot c.in-Contended.ensures.slot))
 
 pub settle-requires-clause-ready : goal.settle-requires-clause-ready
 settle-requires-clause-ready g c =
@@ -292,7 +294,7 @@ settle-requires-clause-ready g c =
     let found : slice_get xs at ≡ Some s = slot_found xs a first fits at next.within s is in
     let within : at < length xs = slot_within xs a first fits at next.within in
     let inside : at < length c.loop-at.slots.items = subst (λ ys. at < length ys) (sym loop.slots) within in
-    let own : c.index.result.now ≡ s = c.index.ensures ∙ get_or-set_same c.loop-at.slots.items at c.look.new.slot c.index.result.now inside ∙ c.in-Nothing.ensures.slot in
+    let own : c.index.result.now ≡ s = c.index.ensures ∙ get_or-set_same c.loop-at.slots.items at c.look_at_awake.new.slot c.index.result.now inside ∙ c.in-Nothing.ensures.slot in
     subst (IsReadySlot p t) (sym own) (c.requires.ready at s found)
 
 pub loop-at-preserved : goal.loop-at-preserved
@@ -315,23 +317,23 @@ loop-at-preserved g c =
     let found : slice_get xs at ≡ Some s = slot_found xs a first fits at next.within s is in
     let within : at < length xs = slot_within xs a first fits at next.within in
     let tries : TriesHeld p o (slot_tries p t s) = held_by p (slot_tries p t s) _ _ _ _ loop.same c.in-Nothing.ensures.looked in
-    let asleep = subst (λ b. EventsHeld p b s.events.items c.look.new.row) loop.same.objects c.in-Nothing.ensures.held in
+    let asleep = subst (λ b. EventsHeld p b (events_of_slot s) c.look_at_awake.new.row) loop.same.objects c.in-Nothing.ensures.held in
     let inside : at < length c.loop-at.slots.items = subst (λ ys. at < length ys) (sym loop.slots) within in
-    let own : c.index.result.now ≡ s = c.index.ensures ∙ get_or-set_same c.loop-at.slots.items at c.look.new.slot c.index.result.now inside ∙ c.in-Nothing.ensures.slot in
-    let settled : IsSettled p t s s.running at (with_rows a (set a.events at c.look.new.row)) c.settle.new.a = subst (λ (x : Slot). IsSettled p t x x.running at (with_rows a (set a.events at c.look.new.row)) c.settle.new.a) own c.settle.ensures in
+    let own : c.index.result.now ≡ s = c.index.ensures ∙ get_or-set_same c.loop-at.slots.items at c.look_at_awake.new.slot c.index.result.now inside ∙ c.in-Nothing.ensures.slot in
+    let settled : IsSettled p t s (is_free s) at (with_rows a (set a.events at c.look_at_awake.new.row)) c.settle.new.a = subst (λ (x : Slot). IsSettled p t x (is_free x) at (with_rows a (set a.events at c.look_at_awake.new.row)) c.settle.new.a) own c.settle.ensures in
     let begun = loop.begun in
     let after = next.behind in
     let less : at ≤ at = omega arith in
     let more : suc at ≡ at + 1 = omega arith in
     let low = c.if-at-to.false in
     record {
-      slots = ap (λ ys. set ys at c.look.new.slot) loop.slots ∙ ap (set xs at) c.in-Nothing.ensures.slot ∙ set_same xs at s is;
+      slots = ap (λ ys. set ys at c.look_at_awake.new.slot) loop.slots ∙ ap (set xs at) c.in-Nothing.ensures.slot ∙ set_same xs at s is;
       home = c.in-Nothing.ensures.home ∙ loop.home;
       plan = c.in-Nothing.ensures.plan ∙ loop.plan;
-      fits = fits_nothing xs a first fits at next.within p t c.settle.new.a s c.look.new.row is c.in-Nothing.ensures.width settled;
+      fits = fits_nothing xs a first fits at next.within p t c.settle.new.a s c.look_at_awake.new.row is c.in-Nothing.ensures.width settled;
       held = subst (λ n. HeldTold p t o None xs n c.settle.new.a) more
           (held_nothing xs a first fits at next.within p t o behind next.behind next.none next.chosen held
-          (λ q object area k b fit there none. c.areas_are_closed_alike.ensures q object area k b fit there none) c.settle.new.a s c.look.new.row is asleep tries settled);
+          (λ q object area k b fit there none. c.areas_are_closed_alike.ensures q object area k b fit there none) c.settle.new.a s c.look_at_awake.new.row is asleep tries settled);
       begun = omega arith;
       short = omega arith;
       passed = λ i x behind_it before there. elim (cases_lt i at) [

@@ -1,11 +1,10 @@
 use Rattle.std.proofs.Common.{◌≡◌, ℕ, ◌-◌, ◌<◌, ◌≤◌, length, Some, None}
 use Rattle.std.specs.List.{slice_get}
 use Rattle.bus_semantics.specs.Plan.{plan_of}
-use Rattle.core_turn.specs.declared.slot.Slot.{Slot}
-use Rattle.core_turn.specs.Slots.{slot_tries}
+use Rattle.task_slots.specs.declared.slot.Slot.{Slot}
+use Rattle.task_slots.specs.Slots.{slot_tries}
 use Rattle.core_turn.specs.Awake.{Fits, HeldTold}
-use Rattle.core_turn.proofs.Awakes.{TriesHeld}
-use Rattle.core_turn.proofs.Unchanged.{Unchanged}
+use Rattle.task_slots.proofs.Unchanged.{TriesHeld, Unchanged}
 use Rattle.core_turn.proofs.awake_looks.look_through.Given as goal
 
 abbrev pub invariant-loop-at : goal.invariant-loop-at

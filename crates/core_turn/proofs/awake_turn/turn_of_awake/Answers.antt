@@ -3,10 +3,11 @@ use Rattle.std.specs.List.{slice_get}
 use Rattle.bus_semantics.specs.Plan.{plan_of}
 use Rattle.bus_semantics.specs.Objects.{touched_by}
 use Rattle.core_turn.specs.Cores.{CoreState}
-use Rattle.core_turn.specs.Awake.{Fits, HeldTold, noting_of}
+use Rattle.core_turn.specs.Awake.{Fits, HeldTold}
+use Rattle.task_slots.specs.Stepping.{noting_of}
 use Rattle.core_turn.proofs.Settling.{begins_at, held_round, held_turned, fits_begins}
 use Rattle.core_turn.proofs.Stepped.{ready_on, back_steps, front_steps, nothing_comes, pass_at, made_within, behind_all, before_all, back_contended, front_contended, behind_lost, before_lost}
-use Rattle.core_turn.proofs.Unchanged.{unchanged_by}
+use Rattle.task_slots.proofs.Unchanged.{unchanged_by}
 use Rattle.core_turn.proofs.awake_turn.turn_of_awake.Goals as goal
 
 pub look_through-requires-clause-ready : goal.look_through-requires-clause-ready

@@ -1,10 +1,10 @@
 use Rattle.std.proofs.Common.{◌≡◌}
 use Rattle.bus_semantics.specs.Plan.{plan_of}
 use Rattle.bus_semantics.specs.Rest.{gathered}
-use Rattle.core_turn.specs.declared.look.Look.TheVariants.{Nothing}
-use Rattle.core_turn.specs.Slots.{slot_tries}
+use Rattle.task_slots.specs.declared.look.Look.TheVariants.{Nothing}
+use Rattle.task_slots.specs.Slots.{slot_tries}
 use Rattle.core_turn.specs.Cores.{slots_between, looks_in}
-use Rattle.core_turn.specs.Looking.{Looked}
+use Rattle.task_slots.specs.Looking.{Looked}
 use Rattle.core_turn.proofs.looking.look_through.Given as goal
 
 abbrev pub invariant-loop-at : goal.invariant-loop-at

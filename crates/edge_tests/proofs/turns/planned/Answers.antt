@@ -1,11 +1,8 @@
 use Rattle.std.proofs.Common.{sym, ◌∙◌}
 use Rattle.edge_tests.proofs.turns.planned.Goals as goal
 
-pub returns-then-is_in_stage-clause-built : goal.returns-then-is_in_stage-clause-built
-returns-then-is_in_stage-clause-built c =
-    let found = c.in-Ok.found in
-    let planned = c.in-Ok.ensures.planned in
-    c.plans_of_the_stage_are_plain.ensures.built found.description found.flat found.plan found.mapping (sym c.is_in_stage.ensures ∙ c.if-is_in_stage.true) planned.is_whole planned.is_sound
+pub returns-then-is_in_stage-clause-sound : goal.returns-then-is_in_stage-clause-sound
+returns-then-is_in_stage-clause-sound c = c.in-Ok.ensures.planned.is_sound
 
 pub returns-then-is_in_stage-clause-made : goal.returns-then-is_in_stage-clause-made
 returns-then-is_in_stage-clause-made c =

@@ -1,14 +1,14 @@
 use Rattle.std.proofs.Common.{◌≡◌, sym, ◌∙◌, ap, subst, arith, map, Some}
 use Rattle.std.specs.List.{slice_get}
-use Rattle.bus_semantics.specs.declared.script.Task.{Task}
 use Rattle.bus_semantics.specs.Plan.{plan_of}
-use Rattle.core_turn.specs.Cores.{events_of_slot, tasks_of_core}
+use Rattle.task_slots.specs.Slots.{table_of}
+use Rattle.core_turn.specs.Cores.{tables_of_core}
 use Rattle.edge_tests.specs.Counting.{Counting}
 use Rattle.edge_tests.proofs.turns.run.Goals as goal
 
 pub loop-turn-init : goal.loop-turn-init
 loop-turn-init g c =
-    let ready = c.in_ok-core.ensures.ready (plan_of c.args.p.now) c.requires.built in
+    let ready = c.in_ok-core.ensures.ready c.requires.sound in
     let slots = c.in_ok-make_room.ensures.slots in
     let number = c.in_ok-make_room.ensures.number in
     let core_room = c.in_ok-make_room.ensures.room in
@@ -18,8 +18,8 @@ loop-turn-init g c =
       bench_room = omega (arith, bench_room);
       plan = ap (λ (b : Counting). plan_of b.bench.plan) c.in_ok-bench.ensures;
       ready = record {
-        built = ready.built;
-        tasks = ap (map events_of_slot) slots ∙ ready.tasks ∙ ap (λ n. map (λ (t : Task). t.events) (tasks_of_core c.args.m.now n)) (sym number);
+        sound = ready.sound;
+        has = ap (map table_of) slots ∙ ready.has ∙ ap (tables_of_core (plan_of c.args.p.now) c.args.m.now) (sym number);
         each = λ i s found. ready.each i s (subst (λ xs. slice_get xs i ≡ Some s) slots found);
       };
     }

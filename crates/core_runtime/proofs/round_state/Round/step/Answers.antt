@@ -10,7 +10,8 @@ use Rattle.bus_semantics.specs.Fitting.{fits}
 use Rattle.bus_semantics.specs.Locality.{starts_its_own}
 use Rattle.bus_semantics.specs.Objects.{touched_by, IsObject}
 use Rattle.port_objects.specs.Benches.{Plain}
-use Rattle.core_turn.specs.Cores.{CoreState, events_of_slot}
+use Rattle.core_turn.specs.Cores.{CoreState}
+use Rattle.task_slots.specs.Slots.{events_of_slot}
 use Rattle.core_runtime.specs.Nodes.{HasRoom}
 use Rattle.core_runtime.specs.Rounds.{RoundState, IsRound, IsLater, Rested}
 use Rattle.core_runtime.specs.Watching.{IsAfter, IsWatch}
@@ -75,7 +76,7 @@ wake_after-requires-clause-watched c =
     let t = c.self.inside.bodies.now in
     let new = c.turn_of_awake.new.c in
     let b = c.turn_of_awake.new.a in
-    let events = ap (map events_of_slot) steps.slots ∙ events_kept old.slots steps.at steps.slot steps.stepped steps.there steps.step.events in
+    let events = ap (map events_of_slot) steps.slots ∙ events_kept old.slots steps.at steps.slot steps.stepped steps.there steps.step.table in
     let held = c.in-Stepped.ensures.held c.in-Stepped.ensures.turned.0 steps.trace in (
       set cores c.args.number new,
       before,
@@ -105,7 +106,7 @@ invariant_of-self c =
     let step = λ (made : Stamped) (is : made ≡ turned.0) (xs : List Stamped) (added : xs ≡ entries.items ++ made ∷ []).
     makes p t old before now entries.items c.turn_of_awake.new.c new turned.0 xs steps (record { number = c.clear.ensures.number; slots = c.clear.ensures.slots }) (added ∙ ap (λ s. entries.items ++ s ∷ []) is) c.in-Stepped.ensures.ready
     (λ m xs i h lawful at ready. c.turns_keep_the_law.ensures.stepped _ m _ xs i _ _ _ _ _ _ turned.0 h lawful at ready refl refl steps) in
-    let events = ap (map events_of_slot) steps.slots ∙ events_kept old.slots steps.at steps.slot steps.stepped steps.there steps.step.events in
+    let events = ap (map events_of_slot) steps.slots ∙ events_kept old.slots steps.at steps.slot steps.stepped steps.there steps.step.table in
     let held = c.in-Stepped.ensures.held turned.0 steps.trace in
     let flags = c.turn_of_awake.new.a in
     let touched = touched_by p (record { entry = turned.0.entry; event = turned.0.event }) in

@@ -1,8 +1,0 @@
-use Rattle.std.proofs.Common.{take, ◌==◌}
-use Rattle.std.specs.Prelude.{filter}
-use Rattle.bus_semantics.specs.declared.script.Task.{Task}
-use Rattle.core_turn.specs.Made.{AreNew}
-use Rattle.core_turn.proofs.making.slots_of.Given as goal
-
-abbrev pub invariant-loop-task : goal.invariant-loop-task
-invariant-loop-task l = AreNew l.t (filter (λ (x : Task). x.core == l.number) (take l.task-index l.task-items)) l.slots.items

@@ -1,0 +1,17 @@
+pub mod Basics
+pub mod Until
+pub mod Looks
+pub mod Tries
+pub mod Facts
+pub mod Histories
+pub mod Begun
+pub mod Changing
+pub mod Wishes
+pub mod Stepping
+pub mod Starts
+pub mod Beginning
+pub mod Steps
+pub mod Calling
+pub mod Phases
+pub mod Placed
+pub mod Unchanged

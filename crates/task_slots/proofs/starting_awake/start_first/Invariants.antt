@@ -1,0 +1,21 @@
+use Rattle.std.proofs.Common.{◌≡◌, ◌-◌, length}
+use Rattle.bus_semantics.specs.Plan.{plan_of}
+use Rattle.place_set.specs.Places.{NoneBetween}
+use Rattle.task_slots.specs.Waiting.{EventsHeld}
+use Rattle.task_slots.proofs.Unchanged.{Unchanged}
+use Rattle.task_slots.proofs.starting_awake.start_first.Given as goal
+
+abbrev pub invariant-loop-at : goal.invariant-loop-at
+invariant-loop-at g l = record {
+  home : g.B.Bench.home l.bench ≡ g.B.Bench.home l.initial.bench;
+  plan : g.B.Bench.plan l.bench ≡ g.B.Bench.plan l.initial.bench;
+  width : length l.row ≡ length l.events;
+  held : EventsHeld (plan_of l.p) (g.B.Bench.told l.initial.bench).objects l.events l.row;
+  asleep : NoneBetween l.row 0 l.from;
+  same : Unchanged
+      (g.B.Bench.told l.initial.bench)
+      (g.B.Bench.told l.bench);
+}
+
+abbrev pub decreases-loop-at : goal.decreases-loop-at
+decreases-loop-at g l = length l.events - l.from

@@ -1,0 +1,47 @@
+-- Slots that may sleep: a free task of whose events none may start, and an activation that waits at an exclusive area (SWS_RTE: Rte_Enter).
+use Rattle.std.specs.Prelude.{◌≡◌, ℕ, List, [], ◌∷◌, Bool, true, false, Option, Some, None, slice_get}
+use Rattle.rte_value.specs.declared.kinds.ActKey.{ActKey}
+use Rattle.bus_semantics.specs.declared.entries.Actor.TheVariants.{Act}
+use Rattle.bus_semantics.specs.Plan.{Plan}
+use Rattle.bus_semantics.specs.Wanted.{to_enter}
+use Rattle.bus_semantics.specs.Objects.{object_of}
+use Rattle.bus_semantics.specs.Fitting.{wish_fits}
+use Rattle.bus_semantics.specs.Rest.{start_try}
+use Rattle.port_objects.specs.declared.object.Object.{Object}
+use Rattle.task_machine.specs.declared.instr.TaskSet.{TaskSet}
+use Rattle.task_machine.specs.Standing.{Standing}
+use Rattle.task_slots.specs.declared.slot.Slot.{Slot}
+use Rattle.task_slots.specs.declared.slot.Slot.TheVariants as slot
+use Rattle.task_slots.specs.declared.slot.Activity.{Activity}
+use Rattle.task_slots.specs.declared.slot.Activity.TheVariants.{Free}
+use Rattle.task_slots.specs.Slots.{asked_by, slot_tries}
+use Rattle.task_slots.specs.Looking.{AllHeld}
+
+-- where a bench tells its objects: no event of one slot that sleeps may start
+abbrev pub EventsHeld : Plan → Option (List Object) → (events : List ℕ) → (row : List Bool) → Type 0
+EventsHeld p None events row = Unit {0}
+EventsHeld p (Some objects) events row = (j e : ℕ) → slice_get events j ≡ Some e → slice_get row j ≡ Some false → AllHeld p objects (start_try p e)
+
+-- an activation asks to enter the area which is this object
+pub record AsksAt (p : Plan) (t : TaskSet) (key : ActKey) (f : Standing) (object : ℕ) : Type 0 where
+  pub area : ℕ
+  pub asks : asked_by t f ≡ Some (to_enter area)
+  pub fits : wish_fits p (Act key) (to_enter area) ≡ true
+  pub there : object_of p (Act key) (to_enter area) ≡ Some object
+
+-- nothing runs in a task; a machine's slot is never free
+abbrev pub is_free_task : Activity → Bool
+is_free_task Free = true
+is_free_task a = false
+
+abbrev pub is_free : Slot → Bool
+is_free (slot.Task s) = is_free_task s.activity
+is_free (slot.Machine n) = false
+
+-- all that a slot tries is that an activation enters the area which is this object
+pub record WaitsAt (p : Plan) (t : TaskSet) (s : Slot) (object : ℕ) : Type 0 where
+  pub key : ActKey
+  pub area : ℕ
+  pub tries : slot_tries p t s ≡ (Act key, to_enter area) ∷ []
+  pub fits : wish_fits p (Act key) (to_enter area) ≡ true
+  pub there : object_of p (Act key) (to_enter area) ≡ Some object

@@ -1,0 +1,107 @@
+//! The direct activation that an activation of a task has called.
+
+ghost use Rattle.std.specs.Prelude.{◌≡◌, ◌<◌};
+ghost use Rattle.bus_semantics.specs.declared.script.Mapping.{Mapping};
+ghost use Rattle.bus_semantics.specs.Plan.{plan_of};
+ghost use Rattle.bus_semantics.specs.Sound.{IsSound};
+ghost use Rattle.task_generator.specs.Promise.{AsksAsPlanned};
+ghost use Rattle.task_machine.specs.Frames.{IsMadeFor};
+ghost use Rattle.task_slots.specs.declared.slot.Slot.TheVariants as slots;
+ghost use Rattle.task_slots.specs.declared.slot.Activity.TheVariants.{Calls, Serves};
+ghost use Rattle.task_slots.specs.Slots.{task_tries, task_looks};
+ghost use Rattle.task_slots.specs.Ready.{IsReadyTask};
+ghost use Rattle.task_slots.specs.Looking.{Looked};
+ghost use Rattle.task_slots.specs.Stepping.{ServedBy, HeardInside, SlotLooked};
+
+use crate::asking::what_is_asked_may_be_tried;
+use crate::direct::after_inside;
+use crate::look::Look;
+use crate::slot::{Activity, Call, TaskSlot};
+use crate::trying::try_wish;
+use bus_semantics::{Actor, BusPlan, Deed, Wish};
+use port_objects::{Bench, free_deeds_are_legal, sound_plans_have_objects};
+use task_machine::{Next, TaskSet};
+
+/// The direct activation that is called begins with its start.
+fn serve(t: &TaskSet, call: Call, slot: &mut TaskSlot, start: &Deed)
+    requires { IsMadeFor t.now slot.old.inner }
+    ensures { ServedBy t.now call start.now slot.old slot.new }
+{
+    slot.inner.begin(t, call.direct, start);
+    slot.activity = Activity::Serves(call);
+}
+
+/// The direct activation hears the bus's answer to its call.
+fn hear_inside(t: &TaskSet, call: Call, slot: &mut TaskSlot, deed: &Deed)
+    ensures { HeardInside t.now call deed.now slot.old slot.new }
+{
+    slot.inner.feed(t, deed);
+    slot.activity = after_inside(call, deed);
+}
+
+/// The direct activation that is called tries to start (SWS_RTE: Rte_Call).
+pub(crate) fn start_inside<B: Bench>(
+    p: &BusPlan,
+    t: &TaskSet,
+    call: Call,
+    slot: &mut TaskSlot,
+    bench: &mut B,
+) -> Look
+    requires room { 0 < (B.told bench.old).room }
+    requires plan { B.plan bench.old ≡ plan_of p.now }
+    requires sound { (m : Mapping) × IsSound (plan_of p.now) m }
+    requires ready { IsReadyTask (plan_of p.now) t.now slot.old }
+    requires calls { slot.old.activity ≡ Calls call }
+    ensures home { B.home bench.new ≡ B.home bench.old }
+    ensures plan { B.plan bench.new ≡ B.plan bench.old }
+    ensures looked { Looked (plan_of p.now) (task_tries (plan_of p.now) t.now slot.old) (task_looks (plan_of p.now) slot.old)
+        (B.told bench.old) (B.told bench.new) result }
+    ensures slot { SlotLooked (plan_of p.now) t.now (slots.Task slot.old) (slots.Task slot.new) result }
+{
+    what_is_asked_may_be_tried();
+    sound_plans_have_objects();
+    let who = Actor::Act(call.direct);
+    match try_wish(p, &who, &Wish::Start { event: call.event }, bench) {
+        Look::Made(stamped) => {
+            serve(t, call, slot, &stamped.entry.deed);
+            Look::Made(stamped)
+        }
+        Look::Nothing => Look::Nothing,
+        Look::Contended(object) => Look::Contended(object),
+    }
+}
+
+/// The direct activation tries its next call, while its caller is held back.
+pub(crate) fn go_on_inside<B: Bench>(
+    p: &BusPlan,
+    t: &TaskSet,
+    call: Call,
+    slot: &mut TaskSlot,
+    bench: &mut B,
+) -> Look
+    requires room { 0 < (B.told bench.old).room }
+    requires plan { B.plan bench.old ≡ plan_of p.now }
+    requires bodies { AsksAsPlanned (plan_of p.now) t.now }
+    requires sound { (m : Mapping) × IsSound (plan_of p.now) m }
+    requires ready { IsReadyTask (plan_of p.now) t.now slot.old }
+    requires serves { slot.old.activity ≡ Serves call }
+    ensures home { B.home bench.new ≡ B.home bench.old }
+    ensures plan { B.plan bench.new ≡ B.plan bench.old }
+    ensures looked { Looked (plan_of p.now) (task_tries (plan_of p.now) t.now slot.old) (task_looks (plan_of p.now) slot.old)
+        (B.told bench.old) (B.told bench.new) result }
+    ensures slot { SlotLooked (plan_of p.now) t.now (slots.Task slot.old) (slots.Task slot.new) result }
+{
+    what_is_asked_may_be_tried();
+    free_deeds_are_legal();
+    match slot.inner.next_call(t) {
+        Next::Over => unreachable!(),
+        Next::Call(wish) => match try_wish(p, &Actor::Act(call.direct), &wish, bench) {
+            Look::Made(stamped) => {
+                hear_inside(t, call, slot, &stamped.entry.deed);
+                Look::Made(stamped)
+            }
+            Look::Nothing => Look::Nothing,
+            Look::Contended(object) => Look::Contended(object),
+        },
+    }
+}

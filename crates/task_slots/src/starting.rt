@@ -1,0 +1,117 @@
+//! The start of a free task.
+
+ghost use Rattle.std.specs.Prelude.{◌≡◌, ◌<◌, ◌∷◌, [], true, length, nat_lt, if◌then◌else◌, Some};
+ghost use Rattle.std.specs.List.{list_all};
+ghost use Rattle.rte_value.specs.declared.kinds.ActKey.{ActKey};
+ghost use Rattle.bus_semantics.specs.declared.entries.Actor.TheVariants.{Act};
+ghost use Rattle.bus_semantics.specs.declared.script.Mapping.{Mapping};
+ghost use Rattle.bus_semantics.specs.Plan.{plan_of, runnable_of_event};
+ghost use Rattle.bus_semantics.specs.History.{count};
+ghost use Rattle.bus_semantics.specs.Rest.{gathered, start_try};
+ghost use Rattle.bus_semantics.specs.Sound.{IsSound};
+ghost use Rattle.task_machine.specs.Frames.{IsMadeFor};
+ghost use Rattle.task_slots.specs.declared.slot.Slot.TheVariants as slots;
+ghost use Rattle.task_slots.specs.declared.slot.Activity.TheVariants.{Free};
+ghost use Rattle.task_slots.specs.Slots.{waits, task_tries, task_looks};
+ghost use Rattle.task_slots.specs.Ready.{may_be_mapped, IsReadyTask};
+ghost use Rattle.task_slots.specs.Stepping.{BegunBy, SlotLooked};
+ghost use Rattle.task_slots.specs.Looking.{StartBy, Looked};
+
+use crate::asking::what_is_asked_may_be_tried;
+use crate::look::Look;
+use crate::slot::{Activity, TaskSlot};
+use crate::trying::try_wish;
+use bus_semantics::{Actor, BusPlan, Entry, Wish};
+use port_objects::{Bench, sound_plans_have_objects};
+use rte_value::ActKey;
+use task_machine::TaskSet;
+
+/// The runnable of an event.
+fn runnable_of(p: &BusPlan, event: u32) -> u32
+    requires { nat_lt event (length p.now.events) ≡ true }
+    ensures { runnable_of_event (plan_of p.now) event ≡ Some result }
+{
+    p.events.items()[event as usize].runnable
+}
+
+/// An event tries to start its runnable. One whose start touches no object costs no look.
+pub(crate) fn try_event<B: Bench>(p: &BusPlan, event: u32, bench: &mut B) -> Look
+    requires room { 0 < (B.told bench.old).room }
+    requires plan { B.plan bench.old ≡ plan_of p.now }
+    requires sound { (m : Mapping) × IsSound (plan_of p.now) m }
+    requires there { may_be_mapped (plan_of p.now) event ≡ true }
+    ensures home { B.home bench.new ≡ B.home bench.old }
+    ensures plan { B.plan bench.new ≡ B.plan bench.old }
+    ensures start { StartBy (plan_of p.now) (event ∷ []) result }
+    ensures looked { Looked (plan_of p.now) (start_try (plan_of p.now) event) (if waits (plan_of p.now) event then 1 else 0)
+        (B.told bench.old) (B.told bench.new) result }
+{
+    sound_plans_have_objects();
+    let key = ActKey {
+        runnable: runnable_of(p, event),
+        point: None,
+    };
+    try_wish(p, &Actor::Act(key), &Wish::Start { event }, bench)
+}
+
+/// The first of these events that may start its runnable does so.
+fn start_first<B: Bench>(p: &BusPlan, events: &[u32], bench: &mut B) -> Look
+    requires room { 0 < (B.told bench.old).room }
+    requires plan { B.plan bench.old ≡ plan_of p.now }
+    requires sound { (m : Mapping) × IsSound (plan_of p.now) m }
+    requires there { list_all (may_be_mapped (plan_of p.now)) events.now ≡ true }
+    ensures home { B.home bench.new ≡ B.home bench.old }
+    ensures plan { B.plan bench.new ≡ B.plan bench.old }
+    ensures start { StartBy (plan_of p.now) events.now result }
+    ensures looked { Looked (plan_of p.now) (gathered (start_try (plan_of p.now)) events.now) (count (waits (plan_of p.now)) events.now)
+        (B.told bench.old) (B.told bench.new) result }
+{
+    for event in events {
+        match try_event(p, *event, bench) {
+            Look::Made(stamped) => return Look::Made(stamped),
+            Look::Nothing => {}
+            Look::Contended(object) => return Look::Contended(object),
+        }
+    }
+    Look::Nothing
+}
+
+/// The activation that an entry starts begins in the task.
+pub(crate) fn begin(t: &TaskSet, slot: &mut TaskSlot, entry: &Entry)
+    requires { IsMadeFor t.now slot.old.frame }
+    ensures { (k : ActKey) → entry.now.actor ≡ Act k → BegunBy t.now k entry.now.deed slot.old slot.new }
+{
+    if let Actor::Act(key) = entry.actor {
+        slot.frame.begin(t, key, &entry.deed);
+        slot.activity = Activity::Runs(key);
+    }
+}
+
+/// A free task starts the first of its events, in order of position, that may.
+pub(crate) fn start_due<B: Bench>(
+    p: &BusPlan,
+    t: &TaskSet,
+    slot: &mut TaskSlot,
+    bench: &mut B,
+) -> Look
+    requires room { 0 < (B.told bench.old).room }
+    requires plan { B.plan bench.old ≡ plan_of p.now }
+    requires sound { (m : Mapping) × IsSound (plan_of p.now) m }
+    requires ready { IsReadyTask (plan_of p.now) t.now slot.old }
+    requires free { slot.old.activity ≡ Free }
+    ensures home { B.home bench.new ≡ B.home bench.old }
+    ensures plan { B.plan bench.new ≡ B.plan bench.old }
+    ensures looked { Looked (plan_of p.now) (task_tries (plan_of p.now) t.now slot.old) (task_looks (plan_of p.now) slot.old)
+        (B.told bench.old) (B.told bench.new) result }
+    ensures slot { SlotLooked (plan_of p.now) t.now (slots.Task slot.old) (slots.Task slot.new) result }
+{
+    what_is_asked_may_be_tried();
+    match start_first(p, slot.events.as_slice(), bench) {
+        Look::Made(stamped) => {
+            begin(t, slot, &stamped.entry);
+            Look::Made(stamped)
+        }
+        Look::Nothing => Look::Nothing,
+        Look::Contended(object) => Look::Contended(object),
+    }
+}

@@ -1,0 +1,57 @@
+//! One wish, tried over a bench.
+
+ghost use Rattle.std.specs.Prelude.{◌≡◌, ◌<◌, ◌∷◌, [], None};
+ghost use Rattle.bus_semantics.specs.Plan.{plan_of};
+ghost use Rattle.bus_semantics.specs.Wanted.{wanted_of};
+ghost use Rattle.bus_semantics.specs.Objects.{object_of};
+ghost use Rattle.task_slots.specs.Looking.{IsTried, EntryOf, Looked, looks_at};
+
+use crate::look::Look;
+use bus_semantics::{Actor, BusPlan, Entry, Stamped, Wish};
+use port_objects::{Bench, Benched, free_deed, object_of};
+
+/// Makes the entry of a wish that touches no object, by a stamp. A start without an object may never come, so the bench is not
+/// asked for it.
+fn answer_alone<B: Bench>(who: &Actor, wish: &Wish, bench: &mut B) -> Look
+    requires room { 0 < (B.told bench.old).room }
+    requires tried { IsTried (B.plan bench.old) who.now (wanted_of wish.now) }
+    requires alone { object_of (B.plan bench.old) who.now (wanted_of wish.now) ≡ None }
+    ensures home { B.home bench.new ≡ B.home bench.old }
+    ensures plan { B.plan bench.new ≡ B.plan bench.old }
+    ensures entry { EntryOf (B.plan bench.old) who.now (wanted_of wish.now) result }
+    ensures looked { Looked (B.plan bench.old) ((who.now, wanted_of wish.now) ∷ []) (looks_at None (wanted_of wish.now)) (B.told bench.old) (B.told bench.new) result }
+{
+    match free_deed(wish) {
+        Some(deed) => {
+            let entry = Entry { actor: *who, deed };
+            let stamp = bench.stamp(&entry);
+            Look::Made(Stamped {
+                stamp,
+                entry,
+                event: None,
+            })
+        }
+        None => Look::Nothing,
+    }
+}
+
+/// Makes the entry of a wish, if one may come: on the object that it touches, else by a stamp.
+pub(crate) fn try_wish<B: Bench>(p: &BusPlan, who: &Actor, wish: &Wish, bench: &mut B) -> Look
+    requires room { 0 < (B.told bench.old).room }
+    requires plan { B.plan bench.old ≡ plan_of p.now }
+    requires tried { IsTried (plan_of p.now) who.now (wanted_of wish.now) }
+    ensures home { B.home bench.new ≡ B.home bench.old }
+    ensures plan { B.plan bench.new ≡ B.plan bench.old }
+    ensures entry { EntryOf (plan_of p.now) who.now (wanted_of wish.now) result }
+    ensures looked { Looked (plan_of p.now) ((who.now, wanted_of wish.now) ∷ []) (looks_at (object_of (plan_of p.now) who.now (wanted_of wish.now)) (wanted_of wish.now))
+        (B.told bench.old) (B.told bench.new) result }
+{
+    match object_of(p, who, wish) {
+        Some(object) => match bench.act(object, who, wish) {
+            Benched::Done(stamped) => Look::Made(stamped),
+            Benched::NotYet(_) => Look::Nothing,
+            Benched::Contended => Look::Contended(object),
+        },
+        None => answer_alone(who, wish, bench),
+    }
+}
