@@ -1,9 +1,9 @@
 -- If each core rests, the whole is at rest.
-use Rattle.std.proofs.Common.{◌≡◌, ℕ, zero, suc, ◌<◌, true, false, ◌==◌, if◌then◌else◌, refl, sym, ◌∙◌, ap, subst, List, [], ◌∷◌, ◌++◌, map, length, Bool, Option, Some, None}
+use Rattle.std.proofs.Common.{◌≡◌, ℕ, zero, suc, ◌<◌, true, false, ◌==◌, if◌then◌else◌, refl, sym, ◌∙◌, ap, subst, arith, List, [], ◌∷◌, ◌++◌, map, length, Bool, Option, Some, None}
 use Rattle.std.specs.Prelude.{nat_le, nat_lt}
 use Rattle.std.specs.List.{slice_get, list_all}
 use Rattle.std.proofs.lemmas.Bool.{and_parts, eq-eqb, eqb-true, leb-true, false≢true}
-use Rattle.std.proofs.lemmas.Option.{same_Some}
+use Rattle.std.proofs.lemmas.Option.{same_Some, slice_get_within}
 use Rattle.rte_value.specs.declared.kinds.ActKey.{ActKey}
 use Rattle.bus_semantics.specs.declared.entries.Actor.TheVariants.{Machine, Act}
 use Rattle.bus_semantics.specs.declared.plan.PointPlan.{PointPlan}
@@ -32,26 +32,24 @@ use Rattle.core_turn.proofs.Resting.{stuck_on, stuck_first, stuck_last, stuck_ea
 -- a number below another stands among its positions
 position_at : (n q : ℕ) → q < n → IsAmong (positions n) q
 position_at zero q less = absurd (omega arith)
-position_at (suc n) q less = by_test (q == n) refl
+position_at (suc n) q less = by_test (q == n) refl (λ below. position_at n q below)
   where
     in_last : {X : Type 0} (xs : List X) (x : X) → IsAmong (xs ++ x ∷ []) x
     in_last [] x = record { place = 0; found = refl }
     in_last (y ∷ xs) x = let at = in_last xs x in record { place = suc at.place; found = at.found }
 
-    in_first : {X : Type 0} (xs : List X) (y x : X) → IsAmong xs x → IsAmong (xs ++ y ∷ []) x
-    in_first xs y x at = record { place = at.place; found = on xs at.place at.found }
-      where
-        on : {X : Type 0} {y x : X} (xs : List X) (i : ℕ) → slice_get xs i ≡ Some x → slice_get (xs ++ y ∷ []) i ≡ Some x
-        on [] i e = absurd (cc e)
-        on (z ∷ xs) zero e = e
-        on (z ∷ xs) (suc i) e = on xs i e
+    on : {X : Type 0} (y x : X) (xs : List X) (i : ℕ) → slice_get xs i ≡ Some x → slice_get (xs ++ y ∷ []) i ≡ Some x
+    on y x [] i e = absurd (cc e)
+    on y x (z ∷ xs) zero e = e
+    on y x (z ∷ xs) (suc i) e = on y x xs i e
 
-    by_test : (b : Bool) → (q == n) ≡ b → IsAmong (positions n ++ n ∷ []) q
-    by_test true same = subst (λ x. IsAmong (positions n ++ n ∷ []) x) (sym (eqb-true q n same)) (in_last (positions n) n)
-    by_test false other =
+    by_test : (b : Bool) → (q == n) ≡ b → (q < n → IsAmong (positions n) q) → IsAmong (positions n ++ n ∷ []) q
+    by_test true same rest = subst (λ x. IsAmong (positions n ++ n ∷ []) x) (sym (eqb-true q n same)) (in_last (positions n) n)
+    by_test false other rest =
         let apart : (q ≡ n) → ⊥ = λ e. false≢true (sym other ∙ eq-eqb q n e) in
         let below : q < n = omega (arith, apart) in
-        in_first (positions n) n q (position_at n q below)
+        let at = rest below in
+        record { place = at.place; found = on n q (positions n) at.place at.found }
 
 -- what stands in a mapped list, or is gathered from options
 option_there : {X Y : Type 0} (f : X → Option Y) (xs : List X) (i : ℕ) (y : Y) → slice_get (gathered (λ x. option_list (f x)) xs) i ≡ Some y → (x : X) × IsAmong xs x × (f x ≡ Some y)
@@ -119,7 +117,7 @@ module _ (p : Plan) (m : Mapping) (sound : IsSound p m) (h : History) (goes_on :
       subst (λ b. AllStuck p h (if b then calls_at p h q else [])) here one
     where
       inside : (q r : ℕ) → caller_of p q ≡ Some r → q < length p.points
-      inside q r calls = (sought_where p.points q (λ (x : PointPlan). x.runnable) r calls).within
+      inside q r calls = slice_get_within p.points q _ (sought_where p.points q (λ (x : PointPlan). x.runnable) r calls).found
 
   direct_stuck_at : (q : ℕ) (d : ActKey) → direct_key p q ≡ Some d → (w : Wanted) → next_wish p h d ≡ Some w → IsStuck p h (Act d, w)
   direct_stuck_at q d key w next =

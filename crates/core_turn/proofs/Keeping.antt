@@ -145,7 +145,7 @@ module _ (p : Plan) (m : Mapping) (t : TaskSet) (cores : List CoreState) (i : �
       of_slot : (x : Slot) → slice_get c.slots n ≡ Some x → IsReadySlot p t x → SlotStands p t h x → SlotStands p t (s.entry ∷ h) x
       of_slot (of.Machine k) at ready_it stands_it = tt
       of_slot (of.Task y) at ready_it stands_it =
-          let foreign = λ (k : ActKey) own. cores_apart p m old_ready.sound old c k steps.at n steps.slot (of.Task y) old_ready.has c_ready.has differ steps.there own at in
+          let foreign : (k : ActKey) → is_key_of p (events_of_slot steps.slot) k ≡ true → is_key_of p y.events.items k ≡ false = λ k own. cores_apart p m old_ready.sound old c k steps.at n steps.slot (of.Task y) old_ready.has c_ready.has differ steps.there own at in
           other_stands p t h y.events.items y.frame y.inner s.entry y.activity (other_entry p steps.slot s.entry.actor y.events.items steps.step.own foreign) ready_it.active stands_it
 
   cores_stand : (j : ℕ) (c : CoreState) → Placed CoreState cores i new j c → CoreStands p t (s.entry ∷ h) c

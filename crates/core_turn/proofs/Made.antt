@@ -47,9 +47,19 @@ all_on t (x ∷ tables) others [] more before after = absurd before
 all_on t (x ∷ tables) others (y ∷ slots) more before after = (before.0, all_on t tables others slots more before.1 after)
 
 -- machines are new
-pub machines_new : (t : TaskSet) (ns : List ℕ) → AreNew t (map of_machine ns) (map (λ n. of.Machine n) ns)
+pub machines_new : (t : TaskSet) (ns : List ℕ) → AreNew t (map of_machine ns) (map of.Machine ns)
 machines_new t [] = tt
 machines_new t (n ∷ ns) = (refl, machines_new t ns)
+
+-- core 0 has the machines, and the others have none
+pub with_machines : (p : Plan) (m : Mapping) (t : TaskSet) (number : ℕ) (slots added : List Slot) → number ≡ 0 → AreNew t (task_tables m number) slots → added ≡ slots ++ map of.Machine (positions (length p.machines)) → AreNew t (tables_of_core p m number) added
+with_machines p m t number slots added first tasks is =
+    let machines : AreNew t (machine_tables p number) (map of.Machine (positions (length p.machines))) = subst (λ n. AreNew t (machine_tables p n) (map of.Machine (positions (length p.machines)))) (sym first) (machines_new t (positions (length p.machines))) in
+    subst (AreNew t (tables_of_core p m number)) (sym is) (all_on t (task_tables m number) (machine_tables p number) slots (map of.Machine (positions (length p.machines))) tasks machines)
+
+pub without_machines : (p : Plan) (m : Mapping) (t : TaskSet) (number : ℕ) (slots : List Slot) → (number ≡ 0 → ⊥) → AreNew t (task_tables m number) slots → AreNew t (tables_of_core p m number) slots
+without_machines p m t zero slots other tasks = absurd (other refl)
+without_machines p m t (suc n) slots other tasks = subst (λ ts. AreNew t ts slots) (sym (append-nil (task_tables m (suc n)))) tasks
 
 -- one task more
 module _ (t : TaskSet) (number : ℕ) (tasks : List Task) (slots : List Slot) (i : ℕ) (task : Task) (within : i < length tasks) (is : task ≡ get_or tasks i task) where
@@ -88,6 +98,15 @@ slots_listed t (x ∷ tables) (s ∷ slots) new = λ i. one x s new.0 i ∷ slot
     one (of_machine n) (of.Machine k) new = ap of_machine new
     one (of_task events) (of.Machine k) new = absurd new
     one (of_machine n) (of.Task s) new = absurd new
+
+-- positions are below their number
+below : (n i k : ℕ) → slice_get (positions n) i ≡ Some k → k < n
+below zero i k e = absurd (cc e)
+below (suc n) i k e = by_end (lists.at_end (positions n) n i k e) (λ j found. below n j k found)
+  where
+    by_end : lists.AtEnd (positions n) n i k → ((j : ℕ) → slice_get (positions n) j ≡ Some k → k < n) → k < suc n
+    by_end (lists.earlier e) rest = let less = rest i e in omega arith
+    by_end (lists.last same) rest = omega arith
 
 -- what stands at a place is new
 record NewAt (t : TaskSet) (tables : List Table) (s : Slot) : Type 0 where
@@ -151,11 +170,11 @@ module _ (p : Plan) (m : Mapping) (t : TaskSet) (c : CoreState) (new : AreNew t 
     task_ready i x s found new =
         let from = mapped_from (λ (y : Task). of_task y.events) (tasks_of_core m c.number) i x found in
         let at = (kept_from (λ (y : Task). y.core == c.number) m.tasks from.at.place from.from from.at.found).at in
-        of_slot s (events_mapped from.from at.place at.found) (subst (λ y. IsNewSlot t y s) (sym from.is) new)
+        of_slot s from.from.events (events_mapped from.from at.place at.found) (subst (λ y. IsNewSlot t y s) (sym from.is) new)
       where
-        of_slot : (s : Slot) {events : List ℕ} → list_all (may_be_mapped p) events ≡ true → IsNewSlot t (of_task events) s → IsReadySlot p t s
-        of_slot (of.Machine k) mapped new = absurd new
-        of_slot (of.Task s) mapped new = record {
+        of_slot : (s : Slot) (events : List ℕ) → list_all (may_be_mapped p) events ≡ true → IsNewSlot t (of_task events) s → IsReadySlot p t s
+        of_slot (of.Machine k) events mapped new = absurd new
+        of_slot (of.Task s) events mapped new = record {
           mapped = subst (λ es. list_all (may_be_mapped p) es ≡ true) (sym new.listed) mapped;
           made = new.made;
           made_inner = new.made_inner;
@@ -166,19 +185,11 @@ module _ (p : Plan) (m : Mapping) (t : TaskSet) (c : CoreState) (new : AreNew t 
     machine_ready (suc n) i x s found new = absurd (cc found)
     machine_ready zero i x s found new =
         let from = mapped_from of_machine (positions (length p.machines)) i x found in
-        of_slot s (below (length p.machines) from.at.place from.from from.at.found) (subst (λ y. IsNewSlot t y s) (sym from.is) new)
+        of_slot s from.from (below (length p.machines) from.at.place from.from from.at.found) (subst (λ y. IsNewSlot t y s) (sym from.is) new)
       where
-        below : (n i k : ℕ) → slice_get (positions n) i ≡ Some k → k < n
-        below zero i k e = absurd (cc e)
-        below (suc n) i k e = by_end (lists.at_end (positions n) n i k e)
-          where
-            by_end : lists.AtEnd (positions n) n i k → k < suc n
-            by_end (lists.earlier e) = let less = below n i k e in omega arith
-            by_end (lists.last same) = omega arith
-
-        of_slot : (s : Slot) {n : ℕ} → n < length p.machines → IsNewSlot t (of_machine n) s → IsReadySlot p t s
-        of_slot (of.Task s) less new = absurd new
-        of_slot (of.Machine k) less new = subst (λ j. j < length p.machines) (sym new) less
+        of_slot : (s : Slot) (n : ℕ) → n < length p.machines → IsNewSlot t (of_machine n) s → IsReadySlot p t s
+        of_slot (of.Task s) n less new = absurd new
+        of_slot (of.Machine k) n less new = subst (λ j. j < length p.machines) (sym new) less
 
     pub is_ready : IsReady p m t c
     is_ready = record { sound = sound; has = has_slots; each = each }

@@ -436,7 +436,7 @@ module _ (p : Plan) (m : Mapping) (sound : IsSound p m) (ts : TaskSet) (bodies :
     module _ (task : Task) (among : IsAmong m.tasks task) (same : task.events ≡ events) where
       -- the event of the activation that a task's event started runs
       taken : (k : ActKey) → IsRunning p ts events frame k → StandsFor ts h frame k → runs k h ≡ true → list_any (event_runs p h) events ≡ true
-      taken k r stands_it running = of_place (passing (λ d. d == b.event) events listed)
+      taken k r stands_it running = of_place (passing (λ d. d == r.begun.event) events listed)
         where
           plain : k ≡ plain_key k.runnable
           plain = λ i. record { runnable = k.runnable; point = r.plain i }

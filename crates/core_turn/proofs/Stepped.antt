@@ -1,5 +1,5 @@
 -- A core after the step of one of its slots.
-use Rattle.std.proofs.Common.{◌≡◌, ◌≢◌, ℕ, zero, suc, ◌+◌, ◌-◌, ◌<◌, true, if◌then◌else◌, refl, sym, ◌∙◌, ap, subst, arith, List, [], ◌∷◌, ◌++◌, length, take, drop, set, map, add_comm, length-drop, Option, Some, None}
+use Rattle.std.proofs.Common.{◌≡◌, ◌≢◌, ℕ, zero, suc, ◌+◌, ◌-◌, ◌<◌, true, false, if◌then◌else◌, refl, sym, ◌∙◌, ap, subst, arith, List, [], ◌∷◌, ◌++◌, length, take, drop, set, map, add_comm, length-drop, Option, Some, None}
 use Rattle.std.specs.List.{slice_get}
 use Rattle.std.proofs.lemmas.List.{take-append-drop, length-set}
 use Rattle.std.proofs.Math.Seq.{take-length}
@@ -40,7 +40,7 @@ module _ (p : Plan) (m : Mapping) (t : TaskSet) (old new : CoreState) (ready : I
       of_slot : (x : Slot) → i ≢ at → slice_get old.slots i ≡ Some x → IsReadySlot p t x → SlotStands p t g x → SlotStands p t (s.entry ∷ g) x
       of_slot (of.Machine n) other here_it ready_it stands_it = tt
       of_slot (of.Task y) other here_it ready_it stands_it =
-          let foreign = λ (k : ActKey) own. apart p m ready.sound old k at i slot (of.Task y) ready.has is own here_it (λ e. other (sym e)) in
+          let foreign : (k : ActKey) → is_key_of p (events_of_slot slot) k ≡ true → is_key_of p y.events.items k ≡ false = λ k own. apart p m ready.sound old k at i slot (of.Task y) ready.has is own here_it (λ e. other (sym e)) in
           other_stands p t g y.events.items y.frame y.inner s.entry y.activity (other_entry p slot s.entry.actor y.events.items step.own foreign) ready_it.active stands_it
 
       of_place : Placed Slot old.slots at stepped i x → SlotStands p t (s.entry ∷ g) x

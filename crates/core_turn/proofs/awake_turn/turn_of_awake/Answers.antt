@@ -77,6 +77,19 @@ returns-in-Made-clause-held g c = λ s last.
     held_turned (plan_of c.args.p.now) c.args.t.now (g.B.Bench.told c.args.b.now).objects c.look_through.new.slots.items c.note.new.self.slots c.in-Made.at (c.in-Made.at + 1) c.look_through.new.a _ c.in-Made.stamped s c.args.c.now.trace
     c.note.ensures.slots (omega arith) c.a.view_is (sym (c.note.ensures.trace ∙ ap (λ (k : CoreState). k.trace ++ c.in-Made.stamped ∷ []) c.c.view_is) ∙ last) c.in-Made.ensures.held
 
+pub returns-in-Made-clause-fits : goal.returns-in-Made-clause-fits
+returns-in-Made-clause-fits g c =
+    let at = c.in-Made.at in
+    let next : at + 1 ≡ c.note.new.self.first = let more : at + 1 ≡ suc at = omega arith in more ∙ sym c.note.ensures.first in
+    subst (λ ys. Fits ys c.note.new.self.first (begins_at (record {
+      slots = c.a.inside.slots;
+      events = c.a.inside.events.items;
+      waiting = c.a.inside.waiting;
+      areas = c.a.inside.areas.items;
+      first = c.a.inside.first;
+    }) (at + 1))) (sym c.note.ensures.slots)
+    (fits_begins _ _ _ _ (at + 1) next (subst (Fits c.look_through.new.slots.items c.args.a.now.first) (sym c.a.view_is) c.in-Made.ensures.fits))
+
 pub returns-in-Made-look_through-clause-fits : goal.returns-in-Made-look_through-clause-fits
 returns-in-Made-look_through-clause-fits g c =
     let at = c.in-Made-look_through.at in
