@@ -78,6 +78,22 @@ publishing_long : (all xs : List ℕ) → length (publishing_code all xs) ≡ 2 
 publishing_long all [] = refl
 publishing_long all (x ∷ xs) = let rest = publishing_long all xs in omega (arith, rest)
 
+-- all instructions of an activation
+pub activity_long : (p : Plan) (r : Runnable) → length (fetched_by r) + 2 * length (published_by r) ≤ length (activity_code p r)
+activity_long p r =
+    let fetching = fetching_code (fetched_by r) (fetched_by r) in
+    let program = code_of_body r 0 r.program.body in
+    let publishing = publishing_code (published_by r) (published_by r) in
+    let return = returning_code (served p.servers r.server) in
+    omega (
+      arith,
+      fetching_long (fetched_by r) (fetched_by r),
+      publishing_long (published_by r) (published_by r),
+      length-append fetching (program ++ (publishing ++ (return ++ ending_code))),
+      length-append program (publishing ++ (return ++ ending_code)),
+      length-append publishing (return ++ ending_code),
+    )
+
 -- ---- an activity, by the elements that it fetches and publishes
 
 module _ (p : Plan) (r : Runnable) (event : ℕ) where

@@ -1,3 +1,6 @@
+pub mod Few
+pub mod Idle
+pub mod OfSound
 pub mod Bounding
 pub mod Slots
 pub mod Agreeing

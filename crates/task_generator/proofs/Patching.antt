@@ -1,7 +1,7 @@
 -- Instructions that are written after those that they pass over.
 use Rattle.std.proofs.Common.{◌≡◌, ℕ, ◌+◌, ◌-◌, List, [], ◌∷◌, ◌++◌, length, map, set, sym, ap, ◌∙◌, arith, append_assoc, length-append}
 use Rattle.std.proofs.Math.Seq.{set-append_seam}
-use Rattle.std.proofs.lemmas.List.{map-set}
+use Rattle.std.proofs.lemmas.List.{map-set, length-map}
 use Rattle.task_machine.specs.declared.instr.Instr.{Instr}
 use Rattle.task_machine.specs.Instructions.{Instruction, instruction_of, skip, begin_loop, end_loop}
 use Rattle.task_generator.specs.Code.{choosing_code, looping_code}
@@ -70,3 +70,23 @@ loop_patched whole base body x begin counter times past back is at_begin counted
     ∙ set-append_seam base x (body ++ last ∷ []) begins
     ∙ ap (λ k. base ++ begin_loop counter times k ∷ (body ++ last ∷ [])) lower
     ∙ ap (λ k. base ++ begin_loop counter times (length body + 1) ∷ (body ++ end_loop counter k ∷ [])) inner
+
+-- from a held place to the end
+pub far_of : (old mid new : List Instr) (x : Instruction) (more : List Instruction) (at : ℕ) → at ≡ length old → map instruction_of mid ≡ map instruction_of old ++ x ∷ [] → map instruction_of new ≡ map instruction_of mid ++ more
+    → length new - at ≡ 1 + length more
+far_of old mid new x more at is_at held is = omega (
+  arith,
+  is_at,
+  length-map old instruction_of,
+  length-map mid instruction_of,
+  length-map new instruction_of,
+  ap length held,
+  ap length is,
+  length-append (map instruction_of old) (x ∷ []),
+  length-append (map instruction_of mid) more,
+)
+
+-- from a held place to the next one that is held
+pub near_of : (old mid new : List Instr) (x : Instruction) (more : List Instruction) (at next : ℕ) → at ≡ length old → next ≡ length new → map instruction_of mid ≡ map instruction_of old ++ x ∷ []
+    → map instruction_of new ≡ map instruction_of mid ++ more → next - at ≡ 1 + length more
+near_of old mid new x more at next is_at is_next held is = ap (λ n. n - at) is_next ∙ far_of old mid new x more at is_at held is

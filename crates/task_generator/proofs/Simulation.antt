@@ -1,5 +1,5 @@
 -- The body of a program does what the program does: by recursion on the statements.
-use Rattle.std.proofs.Common.{◌≡◌, ℕ, ◌+◌, ◌≤◌, pos, List, [], ◌∷◌, ◌++◌, length, Some, refl, subst, arith, length-append}
+use Rattle.std.proofs.Common.{◌≡◌, ℕ, ◌+◌, ◌≤◌, pos, List, [], ◌∷◌, ◌++◌, ◌*◌, length, Bool, true, false, if◌then◌else◌, Some, refl, sym, subst, arith, length-append}
 use Rattle.std.specs.Prelude.{slice_get}
 use Rattle.std.specs.Ordering.{int_eq}
 use Rattle.runnable_lang.specs.declared.program.AccessKind.TheVariants as kind
@@ -14,8 +14,10 @@ use Rattle.task_machine.specs.declared.instr.Taken.TheVariants as taken
 use Rattle.task_machine.specs.Store.{Store}
 use Rattle.task_machine.specs.Instructions.{Instruction, skip, end_loop, call, change_of, passes_nothing}
 use Rattle.implicit_buffers.specs.Buffers.{fetched_by, published_by}
-use Rattle.task_generator.specs.Code.{given_over, code_of, code_of_body}
+use Rattle.task_generator.specs.Nothing.{does_nothing}
+use Rattle.task_generator.specs.Code.{given_over, looping_code, code_of, code_of_body}
 use Rattle.task_generator.specs.Bounds.{steps, steps_of_body, loops, loops_of_body}
+use Rattle.task_generator.proofs.Idle.{stmt_idle}
 use Rattle.task_generator.proofs.Agreeing.{Slots, store_in}
 use Rattle.task_generator.proofs.Following.{Keeps, Keeps-itself, Keeps-further, Fit, Follows, nothing_runs, with_more, ends_at, keeping, joined, assign_runs, load_runs, keep_runs, call_runs, ask_runs, choice_runs, loop_runs}
 
@@ -48,6 +50,27 @@ module _ (code : List Instruction) (event : ℕ) (r : Runnable) where
       → Follows code event F P (Keeps d cs) 1 a (a + 1) (store_in s c) cs ds (calling (w (store_in s c)) changes s ds)
   one_call d a s c cs ds w change changes same fit has = call_runs code event F P (Keeps d cs) a s c cs ds (λ event m. w m) change changes same fit has.0 (Keeps-itself d cs)
 
+  -- a loop: nothing where it does nothing, and else its turns
+  repeat_runs : (turns : ℕ) (body : BodyTree) (d a : ℕ) (s : State) (c : Slots) (cs : List ℕ) (ds : List Deed) (b : Bool) → does_nothing (repeats turns body) ≡ b → Fit code event F P s c
+      → let y = code_of_body r (d + 1) body in let is = if b then [] else looping_code d turns y in
+      HasAt code a is → d + (if b then 0 else 1 + loops_of_body body) ≤ length cs
+      → ((t : State) (e : Slots) (us : List ℕ) (es : List Deed) → Fit code event F P t e → HasAt code (a + 1) y → d + 1 + loops_of_body body ≤ length us
+      → Follows code event F P (Keeps (d + 1) us) (steps_of_body body) (a + 1) (a + 1 + length y) (store_in t e) us es (running_body r body t es))
+      → Follows code event F P (Keeps d cs) (if b then 0 else 1 + turns * (steps_of_body body + 1)) a (a + length is) (store_in s c) cs ds (running r (repeats turns body) s ds)
+  repeat_runs turns body d a s c cs ds true nothing fit has room inner =
+      let end : a ≡ a + 0 = omega arith in
+      subst (Follows code event F P (Keeps d cs) 0 a (a + 0) (store_in s c) cs ds) (sym (stmt_idle r (repeats turns body) nothing s ds))
+      (ends_at code event F P (Keeps d cs) 0 a a (a + 0) (store_in s c) cs ds (Go s ds) end (nothing_runs code event F P (Keeps d cs) a s c cs ds fit (Keeps-itself d cs)))
+  repeat_runs turns body d a s c cs ds false does fit has room inner =
+      let y = code_of_body r (d + 1) body in
+      let last = end_loop d (length y) ∷ [] in
+      let behind = has_back code (a + 1) y last has.1 in
+      let end : a + 1 + length y + 1 ≡ a + length (looping_code d turns y) = omega (arith, length-append y last) in
+      ends_at code event F P (Keeps d cs) (1 + turns * (steps_of_body body + 1)) a _ _ (store_in s c) cs ds (times turns (running_body r body) s ds) end
+      (loop_runs code event F P d (loops_of_body body) (steps_of_body body) a (length y) turns (running_body r body) s c cs ds
+      (λ t e us es fits long. inner t e us es fits (has_front code (a + 1) y last has.1) long)
+      has.0 behind.0 fit (omega arith))
+
   mutual
     stmt_runs : (st : StmtTree) (d a : ℕ) (s : State) (c : Slots) (cs : List ℕ) (ds : List Deed) → Fit code event F P s c → HasAt code a (code_of r d st) → d + loops st ≤ length cs
         → Follows code event F P (Keeps d cs) (steps st) a (a + length (code_of r d st)) (store_in s c) cs ds (running r st s ds)
@@ -63,14 +86,8 @@ module _ (code : List Instruction) (event : ℕ) (r : Runnable) where
         (body_runs first d (a + 1) s c cs ds fit (has_front code (a + 1) x (skip (length y) ∷ y) has.1) (omega arith))
         (body_runs second d (a + 1 + length x + 1) s c cs ds fit behind.1 (omega arith)))
     stmt_runs (repeats turns body) d a s c cs ds fit has room =
-        let y = code_of_body r (d + 1) body in
-        let last = end_loop d (length y) ∷ [] in
-        let behind = has_back code (a + 1) y last has.1 in
-        let end : a + 1 + length y + 1 ≡ a + length (code_of r d (repeats turns body)) = omega (arith, length-append y last) in
-        ends_at code event F P (Keeps d cs) (steps (repeats turns body)) a _ _ (store_in s c) cs ds (times turns (running_body r body) s ds) end
-        (loop_runs code event F P d (loops_of_body body) (steps_of_body body) a (length y) turns (running_body r body) s c cs ds
-        (λ t e us es fits long. body_runs body (d + 1) (a + 1) t e us es fits (has_front code (a + 1) y last has.1) long)
-        has.0 behind.0 fit (omega arith))
+        repeat_runs turns body d a s c cs ds (does_nothing (repeats turns body)) refl fit has room
+        (λ t e us es fits within long. body_runs body (d + 1) (a + 1) t e us es fits within long)
     stmt_runs (in_area x body) d a s c cs ds fit has room =
         let t = (access r kind.Enter 0 x).target in
         let y = code_of_body r d body in

@@ -1,8 +1,8 @@
 -- The trees that statements are.
 use Rattle.std.proofs.Common.{◌≡◌, ℕ, rules, Vec, Global}
 use Rattle.runnable_lang.specs.declared.stmt.Expr.{Expr}
-use Rattle.runnable_lang.specs.declared.stmt.Stmt.{Stmt, If, Write, Send, Call, ACall, the_lemmas}
-use Rattle.runnable_lang.specs.Trees.{expr_tree, exprs, stmt_tree, body_tree, chooses, writes, sends, calls, calls_and_goes_on}
+use Rattle.runnable_lang.specs.declared.stmt.Stmt.{Stmt, If, Area, Write, Send, Call, ACall, the_lemmas}
+use Rattle.runnable_lang.specs.Trees.{expr_tree, exprs, stmt_tree, body_tree, chooses, in_area, writes, sends, calls, calls_and_goes_on}
 
 pub tree_of_if : (e : Expr) (one two : Vec Stmt Global) → stmt_tree (If e one two) ≡ chooses (expr_tree e) (body_tree one.items) (body_tree two.items)
 tree_of_if e one two = search (rules, the_lemmas)
@@ -18,3 +18,6 @@ tree_of_call port item values vars status = search (rules, the_lemmas)
 
 pub tree_of_acall : (port item : ℕ) (values : Vec Expr Global) (status : ℕ) → stmt_tree (ACall port item values status) ≡ calls_and_goes_on port item (exprs values.items) status
 tree_of_acall port item values status = search (rules, the_lemmas)
+
+pub tree_of_area : (x : ℕ) (body : Vec Stmt Global) → stmt_tree (Area x body) ≡ in_area x (body_tree body.items)
+tree_of_area x body = search (rules, the_lemmas)

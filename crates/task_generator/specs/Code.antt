@@ -1,5 +1,5 @@
 -- The instructions of a program: those of each statement, one after the other.
-use Rattle.std.specs.Prelude.{ℕ, ◌+◌, ℤ, pos, List, [], ◌∷◌, ◌++◌, map, length, get_or, Option, Some, None}
+use Rattle.std.specs.Prelude.{ℕ, ◌+◌, ℤ, pos, List, [], ◌∷◌, ◌++◌, map, length, get_or, if◌then◌else◌, Option, Some, None}
 use Rattle.rte_value.specs.Arithmetic.{clamped_each}
 use Rattle.runnable_lang.specs.declared.program.AccessKind.TheVariants as kind
 use Rattle.runnable_lang.specs.Trees.{ExprTree, StmtTree, sets, chooses, repeats, in_area, writes, reads, invalidates, asks_updated, sends, receives, writes_late, reads_early, writes_variable, reads_variable, writes_variable_late, reads_variable_early, calls, calls_and_goes_on, takes_result, switches, asks_mode, BodyTree, done, next}
@@ -15,6 +15,7 @@ use Rattle.task_machine.specs.Store.{Store, written_in, words_or_none}
 use Rattle.task_machine.specs.Instructions.{Instruction, assign, load, keep, unless, unwritten, skip, begin_loop, end_loop, call, change_of, passes_of}
 use Rattle.implicit_buffers.specs.Buffers.{fetched_by, published_by}
 use Rattle.task_generator.specs.Slots.{slot_of}
+use Rattle.task_generator.specs.Nothing.{does_nothing}
 use Rattle.task_generator.specs.Servers.{served}
 
 -- one call, and what is taken of its answer
@@ -37,12 +38,12 @@ looping_code depth turns body = begin_loop depth turns (length body + 1) ∷ (bo
 abbrev pub hearing_code : (point : ℕ) → (Store → List ℤ) → List ℕ → (status : ℕ) → List Instruction
 hearing_code q ws vs status = call (λ event m. to_ask q (ws m)) (change_of (taken.Refusal status)) (passes_of (taken.Refusal status)) ∷ calling_code (λ m. to_hear q) (taken.Words vs status)
 
--- the instructions of a statement with so many loops around it. Implicit access works on slots
+-- the instructions of a statement with so many loops around it. Implicit access works on slots, and a loop that does nothing needs none
 abbrev mutual
   pub code_of : Runnable → (depth : ℕ) → StmtTree → List Instruction
   code_of r n (sets v e) = assign v e ∷ []
   code_of r n (chooses c first second) = let code = code_of_body r n first in choosing_code (unless c (length code + 1)) code (code_of_body r n second)
-  code_of r n (repeats turns body) = looping_code n turns (code_of_body r (n + 1) body)
+  code_of r n (repeats turns body) = if does_nothing (repeats turns body) then [] else looping_code n turns (code_of_body r (n + 1) body)
   code_of r n (in_area x body) = let a = access r kind.Enter 0 x in
       calling_code (λ m. to_enter a.target) taken.Nothing ++ (code_of_body r n body ++ calling_code (λ m. to_leave a.target) taken.Nothing)
   code_of r n (writes port item es status) = let a = access r kind.Write port item in calling_code (λ m. to_write a.target (given_over a es m)) (taken.Zero status)

@@ -1,5 +1,7 @@
 pub mod Slots
+pub mod Nothing
 pub mod Servers
+pub mod Bounded
 pub mod Code
 pub mod Calls
 pub mod Bounds

@@ -8,6 +8,7 @@ ghost use Rattle.bus_semantics.specs.Accesses.{access_of};
 ghost use Rattle.implicit_buffers.specs.Buffers.{fetched_by, published_by};
 ghost use Rattle.task_generator.specs.Found.{access_in, AreFound};
 ghost use Rattle.task_generator.specs.Slots.{slot_of};
+ghost use Rattle.task_generator.specs.Bounded.{GivesFewWords};
 
 use crate::Memory;
 use bus_semantics::{Access, RunnablePlan};
@@ -81,6 +82,7 @@ pub struct Accesses<'p> {
     pub published: &'p [u32],
     found: IndexMap<Key, Access<'p>>,
     ghost all: { AreFound (runnable_of runnable.now) found },
+    pub ghost few: { GivesFewWords (runnable_of runnable.now) },
     pub ghost fetches: { fetched.now ≡ fetched_by (runnable_of runnable.now) },
     pub ghost publishes: { published.now ≡ published_by (runnable_of runnable.now) },
 }
@@ -95,6 +97,7 @@ impl<'p> Accesses<'p> {
     ) -> Result<Accesses<'p>, Memory>
         requires fetched { fetched.now ≡ fetched_by (runnable_of runnable.now) }
         requires published { published.now ≡ published_by (runnable_of runnable.now) }
+        requires few { GivesFewWords (runnable_of runnable.now) }
         ensures { IfOk result (λ accesses. accesses.runnable.now ≡ runnable.now) }
     {
         let found = found_of(alloc, runnable)?;

@@ -1,11 +1,11 @@
 //! What stands around a program: the fetches before it, and the publications and the return behind it.
 
-ghost use Rattle.std.specs.Prelude.{◌≡◌, ◌++◌, ◌∷◌, [], OnOk, IfOk, map};
+ghost use Rattle.std.specs.Prelude.{◌≡◌, ◌≤◌, ◌++◌, ◌∷◌, [], length, OnOk, IfOk, map};
 ghost use Rattle.std.specs.Option.{option_copied};
 ghost use Rattle.bus_semantics.specs.Plan.{runnable_of};
 ghost use Rattle.implicit_buffers.specs.Buffers.{fetched_by, published_by};
 ghost use Rattle.task_machine.specs.Instructions.{instruction_of};
-ghost use Rattle.task_generator.specs.Servers.{served, in_places};
+ghost use Rattle.task_generator.specs.Servers.{served, arguments_in, in_places};
 ghost use Rattle.task_generator.specs.Code.{fetching_code, publishing_code, returning_code};
 
 use crate::Memory;
@@ -13,7 +13,7 @@ use crate::accesses::Accesses;
 use crate::code::{put, put_call};
 use bus_semantics::{ArgPlan, ServerPlan};
 use rte_text::Seq;
-use std::alloc::{AllocError, Global};
+use std::alloc::Global;
 use task_machine::{Instr, Request, Returned, Taken};
 
 /// The server of this number.
@@ -26,17 +26,15 @@ pub fn served(servers: &[ServerPlan], server: Option<u32>) -> Option<&ServerPlan
     }
 }
 
-/// The variables of the `in` arguments, in order.
+/// The variables of the `in` arguments, of which there are at most 16, in order.
 pub fn in_places(alloc: Global, arguments: &[ArgPlan]) -> Result<Vec<u32>, Memory>
+    requires few { length arguments.now ≤ 16 }
     ensures { IfOk result (λ places. places.items ≡ in_places 0 arguments.now) }
 {
     let mut places = Vec::new(alloc);
     for (place, argument) in arguments.iter().enumerate() {
         if !argument.out {
-            match u32::try_from(place) {
-                Ok(place) => places.push(place)?,
-                Err(_) => return Err(AllocError),
-            }
+            places.push(place as u32)?;
         }
     }
     Ok(places)
@@ -73,12 +71,13 @@ pub fn put_publications(code: &mut Vec<Instr>, accesses: &Accesses<'_>) -> Resul
     Ok(())
 }
 
-/// The return of a server. More than 16 arguments, which no sound plan has, count as no memory.
+/// The return of a server, which has at most 16 arguments.
 pub fn put_return(
     alloc: Global,
     code: &mut Vec<Instr>,
     server: Option<&ServerPlan>,
 ) -> Result<(), Memory>
+    requires few { length (arguments_in (option_copied server)) ≤ 16 }
     ensures { OnOk result (map instruction_of code.new.items ≡ map instruction_of code.old.items ++ returning_code (option_copied server.entry)) }
 {
     let Some(server) = server else {
@@ -88,6 +87,6 @@ pub fn put_return(
     let arguments = Vec::from_slice(alloc, server.arguments.items())?;
     match Returned::new(Seq::of(errors), arguments) {
         Some(returned) => put_call(code, Request::Return(returned), Taken::Nothing),
-        None => Err(AllocError),
+        None => unreachable!(),
     }
 }

@@ -1,6 +1,6 @@
 //! The instructions of statements that hold no statements.
 
-ghost use Rattle.std.specs.Prelude.{◌≡◌, ◌++◌, ◌∷◌, [], IfOk, OnOk, map};
+ghost use Rattle.std.specs.Prelude.{◌≡◌, ◌≤◌, ◌++◌, ◌∷◌, [], length, true, IfOk, OnOk, map};
 ghost use Rattle.runnable_lang.specs.Trees.{exprs, stmt_tree, reads_variable, sends, calls, switches};
 ghost use Rattle.bus_semantics.specs.Plan.{runnable_of};
 ghost use Rattle.bus_semantics.specs.Wanted.{to_write, to_ask};
@@ -9,6 +9,7 @@ ghost use Rattle.task_machine.specs.declared.instr.Taken.TheVariants as taken;
 ghost use Rattle.task_machine.specs.Store.{Store};
 ghost use Rattle.task_machine.specs.Words.{words_given};
 ghost use Rattle.task_machine.specs.Instructions.{instruction_of, call, requested, change_of, passes_of};
+ghost use Rattle.task_generator.specs.Bounded.{gives};
 ghost use Rattle.task_generator.specs.Code.{given_over, code_of};
 ghost use Rattle.task_generator.specs.Calls.{bus_call_code, other_call_code};
 
@@ -18,7 +19,6 @@ use crate::copies::copy_numbers;
 use crate::generator::Generator;
 use program_copy::copy_expr;
 use runnable_lang::{AccessKind, Expr, Stmt};
-use std::alloc::AllocError;
 use task_machine::{Given, GivenWord, Instr, Request, Taken};
 
 impl Generator<'_, '_> {
@@ -37,7 +37,8 @@ impl Generator<'_, '_> {
         item: u32,
         values: &[Expr],
     ) -> Result<Vec<GivenWord>, Memory>
-        ensures { IfOk result (λ words. (m : Store) → words_given m.vars words.items ≡ given_over (access (runnable_of self.now.accesses.now.runnable.now) kind port item) (exprs values.now) m) }
+        ensures few { IfOk result (λ words. length words.items ≤ length (access (runnable_of self.now.accesses.now.runnable.now) kind port item).ins) }
+        ensures words { IfOk result (λ words. (m : Store) → words_given m.vars words.items ≡ given_over (access (runnable_of self.now.accesses.now.runnable.now) kind port item) (exprs values.now) m) }
     {
         let access = self.accesses.find(kind, port, item);
         let mut words = Vec::new(self.alloc);
@@ -51,7 +52,7 @@ impl Generator<'_, '_> {
         Ok(words)
     }
 
-    /// The words that a statement gives. More than 16, which no sound plan has, count as no memory.
+    /// The words that a statement gives, at most 16.
     pub fn given(
         &self,
         kind: AccessKind,
@@ -59,12 +60,13 @@ impl Generator<'_, '_> {
         item: u32,
         values: &[Expr],
     ) -> Result<Given, Memory>
+        requires gives { gives kind ≡ true }
         ensures { IfOk result (λ g. (m : Store) → words_given m.vars g.words.items ≡ given_over (access (runnable_of self.now.accesses.now.runnable.now) kind port item) (exprs values.now) m) }
     {
         let words = self.given_words(kind, port, item, values)?;
         match Given::new(words) {
             Some(given) => Ok(given),
-            None => Err(AllocError),
+            None => unreachable!(),
         }
     }
 
@@ -78,6 +80,7 @@ impl Generator<'_, '_> {
         values: &[Expr],
         taken: Taken,
     ) -> Result<(), Memory>
+        requires gives { gives kind ≡ true }
         ensures { OnOk result (let a = access (runnable_of self.now.accesses.now.runnable.now) kind port item in
             map instruction_of code.new.items ≡ map instruction_of code.old.items ++ call (λ event m. to_write a.target (given_over a (exprs values.now) m)) (change_of taken) (passes_of taken) ∷ []) }
     {
@@ -112,6 +115,7 @@ impl Generator<'_, '_> {
         values: &[Expr],
         taken: Taken,
     ) -> Result<(), Memory>
+        requires gives { gives kind ≡ true }
         ensures { OnOk result (let a = access (runnable_of self.now.accesses.now.runnable.now) kind port item in
             map instruction_of code.new.items ≡ map instruction_of code.old.items ++ call (λ event m. to_ask a.target (given_over a (exprs values.now) m)) (change_of taken) (passes_of taken) ∷ []) }
     {

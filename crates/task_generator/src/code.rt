@@ -1,6 +1,6 @@
 //! The instructions of a body while it is made.
 
-ghost use Rattle.std.specs.Prelude.{◌≡◌, ◌+◌, ◌-◌, List, ◌++◌, ◌∷◌, [], IfOk, OnOk, map, set, length};
+ghost use Rattle.std.specs.Prelude.{◌≡◌, ◌<◌, ◌+◌, ◌-◌, List, ◌++◌, ◌∷◌, [], IfOk, OnOk, map, set, length};
 ghost use Rattle.runnable_lang.specs.Trees.{expr_tree};
 ghost use Rattle.task_machine.specs.Instructions.{Instruction, instruction_of, unless, skip, call, requested, change_of, passes_of};
 ghost use Rattle.task_generator.specs.Code.{choosing_code, looping_code};
@@ -8,7 +8,7 @@ ghost use Rattle.task_generator.specs.Code.{choosing_code, looping_code};
 use crate::Memory;
 use program_copy::copy_expr;
 use runnable_lang::Expr;
-use std::alloc::{AllocError, Global};
+use std::alloc::Global;
 use task_machine::{Instr, Request, Taken};
 
 /// One more instruction.
@@ -47,14 +47,12 @@ fn replace(code: &mut Vec<Instr>, at: usize, instr: Instr)
     }
 }
 
-/// How many instructions stand from one place to another. A number beyond 32 bits counts as no memory.
-fn distance(from: usize, to: usize) -> Result<u32, Memory>
-    ensures { IfOk result (λ n. n ≡ to - from) }
+/// How many instructions stand from one place to another.
+fn distance(from: usize, to: usize) -> u32
+    requires near { to - from < 4294967296 }
+    ensures { result ≡ to - from }
 {
-    match u32::try_from(to.saturating_sub(from)) {
-        Ok(distance) => Ok(distance),
-        Err(_) => Err(AllocError),
-    }
+    to.saturating_sub(from) as u32
 }
 
 /// Writes the jumps of a choice, whose test and whose jump past the second side have held places.
@@ -65,12 +63,14 @@ pub fn end_choice(
     test: usize,
     jump: usize,
 ) -> Result<(), Memory>
+    requires first { jump - test < 4294967296 }
+    requires second { length code.old.items - jump < 4294967296 }
     ensures { (base first second : List Instruction) → map instruction_of code.old.items ≡ (((base ++ skip 0 ∷ []) ++ first) ++ skip 0 ∷ []) ++ second → test ≡ length base → jump ≡ length ((base ++ skip 0 ∷ []) ++ first)
         → OnOk result (map instruction_of code.new.items ≡ base ++ choosing_code (unless (expr_tree cond.now) (length first + 1)) first second) }
 {
     let cond = copy_expr(alloc, cond)?;
-    let first = distance(test, jump)?;
-    let second = distance(jump, code.len())?;
+    let first = distance(test, jump);
+    let second = distance(jump, code.len());
     replace(code, test, Instr::Unless { cond, past: first });
     replace(
         code,
@@ -84,10 +84,11 @@ pub fn end_choice(
 
 /// Ends a loop, whose beginning has held a place.
 pub fn end_loop(code: &mut Vec<Instr>, begin: usize, counter: u32, times: u32) -> Result<(), Memory>
+    requires near { length code.old.items - begin < 4294967296 }
     ensures { (base body : List Instruction) → map instruction_of code.old.items ≡ (base ++ skip 0 ∷ []) ++ body → begin ≡ length base
         → OnOk result (map instruction_of code.new.items ≡ base ++ looping_code counter times body) }
 {
-    let past = distance(begin, code.len())?;
+    let past = distance(begin, code.len());
     put(
         code,
         Instr::Again {

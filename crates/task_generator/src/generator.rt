@@ -1,17 +1,20 @@
 //! The instructions of each statement.
 
-ghost use Rattle.std.specs.Prelude.{◌≡◌, ◌++◌, OnOk, map};
+ghost use Rattle.std.specs.Prelude.{◌≡◌, ◌≤◌, ◌+◌, ◌++◌, OnOk, map};
 ghost use Rattle.runnable_lang.specs.Trees.{stmt_tree, body_tree, repeats, in_area};
+ghost use Rattle.runnable_lang.specs.Costs.{stmt_cost, body_cost};
 ghost use Rattle.bus_semantics.specs.Plan.{runnable_of};
 ghost use Rattle.task_machine.specs.Instructions.{instruction_of};
+ghost use Rattle.task_generator.specs.Bounds.{loops, loops_of_body};
 ghost use Rattle.task_generator.specs.Code.{code_of, code_of_body};
 
 use crate::Memory;
 use crate::accesses::Accesses;
 use crate::code::{end_choice, end_loop, hold, put, put_call};
+use crate::nothing::loop_does_nothing;
 use program_copy::copy_expr;
 use runnable_lang::{AccessKind, Stmt};
-use std::alloc::{AllocError, Global};
+use std::alloc::Global;
 use task_machine::{Instr, Request, Taken};
 
 /// What makes the instructions of a runnable.
@@ -22,7 +25,7 @@ pub struct Generator<'a, 'p> {
 }
 
 impl Generator<'_, '_> {
-    /// A loop: the counter is set, the body runs, and the counter is lowered.
+    /// A loop: the counter is set, the body runs, and the counter is lowered. One that does nothing needs no instructions.
     #[cycle(generate)]
     fn repeat(
         &self,
@@ -31,13 +34,15 @@ impl Generator<'_, '_> {
         times: u32,
         body: &[Stmt],
     ) -> Result<(), Memory>
+        requires cost { stmt_cost (repeats times (body_tree body.now)) ≤ 100000 }
+        requires depth { depth + loops (repeats times (body_tree body.now)) ≤ 100000 }
         ensures { OnOk result (map instruction_of code.new.items ≡ map instruction_of code.old.items ++ code_of (runnable_of self.now.accesses.now.runnable.now) depth (repeats times (body_tree body.now))) }
     {
-        let Some(inner) = depth.checked_add(1) else {
-            return Err(AllocError);
-        };
+        if loop_does_nothing(times, body) {
+            return Ok(());
+        }
         let begin = hold(code)?;
-        self.body(code, inner, body)?;
+        self.body(code, depth + 1, body)?;
         end_loop(code, begin, depth, times)?;
         Ok(())
     }
@@ -51,6 +56,8 @@ impl Generator<'_, '_> {
         area: u32,
         body: &[Stmt],
     ) -> Result<(), Memory>
+        requires cost { stmt_cost (in_area area (body_tree body.now)) ≤ 100000 }
+        requires depth { depth + loops (in_area area (body_tree body.now)) ≤ 100000 }
         ensures { OnOk result (map instruction_of code.new.items ≡ map instruction_of code.old.items ++ code_of (runnable_of self.now.accesses.now.runnable.now) depth (in_area area (body_tree body.now))) }
     {
         let area = self.target(AccessKind::Enter, 0, area);
@@ -63,6 +70,8 @@ impl Generator<'_, '_> {
     /// The instructions of a statement with so many loops around it.
     #[cycle(generate)]
     fn statement(&self, code: &mut Vec<Instr>, depth: u32, stmt: &Stmt) -> Result<(), Memory>
+        requires cost { stmt_cost (stmt_tree stmt.now) ≤ 100000 }
+        requires depth { depth + loops (stmt_tree stmt.now) ≤ 100000 }
         ensures { OnOk result (map instruction_of code.new.items ≡ map instruction_of code.old.items ++ code_of (runnable_of self.now.accesses.now.runnable.now) depth (stmt_tree stmt.now)) }
     {
         match stmt {
@@ -87,6 +96,8 @@ impl Generator<'_, '_> {
     /// The instructions of statements with so many loops around them, one after the other.
     #[cycle(generate)]
     pub fn body(&self, code: &mut Vec<Instr>, depth: u32, body: &[Stmt]) -> Result<(), Memory>
+        requires cost { body_cost (body_tree body.now) ≤ 100000 }
+        requires depth { depth + loops_of_body (body_tree body.now) ≤ 100000 }
         ensures { OnOk result (map instruction_of code.new.items ≡ map instruction_of code.old.items ++ code_of_body (runnable_of self.now.accesses.now.runnable.now) depth (body_tree body.now)) }
     {
         for stmt in body {

@@ -1,12 +1,13 @@
 //! The instructions of statements that work on what was fetched, or on what is to be published.
 
-ghost use Rattle.std.specs.Prelude.{◌≡◌, ◌++◌, ◌∷◌, [], OnOk, map};
+ghost use Rattle.std.specs.Prelude.{◌≡◌, ◌++◌, ◌∷◌, [], true, OnOk, map};
 ghost use Rattle.runnable_lang.specs.Trees.{exprs, stmt_tree};
 ghost use Rattle.bus_semantics.specs.Plan.{runnable_of};
 ghost use Rattle.bus_semantics.specs.State.{access};
 ghost use Rattle.task_machine.specs.Instructions.{instruction_of, keep, load};
 ghost use Rattle.implicit_buffers.specs.Buffers.{fetched_by, published_by};
 ghost use Rattle.task_generator.specs.Slots.{slot_of};
+ghost use Rattle.task_generator.specs.Bounded.{gives};
 ghost use Rattle.task_generator.specs.Code.{given_over};
 ghost use Rattle.task_generator.specs.Calls.{implicit_code};
 
@@ -27,6 +28,7 @@ impl Generator<'_, '_> {
         item: u32,
         values: &[Expr],
     ) -> Result<(), Memory>
+        requires gives { gives kind ≡ true }
         ensures { OnOk result (let r = runnable_of self.now.accesses.now.runnable.now in let a = access r kind port item in
             map instruction_of code.new.items ≡ map instruction_of code.old.items ++ keep (slot_of a.target (published_by r)) (given_over a (exprs values.now)) ∷ []) }
     {

@@ -9,8 +9,11 @@ mod code;
 mod copies;
 mod generator;
 mod implicit;
+mod laws;
+mod nothing;
 mod set;
 
+pub use laws::costs_bound_bodies;
 pub use set::generate;
 
 /// There was no memory for what a call makes.

@@ -1,11 +1,14 @@
 //! The bodies of all runnables.
 
-ghost use Rattle.std.specs.Prelude.{◌≡◌, IfOk, IfSome, [], map, get_or, is_some};
+ghost use Rattle.std.specs.Prelude.{◌≡◌, ◌≤◌, ◌+◌, ◌*◌, ℕ, Some, IfOk, [], length, map, slice_get, get_or, is_some};
 ghost use Rattle.bus_semantics.specs.declared.plan.EventPlan.{EventPlan};
-ghost use Rattle.bus_semantics.specs.Plan.{plan_of, runnable_of};
+ghost use Rattle.runnable_lang.specs.Costs.{body_cost};
+ghost use Rattle.bus_semantics.specs.Plan.{Runnable, plan_of, runnable_of};
+ghost use Rattle.bus_semantics.specs.Sound.{IsSound};
 ghost use Rattle.implicit_buffers.specs.Buffers.{fetched_by, published_by};
 ghost use Rattle.task_machine.specs.Instructions.{instruction_of};
 ghost use Rattle.task_generator.specs.Servers.{served, arguments_in};
+ghost use Rattle.task_generator.specs.Bounded.{IsBounded};
 ghost use Rattle.task_generator.specs.Shapes.{shape_of_body, shape_of, budget_of};
 ghost use Rattle.task_generator.specs.Code.{activity_code};
 ghost use Rattle.task_generator.specs.Promise.{AsksAsPlanned};
@@ -19,7 +22,7 @@ use crate::generator::Generator;
 use bus_semantics::{ArgPlan, BusPlan, EventPlan, Mapping, RunnablePlan};
 use implicit_buffers::{BufferPlan, plan_buffers};
 use rte_text::Seq;
-use std::alloc::{AllocError, Global};
+use std::alloc::Global;
 use task_machine::{Body, Instr, Request, Taken, TaskSet};
 
 /// The instructions of an activation of a runnable, which fetches and publishes these elements.
@@ -32,6 +35,7 @@ fn code_of(
 ) -> Result<Vec<Instr>, Memory>
     requires fetched { fetched.now ≡ fetched_by (runnable_of runnable.now) }
     requires published { published.now ≡ published_by (runnable_of runnable.now) }
+    requires bounded { IsBounded (plan_of p.now) (runnable_of runnable.now) }
     ensures { IfOk result (λ code. map instruction_of code.items ≡ activity_code (plan_of p.now) (runnable_of runnable.now)) }
 {
     let mut code = Vec::new(alloc);
@@ -50,16 +54,16 @@ fn code_of(
 }
 
 /// The budget of an activation, whose runnable has so many elements to fetch and to publish.
-fn budget_of(runnable: &RunnablePlan, fetched: &[u32], published: &[u32]) -> Option<u64>
+fn budget_of(runnable: &RunnablePlan, fetched: &[u32], published: &[u32]) -> u64
     requires fetched { fetched.now ≡ fetched_by (runnable_of runnable.now) }
     requires published { published.now ≡ published_by (runnable_of runnable.now) }
-    ensures { IfSome result (λ n. n ≡ budget_of (runnable_of runnable.now)) }
+    requires cost { body_cost (runnable_of runnable.now).program.body ≤ 100000 }
+    requires few { length fetched.now + 2 * length published.now ≤ 9223372036854775808 }
+    ensures { result ≡ budget_of (runnable_of runnable.now) }
 {
-    let publications = (published.len() as u64).checked_mul(2)?;
-    steps_of_body(&runnable.program.body)?
-        .checked_add(fetched.len() as u64)?
-        .checked_add(publications)?
-        .checked_add(3)
+    let program = steps_of_body(&runnable.program.body);
+    let around = fetched.len() as u64 + 2 * published.len() as u64 + 3;
+    program + around
 }
 
 /// The arguments of the operation that a runnable serves, in declared order.
@@ -72,7 +76,7 @@ fn arguments_of<'p>(p: &'p BusPlan, runnable: &RunnablePlan) -> &'p [ArgPlan]
     }
 }
 
-/// The body of a runnable, which fetches and publishes these elements. A number beyond its bits counts as no memory.
+/// The body of a runnable, which fetches and publishes these elements.
 fn body_of(
     alloc: Global,
     p: &BusPlan,
@@ -82,26 +86,19 @@ fn body_of(
 ) -> Result<Body, Memory>
     requires fetched { fetched.now ≡ fetched_by (runnable_of runnable.now) }
     requires published { published.now ≡ published_by (runnable_of runnable.now) }
+    requires bounded { IsBounded (plan_of p.now) (runnable_of runnable.now) }
     ensures { IfOk result (λ b. shape_of_body b ≡ shape_of (plan_of p.now) (runnable_of runnable.now)) }
 {
-    let Some(counters) = loops_of_body(&runnable.program.body) else {
-        return Err(AllocError);
-    };
-    let Some(budget) = budget_of(runnable, fetched, published) else {
-        return Err(AllocError);
-    };
     let arguments = arguments_of(p, runnable);
-    let Ok(count) = u32::try_from(arguments.len()) else {
-        return Err(AllocError);
-    };
     let places = in_places(alloc, arguments)?;
     let code = code_of(alloc, p, runnable, fetched, published)?;
+    let budget = budget_of(runnable, fetched, published);
     Ok(Body {
-        vars: runnable.program.vars.max(count),
+        vars: runnable.program.vars.max(arguments.len() as u32),
         arguments: Seq::of(places),
         fetched: fetched.len(),
         written: published.len(),
-        counters,
+        counters: loops_of_body(&runnable.program.body),
         budget,
         code: Seq::of(code),
     })
@@ -122,6 +119,7 @@ fn elements_at(lists: &[Seq<u32>], place: usize) -> &[u32]
 fn bodies_of(alloc: Global, p: &BusPlan, buffers: &BufferPlan) -> Result<Vec<Body>, Memory>
     requires fetched { buffers.now.fetched ≡ map fetched_by (plan_of p.now).runnables }
     requires published { buffers.now.published ≡ map published_by (plan_of p.now).runnables }
+    requires bounded { (i : ℕ) (r : Runnable) → slice_get (plan_of p.now).runnables i ≡ Some r → IsBounded (plan_of p.now) r }
     ensures { IfOk result (λ bodies. map shape_of_body bodies.items ≡ map (shape_of (plan_of p.now)) (plan_of p.now).runnables) }
 {
     let mut bodies = Vec::new(alloc);
@@ -148,10 +146,10 @@ fn disabled_of(alloc: Global, events: &[EventPlan]) -> Result<Vec<bool>, Memory>
 /// Makes the bodies of the plan's runnables (SWS_RTE: runnable activation, implicit access, ModeDisablingDependency).
 ///
 /// An activation begun by any Start, and fed any answers, asks what the actor rule wants next, up to its End or an admission
-/// that was refused, and nothing after that. It is over exactly where the actor rule wants nothing. An error says that there
-/// was no memory. It comes too for a call that gives more than 16 words, for a server with more than 16 arguments, and if 32 bits
-/// do not hold a jump or 64 bits the budget of a body.
+/// that was refused, and nothing after that. It is over exactly where the actor rule wants nothing. The only error is that there
+/// is no memory.
 pub fn generate(alloc: Global, p: &BusPlan, _m: &Mapping) -> Result<TaskSet, Memory>
+    requires sound { IsSound (plan_of p.now) _m.now }
     ensures { IfOk result (λ t. AsksAsPlanned (plan_of p.now) t) }
 {
     let buffers = plan_buffers(alloc, p)?;

@@ -8,7 +8,7 @@ pub returns : goal.returns
 returns c base body is at_begin =
     let whole = map instruction_of c.args.code.now.items in
     let long : c.len.result ≡ length whole = c.len.ensures ∙ c.args.code.now.ok.0 ∙ sym (length-map c.args.code.now.items instruction_of) in
-    let past : c.in_ok-past.past ≡ length whole - c.args.begin = c.in_ok-past.ensures ∙ ap (λ k. k - c.args.begin) long in
+    let past : c.distance-past.result ≡ length whole - c.args.begin = c.distance-past.ensures ∙ ap (λ k. k - c.args.begin) long in
     c.replace.ensures.code
-    ∙ ap (λ l. set l c.args.begin (begin_loop c.args.counter c.args.times c.in_ok-past.past)) c.in_ok-put.ensures
-    ∙ loop_patched whole base body (skip 0) c.args.begin c.args.counter c.args.times c.in_ok-past.past c.saturating_sub.result is at_begin past c.saturating_sub.ensures
+    ∙ ap (λ l. set l c.args.begin (begin_loop c.args.counter c.args.times c.distance-past.result)) c.in_ok-put.ensures
+    ∙ loop_patched whole base body (skip 0) c.args.begin c.args.counter c.args.times c.distance-past.result c.saturating_sub.result is at_begin past c.saturating_sub.ensures

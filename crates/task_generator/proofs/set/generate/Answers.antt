@@ -4,7 +4,11 @@ use Rattle.bus_semantics.specs.declared.plan.EventPlan.{EventPlan}
 use Rattle.bus_semantics.specs.Plan.{plan_of}
 use Rattle.task_generator.specs.Shapes.{shape_of_body, shape_of}
 use Rattle.task_generator.proofs.Promising.{asks_as_planned}
+use Rattle.task_generator.proofs.OfSound.{bounded}
 use Rattle.task_generator.proofs.set.generate.Goals as goal
+
+pub bodies_of-requires-clause-bounded : goal.bodies_of-requires-clause-bounded
+bodies_of-requires-clause-bounded c = bounded (plan_of c.args.p.now) c.args._m.now c.requires.sound
 
 pub returns : goal.returns
 returns c =

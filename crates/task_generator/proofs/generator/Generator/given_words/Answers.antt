@@ -16,9 +16,9 @@ at_end vars (l ∷ limits) [] none = refl
 at_end vars (l ∷ limits) (v ∷ values) (inl none) = cc
 at_end vars (l ∷ limits) (v ∷ values) (inr none) = cc
 
-pub returns : goal.returns
-returns c s =
+pub returns-clause-words : goal.returns-clause-words
+returns-clause-words c s =
     let none = at_end s.vars c.loop-limits.limits-iterator.a.rest.now c.loop-limits.limits-iterator.b.rest.now
     (either_empty_from_Zip c.loop-limits.limits-iterator c.next.new.self c.next.result c.in-None.is c.next.ensures.steps) in
     let words = words_given s.vars c.loop-limits.words.items in
-    sym (append-nil words) ∙ ap (λ ws. words ++ ws) (sym none) ∙ c.loop-limits.invariant s
+    sym (append-nil words) ∙ ap (λ ws. words ++ ws) (sym none) ∙ c.loop-limits.invariant.given s

@@ -1,4 +1,4 @@
-use Rattle.std.proofs.Common.{◌≡◌, ◌++◌, map}
+use Rattle.std.proofs.Common.{◌≡◌, ◌≤◌, ◌+◌, ◌++◌, length, map}
 use Rattle.rte_value.specs.Arithmetic.{clamped_each}
 use Rattle.runnable_lang.specs.Trees.{exprs}
 use Rattle.runnable_lang.specs.Expressions.{worth}
@@ -10,6 +10,8 @@ use Rattle.task_generator.specs.Code.{given_over}
 use Rattle.task_generator.proofs.generator.Generator.given_words.Given as goal
 
 abbrev pub invariant-loop-limits : goal.invariant-loop-limits
-invariant-loop-limits l =
-    (m : Store) → words_given m.vars l.words.items ++ clamped_each l.limits-iterator.a.rest.now (map (worth m.vars) (exprs l.limits-iterator.b.rest.now))
-    ≡ given_over (access (runnable_of l.self.accesses.now.runnable.now) l.fn.kind l.port l.item) (exprs l.values) m
+invariant-loop-limits l = record {
+  few : length l.words.items + length l.limits-iterator.a.rest.now ≤ length (access (runnable_of l.self.accesses.now.runnable.now) l.fn.kind l.port l.item).ins;
+  given : (m : Store) → words_given m.vars l.words.items ++ clamped_each l.limits-iterator.a.rest.now (map (worth m.vars) (exprs l.limits-iterator.b.rest.now))
+      ≡ given_over (access (runnable_of l.self.accesses.now.runnable.now) l.fn.kind l.port l.item) (exprs l.values) m;
+}
