@@ -3,6 +3,7 @@ use Rattle.std.proofs.Common.{◌≡◌, ◌≤◌, ◌+◌, inl, inr, ℕ, Bool
 use Rattle.std.specs.Prelude.{is_none, position, nat_lt, option_map}
 use Rattle.std.specs.List.{slice_get}
 use Rattle.std.specs.Option.{option_map_or}
+use Rattle.std.proofs.Math.Bool.{and-false, and-true}
 use Rattle.std.proofs.lemmas.Bool.{cases_lt, eq-eqb, eqb-true, false≢true, ltb-true, lt-ltb}
 use Rattle.std.proofs.lemmas.List.{length-drop}
 use Rattle.std.proofs.lemmas.List.Folds.{list_all-map}
@@ -35,14 +36,6 @@ use Rattle.machine_objects.proofs.Picking.{every_picked, none_first, left_at}
 use Rattle.machine_objects.proofs.Moves.{stable_step}
 use Rattle.machine_objects.proofs.Past.{InOrder, machine_there, switch_code_is, past_admitted}
 use Rattle.machine_objects.proofs.Steps.{dependency_at_is}
-
-and_true : (b : Bool) → (b && true) ≡ b
-and_true true = refl
-and_true false = refl
-
-and_false : (b : Bool) → (b && false) ≡ false
-and_false true = refl
-and_false false = refl
 
 -- ---- switches and modes
 
@@ -140,12 +133,12 @@ module _ (p : Plan) (m : ℕ) (l : Past) where
   -- ---- phases
 
   made_owed : (t s : Step) (o : Option ℕ) → is_made s (machines.unless_owed o t) ≡ (same_step t s && is_none o)
-  made_owed t s None = sym (and_true (same_step t s))
-  made_owed t s (Some e) = sym (and_false (same_step t s))
+  made_owed t s None = sym (and-true (same_step t s))
+  made_owed t s (Some e) = sym (and-false (same_step t s))
 
   made_running : (s : Step) (o : Option ℕ) → is_made s (machines.unless_running o) ≡ (same_step step.Exit s && is_none o)
-  made_running s None = sym (and_true (same_step step.Exit s))
-  made_running s (Some d) = sym (and_false (same_step step.Exit s))
+  made_running s None = sym (and-true (same_step step.Exit s))
+  made_running s (Some d) = sym (and-false (same_step step.Exit s))
 
   made_begun : (s : Step) (o : Option ℕ) → first_unbegun m l ≡ o → is_made s (machines.begun o) ≡ phase_after p m l step.Stable s
   made_begun (step.Close mode) None first = ap (λ z. same_number z (Some mode)) (sym first)

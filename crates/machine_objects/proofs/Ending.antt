@@ -1,6 +1,7 @@
 -- What an end makes of a machine, and what it tells.
 use Rattle.std.proofs.Common.{◌≡◌, ◌<◌, ℕ, zero, suc, Bool, true, false, not, ◌&&◌, ◌==◌, if◌then◌else◌, refl, sym, ◌∙◌, ap, subst, arith, List, [], ◌∷◌, length, set, Option, Some, None}
 use Rattle.std.specs.List.{Contains, slice_get, slice_index_or}
+use Rattle.std.proofs.Math.Bool.{and-false}
 use Rattle.std.proofs.lemmas.Bool.{eq-eqb, eqb-true, false≢true}
 use Rattle.std.proofs.lemmas.Option.{same_Some, slice_get-get_or}
 use Rattle.mode_machine.specs.declared.owed.OwedEvent.{OwedEvent}
@@ -15,10 +16,6 @@ use Rattle.machine_objects.specs.Acting.{IsEnded}
 use Rattle.machine_objects.specs.Kept.{may_start_at}
 use Rattle.machine_objects.specs.Leading.{ended_at}
 use Rattle.machine_objects.proofs.Telling.{state}
-
-and_false : (b : Bool) → (b && false) ≡ false
-and_false true = refl
-and_false false = refl
 
 -- nothing is told
 none_among : {X : Type 0} (event : ℕ) → Contains [] event → X
@@ -55,7 +52,7 @@ module _ (events acks disabled woken : List ℕ) (k : machines.Kept) where
       where
         -- the event that ended could not start before
         was : owed.may_start (machines.owed_at i k) ≡ false
-        was = ap (λ b. (machines.owed_at i k).due && not b) (sym runs) ∙ and_false (machines.owed_at i k).due
+        was = ap (λ b. (machines.owed_at i k).due && not b) (sym runs) ∙ and-false (machines.owed_at i k).due
 
         told_if : (b : Bool) → due ≡ b → b ≡ true → Contains told e
         told_if true on always = subst (λ xs. Contains xs e) (sym (tells ∙ ap (λ b. if b then e ∷ [] else []) on)) (0, omega arith, refl)

@@ -3,6 +3,7 @@ use Rattle.std.proofs.Common.{◌≡◌, ℕ, suc, Bool, true, false, not, ◌&&
 use Rattle.std.specs.Prelude.{unwrap_or}
 use Rattle.std.specs.List.{list_any}
 use Rattle.std.specs.Option.{option_or}
+use Rattle.std.proofs.Math.Bool.{and-true, or_assoc}
 use Rattle.std.proofs.lemmas.Bool.{false≢true}
 use Rattle.rte_value.specs.declared.kinds.Step.{Step}
 use Rattle.rte_value.specs.declared.kinds.Step.TheVariants as step
@@ -196,21 +197,13 @@ module _ (p : Plan) (m : ℕ) (s : Step) (n : Noted) (l : Past) (phase : phase_o
       owed : Bool
       owed = owes s (settled_of p m l) (machines.next_after s (machine_after p m l)) (mode_event at)
 
-      or_both : (b follows first : Bool) → ((b || follows) || first) ≡ (b || (follows || first))
-      or_both true follows first = refl
-      or_both false follows first = refl
-
       due_is : switch_due p e m at (n ∷ l) ≡ (owed || switch_due p e m at l)
       due_is =
           (λ i. (not (no_start i) && ((is_phase (phase i) && owes_is at i) || follows_last (is_start_by e) (phase_owes p m at) l)) || (not (no_start i || list_any (is_start_by e) l) && owes_moment p m [] at))
-          ∙ or_both owed (follows_last (is_start_by e) (phase_owes p m at) l) (never_started e l && owes_moment p m [] at)
-
-      and_true : (b : Bool) → (b && true) ≡ b
-      and_true true = refl
-      and_true false = refl
+          ∙ or_assoc owed (follows_last (is_start_by e) (phase_owes p m at) l) (never_started e l && owes_moment p m [] at)
 
       left_is : (owes_moment p m (n ∷ l) at && not (is_done m e (n ∷ l))) ≡ owed
-      left_is = (λ i. owes_is at i && not (if is_phase (phase i) then false else if is_end_by e n then started_in_phase m e l else is_done m e l)) ∙ and_true owed
+      left_is = (λ i. owes_is at i && not (if is_phase (phase i) then false else if is_end_by e n then started_in_phase m e l else is_done m e l)) ∙ and-true owed
 
   pub acked_phase : (e : ℕ) → is_start_by e n ≡ false → acked_after m (n ∷ l) e ≡ ((machines.is_stable s && list_any (λ k. is_stable_phase (phase_of m k)) l) || acked_after m l e)
   acked_phase e no_start = λ i. not (no_start i) && ((is_stable i && list_any (λ k. is_stable_phase (phase_of m k)) l) || acked_after m l e)

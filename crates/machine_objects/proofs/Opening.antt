@@ -1,5 +1,6 @@
 -- What a machine keeps at first is what the definitions give from no entry.
 use Rattle.std.proofs.Common.{◌≡◌, ℕ, Bool, true, false, ◌&&◌, ◌||◌, refl, sym, ◌∙◌, ap, List, [], ◌∷◌, length, map, replicate}
+use Rattle.std.proofs.Math.Bool.{and-true, or-false}
 use Rattle.rte_value.specs.declared.kinds.Step.TheVariants as step
 use Rattle.bus_semantics.specs.Plan.{Plan, kind_of}
 use Rattle.bus_semantics.specs.Modes.{initial_of, waits_of}
@@ -12,18 +13,10 @@ use Rattle.machine_objects.specs.Kept.{opening}
 use Rattle.machine_objects.specs.Standing.{owed_after, acked_after, dependency_after, kept_after, Keeps}
 use Rattle.machine_objects.proofs.Moves.{owes_same}
 
-or_false : (b : Bool) → (b || false) ≡ b
-or_false true = refl
-or_false false = refl
-
-and_true : (b : Bool) → b ≡ (b && true)
-and_true true = refl
-and_true false = refl
-
 module _ (p : Plan) (m : ℕ) where
   -- the opening Entry owes the on-entry events of the initial mode
   first_owed : (e : ℕ) → owed_by step.Entry (initial_of p m) (initial_of p m) (never_owed (moment_at p e)) ≡ owed_after p m [] e
-  first_owed e = λ i. record { moment = moment_at p e; due = (or_false owed ∙ same) i; running = false; begun = false; left = (same ∙ and_true (stage_owes step.Entry (initial_of p m) (initial_of p m) (moment_in (kind_of p e)))) i }
+  first_owed e = λ i. record { moment = moment_at p e; due = (or-false owed ∙ same) i; running = false; begun = false; left = (same ∙ sym (and-true (stage_owes step.Entry (initial_of p m) (initial_of p m) (moment_in (kind_of p e))))) i }
     where
       owed : Bool
       owed = owes step.Entry (initial_of p m) (initial_of p m) (moment_at p e)
