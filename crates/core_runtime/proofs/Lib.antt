@@ -14,3 +14,4 @@ pub mod Seated
 pub mod Turned
 pub mod Later
 pub mod Rounded
+pub mod Known

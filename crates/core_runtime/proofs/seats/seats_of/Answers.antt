@@ -9,6 +9,8 @@ use Rattle.task_slots.specs.Slots.{events_of_slot}
 use Rattle.core_runtime.specs.Watching.{IsOfCores, tables_of}
 use Rattle.core_runtime.proofs.Places.{found_at}
 use Rattle.core_runtime.proofs.Seated.{adds_none, all_below, cores_on, cores_all}
+use Rattle.bus_semantics.specs.Plan.{plan_of}
+use Rattle.core_runtime.proofs.Known.{known_events}
 use Rattle.core_runtime.proofs.Watched.{mapped_found}
 use Rattle.core_runtime.proofs.seats.seats_of.Goals as goal
 
@@ -18,7 +20,7 @@ seat_core-requires c = λ i events found.
     let ready = c.requires.2 c.loop-number.number core (found_at c.args.cores.now c.loop-number.number core c.loop-number-test.true c.index-cores-number.is) in
     let at = mapped_found events_of_slot core.slots i events found in
     let count : length c.loop-number.seats.items ≡ length c.args.p.now.events = c.loop-number.invariant.count ∙ c.in_ok-seats.ensures.count ∙ ap length c.items.ensures in
-    subst (λ n. All (λ e. e < n) events) (sym count) (all_below events (length c.args.p.now.events) (subst (λ es. list_all (λ e. nat_lt e (length c.args.p.now.events)) es ≡ true) at.gives (ready.each i at.item at.is).mapped))
+    subst (λ n. All (λ e. e < n) events) (sym count) (all_below events (length c.args.p.now.events) (subst (λ es. list_all (λ e. nat_lt e (length c.args.p.now.events)) es ≡ true) at.gives (known_events (plan_of c.args.p.now) c.requires.1 at.item (ready.each i at.item at.is))))
 
 pub loop-number-init : goal.loop-number-init
 loop-number-init c = adds_none (λ s. s.core) (IsOfCores (tables_of c.args.cores.now)) c.in_ok-seats.seats.items

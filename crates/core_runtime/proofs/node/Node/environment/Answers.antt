@@ -13,7 +13,7 @@ use Rattle.core_runtime.proofs.node.Node.environment.Goals as goal
 pub object_of-requires : goal.object_of-requires
 object_of-requires c =
     let fit = subst (λ (n : NodeState). wish_fits (plan_of n.plan) Env (wanted_of c.args.wish.now) ≡ true) (sym c.self.view_is) c.requires.fits in
-    record { within = c.sound_plans_have_objects.ensures.touched (plan_of c.self.inside.plan) c.self.inside.mapping Env (wanted_of c.args.wish.now) c.self.invariant.0.sound.sound fit }
+    record { within = c.sound_plans_have_objects.ensures.touched (plan_of c.self.inside.plan) c.self.inside.mapping Env (wanted_of c.args.wish.now) c.self.invariant.0.sound fit }
 
 pub index_mut-requires : goal.index_mut-requires
 index_mut-requires c =

@@ -60,7 +60,7 @@ wake_after-requires-clause-within c =
     let last = last_is c.trace.result.now c.index_mut-core.result.now.trace turned.0 _ (c.self.invariant.0.core_room c.args.number c.index_mut-core.result.now found).trace (c.trace.ensures ∙ turned.1.trace) c.last.ensures.value in
     let made : c.in-Some.made.now ≡ turned.0 = same_Some _ _ (ap Rattle.std.specs.Option.option_copied (sym c.in-Some.is) ∙ last) in
     subst (λ (s : Stamped). IfSome (touched_by p (record { entry = s.entry; event = s.event })) (IsObject p)) (sym made)
-    (c.sound_plans_have_objects.ensures.entered p c.self.invariant.0.mapping (record { entry = turned.0.entry; event = turned.0.event }) (c.self.invariant.0.ready c.args.number c.index_mut-core.result.now found).built.sound
+    (c.sound_plans_have_objects.ensures.entered p c.self.invariant.0.mapping (record { entry = turned.0.entry; event = turned.0.event }) (c.self.invariant.0.ready c.args.number c.index_mut-core.result.now found).sound
     (and_parts (fits p turned.0.entry) (starts_its_own p turned.0.entry.actor turned.0.entry.deed) turned.1.step.proper).0)
 
 pub wake_after-requires-clause-watched : goal.wake_after-requires-clause-watched
