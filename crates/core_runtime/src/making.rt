@@ -1,8 +1,7 @@
 //! The cores of a new node.
 
-ghost use Rattle.std.specs.Prelude.{◌≡◌, IfOk, length, true};
+ghost use Rattle.std.specs.Prelude.{◌≡◌, IfOk, length};
 ghost use Rattle.bus_semantics.specs.Plan.{plan_of};
-ghost use Rattle.bus_semantics.specs.SoundPlan.{objects_counted};
 ghost use Rattle.core_runtime.specs.Nodes.{AreNewCores, IsNewCore};
 
 use crate::Memory;
@@ -19,7 +18,6 @@ fn core_of(
     t: &TaskSet,
     number: u32,
 ) -> Result<Core, Memory>
-    requires { objects_counted (plan_of p.now) ≡ true }
     ensures { IfOk result (IsNewCore (plan_of p.now) m.now t.now number) }
 {
     let mut core = Core::new(alloc, p, m, t, number)?;
@@ -34,7 +32,6 @@ pub(crate) fn cores_of(
     m: &Mapping,
     t: &TaskSet,
 ) -> Result<Vec<Core>, Memory>
-    requires { objects_counted (plan_of p.now) ≡ true }
     ensures count { IfOk result (λ cores. length cores.items ≡ m.now.cores) }
     ensures cores { IfOk result (λ cores. AreNewCores (plan_of p.now) m.now t.now cores.items) }
 {

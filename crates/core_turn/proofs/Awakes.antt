@@ -6,7 +6,7 @@ use Rattle.std.proofs.lemmas.Bool.{cases_lt, false≢true}
 use Rattle.std.proofs.lemmas.List.{get_or_past, length-set, length-replicate, length-map, get_or-replicate}
 use Rattle.std.proofs.lemmas.Option.{get_or_from_slice_get, slice_get-get_or, slice_get_within, slice_get-map}
 use Rattle.bus_semantics.specs.Plan.{Plan}
-use Rattle.bus_semantics.specs.Rest.{Try, gathered, start_try}
+use Rattle.bus_semantics.specs.Rest.{gathered, start_try}
 use Rattle.port_objects.specs.declared.object.Object.{Object}
 use Rattle.place_set.specs.Places.{NoneBetween}
 use Rattle.task_machine.specs.declared.instr.TaskSet.{TaskSet}

@@ -15,12 +15,12 @@ use Rattle.bus_semantics.specs.declared.entries.Stamped.{Stamped}
 use Rattle.bus_semantics.specs.declared.script.Mapping.{Mapping}
 use Rattle.bus_semantics.specs.Plan.{Plan}
 use Rattle.bus_semantics.specs.Wanted.{Wanted, to_admit, to_end, wanted_by, same_wanted}
-use Rattle.bus_semantics.specs.History.{History, Noted, Past, needs_event, started_before, note, last_started, runs, is_of}
+use Rattle.bus_semantics.specs.History.{History, Noted, Past, needs_event, started_before, note, last_started, runs}
 use Rattle.bus_semantics.specs.Objects.{object_of, touched_by, touches, entries_of, touched}
 use Rattle.bus_semantics.specs.Fitting.{wish_fits, answer_fits, activation_fits, fits}
-use Rattle.bus_semantics.specs.Actor.{next_wish, is_held_back, is_this, is_wanted_next, starts_or_goes_on, follows_program}
+use Rattle.bus_semantics.specs.Actor.{next_wish, is_held_back, is_this, starts_or_goes_on, follows_program}
 use Rattle.bus_semantics.specs.Legal.{MayFollow}
-use Rattle.bus_semantics.specs.Locality.{is_proper, starts_its_own}
+use Rattle.bus_semantics.specs.Locality.{starts_its_own}
 use Rattle.bus_semantics.specs.Asked.{asks_its_own, event_of, noted_for, MayCome}
 use Rattle.history_laws.specs.Running.{GoesOn}
 use Rattle.history_laws.proofs.Keys.{wish_runs}

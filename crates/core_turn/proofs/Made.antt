@@ -1,26 +1,25 @@
 -- A new core has its slots, is ready for turns, and stands for no entry.
-use Rattle.std.proofs.Common.{◌≡◌, ℕ, zero, suc, ◌+◌, ◌<◌, ◌≤◌, Bool, true, false, ◌&&◌, ◌==◌, if◌then◌else◌, refl, sym, ◌∙◌, ap, subst, arith, List, [], ◌∷◌, ◌++◌, length, map, take, get_or, append_assoc, Some}
-use Rattle.std.specs.Prelude.{filter, nat_lt}
+use Rattle.std.proofs.Common.{◌≡◌, ℕ, zero, suc, ◌+◌, ◌^◌, ◌<◌, ◌≤◌, Bool, true, false, ◌&&◌, ◌==◌, if◌then◌else◌, refl, sym, ◌∙◌, ap, subst, arith, List, [], ◌∷◌, ◌++◌, length, map, take, get_or, Some}
+use Rattle.std.specs.Prelude.{filter, nat_lt, nat_le}
 use Rattle.std.specs.List.{list_all, slice_get}
 use Rattle.std.proofs.lemmas.List.{take_more, append-nil}
 use Rattle.std.proofs.lemmas.List.Elements.{filter-append}
-use Rattle.std.proofs.lemmas.Bool.{and_parts, eq-eqb}
+use Rattle.std.proofs.lemmas.Bool.{and_parts, eq-eqb, eqb-true, leb-true}
+use Rattle.bus_semantics.specs.Objects.{clock}
 use Rattle.bus_semantics.specs.declared.script.Mapping.{Mapping}
 use Rattle.bus_semantics.specs.declared.script.Task.{Task}
 use Rattle.bus_semantics.specs.Plan.{Plan, positions}
 use Rattle.bus_semantics.specs.History.{count}
 use Rattle.bus_semantics.specs.Rest.{gathered}
 use Rattle.bus_semantics.specs.SoundNames.{is_name}
-use Rattle.bus_semantics.specs.Sound.{mapped_events, IsSound}
+use Rattle.bus_semantics.specs.Sound.{IsSound}
 use Rattle.task_machine.specs.declared.instr.TaskSet.{TaskSet}
 use Rattle.task_slots.specs.declared.slot.Slot.{Slot}
 use Rattle.task_slots.specs.declared.slot.Slot.TheVariants as of
 use Rattle.task_slots.specs.declared.slot.TaskSlot.{TaskSlot}
-use Rattle.task_slots.specs.declared.slot.Activity.{Activity}
-use Rattle.task_slots.specs.declared.slot.Activity.TheVariants.{Free}
 use Rattle.task_slots.specs.Slots.{Table, of_task, of_machine, table_of, is_running}
 use Rattle.task_slots.specs.Made.{IsNew}
-use Rattle.task_slots.specs.Ready.{may_be_mapped, IsActive, IsReadyTask, IsReadySlot}
+use Rattle.task_slots.specs.Ready.{may_be_mapped, IsActive, IsReadySlot}
 use Rattle.task_slots.specs.Standing.{ActivityStands, SlotStands}
 use Rattle.core_turn.specs.Cores.{CoreState, tasks_of_core, task_tables, machine_tables, tables_of_core, HasSlots}
 use Rattle.core_turn.specs.Made.{IsNewSlot, AreNew}
@@ -50,6 +49,14 @@ all_on t (x ∷ tables) others (y ∷ slots) more before after = (before.0, all_
 pub machines_new : (t : TaskSet) (ns : List ℕ) → AreNew t (map of_machine ns) (map of.Machine ns)
 machines_new t [] = tt
 machines_new t (n ∷ ns) = (refl, machines_new t ns)
+
+-- a sound plan has few machines
+pub few_machines : (p : Plan) (m : Mapping) → IsSound p m → length p.machines < 2 ^ 32
+few_machines p m sound =
+    let both = and_parts (p.objects == clock p + 1) (nat_le p.objects 16384) sound.objects in
+    let counted : p.objects ≡ clock p + 1 = eqb-true p.objects (clock p + 1) both.0 in
+    let few : p.objects ≤ 16384 = leb-true p.objects 16384 both.1 in
+    omega arith
 
 -- core 0 has the machines, and the others have none
 pub with_machines : (p : Plan) (m : Mapping) (t : TaskSet) (number : ℕ) (slots added : List Slot) → number ≡ 0 → AreNew t (task_tables m number) slots → added ≡ slots ++ map of.Machine (positions (length p.machines)) → AreNew t (tables_of_core p m number) added
@@ -204,16 +211,18 @@ module _ (p : Plan) (m : Mapping) (t : TaskSet) (c : CoreState) (new : AreNew t 
             of_among : NewAt t (tables_of_core p m c.number) s → IsReadySlot p t s
             of_among at = of_part at.table at.new (among (task_tables m c.number) (machine_tables p c.number) at.place at.table at.found)
 
-  pub stands_for_none : CoreStands p t [] c
-  stands_for_none i s found = of_new s (new_at t (tables_of_core p m c.number) c.slots i s new found)
-    where
-      of_slot : (x : Table) (s : Slot) → IsNewSlot t x s → SlotStands p t [] s
-      of_slot x (of.Machine n) new = tt
-      of_slot (of_machine n) (of.Task s) new = absurd new
-      of_slot (of_task events) (of.Task s) new = record {
-        one = λ k mine. sym (ap (is_running k) new.free);
-        doing = subst (ActivityStands p t [] s.frame s.inner) (sym new.free) tt;
-      }
+-- ---- it stands for no entry
 
-      of_new : (s : Slot) → NewAt t (tables_of_core p m c.number) s → SlotStands p t [] s
-      of_new s at = of_slot at.table s at.new
+pub stands_for_none : (p : Plan) (t : TaskSet) (tables : List Table) (c : CoreState) → AreNew t tables c.slots → CoreStands p t [] c
+stands_for_none p t tables c new i s found = of_new s (new_at t tables c.slots i s new found)
+  where
+    of_slot : (x : Table) (s : Slot) → IsNewSlot t x s → SlotStands p t [] s
+    of_slot x (of.Machine n) new = tt
+    of_slot (of_machine n) (of.Task s) new = absurd new
+    of_slot (of_task events) (of.Task s) new = record {
+      one = λ k mine. sym (ap (is_running k) new.free);
+      doing = subst (ActivityStands p t [] s.frame s.inner) (sym new.free) tt;
+    }
+
+    of_new : (s : Slot) → NewAt t tables s → SlotStands p t [] s
+    of_new s at = of_slot at.table s at.new

@@ -8,7 +8,6 @@ use Rattle.std.proofs.lemmas.Map.Keys.{any_passes_from_place}
 use Rattle.std.proofs.lemmas.Option.{same_Some, slice_get-map}
 use Rattle.rte_value.specs.declared.kinds.ActKey.{ActKey}
 use Rattle.rte_value.specs.Values.{same_number, same_key}
-use Rattle.bus_semantics.specs.declared.plan.ServerPlan.{ServerPlan}
 use Rattle.bus_semantics.specs.declared.plan.EventKind.{EventKind}
 use Rattle.bus_semantics.specs.declared.plan.EventKind.TheVariants.{Timing, Init, DataReceived, Invoked, Returns, ModeSwitch, Ack}
 use Rattle.bus_semantics.specs.declared.entries.Actor.{Actor}
@@ -18,18 +17,18 @@ use Rattle.bus_semantics.specs.declared.entries.Deed.TheVariants as deed
 use Rattle.bus_semantics.specs.declared.entries.Entry.{Entry}
 use Rattle.bus_semantics.specs.declared.script.Mapping.{Mapping}
 use Rattle.bus_semantics.specs.declared.script.Task.{Task}
-use Rattle.bus_semantics.specs.Plan.{Plan, look, positions, kind_of, server_of, queue_of, caller_of, runnable_of_event}
+use Rattle.bus_semantics.specs.Plan.{Plan, positions, kind_of, server_of, queue_of, caller_of, runnable_of_event}
 use Rattle.bus_semantics.specs.Wanted.{Wanted, to_start, to_move_on, wanted_by}
 use Rattle.bus_semantics.specs.History.{History, Noted, Past, needs_event, started_before, note, noted, runs, last_started}
 use Rattle.bus_semantics.specs.Objects.{served_by, object_of, touched_by, touches, entries_of}
 use Rattle.bus_semantics.specs.Owners.{key_fits, serves_directly}
-use Rattle.bus_semantics.specs.Fitting.{wish_fits, answer_fits, activation_fits, fits}
-use Rattle.bus_semantics.specs.Actor.{next_wish, direct_key, asked_last, ended_since, is_held_back, is_this, is_wanted_next, may_start, caller_has_asked, starts_or_goes_on, follows_program}
+use Rattle.bus_semantics.specs.Fitting.{wish_fits, answer_fits, activation_fits}
+use Rattle.bus_semantics.specs.Actor.{next_wish, direct_key, asked_last, is_held_back, is_this, is_wanted_next, may_start, caller_has_asked, starts_or_goes_on, follows_program}
 use Rattle.bus_semantics.specs.Calls.{has_unstarted}
 use Rattle.bus_semantics.specs.Due.{counts_for, is_due, is_due_kind}
 use Rattle.bus_semantics.specs.Legal.{due_allows, MayFollow, IsLegal}
 use Rattle.bus_semantics.specs.Asked.{is_start}
-use Rattle.bus_semantics.specs.Rest.{Try, plain_key, option_list, gathered, direct_try, machine_tries, event_runs, is_free, start_try, task_tries, try_of, IsStuck, AllStuck}
+use Rattle.bus_semantics.specs.Rest.{Try, plain_key, option_list, gathered, direct_try, event_runs, start_try, IsStuck, AllStuck}
 use Rattle.bus_semantics.specs.Pasts.{Follows, IsPastOf}
 use Rattle.bus_semantics.specs.Sound.{IsSound, times_mapped}
 use Rattle.bus_laws.proofs.OneEvent.{invoked_serves}
@@ -48,19 +47,18 @@ use Rattle.task_machine.specs.Standing.{Standing}
 use Rattle.task_generator.specs.Promise.{AsksAsPlanned}
 use Rattle.task_slots.specs.declared.slot.Slot.{Slot}
 use Rattle.task_slots.specs.declared.slot.Slot.TheVariants as of
-use Rattle.task_slots.specs.declared.slot.TaskSlot.{TaskSlot}
 use Rattle.task_slots.specs.declared.slot.Call.{Call}
 use Rattle.task_slots.specs.declared.slot.Activity.{Activity}
 use Rattle.task_slots.specs.declared.slot.Activity.TheVariants.{Free, Runs, Calls, Serves}
 use Rattle.task_slots.specs.Direct.{served_event}
 use Rattle.task_slots.specs.Slots.{starts, starts_at, home_by, is_key_of, is_running, next_tries, tries_of, slot_tries, of_task, of_machine, table_of}
-use Rattle.task_slots.specs.Ready.{may_be_mapped, IsBegun, IsRunning, IsCalled, IsServing, IsActive, IsReadyTask, IsReadySlot}
-use Rattle.task_slots.specs.Standing.{StandsFor, IsHeldBack, ActivityStands, TaskStands, TaskSlotStands, SlotStands}
+use Rattle.task_slots.specs.Ready.{may_be_mapped, IsBegun, IsRunning, IsCalled, IsActive, IsReadySlot}
+use Rattle.task_slots.specs.Standing.{StandsFor, IsHeldBack, ActivityStands, TaskStands, SlotStands}
 use Rattle.task_slots.specs.Looking.{IsHeldAt, IsHeld, AllHeld}
 use Rattle.task_slots.proofs.Basics.{key_same, same_keys}
-use Rattle.task_slots.proofs.Facts.{returned_alone, event_known, DirectAt, direct_at, CallIs, call_is, direct_kind}
+use Rattle.task_slots.proofs.Facts.{returned_alone, event_known, direct_at, call_is, direct_kind}
 use Rattle.task_slots.proofs.Histories.{idle_asked, held_now}
-use Rattle.task_slots.proofs.Begun.{asked_is, direct_own, direct_apart}
+use Rattle.task_slots.proofs.Begun.{asked_is, direct_own}
 use Rattle.task_slots.proofs.Stepping.{wants}
 use Rattle.core_turn.specs.Cores.{CoreState, tasks_of_core, task_tables, machine_tables, tables_of_core}
 use Rattle.core_turn.specs.Ready.{IsReady}

@@ -1,10 +1,9 @@
 //! A core.
 
-ghost use Rattle.std.specs.Prelude.{◌≡◌, ◌+◌, ◌<◌, ◌≤◌, suc, [], ◌∷◌, ◌++◌, length, true, IfOk, OnOk, min};
+ghost use Rattle.std.specs.Prelude.{◌≡◌, ◌+◌, ◌^◌, ◌<◌, ◌≤◌, suc, [], ◌∷◌, ◌++◌, length, IfOk, OnOk, min};
 ghost use Rattle.std.specs.Vec.{vec_capacity};
-ghost use Rattle.bus_semantics.specs.Plan.{plan_of};
+ghost use Rattle.bus_semantics.specs.Plan.{Plan, plan_of};
 ghost use Rattle.bus_semantics.specs.Sound.{IsSound};
-ghost use Rattle.bus_semantics.specs.SoundPlan.{objects_counted};
 ghost use Rattle.core_turn.specs.Cores.{HasSlots};
 ghost use Rattle.core_turn.specs.Ready.{IsReady};
 ghost use Rattle.core_turn.specs.Standing.{CoreStands};
@@ -49,13 +48,12 @@ impl Core {
         t: &TaskSet,
         number: u32,
     ) -> Result<Core, Memory>
-        requires counted { objects_counted (plan_of p.now) ≡ true }
         ensures number { IfOk result (λ c. c.number ≡ number) }
-        ensures slots { IfOk result (λ c. HasSlots (plan_of p.now) m.now c) }
+        ensures slots { IfOk result (λ c. length p.now.machines < 2 ^ 32 → HasSlots (plan_of p.now) m.now c) }
         ensures first { IfOk result (λ c. c.first ≡ 0) }
         ensures trace { IfOk result (λ c. c.trace ≡ []) }
         ensures ready { IfOk result (λ c. IsSound (plan_of p.now) m.now → IsReady (plan_of p.now) m.now t.now c) }
-        ensures stands { IfOk result (λ c. CoreStands (plan_of p.now) t.now [] c) }
+        ensures stands { IfOk result (λ c. (p : Plan) → CoreStands p t.now [] c) }
     {
         let slots = slots_of(alloc, p, m, t, number)?;
         Ok(Core {

@@ -1,8 +1,8 @@
 //! The slots of a new core.
 
-ghost use Rattle.std.specs.Prelude.{◌≡◌, ◌==◌, ◌++◌, IfOk, OnOk, true, map, length};
+ghost use Rattle.std.specs.Prelude.{◌≡◌, ◌==◌, ◌++◌, ◌<◌, ◌^◌, IfOk, OnOk, List, map, length};
+ghost use Rattle.task_slots.specs.Slots.{Table};
 ghost use Rattle.bus_semantics.specs.Plan.{plan_of, positions};
-ghost use Rattle.bus_semantics.specs.SoundPlan.{objects_counted};
 ghost use Rattle.task_slots.specs.declared.slot.Slot.TheVariants as of;
 ghost use Rattle.core_turn.specs.Cores.{task_tables, tables_of_core};
 ghost use Rattle.core_turn.specs.Made.{AreNew};
@@ -27,12 +27,11 @@ fn slots_of_tasks(alloc: Global, m: &Mapping, t: &TaskSet, number: u32) -> Resul
     Ok(slots)
 }
 
-/// Adds a slot for each mode machine, in their order.
-fn add_machines(p: &BusPlan, slots: &mut Vec<Slot>) -> Result<(), Memory>
-    requires { objects_counted (plan_of p.now) ≡ true }
-    ensures { OnOk result (slots.new.items ≡ slots.old.items ++ map of.Machine (positions (length p.now.machines))) }
+/// Adds a slot for each of so many mode machines, in their order.
+fn add_machines(slots: &mut Vec<Slot>, count: u32) -> Result<(), Memory>
+    ensures { OnOk result (slots.new.items ≡ slots.old.items ++ map of.Machine (positions count)) }
 {
-    for number in 0..p.machines.len() as u32 {
+    for number in 0..count {
         slots.push(Slot::Machine(number))?;
     }
     Ok(())
@@ -46,12 +45,12 @@ pub(crate) fn slots_of(
     t: &TaskSet,
     number: u32,
 ) -> Result<Vec<Slot>, Memory>
-    requires { objects_counted (plan_of p.now) ≡ true }
-    ensures { IfOk result (λ slots. AreNew t.now (tables_of_core (plan_of p.now) m.now number) slots.items) }
+    ensures new { IfOk result (λ slots. (tables : List Table) × AreNew t.now tables slots.items) }
+    ensures listed { IfOk result (λ slots. length p.now.machines < 2 ^ 32 → AreNew t.now (tables_of_core (plan_of p.now) m.now number) slots.items) }
 {
     let mut slots = slots_of_tasks(alloc, m, t, number)?;
     if number == 0 {
-        add_machines(p, &mut slots)?;
+        add_machines(&mut slots, p.machines.len().min(u32::MAX as usize) as u32)?;
     }
     Ok(slots)
 }

@@ -10,5 +10,5 @@ returns c =
       is_number = c.in_ok-make_room.ensures.number ∙ c.in_ok-core.ensures.number;
       has_room = record { trace = c.in_ok-make_room.ensures.trace ∙ c.in_ok-core.ensures.trace; room = omega (arith, c.in_ok-make_room.ensures.room) };
       is_ready = λ sound. same_ready (plan_of c.args.p.now) c.args.m.now c.args.t.now c.in_ok-core.core c.make_room.new.self same (c.in_ok-core.ensures.ready sound);
-      stands = same_stands (plan_of c.args.p.now) c.args.m.now c.args.t.now c.in_ok-core.core c.make_room.new.self same [] c.in_ok-core.ensures.stands;
+      stands = same_stands (plan_of c.args.p.now) c.args.m.now c.args.t.now c.in_ok-core.core c.make_room.new.self same [] (c.in_ok-core.ensures.stands (plan_of c.args.p.now));
     }

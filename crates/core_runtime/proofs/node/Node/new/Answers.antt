@@ -8,9 +8,6 @@ use Rattle.core_runtime.proofs.node.Node.new.Goals as goal
 pub returns-clause-lawful : goal.returns-clause-lawful
 returns-clause-lawful c = new_lawful (plan_of c.args.p) c.args.m c.args.t c.in_ok-cores.cores.items c.in_ok-objects.objects.items c.requires.sound c.in_ok-cores.ensures.cores c.in_ok-objects.ensures.standing
 
-pub cores_of-requires : goal.cores_of-requires
-cores_of-requires c = (c.sound_plans_have_objects.ensures.asked (plan_of c.args.p) c.args.m c.requires.sound).counted
-
 pub new-requires : goal.new-requires
 new-requires c = (
   c.args.m,
