@@ -1,5 +1,5 @@
 -- How a round ends: its log in order of stamps, and all objects at home.
-use Rattle.std.proofs.Common.{◌≡◌, ◌≢◌, ◌<◌, ◌≤◌, ◌+◌, ◌-◌, ◌==◌, ℕ, zero, suc, Bool, true, false, ◌&&◌, is_some, if◌then◌else◌, List, [], ◌∷◌, ◌++◌, map, length, length-append, refl, sym, ◌∙◌, ap, subst, inl, inr, ⊎_elim, ◌⊎◌, arith, eq-eqb, lt-ltb, append-nil, append_assoc, filter, slice_get, nat_lt, Option, Some, None, option_and_then}
+use Rattle.std.proofs.Common.{◌≡◌, ◌≢◌, ◌<◌, ◌≤◌, ◌+◌, ◌-◌, ◌*◌, ◌==◌, ℕ, zero, suc, Bool, true, false, ◌&&◌, is_some, if◌then◌else◌, List, [], ◌∷◌, ◌++◌, map, length, length-append, refl, sym, ◌∙◌, ap, subst, inl, inr, ⊎_elim, ◌⊎◌, arith, eq-eqb, lt-ltb, append-nil, append_assoc, filter, slice_get, nat_lt, Option, Some, None, option_and_then}
 use Rattle.std.proofs.lemmas.Bool.{and_parts}
 use Rattle.std.proofs.lemmas.List.{map-append, length-map}
 use mathlib.Core.Logic.{dite}
@@ -28,6 +28,7 @@ use Rattle.cross_core_table.specs.Logs.{noted_as, on_object, made_by, AreCounted
 use Rattle.cross_core_table.specs.Rules.{Table, word_of, IsSpent, AreJoined, IsAtHome, IsTaken, RoundRule}
 use Rattle.cross_core_table.specs.Closing.{touching, IsLed, Among, HasAll, IsLedHome, IsWhole}
 use Rattle.cross_core_table.proofs.Lists.{at_within}
+use Rattle.cross_core_table.proofs.Logs.{log_within}
 
 -- ---- the log in order of stamps
 
@@ -212,6 +213,8 @@ ends_whole law k s v r all =
       entries = entries_in r.log;
       parts = parts;
       interleaved = is_interleaved n r.log r.stamps r.cores;
+      stamps = r.count ∙ sym (entries_length r.log);
+      fits = subst (λ (m : ℕ). length (entries_in r.log) ≤ m * k.room) (sym (r.giver v all.there)) (subst (λ (m : ℕ). m ≤ n * k.room) (sym (entries_length r.log)) (log_within n k.room r.log r.cores r.room));
       count = length-map (positions n) (λ c. made_by c r.log) ∙ (length_positions n ∙ sym (r.giver v all.there));
       own = part_at r.log n 0 (at_within s.views 0 v all.there) ∙ ap (λ (l : List Stamped). Some l) (sym q.made);
       others = λ x among.

@@ -10,3 +10,4 @@ mod Orders
 mod Takings
 mod Givings
 mod Opens
+mod Closes

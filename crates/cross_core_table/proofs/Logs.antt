@@ -86,6 +86,9 @@ sum_room : (n room : ℕ) (log : List Logged) → ((c : ℕ) → length (made_by
 sum_room zero room log h = omega (arith, zero-mul room)
 sum_room (suc n) room log h = omega (arith, sum_room n room log h, h n, suc-mul n room)
 
+pub log_within : (n room : ℕ) (log : List Logged) → AreOf n log → ((c : ℕ) → length (made_by c log) ≤ room) → length log ≤ n * room
+log_within n room log all parts = omega (arith, sum_all n log all, sum_room n room log parts)
+
 -- word 0 never wraps
 pub log_is_short : (n room : ℕ) (log : List Logged) → AreOf n log → ((c : ℕ) → length (made_by c log) ≤ room) → n ≤ 8 → room < 2 ^ 32 → length log < 2 ^ 36
 log_is_short n room log all parts few small =

@@ -28,7 +28,7 @@ alive : (k : Opening) (v : View) → v.opening ≡ Some k → is_some v.opening 
 alive k v e = ap (λ (x : Option Opening). is_some x) e
 
 -- what the seat with others to give is: the first
-is_first : (k : Opening) (s : Table) (r : RoundRule k s) (id : ℕ) (v : View) → get_elem? s.views id ≡ some v → 0 < v.given → (id ≡ 0) × (v.given ≡ length s.views)
+pub is_first : (k : Opening) (s : Table) (r : RoundRule k s) (id : ℕ) (v : View) → get_elem? s.views id ≡ some v → 0 < v.given → (id ≡ 0) × (v.given ≡ length s.views)
 is_first k s r zero v me some-given = (refl, r.giver v me)
 is_first k s r (suc id) v me some-given = absurd (omega (arith, r.takers id v me))
 

@@ -1,5 +1,5 @@
 -- How the seats of a round are taken in by the first.
-use Rattle.std.proofs.Common.{◌≡◌, ◌<◌, ◌≤◌, ◌-◌, ℕ, zero, suc, List, [], ◌∷◌, ◌++◌, map, length, slice_get, refl, sym, ◌∙◌, ap, subst, inl, inr, arith, Option, Some, None}
+use Rattle.std.proofs.Common.{◌≡◌, ◌<◌, ◌≤◌, ◌-◌, ℕ, zero, suc, List, [], ◌∷◌, ◌++◌, map, length, length-append, slice_get, refl, sym, ◌∙◌, ap, subst, inl, inr, arith, Option, Some, None}
 use Rattle.std.proofs.lemmas.List.{map-append}
 use Rattle.atomic_table.specs.Table.{Joins}
 use Rattle.cross_core_table.specs.declared.views.Part.{Part}
@@ -47,7 +47,7 @@ is_taker r [] p t = absurd t
 is_taker r (s ∷ more) p t = (s, more, refl, t)
 
 -- each seat that was taken in is among those that the first knows
-among_all : (more : List CoreSeat) (i : ℕ) (s : CoreSeat) → slice_get more i ≡ Some s → Among (map (λ x. part_of_view (view_of x)) more) (part_of_view (view_of s))
+pub among_all : (more : List CoreSeat) (i : ℕ) (s : CoreSeat) → slice_get more i ≡ Some s → Among (map (λ x. part_of_view (view_of x)) more) (part_of_view (view_of s))
 among_all [] i s e = absurd (cc e)
 among_all (x ∷ more) zero s e = let same : x ≡ s = cc e in inl (ap (λ (y : CoreSeat). part_of_view (view_of y)) same)
 among_all (x ∷ more) (suc i) s e = inr (among_all more i s e)
@@ -63,3 +63,26 @@ all_taken r s more p all t zero some-core below = absurd (omega arith)
 all_taken r s more p all t (suc c) some-core below =
     let y = some_seat more c (omega (arith, t.given, all.count)) in
     (part_of_view (view_of y.0), (all.each (suc c) y.0 y.1).at.idle.number, subst (λ (l : List Part). Among l (part_of_view (view_of y.0))) (sym t.joined) (among_all more c y.0 y.1))
+
+-- a further seat may be taken in
+pub joins_taken : (r : OpenRound) (done : List CoreSeat) (seat : CoreSeat) (p : Place) → TakenIn r done (Some p) → IsSeatOf r (length done) seat → length done < r.cores
+    → (p.table_id ≡ r.table) × (seat.place.table_id ≡ r.table) × (seat.place.me.1 ≡ []) × Joins (RoundRule r.opening) p.id p.me.0 seat.place.id seat.place.me.0 (joining p.me.0 seat.place.me.0) spent
+joins_taken r done seat p t q below =
+    let h = (is_taker r done p t).3 in
+    (h.table, q.at.table, q.at.idle.slots, joins r.opening p.id p.me.0 seat.place.id seat.place.me.0 h.opening (omega (arith, h.given, below)) q.at.idle.opening q.at.idle.held)
+
+-- ---- as the loop goes
+
+pub at_seat : (done rest seats : List CoreSeat) (x : CoreSeat) → done ++ x ∷ rest ≡ seats → slice_get seats (length done) ≡ Some x
+at_seat done rest seats x e = subst (λ (l : List CoreSeat). slice_get l (length done) ≡ Some x) e (here done)
+  where
+    here : (ys : List CoreSeat) → slice_get (ys ++ x ∷ rest) (length ys) ≡ Some x
+    here [] = refl
+    here (y ∷ ys) = here ys
+
+pub fewer : (done rest seats : List CoreSeat) (x : CoreSeat) → done ++ x ∷ rest ≡ seats → length done < length seats
+fewer done rest seats x e = omega (arith, ap (λ (l : List CoreSeat). length l) e, length-append done (x ∷ rest))
+
+pub nothing_left : (l : List CoreSeat) → length l ≡ 0 → l ≡ []
+nothing_left [] e = refl
+nothing_left (x ∷ xs) e = absurd (omega arith)

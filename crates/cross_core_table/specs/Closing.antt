@@ -1,5 +1,5 @@
 -- What the close of a round gives.
-use Rattle.std.specs.Prelude.{◌≡◌, ◌<◌, ◌⊎◌, ℕ, List, [], ◌∷◌, ◌++◌, length, map, filter, slice_get, Some, None}
+use Rattle.std.specs.Prelude.{◌≡◌, ◌<◌, ◌≤◌, ◌*◌, ◌⊎◌, ℕ, List, [], ◌∷◌, ◌++◌, length, map, filter, slice_get, slice_index, Some, None}
 use mathlib.Core.Option as option
 use lib.ListN.{get_elem?}
 use Rattle.bus_semantics.specs.declared.entries.Stamped.{Stamped}
@@ -53,6 +53,8 @@ pub record IsWhole (k : Opening) (s : Table) (v : View) : Type 0 where
   pub entries : List Stamped
   pub parts : List (List Stamped)
   pub interleaved : IsInterleaved entries parts
+  pub stamps : slice_index s.words 0 ≡ length entries
+  pub fits : length entries ≤ v.given * k.room
   pub count : length parts ≡ v.given
   pub own : slice_get parts 0 ≡ Some v.made
   pub others : (x : Part) → Among v.joined x → slice_get parts x.core ≡ Some x.entries

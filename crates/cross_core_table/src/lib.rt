@@ -3,10 +3,12 @@
 
 mod acting;
 mod bench;
+mod closing;
 mod giving;
 mod laws;
 mod opened;
 mod opening;
+mod ordering;
 mod plays;
 mod round;
 mod seats;
@@ -16,6 +18,7 @@ mod threads;
 mod views;
 
 pub use bench::SeatBench;
+pub use closing::Closed;
 pub use laws::{each_step_keeps_the_rule, rounds_end_whole};
 pub use opened::Opened;
 pub use plays::Ruled;
