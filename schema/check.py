@@ -28,9 +28,6 @@ sys.path.insert(0, str(TOP / "tools"))
 
 from rte_tools.shape import Shape  # noqa: E402
 
-# What the program does not read yet: a key of a later stage.
-NOT_READ_YET = {"rows/asynchronous_mode_switch"}
-
 # Keys that may be missing and for which no one value stands then.
 NO_DEFAULT = {"initValue", "disabledInModes"}
 
@@ -62,8 +59,7 @@ def good_descriptions() -> Iterator[tuple[str, Any]]:
     for case in read(HERE / "accepted.json"):
         yield case["why"], changed(whole, case)
     for name, path in data_files():
-        if name not in NOT_READ_YET:
-            yield name, read(path)
+        yield name, read(path)
 
 
 def data_files() -> Iterator[tuple[str, pathlib.Path]]:
@@ -119,9 +115,6 @@ def wrong_cases(messages: Messages, good: list, broken: list, says: bool = False
                 yield f"does not say it of {case}"
         elif next(said, None) is None:
             yield f"accepts {case}"
-    for name, path in data_files():
-        if name in NOT_READ_YET and next(messages(read(path), None), None) is None:
-            yield f"accepts {name}, which the program does not read"
 
 
 def own_messages(schema: dict) -> Messages:

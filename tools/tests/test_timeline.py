@@ -158,8 +158,6 @@ class Exports(unittest.TestCase):
 
     def test_all_rows_are_exported(self) -> None:
         for path in DATA.glob("rows/*/expected.txt"):
-            if path.parent.name == "asynchronous_mode_switch":
-                continue  # its description is of a later stage
             try:
                 trace_of(path.parent)
             except NotATrace:

@@ -36,6 +36,7 @@ leads_touch p o before after n leads = is_number (touched_by p n) o (by_test (to
     by_test : (b : Bool) → touches p o n ≡ b → (if b && is_proper p n then lead_by_kind p o before n else None) ≡ Some after → touches p o n ≡ true
     by_test true is e = is
     by_test false is e = absurd (cc e)
+
     is_number : (x : Option ℕ) (y : ℕ) → same_number x (Some y) ≡ true → x ≡ Some y
     is_number None y e = absurd (cc e)
     is_number (Some x) y e = ap (λ (z : ℕ). Some z) (eqb-true x y e)

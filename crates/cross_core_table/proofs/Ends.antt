@@ -94,7 +94,6 @@ unfolding in_order
 of_cores n [] all = refl
 of_cores n (l ∷ log) all = every_end (λ i (x : Logged). nat_lt x.core n) 0 (in_order log) l (of_cores n log all.1) (lt-ltb l.core n all.0)
 
-
 -- the entries in order are an interleaving of what the cores made
 pub is_interleaved : (n : ℕ) (log : List Logged) → AreCounted log → AreOf n log → IsInterleaved (entries_in log) (map (λ c. made_by c log) (positions n))
 is_interleaved n log stamps cores =
@@ -162,22 +161,24 @@ all_home k s r v me live none joined o near = dite (ℕ_discrete (word_of s.word
   where
     alive : is_some v.opening ≡ true
     alive = ap (λ (x : Option Opening). is_some x) live
+
     hands : (u : View) (h : Held) → u.held ≡ Some h → u.held ≡ None → ⊥
     hands u h some-held no-held = let e : Some h ≡ None = sym some-held ∙ no-held in absurd (cc e)
+
     is_taken : (c : ℕ) → word_of s.words o ≡ suc c → ⊥
     is_taken c e =
         let t : IsTaken s.views c o = r.taken o c near e in
         let below : c < length s.views = at_within s.views c t.view t.there in
         dite (ℕ_discrete c 0)
         (λ z.
-            let same : t.view ≡ v = some-injective t.view v (sym (subst (λ (i : ℕ). get_elem? s.views i ≡ some t.view) z t.there) ∙ me) in
-            hands t.view t.held t.holds (ap (λ (x : View). x.held) same ∙ none))
+        let same : t.view ≡ v = some-injective t.view v (sym (subst (λ (i : ℕ). get_elem? s.views i ≡ some t.view) z t.there) ∙ me) in
+        hands t.view t.held t.holds (ap (λ (x : View). x.held) same ∙ none))
         (λ nz.
-            let x = joined c (omega arith) (omega (arith, r.giver v me)) in
-            let y = (joined_at s.views r.log v.joined x.0 (r.seated 0 v me alive).joined x.2).1 in
-            let at : get_elem? s.views c ≡ some y.0 = subst (λ (i : ℕ). get_elem? s.views i ≡ some y.0) x.1 y.1 in
-            let same : t.view ≡ y.0 = some-injective t.view y.0 (sym t.there ∙ at) in
-            hands t.view t.held t.holds (ap (λ (z : View). z.held) same ∙ (r.gone c y.0 at (ap (λ (z : Option Opening). is_some z) y.2)).held))
+        let x = joined c (omega arith) (omega (arith, r.giver v me)) in
+        let y = (joined_at s.views r.log v.joined x.0 (r.seated 0 v me alive).joined x.2).1 in
+        let at : get_elem? s.views c ≡ some y.0 = subst (λ (i : ℕ). get_elem? s.views i ≡ some y.0) x.1 y.1 in
+        let same : t.view ≡ y.0 = some-injective t.view y.0 (sym t.there ∙ at) in
+        hands t.view t.held t.holds (ap (λ (z : View). z.held) same ∙ (r.gone c y.0 at (ap (λ (z : Option Opening). is_some z) y.2)).held))
 
 -- ---- the whole
 
@@ -229,7 +230,7 @@ ends_whole law k s v r all =
             led = λ before at.
                 let on : leads p o (kept_of before) (map noted_as (on_object p o r.log)) ≡ Some (kept_of t.object) = kept_leads k o (on_object p o r.log) before (kept_of t.object) at t.kept in
                 let led : leads p o (kept_of before) (touching p o (entries_in r.log)) ≡ Some (kept_of t.object) =
-                    subst (λ (l : Past). leads p o (kept_of before) l ≡ Some (kept_of t.object)) (sym (touching_is p o r.log)) on in
+                subst (λ (l : Past). leads p o (kept_of before) l ≡ Some (kept_of t.object)) (sym (touching_is p o r.log)) on in
                 record { leads_on = led; stands = λ l stands. leads_stand p o (law p o) (kept_of before) (kept_of t.object) l (touching p o (entries_in r.log)) stands led };
           };
     }

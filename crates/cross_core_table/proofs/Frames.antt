@@ -80,9 +80,9 @@ pub taken_set : (vs : List View) (id : ℕ) (v w : View) (o c : ℕ) → get_ele
     → ((h : Held) → v.held ≡ Some h → h.object ≡ o → (x : Held) × (w.held ≡ Some x) × (x.object ≡ o)) → IsTaken (set vs id w) c o
 taken_set vs id v w o c me t f = dite (ℕ_discrete c id)
     (λ e.
-        let same : t.view ≡ v = some-injective t.view v (sym (subst (λ (i : ℕ). get_elem? vs i ≡ some t.view) e t.there) ∙ me) in
-        let h = f t.held (sym (ap (λ (x : View). x.held) same) ∙ t.holds) t.object in
-        record { view = w; there = subst (λ (i : ℕ). get_elem? (set vs id w) i ≡ some w) (sym e) (set_here vs id w (at_within vs id v me)); held = h.0; holds = h.1; object = h.2 })
+    let same : t.view ≡ v = some-injective t.view v (sym (subst (λ (i : ℕ). get_elem? vs i ≡ some t.view) e t.there) ∙ me) in
+    let h = f t.held (sym (ap (λ (x : View). x.held) same) ∙ t.holds) t.object in
+    record { view = w; there = subst (λ (i : ℕ). get_elem? (set vs id w) i ≡ some w) (sym e) (set_here vs id w (at_within vs id v me)); held = h.0; holds = h.1; object = h.2 })
     (λ ne. record { view = t.view; there = set_else vs id c w ne ∙ t.there; held = t.held; holds = t.holds; object = t.object })
 
 -- the object that a seat holds is of its word

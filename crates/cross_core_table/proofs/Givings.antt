@@ -77,6 +77,7 @@ one_more_given t k n s a x rest all table me made core table' me' core' none spa
   where
     q₀ : IsSeatOf (round_of t k (suc n)) 0 s
     q₀ = all.each 0 s refl
+
     each_is : (i : ℕ) (y : CoreSeat) → Spot (s ∷ rest) a x i y → IsSeatOf (round_of t k (suc (suc n))) i y
     each_is i y (first z is) = subst (λ j. IsSeatOf (round_of t k (suc (suc n))) j y) (sym z)
         (subst (λ (u : CoreSeat). IsSeatOf (round_of t k (suc (suc n))) 0 u) is (seat_gives t k (suc n) s a q₀ table me made core))
@@ -84,6 +85,7 @@ one_more_given t k n s a x rest all table me made core table' me' core' none spa
         (seat_more t k (suc n) (suc (suc n)) j y (subst (λ m. IsSeatOf (round_of t k (suc n)) m y) z (all.each i y at)))
     each_is i y (last z is) = subst (λ j. IsSeatOf (round_of t k (suc (suc n))) j y) (sym (z ∙ all.count))
         (subst (λ (u : CoreSeat). IsSeatOf (round_of t k (suc (suc n))) (suc n) u) is (seat_new t k n s x q₀ table' me' core' none space))
+
     fresh_is : (i : ℕ) (y : CoreSeat) → Spot (s ∷ rest) a x i y → IsFresh (view_of y)
     fresh_is i y (first z is) = subst (λ (u : CoreSeat). IsFresh (view_of u)) is (let f = all.fresh 0 s refl in record {
       made = ap (λ (y' : Sat). y'.0.made) me ∙ f.made;

@@ -16,16 +16,15 @@ use Rattle.cross_core_table.proofs.Keeping.{stamps_on, stamps_off, unlocks, look
 -- a try for an object
 pub has_tried : (k : Opening) (core o r : ℕ) (m n : Sat) → IsIdle k core m → LockedAt m o r n → HasTried k core o r m n
 has_tried k core o r m n idle l = record {
-  took = λ e. let t = l.took e in
-      (
-        t.object,
-        record {
-          entries = t.entries;
-          seat = t.seat ∙ ap (λ (c : List (ℕ × Object)). (holding m.0 (held_of o t.entries), (o, t.object) ∷ c)) idle.slots;
-          kept = t.kept k idle.opening;
-          planned = t.planned k idle.opening;
-        },
-      );
+  took = λ e. let t = l.took e in (
+    t.object,
+    record {
+      entries = t.entries;
+      seat = t.seat ∙ ap (λ (c : List (ℕ × Object)). (holding m.0 (held_of o t.entries), (o, t.object) ∷ c)) idle.slots;
+      kept = t.kept k idle.opening;
+      planned = t.planned k idle.opening;
+    },
+  );
   missed = λ e. let t = l.missed e in
       (t.seat ∙ ap (λ (c : List (ℕ × Object)). (failing m.0 o r, c)) idle.slots, λ q. t.other (q ∙ ap suc (sym idle.number)));
 }
@@ -53,8 +52,8 @@ pub stamps_on_named : (k : Opening) (n id : ℕ) (m : Sat) (o : ℕ) (e e' : Ent
     → Allows (RoundRule k) n id m 0 (λ y. (y + 1) % 2 ^ 64) (stamped_on e v (step n 0 1 0 none) m)
 stamps_on_named k n id m o e e' v v' entry event live h touching room =
     let named : touched_by (plan_in k) (record { entry = e; event = v }) ≡ Some o =
-        subst (λ (x : Entry). touched_by (plan_in k) (record { entry = x; event = v }) ≡ Some o) (sym entry)
-        (subst (λ (x : Option ℕ). touched_by (plan_in k) (record { entry = e'; event = x }) ≡ Some o) (sym event) touching) in
+    subst (λ (x : Entry). touched_by (plan_in k) (record { entry = x; event = v }) ≡ Some o) (sym entry)
+    (subst (λ (x : Option ℕ). touched_by (plan_in k) (record { entry = e'; event = x }) ≡ Some o) (sym event) touching) in
     stamps_on k n id m o e v h.0 live h.1 h.2 named room
 
 pub stamps_off_named : (k : Opening) (n id : ℕ) (m : Sat) (e e' : Entry) → e ≡ e' → m.0.opening ≡ Some k

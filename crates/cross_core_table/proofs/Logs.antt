@@ -72,11 +72,11 @@ sum_over : (n : ℕ) (l : Logged) (log : List Logged) → l.core < n → sum_par
 sum_over zero l log h = absurd (omega arith)
 sum_over (suc n) l log h = dite (ℕ_discrete n l.core)
     (λ is.
-        let e : made_by n (l ∷ log) ≡ made_by n log ++ l.stamped ∷ [] = subst (λ (c : ℕ). made_by c (l ∷ log) ≡ made_by c log ++ l.stamped ∷ []) (sym is) (made_here l.core l.stamped log) in
-        omega (arith, sum_under n l log (omega arith), ap (λ (xs : List Stamped). length xs) e, length-append (made_by n log) (l.stamped ∷ [])))
+    let e : made_by n (l ∷ log) ≡ made_by n log ++ l.stamped ∷ [] = subst (λ (c : ℕ). made_by c (l ∷ log) ≡ made_by c log ++ l.stamped ∷ []) (sym is) (made_here l.core l.stamped log) in
+    omega (arith, sum_under n l log (omega arith), ap (λ (xs : List Stamped). length xs) e, length-append (made_by n log) (l.stamped ∷ [])))
     (λ ne.
-        let e : made_by n (l ∷ log) ≡ made_by n log = made_there l.core n l.stamped log ne in
-        omega (arith, sum_over n l log (omega arith), ap (λ (xs : List Stamped). length xs) e))
+    let e : made_by n (l ∷ log) ≡ made_by n log = made_there l.core n l.stamped log ne in
+    omega (arith, sum_over n l log (omega arith), ap (λ (xs : List Stamped). length xs) e))
 
 sum_all : (n : ℕ) (log : List Logged) → AreOf n log → sum_parts n log ≡ length log
 sum_all n [] all = sum_none n

@@ -104,9 +104,11 @@ given_first t k xs ys x table me core none space empty is =
       given = ap (λ (y : Sat). y.0.given) me;
       joined = ap (λ (y : Sat). y.0.joined) me;
     }
+
     each_is : (i : ℕ) (s : CoreSeat) → slice_get (x ∷ []) i ≡ Some s → IsSeatOf (round_of t k 1) i s
     each_is zero s at = let same : x ≡ s = cc at in subst (λ (y : CoreSeat). IsSeatOf (round_of t k 1) 0 y) same first_is
     each_is (suc i) s at = absurd (cc at)
+
     fresh_is : (i : ℕ) (s : CoreSeat) → slice_get (x ∷ []) i ≡ Some s → IsFresh (view_of s)
     fresh_is zero s at = let same : x ≡ s = cc at in subst (λ (y : CoreSeat). IsFresh (view_of y)) same
         (record { made = ap (λ (y : Sat). y.0.made) me; looks = ap (λ (y : Sat). y.0.looks) me; tries = ap (λ (y : Sat). y.0.tries) me })

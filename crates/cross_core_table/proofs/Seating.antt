@@ -70,17 +70,17 @@ splits k id v live some-given few s r me =
           (λ t. ap (λ (z : View). z.given) (sym t.1)) (at_end vs' u x (suc j) at);
       seated = λ j x at living. ⊎_elim
           (λ y. ⊎_elim
-              (λ t. subst (λ (i : ℕ). IsSeated k s.words vs'' r.log i x) (sym t.0) (subst (λ (z : View). IsSeated k s.words vs'' r.log id z) t.1 (record {
-                opening = q.opening;
-                core = q.core;
-                made = q.made;
-                held = q.held;
-                look = q.look;
-                tried = q.tried;
-                joined = joined_kept s.views vs'' r.log r.log parts stay v.joined q.joined;
-              })))
-              (λ t. seat_kept k s.words s.words s.views vs'' r.log r.log id j x (same_log k s.words r.log id) parts stay t.0 (r.seated j x t.1 living))
-              (at_set s.views id j w x y))
+          (λ t. subst (λ (i : ℕ). IsSeated k s.words vs'' r.log i x) (sym t.0) (subst (λ (z : View). IsSeated k s.words vs'' r.log id z) t.1 (record {
+            opening = q.opening;
+            core = q.core;
+            made = q.made;
+            held = q.held;
+            look = q.look;
+            tried = q.tried;
+            joined = joined_kept s.views vs'' r.log r.log parts stay v.joined q.joined;
+          })))
+          (λ t. seat_kept k s.words s.words s.views vs'' r.log r.log id j x (same_log k s.words r.log id) parts stay t.0 (r.seated j x t.1 living))
+          (at_set s.views id j w x y))
           (λ t. subst (λ (i : ℕ). IsSeated k s.words vs'' r.log i x) (sym (t.0 ∙ (same ∙ sym first.1))) (subst (λ (z : View). IsSeated k s.words vs'' r.log v.given z) t.1 (record {
             opening = live;
             core = refl;
@@ -118,8 +118,12 @@ joins k id v other u live some-given living none s r me apart them =
     let same : length vs'' ≡ length s.views = length-set vs' other spent ∙ length-set s.views id w in
     let inside : other < length vs' = omega (arith, at_within s.views other u at, length-set s.views id w) in
     let here : get_elem? vs'' other ≡ some spent = set_here vs' other spent inside in
-    let stay : StaySpent s.views vs'' = λ c x there gone. (x, set_else vs' other c spent (not_spent s.views other c u x at (alive k u living) there gone)
-        ∙ (set_else s.views id c w (not_spent s.views id c v x me (alive k v live) there gone) ∙ there), gone) in
+    let stay : StaySpent s.views vs'' = λ c x there gone. (
+      x,
+      set_else vs' other c spent (not_spent s.views other c u x at (alive k u living) there gone)
+          ∙ (set_else s.views id c w (not_spent s.views id c v x me (alive k v live) there gone) ∙ there),
+      gone,
+    ) in
     let parts : (c : ℕ) (x : View) → get_elem? s.views c ≡ some x → IsSpent x → made_by c r.log ≡ made_by c r.log = λ c x there gone. refl in
     let mine : IsSeated k s.words vs'' r.log id w = record {
       opening = q.opening;
@@ -149,9 +153,9 @@ joins k id v other u live some-given living none s r me apart them =
           (at_set vs' other (suc j) spent x there);
       seated = λ j x there living'. ⊎_elim (λ t. absurd (false≢true (ap (λ (z : View). is_some z.opening) t.1 ∙ living')))
           (λ t. ⊎_elim
-              (λ y. subst (λ (i : ℕ). IsSeated k s.words vs'' r.log i x) (sym y.0) (subst (λ (z : View). IsSeated k s.words vs'' r.log id z) y.1 mine))
-              (λ y. seat_kept k s.words s.words s.views vs'' r.log r.log id j x (same_log k s.words r.log id) parts stay y.0 (r.seated j x y.1 living'))
-              (at_set s.views id j w x t.1))
+          (λ y. subst (λ (i : ℕ). IsSeated k s.words vs'' r.log i x) (sym y.0) (subst (λ (z : View). IsSeated k s.words vs'' r.log id z) y.1 mine))
+          (λ y. seat_kept k s.words s.words s.views vs'' r.log r.log id j x (same_log k s.words r.log id) parts stay y.0 (r.seated j x y.1 living'))
+          (at_set s.views id j w x t.1))
           (at_set vs' other j spent x there);
       gone = λ j x there dead. ⊎_elim (λ t. subst (λ (z : View). IsGone z) t.1 (record { made = refl; joined = refl; held = refl }))
           (λ t. ⊎_elim (λ y. absurd (false≢true (sym dead ∙ (ap (λ (z : View). is_some z.opening) (sym y.1) ∙ alive k v live)))) (λ y. r.gone j x y.1 dead) (at_set s.views id j w x t.1))

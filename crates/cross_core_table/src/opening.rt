@@ -21,13 +21,7 @@ use std::snapshot::Snapshot;
 impl Round {
     /// Opens a round of 1 to 8 cores over the objects of a plan, each at its number, with room for so many entries of each core. This
     /// takes all memory of the round.
-    pub fn open(
-        alloc: Global,
-        p: &BusPlan,
-        objects: Vec<Object>,
-        cores: u32,
-        room: u32,
-    ) -> Opened
+    pub fn open(alloc: Global, p: &BusPlan, objects: Vec<Object>, cores: u32, room: u32) -> Opened
         requires sound { HasObjects (plan_of p.now) }
         requires planned { ArePlans (plan_of p.now) objects.items }
         requires cores { (1 ≤ cores) × (cores ≤ 8) }
