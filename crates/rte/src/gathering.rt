@@ -2,7 +2,7 @@
 //!
 //! This is the edge to the system: what the system takes is known to no clause, so it tells no bytes.
 
-ghost use Rattle.std.specs.Prelude.{◌≡◌};
+ghost use Rattle.std.specs.Prelude.{◌≡◌, IfOk};
 
 use rte_text::{Put, Sink};
 use std::alloc::Global;
@@ -30,7 +30,9 @@ impl<W: Write + Drop> Model for GatheringSink<W> {
 
 impl<W: Write + Drop> GatheringSink<W> {
     /// A sink with an empty room, and with its count at 0. The only error is that there is no memory for the room.
-    pub fn new(alloc: Global, out: W) -> io::Result<GatheringSink<W>> {
+    pub fn new(alloc: Global, out: W) -> io::Result<GatheringSink<W>>
+        ensures { IfOk result (λ s. s ≡ 0) }
+    {
         let out = BufWriter::with_capacity(alloc, ROOM, out)?;
         Ok(GatheringSink { out, faults: 0 })
     }
