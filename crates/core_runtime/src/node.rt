@@ -3,7 +3,6 @@
 ghost use Rattle.std.specs.Prelude.{◌≡◌, [], IfOk, min};
 ghost use Rattle.bus_semantics.specs.Plan.{plan_of};
 ghost use Rattle.bus_semantics.specs.Sound.{IsSound};
-ghost use Rattle.port_objects.specs.Plans.{IsMadePlan};
 ghost use Rattle.task_generator.specs.Promise.{AsksAsPlanned};
 ghost use Rattle.core_runtime.specs.Nodes.{IsLawfulNode};
 
@@ -47,11 +46,10 @@ impl Model for Node {
 }
 
 impl Node {
-    /// A node to which nothing has happened. The plan is sound with the mapping and one of those of which objects are made, and the
-    /// bodies are those that `generate` makes of it. The only error is that there is no memory.
+    /// A node to which nothing has happened. The plan is sound with the mapping, and the bodies are those that `generate` makes of it.
+    /// The only error is that there is no memory.
     pub fn new(alloc: Global, p: BusPlan, m: Mapping, t: TaskSet) -> Result<Node, Memory>
         requires sound { IsSound (plan_of p) m }
-        requires made { IsMadePlan (plan_of p) }
         requires bodies { AsksAsPlanned (plan_of p) t }
         ensures plan { IfOk result (λ n. n.plan ≡ p) }
         ensures mapping { IfOk result (λ n. n.mapping ≡ m) }

@@ -3,7 +3,6 @@
 ghost use Rattle.std.specs.Prelude.{◌≡◌, ◌+◌, ◌<◌, ◌≤◌, IfSome};
 ghost use Rattle.bus_semantics.specs.declared.script.Mapping.{Mapping};
 ghost use Rattle.bus_semantics.specs.Plan.{plan_of};
-ghost use Rattle.port_objects.specs.Plans.{IsMadePlan};
 ghost use Rattle.task_generator.specs.Promise.{AsksAsPlanned};
 ghost use Rattle.bus_semantics.specs.Sound.{IsSound};
 ghost use Rattle.core_turn.specs.Ready.{IsReady};
@@ -13,7 +12,7 @@ use bus_semantics::{BusPlan, Deed, Mapping, Stamped};
 use core_turn::{Core, Turned, turn};
 use description_stages::{PlannedDescription, plan_description};
 use port_objects::{make_objects, sound_plans_have_objects};
-use stage_rule::{is_in_stage, plans_of_the_stage_are_plain};
+use stage_rule::is_in_stage;
 use std::alloc::{AllocError, Global};
 use std::marker::Brand;
 use std::sync::ledger::{Blank, Ledger};
@@ -95,7 +94,6 @@ fn run<L: Ledger>(
     blank: Blank,
 ) -> Result<(String, String), AllocError>
     requires sound { IsSound (plan_of p.now) m.now }
-    requires made { IsMadePlan (plan_of p.now) }
     requires bodies { AsksAsPlanned (plan_of p.now) t.now }
     requires name { blank.name ≡ L.name }
     requires parts { blank.parts ≡ L.parts }
@@ -120,10 +118,8 @@ fn run<L: Ledger>(
 
 /// The description with its plan, if it breaks no rule and is of the stage.
 fn planned(alloc: Global) -> Option<PlannedDescription>
-    ensures sound { IfSome result (λ x. IsSound (plan_of x.plan) x.mapping) }
-    ensures made { IfSome result (λ x. IsMadePlan (plan_of x.plan)) }
+    ensures { IfSome result (λ x. IsSound (plan_of x.plan) x.mapping) }
 {
-    plans_of_the_stage_are_plain();
     let Ok(found) = plan_description(alloc, DESCRIPTION) else {
         return None;
     };

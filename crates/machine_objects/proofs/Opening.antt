@@ -1,5 +1,5 @@
 -- What a machine keeps at first is what the definitions give from no entry.
-use Rattle.std.proofs.Common.{◌≡◌, ℕ, Bool, true, false, ◌&&◌, ◌||◌, refl, sym, ◌∙◌, ap, List, [], ◌∷◌, length, map, replicate}
+use Rattle.std.proofs.Common.{◌≡◌, ℕ, Bool, false, refl, sym, ◌∙◌, ap, List, [], ◌∷◌, length, map, replicate}
 use Rattle.std.proofs.Math.Bool.{and-true, or-false}
 use Rattle.rte_value.specs.declared.kinds.Step.TheVariants as step
 use Rattle.bus_semantics.specs.Plan.{Plan, kind_of}

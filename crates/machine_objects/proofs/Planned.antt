@@ -1,9 +1,9 @@
 -- The objects of a sound plan that have a machine's number are machines.
-use Rattle.std.proofs.Common.{◌≡◌, ◌≤◌, ◌<◌, ◌+◌, ℕ, Bool, true, false, not, ◌&&◌, ◌||◌, ◌==◌, refl, sym, ◌∙◌, ap, arith, length, Option, Some, None}
+use Rattle.std.proofs.Common.{◌≡◌, ◌≤◌, ◌<◌, ◌+◌, ℕ, Bool, true, false, not, ◌&&◌, ◌||◌, ◌==◌, refl, sym, ◌∙◌, ap, subst, arith, length, Option, Some, None}
 use Rattle.std.specs.Prelude.{nat_le, nat_lt}
 use Rattle.std.specs.List.{slice_get}
 use Rattle.std.specs.Option.{option_map_or}
-use Rattle.std.proofs.lemmas.Bool.{and_parts, eqb-true, false≢true, leb-true, ltb-true}
+use Rattle.std.proofs.lemmas.Bool.{and_parts, eq-eqb, eqb-true, false≢true, leb-true, ltb-true}
 use Rattle.rte_value.specs.Values.{same_number}
 use Rattle.bus_semantics.specs.declared.plan.MachinePlan.{MachinePlan}
 use Rattle.bus_semantics.specs.declared.plan.EventPlan.{EventPlan}
@@ -12,16 +12,24 @@ use Rattle.bus_semantics.specs.declared.plan.EventKind.TheVariants.{Timing, Init
 use Rattle.bus_semantics.specs.declared.plan.Disabling.{Disabling}
 use Rattle.bus_semantics.specs.declared.script.Mapping.{Mapping}
 use Rattle.bus_semantics.specs.Plan.{Plan, every_from, kind_of, instance_of, group_of, server_of}
-use Rattle.bus_semantics.specs.Objects.{first_machine, clock, server_object, object_of_kind}
+use Rattle.bus_semantics.specs.Objects.{first_machine, clock, server_object, object_of_kind, disabler_of}
 use Rattle.bus_semantics.specs.SoundPlan.{is_in}
 use Rattle.bus_semantics.specs.SoundElements.{machine_sound}
 use Rattle.bus_semantics.specs.SoundEvents.{kind_sound, disabling_sound, may_be_disabled, is_invoked, event_sound}
 use Rattle.bus_semantics.specs.Sound.{IsSound}
 use Rattle.object_kinds.proofs.Lists.{all_at, every_at}
 use Rattle.object_kinds.proofs.Members.{group_within}
-use Rattle.object_kinds.proofs.Ranges.{joined_server}
-use Rattle.machine_objects.specs.Layout.{IsMachine, machine_of, may_disable, starts_elsewhere}
-use Rattle.machine_objects.proofs.Picking.{item_at, all_picked}
+use Rattle.object_kinds.proofs.Ranges.{joined_server, switching_machine, acked_machine, disabling_machine}
+use Rattle.machine_objects.specs.Layout.{IsMachine, machine_of, waits_for_phase, waits_for_end, may_disable, starts_elsewhere, mattering}
+use Rattle.machine_objects.specs.Plans.{AreTheirs}
+use Rattle.machine_objects.proofs.Picking.{by_both, item_at, all_picked}
+
+same_way : (a b : ℕ) → (a == b) ≡ (b == a)
+same_way a b = by_both (a == b) (b == a) (λ e. eq-eqb b a (sym (eqb-true a b e))) (λ e. eq-eqb a b (sym (eqb-true b a e)))
+
+alone : (b : Bool) → (b || false) ≡ b
+alone true = refl
+alone false = refl
 
 module _ (p : Plan) (mapping : Mapping) (sound : IsSound p mapping) where
   -- what an event may be that a mode disables
@@ -46,6 +54,35 @@ module _ (p : Plan) (mapping : Mapping) (sound : IsSound p mapping) where
           by_disabling : (o : Option Disabling) → v.disabled ≡ o → may_be_disabled (kind_of p e) ≡ true
           by_disabling None is = let no = rw (found, is) at may in absurd (false≢true no)
           by_disabling (Some d) is = ap (λ (o : Option EventPlan). may_be_disabled (option_map_or (λ (w : EventPlan). w.kind) o Init)) found ∙ disabled_kind e v d found is
+
+  -- what a mode may not disable no machine disables
+  not_disabled : (m e : ℕ) → may_be_disabled (kind_of p e) ≡ false → may_disable p m e ≡ false
+  not_disabled m e never = by_test (may_disable p m e) refl
+    where
+      by_test : (b : Bool) → may_disable p m e ≡ b → b ≡ false
+      by_test true is = absurd (false≢true (sym never ∙ may_be m e is))
+      by_test false is = refl
+
+  one_machine : (e m : ℕ) (k : EventKind) → kind_of p e ≡ k → (waits_for_phase m k || (waits_for_end m k || may_disable p m e)) ≡ same_number (mattering k (disabler_of p e)) (Some m)
+  one_machine e m (ModeSwitch n at) is = ap (λ b. (m == n) || b) (not_disabled m e (ap may_be_disabled is)) ∙ alone (m == n) ∙ same_way m n
+  one_machine e m (Ack n) is = ap (λ b. (m == n) || b) (not_disabled m e (ap may_be_disabled is)) ∙ alone (m == n) ∙ same_way m n
+  one_machine e m (Timing period) is = refl
+  one_machine e m Init is = refl
+  one_machine e m (DataReceived x) is = refl
+  one_machine e m (Invoked s) is = refl
+  one_machine e m (Returns q) is = refl
+
+  machine_within : (e m : ℕ) (k : EventKind) → kind_of p e ≡ k → mattering k (disabler_of p e) ≡ Some m → m < length p.machines
+  machine_within e m (ModeSwitch n at) kind is = let same : n ≡ m = cc in subst (λ z. z < length p.machines) same (switching_machine p mapping sound e n at kind)
+  machine_within e m (Ack n) kind is = let same : n ≡ m = cc in subst (λ z. z < length p.machines) same (acked_machine p mapping sound e n kind)
+  machine_within e m (Timing period) kind is = disabling_machine p mapping sound e m is
+  machine_within e m Init kind is = disabling_machine p mapping sound e m is
+  machine_within e m (DataReceived x) kind is = disabling_machine p mapping sound e m is
+  machine_within e m (Invoked s) kind is = disabling_machine p mapping sound e m is
+  machine_within e m (Returns q) kind is = disabling_machine p mapping sound e m is
+
+  pub theirs : AreTheirs p
+  theirs = record { one = λ e m. one_machine e m (kind_of p e) refl; within = λ e m. machine_within e m (kind_of p e) refl }
 
   module _ (object : ℕ) (from : first_machine p ≤ object) (below : object < clock p) where
     apart_from : (o : Option ℕ) → ((n : ℕ) → o ≡ Some n → n ≡ object → ⊥) → not (same_number o (Some object)) ≡ true

@@ -1,6 +1,6 @@
 -- What of a plan belongs to a mode machine: its number, and the events that it starts or disables (SWS_RTE: SwcModeSwitchEvent,
 -- ModeSwitchedAckEvent, ModeDisablingDependency).
-use Rattle.std.specs.Prelude.{◌≡◌, ℕ, ◌≤◌, ◌<◌, ◌-◌, ◌^◌, ◌==◌, List, [], length, filter, Bool, true, false, not, ◌||◌, Some}
+use Rattle.std.specs.Prelude.{◌≡◌, ℕ, ◌≤◌, ◌<◌, ◌-◌, ◌^◌, ◌==◌, List, [], length, filter, Bool, true, false, not, ◌||◌, Option, Some}
 use Rattle.std.specs.List.{list_all}
 use Rattle.std.specs.Option.{option_map_or}
 use Rattle.rte_value.specs.Values.{same_number}
@@ -79,6 +79,15 @@ matters p m e = waits_for_phase m (kind_of p e) || (waits_for_end m (kind_of p e
 
 abbrev pub machine_events : Plan → (machine : ℕ) → List ℕ
 machine_events p m = filter (matters p m) (positions (length p.events))
+
+-- the machine that starts an event of this kind, or else the one that disables it
+abbrev pub mattering : EventKind → (disabler : Option ℕ) → Option ℕ
+mattering (ModeSwitch n at) other = Some n
+mattering (Ack n) other = Some n
+mattering _ other = other
+
+abbrev pub machine_for : Plan → (event : ℕ) → Option ℕ
+machine_for p e = mattering (kind_of p e) (disabler_of p e)
 
 -- ---- machines
 

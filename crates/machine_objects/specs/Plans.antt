@@ -1,13 +1,14 @@
 -- A machine as it is of a plan: what no call changes, and that each mode in it is one of the plan's.
-use Rattle.std.specs.Prelude.{◌≡◌, ℕ, ◌≤◌, true, nat_lt, Some}
+use Rattle.std.specs.Prelude.{◌≡◌, ℕ, ◌≤◌, ◌<◌, length, true, nat_lt, Some}
 use Rattle.std.specs.List.{list_all}
+use Rattle.rte_value.specs.Values.{same_number}
 use Rattle.bus_semantics.specs.declared.entries.Actor.{Actor}
 use Rattle.bus_semantics.specs.Plan.{Plan}
 use Rattle.bus_semantics.specs.Owners.{modes_of}
 use Rattle.bus_semantics.specs.Objects.{object_of}
 use Rattle.bus_semantics.specs.Fitting.{wish_fits}
 use Rattle.bus_semantics.specs.Wanted.{Wanted}
-use Rattle.machine_objects.specs.Layout.{IsMachine, machine_of, owed_events, ack_events, disabled_events}
+use Rattle.machine_objects.specs.Layout.{IsMachine, machine_of, owed_events, ack_events, disabled_events, matters, machine_for}
 use Rattle.machine_objects.specs.Kept.{Kept}
 
 pub record IsOfPlan (p : Plan) (object : ℕ) (k : Kept) : Type 0 where
@@ -25,3 +26,8 @@ pub record IsAskedOf (p : Plan) (object : ℕ) (a : Actor) (w : Wanted) (k : Kep
   pub fits : wish_fits p a w ≡ true
   pub touching : object_of p a w ≡ Some object
   pub planned : IsOfPlan p object k
+
+-- each event matters to one machine at most, which is one of the plan's
+pub record AreTheirs (p : Plan) : Type 0 where
+  pub one : (event machine : ℕ) → matters p machine event ≡ same_number (machine_for p event) (Some machine)
+  pub within : (event machine : ℕ) → machine_for p event ≡ Some machine → machine < length p.machines

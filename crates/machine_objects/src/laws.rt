@@ -11,6 +11,7 @@ ghost use Rattle.object_kinds.specs.Kinds.{LeadsFollow, LeadsKeep, MissesNothing
 ghost use Rattle.machine_objects.specs.Layout.{IsMachine, machine_of};
 ghost use Rattle.machine_objects.specs.Kept.{Kept, opening, may_start, may_move};
 ghost use Rattle.machine_objects.specs.Leading.{lead, wakes};
+ghost use Rattle.machine_objects.specs.Plans.{AreTheirs};
 ghost use Rattle.machine_objects.specs.Standing.{Keeps};
 
 /// An entry by which a machine leads on is what the bus answers after the machine's past and matches it, and what is kept then is
@@ -31,9 +32,11 @@ pub fn first_machine_stands_for_nothing()
     ensures { (p : Plan) (object : ℕ) → IsMachine p object → Keeps p object (opening p (machine_of p object)) [] }
 {}
 
-/// The objects of a sound plan that have a machine's number are machines.
+/// The objects of a sound plan that have a machine's number are machines, and each of its events is started or disabled by one machine
+/// at most, which is one of the plan's.
 pub fn machines_of_sound_plans()
-    ensures { (p : Plan) (m : Mapping) (object : ℕ) → IsSound p m → first_machine p ≤ object → object < clock p → IsMachine p object }
+    ensures machine { (p : Plan) (m : Mapping) (object : ℕ) → IsSound p m → first_machine p ≤ object → object < clock p → IsMachine p object }
+    ensures theirs { (p : Plan) (m : Mapping) → IsSound p m → AreTheirs p }
 {}
 
 /// A start by an event that is not pending, or of which an activation runs, leads nowhere.

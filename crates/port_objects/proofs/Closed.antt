@@ -21,11 +21,15 @@ use Rattle.data_objects.specs.Kept as group
 use Rattle.data_objects.specs.Leading as group_leading
 use Rattle.queue_objects.specs.Kept as queue
 use Rattle.queue_objects.specs.Leading as queue_leading
+use Rattle.server_objects.specs.Kept as server
 use Rattle.area_objects.specs.Kept as area
+use Rattle.machine_objects.specs.Kept as machine
+use Rattle.server_objects.specs.Leading as server_leading
 use Rattle.area_objects.specs.Leading as area_leading
+use Rattle.machine_objects.specs.Leading as machine_leading
 use Rattle.clock_objects.specs.Kept as clock
 use Rattle.clock_objects.specs.Leading as clock_leading
-use Rattle.port_objects.specs.Kept.{Kept, of_group, of_queues, of_area, of_clock}
+use Rattle.port_objects.specs.Kept.{Kept, of_group, of_queues, of_server, of_area, of_machine, of_clock}
 use Rattle.port_objects.specs.Leading.{lead_by_kind, lead}
 use Rattle.port_objects.specs.Waking.{is_leave, IsClosed}
 use Rattle.port_objects.proofs.Gate.{passed, opens, stays_shut}
@@ -48,6 +52,14 @@ closed_queues p object k n x is = stays_shut p object (of_queues k) n
 closed_clock : (p : Plan) (object : ℕ) (k : clock.Kept) → IsClosed p object (of_clock k)
 closed_clock p object k n x is = stays_shut p object (of_clock k) n
     (ap (λ d. option_map of_clock (option_map (clock_leading.with_clock k) (clock_leading.lead_of_clock k.timings k.inits k.clock d))) (enters n.entry.deed (unwrap_or n.event 0) x is))
+
+closed_server : (p : Plan) (object : ℕ) (k : server.Kept) → IsClosed p object (of_server k)
+closed_server p object k n x is = stays_shut p object (of_server k) n
+    (ap (λ d. option_map of_server (option_map (server_leading.with_served k) (server_leading.lead_of_server k d n.entry.actor))) (enters n.entry.deed (unwrap_or n.event 0) x is))
+
+closed_machine : (p : Plan) (object : ℕ) (k : machine.Kept) → IsClosed p object (of_machine k)
+closed_machine p object k n x is = stays_shut p object (of_machine k) n
+    (ap (λ d. option_map of_machine (option_map (machine_leading.with_machine k) (machine_leading.lead_of_machine k n.event d))) (enters n.entry.deed (unwrap_or n.event 0) x is))
 
 -- ---- areas
 
@@ -78,6 +90,8 @@ module _ (p : Plan) (object x : ℕ) (a : ActKey) (fit : wish_fits p (Act a) (to
   unfolding entry
   closed_alike (of_group k) none = closed_group p object k
   closed_alike (of_queues k) none = closed_queues p object k
+  closed_alike (of_server k) none = closed_server p object k
+  closed_alike (of_machine k) none = closed_machine p object k
   closed_alike (of_clock k) none = closed_clock p object k
   closed_alike (of_area k) none = by_holder k.holder refl
     where
@@ -113,6 +127,16 @@ module _ (p : Plan) (object : ℕ) where
       of_lead : (o : Option queue.Kept) → option_map of_queues o ≡ Some after → IsClosed p object after
       of_lead None leads = absurd (cc leads)
       of_lead (Some j) leads = let same : of_queues j ≡ after = cc in subst (IsClosed p object) same (closed_queues p object j)
+  by_kind (of_server k) after n other leads = of_lead (server_leading.lead k n) leads
+    where
+      of_lead : (o : Option server.Kept) → option_map of_server o ≡ Some after → IsClosed p object after
+      of_lead None leads = absurd (cc leads)
+      of_lead (Some j) leads = let same : of_server j ≡ after = cc in subst (IsClosed p object) same (closed_server p object j)
+  by_kind (of_machine k) after n other leads = of_lead (machine_leading.lead k n) leads
+    where
+      of_lead : (o : Option machine.Kept) → option_map of_machine o ≡ Some after → IsClosed p object after
+      of_lead None leads = absurd (cc leads)
+      of_lead (Some j) leads = let same : of_machine j ≡ after = cc in subst (IsClosed p object) same (closed_machine p object j)
   by_kind (of_clock k) after n other leads = of_lead (clock_leading.lead k n) leads
     where
       of_lead : (o : Option clock.Kept) → option_map of_clock o ≡ Some after → IsClosed p object after

@@ -1,32 +1,22 @@
--- The objects of a plan as they are made: one more each time, the groups, the areas, and the clock at last.
+-- The objects of a plan as they are made: one more each time, kind after kind, and the clock at last.
 use Rattle.std.proofs.Common.{◌≡◌, ℕ, zero, suc, ◌+◌, ◌<◌, length-append, refl, sym, ◌∙◌, ap, subst, arith, List, [], ◌∷◌, ◌++◌, length, map, Some}
 use Rattle.std.specs.List.{slice_get}
 use Rattle.std.proofs.Math.Numerals.{suc-eq-add-one}
 use Rattle.std.proofs.lemmas.List.{append-nil, append_assoc, length-map, map_push}
 use Rattle.bus_semantics.specs.Plan.{Plan, positions}
-use Rattle.bus_semantics.specs.Objects.{first_area, clock}
+use Rattle.bus_semantics.specs.Objects.{first_server, first_area, first_machine, clock}
 use Rattle.object_kinds.proofs.Positions.{length_positions, mapped_more}
 use Rattle.area_objects.specs.Kept as areas
 use Rattle.area_objects.specs.Layout.{IsArea}
+use Rattle.machine_objects.specs.Kept as machines
+use Rattle.machine_objects.specs.Layout.{machine_of}
+use Rattle.machine_objects.specs.Standing as machine_standing
 use Rattle.clock_objects.specs.Kept as clocks
 use Rattle.port_objects.specs.declared.object.Object.{Object}
-use Rattle.port_objects.specs.declared.object.Object.TheVariants.{Area}
 use Rattle.port_objects.specs.Kept.{Kept, of_area, of_clock}
-use Rattle.port_objects.specs.Objects.{kept_of, IsOfPlan, ArePlans}
-use Rattle.port_objects.specs.Opening.{opening, opening_of_group}
-use Rattle.port_objects.specs.Plans.{IsMadePlan}
+use Rattle.port_objects.specs.Objects.{kept_of, IsOfPlan}
+use Rattle.port_objects.specs.Opening.{before_servers, before_areas, before_machines, before_clock, opening, opening_of_group, opening_of_server, opening_of_machine, AreFirst, AreMade}
 use Rattle.port_objects.specs.Standing.{Stands}
-
--- ---- numbers: without servers and machines the areas stand after the groups, and the clock after the areas
-
-areas_next : (p : Plan) → IsMadePlan p → first_area p ≡ length p.groups
-areas_next p made = let servers : length p.servers ≡ 0 = ap length made.servers in omega arith
-
-clock_last : (p : Plan) → IsMadePlan p → clock p ≡ length p.groups + length p.areas
-clock_last p made =
-    let servers : length p.servers ≡ 0 = ap length made.servers in
-    let machines : length p.machines ≡ 0 = ap length made.machines in
-    omega arith
 
 -- ---- one object more
 
@@ -44,14 +34,8 @@ at_append (x ∷ xs) y z (suc i) e = deeper (at_append xs y z i e)
     deeper (inside found) = inside found
     deeper (last at same) = last (ap (λ n. suc n) at) same
 
--- the first objects of a plan: what each keeps, and that each is the plan's and stands for no entry
-pub record AreFirst (p : Plan) (kept : List Kept) (objects : List Object) : Type 0 where
-  pub keep : map kept_of objects ≡ kept
-  pub planned : (i : ℕ) (o : Object) → slice_get objects i ≡ Some o → IsOfPlan p i o
-  pub standing : (i : ℕ) (o : Object) → slice_get objects i ≡ Some o → Stands p i (kept_of o) []
-
-pub none_first : (p : Plan) → AreFirst p [] []
-none_first p = record { keep = refl; planned = λ i o found. absurd (cc found); standing = λ i o found. absurd (cc found) }
+pub none_first : (p : Plan) (objects : List Object) → objects ≡ [] → AreFirst p [] objects
+none_first p objects none = subst (AreFirst p []) (sym none) (record { keep = refl; planned = λ i o found. absurd (cc found); standing = λ i o found. absurd (cc found) })
 
 each_more : (P : ℕ → Object → Type 0) (objects new : List Object) (o : Object) → new ≡ objects ++ o ∷ [] → ((i : ℕ) (x : Object) → slice_get objects i ≡ Some x → P i x) → P (length objects) o
     → (i : ℕ) (x : Object) → slice_get new i ≡ Some x → P i x
@@ -74,61 +58,66 @@ one_more p kept k objects new o number first count keeps planned stands is = rec
     at : length objects ≡ number
     at = sym (length-map objects kept_of) ∙ ap length first.keep ∙ count
 
--- ---- the groups, then the areas, and the clock at last
+-- ---- a row of objects of one kind, after others
 
-abbrev pub groups_kept : Plan → (count : ℕ) → List Kept
-groups_kept p n = map (opening_of_group p) (positions n)
+row_count : (before : List Kept) (f : ℕ → Kept) (n : ℕ) → length (before ++ map f (positions n)) ≡ length before + n
+row_count before f n = length-append before (map f (positions n)) ∙ ap (λ k. length before + k) (length-map (positions n) f ∙ length_positions n)
 
-abbrev pub areas_kept : (count : ℕ) → List Kept
-areas_kept n = map (λ x. of_area areas.opening) (positions n)
+-- none of them at first
+pub row_none : (p : Plan) (before : List Kept) (f : ℕ → Kept) (objects : List Object) → AreFirst p before objects → AreFirst p (before ++ map f (positions 0)) objects
+row_none p before f objects first = subst (λ kept. AreFirst p kept objects) (sym (append-nil before)) first
 
-groups_count : (p : Plan) (n : ℕ) → length (groups_kept p n) ≡ n
-groups_count p n = length-map (positions n) (opening_of_group p) ∙ length_positions n
+-- one more
+pub row_more : (p : Plan) (before : List Kept) (f : ℕ → Kept) (n next : ℕ) (objects new : List Object) (o : Object) (number : ℕ) → next ≡ suc n → AreFirst p (before ++ map f (positions n)) objects
+    → length before + n ≡ number → kept_of o ≡ f n → IsOfPlan p number o → Stands p number (f n) [] → new ≡ objects ++ o ∷ [] → AreFirst p (before ++ map f (positions next)) new
+row_more p before f n next objects new o number after first at keeps planned stands is =
+    subst (λ kept. AreFirst p kept new) (append_assoc before (map f (positions n)) (f n ∷ []) ∙ ap (λ kept. before ++ kept) (mapped_more f n next after))
+    (one_more p (before ++ map f (positions n)) (f n) objects new o number first (row_count before f n ∙ at) keeps planned stands is)
 
-areas_count : (p : Plan) (n : ℕ) → length (groups_kept p (length p.groups) ++ areas_kept n) ≡ length p.groups + n
-areas_count p n = length-append (groups_kept p (length p.groups)) (areas_kept n)
-    ∙ (λ i. groups_count p (length p.groups) i + (length-map (positions n) (λ x. of_area areas.opening) ∙ length_positions n) i)
+-- all of them
+pub row_all : (p : Plan) (before : List Kept) (f : ℕ → Kept) (n many : ℕ) (objects : List Object) → n ≡ many → AreFirst p (before ++ map f (positions n)) objects → AreFirst p (before ++ map f (positions many)) objects
+row_all p before f n many objects all first = subst (λ k. AreFirst p (before ++ map f (positions k)) objects) all first
 
-pub group_more : (p : Plan) (g next : ℕ) (objects new : List Object) (o : Object) → next ≡ suc g → AreFirst p (groups_kept p g) objects → kept_of o ≡ opening_of_group p g → IsOfPlan p g o
-    → Stands p g (kept_of o) [] → new ≡ objects ++ o ∷ [] → AreFirst p (groups_kept p next) new
+-- ---- numbers
+
+pub servers_from : (p : Plan) → length (before_servers p) ≡ first_server p
+servers_from p = length-map (positions (length p.groups)) (opening_of_group p) ∙ length_positions (length p.groups)
+
+pub areas_from : (p : Plan) → length (before_areas p) ≡ first_area p
+areas_from p = row_count (before_servers p) (opening_of_server p) (length p.servers) ∙ ap (λ n. n + length p.servers) (servers_from p)
+
+pub machines_from : (p : Plan) → length (before_machines p) ≡ first_machine p
+machines_from p = row_count (before_areas p) (λ x. of_area areas.opening) (length p.areas) ∙ ap (λ n. n + length p.areas) (areas_from p)
+
+pub clock_from : (p : Plan) → length (before_clock p) ≡ clock p
+clock_from p = row_count (before_machines p) (opening_of_machine p) (length p.machines) ∙ ap (λ n. n + length p.machines) (machines_from p)
+
+-- ---- groups, areas and the clock
+
+pub group_more : (p : Plan) (g next : ℕ) (objects new : List Object) (o : Object) → next ≡ suc g → AreFirst p (map (opening_of_group p) (positions g)) objects → kept_of o ≡ opening_of_group p g → IsOfPlan p g o
+    → Stands p g (kept_of o) [] → new ≡ objects ++ o ∷ [] → AreFirst p (map (opening_of_group p) (positions next)) new
 group_more p g next objects new o after first keeps planned stands is =
-    subst (λ kept. AreFirst p kept new) (mapped_more (opening_of_group p) g next after)
-    (one_more p (groups_kept p g) (opening_of_group p g) objects new o g first (groups_count p g) keeps planned (subst (λ k. Stands p g k []) keeps stands) is)
+    let at : 0 + g ≡ g = omega arith in
+    row_more p [] (opening_of_group p) g next objects new o g after first at keeps planned (subst (λ k. Stands p g k []) keeps stands) is
 
 -- the number of an area that there is
-pub this_area : (p : Plan) (n : ℕ) → IsMadePlan p → n < length p.areas → IsArea p (length p.groups + n)
-this_area p n made within = let next = areas_next p made in record { from = omega arith; below = omega arith }
+pub this_area : (p : Plan) (n : ℕ) → n < length p.areas → IsArea p (first_area p + n)
+this_area p n within = record { from = omega arith; below = omega arith }
 
-pub area_more : (p : Plan) (n next : ℕ) (objects new : List Object) (a : areas.Kept) → next ≡ suc n → AreFirst p (groups_kept p (length p.groups) ++ areas_kept n) objects → a ≡ areas.opening
-    → IsArea p (length p.groups + n) → Stands p (length p.groups + n) (of_area areas.opening) [] → new ≡ objects ++ Area a ∷ [] → AreFirst p (groups_kept p (length p.groups) ++ areas_kept next) new
-area_more p n next objects new a after first keeps area stands is =
-    subst (λ kept. AreFirst p kept new)
-    (append_assoc (groups_kept p (length p.groups)) (areas_kept n) (of_area areas.opening ∷ []) ∙ ap (λ kept. groups_kept p (length p.groups) ++ kept) (mapped_more (λ x. of_area areas.opening) n next after))
-    (one_more p (groups_kept p (length p.groups) ++ areas_kept n) (of_area areas.opening) objects new (Area a) (length p.groups + n) first (areas_count p n) (ap of_area keeps) (record { is_area = area }) stands is)
+-- a machine, by its number
+pub first_stands : (p : Plan) (n : ℕ) → machine_standing.Keeps p (first_machine p + n) (machines.opening p (machine_of p (first_machine p + n))) [] → machine_standing.Keeps p (first_machine p + n) (machines.opening p n) []
+first_stands p n stands = let same : machine_of p (first_machine p + n) ≡ n = omega arith in subst (λ k. machine_standing.Keeps p (first_machine p + n) (machines.opening p k) []) same stands
 
--- the groups are followed by no area at first
-pub groups_all : (p : Plan) (n : ℕ) (objects : List Object) → n ≡ length p.groups → AreFirst p (groups_kept p n) objects → AreFirst p (groups_kept p (length p.groups) ++ areas_kept 0) objects
-groups_all p n objects all first = subst (λ kept. AreFirst p kept objects) (ap (groups_kept p) all ∙ sym (append-nil (groups_kept p (length p.groups)))) first
-
-pub record AreMade (p : Plan) (objects : List Object) : Type 0 where
-  pub kept : map kept_of objects ≡ opening p
-  pub planned : ArePlans p objects
-  pub standing : (i : ℕ) (o : Object) → slice_get objects i ≡ Some o → Stands p i (kept_of o) []
-
-pub clock_more : (p : Plan) (n : ℕ) (objects new : List Object) (o : Object) → IsMadePlan p → n ≡ length p.areas → AreFirst p (groups_kept p (length p.groups) ++ areas_kept n) objects → kept_of o ≡ of_clock (clocks.opening p)
+pub clock_more : (p : Plan) (objects new : List Object) (o : Object) → AreFirst p (before_clock p) objects → kept_of o ≡ of_clock (clocks.opening p)
     → IsOfPlan p (clock p) o → Stands p (clock p) (of_clock (clocks.opening p)) [] → new ≡ objects ++ o ∷ [] → AreMade p new
-clock_more p n objects new o made all first keeps planned stands is = record {
+clock_more p objects new o first keeps planned stands is = record {
   kept = whole.keep;
   planned = record { count = sym (length-map new kept_of) ∙ ap length whole.keep ∙ opening_count; each = whole.planned };
   standing = whole.standing;
 }
   where
-    at : length (groups_kept p (length p.groups) ++ areas_kept (length p.areas)) ≡ clock p
-    at = areas_count p (length p.areas) ∙ sym (clock_last p made)
-
     whole : AreFirst p (opening p) new
-    whole = one_more p (groups_kept p (length p.groups) ++ areas_kept (length p.areas)) (of_clock (clocks.opening p)) objects new o (clock p)
-        (subst (λ k. AreFirst p (groups_kept p (length p.groups) ++ areas_kept k) objects) all first) at keeps planned stands is
+    whole = one_more p (before_clock p) (of_clock (clocks.opening p)) objects new o (clock p) first (clock_from p) keeps planned stands is
 
     opening_count : length (opening p) ≡ suc (clock p)
-    opening_count = length-append (groups_kept p (length p.groups) ++ areas_kept (length p.areas)) (of_clock (clocks.opening p) ∷ []) ∙ ap (λ k. k + 1) at ∙ sym (suc-eq-add-one (clock p))
+    opening_count = length-append (before_clock p) (of_clock (clocks.opening p) ∷ []) ∙ ap (λ k. k + 1) (clock_from p) ∙ sym (suc-eq-add-one (clock p))

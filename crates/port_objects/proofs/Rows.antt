@@ -15,13 +15,19 @@ use Rattle.data_objects.specs.Standing as group_standing
 use Rattle.queue_objects.specs.Kept as queue
 use Rattle.queue_objects.specs.Leading as queue_leading
 use Rattle.queue_objects.specs.Standing as queue_standing
+use Rattle.server_objects.specs.Kept as server
 use Rattle.area_objects.specs.Kept as area
+use Rattle.machine_objects.specs.Kept as machine
+use Rattle.server_objects.specs.Leading as server_leading
 use Rattle.area_objects.specs.Leading as area_leading
+use Rattle.machine_objects.specs.Leading as machine_leading
+use Rattle.server_objects.specs.Standing as server_standing
 use Rattle.area_objects.specs.Standing as area_standing
+use Rattle.machine_objects.specs.Standing as machine_standing
 use Rattle.clock_objects.specs.Kept as clock
 use Rattle.clock_objects.specs.Leading as clock_leading
 use Rattle.clock_objects.specs.Standing as clock_standing
-use Rattle.port_objects.specs.Kept.{Kept, of_group, of_queues, of_area, of_clock}
+use Rattle.port_objects.specs.Kept.{Kept, of_group, of_queues, of_server, of_area, of_machine, of_clock}
 use Rattle.port_objects.specs.Leading.{lead_by_kind, lead}
 use Rattle.port_objects.specs.Standing.{Keeps, Stands}
 use Rattle.port_objects.specs.Waking.{may_start_in}
@@ -41,8 +47,14 @@ group_row p object = record { leads = λ k n. refl; flags = λ k event. refl; sh
 pub queue_row : (p : Plan) (object : ℕ) → Row p object of_queues (queue_standing.Keeps p object) (queue_leading.lead p) queue.may_start queue_leading.why_held
 queue_row p object = record { leads = λ k n. refl; flags = λ k event. refl; shows = λ k w. refl; gives = λ k l keeps. keeps; takes = λ k l keeps. keeps }
 
+pub server_row : (p : Plan) (object : ℕ) → Row p object of_server (server_standing.Keeps p object) server_leading.lead server.may_start server_leading.why_held
+server_row p object = record { leads = λ k n. refl; flags = λ k event. refl; shows = λ k w. refl; gives = λ k l keeps. keeps; takes = λ k l keeps. keeps }
+
 pub area_row : (p : Plan) (object : ℕ) → Row p object of_area (area_standing.Keeps p object) area_leading.lead area.may_start area_leading.why_held
 area_row p object = record { leads = λ k n. refl; flags = λ k event. refl; shows = λ k w. refl; gives = λ k l keeps. keeps; takes = λ k l keeps. keeps }
+
+pub machine_row : (p : Plan) (object : ℕ) → Row p object of_machine (machine_standing.Keeps p object) machine_leading.lead machine.may_start machine_leading.why_held
+machine_row p object = record { leads = λ k n. refl; flags = λ k event. refl; shows = λ k w. refl; gives = λ k l keeps. keeps; takes = λ k l keeps. keeps }
 
 pub clock_row : (p : Plan) (object : ℕ) → Row p object of_clock (clock_standing.Keeps p object) clock_leading.lead clock.may_start clock_leading.why_held
 clock_row p object = record { leads = λ k n. refl; flags = λ k event. refl; shows = λ k w. refl; gives = λ k l keeps. keeps; takes = λ k l keeps. keeps }

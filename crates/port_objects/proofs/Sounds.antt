@@ -1,5 +1,5 @@
 -- A sound plan has what its objects need, and a wish that fits touches an object that there is.
-use Rattle.std.proofs.Common.{◌≡◌, ℕ, zero, suc, ◌+◌, ◌<◌, ◌^◌, Bool, true, false, not, ◌&&◌, ◌==◌, refl, sym, ◌∙◌, ap, subst, arith, List, [], ◌∷◌, length, map, Option, Some, None}
+use Rattle.std.proofs.Common.{◌≡◌, ℕ, zero, suc, ◌+◌, ◌<◌, ◌≤◌, ◌^◌, Bool, true, false, not, ◌&&◌, ◌==◌, refl, sym, ◌∙◌, ap, subst, arith, List, [], ◌∷◌, length, map, Option, Some, None}
 use Rattle.std.specs.Prelude.{IfSome, nat_lt, nat_le, option_map, sum}
 use Rattle.std.specs.List.{list_all, slice_get}
 use Rattle.std.proofs.lemmas.Bool.{and_parts, eqb-true, false≢true}
@@ -26,6 +26,10 @@ use Rattle.bus_semantics.specs.Unqueued.{is_in_group}
 use Rattle.bus_semantics.specs.Queued.{places_at}
 use Rattle.bus_semantics.specs.Sound.{IsSound}
 use Rattle.queue_objects.specs.Layout.{receivers_of, is_queued_at, IsQueuedGroup}
+use Rattle.server_objects.specs.Layout.{IsServer}
+use Rattle.server_objects.specs.Plans.{AreJoined}
+use Rattle.machine_objects.specs.Layout.{IsMachine}
+use Rattle.machine_objects.specs.Plans.{AreTheirs}
 use Rattle.clock_objects.specs.Layout.{has_period}
 use Rattle.object_kinds.specs.Layout.{members_of}
 use Rattle.object_kinds.proofs.Lists.{all_at}
@@ -71,10 +75,16 @@ one_kind p g within whole few false is = record { number = within; unqueued = no
         λ i. is_unqueued x parts.0 (is_queued_at p x) refl i && none_queued xs parts.1 i
 
 pub has_objects : (p : Plan) (m : Mapping) → (sound : IsSound p m) → ((group elem : ℕ) → IsSound p m → is_in_group p group elem ≡ true → is_queued_at p elem ≡ true → IsQueuedGroup p group)
-    → ((group : ℕ) → IsSound p m → IsQueuedGroup p group → sum (map (places_at p) (receivers_of p group)) < 2 ^ 32) → HasObjects p
-has_objects p m sound whole few = record {
+    → ((group : ℕ) → IsSound p m → IsQueuedGroup p group → sum (map (places_at p) (receivers_of p group)) < 2 ^ 32)
+    → ((server : ℕ) → IsSound p m → server < length p.servers → IsServer p (first_server p + server)) → (IsSound p m → AreJoined p)
+    → ((object : ℕ) → IsSound p m → first_machine p ≤ object → object < clock p → IsMachine p object) → (IsSound p m → AreTheirs p) → HasObjects p
+has_objects p m sound whole few servers joined machines theirs = record {
   groups = sound.groups;
   kinds = λ g within. one_kind p g within (λ h x. whole h x sound) (few g sound) (has_queues p g) refl;
+  servers = λ s within. servers s sound within;
+  joined = joined sound;
+  machines = λ n within. machines (first_machine p + n) sound (omega arith) (omega (arith, within));
+  theirs = theirs sound;
   counted = sound.objects;
   few_events = (and_parts (every_from 0 (event_sound p) p.events) (nat_le (length p.events) 16384) sound.events).1;
   periods = all_where (λ (v : EventPlan). has_period v.kind) p.events (λ i v there. of_kind i v.runnable (instance_of p v.runnable) v.kind (kind_fits p m sound i v there));

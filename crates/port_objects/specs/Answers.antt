@@ -15,10 +15,12 @@ use Rattle.object_kinds.specs.declared.acted.Acted.TheVariants.{Done, NotYet}
 use Rattle.object_kinds.specs.declared.acted.Shown.{Shown}
 use Rattle.data_objects.specs.Leading as groups
 use Rattle.queue_objects.specs.Leading as queues
+use Rattle.server_objects.specs.Leading as servers
 use Rattle.area_objects.specs.Leading as areas
+use Rattle.machine_objects.specs.Leading as machines
 use Rattle.clock_objects.specs.Leading as clocks
 use Rattle.port_objects.specs.declared.object.Object.{Object}
-use Rattle.port_objects.specs.Kept.{Kept, of_group, of_queues, of_area, of_clock}
+use Rattle.port_objects.specs.Kept.{Kept, of_group, of_queues, of_server, of_area, of_machine, of_clock}
 use Rattle.port_objects.specs.Leading.{lead}
 use Rattle.port_objects.specs.Objects.{kept_of}
 use Rattle.port_objects.specs.Waking.{may_start_in, Tells}
@@ -36,7 +38,9 @@ pub record IsMade (p : Plan) (object : ℕ) (a : Actor) (w : Wanted) (old new : 
 abbrev pub why_held : Kept → Wanted → Shown
 why_held (of_group k) w = groups.why_held k w
 why_held (of_queues k) w = queues.why_held k w
+why_held (of_server k) w = servers.why_held k w
 why_held (of_area k) w = areas.why_held k w
+why_held (of_machine k) w = machines.why_held k w
 why_held (of_clock k) w = clocks.why_held k w
 
 -- nothing has changed, no entry of the actor and of the wish leads anywhere, and the object allows no plain start that was wished

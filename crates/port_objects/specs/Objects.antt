@@ -4,23 +4,29 @@ use Rattle.bus_semantics.specs.Plan.{Plan}
 use Rattle.bus_semantics.specs.Objects.{clock}
 use Rattle.data_objects.specs.Plans as groups
 use Rattle.queue_objects.specs.Plans as queues
+use Rattle.server_objects.specs.Plans as servers
 use Rattle.area_objects.specs.Plans as areas
+use Rattle.machine_objects.specs.Plans as machines
 use Rattle.clock_objects.specs.Plans as clocks
 use Rattle.port_objects.specs.declared.object.Object.{Object}
-use Rattle.port_objects.specs.declared.object.Object.TheVariants.{Unqueued, Queued, Area, Clock}
-use Rattle.port_objects.specs.Kept.{Kept, of_group, of_queues, of_area, of_clock}
+use Rattle.port_objects.specs.declared.object.Object.TheVariants.{Unqueued, Queued, Server, Area, Machine, Clock}
+use Rattle.port_objects.specs.Kept.{Kept, of_group, of_queues, of_server, of_area, of_machine, of_clock}
 
 abbrev pub kept_of : Object → Kept
 kept_of (Unqueued g) = of_group g.kept
 kept_of (Queued g) = of_queues g.kept
+kept_of (Server s) = of_server s.kept
 kept_of (Area a) = of_area a
+kept_of (Machine m) = of_machine m.kept
 kept_of (Clock t) = of_clock t.kept
 
 -- it is the plan's object of that number
 abbrev pub IsOfPlan : Plan → (object : ℕ) → Object → Type 0
 IsOfPlan p object (Unqueued g) = groups.IsOfPlan p object g.kept
 IsOfPlan p object (Queued g) = queues.IsOfPlan p object g.kept
+IsOfPlan p object (Server s) = servers.IsOfPlan p object s.kept
 IsOfPlan p object (Area a) = areas.IsOfPlan p object a
+IsOfPlan p object (Machine m) = machines.IsOfPlan p object m.kept
 IsOfPlan p object (Clock t) = clocks.IsOfPlan p object t.kept
 
 -- they are the plan's objects, each at its number

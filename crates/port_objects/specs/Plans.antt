@@ -1,17 +1,17 @@
--- Of which plans the objects are made, and what is asked of them. A sound plan has what is asked.
-use Rattle.std.specs.Prelude.{◌≡◌, ◌<◌, ◌^◌, ℕ, [], length, map, sum, Bool, true, false, nat_le}
+-- What is asked of the plans whose objects are made. A sound plan has it.
+use Rattle.std.specs.Prelude.{◌≡◌, ◌<◌, ◌+◌, ◌^◌, ℕ, length, map, sum, Bool, true, false, nat_le}
 use Rattle.bus_semantics.specs.Plan.{Plan, look}
+use Rattle.bus_semantics.specs.Objects.{first_server, first_machine}
 use Rattle.bus_semantics.specs.Queued.{places_at}
 use Rattle.bus_semantics.specs.SoundPlan.{groups_fit, objects_counted}
 use Rattle.object_kinds.specs.Layout.{members_of}
 use Rattle.data_objects.specs.Layout.{IsUnqueuedGroup}
 use Rattle.queue_objects.specs.Layout.{receivers_of, is_queued_at, IsQueuedGroup}
+use Rattle.server_objects.specs.Layout.{IsServer}
+use Rattle.server_objects.specs.Plans.{AreJoined}
+use Rattle.machine_objects.specs.Layout.{IsMachine}
+use Rattle.machine_objects.specs.Plans.{AreTheirs}
 use Rattle.clock_objects.specs.Layout.{have_periods}
-
--- the plans whose objects are built so far: groups of data, areas, and the clock. Servers and machines are to come
-pub record IsMadePlan (p : Plan) : Type 0 where
-  pub servers : p.servers ≡ []
-  pub machines : p.machines ≡ []
 
 -- whether the first element of a group is queued
 abbrev pub has_queues : Plan → (group : ℕ) → Bool
@@ -27,10 +27,15 @@ abbrev pub IsOfOneKind : Plan → (group : ℕ) → (queued : Bool) → Type 0
 IsOfOneKind p g true = QueuesFit p g
 IsOfOneKind p g false = IsUnqueuedGroup p g
 
--- groups list their elements and are of one kind each, the objects and events are counted, and no period is empty
+-- groups list their elements and are of one kind each, servers and machines are such that are made and own the points and events that name
+-- them, the objects and events are counted, and no period is empty
 pub record HasObjects (p : Plan) : Type 0 where
   pub groups : groups_fit p ≡ true
   pub kinds : (group : ℕ) → group < length p.groups → IsOfOneKind p group (has_queues p group)
+  pub servers : (server : ℕ) → server < length p.servers → IsServer p (first_server p + server)
+  pub joined : AreJoined p
+  pub machines : (machine : ℕ) → machine < length p.machines → IsMachine p (first_machine p + machine)
+  pub theirs : AreTheirs p
   pub counted : objects_counted p ≡ true
   pub few_events : nat_le (length p.events) 16384 ≡ true
   pub periods : have_periods p ≡ true

@@ -5,15 +5,19 @@ use Rattle.bus_semantics.specs.History.{Past}
 use Rattle.bus_semantics.specs.Pasts.{IsPastOf}
 use Rattle.data_objects.specs.Standing as groups
 use Rattle.queue_objects.specs.Standing as queues
+use Rattle.server_objects.specs.Standing as servers
 use Rattle.area_objects.specs.Standing as areas
+use Rattle.machine_objects.specs.Standing as machines
 use Rattle.clock_objects.specs.Standing as clocks
-use Rattle.port_objects.specs.Kept.{Kept, of_group, of_queues, of_area, of_clock}
+use Rattle.port_objects.specs.Kept.{Kept, of_group, of_queues, of_server, of_area, of_machine, of_clock}
 
 -- it is the plan's object of that number, and keeps what the definitions give
 abbrev pub Keeps : Plan → (object : ℕ) → Kept → Past → Type 0
 Keeps p object (of_group k) l = groups.Keeps p object k l
 Keeps p object (of_queues k) l = queues.Keeps p object k l
+Keeps p object (of_server k) l = servers.Keeps p object k l
 Keeps p object (of_area k) l = areas.Keeps p object k l
+Keeps p object (of_machine k) l = machines.Keeps p object k l
 Keeps p object (of_clock k) l = clocks.Keeps p object k l
 
 pub record Stands (p : Plan) (object : ℕ) (k : Kept) (l : Past) : Type 0 where

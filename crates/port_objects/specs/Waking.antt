@@ -9,11 +9,13 @@ use Rattle.bus_semantics.specs.Wanted.{to_enter, wanted_by}
 use Rattle.bus_semantics.specs.History.{Noted}
 use Rattle.data_objects.specs.Kept as groups
 use Rattle.queue_objects.specs.Kept as queues
+use Rattle.server_objects.specs.Kept as servers
 use Rattle.area_objects.specs.Kept as areas
+use Rattle.machine_objects.specs.Kept as machines
 use Rattle.clock_objects.specs.Kept as clocks
 use Rattle.port_objects.specs.declared.object.Object.{Object}
-use Rattle.port_objects.specs.declared.object.Object.TheVariants.{Unqueued, Queued, Area, Clock}
-use Rattle.port_objects.specs.Kept.{Kept, of_group, of_queues, of_area, of_clock}
+use Rattle.port_objects.specs.declared.object.Object.TheVariants.{Unqueued, Queued, Server, Area, Machine, Clock}
+use Rattle.port_objects.specs.Kept.{Kept, of_group, of_queues, of_server, of_area, of_machine, of_clock}
 use Rattle.port_objects.specs.Leading.{lead}
 use Rattle.port_objects.specs.Objects.{kept_of}
 
@@ -21,7 +23,9 @@ use Rattle.port_objects.specs.Objects.{kept_of}
 abbrev pub may_start_in : Kept → (event : ℕ) → Bool
 may_start_in (of_group k) e = groups.may_start k e
 may_start_in (of_queues k) e = queues.may_start k e
+may_start_in (of_server k) e = servers.may_start k e
 may_start_in (of_area k) e = areas.may_start k e
+may_start_in (of_machine k) e = machines.may_start k e
 may_start_in (of_clock k) e = clocks.may_start k e
 
 -- an entry that can make a start come: new data, a tick, a request, what ends one, and what moves a machine on
@@ -40,7 +44,9 @@ wakes _ = false
 abbrev pub woken_in : Object → List ℕ
 woken_in (Unqueued g) = g.woken
 woken_in (Queued g) = g.woken
+woken_in (Server s) = s.woken
 woken_in (Area a) = []
+woken_in (Machine m) = m.woken
 woken_in (Clock t) = t.woken
 
 -- each start that an object came to allow is by one of these

@@ -56,7 +56,9 @@ fn act_by_kind(p: &BusPlan, object: &mut Object, who: &Actor, wish: &Wish) -> Ac
     match object {
         Object::Unqueued(group) => group.act(p, who, wish),
         Object::Queued(group) => group.act(p, who, wish),
+        Object::Server(server) => server.act(who, wish),
         Object::Area(area) => area.act(who, wish),
+        Object::Machine(machine) => machine.act(who, wish),
         Object::Clock(ticks) => ticks.act(who, wish),
     }
 }

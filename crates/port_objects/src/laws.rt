@@ -37,7 +37,9 @@ pub fn leads_are_legal()
 {
     data_objects::leads_are_legal();
     queue_objects::leads_are_legal();
+    server_objects::leads_are_legal();
     area_objects::leads_are_legal();
+    machine_objects::leads_are_legal();
     clock_objects::leads_are_legal();
 }
 
@@ -49,7 +51,9 @@ pub fn leads_miss_nothing()
 {
     data_objects::leads_miss_nothing();
     queue_objects::leads_miss_nothing();
+    server_objects::leads_miss_nothing();
     area_objects::leads_miss_nothing();
+    machine_objects::leads_miss_nothing();
     clock_objects::leads_miss_nothing();
 }
 
@@ -62,6 +66,8 @@ pub fn sound_plans_have_objects()
     ensures entered { (p : Plan) (m : Mapping) (n : Noted) → IsSound p m → fits p n.entry ≡ true → IfSome (touched_by p n) (IsObject p) }
 {
     queue_objects::queued_groups_of_sound_plans();
+    server_objects::servers_of_sound_plans();
+    machine_objects::machines_of_sound_plans();
 }
 
 /// What is answered on an object by the lead, as benches that tell their objects answer, is the one entry of the wish that may

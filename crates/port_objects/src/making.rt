@@ -1,12 +1,12 @@
 //! The objects of a plan.
 
-ghost use Rattle.std.specs.Prelude.{◌≡◌, ◌<◌, ℕ, length, map, slice_get, [], Some, IfOk};
+ghost use Rattle.std.specs.Prelude.{◌≡◌, ◌<◌, ◌^◌, ℕ, length, map, slice_get, [], Some, IfOk, OnOk};
 ghost use Rattle.bus_semantics.specs.Plan.{plan_of};
 ghost use Rattle.object_kinds.specs.Layout.{events_of, waits_for_data};
 ghost use Rattle.queue_objects.specs.Layout.{is_queued_at};
 ghost use Rattle.port_objects.specs.Objects.{kept_of, IsOfPlan, ArePlans};
-ghost use Rattle.port_objects.specs.Opening.{opening, opening_of_group};
-ghost use Rattle.port_objects.specs.Plans.{IsMadePlan, HasObjects, has_queues};
+ghost use Rattle.port_objects.specs.Opening.{before_servers, before_areas, before_machines, before_clock, opening, opening_of_group, AreFirst, AreMade};
+ghost use Rattle.port_objects.specs.Plans.{HasObjects, has_queues};
 ghost use Rattle.port_objects.specs.Standing.{Stands};
 
 use crate::Memory;
@@ -15,33 +15,121 @@ use area_objects::AreaObject;
 use bus_semantics::{BusPlan, ElemKind};
 use clock_objects::Ticks;
 use data_objects::Group;
+use machine_objects::{MachineObject, mattering_events};
 use object_kinds::{take_list, waiting_events};
 use queue_objects::QueueGroup;
-use std::alloc::Global;
+use server_objects::{ServerObject, joined_points, return_events};
+use std::alloc::{AllocError, Global};
 
-/// The objects of a plan without servers and machines, to which nothing has happened: one for each group, one for each area, and
-/// then the clock, so that each stands at its number. The only error is that there is no memory for them; what comes later on them takes
-/// none.
+/// The objects of a plan, to which nothing has happened: one for each group, one for each server, one for each area, one for each mode
+/// machine, and then the clock, so that each stands at its number. The only error is that there is no memory for them, which there is not
+/// for the points of a plan that 32 bits do not count; what comes later on them takes none.
 pub fn make_objects(alloc: Global, p: &BusPlan) -> Result<Vec<Object>, Memory>
-    requires made { IsMadePlan (plan_of p.now) }
     requires sound { HasObjects (plan_of p.now) }
     ensures kept { IfOk result (λ objects. map kept_of objects.items ≡ opening (plan_of p.now)) }
     ensures planned { IfOk result (λ objects. ArePlans (plan_of p.now) objects.items) }
     ensures standing { IfOk result (λ objects. (i : ℕ) (o : Object) → slice_get objects.items i ≡ Some o → Stands (plan_of p.now) i (kept_of o) []) }
 {
-    area_objects::first_area_stands_for_nothing();
-    clock_objects::first_clock_stands_for_nothing();
-    let mut waiting = waiting_events(alloc, p)?;
     let mut objects = Vec::new(alloc);
+    push_objects(alloc, p, &mut objects)?;
+    Ok(objects)
+}
+
+/// Appends the objects of each kind, in the order of their numbers.
+fn push_objects(alloc: Global, p: &BusPlan, objects: &mut Vec<Object>) -> Result<(), Memory>
+    requires sound { HasObjects (plan_of p.now) }
+    requires none { objects.old.items ≡ [] }
+    ensures { OnOk result (AreMade (plan_of p.now) objects.new.items) }
+{
+    push_groups(alloc, p, objects)?;
+    push_servers(alloc, p, objects)?;
+    push_areas(p, objects)?;
+    push_machines(alloc, p, objects)?;
+    push_clock(alloc, p, objects)
+}
+
+/// Appends the object of each group.
+fn push_groups(alloc: Global, p: &BusPlan, objects: &mut Vec<Object>) -> Result<(), Memory>
+    requires sound { HasObjects (plan_of p.now) }
+    requires none { objects.old.items ≡ [] }
+    ensures { OnOk result (AreFirst (plan_of p.now) (before_servers (plan_of p.now)) objects.new.items) }
+{
+    let mut waiting = waiting_events(alloc, p)?;
     for group in 0..p.groups.len() as u32 {
         let events = take_list(alloc, &mut waiting, group);
         objects.push(make_group(alloc, p, group, events)?)?;
     }
+    Ok(())
+}
+
+/// Appends each server.
+fn push_servers(alloc: Global, p: &BusPlan, objects: &mut Vec<Object>) -> Result<(), Memory>
+    requires sound { HasObjects (plan_of p.now) }
+    requires first { AreFirst (plan_of p.now) (before_servers (plan_of p.now)) objects.old.items }
+    ensures { OnOk result (AreFirst (plan_of p.now) (before_areas (plan_of p.now)) objects.new.items) }
+{
+    server_objects::first_servers_stand_for_nothing();
+    count_points(p)?;
+    let mut points = joined_points(alloc, p)?;
+    let mut returns = return_events(alloc, p)?;
+    for server in 0..p.servers.len() as u32 {
+        let called = take_list(alloc, &mut points, server);
+        let awaited = take_list(alloc, &mut returns, server);
+        let made = ServerObject::new(alloc, p, server, called, awaited)?;
+        objects.push(Object::Server(made))?;
+    }
+    Ok(())
+}
+
+/// Is out of memory for a plan with more points than 32 bits count.
+fn count_points(p: &BusPlan) -> Result<(), Memory>
+    ensures { OnOk result (length p.now.points < 2 ^ 32) }
+{
+    if p.points.len() > u32::MAX as usize {
+        return Err(AllocError);
+    }
+    Ok(())
+}
+
+/// Appends each area.
+fn push_areas(p: &BusPlan, objects: &mut Vec<Object>) -> Result<(), Memory>
+    requires sound { HasObjects (plan_of p.now) }
+    requires first { AreFirst (plan_of p.now) (before_areas (plan_of p.now)) objects.old.items }
+    ensures { OnOk result (AreFirst (plan_of p.now) (before_machines (plan_of p.now)) objects.new.items) }
+{
+    area_objects::first_area_stands_for_nothing();
     for _area in 0..p.areas.len() {
         objects.push(Object::Area(AreaObject::new()))?;
     }
-    objects.push(Object::Clock(Ticks::new(alloc, p)?))?;
-    Ok(objects)
+    Ok(())
+}
+
+/// Appends each mode machine.
+fn push_machines(alloc: Global, p: &BusPlan, objects: &mut Vec<Object>) -> Result<(), Memory>
+    requires sound { HasObjects (plan_of p.now) }
+    requires first { AreFirst (plan_of p.now) (before_machines (plan_of p.now)) objects.old.items }
+    ensures { OnOk result (AreFirst (plan_of p.now) (before_clock (plan_of p.now)) objects.new.items) }
+{
+    machine_objects::first_machine_stands_for_nothing();
+    let mut mattering = mattering_events(alloc, p)?;
+    for machine in 0..p.machines.len() as u32 {
+        let events = take_list(alloc, &mut mattering, machine);
+        let made = MachineObject::new(alloc, p, machine, events.as_slice())?;
+        objects.push(Object::Machine(made))?;
+    }
+    Ok(())
+}
+
+/// Appends the clock.
+fn push_clock(alloc: Global, p: &BusPlan, objects: &mut Vec<Object>) -> Result<(), Memory>
+    requires sound { HasObjects (plan_of p.now) }
+    requires first { AreFirst (plan_of p.now) (before_clock (plan_of p.now)) objects.old.items }
+    ensures { OnOk result (AreMade (plan_of p.now) objects.new.items) }
+{
+    clock_objects::first_clock_stands_for_nothing();
+    let ticks = Ticks::new(alloc, p)?;
+    objects.push(Object::Clock(ticks))?;
+    Ok(())
 }
 
 /// The object of a group for whose elements these events wait, by the kind of its elements.

@@ -3,7 +3,9 @@
 use area_objects::AreaObject;
 use clock_objects::Ticks;
 use data_objects::Group;
+use machine_objects::MachineObject;
 use queue_objects::QueueGroup;
+use server_objects::ServerObject;
 
 /// What calls of the bus share: at most one of these is touched by an entry. There is a case for each kind of object.
 #[derive(Drop)]
@@ -12,8 +14,12 @@ pub enum Object {
     Unqueued(Group),
     /// A group of joined queued data elements.
     Queued(QueueGroup),
+    /// A server with the points that call it.
+    Server(ServerObject),
     /// An exclusive area.
     Area(AreaObject),
+    /// A mode machine.
+    Machine(MachineObject),
     /// The clock.
     Clock(Ticks),
 }

@@ -19,21 +19,26 @@ pub fn may_start(object: &Object, event: u32) -> bool
     match object {
         Object::Unqueued(group) => group.may_start(event),
         Object::Queued(group) => group.may_start(event),
+        Object::Server(server) => server.may_start(event),
         Object::Area(_) => false,
+        Object::Machine(machine) => machine.may_start(event),
         Object::Clock(ticks) => ticks.may_start(event),
     }
 }
 
 /// The events, by number, that the last entry which can make a start come made pending on an object (SWS_RTE: activation of
-/// runnables): DataReceivedEvents of a group, TimingEvents of the clock, none of an area. Each start that the last entry made come is by one
-/// of them; no clause says that there are no others among them. It changes nothing.
+/// runnables): DataReceivedEvents of a group, OperationInvokedEvents and AsynchronousServerCallReturnsEvents of a server,
+/// SwcModeSwitchEvents and ModeSwitchedAckEvents of a machine, TimingEvents of the clock, none of an area. Each start that the last entry
+/// made come is by one of them; no clause says that there are no others among them. It changes nothing.
 pub fn woken(object: &Object) -> &[u32]
     ensures { result.now ≡ woken_in object.now }
 {
     match object {
         Object::Unqueued(group) => group.woken(),
         Object::Queued(group) => group.woken(),
+        Object::Server(server) => server.woken(),
         Object::Area(_) => &[],
+        Object::Machine(machine) => machine.woken(),
         Object::Clock(ticks) => ticks.woken(),
     }
 }
@@ -44,7 +49,9 @@ pub fn held_starts_lead_nowhere()
 {
     data_objects::starts_go_by_flags();
     queue_objects::starts_go_by_flags();
+    server_objects::starts_go_by_flags();
     area_objects::starts_go_by_flags();
+    machine_objects::starts_go_by_flags();
     clock_objects::starts_go_by_flags();
 }
 
@@ -55,6 +62,8 @@ pub fn other_entries_wake_nothing()
 {
     data_objects::other_entries_wake_nothing();
     queue_objects::other_entries_wake_nothing();
+    server_objects::other_entries_wake_nothing();
     area_objects::other_entries_wake_nothing();
+    machine_objects::other_entries_wake_nothing();
     clock_objects::other_entries_wake_nothing();
 }

@@ -15,7 +15,6 @@ use description_stages::PlannedDescription;
 use rte_text::{Gate, Sink};
 use script_reading::scripts_are_carriable;
 use script_run::{ScriptRun, run_script, runs_from_nothing_are_runs};
-use stage_rule::plans_of_the_stage_are_plain;
 use std::alloc::{AllocError, Global};
 use std::thread::Threads;
 use task_generator::generate;
@@ -30,7 +29,6 @@ fn new_node(alloc: Global, found: PlannedDescription) -> Result<Node, AllocError
     ensures mapping { IfOk result (λ n. n.mapping ≡ found.mapping) }
     ensures lawful { IfOk result (λ n. IsLawfulNode n []) }
 {
-    plans_of_the_stage_are_plain();
     match generate(alloc, &found.plan, &found.mapping) {
         Ok(bodies) => Node::new(alloc, found.plan, found.mapping, bodies),
         Err(memory) => Err(memory),

@@ -10,17 +10,24 @@ use Rattle.data_objects.specs.Standing as group_standing
 use Rattle.queue_objects.specs.Kept as queues
 use Rattle.queue_objects.specs.Leading as queue_leading
 use Rattle.queue_objects.specs.Standing as queue_standing
+use Rattle.server_objects.specs.Kept as servers
 use Rattle.area_objects.specs.Kept as areas
+use Rattle.machine_objects.specs.Kept as machines
+use Rattle.server_objects.specs.Leading as server_leading
 use Rattle.area_objects.specs.Leading as area_leading
+use Rattle.machine_objects.specs.Leading as machine_leading
+use Rattle.server_objects.specs.Standing as server_standing
 use Rattle.area_objects.specs.Standing as area_standing
+use Rattle.machine_objects.specs.Standing as machine_standing
 use Rattle.clock_objects.specs.Kept as clocks
 use Rattle.clock_objects.specs.Leading as clock_leading
 use Rattle.clock_objects.specs.Standing as clock_standing
-use Rattle.port_objects.specs.declared.object.Object.TheVariants.{Unqueued, Queued, Area, Clock}
-use Rattle.port_objects.specs.Kept.{of_group, of_queues, of_area, of_clock}
+use Rattle.machine_objects.specs.Plans.{IsAskedOf}
+use Rattle.port_objects.specs.declared.object.Object.TheVariants.{Unqueued, Queued, Server, Area, Machine, Clock}
+use Rattle.port_objects.specs.Kept.{of_group, of_queues, of_server, of_area, of_machine, of_clock}
 use Rattle.port_objects.specs.Objects.{IsOfPlan}
 use Rattle.port_objects.specs.Answers.{IsAnswer}
-use Rattle.port_objects.proofs.Rows.{group_row, queue_row, area_row, clock_row}
+use Rattle.port_objects.proofs.Rows.{group_row, queue_row, server_row, area_row, machine_row, clock_row}
 use Rattle.port_objects.proofs.Answering.{answered}
 use Rattle.port_objects.proofs.acting.act_by_kind.Goals as goal
 
@@ -50,6 +57,25 @@ returns-in-Queued-clause-lead c =
     c.requires.touching c.requires.fits c.requires.own (Queued old) (Queued new) old.kept new.kept c.act-in-Queued.result refl refl
     c.act-in-Queued.ensures.answer (λ shown is. ap Queued (c.act-in-Queued.ensures.same shown is)) c.act-in-Queued.ensures.told)
 
+pub returns-in-Server-clause-lead : goal.returns-in-Server-clause-lead
+returns-in-Server-clause-lead c =
+    let p = plan_of c.args.p.now in
+    let a = c.args.who.now in
+    let w = wanted_of c.args.wish.now in
+    let o = touched p a w in
+    let old = c.in-Server.server in
+    let new = c.act-in-Server.new.self in
+    subst (λ x. IsAnswer p o a w x (Server new) c.act-in-Server.result) (sym c.in-Server.is)
+    (answered p a w of_server (server_standing.Keeps p o) server_leading.lead servers.may_start server_leading.why_held (server_row p o)
+    c.requires.touching c.requires.fits c.requires.own (Server old) (Server new) old.kept new.kept c.act-in-Server.result refl refl
+    (c.act-in-Server.ensures.answer p o (subst (IsOfPlan p o) c.in-Server.is c.requires.planned)) (λ shown is. ap Server (c.act-in-Server.ensures.same shown is)) c.act-in-Server.ensures.told)
+
+pub returns-in-Server-clause-planned : goal.returns-in-Server-clause-planned
+returns-in-Server-clause-planned c =
+    let p = plan_of c.args.p.now in
+    let o = touched p c.args.who.now (wanted_of c.args.wish.now) in
+    c.act-in-Server.ensures.planned p o (subst (IsOfPlan p o) c.in-Server.is c.requires.planned)
+
 pub returns-in-Area-clause-lead : goal.returns-in-Area-clause-lead
 returns-in-Area-clause-lead c =
     let p = plan_of c.args.p.now in
@@ -69,6 +95,28 @@ returns-in-Area-clause-planned c =
     let p = plan_of c.args.p.now in
     let o = touched p c.args.who.now (wanted_of c.args.wish.now) in
     c.act-in-Area.ensures.planned p o (subst (IsOfPlan p o) c.in-Area.is c.requires.planned)
+
+pub returns-in-Machine-clause-lead : goal.returns-in-Machine-clause-lead
+returns-in-Machine-clause-lead c =
+    let p = plan_of c.args.p.now in
+    let a = c.args.who.now in
+    let w = wanted_of c.args.wish.now in
+    let o = touched p a w in
+    let old = c.in-Machine.machine in
+    let new = c.act-in-Machine.new.self in
+    let asked : IsAskedOf p o a w old.kept = record { fits = c.requires.fits; touching = c.requires.touching; planned = subst (IsOfPlan p o) c.in-Machine.is c.requires.planned } in
+    subst (λ x. IsAnswer p o a w x (Machine new) c.act-in-Machine.result) (sym c.in-Machine.is)
+    (answered p a w of_machine (machine_standing.Keeps p o) machine_leading.lead machines.may_start machine_leading.why_held (machine_row p o)
+    c.requires.touching c.requires.fits c.requires.own (Machine old) (Machine new) old.kept new.kept c.act-in-Machine.result refl refl
+    (c.act-in-Machine.ensures.answer p o asked) (λ shown is. ap Machine (c.act-in-Machine.ensures.same shown is)) c.act-in-Machine.ensures.told)
+
+pub returns-in-Machine-clause-planned : goal.returns-in-Machine-clause-planned
+returns-in-Machine-clause-planned c =
+    let p = plan_of c.args.p.now in
+    let a = c.args.who.now in
+    let w = wanted_of c.args.wish.now in
+    let o = touched p a w in
+    c.act-in-Machine.ensures.planned p o (record { fits = c.requires.fits; touching = c.requires.touching; planned = subst (IsOfPlan p o) c.in-Machine.is c.requires.planned })
 
 pub returns-in-Clock-clause-lead : goal.returns-in-Clock-clause-lead
 returns-in-Clock-clause-lead c =

@@ -8,16 +8,22 @@ use Rattle.data_objects.specs.Standing as group_standing
 use Rattle.queue_objects.specs.Kept as queues
 use Rattle.queue_objects.specs.Leading as queue_leading
 use Rattle.queue_objects.specs.Standing as queue_standing
+use Rattle.server_objects.specs.Kept as servers
 use Rattle.area_objects.specs.Kept as areas
+use Rattle.machine_objects.specs.Kept as machines
+use Rattle.server_objects.specs.Leading as server_leading
 use Rattle.area_objects.specs.Leading as area_leading
+use Rattle.machine_objects.specs.Leading as machine_leading
+use Rattle.server_objects.specs.Standing as server_standing
 use Rattle.area_objects.specs.Standing as area_standing
+use Rattle.machine_objects.specs.Standing as machine_standing
 use Rattle.clock_objects.specs.Kept as clocks
 use Rattle.clock_objects.specs.Leading as clock_leading
 use Rattle.clock_objects.specs.Standing as clock_standing
-use Rattle.port_objects.specs.Kept.{Kept, of_group, of_queues, of_area, of_clock}
+use Rattle.port_objects.specs.Kept.{Kept, of_group, of_queues, of_server, of_area, of_machine, of_clock}
 use Rattle.port_objects.specs.Leading.{lead}
 use Rattle.port_objects.specs.Standing.{Stands}
-use Rattle.port_objects.proofs.Rows.{group_row, queue_row, area_row, clock_row, follows_by, stands_by}
+use Rattle.port_objects.proofs.Rows.{group_row, queue_row, server_row, area_row, machine_row, clock_row, follows_by, stands_by}
 use Rattle.port_objects.proofs.laws.leads_are_legal.Goals as goal
 
 pub returns-clause-follows : goal.returns-clause-follows
@@ -28,10 +34,14 @@ returns-clause-follows c = by_kind
         (c.leads_are_legal.ensures.follow p object) k
     by_kind p object (of_queues k) = follows_by p object of_queues (queue_standing.Keeps p object) (queue_leading.lead p) queues.may_start queue_leading.why_held (queue_row p object)
         (c.leads_are_legal-2.ensures.follow p object) k
-    by_kind p object (of_area k) = follows_by p object of_area (area_standing.Keeps p object) area_leading.lead areas.may_start area_leading.why_held (area_row p object)
+    by_kind p object (of_server k) = follows_by p object of_server (server_standing.Keeps p object) server_leading.lead servers.may_start server_leading.why_held (server_row p object)
         (c.leads_are_legal-3.ensures.follow p object) k
-    by_kind p object (of_clock k) = follows_by p object of_clock (clock_standing.Keeps p object) clock_leading.lead clocks.may_start clock_leading.why_held (clock_row p object)
+    by_kind p object (of_area k) = follows_by p object of_area (area_standing.Keeps p object) area_leading.lead areas.may_start area_leading.why_held (area_row p object)
         (c.leads_are_legal-4.ensures.follow p object) k
+    by_kind p object (of_machine k) = follows_by p object of_machine (machine_standing.Keeps p object) machine_leading.lead machines.may_start machine_leading.why_held (machine_row p object)
+        (c.leads_are_legal-5.ensures.follow p object) k
+    by_kind p object (of_clock k) = follows_by p object of_clock (clock_standing.Keeps p object) clock_leading.lead clocks.may_start clock_leading.why_held (clock_row p object)
+        (c.leads_are_legal-6.ensures.follow p object) k
 
 pub returns-clause-stands : goal.returns-clause-stands
 returns-clause-stands c = by_kind
@@ -41,7 +51,11 @@ returns-clause-stands c = by_kind
         (c.leads_are_legal.ensures.follow p object) (c.leads_are_legal.ensures.keep p object) k
     by_kind p object (of_queues k) = stands_by p object of_queues (queue_standing.Keeps p object) (queue_leading.lead p) queues.may_start queue_leading.why_held (queue_row p object)
         (c.leads_are_legal-2.ensures.follow p object) (c.leads_are_legal-2.ensures.keep p object) k
-    by_kind p object (of_area k) = stands_by p object of_area (area_standing.Keeps p object) area_leading.lead areas.may_start area_leading.why_held (area_row p object)
+    by_kind p object (of_server k) = stands_by p object of_server (server_standing.Keeps p object) server_leading.lead servers.may_start server_leading.why_held (server_row p object)
         (c.leads_are_legal-3.ensures.follow p object) (c.leads_are_legal-3.ensures.keep p object) k
-    by_kind p object (of_clock k) = stands_by p object of_clock (clock_standing.Keeps p object) clock_leading.lead clocks.may_start clock_leading.why_held (clock_row p object)
+    by_kind p object (of_area k) = stands_by p object of_area (area_standing.Keeps p object) area_leading.lead areas.may_start area_leading.why_held (area_row p object)
         (c.leads_are_legal-4.ensures.follow p object) (c.leads_are_legal-4.ensures.keep p object) k
+    by_kind p object (of_machine k) = stands_by p object of_machine (machine_standing.Keeps p object) machine_leading.lead machines.may_start machine_leading.why_held (machine_row p object)
+        (c.leads_are_legal-5.ensures.follow p object) (c.leads_are_legal-5.ensures.keep p object) k
+    by_kind p object (of_clock k) = stands_by p object of_clock (clock_standing.Keeps p object) clock_leading.lead clocks.may_start clock_leading.why_held (clock_row p object)
+        (c.leads_are_legal-6.ensures.follow p object) (c.leads_are_legal-6.ensures.keep p object) k

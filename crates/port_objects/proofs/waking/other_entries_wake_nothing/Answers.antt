@@ -9,16 +9,22 @@ use Rattle.data_objects.specs.Standing as group_standing
 use Rattle.queue_objects.specs.Kept as queues
 use Rattle.queue_objects.specs.Leading as queue_leading
 use Rattle.queue_objects.specs.Standing as queue_standing
+use Rattle.server_objects.specs.Kept as servers
 use Rattle.area_objects.specs.Kept as areas
+use Rattle.machine_objects.specs.Kept as machines
+use Rattle.server_objects.specs.Leading as server_leading
 use Rattle.area_objects.specs.Leading as area_leading
+use Rattle.machine_objects.specs.Leading as machine_leading
+use Rattle.server_objects.specs.Standing as server_standing
 use Rattle.area_objects.specs.Standing as area_standing
+use Rattle.machine_objects.specs.Standing as machine_standing
 use Rattle.clock_objects.specs.Kept as clocks
 use Rattle.clock_objects.specs.Leading as clock_leading
 use Rattle.clock_objects.specs.Standing as clock_standing
-use Rattle.port_objects.specs.Kept.{Kept, of_group, of_queues, of_area, of_clock}
+use Rattle.port_objects.specs.Kept.{Kept, of_group, of_queues, of_server, of_area, of_machine, of_clock}
 use Rattle.port_objects.specs.Leading.{lead}
 use Rattle.port_objects.specs.Waking.{may_start_in, wakes}
-use Rattle.port_objects.proofs.Rows.{group_row, queue_row, area_row, clock_row, wakes_nothing_by}
+use Rattle.port_objects.proofs.Rows.{group_row, queue_row, server_row, area_row, machine_row, clock_row, wakes_nothing_by}
 use Rattle.port_objects.proofs.waking.other_entries_wake_nothing.Goals as goal
 
 -- what can make no start come can make none come on an object of any kind
@@ -30,6 +36,16 @@ group_quiet d none = refl
 queue_quiet : (d : Deed) → wakes d ≡ false → queue_leading.wakes d ≡ false
 queue_quiet (deed.Send x value code) none = none
 queue_quiet d none = refl
+
+server_quiet : (d : Deed) → wakes d ≡ false → server_leading.wakes d ≡ false
+server_quiet (deed.Ask q value code) none = none
+server_quiet (deed.Return code value) none = none
+server_quiet d none = refl
+
+machine_quiet : (d : Deed) → wakes d ≡ false → machine_leading.wakes d ≡ false
+machine_quiet (deed.Phase step) none = none
+machine_quiet deed.End none = none
+machine_quiet d none = refl
 
 clock_quiet : (d : Deed) → wakes d ≡ false → clock_leading.wakes d ≡ false
 clock_quiet deed.Tick none = none
@@ -43,7 +59,11 @@ returns c = by_kind
         group_leading.wakes (c.other_entries_wake_nothing.ensures p object) k after n leads (group_quiet n.entry.deed other)
     by_kind p object (of_queues k) after n leads other = wakes_nothing_by p object of_queues (queue_standing.Keeps p object) (queue_leading.lead p) queues.may_start queue_leading.why_held (queue_row p object)
         queue_leading.wakes (c.other_entries_wake_nothing-2.ensures p) k after n leads (queue_quiet n.entry.deed other)
+    by_kind p object (of_server k) after n leads other = wakes_nothing_by p object of_server (server_standing.Keeps p object) server_leading.lead servers.may_start server_leading.why_held (server_row p object)
+        server_leading.wakes c.other_entries_wake_nothing-3.ensures k after n leads (server_quiet n.entry.deed other)
     by_kind p object (of_area k) after n leads other = wakes_nothing_by p object of_area (area_standing.Keeps p object) area_leading.lead areas.may_start area_leading.why_held (area_row p object)
-        area_leading.wakes c.other_entries_wake_nothing-3.ensures k after n leads refl
+        area_leading.wakes c.other_entries_wake_nothing-4.ensures k after n leads refl
+    by_kind p object (of_machine k) after n leads other = wakes_nothing_by p object of_machine (machine_standing.Keeps p object) machine_leading.lead machines.may_start machine_leading.why_held (machine_row p object)
+        machine_leading.wakes c.other_entries_wake_nothing-5.ensures k after n leads (machine_quiet n.entry.deed other)
     by_kind p object (of_clock k) after n leads other = wakes_nothing_by p object of_clock (clock_standing.Keeps p object) clock_leading.lead clocks.may_start clock_leading.why_held (clock_row p object)
-        clock_leading.wakes c.other_entries_wake_nothing-4.ensures k after n leads (clock_quiet n.entry.deed other)
+        clock_leading.wakes c.other_entries_wake_nothing-6.ensures k after n leads (clock_quiet n.entry.deed other)

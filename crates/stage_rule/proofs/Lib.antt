@@ -1,4 +1,0 @@
-pub mod Lists
-pub mod Interfaces
-pub mod Numbered
-pub mod Plain
