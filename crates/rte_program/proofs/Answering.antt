@@ -20,7 +20,7 @@ use Rattle.rte_program.specs.declared.status.Status.TheVariants as status
 use Rattle.rte_program.specs.declared.stop.Stop.{Stop}
 use Rattle.rte_program.specs.declared.stop.Stop.TheVariants as stop
 use Rattle.rte_program.specs.Stops.{IsSaid, IsUnsaid, Says, answer_after, stop_status, status_after, stop_text, script_refusal_text}
-use Rattle.rte_program.specs.Inputs.{Texts, run_words, plan_words, AreFetched, AskForRun, BreaksNoRule, HasNoPlan, HaveBadLine, IsJudged, IsNoDescription, IsForm, IsNoForm, IsNoScriptOver, IsNotPlanned, IsNumbered, IsRefusedBy, IsScriptOver, IsStopped, IsTaken, IsUnread, KeepsThirtyRules, Names, NamesBadLine, NamesInputs, NamesOne, NamesPlanned, NamesUnread}
+use Rattle.rte_program.specs.Inputs.{Texts, run_words, plan_words, AreFetched, AskForRun, BreaksNoRule, HasNoPlan, HaveBadLine, IsJudged, IsForm, IsNoForm, IsNoScriptOver, IsNotPlanned, IsNumbered, IsScriptOver, IsStopped, IsUnread, Names, NamesBadLine, NamesInputs, NamesOne, NamesPlanned, NamesUnread}
 use Rattle.rte_program.specs.Running.{PrintsBeginning}
 use Rattle.rte_program.specs.Answers.{CutsRefusal, CutsRun, CutsWhatIsPut, EndsForMemory, RefusesScript, RefusesWhatIsNamed, SaysUnread, IsHeld, AreHeld, IsOneHeld, NoFault, AnswersOrMemory}
 
@@ -217,7 +217,7 @@ judged words files b a d s (stop.NotRead word) held quiet stopped =
     by (inl e) = readable files held.description_name d b a held.description_held quiet (subst (λ name. IsUnread files name b a) e stopped.unread)
     by (inr e) = readable files held.script_name s b a held.script_held quiet (subst (λ name. IsUnread files name b a) e stopped.unread)
 judged words files b a d s (stop.Refused refusal) held quiet (inl run, same) = let n = run.names in
-    subst (λ t. IsRefusedBy t refusal) (same_files words files d s run.description_bytes run.script_bytes held n).0 run.refused
+    subst (λ t. IsPlanRefusalOf t (Rule refusal)) (same_files words files d s run.description_bytes run.script_bytes held n).0 run.refused
 judged words files b a d s (stop.Refused refusal) held quiet (inr plan, same) = absurd (apart held.description_name held.script_name plan.names.name (sym held.words_are ∙ plan.names.words_are))
 judged words files b a d s (stop.Script line cause) held quiet stopped = let n = stopped.0 in let same = same_files words files d s n.description_bytes n.script_bytes held n.names in
     subst (λ t. HaveBadLine d t line cause) same.1 (subst (λ t. HaveBadLine t n.script_bytes line cause) same.0 n.bad)
@@ -251,7 +251,7 @@ not_both : (d s : List ℕ) (line cause : ℕ) → HaveBadLine d s line cause �
 not_both d s line cause bad over = let good = over bad.found bad.described in
     let none : first_bad (plan_of bad.found.plan) [] (lines_of s) ≡ None = good.1.good in absurd cc
 
-refused_by_judging : (d s : List ℕ) (answer : Status) (why : Stop) → IsJudged d s why → AnswersOrMemory answer (stop_status why) → IsNoDescription d → AnswersOrMemory answer status.Refused
+refused_by_judging : (d s : List ℕ) (answer : Status) (why : Stop) → IsJudged d s why → AnswersOrMemory answer (stop_status why) → HasNoPlan d → AnswersOrMemory answer status.Refused
 refused_by_judging d s answer stop.Words j e none = absurd j
 refused_by_judging d s answer (stop.NotRead word) j e none = absurd j
 refused_by_judging d s answer (stop.Refused refusal) j e none = e
@@ -259,7 +259,7 @@ refused_by_judging d s answer (stop.Script line cause) j e none = absurd (none j
 refused_by_judging d s answer stop.Memory j e none = for_memory answer status.Refused e
 
 pub refused_comes : (words : Texts) (files : ToldFiles) (b a : ShelfCounts) (before after : Option (List ℕ)) (f g : ℕ) (answer : Status) (why : Stop) (d s : List ℕ)
-    → IsStopped words files b a why → Says why answer before after f g → AreHeld words files d s → IsNoDescription d → NoFault b.faults a.faults f g → AnswersOrMemory answer status.Refused
+    → IsStopped words files b a why → Says why answer before after f g → AreHeld words files d s → HasNoPlan d → NoFault b.faults a.faults f g → AnswersOrMemory answer status.Refused
 refused_comes words files b a before after f g answer why d s stopped says held none quiet =
     refused_by_judging d s answer why (judged words files b a d s why held quiet.shelf stopped) (said before after f g answer why says quiet.sink) none
 
@@ -301,7 +301,7 @@ plan_refused_comes words files b a before after f g answer why d stopped says he
     by (stop.NotRead word) refused e = absurd refused
 
 pub plan_done_comes : (words : Texts) (files : ToldFiles) (b a : ShelfCounts) (before after : Option (List ℕ)) (f g : ℕ) (answer : Status) (why : Stop) (d : List ℕ)
-    → IsStopped words files b a why → Says why answer before after f g → IsOneHeld words files d → KeepsThirtyRules d → NoFault b.faults a.faults f g → AnswersOrMemory answer status.Done
+    → IsStopped words files b a why → Says why answer before after f g → IsOneHeld words files d → BreaksNoRule d → NoFault b.faults a.faults f g → AnswersOrMemory answer status.Done
 plan_done_comes words files b a before after f g answer why d stopped says held keeps quiet = by why (unplanned words files b a d why held quiet.shelf stopped) (said before after f g answer why says quiet.sink)
   where
     by : (x : Stop) → IsNotPlanned d x → AnswersOrMemory answer (stop_status x) → AnswersOrMemory answer status.Done
@@ -341,13 +341,13 @@ planned_again words files d found n held none = none found (subst (λ t. IsPlann
 
 -- ---- where a description and a script were read, neither is refused
 
-pub described_again : (words : Texts) (files : ToldFiles) (d s : List ℕ) (found : PlannedDescription) (lines : List Line) → NamesInputs words files found lines → AreHeld words files d s → IsNoDescription d → ⊥
+pub described_again : (words : Texts) (files : ToldFiles) (d s : List ℕ) (found : PlannedDescription) (lines : List Line) → NamesInputs words files found lines → AreHeld words files d s → HasNoPlan d → ⊥
 described_again words files d s found lines n held none = let same = same_files words files d s n.description_bytes n.script_bytes held n.names in
-    none found (subst (λ t. IsTaken t found) same.0 n.inputs.described)
+    none found (subst (λ t. IsPlannedOf t found) same.0 n.inputs.described)
 
 pub scripted_again : (words : Texts) (files : ToldFiles) (d s : List ℕ) (found : PlannedDescription) (lines : List Line) → NamesInputs words files found lines → AreHeld words files d s → IsNoScriptOver d s → ⊥
 scripted_again words files d s found lines n held none = let same = same_files words files d s n.description_bytes n.script_bytes held n.names in
-    none found lines (subst (λ t. IsTaken t found) same.0 n.inputs.described) (subst (λ t. IsScript (plan_of found.plan) t lines) same.1 n.inputs.scripted)
+    none found lines (subst (λ t. IsPlannedOf t found) same.0 n.inputs.described) (subst (λ t. IsScript (plan_of found.plan) t lines) same.1 n.inputs.scripted)
 
 -- ---- where a run was cut
 

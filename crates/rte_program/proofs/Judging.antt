@@ -1,8 +1,6 @@
 -- What judging two files says, of the words that name them.
 use Rattle.std.proofs.Common.{◌≡◌, ℕ, ◌+◌, ◌<◌, ◌≤◌, List, [], ◌∷◌, ◌++◌, length, length-append, arith, refl, ap, inl, inr, slice_get, Option, Some, None, Ok, Err, Result, Bool, true, false, ◌==◌}
 use Rattle.std.specs.Prelude.{IfErr, IfOk}
-use Rattle.rte_text.specs.declared.refusal.Refused.{Refused}
-use Rattle.rte_text.specs.declared.refusal.Refused.TheVariants as refused
 use Rattle.rte_text.specs.declared.shelf.TheConstants.{FILE_LIMIT}
 use Rattle.rte_text.specs.Shelves.{ToldFiles, ShelfCounts}
 use Rattle.bus_semantics.specs.Plan.{Plan, plan_of}
@@ -12,9 +10,9 @@ use Rattle.line_fields.specs.Texts.{lines_of, onto_first}
 use Rattle.rte_program.specs.declared.stop.Stop.{Stop}
 use Rattle.rte_program.specs.declared.stop.Stop.TheVariants as stop
 use Rattle.description_stages.specs.declared.planning.PlannedDescription.{PlannedDescription}
-use Rattle.description_stages.specs.Plans.{IsPlannedOf, IsPlanRefusalOf}
-use Rattle.rte_program.specs.Inputs.{Texts, AreFetched, IsFetchStopped, IsFetched, IsForm, IsJudged, IsNotPlanned, IsNotTaken, IsNumbered, IsStopped, Names, NamesOne, NamesPlanned}
-use Rattle.rte_program.specs.Stops.{IsShort, stop_of}
+use Rattle.description_stages.specs.Plans.{IsPlannedOf}
+use Rattle.rte_program.specs.Inputs.{Texts, AreFetched, IsFetchStopped, IsFetched, IsForm, IsJudged, IsNotPlanned, IsNumbered, IsStopped, Names, NamesOne, NamesPlanned}
+use Rattle.rte_program.specs.Stops.{IsShort}
 
 stopped_by : (words : Texts) (files : ToldFiles) (before after : ShelfCounts) (d s : List ℕ) → Names words files d s → after ≡ before → (why : Stop) → IsJudged d s why → IsStopped words files before after why
 stopped_by words files before after d s names same (stop.Refused refusal) judged = (inl (record { description_bytes = d; script_bytes = s; names = names; refused = judged }), same)
@@ -146,13 +144,3 @@ short_by d s fits (stop.NotRead word) judged = tt
 pub judge_short : {X : Type 0} → (d s : List ℕ) → length s ≤ FILE_LIMIT → (r : Result X Stop) → IfErr r (IsJudged d s) → IfErr r IsShort
 judge_short d s fits (Ok x) judged = tt
 judge_short d s fits (Err why) judged = short_by d s fits why judged
-
--- ---- a description that is refused
-
-pub refused_by : (bytes : List ℕ) (r : Refused) → IsPlanRefusalOf bytes r → IsNotTaken bytes (stop_of r)
-refused_by bytes (refused.Rule refusal) right = inl right
-refused_by bytes refused.Memory right = tt
-
-pub unplanned_refused : (bytes : List ℕ) (r : Refused) → IsPlanRefusalOf bytes r → IsNotPlanned bytes (stop_of r)
-unplanned_refused bytes (refused.Rule refusal) right = right
-unplanned_refused bytes refused.Memory right = tt

@@ -1,5 +1,5 @@
 -- What the words of a command name, and what the files that they name hold.
-use Rattle.std.specs.Prelude.{◌≡◌, ℕ, ◌+◌, ◌<◌, ◌^◌, List, [], ◌∷◌, codes, true, false, slice_get, Some, OnSome, ◌⊎◌}
+use Rattle.std.specs.Prelude.{◌≡◌, ℕ, ◌+◌, ◌<◌, ◌^◌, List, [], ◌∷◌, codes, slice_get, Some, OnSome, ◌⊎◌}
 use Rattle.rte_text.specs.Counts.{Rose, last_count}
 use Rattle.rte_text.specs.Shelves.{ToldFiles, HeldWhereTold, LongWhereTold, ShelfCounts}
 use Rattle.rte_text.specs.declared.refusal.Refusal.{Refusal}
@@ -8,7 +8,6 @@ use Rattle.bus_semantics.specs.declared.script.Line.{Line}
 use Rattle.bus_semantics.specs.Plan.{plan_of}
 use Rattle.description_stages.specs.declared.planning.PlannedDescription.{PlannedDescription}
 use Rattle.description_stages.specs.Plans.{IsPlannedOf, IsPlanRefusalOf}
-use Rattle.stage_rule.specs.Stage.{is_in_stage}
 use Rattle.script_reading.specs.Reading.{IsScript, first_bad}
 use Rattle.line_fields.specs.Texts.{lines_of}
 use Rattle.rte_program.specs.declared.stop.Stop.{Stop}
@@ -57,64 +56,15 @@ pub record NamesOne (words : Texts) (files : ToldFiles) (description : List ℕ)
 
 -- ---- what a file of a description is
 
--- the bytes are a description that breaks none of rules 1 to 30, with its plan and its mapping, and nothing of it is out of this stage
-pub record IsTaken (bytes : List ℕ) (found : PlannedDescription) : Type 0 where
-  pub planned : IsPlannedOf bytes found
-  pub in_stage : is_in_stage found.description ≡ true
-
-abbrev pub IsNoDescription : List ℕ → Type 0
-IsNoDescription bytes = (found : PlannedDescription) → ¬ IsTaken bytes found
-
--- the bytes are a description that breaks none of rules 1 to 30, and something of it is out of this stage
-pub record IsPastStage (bytes : List ℕ) : Type 0 where
-  pub found : PlannedDescription
-  pub planned : IsPlannedOf bytes found
-  pub past : is_in_stage found.description ≡ false
-
--- the refusal is right: the least of rules 1 to 30 that is broken, with its first place, or else rule 0 at the whole
-abbrev pub IsRefusedBy : List ℕ → Refusal → Type 0
-IsRefusedBy bytes r = IsPlanRefusalOf bytes (Rule r) ⊎ ((r.rule ≡ 0) × (r.place ≡ codes "/") × IsPastStage bytes)
-
--- no refusal is right
-abbrev pub BreaksNoRule : List ℕ → Type 0
-BreaksNoRule bytes = (r : Refusal) → ¬ IsRefusedBy bytes r
-
--- the same of rules 1 to 30 alone: nothing has a plan of these bytes, or no refusal is right
+-- nothing has a plan of these bytes: they are no description, or one that breaks a rule
 abbrev pub HasNoPlan : List ℕ → Type 0
 HasNoPlan bytes = (found : PlannedDescription) → ¬ IsPlannedOf bytes found
 
-abbrev pub KeepsThirtyRules : List ℕ → Type 0
-KeepsThirtyRules bytes = (r : Refusal) → ¬ IsPlanRefusalOf bytes (Rule r)
+-- no refusal by rules 1 to 30 is right
+abbrev pub BreaksNoRule : List ℕ → Type 0
+BreaksNoRule bytes = (r : Refusal) → ¬ IsPlanRefusalOf bytes (Rule r)
 
--- ---- what two files are
-
--- a description and a script over its plan
-pub record AreInputs (description_bytes script_bytes : List ℕ) (found : PlannedDescription) (script : List Line) : Type 0 where
-  pub described : IsTaken description_bytes found
-  pub scripted : IsScript (plan_of found.plan) script_bytes script
-
--- a description, and a script of which this is the first bad line over its plan, with its least cause
-pub record HaveBadLine (description_bytes script_bytes : List ℕ) (line cause : ℕ) : Type 0 where
-  pub found : PlannedDescription
-  pub described : IsTaken description_bytes found
-  pub bad : first_bad (plan_of found.plan) [] (lines_of script_bytes) ≡ Some (line, cause)
-
--- over each plan of the description the bytes are a script, or none
-abbrev pub IsScriptOver : (description_bytes : List ℕ) → (script_bytes : List ℕ) → Type 0
-IsScriptOver d s = (found : PlannedDescription) → IsTaken d found → (script : List Line) × IsScript (plan_of found.plan) s script
-
-abbrev pub IsNoScriptOver : (description_bytes : List ℕ) → (script_bytes : List ℕ) → Type 0
-IsNoScriptOver d s = (found : PlannedDescription) (script : List Line) → IsTaken d found → ¬ IsScript (plan_of found.plan) s script
-
--- why the bytes of a description are not run
-abbrev pub IsNotTaken : (description_bytes : List ℕ) → Stop → Type 0
-IsNotTaken d (stop.Refused refusal) = IsRefusedBy d refusal
-IsNotTaken d stop.Memory = Unit {0}
-IsNotTaken d (stop.Script line cause) = ⊥
-IsNotTaken d stop.Words = ⊥
-IsNotTaken d (stop.NotRead word) = ⊥
-
--- why the bytes of a description have no plan
+-- why the bytes of a description have no plan: the least of rules 1 to 30 that is broken, with its first place, or want of memory
 abbrev pub IsNotPlanned : (description_bytes : List ℕ) → Stop → Type 0
 IsNotPlanned d (stop.Refused refusal) = IsPlanRefusalOf d (Rule refusal)
 IsNotPlanned d stop.Memory = Unit {0}
@@ -122,9 +72,29 @@ IsNotPlanned d (stop.Script line cause) = ⊥
 IsNotPlanned d stop.Words = ⊥
 IsNotPlanned d (stop.NotRead word) = ⊥
 
+-- ---- what two files are
+
+-- a description and a script over its plan
+pub record AreInputs (description_bytes script_bytes : List ℕ) (found : PlannedDescription) (script : List Line) : Type 0 where
+  pub described : IsPlannedOf description_bytes found
+  pub scripted : IsScript (plan_of found.plan) script_bytes script
+
+-- a description, and a script of which this is the first bad line over its plan, with its least cause
+pub record HaveBadLine (description_bytes script_bytes : List ℕ) (line cause : ℕ) : Type 0 where
+  pub found : PlannedDescription
+  pub described : IsPlannedOf description_bytes found
+  pub bad : first_bad (plan_of found.plan) [] (lines_of script_bytes) ≡ Some (line, cause)
+
+-- over each plan of the description the bytes are a script, or none
+abbrev pub IsScriptOver : (description_bytes : List ℕ) → (script_bytes : List ℕ) → Type 0
+IsScriptOver d s = (found : PlannedDescription) → IsPlannedOf d found → (script : List Line) × IsScript (plan_of found.plan) s script
+
+abbrev pub IsNoScriptOver : (description_bytes : List ℕ) → (script_bytes : List ℕ) → Type 0
+IsNoScriptOver d s = (found : PlannedDescription) (script : List Line) → IsPlannedOf d found → ¬ IsScript (plan_of found.plan) s script
+
 -- why the bytes of the two files are not run: the description first
 abbrev pub IsJudged : (description_bytes : List ℕ) → (script_bytes : List ℕ) → Stop → Type 0
-IsJudged d s (stop.Refused refusal) = IsRefusedBy d refusal
+IsJudged d s (stop.Refused refusal) = IsPlanRefusalOf d (Rule refusal)
 IsJudged d s (stop.Script line cause) = HaveBadLine d s line cause
 IsJudged d s stop.Memory = Unit {0}
 IsJudged d s stop.Words = ⊥
@@ -143,12 +113,12 @@ pub record NamesPlanned (words : Texts) (files : ToldFiles) (found : PlannedDesc
   pub names : NamesOne words files description_bytes
   pub planned : IsPlannedOf description_bytes found
 
--- of `run C S` by rules 0 to 30, of `plan C` by rules 1 to 30
+-- of `run C S`, and of `plan C`
 pub record RunRefused (words : Texts) (files : ToldFiles) (refusal : Refusal) : Type 0 where
   pub description_bytes : List ℕ
   pub script_bytes : List ℕ
   pub names : Names words files description_bytes script_bytes
-  pub refused : IsRefusedBy description_bytes refusal
+  pub refused : IsPlanRefusalOf description_bytes (Rule refusal)
 
 pub record PlanRefused (words : Texts) (files : ToldFiles) (refusal : Refusal) : Type 0 where
   pub description_bytes : List ℕ

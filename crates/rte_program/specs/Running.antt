@@ -9,8 +9,8 @@ use Rattle.bus_semantics.specs.Spelling.{Spells}
 use Rattle.script_run.specs.Quieting.{IdlesAreQuiet}
 use Rattle.rte_program.specs.declared.run.TheConstants.{WRITTEN_VERSION}
 
--- the bytes put are the text of a run of the script over the plan, and where a run line closes with `idle` all is quiet: no activation runs, no
--- event is due, and each mode machine is stable and has begun every accepted switch
+-- The bytes put are the text of a run of the script over the plan, and where a run line closes with `idle` all is quiet: no activation runs, no
+-- event is due, and each mode machine has begun every accepted switch and is stable. Its last phase is a Stable, so what it began has ended.
 pub record PrintsRun (p : Plan) (m : Mapping) (script : List Line) (before after : Option (List ℕ)) : Type 0 where
   pub session : Session
   pub bytes : List ℕ

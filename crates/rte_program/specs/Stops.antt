@@ -1,7 +1,5 @@
 -- What is said where nothing is run.
 use Rattle.std.specs.Prelude.{◌≡◌, ℕ, ◌<◌, ◌^◌, List, ◌++◌, codes, decimal, Option, ◌⊎◌}
-use Rattle.rte_text.specs.declared.refusal.Refused.{Refused}
-use Rattle.rte_text.specs.declared.refusal.Refused.TheVariants as refused
 use Rattle.rte_text.specs.declared.sink.Put.{Put}
 use Rattle.rte_text.specs.declared.sink.Put.TheVariants as put
 use Rattle.rte_text.specs.Sinks.{ToldAfter, SinkFaultsAfter}
@@ -15,11 +13,6 @@ refusal_text rule place = codes "refused rule " ++ decimal rule ++ codes " at " 
 
 abbrev pub script_refusal_text : ℕ → ℕ → List ℕ
 script_refusal_text line cause = codes "script refused line " ++ decimal line ++ codes " cause " ++ decimal cause ++ codes "\n"
-
--- why nothing is run where a description is refused
-abbrev pub stop_of : Refused → Stop
-stop_of (refused.Rule refusal) = stop.Refused refusal
-stop_of refused.Memory = stop.Memory
 
 -- what is put; nothing for want of memory
 abbrev pub stop_text : Stop → List ℕ

@@ -3,16 +3,15 @@
 ghost use Rattle.std.specs.Prelude.{◌≡◌, ◌≢◌, ◌⊎◌, map, string_bytes, IfErr, IfNone, IfOk, IfSome, OnOk};
 ghost use Rattle.rte_text.specs.Counts.{Rose};
 ghost use Rattle.rte_text.specs.Sinks.{AppendsPrefixWhereTold, AppendsWhereTold};
-ghost use Rattle.description_stages.specs.Plans.{IsPlannedOf};
 ghost use Rattle.plan_text.specs.Lines.{plan_text};
-ghost use Rattle.rte_program.specs.Inputs.{counts_of, plan_words, AskForPlan, AskForRun, IsNotPlanned, IsNumbered, IsStopped, NamesPlanned};
+ghost use Rattle.rte_program.specs.Inputs.{counts_of, plan_words, AskForPlan, AskForRun, IsNumbered, IsStopped, NamesPlanned};
 ghost use Rattle.rte_program.specs.Stops.{IsShort};
 
-use crate::prepare::{fetch_word, stop_of};
+use crate::prepare::{fetch_word, plan_bytes};
 use crate::report::status_after;
 use crate::status::Status;
 use crate::stop::Stop;
-use description_stages::{PlannedDescription, plan_description};
+use description_stages::PlannedDescription;
 use plan_text::put_plan;
 use rte_text::{Shelf, Sink};
 use std::alloc::Global;
@@ -29,17 +28,6 @@ fn plan_name_in(words: &[String]) -> Option<&str>
         Some(description.as_str())
     } else {
         None
-    }
-}
-
-/// The plan that the bytes of a description stand for: it breaks none of rules 1 to 30.
-fn plan_bytes(alloc: Global, bytes: &[u8]) -> Result<PlannedDescription, Stop>
-    ensures planned { IfOk result (IsPlannedOf bytes.now) }
-    ensures stopped { IfErr result (IsNotPlanned bytes.now) }
-{
-    match plan_description(alloc, bytes) {
-        Ok(found) => Ok(found),
-        Err(refused) => Err(stop_of(refused)),
     }
 }
 

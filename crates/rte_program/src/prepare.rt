@@ -3,15 +3,15 @@
 ghost use Rattle.std.specs.Prelude.{◌≡◌, ◌≤◌, map, string_bytes, length, IfOk, IfErr, OnOk, IfSome, IfNone};
 ghost use Rattle.rte_text.specs.declared.shelf.TheConstants.{FILE_LIMIT};
 ghost use Rattle.rte_text.specs.Shelves.{HeldWhereTold};
-ghost use Rattle.rte_program.specs.Inputs.{counts_of, run_words, AreInputs, AskForRun, IsFetched, IsFetchStopped, IsJudged, IsNotTaken, IsNumbered, IsStopped, IsTaken, NamesInputs};
-ghost use Rattle.rte_program.specs.Stops.{IsShort, stop_of};
+ghost use Rattle.description_stages.specs.Plans.{IsPlannedOf};
+ghost use Rattle.rte_program.specs.Inputs.{counts_of, run_words, AreInputs, AskForRun, IsFetched, IsFetchStopped, IsJudged, IsNotPlanned, IsNumbered, IsStopped, NamesInputs};
+ghost use Rattle.rte_program.specs.Stops.{IsShort};
 
 use crate::stop::Stop;
 use bus_semantics::Script;
 use description_stages::{PlannedDescription, plan_description};
-use rte_text::{FILE_LIMIT, Fetched, Refusal, Refused, Shelf, Text};
+use rte_text::{FILE_LIMIT, Fetched, Refused, Shelf};
 use script_run::{ScriptRead, read_script};
-use stage_rule::is_in_stage;
 use std::alloc::Global;
 
 /// A description with its plan, and a script over it.
@@ -60,31 +60,15 @@ pub fn fetch_word<S: Shelf>(
     }
 }
 
-/// Why nothing is carried out if a description is refused.
-pub fn stop_of(refused: Refused) -> Stop
-    ensures { result ≡ stop_of refused }
+/// The plan that the bytes of a description stand for: it breaks none of rules 1 to 30.
+pub fn plan_bytes(alloc: Global, bytes: &[u8]) -> Result<PlannedDescription, Stop>
+    ensures planned { IfOk result (IsPlannedOf bytes.now) }
+    ensures stopped { IfErr result (IsNotPlanned bytes.now) }
 {
-    match refused {
-        Refused::Rule(refusal) => Stop::Refused(refusal),
-        Refused::Memory => Stop::Memory,
-    }
-}
-
-/// The plan that the bytes of a description stand for: it breaks none of rules 1 to 30, and after them not rule 0.
-fn take_description(alloc: Global, bytes: &[u8]) -> Result<PlannedDescription, Stop>
-    ensures taken { IfOk result (IsTaken bytes.now) }
-    ensures stopped { IfErr result (IsNotTaken bytes.now) }
-{
-    let found = match plan_description(alloc, bytes) {
-        Ok(found) => found,
-        Err(refused) => return Err(stop_of(refused)),
-    };
-    if is_in_stage(&found.description) {
-        return Ok(found);
-    }
-    match Text::new(alloc, b"/") {
-        Ok(place) => Err(Stop::Refused(Refusal { rule: 0, place })),
-        Err(_) => Err(Stop::Memory),
+    match plan_description(alloc, bytes) {
+        Ok(found) => Ok(found),
+        Err(Refused::Rule(refusal)) => Err(Stop::Refused(refusal)),
+        Err(Refused::Memory) => Err(Stop::Memory),
     }
 }
 
@@ -93,7 +77,7 @@ fn judge(alloc: Global, description: &[u8], script: &[u8]) -> Result<Prepared, S
     ensures ready { IfOk result (λ x. AreInputs description.now script.now x.found x.script.lines) }
     ensures stopped { IfErr result (IsJudged description.now script.now) }
 {
-    let found = match take_description(alloc, description) {
+    let found = match plan_bytes(alloc, description) {
         Ok(found) => found,
         Err(stop) => return Err(stop),
     };

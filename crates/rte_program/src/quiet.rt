@@ -2,7 +2,7 @@
 
 ghost use Rattle.std.specs.Prelude.{◌≡◌, ◌≢◌, ◌↔◌, ℕ, List, map, string_bytes, IfSome, None};
 ghost use Rattle.rte_text.specs.Counts.{Rose};
-ghost use Rattle.rte_program.specs.Inputs.{counts_of, AskForRun, HasNoPlan, IsNoForm, KeepsThirtyRules};
+ghost use Rattle.rte_program.specs.Inputs.{counts_of, AskForRun, BreaksNoRule, HasNoPlan, IsNoForm};
 ghost use Rattle.rte_program.specs.Answers.{AnswersOrMemory, CutsRefusalOrPlan, IsOneHeld, NoFault, PrintsPlan, RefusesWhatIsNamed, RefusesWords, SaysUnread};
 
 use crate::plan::{print_plan, read_plan};
@@ -57,7 +57,7 @@ pub fn rte_quiet<S: Shelf, K: Sink>(
         → status ≡ Status.Words) }
     ensures always_refused { IfSome result (λ status. (d : List ℕ) → IsOneHeld (map string_bytes words.now) (S.files shelf.old) d → HasNoPlan d
         → NoFault (S.faults shelf.old) (S.faults shelf.new) (K.faults out.old) (K.faults out.new) → AnswersOrMemory status Status.Refused) }
-    ensures complete { IfSome result (λ status. (d : List ℕ) → IsOneHeld (map string_bytes words.now) (S.files shelf.old) d → KeepsThirtyRules d
+    ensures complete { IfSome result (λ status. (d : List ℕ) → IsOneHeld (map string_bytes words.now) (S.files shelf.old) d → BreaksNoRule d
         → NoFault (S.faults shelf.old) (S.faults shelf.new) (K.faults out.old) (K.faults out.new) → AnswersOrMemory status Status.Done) }
 {
     if let Some(_) = names_in(words) {

@@ -4,7 +4,8 @@ ghost use Rattle.std.specs.Prelude.{◌≡◌, ◌≢◌, ◌⊎◌, ℕ, List, 
 ghost use Rattle.rte_text.specs.Counts.{Rose};
 ghost use Rattle.bus_semantics.specs.Plan.{plan_of};
 ghost use Rattle.core_runtime.specs.Nodes.{IsLawfulNode};
-ghost use Rattle.rte_program.specs.Inputs.{AreInputs, IsTaken};
+ghost use Rattle.description_stages.specs.Plans.{IsPlannedOf};
+ghost use Rattle.rte_program.specs.Inputs.{AreInputs};
 ghost use Rattle.rte_program.specs.Running.{PrintsBeginning, PrintsRun};
 
 use crate::prepare::Prepared;
@@ -24,7 +25,7 @@ pub const WRITTEN_VERSION: Version = Version::One;
 
 /// A node of the plan to which nothing has happened, with the bodies of the plan's programs. The only error is that there is no memory.
 fn new_node(alloc: Global, found: PlannedDescription) -> Result<Node, AllocError>
-    requires taken { (d : List ℕ) × IsTaken d found }
+    requires planned { (d : List ℕ) × IsPlannedOf d found }
     ensures plan { IfOk result (λ n. n.plan ≡ found.plan) }
     ensures mapping { IfOk result (λ n. n.mapping ≡ found.mapping) }
     ensures lawful { IfOk result (λ n. IsLawfulNode n []) }

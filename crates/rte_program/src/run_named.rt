@@ -2,7 +2,7 @@
 
 ghost use Rattle.std.specs.Prelude.{◌≡◌, ◌≢◌, ◌⊎◌, ℕ, List, map, string_bytes};
 ghost use Rattle.rte_text.specs.Counts.{Rose};
-ghost use Rattle.rte_program.specs.Inputs.{counts_of, AskForRun, BreaksNoRule, IsNoDescription, IsNoScriptOver, IsScriptOver};
+ghost use Rattle.rte_program.specs.Inputs.{counts_of, AskForRun, BreaksNoRule, HasNoPlan, IsNoScriptOver, IsScriptOver};
 ghost use Rattle.rte_program.specs.Answers.{AnswersOrMemory, AreHeld, CutsRefusal, CutsRun, EndsForMemory, NoFault, RefusesScript, RefusesWhatIsNamed, RunsWhatIsNamed, SaysUnread};
 
 use crate::prepare::prepare;
@@ -46,7 +46,7 @@ pub fn run_named<R: Threads + Sync, S: Shelf, K: Sink, G: Gate>(
     ensures no_read_fault { result ≢ Status.NotRead → result ≢ Status.NotWritten
         → counts_of (S.faults shelf.new) (S.long_files shelf.new) ≡ counts_of (S.faults shelf.old) (S.long_files shelf.old) }
     ensures files_stay { S.files shelf.new ≡ S.files shelf.old }
-    ensures always_refused { (d s : List ℕ) → AreHeld (map string_bytes words.now) (S.files shelf.old) d s → IsNoDescription d
+    ensures always_refused { (d s : List ℕ) → AreHeld (map string_bytes words.now) (S.files shelf.old) d s → HasNoPlan d
         → NoFault (S.faults shelf.old) (S.faults shelf.new) (K.faults out.old) (K.faults out.new) → AnswersOrMemory result Status.Refused }
     ensures always_script { (d s : List ℕ) → AreHeld (map string_bytes words.now) (S.files shelf.old) d s → BreaksNoRule d → IsNoScriptOver d s
         → NoFault (S.faults shelf.old) (S.faults shelf.new) (K.faults out.old) (K.faults out.new) → AnswersOrMemory result Status.Script }

@@ -2,7 +2,7 @@
 
 ghost use Rattle.std.specs.Prelude.{◌≡◌, ◌≢◌, ◌⊎◌, ℕ, List, map, string_bytes};
 ghost use Rattle.rte_text.specs.Counts.{Rose};
-ghost use Rattle.rte_program.specs.Inputs.{counts_of, HasNoPlan, IsNoForm, IsNoDescription, BreaksNoRule, IsScriptOver, IsNoScriptOver, KeepsThirtyRules};
+ghost use Rattle.rte_program.specs.Inputs.{counts_of, BreaksNoRule, HasNoPlan, IsNoForm, IsNoScriptOver, IsScriptOver};
 ghost use Rattle.rte_program.specs.Answers.{DoesWhatIsNamed, RefusesWhatIsNamed, RefusesWords, RefusesScript, SaysUnread, CutsWhatIsPut, EndsForMemory, AreHeld, IsOneHeld, NoFault, AnswersOrMemory};
 
 use crate::quiet::rte_quiet;
@@ -16,8 +16,9 @@ use std::thread::Threads;
 /// Carries out the command that the words give. `run C S` reads the description C and the script S from the shelf,
 /// runs the script on the bus of the description, and puts the trace. `plan C` reads the description C and puts its plan.
 ///
-/// Refusals come in this order: the words, the files in the order of the words, the description, by rules 1 to 30 and then,
-/// if it is to be run, by rule 0, the script. Before the run nothing is put but a refusal's text. Each line is one put.
+/// Refusals come in this order: the words, the files in the order of the words, the description, by rules 1 to 30, the script.
+/// Every description that breaks none of the thirty is run. Before the run nothing is put but a refusal's text. Each line is
+/// one put.
 pub fn rte_top<R: Threads + Wait + Sync, S: Shelf, K: Sink, G: Gate>(
     rt: &R,
     alloc: Global,
@@ -55,7 +56,7 @@ pub fn rte_top<R: Threads + Wait + Sync, S: Shelf, K: Sink, G: Gate>(
 
     // When the answers come, but for want of memory: where no file and no put failed.
     ensures always_words { IsNoForm (map string_bytes words.now) → ¬ Rose (K.faults out.old) (K.faults out.new) → result ≡ Status.Words }
-    ensures always_refused { (d s : List ℕ) → AreHeld (map string_bytes words.now) (S.files shelf.old) d s → IsNoDescription d
+    ensures always_refused { (d s : List ℕ) → AreHeld (map string_bytes words.now) (S.files shelf.old) d s → HasNoPlan d
         → NoFault (S.faults shelf.old) (S.faults shelf.new) (K.faults out.old) (K.faults out.new) → AnswersOrMemory result Status.Refused }
     ensures always_script { (d s : List ℕ) → AreHeld (map string_bytes words.now) (S.files shelf.old) d s → BreaksNoRule d → IsNoScriptOver d s
         → NoFault (S.faults shelf.old) (S.faults shelf.new) (K.faults out.old) (K.faults out.new) → AnswersOrMemory result Status.Script }
@@ -63,7 +64,7 @@ pub fn rte_top<R: Threads + Wait + Sync, S: Shelf, K: Sink, G: Gate>(
         → NoFault (S.faults shelf.old) (S.faults shelf.new) (K.faults out.old) (K.faults out.new) → AnswersOrMemory result Status.Done }
     ensures plan_refused { (d : List ℕ) → IsOneHeld (map string_bytes words.now) (S.files shelf.old) d → HasNoPlan d
         → NoFault (S.faults shelf.old) (S.faults shelf.new) (K.faults out.old) (K.faults out.new) → AnswersOrMemory result Status.Refused }
-    ensures plan_complete { (d : List ℕ) → IsOneHeld (map string_bytes words.now) (S.files shelf.old) d → KeepsThirtyRules d
+    ensures plan_complete { (d : List ℕ) → IsOneHeld (map string_bytes words.now) (S.files shelf.old) d → BreaksNoRule d
         → NoFault (S.faults shelf.old) (S.faults shelf.new) (K.faults out.old) (K.faults out.new) → AnswersOrMemory result Status.Done }
 {
     match rte_quiet(alloc, words, shelf, out) {

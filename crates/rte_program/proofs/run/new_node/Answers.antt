@@ -1,4 +1,4 @@
 use Rattle.rte_program.proofs.run.new_node.Goals as goal
 
 pub new-requires-clause-sound : goal.new-requires-clause-sound
-new-requires-clause-sound c = c.requires.taken.1.planned.is_sound
+new-requires-clause-sound c = c.requires.planned.1.is_sound
