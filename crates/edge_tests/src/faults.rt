@@ -17,7 +17,7 @@ const DESCRIPTION: &[u8] =
 const SCRIPT: &[u8] = b"tick 2\nrun\n";
 
 /// What is told of the two: five puts, one a line.
-const TRACE: &str = "rte-trace 1\nenv tick\nenv tick\nrun\nidle\n";
+const TRACE: &str = "rte-trace 2\nenv tick\nenv tick\nrun\nidle\n";
 
 /// What the top call is given, and what it answers. The description lies in the file `c` and the script in `s`, where
 /// they are there.
@@ -201,8 +201,8 @@ fn unwritten(failing_puts: &'static [(u64, u64)], told: &'static str) -> Case<'s
 fn ends_where_a_put_fails(rt: HostRuntime) -> Result<(), Fail> {
     let cases = [
         unwritten(&[(0, 0)], ""),
-        unwritten(&[(1, 3)], "rte-trace 1\nenv"),
-        unwritten(&[(3, 2)], "rte-trace 1\nenv tick\nenv tick\nru"),
+        unwritten(&[(1, 3)], "rte-trace 2\nenv"),
+        unwritten(&[(3, 2)], "rte-trace 2\nenv tick\nenv tick\nru"),
         unwritten(&[(4, 5)], TRACE),
         // There is no sixth put.
         Case {
@@ -211,7 +211,7 @@ fn ends_where_a_put_fails(rt: HostRuntime) -> Result<(), Fail> {
         },
         Case {
             room: 20,
-            ..unwritten(&[], "rte-trace 1\nenv tick")
+            ..unwritten(&[], "rte-trace 2\nenv tick")
         },
         // The text of each refusal.
         Case {

@@ -20,8 +20,8 @@ use std::alloc::{AllocError, Global};
 use std::thread::Threads;
 use task_generator::generate;
 
-/// The version of the trace that a run writes.
-pub const WRITTEN_VERSION: Version = Version::One;
+/// The version of the trace that a run writes: version two, in which modes have their names.
+pub const WRITTEN_VERSION: Version = Version::Two;
 
 /// A node of the plan to which nothing has happened, with the bodies of the plan's programs. The only error is that there is no memory.
 fn new_node(alloc: Global, found: PlannedDescription) -> Result<Node, AllocError>
@@ -36,8 +36,8 @@ fn new_node(alloc: Global, found: PlannedDescription) -> Result<Node, AllocError
     }
 }
 
-/// Runs the script on a new node of the plan, and puts the trace. Want of memory may come before the first line is put or within a
-/// run line.
+/// Runs the script on a new node of the plan, and puts the trace, in version two. Want of memory may come before the first line is
+/// put or within a run line.
 pub fn run_prepared<R: Threads + Sync, K: Sink, G: Gate>(
     rt: &R,
     alloc: Global,

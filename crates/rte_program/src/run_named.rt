@@ -14,7 +14,7 @@ use std::alloc::Global;
 use std::thread::Threads;
 
 /// Carries out the command `run C S`: reads the description C and the script S from the shelf, runs the script on the bus of
-/// the description, and puts the trace.
+/// the description, and puts the trace, in version two.
 pub fn run_named<R: Threads + Sync, S: Shelf, K: Sink, G: Gate>(
     rt: &R,
     alloc: Global,

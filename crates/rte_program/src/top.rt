@@ -14,7 +14,8 @@ use std::sync::Wait;
 use std::thread::Threads;
 
 /// Carries out the command that the words give. `run C S` reads the description C and the script S from the shelf,
-/// runs the script on the bus of the description, and puts the trace. `plan C` reads the description C and puts its plan.
+/// runs the script on the bus of the description, and puts the trace, in version two (`WRITTEN_VERSION`). `plan C` reads the
+/// description C and puts its plan.
 ///
 /// Refusals come in this order: the words, the files in the order of the words, the description, by rules 1 to 30, the script.
 /// Every description that breaks none of the thirty is run. Before the run nothing is put but a refusal's text. Each line is
