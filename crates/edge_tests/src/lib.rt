@@ -1,5 +1,5 @@
-//! Tests of what no row reaches: files and output that fail, files at their limit, the edge to the system, and scripts over
-//! plans that no description brings yet, and turns over a bench that counts its work.
+//! Tests of what no row reaches: files and output that fail, files at their limit, the edge to the system, the wishes that
+//! lines of a script are read as, and turns over a bench that counts its work.
 #![tactic(auto)]
 
 #[cfg(test)]

@@ -1,5 +1,5 @@
-//! Scripts over a small plan with queues, operations and modes, which no description brings yet. What is wanted was
-//! written by hand.
+//! Scripts over a small plan made by hand, with queues, operations and modes: what each line asks for, by number. What is
+//! wanted was written by hand.
 
 use bus_semantics::{
     BusPlan, ElemKind, ElemPlan, Line, MachinePlan, ModePortPlan, PointPlan, Wish,
