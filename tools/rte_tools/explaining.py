@@ -9,10 +9,9 @@ from rte_tools import reference, scripts
 from rte_tools.description import Description
 from rte_tools.files import Unfit, read_description, read_schema
 from rte_tools.hints import hints
-from rte_tools.located import Node, NotJson, read_json
+from rte_tools.located import NotJson, read_json
 from rte_tools.refusal import Refusal
 from rte_tools.source import Source, read_text
-from rte_tools.stage import not_run_yet
 
 LONGEST = 8_388_608  # bytes of a file
 WIDTH = 110  # of a line of an explanation
@@ -35,8 +34,6 @@ def explain(refusal: Refusal, description: str, script: str) -> list[str]:
     except NotJson as error:
         said = [error.message[0].upper() + error.message[1:] + "."]
         return explained(source, error.start, error.end, f"rule {refusal.number}: {rule.title}", said, rule.mend)
-    if refusal.number == 0:
-        return explain_stage(source, root, rule)
     node, said = hints(refusal.number, source, root, refusal.place, read_schema())
     return explained(source, node.start, node.end, f"rule {refusal.number}: {rule.title}", said, rule.mend)
 
@@ -52,13 +49,6 @@ def wrapped(sentence: str) -> list[str]:
     return textwrap.wrap(
         sentence, WIDTH, initial_indent="  ", subsequent_indent="    ", break_long_words=False, break_on_hyphens=False
     )
-
-
-def explain_stage(source: Source, root: Node, rule: reference.Entry) -> list[str]:
-    """Rule 0: each thing that is not run yet."""
-    lines = [f"{source.path}: rule 0: {rule.title}"]
-    lines += [f"{source.where(root.at(place).start)}: {what}" for place, what in not_run_yet(root.plain())]
-    return lines + wrapped(f"Mend: {rule.mend}")
 
 
 def explain_script(refusal: Refusal, format_text: str, description: str, script: str) -> list[str]:

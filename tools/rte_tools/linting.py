@@ -13,6 +13,16 @@ from rte_tools.programs import Use, use_of
 VALUE_KEYS = ("initValue", "handleNeverReceived")
 SERVER_EVENT = "OperationInvokedEvent"
 
+# What comes of a port that is not connected, by whether it provides and by the kind of its items.
+COMES_OF_NO_JOIN = {
+    (True, "data"): "what it writes goes nowhere",
+    (False, "data"): "its reads answer 134 (RTE_E_UNCONNECTED)",
+    (True, "operation"): "nobody calls its operations",
+    (False, "operation"): "its calls answer 134 (RTE_E_UNCONNECTED)",
+    (True, "mode"): "nobody follows its modes",
+    (False, "mode"): "it follows no machine",
+}
+
 
 @dataclass(frozen=True)
 class Finding:
@@ -25,7 +35,7 @@ class Finding:
 def warnings(description: Description) -> list[Finding]:
     """All findings, by their kinds."""
     found: list[Finding] = []
-    for check in (unconnected_ports, idle_outer_ports, unstarted, empty_tasks, programs, com_specs, unused):
+    for check in (unconnected_ports, idle_outer_ports, unstarted, empty_tasks, programs, results, com_specs, unused):
         found += check(description)
     return found
 
@@ -35,8 +45,9 @@ def unconnected_ports(description: Description) -> Iterator[Finding]:
     joins = Joins(description)
     for instance in description.instances():
         for port in instance.type.ports.values():
-            if description.items(port) and not joins.is_joined(instance.path, port):
-                comes = "what it writes goes nowhere" if port.provides else "its reads answer 134 (RTE_E_UNCONNECTED)"
+            items = description.items(port)
+            if items and not joins.is_joined(instance.path, port):
+                comes = COMES_OF_NO_JOIN[port.provides, next(iter(items.values())).kind]
                 text = f"the port `{port.name}` of `{instance.path}` is not connected; {comes}"
                 yield Finding(port.place, f"{text}: connect it, or take it out")
 
@@ -82,6 +93,18 @@ def programs(description: Description) -> Iterator[Finding]:
                     yield Finding(
                         place, f"the program of `{runnable.name}` does not use the access [{spelled}]: take it out"
                     )
+
+
+def results(description: Description) -> Iterator[Finding]:
+    """Calls that do not wait and whose results no program of the component takes."""
+    for component in description.components.values():
+        uses = [(held, use_of(held.program, f"{held.place}/program")) for held in component.runnables.values()]
+        taken = {access[1:] for _, use in uses for access in use.accesses if access[0] == "result"}
+        for runnable, use in uses:
+            for access, places in use.accesses.items():
+                if access[0] == "acall" and access[1:] not in taken:
+                    text = f"no program of `{component.name}` takes the result of `{access[1]}`.`{access[2]}`"
+                    yield Finding(places[0], f"{text}, so only the first request is accepted: add a `result`")
 
 
 def unset_variables(use: Use, arguments: set[str]) -> Iterator[Finding]:

@@ -1,8 +1,7 @@
 """What docs/FORMAT.md says of rules and script causes.
 
-Its regular form: a rule begins with `**N. Title` up to the closing `**`, rule 0 with the heading `### Rule 0: title`,
-and each has one item that begins with `- Mend: `. The causes are the rows of the table with the columns Cause, The
-line, For instance and Mend.
+Its regular form: a rule begins with `**N. Title` up to the closing `**`, and has one item that begins with `- Mend: `.
+The causes are the rows of the table with the columns Cause, The line, For instance and Mend.
 """
 
 from __future__ import annotations
@@ -13,7 +12,6 @@ from pathlib import Path
 
 FORMAT = Path(__file__).resolve().parents[2] / "docs" / "FORMAT.md"
 TITLE = re.compile(r"^\*\*(\d+)\. (.+?)\*\*", re.MULTILINE | re.DOTALL)
-RULE_0 = re.compile(r"^### Rule 0: (.+)$", re.MULTILINE)
 MEND = re.compile(r"^- Mend: (.+(?:\n  .+)*)", re.MULTILINE)
 CAUSE = re.compile(r"^\| (\d+) \| (.+?) \| .+ \| (.+?) \|$", re.MULTILINE)
 
@@ -42,8 +40,6 @@ def rules(text: str) -> dict[int, Entry]:
     """The rules by number, those that have a mend."""
     text = section(text, "The rules")
     begins = [(match.start(), int(match.group(1)), match.group(2)) for match in TITLE.finditer(text)]
-    begins += [(match.start(), 0, match.group(1)) for match in RULE_0.finditer(text)]
-    begins.sort()
     ends = [start for start, _, _ in begins[1:]] + [len(text)]
     found = {}
     for (start, number, title), end in zip(begins, ends):

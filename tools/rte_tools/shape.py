@@ -15,7 +15,7 @@ from typing import Any, Callable, Iterable, Iterator
 Schema = Any  # an object of keywords, or true
 
 DEEP = 10_000  # calls within one another: 127 brackets may be open at once, and each takes some ten
-NOTES = {"$schema", "$defs", "title", "description", "default", "examples", "deprecated", "deprecationMessage"}
+NOTES = {"$schema", "$defs", "title", "description", "default", "examples"}
 BRANCHES = {"then", "else"}
 TYPES = {
     "object": (dict, "an object"),

@@ -39,6 +39,21 @@ CASES = {
         [('["write","o","v",[7],"s"]', '["set","value",7],["write","o","v",["valeu"],"s"]')],
         [("the variable `valeu` is read and never set, so it is 0; the nearest one is `value`", '"valeu"')],
     ),
+    "a result that nobody takes": (
+        [
+            (
+                '"swImplPolicy":"standard"}]}],',
+                '"swImplPolicy":"standard"}]},{"kind":"ClientServerInterface","shortName":"S","operations":[{"shortName":"op"}]}],',
+            ),
+            (WRITER, WRITER + ',\n     {"kind":"RPortPrototype","shortName":"c","interface":"S"}'),
+            ('"accesses":[["write","o","v"]]', '"accesses":[["write","o","v"],["acall","c","op"]]'),
+            ('["write","o","v",[7],"s"]', '["write","o","v",[7],"s"],\n       ["acall","c","op",[],"s"]'),
+        ],
+        [
+            ("`c` of `w` is not connected; its calls answer 134", '"shortName":"c"'),
+            ("no program of `W` takes the result of `c`.`op`, so only the first request is accepted", '["acall","c","op",[],"s"]'),
+        ],
+    ),
     "an access that is not used": (
         [('[["read","i","v"]]', '[["read","i","v"],["isUpdated","i","v"]]')],
         [('does not use the access ["isUpdated", "i", "v"]', '["isUpdated","i","v"]')],

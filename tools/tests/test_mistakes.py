@@ -41,16 +41,19 @@ IN_DESCRIPTIONS = {
         ("There is a comma before `}`; take it out.", "Mend: "),
         (('"words":1}', '"words":1,}'),),
     ),
-    "operations, which are not run yet": Mistake(
-        "refused rule 0 at /",
-        '{"kind":"ClientServerInterface","shortName":"S","operations":[{"shortName":"op"}]}',
-        ("the interface `S` is a ClientServerInterface", "Mend: use data elements in place of calls and modes"),
-        (
-            (
-                '{"shortName":"v","type":"T","swImplPolicy":"standard"}]}],',
-                '{"shortName":"v","type":"T","swImplPolicy":"standard"}]},\n  {"kind":"ClientServerInterface","shortName":"S","operations":[{"shortName":"op"}]}],',
-            ),
-        ),
+    "a server that is not mapped": Mistake(
+        "refused rule 28 at computer.OnSetMean",
+        '{"kind":"OperationInvokedEvent","shortName":"OnSetMean","runnable":"SetMean","port":"service","operation":"setMean"}',
+        ("Mend: map the event to a task, or let the runnable be invoked concurrently.",),
+        (('{"instance":"computer","event":"OnSetMean","task":"Trip","position":0},\n   ', ""),),
+        example="trip_computer",
+    ),
+    "a mode that the group has not": Mistake(
+        "refused rule 17 at /components/0/behavior/runnables/0/program/1/3/0",
+        '["switch","power","Parking","s"]',
+        ("Mend: declare the access",),
+        (('["switch","power","Parked","s"]', '["switch","power","Parking","s"]'),),
+        example="power_modes",
     ),
     "the wrong direction": Mistake(
         "refused rule 16 at /components/1/behavior/runnables/0/accesses/0",
@@ -189,7 +192,7 @@ class TheTool(WithFolder):
     """The tool itself, with what a program printed."""
 
     def test_other_output_passes_through(self) -> None:
-        said = b"rte-trace 1\nrun\nrefused rule 1 at /\n\xff\n"
+        said = b"rte-trace 2\nrun\nrefused rule 1 at /\n\xff\n"
         result = run_tool("explain.py", "a", "b", "--said", self.write("said.txt", said))
         self.assertEqual((result.stdout, result.stderr, result.returncode), (said, b"", 0))
 

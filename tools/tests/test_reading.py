@@ -80,7 +80,7 @@ class Shapes(unittest.TestCase):
 class Format(unittest.TestCase):
     def test_each_rule_has_a_title_and_a_mend(self) -> None:
         found = rules(read_format())
-        self.assertEqual(sorted(found), list(range(31)))
+        self.assertEqual(sorted(found), list(range(1, 31)))
         self.assertEqual(found[9].title, "No composition contains itself")
         self.assertTrue(found[9].mend.startswith("take the prototype out"))
         for number, rule in found.items():
@@ -92,7 +92,7 @@ class Format(unittest.TestCase):
         self.assertTrue(all(cause.title and cause.mend for cause in found.values()))
 
     def test_script_words(self) -> None:
-        self.assertTrue({"tick", "run", "write", "read"} <= set(script_words(read_format())))
+        self.assertTrue({"tick", "run", "write", "read", "send", "receive", "ask", "result", "switch", "mode"} <= set(script_words(read_format())))
 
 
 class Places(unittest.TestCase):
@@ -112,7 +112,7 @@ class Places(unittest.TestCase):
         self.assertEqual(read_refusal("refused rule 15 at r.i.v").place, "r.i.v")
         self.assertEqual(read_refusal("script refused line 3 cause 2").line, 3)
         self.assertEqual(read_refusal("not read 2").status, 3)
-        self.assertIsNone(read_refusal("rte-trace 1"))
+        self.assertIsNone(read_refusal("rte-trace 2"))
 
     def test_names_of_places(self) -> None:
         door = description_of(DATA / "examples" / "door_control")

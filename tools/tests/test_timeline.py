@@ -48,12 +48,66 @@ class Replays(unittest.TestCase):
         self.assertEqual([(bar.lane, bar.depth) for bar in shown.bars], [("T", 0), ("T", 1)])
 
     def test_modes_of_both_versions(self) -> None:
-        for row, machine in (("mode_switch_on_three_cores", "env.m.g"), ("mode_switch_that_waits", "b.m.g")):
-            changes = replay_of(DATA / "rows" / row).modes[machine]
+        for folder, machine in (
+            ("bases/version_one", "env.m.g"),
+            ("rows/mode_switch_on_three_cores", "env.m.g"),
+            ("rows/mode_switch_that_waits", "b.m.g"),
+        ):
+            changes = replay_of(DATA / folder).modes[machine]
             self.assertEqual(
                 [(change.text, change.state) for change in changes],
                 [("Off", "moving"), ("Off", "set"), ("On", "moving"), ("On", "set")],
             )
+
+    def test_a_call_on_two_cores(self) -> None:
+        shown = replay_of(DATA / "examples" / "trip_computer")
+        self.assertEqual(
+            [(bar.lane, bar.depth, bar.key, bar.event) for bar in shown.bars],
+            [
+                ("Front", 0, "display:Show", "Each10"),
+                ("Trip", 0, "computer:Range", "OnRange"),
+                ("Trip", 0, "computer:SetMean", "OnSetMean"),
+                ("Front", 0, "display:Show", "Each10"),
+                ("Trip", 0, "computer:Range", "OnRange"),
+            ],
+        )
+        calls = [(mark.lane, mark.verb, mark.code) for mark in shown.marks if mark.verb in ("ask", "answer", "return", "result")]
+        self.assertEqual(
+            calls[:6],
+            [
+                ("Front", "ask", "0"),
+                ("Trip", "return", "1"),
+                ("Front", "answer", "1"),
+                ("env", "ask", "0"),
+                ("env", "result", "131"),
+                ("Trip", "return", "0"),
+            ],
+        )
+
+    def test_direct_servers_of_two_callers(self) -> None:
+        shown = replay_of(DATA / "rows" / "direct_server_on_two_cores")
+        self.assertEqual([(bar.lane, bar.depth) for bar in shown.bars], [("TK", 0), ("TJ", 0), ("TK", 1), ("TJ", 1)])
+
+    def test_phases_of_two_machines(self) -> None:
+        shown = replay_of(DATA / "rows" / "two_machines_at_once")
+        self.assertEqual(sorted(shown.modes), ["env.m.g", "env.n.g"])
+        for machine in shown.modes:
+            steps = [mark.text.split()[2:] for mark in shown.marks if mark.lane == machine]
+            self.assertEqual(steps, [["stable"], ["close", "On"], ["exit"], ["transition"], ["entry"], ["stable"]])
+
+    def test_modes_of_an_instance(self) -> None:
+        changes = replay_of(DATA / "examples" / "power_modes").modes["manager.power.state"]
+        self.assertEqual(
+            [(change.text, change.state) for change in changes],
+            [
+                ("Parked", "moving"),
+                ("Parked", "set"),
+                ("Driving", "moving"),
+                ("Driving", "set"),
+                ("Parked", "moving"),
+                ("Parked", "set"),
+            ],
+        )
 
     def test_a_refused_admission_ends_the_activation(self) -> None:
         bars = replay_of(DATA / "rows" / "mode_switch_on_three_cores").bars
@@ -69,7 +123,7 @@ class Replays(unittest.TestCase):
         xml.fromstring(page("t", "2", description_of(TWO_CORES), shown).partition("\n")[2])
 
     def test_what_is_not_a_trace(self) -> None:
-        for lines in ([], ["refused rule 0 at /"]):
+        for lines in ([], ["refused rule 1 at /"]):
             with self.assertRaises(NotATrace):
                 read_trace(lines)
 
@@ -78,7 +132,7 @@ class Pages(WithFolder):
     def test_each_example_is_a_well_formed_page(self) -> None:
         for folder in EXAMPLES:
             shown = replay_of(folder)
-            drawn = page(folder.name, "1", description_of(folder), shown)
+            drawn = page(folder.name, "2", description_of(folder), shown)
             root = xml.fromstring(drawn.partition("\n")[2])
             self.assertNotIn("<script", drawn)
             self.assertIn("not time", drawn)
@@ -91,11 +145,11 @@ class Pages(WithFolder):
         self.assertEqual((found[2], found[11], found[12], found[22], found[30], found[31]), (0, 0, 1, 11, 11, 12))
 
     def test_a_long_trace_is_shown_as_a_whole_and_in_parts(self) -> None:
-        lines = ["rte-trace 1", "run"]
+        lines = ["rte-trace 2", "run"]
         for number in range(3000):
             lines += ["pump:Fill start Each10", f"pump:Fill write out.level {number % 100} 0", "pump:Fill end"]
         shown = replay(description_of(TWO_CORES), read_trace([*lines, "unsettled"]))
-        drawn = page("long", "1", description_of(TWO_CORES), shown)
+        drawn = page("long", "2", description_of(TWO_CORES), shown)
         xml.fromstring(drawn.partition("\n")[2])
         self.assertIn("The end: lines 8,904 to 9,003", drawn)
         self.assertLess(len(drawn), 500_000)
@@ -106,7 +160,7 @@ class Pages(WithFolder):
         self.assertEqual((drawn.stderr, drawn.returncode), (b"", 0))
         self.assertIn(b"Lines 12 to 21 of a trace", drawn.stdout)
         self.assertEqual(run_tool("timeline.py", *files, "--lines", "40-50").returncode, 2)
-        refused = self.write("refused.txt", "refused rule 0 at /\n")
+        refused = self.write("refused.txt", "refused rule 1 at /\n")
         self.assertEqual(run_tool("timeline.py", files[0], refused).returncode, 2)
 
 
