@@ -17,6 +17,8 @@ import subprocess
 import sys
 import tempfile
 
+import make_description
+
 TOP = pathlib.Path(__file__).resolve().parent.parent
 
 
@@ -219,6 +221,174 @@ def periods(size):
     return clocked([1000 + n for n in range(size)])
 
 
+# ---- calls
+
+
+CALLS = {
+    "kind": "ClientServerInterface",
+    "shortName": "S",
+    "operations": [
+        {
+            "shortName": "op",
+            "arguments": [
+                {"shortName": "a", "type": "T", "direction": "in"},
+                {"shortName": "b", "type": "T", "direction": "out"},
+            ],
+        }
+    ],
+}
+
+
+def of(interface, kind, name, **spec):
+    """A port of another interface, with a com spec of its item if there are keys for one."""
+    item = {"S": "op", "M": "g"}[interface]
+    held = {"kind": kind + "PortPrototype", "shortName": name, "interface": interface}
+    return held | ({"comSpecs": [{"element": item, **spec}]} if spec else {})
+
+
+def client(times):
+    """Calls so many times at each tick, and waits for each answer."""
+    program = repeated(times, [["call", "c", "op", [1], ["y"], "s"]])
+    return component("K", [of("S", "R", "c")], [runnable("Go", [["call", "c", "op"]], program)], [timing("E", "Go", 1)])
+
+
+def server(places):
+    """Adds what it is given to a variable, and returns the sum."""
+    program = [["irvRead", "n", ["b"]], ["set", "b", ["add", "b", "a"]], ["irvWrite", "n", ["b"]]]
+    serve = runnable("Serve", [["irvRead", "n"], ["irvWrite", "n"]], program) | {"canBeInvokedConcurrently": True}
+    invoked = {"kind": "OperationInvokedEvent", "shortName": "O", "runnable": "Serve", "port": "s", "operation": "op"}
+    part = component("V", [of("S", "P", "s", queueLength=places)], [serve], [invoked])
+    part["behavior"]["variables"] = [{"shortName": "n", "type": "T"}]
+    return part
+
+
+def called(clients, times, tasks, events, runs):
+    """So many clients of one server."""
+    held = [{"shortName": "v", "type": "V"}] + [{"shortName": f"k{n}", "type": "K"} for n in range(clients)]
+    joined = [assembly(["v", "s"], [f"k{n}", "c"]) for n in range(clients)]
+    cores = 1 + max(task["core"] for task in tasks)
+    whole = described([client(times), server(clients)], held, joined, cores, tasks, events)
+    whole["interfaces"].append(CALLS)
+    return whole, "tick 1\nrun\n" * runs
+
+
+def calls_over(cores, size):
+    """A client that calls a server so many times, for 100 run lines."""
+    tasks = [{"shortName": "K", "core": 0}, {"shortName": "V", "core": cores - 1}]
+    return called(1, size, tasks, [mapped("k0", "E", "K", 0), mapped("v", "O", "V", 0)], 100)
+
+
+def calls(size):
+    """A client that calls a server in another task of its core so many times, for 100 run lines."""
+    return calls_over(1, size)
+
+
+def calls_across(size):
+    """As `calls`, but the server is on another core."""
+    return calls_over(2, size)
+
+
+def direct_calls(size):
+    """As `calls`, but the server is direct: it runs in its caller's task."""
+    return called(1, size, [{"shortName": "K", "core": 0}], [mapped("k0", "E", "K", 0)], 100)
+
+
+def clients(size):
+    """So many clients on one core, each in a task of its own, of one server on another core, for 100 run lines."""
+    tasks = [{"shortName": "V", "core": 0}] + [{"shortName": f"K{n}", "core": 1} for n in range(size)]
+    events = [mapped("v", "O", "V", 0)] + [mapped(f"k{n}", "E", f"K{n}", 0) for n in range(size)]
+    return called(size, 1, tasks, events, 100)
+
+
+# ---- modes
+
+
+def switched(components, held, joined, cores, tasks, events, modes):
+    """A description with one mode group, of these modes."""
+    whole = described(components, held, joined, cores, tasks, events)
+    whole["modeGroups"] = [{"shortName": "G", "modes": modes, "initialMode": modes[0]}]
+    whole["interfaces"].append({"kind": "ModeSwitchInterface", "shortName": "M", "modeGroup": {"shortName": "g", "type": "G"}})
+    return whole
+
+
+def boss(modes):
+    """Switches to each of these modes at each tick."""
+    program = [["switch", "m", mode, "s"] for mode in modes]
+    ports = [of("M", "P", "m", queueLength=len(modes))]
+    return component("B", ports, [runnable("Flip", [["switch", "m"]], program)], [timing("E", "Flip", 1)])
+
+
+def mode_event(name, activation, modes):
+    return {
+        "kind": "SwcModeSwitchEvent",
+        "shortName": name,
+        "runnable": "Hear",
+        "port": "p",
+        "activation": activation,
+        "modes": modes,
+    }
+
+
+def mode_events(size):
+    """A switch that starts so many events on exit and on entry, in each of 100 run lines."""
+    kinds = ["onExit", "onEntry"]
+    heard = [mode_event(f"X{n}", kinds[n % 2], ["On"]) for n in range(size)]
+    parts = [boss(["On"]), component("U", [of("M", "R", "p")], [runnable("Hear", [], [])], heard)]
+    held = [{"shortName": "b", "type": "B"}, {"shortName": "u", "type": "U"}]
+    tasks = [{"shortName": "B", "core": 0}, {"shortName": "U", "core": 0}]
+    events = [mapped("b", "E", "B", 0)] + [mapped("u", f"X{n}", "U", n) for n in range(size)]
+    whole = switched(parts, held, [assembly(["b", "m"], ["u", "p"])], 1, tasks, events, ["On"])
+    return whole, "tick 1\nrun\n" * 100
+
+
+def switching(machines, runs):
+    """So many machines, each switched there and back at each tick, with an event on entry, for so many run lines."""
+    user = component("U", [of("M", "R", "p")], [runnable("Hear", [], [])], [mode_event("X", "onEntry", ["On"])])
+    held = [{"shortName": f"b{n}", "type": "B"} for n in range(machines)] + [{"shortName": f"u{n}", "type": "U"} for n in range(machines)]
+    joined = [assembly([f"b{n}", "m"], [f"u{n}", "p"]) for n in range(machines)]
+    tasks = [{"shortName": "B", "core": 0}, {"shortName": "U", "core": 1}]
+    events = [mapped(f"b{n}", "E", "B", n) for n in range(machines)] + [mapped(f"u{n}", "X", "U", n) for n in range(machines)]
+    return switched([boss(["On", "Off"]), user], held, joined, 2, tasks, events, ["Off", "On"]), "tick 1\nrun\n" * runs
+
+
+def switches(size):
+    """A machine that is switched there and back at each tick, with an event on another core, for so many run lines."""
+    return switching(1, size)
+
+
+def machines(size):
+    """As `switches`, but so many machines at once, for 100 run lines."""
+    return switching(size, 100)
+
+
+def disabled(size):
+    """So many timing events that a mode disables: each is started at each tick and not admitted, for 100 run lines."""
+    timers = [timing(f"E{n}", f"R{n}", 1) | {"disabledInModes": {"port": "p", "modes": ["On"]}} for n in range(size)]
+    part = component("C", [of("M", "R", "p")], [runnable(f"R{n}", [], []) for n in range(size)], timers)
+    held = [{"shortName": "c", "type": "C"}]
+    tasks = [{"shortName": "T", "core": 0}]
+    whole = switched([part], held, [], 1, tasks, [mapped("c", f"E{n}", "T", n) for n in range(size)], ["On"])
+    whole["compositions"][0]["ports"] = [of("M", "R", "m")]
+    whole["compositions"][0]["connectors"] = [{"kind": "DelegationSwConnector", "inner": ["c", "p"], "outer": "m"}]
+    return whole, "tick 1\nrun\n" * 100
+
+
+# ---- all at once
+
+
+def everything(size):
+    """What `make_description.py` writes for so many MiB, with servers of one operation mapped too, for 10 run lines.
+
+    Its instances switch modes and start each other for ever, so each run line is `unsettled` after some 100,000 lines.
+    """
+    count = make_description.count_within(size * 1048576 - 131072, False)
+    whole = make_description.description(count)
+    for n in range(min(count, make_description.PAIRS)):
+        for number, name in enumerate(["first", "second"]):
+            whole["mapping"]["events"].append(mapped(f"c{n}/{name}", "Asked1", f"Task{n % 256}", 60000 + n // 256 * 2 + number))
+    return whole, "tick 10\nrun\n" * 10
+
+
 CASES = {
     chatter: 250,
     fan: 500,
@@ -233,6 +403,15 @@ CASES = {
     contention: 250,
     waiters: 125,
     variables: 500,
+    calls: 250,
+    calls_across: 250,
+    direct_calls: 250,
+    clients: 125,
+    mode_events: 500,
+    switches: 500,
+    machines: 125,
+    disabled: 500,
+    everything: 4,
 }
 
 
@@ -253,7 +432,7 @@ def run(case, size):
     with tempfile.TemporaryDirectory() as name:
         folder = pathlib.Path(name)
         words = [folder / "description.json", folder / "script.txt"]
-        words[0].write_text(json.dumps(description))
+        words[0].write_text(json.dumps(description, separators=(",", ":")))
         words[1].write_text(script)
         status, seconds, peak = measured(words, folder / "trace.txt", folder / "peak.txt")
         told = (folder / "trace.txt").read_bytes()

@@ -233,14 +233,20 @@ def text(count, broken):
     return json.dumps(whole, separators=(",", ":"))
 
 
-def main():
-    wanted = int(float(sys.argv[1]) * 1048576)
-    broken = len(sys.argv) > 2
+def count_within(wanted, broken):
+    """How many parts of each kind have at most so many bytes."""
     few, many = len(text(10, broken)), len(text(110, broken))
     count = 10 + (wanted - few) * 100 // (many - few)
     while len(text(count, broken)) > wanted:
         count -= 1
-    sys.stdout.write(text(count, broken))
+    return count
 
 
-main()
+def main():
+    wanted = int(float(sys.argv[1]) * 1048576)
+    broken = len(sys.argv) > 2
+    sys.stdout.write(text(count_within(wanted, broken), broken))
+
+
+if __name__ == "__main__":
+    main()
