@@ -1,0 +1,4 @@
+pub mod Codes
+pub mod Visible
+pub mod Counting
+pub mod Sessions
