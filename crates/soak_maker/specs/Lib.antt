@@ -1,0 +1,5 @@
+pub mod Json
+pub mod Components
+pub mod Parts
+pub mod Soak
+pub mod Script
