@@ -1,5 +1,5 @@
 -- When each answer of the top call comes.
-use Rattle.std.proofs.Common.{◌≡◌, ℕ, zero, suc, ◌<◌, List, [], length, slice_get, arith, sym, ◌∙◌, subst, inl, inr, Option, Some, None}
+use Rattle.std.proofs.Common.{◌≡◌, ℕ, zero, suc, ◌<◌, List, [], length, slice_get, arith, sym, ap, get_or, ◌∙◌, subst, inl, inr, Option, Some, None}
 use Rattle.std.specs.Prelude.{◌⊎◌, ◌↔◌, ◌≢◌, IsSomeAnd}
 use Rattle.std.proofs.lemmas.Option.{same_Some}
 use Rattle.rte_text.specs.Counts.{Rose}
@@ -20,7 +20,7 @@ use Rattle.rte_program.specs.declared.status.Status.TheVariants as status
 use Rattle.rte_program.specs.declared.stop.Stop.{Stop}
 use Rattle.rte_program.specs.declared.stop.Stop.TheVariants as stop
 use Rattle.rte_program.specs.Stops.{IsSaid, IsUnsaid, Says, answer_after, stop_status, status_after, stop_text, script_refusal_text}
-use Rattle.rte_program.specs.Inputs.{Texts, run_words, plan_words, AreFetched, AskForRun, BreaksNoRule, HasNoPlan, HaveBadLine, IsJudged, IsForm, IsNoForm, IsNoScriptOver, IsNotPlanned, IsNumbered, IsScriptOver, IsStopped, IsUnread, Names, NamesBadLine, NamesInputs, NamesOne, NamesPlanned, NamesUnread}
+use Rattle.rte_program.specs.Inputs.{Texts, run_words, plan_words, soak_words, AreFetched, AskForRun, AskForSoak, AsksForSoak, BreaksNoRule, HasNoPlan, HaveBadLine, IsJudged, IsForm, IsNoForm, IsNoScriptOver, IsNotPlanned, IsNumbered, IsScriptOver, IsStopped, IsUnread, Names, NamesBadLine, NamesInputs, NamesOne, NamesPlanned, NamesUnread}
 use Rattle.rte_program.specs.Running.{PrintsBeginning}
 use Rattle.rte_program.specs.Answers.{CutsRefusal, CutsRun, CutsWhatIsPut, EndsForMemory, RefusesScript, RefusesWhatIsNamed, SaysUnread, IsHeld, AreHeld, IsOneHeld, NoFault, AnswersOrMemory}
 
@@ -135,7 +135,7 @@ pub words_come : (words : Texts) (files : ToldFiles) (b a : ShelfCounts) (before
 words_come words files b a before after f g answer stop.Words stopped says none quiet = status_by answer stop.Words says.answered f g says.status_is says.faults quiet
 words_come words files b a before after f g answer (stop.NotRead word) stopped says none quiet = absurd (none stopped.is_form)
 words_come words files b a before after f g answer (stop.Refused refusal) (inl run, same) says none quiet = let n = run.names in absurd (none (inl (n.description_name, n.script_name, n.words_are)))
-words_come words files b a before after f g answer (stop.Refused refusal) (inr plan, same) says none quiet = absurd (none (inr (plan.names.name, plan.names.words_are)))
+words_come words files b a before after f g answer (stop.Refused refusal) (inr plan, same) says none quiet = absurd (none (inr (inl (plan.names.name, plan.names.words_are))))
 words_come words files b a before after f g answer (stop.Script line cause) stopped says none quiet = let n = stopped.0.names in absurd (none (inl (n.description_name, n.script_name, n.words_are)))
 words_come words files b a before after f g answer stop.Memory stopped says none quiet = absurd (none stopped.0)
 
@@ -231,7 +231,7 @@ same_file words files d d' held names = let e : plan_words names.name ≡ plan_w
     held_once files held.name d d' held.held (subst (λ n. HeldWhereTold files n d') (name_once _ _ e) names.held)
 
 unplanned : (words : Texts) (files : ToldFiles) (b a : ShelfCounts) (d : List ℕ) (why : Stop) → IsOneHeld words files d → ¬ Rose b.faults a.faults → IsStopped words files b a why → IsNotPlanned d why
-unplanned words files b a d stop.Words held quiet stopped = stopped.0 (inr (held.name, held.words_are))
+unplanned words files b a d stop.Words held quiet stopped = stopped.0 (inr (inl (held.name, held.words_are)))
 unplanned words files b a d (stop.NotRead word) held quiet stopped =
     let e = plan_file held.name stopped.name word stopped.after_command (subst (λ ws. slice_get ws word ≡ Some stopped.name) held.words_are stopped.name_is) in
     readable files held.name d b a held.held quiet (subst (λ name. IsUnread files name b a) e stopped.unread)
@@ -315,19 +315,44 @@ plan_done_comes words files b a before after f g answer why d stopped says held 
 
 -- an answer without a run is none to the words `run C S`
 pub is_no_run : {P : Type 0} → (answer : Option Status) (status : Status) (words : Texts) (files : ToldFiles) (d s : List ℕ)
-    → (answer ≡ None) ↔ AskForRun words → answer ≡ Some status → AreHeld words files d s → P
-is_no_run answer status words files d s other is held = let none : answer ≡ None = other.1 (held.description_name, held.script_name, held.words_are) in absurd cc
+    → (answer ≡ None) ↔ (AskForRun words ⊎ AskForSoak words) → answer ≡ Some status → AreHeld words files d s → P
+is_no_run answer status words files d s other is held = let none : answer ≡ None = other.1 (inl (held.description_name, held.script_name, held.words_are)) in absurd cc
 
 pub cut_of_run : {words : Texts} {files : ToldFiles} {b a : ShelfCounts} {before after : Option (List ℕ)} → CutsRefusal words files b a before after ⊎ CutsRun words files before after → CutsWhatIsPut words files b a before after
 cut_of_run (inl refusal) = inl (inl refusal)
-cut_of_run (inr run) = inr run
+cut_of_run (inr run) = inr (inl run)
+
+pub is_no_soak : {P : Type 0} → (answer : Option Status) (status : Status) (words : Texts) (n : ℕ) → (answer ≡ None) ↔ (AskForRun words ⊎ AskForSoak words) → answer ≡ Some status → AsksForSoak words n → P
+is_no_soak answer status words n other is asked = let none : answer ≡ None = other.1 (inr (n, asked)) in absurd cc
 
 -- words of the one form are not words of the other
-pub run_is_no_plan : (words : Texts) (files : ToldFiles) (d : List ℕ) → AskForRun words → IsOneHeld words files d → ⊥
-run_is_no_plan words files d run held = apart run.0 run.1 held.name (sym run.2 ∙ held.words_are)
+soak_apart : (pairs n m : List ℕ) → soak_words pairs ≡ run_words n m → ⊥
+soak_apart pairs n m e = cc
+
+soak_apart_plan : (pairs n : List ℕ) → soak_words pairs ≡ plan_words n → ⊥
+soak_apart_plan pairs n e = let letters : 115 ≡ 112 = ap (λ (ws : Texts). get_or (get_or ws 0 []) 0 0) e in absurd (omega (arith, letters))
+
+pub soak_is_no_run : (words : Texts) (n : ℕ) (files : ToldFiles) (d s : List ℕ) → AsksForSoak words n → AreHeld words files d s → ⊥
+soak_is_no_run words n files d s soak held = soak_apart soak.text held.description_name held.script_name (sym soak.words_are ∙ held.words_are)
+
+pub run_is_no_soak : (words : Texts) → AskForRun words → AskForSoak words → ⊥
+run_is_no_soak words run soak = soak_apart soak.1.text run.0 run.1 (sym soak.1.words_are ∙ run.2)
+
+pub run_is_no_plan : (words : Texts) (files : ToldFiles) (d : List ℕ) → AskForRun words ⊎ AskForSoak words → IsOneHeld words files d → ⊥
+run_is_no_plan words files d (inl run) held = apart run.0 run.1 held.name (sym run.2 ∙ held.words_are)
+run_is_no_plan words files d (inr soak) held = soak_apart_plan soak.1.text held.name (sym soak.1.words_are ∙ held.words_are)
+
+pub runs_are_forms : (words : Texts) → AskForRun words ⊎ AskForSoak words → IsForm words
+runs_are_forms words (inl run) = inl run
+runs_are_forms words (inr soak) = inr (inr soak)
+
+-- what is no soak is a run
+pub then_run : (words : Texts) → AskForRun words ⊎ AskForSoak words → (AskForSoak words → ⊥) → AskForRun words
+then_run words (inl run) none = run
+then_run words (inr soak) none = absurd (none soak)
 
 pub plan_is_a_form : (words : Texts) (files : ToldFiles) (found : PlannedDescription) → NamesPlanned words files found → IsForm words
-plan_is_a_form words files found n = inr (n.names.name, n.names.words_are)
+plan_is_a_form words files found n = inr (inl (n.names.name, n.names.words_are))
 
 -- the answer to a plan that was put, where no put failed
 pub printed_quietly : (answer : Status) (f g : ℕ) → (answer ≡ status.Done) ⊎ ((answer ≡ status.NotWritten) ⊎ (answer ≡ status.Memory)) → (answer ≡ status.NotWritten → Rose f g) → ¬ Rose f g → AnswersOrMemory answer status.Done

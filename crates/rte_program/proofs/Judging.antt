@@ -30,7 +30,7 @@ judge_stopped words files before after d s names same (Err why) judged = stopped
 
 unplanned_by : (words : Texts) (files : ToldFiles) (before after : ShelfCounts) (d : List ℕ) → NamesOne words files d → after ≡ before → (why : Stop) → IsNotPlanned d why → IsStopped words files before after why
 unplanned_by words files before after d names same (stop.Refused refusal) refused = (inr (record { description_bytes = d; names = names; refused = refused }), same)
-unplanned_by words files before after d names same stop.Memory refused = (inr (names.name, names.words_are), same)
+unplanned_by words files before after d names same stop.Memory refused = (inr (inl (names.name, names.words_are)), same)
 unplanned_by words files before after d names same (stop.Script line cause) refused = absurd refused
 unplanned_by words files before after d names same stop.Words refused = absurd refused
 unplanned_by words files before after d names same (stop.NotRead word) refused = absurd refused

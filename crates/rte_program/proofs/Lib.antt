@@ -1,4 +1,5 @@
 pub mod Answering
+pub mod Soaks
 pub mod Judging
 pub mod Ran
 pub mod Words

@@ -15,6 +15,7 @@ use Rattle.rte_program.specs.Stops.{stop_text, refusal_text, script_refusal_text
 use Rattle.plan_text.specs.Lines.{plan_text}
 use Rattle.rte_program.specs.Inputs.{Texts, run_words, plan_words, AreFetched, IsNoForm, NamesInputs, NamesPlanned, NamesRefused, NamesBadLine, NamesUnread, IsStopped}
 use Rattle.rte_program.specs.Running.{PrintsRun, PrintsBeginning}
+use Rattle.rte_program.specs.Soaking.{SoaksWhatIsAsked, RefusesSoak, CutsSoak}
 
 -- ---- what each answer says
 
@@ -31,15 +32,23 @@ pub record PrintsPlan (words : Texts) (files : ToldFiles) (before after : Option
   pub named : NamesPlanned words files found
   pub printed : AppendsWhereTold before after (plan_text found.description found.flat found.plan)
 
+-- what the words ask for was run
+abbrev pub RunsWhatIsAsked : Texts → ToldFiles → Option (List ℕ) → Option (List ℕ) → Type 0
+RunsWhatIsAsked words files before after = RunsWhatIsNamed words files before after ⊎ SoaksWhatIsAsked words before after
+
 -- what the words ask for was done
 abbrev pub DoesWhatIsNamed : Texts → ToldFiles → Option (List ℕ) → Option (List ℕ) → Type 0
-DoesWhatIsNamed words files before after = RunsWhatIsNamed words files before after ⊎ PrintsPlan words files before after
+DoesWhatIsNamed words files before after = RunsWhatIsAsked words files before after ⊎ PrintsPlan words files before after
 
 -- the rule that is broken and its place
 pub record RefusesWhatIsNamed (words : Texts) (files : ToldFiles) (before after : Option (List ℕ)) : Type 0 where
   pub refusal : Refusal
   pub named : NamesRefused words files refusal
   pub told : AppendsWhereTold before after (refusal_text refusal.rule refusal.place)
+
+-- of the description that the words name, or of the one that `soak N` makes
+abbrev pub RefusesWhatIsAsked : Texts → ToldFiles → Option (List ℕ) → Option (List ℕ) → Type 0
+RefusesWhatIsAsked words files before after = RefusesWhatIsNamed words files before after ⊎ RefusesSoak words before after
 
 abbrev pub RefusesWords : Texts → Option (List ℕ) → Option (List ℕ) → Type 0
 RefusesWords words before after = IsNoForm words × AppendsWhereTold before after (codes "words refused\n")
@@ -78,7 +87,8 @@ abbrev pub CutsRefusalOrPlan : Texts → ToldFiles → ShelfCounts → ShelfCoun
 CutsRefusalOrPlan words files shelf_before shelf_after before after = CutsRefusal words files shelf_before shelf_after before after ⊎ CutsPlan words files before after
 
 abbrev pub CutsWhatIsPut : Texts → ToldFiles → ShelfCounts → ShelfCounts → Option (List ℕ) → Option (List ℕ) → Type 0
-CutsWhatIsPut words files shelf_before shelf_after before after = CutsRefusalOrPlan words files shelf_before shelf_after before after ⊎ CutsRun words files before after
+CutsWhatIsPut words files shelf_before shelf_after before after =
+    CutsRefusalOrPlan words files shelf_before shelf_after before after ⊎ (CutsRun words files before after ⊎ CutsSoak words before after)
 
 -- for want of memory nothing was put, or a run was cut
 abbrev pub EndsForMemory : Texts → ToldFiles → Option (List ℕ) → Option (List ℕ) → Type 0

@@ -1,5 +1,5 @@
 -- What the words of a command name, and what the files that they name hold.
-use Rattle.std.specs.Prelude.{◌≡◌, ℕ, ◌+◌, ◌<◌, ◌^◌, List, [], ◌∷◌, codes, slice_get, Some, OnSome, ◌⊎◌}
+use Rattle.std.specs.Prelude.{◌≡◌, ℕ, ◌+◌, ◌<◌, ◌≤◌, ◌^◌, List, [], ◌∷◌, codes, decimal, slice_get, Some, OnSome, ◌⊎◌}
 use Rattle.rte_text.specs.Counts.{Rose, last_count}
 use Rattle.rte_text.specs.Shelves.{ToldFiles, HeldWhereTold, LongWhereTold, ShelfCounts}
 use Rattle.rte_text.specs.declared.refusal.Refusal.{Refusal}
@@ -32,8 +32,26 @@ plan_words description = codes "plan" ∷ description ∷ []
 abbrev pub AskForPlan : Texts → Type 0
 AskForPlan words = (description : List ℕ) × (words ≡ plan_words description)
 
+abbrev pub soak_words : (pairs : List ℕ) → Texts
+soak_words pairs = codes "soak" ∷ pairs ∷ []
+
+-- a number of pairs, from 1 to 64, in decimal
+pub record IsPairs (text : List ℕ) (n : ℕ) : Type 0 where
+  pub text_is : text ≡ decimal n
+  pub least : 1 ≤ n
+  pub most : n ≤ 64
+
+-- the words `soak N`
+pub record AsksForSoak (words : Texts) (n : ℕ) : Type 0 where
+  pub text : List ℕ
+  pub words_are : words ≡ soak_words text
+  pub pairs : IsPairs text n
+
+abbrev pub AskForSoak : Texts → Type 0
+AskForSoak words = (n : ℕ) × AsksForSoak words n
+
 abbrev pub IsForm : Texts → Type 0
-IsForm words = AskForRun words ⊎ AskForPlan words
+IsForm words = AskForRun words ⊎ (AskForPlan words ⊎ AskForSoak words)
 
 abbrev pub IsNoForm : Texts → Type 0
 IsNoForm words = ¬ IsForm words

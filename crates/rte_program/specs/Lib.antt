@@ -1,4 +1,5 @@
 pub mod Running
 pub mod Stops
 pub mod Inputs
+pub mod Soaking
 pub mod Answers

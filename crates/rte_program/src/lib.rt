@@ -1,12 +1,14 @@
 //! What the program does: the top call, which carries out a command over any files and any output.
 #![tactic(auto)]
 
+mod command;
 mod plan;
 mod prepare;
 mod quiet;
 mod report;
 mod run;
 mod run_named;
+mod soak;
 mod status;
 mod stop;
 mod top;

@@ -73,7 +73,7 @@ pub fn plan_bytes(alloc: Global, bytes: &[u8]) -> Result<PlannedDescription, Sto
 }
 
 /// Reads the description and then the script.
-fn judge(alloc: Global, description: &[u8], script: &[u8]) -> Result<Prepared, Stop>
+pub fn judge(alloc: Global, description: &[u8], script: &[u8]) -> Result<Prepared, Stop>
     ensures ready { IfOk result (λ x. AreInputs description.now script.now x.found x.script.lines) }
     ensures stopped { IfErr result (IsJudged description.now script.now) }
 {

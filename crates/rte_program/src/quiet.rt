@@ -1,20 +1,21 @@
 //! The commands that run nothing.
 
-ghost use Rattle.std.specs.Prelude.{◌≡◌, ◌≢◌, ◌↔◌, ℕ, List, map, string_bytes, IfSome, None};
+ghost use Rattle.std.specs.Prelude.{◌≡◌, ◌≢◌, ◌↔◌, ◌⊎◌, ℕ, List, map, string_bytes, IfSome, None};
 ghost use Rattle.rte_text.specs.Counts.{Rose};
-ghost use Rattle.rte_program.specs.Inputs.{counts_of, AskForRun, BreaksNoRule, HasNoPlan, IsNoForm};
+ghost use Rattle.rte_program.specs.Inputs.{counts_of, AskForRun, AskForSoak, BreaksNoRule, HasNoPlan, IsNoForm};
 ghost use Rattle.rte_program.specs.Answers.{AnswersOrMemory, CutsRefusalOrPlan, IsOneHeld, NoFault, PrintsPlan, RefusesWhatIsNamed, RefusesWords, SaysUnread};
 
 use crate::plan::{print_plan, read_plan};
 use crate::prepare::names_in;
 use crate::report::report;
+use crate::soak::pairs_in;
 use crate::status::Status;
 use rte_text::{Shelf, Sink};
 use std::alloc::Global;
 
 /// Carries out the command that the words give if it runs nothing, and answers words that are no command. `plan C` reads the
-/// description C from the shelf and puts its plan. None if the words are another command, `run C S`: then nothing was fetched
-/// and nothing put.
+/// description C from the shelf and puts its plan. None if the words are another command, `run C S` or `soak N`: then nothing was
+/// fetched and nothing put.
 ///
 /// Refusals come in this order: the words, the file, the description, by rules 1 to 30. Each line is one put.
 pub fn rte_quiet<S: Shelf, K: Sink>(
@@ -24,7 +25,7 @@ pub fn rte_quiet<S: Shelf, K: Sink>(
     out: &mut K,
 ) -> Option<Status>
     // Another command.
-    ensures other { (result ≡ None) ↔ AskForRun (map string_bytes words.now) }
+    ensures other { (result ≡ None) ↔ (AskForRun (map string_bytes words.now) ⊎ AskForSoak (map string_bytes words.now)) }
     ensures unread { result ≡ None → shelf.new ≡ shelf.old }
     ensures unwritten { result ≡ None → out.new ≡ out.old }
 
@@ -61,6 +62,9 @@ pub fn rte_quiet<S: Shelf, K: Sink>(
         → NoFault (S.faults shelf.old) (S.faults shelf.new) (K.faults out.old) (K.faults out.new) → AnswersOrMemory status Status.Done) }
 {
     if let Some(_) = names_in(words) {
+        return None;
+    }
+    if let Some(_) = pairs_in(words) {
         return None;
     }
     match read_plan(alloc, words, shelf) {

@@ -2,11 +2,12 @@
 
 ghost use Rattle.std.specs.Prelude.{◌≡◌, ◌≢◌, ◌⊎◌, ℕ, List, map, string_bytes};
 ghost use Rattle.rte_text.specs.Counts.{Rose};
-ghost use Rattle.rte_program.specs.Inputs.{counts_of, BreaksNoRule, HasNoPlan, IsNoForm, IsNoScriptOver, IsScriptOver};
-ghost use Rattle.rte_program.specs.Answers.{DoesWhatIsNamed, RefusesWhatIsNamed, RefusesWords, RefusesScript, SaysUnread, CutsWhatIsPut, EndsForMemory, AreHeld, IsOneHeld, NoFault, AnswersOrMemory};
+ghost use Rattle.rte_program.specs.Inputs.{counts_of, AsksForSoak, BreaksNoRule, HasNoPlan, IsNoForm, IsNoScriptOver, IsScriptOver};
+ghost use Rattle.rte_program.specs.Answers.{DoesWhatIsNamed, RefusesWhatIsAsked, RefusesWords, RefusesScript, SaysUnread, CutsWhatIsPut, EndsForMemory, AreHeld, IsOneHeld, NoFault, AnswersOrMemory};
+ghost use Rattle.rte_program.specs.Soaking.{SoakKeepsRules};
 
+use crate::command::run_command;
 use crate::quiet::rte_quiet;
-use crate::run_named::run_named;
 use crate::status::Status;
 use rte_text::{Gate, Shelf, Sink};
 use std::alloc::Global;
@@ -15,11 +16,12 @@ use std::thread::Threads;
 
 /// Carries out the command that the words give. `run C S` reads the description C and the script S from the shelf,
 /// runs the script on the bus of the description, and puts the trace, in version two (`WRITTEN_VERSION`). `plan C` reads the
-/// description C and puts its plan.
+/// description C and puts its plan. `soak N`, with N from 1 to 64, makes a description of N pairs of a producer and a consumer, which all
+/// call one server, and a script that ticks and runs twenty times; it runs this script and puts the numbers of the run alone.
 ///
 /// Refusals come in this order: the words, the files in the order of the words, the description, by rules 1 to 30, the script.
 /// Every description that breaks none of the thirty is run. Before the run nothing is put but a refusal's text. Each line is
-/// one put.
+/// one put, but for the numbers of `soak N`, which are one put in all.
 pub fn rte_top<R: Threads + Wait + Sync, S: Shelf, K: Sink, G: Gate>(
     rt: &R,
     alloc: Global,
@@ -34,7 +36,7 @@ pub fn rte_top<R: Threads + Wait + Sync, S: Shelf, K: Sink, G: Gate>(
 
     // What each other answer says.
     ensures refused { result ≡ Status.Refused
-        → RefusesWhatIsNamed (map string_bytes words.now) (S.files shelf.old) (K.told out.old) (K.told out.new) }
+        → RefusesWhatIsAsked (map string_bytes words.now) (S.files shelf.old) (K.told out.old) (K.told out.new) }
     ensures words { result ≡ Status.Words → RefusesWords (map string_bytes words.now) (K.told out.old) (K.told out.new) }
     ensures script { result ≡ Status.Script
         → RefusesScript (map string_bytes words.now) (S.files shelf.old) (K.told out.old) (K.told out.new) }
@@ -67,9 +69,11 @@ pub fn rte_top<R: Threads + Wait + Sync, S: Shelf, K: Sink, G: Gate>(
         → NoFault (S.faults shelf.old) (S.faults shelf.new) (K.faults out.old) (K.faults out.new) → AnswersOrMemory result Status.Refused }
     ensures plan_complete { (d : List ℕ) → IsOneHeld (map string_bytes words.now) (S.files shelf.old) d → BreaksNoRule d
         → NoFault (S.faults shelf.old) (S.faults shelf.new) (K.faults out.old) (K.faults out.new) → AnswersOrMemory result Status.Done }
+    ensures soak_complete { (n : ℕ) → AsksForSoak (map string_bytes words.now) n → SoakKeepsRules n
+        → ¬ Rose (K.faults out.old) (K.faults out.new) → AnswersOrMemory result Status.Done }
 {
     match rte_quiet(alloc, words, shelf, out) {
         Some(status) => status,
-        None => run_named(rt, alloc, words, shelf, out, gate),
+        None => run_command(rt, alloc, words, shelf, out, gate),
     }
 }

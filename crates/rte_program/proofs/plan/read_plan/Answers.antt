@@ -1,11 +1,11 @@
-use Rattle.std.proofs.Common.{◌≡◌, arith, inr, map, refl, rules, string_bytes}
+use Rattle.std.proofs.Common.{◌≡◌, arith, inl, inr, map, refl, rules, string_bytes}
 use Rattle.rte_text.specs.Shelves.{ShelfCounts}
 use Rattle.rte_program.specs.Inputs.{NamesOne}
 use Rattle.rte_program.proofs.Judging as by
 use Rattle.rte_program.proofs.plan.read_plan.Goals as goal
 
 pub returns-in-Err-clause-stopped : goal.returns-in-Err-clause-stopped
-returns-in-Err-clause-stopped g c = by.unfetched _ _ c.in-Some.name.now 1 _ _ (inr (c.in-Some.name.now, c.in-Some.ensures.named)) (omega arith) (rw c.in-Some.ensures.named refl) c.in-Err.stop c.in-Err.ensures.stopped
+returns-in-Err-clause-stopped g c = by.unfetched _ _ c.in-Some.name.now 1 _ _ (inr (inl (c.in-Some.name.now, c.in-Some.ensures.named))) (omega arith) (rw c.in-Some.ensures.named refl) c.in-Err.stop c.in-Err.ensures.stopped
 
 pub returns-clause-ready : goal.returns-clause-ready
 returns-clause-ready g c =
