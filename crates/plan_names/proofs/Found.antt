@@ -1,4 +1,4 @@
--- In a sound plan a name finds what it names.
+-- In a plan in which names are distinct, as in a sound one, a name finds what it names.
 use Rattle.std.proofs.Common.{◌≡◌, ℕ, zero, suc, ◌+◌, ◌<◌, Bool, true, false, not, ◌&&◌, cond, List, [], ◌∷◌, map, length, nat_lt, bytes_eq, unwrap_or, Option, Some, None, refl, sym, ap, ◌∙◌, subst, arith}
 use Rattle.std.specs.List.{list_all, position, position_or_len, slice_get}
 use Rattle.std.proofs.lemmas.List.{length-map}
@@ -91,7 +91,7 @@ thing_found {X} g home name xs once x v there =
 text_found : (ts : List Letters) → named_once (map (λ t. (0, t)) ts) ≡ true → (x : ℕ) (t : Letters) → slice_get ts x ≡ Some t → position (λ u. bytes_eq u t) ts ≡ Some x
 text_found ts once x t there = found {X = Letters} (λ u. (0, u)) (λ u. bytes_eq u t) ts once x t there ((bytes_eq-Decides t t).1 refl) (λ u h. ap (λ n. (0, n)) ((bytes_eq-Decides u t).0 h))
 
--- ---- things of a sound plan
+-- ---- things of a plan in which names are distinct
 
 record AreDistinct (p : Plan) : Type 0 where
   instances : named_once (map (λ t. (0, t)) p.names) ≡ true
@@ -104,9 +104,9 @@ record AreDistinct (p : Plan) : Type 0 where
   events : named_once (map (λ (v : EventPlan). (rank p (instance_of p v.runnable), v.name)) p.events) ≡ true
   runnables : named_once (map (λ (r : Runnable). (r.instance, r.name)) p.runnables) ≡ true
 
-are_distinct : (p : Plan) (m : Mapping) → IsSound p m → AreDistinct p
-are_distinct p m s =
-    let a = and_parts _ _ (and_parts (names_distinct p) _ (and_parts (names_fit p) _ s.names).1).0 in
+are_distinct : (p : Plan) → names_distinct p ≡ true → AreDistinct p
+are_distinct p once =
+    let a = and_parts _ _ once in
     let elements = and_parts _ _ a.1 in
     let points = and_parts _ _ elements.1 in
     let servers = and_parts _ _ points.1 in
@@ -117,29 +117,32 @@ are_distinct p m s =
     let events = and_parts _ _ mode_ports.1 in
     record { instances = a.0; elements = elements.0; points = points.0; areas = areas.0; machines = machines.0; modes = modes.0; mode_ports = mode_ports.0; events = events.0; runnables = events.1 }
 
-pub finds_instances : (p : Plan) (m : Mapping) → IsSound p m → FindsInstances p
-finds_instances p m s = text_found p.names (are_distinct p m s).instances
+pub names_of_sound : (p : Plan) (m : Mapping) → IsSound p m → names_distinct p ≡ true
+names_of_sound p m s = (and_parts (names_distinct p) _ (and_parts (names_fit p) _ s.names).1).0
 
-pub finds_elems : (p : Plan) (m : Mapping) → IsSound p m → FindsElems p
-finds_elems p m s = thing_found (rank p) (λ (e : ElemPlan). e.instance) (λ (e : ElemPlan). e.name) p.elements (are_distinct p m s).elements
+pub finds_instances : (p : Plan) → names_distinct p ≡ true → FindsInstances p
+finds_instances p once = text_found p.names (are_distinct p once).instances
 
-pub finds_points : (p : Plan) (m : Mapping) → IsSound p m → FindsPoints p
-finds_points p m s = thing_found (λ o. unwrap_or o (length p.runnables)) (λ (t : PointPlan). t.runnable) (λ (t : PointPlan). t.name) p.points (are_distinct p m s).points
+pub finds_elems : (p : Plan) → names_distinct p ≡ true → FindsElems p
+finds_elems p once = thing_found (rank p) (λ (e : ElemPlan). e.instance) (λ (e : ElemPlan). e.name) p.elements (are_distinct p once).elements
 
-pub finds_areas : (p : Plan) (m : Mapping) → IsSound p m → FindsAreas p
-finds_areas p m s = thing_found (λ o. unwrap_or o 0) (λ (a : AreaPlan). Some a.instance) (λ (a : AreaPlan). a.name) p.areas (are_distinct p m s).areas
+pub finds_points : (p : Plan) → names_distinct p ≡ true → FindsPoints p
+finds_points p once = thing_found (λ o. unwrap_or o (length p.runnables)) (λ (t : PointPlan). t.runnable) (λ (t : PointPlan). t.name) p.points (are_distinct p once).points
 
-pub finds_machines : (p : Plan) (m : Mapping) → IsSound p m → FindsMachines p
-finds_machines p m s = thing_found (rank p) (λ (n : MachinePlan). n.instance) (λ (n : MachinePlan). n.name) p.machines (are_distinct p m s).machines
+pub finds_areas : (p : Plan) → names_distinct p ≡ true → FindsAreas p
+finds_areas p once = thing_found (λ o. unwrap_or o 0) (λ (a : AreaPlan). Some a.instance) (λ (a : AreaPlan). a.name) p.areas (are_distinct p once).areas
 
-pub finds_modes : (p : Plan) (m : Mapping) → IsSound p m → FindsModes p
-finds_modes p m s i n there = text_found n.modes (all_at (λ (n : MachinePlan). named_once (map (λ t. (0, t)) n.modes)) p.machines i n (are_distinct p m s).modes there)
+pub finds_machines : (p : Plan) → names_distinct p ≡ true → FindsMachines p
+finds_machines p once = thing_found (rank p) (λ (n : MachinePlan). n.instance) (λ (n : MachinePlan). n.name) p.machines (are_distinct p once).machines
 
-pub finds_mode_ports : (p : Plan) (m : Mapping) → IsSound p m → FindsModePorts p
-finds_mode_ports p m s = thing_found (rank p) (λ (t : ModePortPlan). t.instance) (λ (t : ModePortPlan). t.name) p.mode_ports (are_distinct p m s).mode_ports
+pub finds_modes : (p : Plan) → names_distinct p ≡ true → FindsModes p
+finds_modes p once i n there = text_found n.modes (all_at (λ (n : MachinePlan). named_once (map (λ t. (0, t)) n.modes)) p.machines i n (are_distinct p once).modes there)
 
-pub finds_events : (p : Plan) (m : Mapping) → IsSound p m → FindsEvents p
-finds_events p m s = thing_found (rank p) (λ (v : EventPlan). instance_of p v.runnable) (λ (v : EventPlan). v.name) p.events (are_distinct p m s).events
+pub finds_mode_ports : (p : Plan) → names_distinct p ≡ true → FindsModePorts p
+finds_mode_ports p once = thing_found (rank p) (λ (t : ModePortPlan). t.instance) (λ (t : ModePortPlan). t.name) p.mode_ports (are_distinct p once).mode_ports
 
-pub finds_runnables : (p : Plan) (m : Mapping) → IsSound p m → FindsRunnables p
-finds_runnables p m s = thing_found (λ o. unwrap_or o 0) (λ (r : Runnable). Some r.instance) (λ (r : Runnable). r.name) p.runnables (are_distinct p m s).runnables
+pub finds_events : (p : Plan) → names_distinct p ≡ true → FindsEvents p
+finds_events p once = thing_found (rank p) (λ (v : EventPlan). instance_of p v.runnable) (λ (v : EventPlan). v.name) p.events (are_distinct p once).events
+
+pub finds_runnables : (p : Plan) → names_distinct p ≡ true → FindsRunnables p
+finds_runnables p once = thing_found (λ o. unwrap_or o 0) (λ (r : Runnable). Some r.instance) (λ (r : Runnable). r.name) p.runnables (are_distinct p once).runnables

@@ -29,7 +29,7 @@ use Rattle.trace_reading.specs.Finding.{instance_at, machine_at, point_at, runna
 use Rattle.trace_reading.proofs.Callers.{caller_exists}
 use Rattle.trace_reading.proofs.Cutting.{are_visible, cut-join, cut-whole}
 use Rattle.trace_reading.proofs.Letters.{name_lacks, name_visible, pair_lacks, pair_visible, path_lacks, path_visible}
-use Rattle.trace_reading.proofs.Readable.{IsReadable}
+use Rattle.trace_reading.proofs.Naming.{IsNamed}
 use Rattle.trace_reading.proofs.Things.{IsRead, same_home, within}
 use Rattle.trace_reading.proofs.Values.{numbered_back}
 
@@ -54,7 +54,7 @@ behind-more s (c ∷ cs) more rest h = step (c == s) h (behind-more s cs more re
 differs : (s : ℕ) (t u rest : Letters) → behind s t ≡ Some rest → behind s u ≡ None → bytes_eq t u ≡ false
 differs s t u rest some none = false_from_ne_true (bytes_eq t u) (λ same. let e : behind s t ≡ behind s u = ap (behind s) ((bytes_eq-Decides t u).0 same) in let f : Some rest ≡ None = sym some ∙ e ∙ none in cc)
 
-module _ (p : Plan) (r : IsReadable p) where
+module _ (p : Plan) (r : IsNamed p) where
   -- ---- INSTANCE
 
   record IsPath (i : ℕ) : Type 0 where

@@ -17,7 +17,7 @@ use Rattle.bus_semantics.specs.SoundPlan.{same_numbers}
 use Rattle.bus_semantics.specs.SoundPrograms.{runnable_sound}
 use Rattle.bus_laws.proofs.Thinning.{every_at}
 use Rattle.trace_reading.proofs.Letters.{either}
-use Rattle.trace_reading.proofs.Readable.{IsReadable}
+use Rattle.trace_reading.proofs.Naming.{IsNamed}
 use Rattle.trace_reading.proofs.Things.{same_home}
 
 abbrev has : ℕ → List ℕ → Bool
@@ -104,7 +104,7 @@ call_in f q (a ∷ xs) (t ∷ ts) e h =
     step kind.ACall is h later here = at_call (IsCall f q) h later (here (inr is))
     step _ is h later here = later h
 
-module _ (p : Plan) (r : IsReadable p) where
+module _ (p : Plan) (r : IsNamed p) where
   takes_at : (x : ℕ) (b : Bool) (a : AccessSig) (q : ℕ) → point_takes p x b a.ins a.outs q ≡ true → (t : PointPlan) → slice_get p.points q ≡ Some t → t.runnable ≡ Some x
   takes_at x b a q takes t there =
       let here : test t ≡ true = sym (ap (λ o. option_map_or test o false) there) ∙ takes in

@@ -37,7 +37,7 @@ use Rattle.trace_reading.proofs.ActorTexts.{IsThere, point_read_in, served_withi
 use Rattle.trace_reading.proofs.Cutting.{are_visible, part}
 use Rattle.trace_reading.proofs.Lines.{fields_of, word_of}
 use Rattle.trace_reading.proofs.Modes.{IsModeOf, mode_read, result_read}
-use Rattle.trace_reading.proofs.Readable.{IsReadable}
+use Rattle.trace_reading.proofs.Naming.{IsNamed}
 use Rattle.trace_reading.proofs.Things.{IsRead, area_read, elem_read, event_read, machine_read, mode_port_read, point_read, within}
 use Rattle.trace_reading.proofs.Values.{code_back, code_visible, no_value-is, value_text_back, value_text_visible}
 
@@ -126,7 +126,7 @@ deed_names p a (deed.Admit admitted) h = tt
 deed_names p a deed.End h = tt
 deed_names p a d h = wish_names p a (wanted_by 0 d) h
 
-pub deed_there : (p : Plan) (r : IsReadable p) (a : Actor) (d : Deed) → cond (needs_event d) (activation_fits p a) (wish_fits p a (wanted_by 0 d)) ≡ true → IsThere p r a
+pub deed_there : (p : Plan) (r : IsNamed p) (a : Actor) (d : Deed) → cond (needs_event d) (activation_fits p a) (wish_fits p a (wanted_by 0 d)) ≡ true → IsThere p r a
 deed_there p r Env d h = tt
 deed_there p r (Machine m) d h = step (needs_event d) h
   where
@@ -171,7 +171,7 @@ seen3 a b c h k l = and_from (are_visible a) (list_all are_visible (b ∷ c ∷ 
 abbrev pub line_with : Letters → Letters → List Letters → Line
 line_with a w ts = record { who = a; word = w; first = part ts 0; second = part ts 1; third = part ts 2; fourth = part ts 3 }
 
-module _ (v : Version) (p : Plan) (r : IsReadable p) where
+module _ (v : Version) (p : Plan) (r : IsNamed p) where
   pub record IsDeedText (a : Actor) (d : Deed) : Type 0 where
     pub found : (who : Letters) → deed_in v p a (line_with who (word_of d) (fields_of v p a d)) ≡ Some d
     pub visible : list_all are_visible (word_of d ∷ fields_of v p a d) ≡ true

@@ -21,7 +21,7 @@ use Rattle.trace_reading.proofs.ActorTexts.{actor_read}
 use Rattle.trace_reading.proofs.Cutting.{are_visible, field-line, line_of}
 use Rattle.trace_reading.proofs.DeedTexts.{deed_read, deed_there, line_with}
 use Rattle.trace_reading.proofs.Lines.{entry-line, fields_of, text_of, word_of}
-use Rattle.trace_reading.proofs.Readable.{IsReadable}
+use Rattle.trace_reading.proofs.Naming.{IsNamed}
 
 -- the fields of a line are those that it was written in
 line_back : (a w : Letters) (ts : List Letters) → are_visible a ≡ true → list_all are_visible (w ∷ ts) ≡ true → line_at (line_of a (w ∷ ts)) ≡ line_with a w ts
@@ -39,7 +39,7 @@ pub record IsGuessed (v : Version) (p : Plan) (e : Entry) : Type 0 where
   pub visible_actor : are_visible (actor_text p e.actor) ≡ true
   pub visible_deed : list_all are_visible (word_of e.deed ∷ fields_of v p e.actor e.deed) ≡ true
 
-pub entry_read : (v : Version) (p : Plan) → IsReadable p → (e : Entry) → item_fits p (made e) ≡ true → IsGuessed v p e
+pub entry_read : (v : Version) (p : Plan) → IsNamed p → (e : Entry) → item_fits p (made e) ≡ true → IsGuessed v p e
 entry_read v p r e fit =
     let two = and_parts (fits p e) (is_sized_actor e.actor && is_sized e.deed) fit in
     let sized = and_parts (is_sized_actor e.actor) (is_sized e.deed) two.1 in
@@ -64,7 +64,7 @@ without_newline t =
     ap (λ n. take n (t ++ codes "\n")) short ∙ take-append_seam t (codes "\n")
 
 -- the line without its last byte guesses the entry
-pub reading_guessed : (v : Version) (p : Plan) → IsReadable p → (line : Letters) (e : Entry) → IsReadingOf v p line (made e) → guess_of v p (take (length line - 1) line) ≡ Some e
+pub reading_guessed : (v : Version) (p : Plan) → IsNamed p → (line : Letters) (e : Entry) → IsReadingOf v p line (made e) → guess_of v p (take (length line - 1) line) ≡ Some e
 reading_guessed v p r line e k =
     let g = entry_read v p r e k.fit in
     ap (λ t. guess_of v p (take (length t - 1) t)) (k.text ∙ entry-line v p e) ∙ ap (guess_of v p) (without_newline (text_of v p e)) ∙ g.found

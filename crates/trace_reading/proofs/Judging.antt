@@ -10,17 +10,17 @@ use Rattle.bus_semantics.specs.Run.{Item, idle, made, run_begins, run_closes, un
 use Rattle.bus_semantics.specs.Spelling.{Letters, entry_text, item_text}
 use Rattle.trace_reading.specs.Guess.{guess_of}
 use Rattle.trace_reading.proofs.Guessing.{reading_guessed}
-use Rattle.trace_reading.proofs.Readable.{IsReadable}
+use Rattle.trace_reading.proofs.Naming.{IsNamed}
 
 pub is_read : (v : Version) (p : Plan) (line : Letters) (e : Entry) → (item_fits p (made e) && bytes_eq (entry_text v p e) line) ≡ true → IsReadingOf v p line (made e)
 is_read v p line e h =
     let two = and_parts (item_fits p (made e)) (bytes_eq (entry_text v p e) line) h in
     record { fit = two.0; text = sym ((bytes_eq-Decides (entry_text v p e) line).0 two.1) }
 
-pub none_read : (v : Version) (p : Plan) → IsReadable p → (line : Letters) → guess_of v p (take (length line - 1) line) ≡ None → (e : Entry) → IsReadingOf v p line (made e) → ⊥
+pub none_read : (v : Version) (p : Plan) → IsNamed p → (line : Letters) → guess_of v p (take (length line - 1) line) ≡ None → (e : Entry) → IsReadingOf v p line (made e) → ⊥
 none_read v p r line none e k = let some : guess_of v p (take (length line - 1) line) ≡ Some e = reading_guessed v p r line e k in cc
 
-pub other_read : (v : Version) (p : Plan) → IsReadable p → (line : Letters) (e : Entry) → guess_of v p (take (length line - 1) line) ≡ Some e
+pub other_read : (v : Version) (p : Plan) → IsNamed p → (line : Letters) (e : Entry) → guess_of v p (take (length line - 1) line) ≡ Some e
     → (item_fits p (made e) && bytes_eq (entry_text v p e) line) ≡ false → (d : Entry) → IsReadingOf v p line (made d) → ⊥
 other_read v p r line e found h d k =
     let same : Some d ≡ Some e = sym (reading_guessed v p r line d k) ∙ found in

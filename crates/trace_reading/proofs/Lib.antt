@@ -8,7 +8,7 @@ pub mod Judging
 pub mod Letters
 pub mod Lines
 pub mod Modes
-pub mod Readable
+pub mod Naming
 pub mod Sessions
 pub mod Things
 pub mod Values

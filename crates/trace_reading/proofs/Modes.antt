@@ -26,11 +26,11 @@ use Rattle.trace_reading.specs.Fields.{numbered}
 use Rattle.trace_reading.specs.Finding.{home_of_caller, is_result, mode_named, result_at}
 use Rattle.trace_reading.proofs.Cutting.{are_visible}
 use Rattle.trace_reading.proofs.Letters.{name_visible, pair_visible}
-use Rattle.trace_reading.proofs.Readable.{IsReadable}
+use Rattle.trace_reading.proofs.Naming.{IsNamed}
 use Rattle.trace_reading.proofs.Things.{IsRead, same_home}
 use Rattle.trace_reading.proofs.Values.{index_visible, number_back, numbered_back}
 
-module _ (p : Plan) (r : IsReadable p) where
+module _ (p : Plan) (r : IsNamed p) where
   -- ---- modes
 
   -- a mode of a machine, or its transition value

@@ -20,12 +20,12 @@ use Rattle.trace_reading.proofs.ActorTexts.{behind-more}
 use Rattle.trace_reading.proofs.Cutting.{are_visible, cut-join, line_of, visible_lacks}
 use Rattle.trace_reading.proofs.Guessing.{entry_read, reading_guessed}
 use Rattle.trace_reading.proofs.Lines.{entry-line, fields_of, text_of, word_of}
-use Rattle.trace_reading.proofs.Readable.{IsReadable, readable}
+use Rattle.trace_reading.proofs.Naming.{IsNamed, named, readable}
 
 -- ---- one line, one item
 
 -- an entry's line has a space; that of any other item has none
-entry_spaced : (v : Version) (p : Plan) (r : IsReadable p) (e : Entry) → item_fits p (made e) ≡ true → (u : Letters) → behind 32 u ≡ None → item_text v p (made e) ≡ u → ⊥
+entry_spaced : (v : Version) (p : Plan) (r : IsNamed p) (e : Entry) → item_fits p (made e) ≡ true → (u : Letters) → behind 32 u ≡ None → item_text v p (made e) ≡ u → ⊥
 entry_spaced v p r e fit u none same =
     let g = entry_read v p r e fit in
     let a = actor_text p e.actor in
@@ -39,7 +39,7 @@ entry_spaced v p r e fit u none same =
 apart : (t u : Letters) → bytes_eq t u ≡ false → bytes_eq u u ≡ true → t ≡ u → ⊥
 apart t u h k e = let same : bytes_eq t u ≡ true = ap (λ x. bytes_eq x u) e ∙ k in cc
 
-pub one_item : (v : Version) (p : Plan) → IsReadable p → (line : Letters) (i j : Item) → IsReadingOf v p line i → IsReadingOf v p line j → i ≡ j
+pub one_item : (v : Version) (p : Plan) → IsNamed p → (line : Letters) (i j : Item) → IsReadingOf v p line i → IsReadingOf v p line j → i ≡ j
 one_item v p r line (made e) (made d) a b = let same : Some e ≡ Some d = sym (reading_guessed v p r line e a) ∙ reading_guessed v p r line d b in let one : e ≡ d = cc in ap made one
 one_item v p r line (made e) run_begins a b = absurd (entry_spaced v p r e a.fit (codes "run\n") refl (sym a.text ∙ b.text))
 one_item v p r line (made e) (run_closes idle) a b = absurd (entry_spaced v p r e a.fit (codes "idle\n") refl (sym a.text ∙ b.text))
@@ -78,7 +78,7 @@ fields_lack t (u ∷ us) h k =
     let two = and_parts (are_visible u) (list_all are_visible us) k in
     all-append (λ c. not (c == 10)) t (32 ∷ line_of u us) (visible_lacks 10 refl t h) (and_from (not (32 == 10)) (lacks 10 (line_of u us)) refl (fields_lack u us two.0 two.1))
 
-line_lacks : (v : Version) (p : Plan) → IsReadable p → (i : Item) → item_fits p i ≡ true → lacks 10 (line_in v p i) ≡ true
+line_lacks : (v : Version) (p : Plan) → IsNamed p → (i : Item) → item_fits p i ≡ true → lacks 10 (line_in v p i) ≡ true
 line_lacks v p r (made e) h = let g = entry_read v p r e h in fields_lack (actor_text p e.actor) (word_of e.deed ∷ fields_of v p e.actor e.deed) g.visible_actor g.visible_deed
 line_lacks v p r run_begins h = refl
 line_lacks v p r (run_closes idle) h = refl
@@ -117,7 +117,7 @@ all_with : (ts : List Letters) (t : Letters) → list_all (lacks 10) ts ≡ true
 all_with [] t h k = and_from (lacks 10 t) true k refl
 all_with (u ∷ us) t h k = let two = and_parts (lacks 10 u) (list_all (lacks 10) us) h in and_from (lacks 10 u) (list_all (lacks 10) (us ++ t ∷ [])) two.0 (all_with us t two.1 k)
 
-lines_lack : (v : Version) (p : Plan) → IsReadable p → (s : Session) → list_all (item_fits p) s ≡ true → list_all (lacks 10) (lines_in v p s) ≡ true
+lines_lack : (v : Version) (p : Plan) → IsNamed p → (s : Session) → list_all (item_fits p) s ≡ true → list_all (lacks 10) (lines_in v p s) ≡ true
 lines_lack v p r [] h = refl
 lines_lack v p r (i ∷ s) h =
     let two = and_parts (item_fits p i) (list_all (item_fits p) s) h in
@@ -127,7 +127,7 @@ first_lacks : (v : Version) → lacks 10 (first_line v) ≡ true
 first_lacks One = refl
 first_lacks Two = refl
 
-lines_back : (v : Version) (p : Plan) → IsReadable p → (s : Session) → list_all (item_fits p) s ≡ true → parts 10 (spelling_of v p s) ≡ first_line v ∷ (lines_in v p s ++ [] ∷ [])
+lines_back : (v : Version) (p : Plan) → IsNamed p → (s : Session) → list_all (item_fits p) s ≡ true → parts 10 (spelling_of v p s) ≡ first_line v ∷ (lines_in v p s ++ [] ∷ [])
 lines_back v p r s h = ap (parts 10) (spelt v p s) ∙ parts-joined (first_line v) (lines_in v p s ++ [] ∷ []) (first_lacks v) (all_with (lines_in v p s) [] (lines_lack v p r s h) refl)
 
 -- ---- one text, one version and one session
@@ -151,7 +151,7 @@ last_same (x ∷ xs) (y ∷ ys) a b e =
     let two = last_same xs ys a b rest in
     (ap (λ z. z ∷ xs) first ∙ ap (λ zs. y ∷ zs) two.0, two.1)
 
-same_items : (v : Version) (p : Plan) → IsReadable p → (s u : Session) → list_all (item_fits p) s ≡ true → list_all (item_fits p) u ≡ true → lines_in v p s ≡ lines_in v p u → s ≡ u
+same_items : (v : Version) (p : Plan) → IsNamed p → (s u : Session) → list_all (item_fits p) s ≡ true → list_all (item_fits p) u ≡ true → lines_in v p s ≡ lines_in v p u → s ≡ u
 same_items v p r [] [] h k e = refl
 same_items v p r [] (j ∷ u) h k e = absurd (no_line (lines_in v p u) (line_in v p j) e)
 same_items v p r (i ∷ s) [] h k e = absurd (no_line (lines_in v p s) (line_in v p i) (sym e))
@@ -165,14 +165,14 @@ same_items v p r (i ∷ s) (j ∷ u) h k e =
 
 pub one_version : (p : Plan) (m : Mapping) → IsSound p m → TextsHaveOneVersion p
 one_version p m sound v w t s u h k a b =
-    let r = readable p m sound in
+    let r = named p (readable p m sound) in
     let same : first_line v ∷ (lines_in v p s ++ [] ∷ []) ≡ first_line w ∷ (lines_in w p u ++ [] ∷ []) = sym (lines_back v p r s h) ∙ ap (parts 10) (sym a ∙ b) ∙ lines_back w p r u k in
     let first : first_line v ≡ first_line w = cc in
     same_version v w first
 
 pub one_session : (p : Plan) (m : Mapping) → IsSound p m → TextsHaveOneSession p
 one_session p m sound v t s u h k a b =
-    let r = readable p m sound in
+    let r = named p (readable p m sound) in
     let same : first_line v ∷ (lines_in v p s ++ [] ∷ []) ≡ first_line v ∷ (lines_in v p u ++ [] ∷ []) = sym (lines_back v p r s h) ∙ ap (parts 10) (sym a ∙ b) ∙ lines_back v p r u k in
     let lines : lines_in v p s ++ [] ∷ [] ≡ lines_in v p u ++ [] ∷ [] = cc in
     same_items v p r s u h k (last_same (lines_in v p s) (lines_in v p u) [] [] lines).0

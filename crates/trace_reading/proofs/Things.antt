@@ -24,7 +24,7 @@ use Rattle.trace_reading.specs.Fields.{numbered}
 use Rattle.trace_reading.specs.Finding.{area_at, elem_at, event_at, machine_at, mode_port_at, point_at}
 use Rattle.trace_reading.proofs.Cutting.{are_visible}
 use Rattle.trace_reading.proofs.Letters.{name_visible, pair_visible}
-use Rattle.trace_reading.proofs.Readable.{IsReadable, elem_passes}
+use Rattle.trace_reading.proofs.Naming.{IsNamed, elem_passes}
 use Rattle.trace_reading.proofs.Values.{numbered_back}
 
 -- there is such a thing, and it is the home's
@@ -68,7 +68,7 @@ within {X} xs x P h f = elim (slice_get_cases xs x).1 [
   | inr c ↦ (let less : x < length xs = ltb-true x (length xs) h in let past : length xs ≤ x = c.0 in absurd (omega arith))
 ]
 
-module _ (p : Plan) (r : IsReadable p) where
+module _ (p : Plan) (r : IsNamed p) where
   pub elem_read : (home : Option ℕ) (test : ElemPlan → Bool) (x : ℕ) → elem_fits p home test x ≡ true → is_index x ≡ true → IsRead (elem_at p home (elem_name p x)) (elem_name p x) x
   elem_read home test x fit index =
       thing_read p.elements is_elem (λ (e : ElemPlan). e.instance) (λ (e : ElemPlan). e.name) elem_passes r.find_elems r.elements visible x home index

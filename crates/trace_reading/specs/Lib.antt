@@ -5,5 +5,6 @@ pub mod Fields
 pub mod Finding
 pub mod Guess
 pub mod Pieces
+pub mod Readable
 pub mod Reads
 pub mod Tables

@@ -2,19 +2,13 @@
 use Rattle.std.specs.Prelude.{◌≡◌, true, Option, Some, None}
 use Rattle.std.specs.List.{list_all}
 use Rattle.bus_semantics.specs.declared.entries.Entry.{Entry}
-use Rattle.bus_semantics.specs.declared.script.Mapping.{Mapping}
 use Rattle.bus_semantics.specs.declared.version.Version.{Version}
 use Rattle.bus_semantics.specs.Plan.{Plan}
 use Rattle.bus_semantics.specs.Reading.{IsReadingOf, item_fits}
 use Rattle.bus_semantics.specs.Run.{Item, Session, idle, made, run_begins, run_closes, unsettled}
-use Rattle.bus_semantics.specs.Sound.{IsSound}
 use Rattle.bus_semantics.specs.Spelling.{Letters, Spells}
 use Rattle.trace_reading.specs.declared.reading.LineRead.{LineRead}
 use Rattle.trace_reading.specs.declared.reading.LineRead.TheVariants as read
-
--- the plan is sound with some mapping
-abbrev pub HasMapping : Plan → Type 0
-HasMapping p = (m : Mapping) × IsSound p m
 
 -- the line, its newline included, is that of the item; a bad line is that of none
 abbrev pub Reads : Version → Plan → (line : Letters) → LineRead → Type 0

@@ -3,7 +3,13 @@
 ghost use Rattle.bus_semantics.specs.declared.script.Mapping.{Mapping};
 ghost use Rattle.bus_semantics.specs.Plan.{Plan};
 ghost use Rattle.bus_semantics.specs.Sound.{IsSound};
+ghost use Rattle.trace_reading.specs.Readable.{SoundPlansAreReadable};
 ghost use Rattle.trace_reading.specs.Reads.{LinesHaveOneReading, SessionsHaveOneText, TextsHaveOneSession, TextsHaveOneVersion};
+
+/// Every sound plan has what reading needs of one. To call it before a reader is made shows that the plan may be read.
+pub fn sound_plans_are_readable()
+    ensures { SoundPlansAreReadable }
+{}
 
 /// In a sound plan a line of a version is that of one item.
 pub fn lines_have_one_reading()

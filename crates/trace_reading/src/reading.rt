@@ -5,7 +5,8 @@ ghost use Rattle.bus_semantics.specs.Plan.{plan_of};
 ghost use Rattle.bus_semantics.specs.Reading.{item_fits};
 ghost use Rattle.bus_semantics.specs.Run.{made};
 ghost use Rattle.bus_semantics.specs.Spelling.{entry_text};
-ghost use Rattle.trace_reading.specs.Reads.{HasMapping, Reads, ReadsEntry};
+ghost use Rattle.trace_reading.specs.Readable.{IsReadable};
+ghost use Rattle.trace_reading.specs.Reads.{Reads, ReadsEntry};
 
 use crate::guess::guess;
 use crate::names::Names;
@@ -45,7 +46,7 @@ fn without_last(line: &[u8]) -> &[u8]
 
 /// Whether the line is the entry's.
 fn is_line_of(p: &BusPlan, v: Version, e: &Entry, line: &[u8]) -> bool
-    requires { HasMapping (plan_of p.now) }
+    requires { IsReadable (plan_of p.now) }
     ensures { result ≡ bytes_eq (entry_text v (plan_of p.now) e.now) line.now }
 {
     let mut out = LineBuf::new();
@@ -55,7 +56,7 @@ fn is_line_of(p: &BusPlan, v: Version, e: &Entry, line: &[u8]) -> bool
 
 /// Whether the entry fits the plan and has this line.
 fn is_read_as(p: &BusPlan, v: Version, e: &Entry, line: &[u8]) -> bool
-    requires { HasMapping (plan_of p.now) }
+    requires { IsReadable (plan_of p.now) }
     ensures { result ≡ (item_fits (plan_of p.now) (made e.now) && bytes_eq (entry_text v (plan_of p.now) e.now) line.now) }
 {
     actor_is_sized(e.actor);
@@ -64,7 +65,7 @@ fn is_read_as(p: &BusPlan, v: Version, e: &Entry, line: &[u8]) -> bool
 
 /// The entry whose line it is, if there is one.
 fn read_made(names: &Names, v: Version, line: &[u8]) -> Option<Entry>
-    requires { HasMapping (plan_of names.now.plan.now) }
+    requires { IsReadable (plan_of names.now.plan.now) }
     ensures { ReadsEntry v (plan_of names.now.plan.now) line.now result }
 {
     match guess(names, v, without_last(line)) {
@@ -81,7 +82,7 @@ fn read_made(names: &Names, v: Version, line: &[u8]) -> Option<Entry>
 
 /// What the line is read as.
 fn read_by(names: &Names, v: Version, line: &[u8]) -> LineRead
-    requires { HasMapping (plan_of names.now.plan.now) }
+    requires { IsReadable (plan_of names.now.plan.now) }
     ensures { Reads v (plan_of names.now.plan.now) line.now result }
 {
     if line == run_line() {
@@ -100,9 +101,10 @@ fn read_by(names: &Names, v: Version, line: &[u8]) -> LineRead
 }
 
 /// Reads a line of a trace of the version: the item of a run that fits the plan and has this line. The line is given with its
-/// newline, which ends it; a line without it is bad. It takes no memory, and goes over the lists of the plan for each name.
+/// newline, which ends it; a line without it is bad. It takes no memory, and goes over the lists of the plan for each name. The
+/// plan has to be readable, as every sound plan is.
 pub fn read_entry(p: &BusPlan, v: Version, line: &[u8]) -> LineRead
-    requires sound { HasMapping (plan_of p.now) }
+    requires readable { IsReadable (plan_of p.now) }
     ensures reads { Reads v (plan_of p.now) line.now result }
 {
     read_by(
@@ -123,11 +125,14 @@ pub struct Reader<'p> {
     pub plan: &'p BusPlan,
     tables: Tables<'p>,
     ghost of_plan: { tables.plan.now ≡ plan.now },
+    pub ghost readable: { IsReadable (plan_of plan.now) },
 }
 
 impl<'p> Reader<'p> {
-    /// A reader over the plan. The only error is that there is no memory for its tables.
+    /// A reader over the plan, which has to be readable, as every sound plan is. The only error is that there is no memory for
+    /// its tables.
     pub fn new(alloc: Global, plan: &'p BusPlan) -> Result<Reader<'p>, Memory>
+        requires readable { IsReadable (plan_of plan.now) }
         ensures of_plan { IfOk result (λ reader. reader.plan.now ≡ plan.now) }
     {
         let tables = Tables::new(alloc, plan)?;
@@ -136,7 +141,6 @@ impl<'p> Reader<'p> {
 
     /// Reads a line of a trace of the version, given with its newline, as `read_entry` does. It takes no memory.
     pub fn read(&self, v: Version, line: &[u8]) -> LineRead
-        requires sound { HasMapping (plan_of self.now.plan.now) }
         ensures reads { Reads v (plan_of self.now.plan.now) line.now result }
     {
         read_by(

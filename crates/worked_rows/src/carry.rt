@@ -2,7 +2,7 @@
 
 ghost use Rattle.std.specs.Prelude.{IfOk};
 ghost use Rattle.bus_semantics.specs.Plan.{plan_of};
-ghost use Rattle.trace_reading.specs.Reads.{HasMapping};
+ghost use Rattle.trace_reading.specs.Readable.{IsReadable};
 
 use crate::edit::edited;
 use crate::fault::Fault;
@@ -18,6 +18,7 @@ use std::alloc::{AllocError, Global};
 use std::rt::Files;
 use std::sync::Wait;
 use std::thread::Threads;
+use trace_reading::sound_plans_are_readable;
 
 /// How many bytes may be told in memory: 16 MiB.
 const ROOM: u64 = 16_777_216;
@@ -103,8 +104,9 @@ fn plan_in<R: Files + AllocGlobal + Clone + Drop>(
     rt: &R,
     folder: &str,
 ) -> Result<PlannedDescription, Fault>
-    ensures { IfOk result (λ found. HasMapping (plan_of found.plan)) }
+    ensures { IfOk result (λ found. IsReadable (plan_of found.plan)) }
 {
+    sound_plans_are_readable();
     let description = file(rt, folder, DESCRIPTION)?;
     match plan_description(rt.alloc(), description.as_slice()) {
         Ok(found) => Ok(found),

@@ -1,7 +1,7 @@
 //! Lines of traces, read back.
 
 ghost use Rattle.bus_semantics.specs.Plan.{plan_of};
-ghost use Rattle.trace_reading.specs.Reads.{HasMapping};
+ghost use Rattle.trace_reading.specs.Readable.{IsReadable};
 
 use bus_semantics::{BusPlan, Entry, Version};
 use rte_text::LineBuf;
@@ -16,7 +16,7 @@ fn push_line(
     version: Version,
     entry: &Entry,
 ) -> Result<(), AllocError>
-    requires { HasMapping (plan_of p.now) }
+    requires { IsReadable (plan_of p.now) }
 {
     let mut out = LineBuf::new();
     write_entry(p, entry, version, &mut out);
@@ -30,7 +30,7 @@ fn line_of(
     version: Version,
     entry: &Entry,
 ) -> Result<Vec<u8>, AllocError>
-    requires { HasMapping (plan_of p.now) }
+    requires { IsReadable (plan_of p.now) }
 {
     let mut line = Vec::new(alloc);
     push_line(&mut line, p, version, entry)?;
@@ -44,7 +44,7 @@ fn push_reading(
     version: Version,
     line: &[u8],
 ) -> Result<(), AllocError>
-    requires { HasMapping (plan_of p.now) }
+    requires { IsReadable (plan_of p.now) }
 {
     match read_entry(p, version, line) {
         LineRead::Entry(entry) => {
@@ -65,7 +65,7 @@ pub fn readings(
     version: Version,
     text: &[u8],
 ) -> Result<Vec<u8>, AllocError>
-    requires { HasMapping (plan_of p.now) }
+    requires { IsReadable (plan_of p.now) }
 {
     let mut shown = Vec::new(alloc);
     for line in text.split_inclusive(|byte| *byte == b'\n') {
@@ -97,7 +97,7 @@ fn comes_back(
     entry: &Entry,
     line: &[u8],
 ) -> Result<bool, AllocError>
-    requires { HasMapping (plan_of p.now) }
+    requires { IsReadable (plan_of p.now) }
 {
     let written = line_of(alloc, p, version, entry)?;
     let turned = line_of(alloc, p, other(version), entry)?;
@@ -115,7 +115,7 @@ fn is_read_back(
     version: Version,
     line: &[u8],
 ) -> Result<bool, AllocError>
-    requires { HasMapping (plan_of p.now) }
+    requires { IsReadable (plan_of p.now) }
 {
     match read_entry(p, version, line) {
         LineRead::Entry(entry) => comes_back(alloc, p, version, &entry, line),
@@ -131,7 +131,7 @@ fn count_back<'t>(
     version: Version,
     lines: &[&'t [u8]],
 ) -> Result<(u64, Option<&'t [u8]>), AllocError>
-    requires { HasMapping (plan_of p.now) }
+    requires { IsReadable (plan_of p.now) }
 {
     let mut count: u64 = 0;
     for line in lines {
@@ -165,7 +165,7 @@ fn show_count(
     version: Version,
     lines: &[&[u8]],
 ) -> Result<Vec<u8>, AllocError>
-    requires { HasMapping (plan_of p.now) }
+    requires { IsReadable (plan_of p.now) }
 {
     match count_back(alloc, p, version, lines) {
         Ok((count, bad)) => count_text(alloc, count, bad),
@@ -175,7 +175,7 @@ fn show_count(
 
 /// How many lines of a trace come back as they are, or the first that does not.
 pub fn read_back(alloc: Global, p: &BusPlan, trace: &[u8]) -> Result<Vec<u8>, AllocError>
-    requires { HasMapping (plan_of p.now) }
+    requires { IsReadable (plan_of p.now) }
 {
     let lines: Vec<&[u8]> = trace.split_inclusive(|byte| *byte == b'\n').collect(alloc)?;
     let [first, rest @ ..] = lines.as_slice() else {

@@ -3,13 +3,13 @@ use Rattle.plan_names.proofs.laws.names_find_what_they_name.Goals as goal
 
 pub returns : goal.returns
 returns c = record {
-  instances = by.finds_instances;
-  elements = by.finds_elems;
-  points = by.finds_points;
-  areas = by.finds_areas;
-  machines = by.finds_machines;
-  modes = by.finds_modes;
-  mode_ports = by.finds_mode_ports;
-  events = by.finds_events;
-  runnables = by.finds_runnables;
+  instances = λ p m s. by.finds_instances p (by.names_of_sound p m s);
+  elements = λ p m s. by.finds_elems p (by.names_of_sound p m s);
+  points = λ p m s. by.finds_points p (by.names_of_sound p m s);
+  areas = λ p m s. by.finds_areas p (by.names_of_sound p m s);
+  machines = λ p m s. by.finds_machines p (by.names_of_sound p m s);
+  modes = λ p m s. by.finds_modes p (by.names_of_sound p m s);
+  mode_ports = λ p m s. by.finds_mode_ports p (by.names_of_sound p m s);
+  events = λ p m s. by.finds_events p (by.names_of_sound p m s);
+  runnables = λ p m s. by.finds_runnables p (by.names_of_sound p m s);
 }

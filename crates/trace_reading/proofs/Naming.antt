@@ -1,4 +1,4 @@
--- What a sound plan has for its names: each finds what it names, and whatever is named by others exists.
+-- What a readable plan has for its names: each finds what it names, and whatever is named by others exists.
 use Rattle.std.proofs.Common.{◌≡◌, Bool, true, not, ◌&&◌, ◌||◌, ◌==◌, cond, length, nat_le, nat_lt, Some}
 use Rattle.std.specs.List.{list_all}
 use Rattle.std.proofs.lemmas.Bool.{and_parts}
@@ -13,16 +13,17 @@ use Rattle.bus_semantics.specs.declared.script.Mapping.{Mapping}
 use Rattle.bus_semantics.specs.Plan.{Plan, Runnable, every_from}
 use Rattle.bus_semantics.specs.Sound.{IsSound}
 use Rattle.bus_semantics.specs.SoundAccesses.{points_arranged, same_operation}
-use Rattle.bus_semantics.specs.SoundNames.{is_env_path, is_name, is_pair_name, is_path, names_distinct, none_is_env, parts}
+use Rattle.bus_semantics.specs.SoundNames.{is_env_path, is_name, is_pair_name, is_path, names_distinct, names_fit, none_is_env, parts}
 use Rattle.bus_semantics.specs.SoundPlan.{instance_exists, is_variable}
 use Rattle.bus_semantics.specs.SoundPrograms.{runnable_sound}
 use Rattle.plan_names.specs.Named.{FindsAreas, FindsElems, FindsEvents, FindsInstances, FindsMachines, FindsModePorts, FindsModes, FindsPoints, FindsRunnables}
 use Rattle.plan_names.proofs.Found.{finds_areas, finds_elems, finds_events, finds_instances, finds_machines, finds_mode_ports, finds_modes, finds_points, finds_runnables}
+use Rattle.trace_reading.specs.Readable.{IsReadable}
 
 abbrev pub elem_passes : ElemPlan → Bool
 elem_passes e = cond (is_variable e) (is_name e.name) (is_pair_name e.name)
 
-pub record IsReadable (p : Plan) : Type 0 where
+pub record IsNamed (p : Plan) : Type 0 where
   -- names
   pub few : nat_le (length p.names) 1024 ≡ true
   pub paths : list_all is_path p.names ≡ true
@@ -54,8 +55,22 @@ pub record IsReadable (p : Plan) : Type 0 where
 
 pub readable : (p : Plan) (m : Mapping) → IsSound p m → IsReadable p
 readable p m s =
-    let names = and_parts _ _ s.names in
-    let a = and_parts (nat_le (length p.names) 1024) _ names.0 in
+    let names = and_parts (names_fit p) _ s.names in
+    let apart = and_parts (names_distinct p) _ names.1 in
+    record {
+      names = names.0;
+      distinct = apart.0;
+      no_env = (and_parts (none_is_env p) _ apart.1).0;
+      instances = s.instances;
+      mode_ports = s.mode_ports;
+      points = s.points;
+      operations = s.operations;
+      runnables = s.runnables;
+    }
+
+pub named : (p : Plan) → IsReadable p → IsNamed p
+named p s =
+    let a = and_parts (nat_le (length p.names) 1024) _ s.names in
     let b = and_parts (list_all is_path p.names) _ a.1 in
     let c = and_parts (list_all elem_passes p.elements) _ b.1 in
     let d = and_parts (list_all (λ (t : PointPlan). is_pair_name t.name) p.points) _ c.1 in
@@ -64,8 +79,6 @@ readable p m s =
     let g = and_parts (list_all (λ (n : MachinePlan). is_pair_name n.name && list_all is_name n.modes) p.machines) _ f.1 in
     let h = and_parts (list_all (λ (t : ModePortPlan). is_pair_name t.name) p.mode_ports) _ g.1 in
     let i = and_parts (list_all (λ (v : EventPlan). is_name v.name) p.events) _ h.1 in
-    let apart = and_parts (names_distinct p) _ names.1 in
-    let env = and_parts (none_is_env p) _ apart.1 in
     let homes = and_parts (list_all (λ (e : ElemPlan). instance_exists p e.instance) p.elements) _ s.instances in
     let runnables = and_parts (list_all (λ (r : Runnable). instance_exists p (Some r.instance)) p.runnables) _ homes.1 in
     let areas = and_parts (list_all (λ (a : AreaPlan). instance_exists p (Some a.instance)) p.areas) _ runnables.1 in
@@ -81,16 +94,16 @@ readable p m s =
       mode_ports = h.0;
       events = i.0;
       runnables = i.1;
-      no_env = env.0;
-      find_instances = finds_instances p m s;
-      find_elems = finds_elems p m s;
-      find_points = finds_points p m s;
-      find_areas = finds_areas p m s;
-      find_machines = finds_machines p m s;
-      find_modes = finds_modes p m s;
-      find_mode_ports = finds_mode_ports p m s;
-      find_events = finds_events p m s;
-      find_runnables = finds_runnables p m s;
+      no_env = s.no_env;
+      find_instances = finds_instances p s.distinct;
+      find_elems = finds_elems p s.distinct;
+      find_points = finds_points p s.distinct;
+      find_areas = finds_areas p s.distinct;
+      find_machines = finds_machines p s.distinct;
+      find_modes = finds_modes p s.distinct;
+      find_mode_ports = finds_mode_ports p s.distinct;
+      find_events = finds_events p s.distinct;
+      find_runnables = finds_runnables p s.distinct;
       runnable_homes = runnables.0;
       machine_homes = machines.0;
       port_machines = s.mode_ports;

@@ -1,0 +1,27 @@
+-- What reading needs of a plan; every sound plan has it.
+use Rattle.std.specs.Prelude.{◌≡◌, length, true, nat_lt}
+use Rattle.std.specs.List.{list_all}
+use Rattle.bus_semantics.specs.declared.plan.ModePortPlan.{ModePortPlan}
+use Rattle.bus_semantics.specs.declared.script.Mapping.{Mapping}
+use Rattle.bus_semantics.specs.Plan.{Plan, every_from}
+use Rattle.bus_semantics.specs.Sound.{IsSound}
+use Rattle.bus_semantics.specs.SoundAccesses.{points_arranged, points_fit}
+use Rattle.bus_semantics.specs.SoundNames.{names_distinct, names_fit, none_is_env}
+use Rattle.bus_semantics.specs.SoundPlan.{instances_exist}
+use Rattle.bus_semantics.specs.SoundPrograms.{runnable_sound}
+
+-- names are short, each once and none `env`; what others name is there; and points are those of the runnables that call at them
+pub record IsReadable (p : Plan) : Type 0 where
+  pub names : names_fit p ≡ true
+  pub distinct : names_distinct p ≡ true
+  pub no_env : none_is_env p ≡ true
+  pub instances : instances_exist p ≡ true
+  pub mode_ports : list_all (λ (t : ModePortPlan). nat_lt t.machine (length p.machines)) p.mode_ports ≡ true
+  pub points : points_arranged p ≡ true
+  pub operations : points_fit p ≡ true
+  pub runnables : every_from 0 (runnable_sound p) p.runnables ≡ true
+
+-- ---- law
+
+abbrev pub SoundPlansAreReadable : Type 0
+SoundPlansAreReadable = (p : Plan) (m : Mapping) → IsSound p m → IsReadable p

@@ -1,7 +1,0 @@
-use Rattle.std.proofs.lemmas.Bool.{and_parts}
-use Rattle.bus_semantics.specs.Plan.{plan_of}
-use Rattle.bus_semantics.specs.SoundNames.{names_fit}
-use Rattle.worked_rows.proofs.readings.push_line.Goals as goal
-
-pub write_entry-requires-clause-names : goal.write_entry-requires-clause-names
-write_entry-requires-clause-names c = (and_parts (names_fit (plan_of c.args.p.now)) _ c.requires.1.names).0
