@@ -1,5 +1,5 @@
 -- What a wish makes of a seat.
-use Rattle.std.proofs.Common.{◌≡◌, ◌≢◌, ◌<◌, ◌≤◌, ◌+◌, ℕ, suc, Bool, true, false, ◌&&◌, if◌then◌else◌, List, [], ◌∷◌, ◌++◌, length, length-append, refl, sym, ◌∙◌, ap, subst, arith, eqb-true, Option, Some, None}
+use Rattle.std.proofs.Common.{◌≡◌, ◌<◌, ◌≤◌, ◌+◌, ℕ, suc, Bool, true, false, ◌&&◌, if◌then◌else◌, List, [], ◌∷◌, ◌++◌, length, length-append, refl, sym, ◌∙◌, ap, subst, arith, eqb-true, Option, Some, None}
 use Rattle.std.specs.Vec.{vec_capacity}
 use Rattle.rte_value.specs.Values.{same_number}
 use Rattle.atomic_table.specs.Seated.{TableId}
@@ -22,9 +22,9 @@ use Rattle.cross_core_table.specs.declared.views.Opening.{Opening}
 use Rattle.cross_core_table.specs.declared.views.Held.{Held}
 use Rattle.cross_core_table.specs.declared.views.View.{View}
 use Rattle.cross_core_table.specs.declared.seats.CoreSeat.{CoreSeat}
-use Rattle.cross_core_table.specs.Logs.{plan_in, kept_after}
-use Rattle.cross_core_table.specs.Plays.{Sat, held_of, holding, failing, making, letting_go, having_looked, as_stamped, held_after}
-use Rattle.cross_core_table.specs.Places.{IsIdle, IsHolding, IsToKeep, IsTakenBy, HasTried, IsHeldAfter, HasLooked, HasLost, HasMade}
+use Rattle.cross_core_table.specs.Logs.{plan_in}
+use Rattle.cross_core_table.specs.Plays.{Sat, held_of, holding, making, having_looked, as_stamped, held_after}
+use Rattle.cross_core_table.specs.Places.{IsHolding, IsToKeep, IsTakenBy, HasLooked}
 use Rattle.cross_core_table.specs.Seats.{IsSeatAt}
 use Rattle.cross_core_table.proofs.Logs.{kept_next}
 

@@ -1,10 +1,9 @@
 -- How a round ends: its log in order of stamps, and all objects at home.
-use Rattle.std.proofs.Common.{◌≡◌, ◌≢◌, ◌<◌, ◌≤◌, ◌+◌, ◌-◌, ◌*◌, ◌==◌, ℕ, zero, suc, Bool, true, false, ◌&&◌, is_some, if◌then◌else◌, List, [], ◌∷◌, ◌++◌, map, length, length-append, refl, sym, ◌∙◌, ap, subst, inl, inr, ⊎_elim, ◌⊎◌, arith, eq-eqb, lt-ltb, append-nil, append_assoc, filter, slice_get, nat_lt, Option, Some, None, option_and_then}
+use Rattle.std.proofs.Common.{◌≡◌, ◌<◌, ◌≤◌, ◌+◌, ◌-◌, ◌*◌, ◌==◌, ℕ, zero, suc, Bool, true, false, ◌&&◌, is_some, if◌then◌else◌, List, [], ◌∷◌, ◌++◌, map, length, length-append, refl, sym, ◌∙◌, ap, subst, ⊎_elim, ◌⊎◌, arith, eq-eqb, lt-ltb, filter, slice_get, nat_lt, Option, Some, None, option_and_then}
 use Rattle.std.proofs.lemmas.Bool.{and_parts}
 use Rattle.std.proofs.lemmas.List.{map-append, length-map}
 use mathlib.Core.Logic.{dite}
 use native.Mathlib.Decide.{ℕ_discrete}
-use mathlib.Core.Option as option
 use mathlib.Core.Option.{some, some-injective}
 use lib.ListN.{get_elem?}
 use Rattle.bus_semantics.specs.declared.entries.Stamped.{Stamped}
@@ -26,7 +25,7 @@ use Rattle.cross_core_table.specs.declared.views.Part.{Part}
 use Rattle.cross_core_table.specs.declared.views.View.{View}
 use Rattle.cross_core_table.specs.Logs.{noted_as, on_object, made_by, AreCounted, AreOf, plan_in, kept_after}
 use Rattle.cross_core_table.specs.Rules.{Table, word_of, IsSpent, AreJoined, IsAtHome, IsTaken, RoundRule}
-use Rattle.cross_core_table.specs.Closing.{touching, IsLed, Among, HasAll, IsLedHome, IsWhole}
+use Rattle.cross_core_table.specs.Closing.{touching, Among, HasAll, IsWhole}
 use Rattle.cross_core_table.proofs.Lists.{at_within}
 use Rattle.cross_core_table.proofs.Logs.{log_within}
 

@@ -1,5 +1,5 @@
 -- What a step of one seat leaves as it was: what other seats know, and what is on the table.
-use Rattle.std.proofs.Common.{◌≡◌, ◌≢◌, ◌<◌, ◌≤◌, ◌^◌, ℕ, zero, suc, true, false, is_some, List, [], ◌∷◌, ◌++◌, length, length-set, set, get_or, refl, sym, ◌∙◌, ap, subst, ⊎_elim, arith, append_assoc, Option, Some, None}
+use Rattle.std.proofs.Common.{◌≡◌, ◌≢◌, ◌<◌, ◌≤◌, ℕ, suc, true, false, is_some, List, [], ◌∷◌, ◌++◌, length, length-set, set, get_or, sym, ◌∙◌, ap, subst, ⊎_elim, append_assoc, Option, Some, None}
 use mathlib.Core.Logic.{dite}
 use native.Mathlib.Decide.{ℕ_discrete}
 use mathlib.Core.Option as option
@@ -15,7 +15,7 @@ use Rattle.cross_core_table.specs.declared.views.Held.{Held}
 use Rattle.cross_core_table.specs.declared.views.Part.{Part}
 use Rattle.cross_core_table.specs.declared.views.View.{View}
 use Rattle.cross_core_table.specs.Logs.{on_object, made_by, AreCounted, AreOf, plan_in}
-use Rattle.cross_core_table.specs.Rules.{Table, word_of, IsHolding, Holds, Looked, IsSpent, AreJoined, IsSeated, IsGone, IsAtHome, IsTaken, RoundRule}
+use Rattle.cross_core_table.specs.Rules.{Table, word_of, IsHolding, Holds, Looked, IsSpent, AreJoined, IsSeated, IsAtHome, IsTaken, RoundRule}
 use Rattle.cross_core_table.proofs.Lists.{at_within}
 
 -- what a step of the seat id may do to words and log, as other seats see it

@@ -1,14 +1,13 @@
 -- How the seats of a round are given.
-use Rattle.std.proofs.Common.{◌≡◌, ◌<◌, ◌≤◌, ℕ, zero, suc, List, [], ◌∷◌, ◌++◌, length, length-append, length-set, set, slice_get, refl, sym, ◌∙◌, ap, subst, arith, Option, Some, None}
+use Rattle.std.proofs.Common.{◌≡◌, ◌≤◌, ℕ, zero, suc, List, [], ◌∷◌, ◌++◌, length, length-append, slice_get, refl, sym, ◌∙◌, ap, subst, arith, Some}
 use Rattle.std.specs.Vec.{vec_capacity}
 use Rattle.atomic_table.specs.Seated.{TableId}
 use Rattle.bus_semantics.specs.declared.entries.Stamped.{Stamped}
 use Rattle.cross_core_table.specs.declared.views.Opening.{Opening}
-use Rattle.cross_core_table.specs.declared.views.View.{View}
 use Rattle.cross_core_table.specs.declared.seats.CoreSeat.{CoreSeat}
 use Rattle.cross_core_table.specs.OpenRounds.{OpenRound}
 use Rattle.cross_core_table.specs.Plays.{Sat, giving, newcomer}
-use Rattle.cross_core_table.specs.Seats.{IsSeatAt, IsSeatOf, view_of}
+use Rattle.cross_core_table.specs.Seats.{IsSeatOf, view_of}
 use Rattle.cross_core_table.specs.Opened.{IsFresh, AreGiven}
 use Rattle.cross_core_table.proofs.Acts.{same_seat}
 

@@ -1,7 +1,7 @@
 -- From what a step tells to what calls of a seat say.
-use Rattle.std.proofs.Common.{◌≡◌, ◌≢◌, ◌<◌, ◌+◌, ◌%◌, ◌^◌, ℕ, suc, eqb, List, [], ◌∷◌, length, refl, sym, ◌∙◌, ap, subst, arith, Option, Some, None}
+use Rattle.std.proofs.Common.{◌≡◌, ◌<◌, ◌+◌, ◌%◌, ◌^◌, ℕ, suc, List, [], ◌∷◌, length, refl, sym, ◌∙◌, ap, subst, Option, Some, None}
 use mathlib.Core.Option.{none}
-use Rattle.atomic_table.specs.Table.{Step, step, Allows, rest}
+use Rattle.atomic_table.specs.Table.{Step, step, Allows}
 use Rattle.bus_semantics.specs.declared.entries.Entry.{Entry}
 use Rattle.bus_semantics.specs.Objects.{touched_by}
 use Rattle.port_objects.specs.declared.object.Object.{Object}
@@ -9,8 +9,8 @@ use Rattle.cross_core_table.specs.declared.views.Opening.{Opening}
 use Rattle.cross_core_table.specs.declared.views.Held.{Held}
 use Rattle.cross_core_table.specs.Logs.{plan_in}
 use Rattle.cross_core_table.specs.Rules.{RoundRule}
-use Rattle.cross_core_table.specs.Plays.{Sat, held_of, holding, failing, making, LockedAt, as_stamped, held_after, stamped_on, stamped_off, unlocked, looked}
-use Rattle.cross_core_table.specs.Places.{IsIdle, IsHolding, IsTakenBy, HasTried}
+use Rattle.cross_core_table.specs.Plays.{Sat, held_of, holding, failing, LockedAt, stamped_on, stamped_off, unlocked, looked}
+use Rattle.cross_core_table.specs.Places.{IsIdle, IsHolding, HasTried}
 use Rattle.cross_core_table.proofs.Keeping.{stamps_on, stamps_off, unlocks, looks}
 
 -- a try for an object

@@ -1,5 +1,5 @@
 -- How a round is opened.
-use Rattle.std.proofs.Common.{◌≡◌, ◌<◌, ◌≤◌, ◌-◌, ◌*◌, ◌+◌, ◌==◌, ◌&&◌, ℕ, zero, suc, true, nat_le, List, [], ◌∷◌, ◌++◌, length, length-append, replicate, get_or, set, slice_get, refl, sym, ◌∙◌, ap, subst, arith, eqb-true, Option, Some, None, Vec}
+use Rattle.std.proofs.Common.{◌≡◌, ◌≤◌, ◌*◌, ◌+◌, ◌==◌, ℕ, zero, suc, true, nat_le, List, [], ◌∷◌, ◌++◌, length, length-append, replicate, get_or, set, slice_get, refl, sym, ◌∙◌, ap, subst, arith, eqb-true, Some, Vec}
 use Rattle.std.proofs.lemmas.List.{length-replicate}
 use Rattle.std.proofs.lemmas.Bool.{and_parts}
 use Rattle.std.specs.Vec.{vec_capacity}
@@ -7,9 +7,9 @@ use Rattle.std.specs.Global.{Global}
 use Rattle.atomic_table.specs.Seated.{TableId}
 use Rattle.bus_semantics.specs.declared.entries.Stamped.{Stamped}
 use Rattle.bus_semantics.specs.declared.plan.BusPlan.{BusPlan}
-use Rattle.bus_semantics.specs.Plan.{Plan, plan_of}
+use Rattle.bus_semantics.specs.Plan.{plan_of}
 use Rattle.bus_semantics.specs.Objects.{clock}
-use Rattle.bus_semantics.specs.SoundPlan.{groups_fit, objects_counted}
+use Rattle.bus_semantics.specs.SoundPlan.{groups_fit}
 use Rattle.port_objects.specs.declared.object.Object.{Object}
 use Rattle.port_objects.specs.Objects.{ArePlans}
 use Rattle.port_objects.specs.Plans.{HasObjects}

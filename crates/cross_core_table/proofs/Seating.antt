@@ -2,23 +2,19 @@
 use Rattle.std.proofs.Common.{◌≡◌, ◌≢◌, ◌<◌, ◌≤◌, ◌+◌, ◌^◌, ℕ, zero, suc, true, false, is_some, List, [], ◌∷◌, ◌++◌, map, length, length-append, length-set, set, get_or, refl, sym, ◌∙◌, ap, subst, ⊎_elim, arith, slice_get, Option, Some, None}
 use Rattle.std.proofs.lemmas.List.{length-map}
 use Rattle.std.proofs.lemmas.Bool.{false≢true}
-use mathlib.Core.Logic.{dite}
-use native.Mathlib.Decide.{ℕ_discrete}
-use mathlib.Core.Option as option
-use mathlib.Core.Option.{some, some-injective, some-ne-none}
+use mathlib.Core.Option.{some, some-injective}
 use lib.ListN.{get_elem?}
-use Rattle.atomic_table.specs.Table.{State, opening, Splits, Joins}
-use Rattle.atomic_table.proofs.Lists.{at_set, set_here, set_else, at_longer, at_last, some_there}
-use Rattle.bus_semantics.specs.declared.entries.Stamped.{Stamped}
+use Rattle.atomic_table.specs.Table.{opening, Splits, Joins}
+use Rattle.atomic_table.proofs.Lists.{at_set, set_here, set_else, at_longer, some_there}
 use Rattle.bus_semantics.specs.Interleaving.{Logged}
 use Rattle.port_objects.specs.declared.object.Object.{Object}
-use Rattle.port_objects.specs.Objects.{kept_of, IsOfPlan, ArePlans}
+use Rattle.port_objects.specs.Objects.{ArePlans}
 use Rattle.cross_core_table.specs.declared.views.Opening.{Opening}
 use Rattle.cross_core_table.specs.declared.views.Part.{Part}
 use Rattle.cross_core_table.specs.declared.views.Held.{Held}
 use Rattle.cross_core_table.specs.declared.views.View.{View}
-use Rattle.cross_core_table.specs.Logs.{on_object, made_by, AreOf, plan_in, kept_after}
-use Rattle.cross_core_table.specs.Rules.{Table, word_of, Holds, IsSpent, AreJoined, IsSeated, IsGone, IsAtHome, IsTaken, RoundRule}
+use Rattle.cross_core_table.specs.Logs.{made_by, AreOf, plan_in}
+use Rattle.cross_core_table.specs.Rules.{Table, IsSpent, AreJoined, IsSeated, IsGone, RoundRule}
 use Rattle.cross_core_table.specs.Plays.{giving, newcomer, part_of_view, joining, spent, first_view}
 use Rattle.cross_core_table.proofs.Lists.{at_within, at_end, at_somes, at_only}
 use Rattle.cross_core_table.proofs.Logs.{of_more, none_above, kept_first}

@@ -1,10 +1,10 @@
 -- What the close of a round gives.
-use Rattle.std.specs.Prelude.{◌≡◌, ◌<◌, ◌≤◌, ◌*◌, ◌⊎◌, ℕ, List, [], ◌∷◌, ◌++◌, length, map, filter, slice_get, slice_index, Some, None}
+use Rattle.std.specs.Prelude.{◌≡◌, ◌<◌, ◌≤◌, ◌*◌, ◌⊎◌, ℕ, List, [], ◌∷◌, ◌++◌, length, filter, slice_get, slice_index, Some, None}
 use mathlib.Core.Option as option
 use lib.ListN.{get_elem?}
 use Rattle.bus_semantics.specs.declared.entries.Stamped.{Stamped}
 use Rattle.bus_semantics.specs.Plan.{Plan}
-use Rattle.bus_semantics.specs.History.{Noted, Past}
+use Rattle.bus_semantics.specs.History.{Past}
 use Rattle.bus_semantics.specs.Objects.{touches}
 use Rattle.bus_semantics.specs.Interleaving.{IsInterleaved, past_of}
 use Rattle.port_objects.specs.declared.object.Object.{Object}

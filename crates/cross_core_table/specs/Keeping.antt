@@ -1,5 +1,5 @@
 -- That each kind of step keeps the rule of a round, whatever the table is when the step is made, and tells its seat what its play says.
-use Rattle.std.specs.Prelude.{◌≡◌, ◌≢◌, ◌<◌, ◌+◌, ◌%◌, ◌^◌, ℕ, suc, List, ◌∷◌, length, slice_index, eqb, Option, Some, None}
+use Rattle.std.specs.Prelude.{◌≡◌, ◌<◌, ◌+◌, ◌%◌, ◌^◌, ℕ, suc, List, ◌∷◌, length, slice_index, eqb, Option, Some, None}
 use mathlib.Core.Option.{none}
 use prog.Atomic.{either}
 use Rattle.atomic_table.specs.Table.{step, opening, Allows, Splits, Joins}

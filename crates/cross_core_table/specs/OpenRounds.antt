@@ -1,7 +1,7 @@
 -- A round as contracts see it, and a seat at its bench.
-use Rattle.std.specs.Prelude.{◌-◌, ℕ, length, Option, Some, None}
+use Rattle.std.specs.Prelude.{◌-◌, ℕ, length, Some, None}
 use Rattle.atomic_table.specs.Seated.{TableId}
-use Rattle.port_objects.specs.Benches.{Told, Work}
+use Rattle.port_objects.specs.Benches.{Told}
 use Rattle.cross_core_table.specs.declared.views.Opening.{Opening}
 use Rattle.cross_core_table.specs.declared.views.View.{View}
 

@@ -1,5 +1,5 @@
 -- The memory of a round, how its seats are given, and what its opening gives.
-use Rattle.std.specs.Prelude.{◌≡◌, ◌≤◌, ◌*◌, ℕ, suc, List, [], length, replicate, slice_get, Some, Vec, vec_len}
+use Rattle.std.specs.Prelude.{◌≡◌, ◌≤◌, ◌*◌, ℕ, suc, List, [], length, replicate, slice_get, Some, Vec}
 use Rattle.std.specs.Vec.{vec_capacity}
 use Rattle.std.specs.Global.{Global}
 use Rattle.bus_semantics.specs.declared.entries.Stamped.{Stamped}

@@ -1,4 +1,4 @@
-use Rattle.std.proofs.Common.{◌≡◌, ◌<◌, ◌++◌, ◌∷◌, [], ◌∙◌, List, map, length, sym, ap, subst, arith, append_assoc, append-nil}
+use Rattle.std.proofs.Common.{◌≡◌, ◌++◌, ◌∷◌, [], ◌∙◌, List, map, length, sym, ap, subst, arith, append_assoc, append-nil}
 use Rattle.std.proofs.lemmas.List.{map-append, length-map}
 use Rattle.std.specs.Vec.Iter.{into_iter_items}
 use Rattle.bus_semantics.specs.declared.entries.Stamped.{Stamped}

@@ -1,4 +1,4 @@
-use Rattle.std.proofs.Common.{◌≡◌, ◌≤◌, ◌<◌, ℕ, false, get_or, take}
+use Rattle.std.proofs.Common.{◌≡◌, ◌<◌, ℕ, false, get_or, take}
 use Rattle.std.specs.Vec.{vec_capacity}
 use Rattle.std.specs.Slots.{slots_filled, slots_items, slots_len}
 use Rattle.std.specs.Slots.Ownership.{Filled}

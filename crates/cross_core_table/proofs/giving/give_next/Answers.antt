@@ -1,4 +1,4 @@
-use Rattle.std.proofs.Common.{◌≡◌, ◌∙◌, ap, refl, arith, slice_get, Some, List, ℕ}
+use Rattle.std.proofs.Common.{◌∙◌, ap, refl, arith, List, ℕ}
 use Rattle.object_kinds.proofs.Lists.{at_index}
 use Rattle.port_objects.specs.declared.object.Object.{Object}
 use Rattle.cross_core_table.specs.declared.seats.CoreSeat.{CoreSeat}

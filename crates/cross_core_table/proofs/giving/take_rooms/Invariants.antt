@@ -1,4 +1,4 @@
-use Rattle.std.proofs.Common.{◌≡◌, ◌≤◌}
+use Rattle.std.proofs.Common.{◌≤◌}
 use Rattle.std.specs.Vec.{vec_capacity}
 use Rattle.cross_core_table.specs.Opened.{AreRooms}
 use Rattle.cross_core_table.proofs.giving.take_rooms.Given as goal

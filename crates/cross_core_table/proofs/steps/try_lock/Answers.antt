@@ -1,4 +1,4 @@
-use Rattle.std.proofs.Common.{◌≡◌, suc, ap, arith, refl, sym, rules}
+use Rattle.std.proofs.Common.{arith}
 use Rattle.cross_core_table.proofs.Keeping.{locks}
 use Rattle.cross_core_table.proofs.Hands.{has_tried}
 use Rattle.cross_core_table.proofs.steps.try_lock.Goals as goal

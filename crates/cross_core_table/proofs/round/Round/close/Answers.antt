@@ -1,4 +1,4 @@
-use Rattle.std.proofs.Common.{◌≡◌, ◌≤◌, ◌*◌, ◌∙◌, ℕ, List, map, sym, ap, subst, le_trans}
+use Rattle.std.proofs.Common.{◌≤◌, ◌∙◌, ℕ, List, map, sym, ap, subst, le_trans}
 use Rattle.bus_semantics.specs.declared.entries.Stamped.{Stamped}
 use Rattle.bus_semantics.specs.Interleaving.{IsInterleaved}
 use Rattle.std.specs.Slots.{slots_items}
