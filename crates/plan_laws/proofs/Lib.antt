@@ -1,0 +1,12 @@
+pub mod Held
+pub mod Flat
+pub mod Joins
+pub mod Components
+pub mod Parts
+pub mod Mapped
+pub mod Planned
+pub mod Printed
+pub mod Sorted
+pub mod Refused
+pub mod Whole
+pub mod Sizes

@@ -1,0 +1,35 @@
+-- Rule 30 over what is listed (Software Component Template, flattened; profile: the limits of a bus). There are at most 16,384 objects and
+-- 16,384 events, and in all queues together at most 65,536 values, requests and switches may wait.
+use Rattle.std.specs.Prelude.{ℕ, ◌+◌, length, sum_by, Bool, false, ◌||◌, nat_lt, if◌then◌else◌}
+use Rattle.std.specs.Option.{unwrap_or}
+use Rattle.description_types.specs.declared.description.Description.{Description}
+use Rattle.composition_flatten.specs.declared.flat.Flat.{Flat}
+use Rattle.plan_numbers.specs.declared.site.Site.{Site}
+use Rattle.plan_numbers.specs.declared.site.SiteKind.{SiteKind}
+use Rattle.plan_numbers.specs.declared.site.SiteKind.TheVariants.{Element, Server, Machine}
+use Rattle.plan_numbers.specs.Parts.{areas_of, events_of}
+use Rattle.plan_numbers.specs.Sites.{sites}
+use Rattle.plan_ports.specs.Ports.{queue_length_of}
+use Rattle.plan_ports.specs.Things.{machines_of, servers_of}
+use Rattle.plan_elements.specs.Elements.{kind_of, leaders}
+use Rattle.plan_elements.specs.Groups.{heads}
+use Rattle.plan_services.specs.Services.{server_of}
+use Rattle.event_mapping.specs.Rules.{is_queued}
+
+-- the groups of data elements, each by its least element, the servers, the exclusive areas, the mode machines, and the clock
+abbrev pub objects_of : Description → Flat → ℕ
+objects_of d f = length (heads (leaders d f)) + (length (servers_of d f) + (length (areas_of d f) + (length (machines_of d f) + 1)))
+
+-- how many may wait: at a required element that is queued, joined or not, the environment's too; at a server whose event is mapped; at a machine
+abbrev pub waiting_at : Description → Flat → Site → ℕ
+waiting_at d f s = by s.kind
+  where
+    by : SiteKind → ℕ
+    by (Element false) = if is_queued (kind_of d f s) then queue_length_of d f s.owner (unwrap_or s.port 0) s.item else 0
+    by Server = unwrap_or (server_of d f s).queue 0
+    by Machine = queue_length_of d f s.owner (unwrap_or s.port 0) 0
+    by _ = 0
+
+-- rule 30 is broken
+abbrev pub is_past : Description → Flat → Bool
+is_past d f = (nat_lt 16384 (objects_of d f) || nat_lt 16384 (length (events_of d f))) || nat_lt 65536 (sum_by (waiting_at d f) (sites d f))

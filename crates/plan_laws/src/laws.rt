@@ -1,0 +1,33 @@
+//! The laws.
+
+ghost use Rattle.std.specs.Prelude.{◌≡◌, ℕ, List};
+ghost use Rattle.composition_flatten.specs.declared.flat.Flat.{Flat};
+ghost use Rattle.description_types.specs.declared.description.Description.{Description};
+ghost use Rattle.event_mapping.specs.Planned.{plan_of};
+ghost use Rattle.event_mapping.specs.Rules.{is_too_large};
+ghost use Rattle.rte_text.specs.declared.refusal.Refusal.{Refusal};
+ghost use Rattle.rte_text.specs.declared.refusal.Refused.TheVariants.{Rule};
+ghost use Rattle.description_stages.specs.declared.planning.PlannedDescription.{PlannedDescription};
+ghost use Rattle.description_stages.specs.Plans.{IsPlanRefusalOf, IsPlannedOf};
+ghost use Rattle.plan_laws.specs.Same.{IsSamePlan};
+ghost use Rattle.plan_laws.specs.Sizes.{is_past};
+
+/// Bytes that have a plan have one plan, with one mapping and one text.
+pub fn plans_are_one()
+    ensures { (bytes : List ℕ) (x y : PlannedDescription) → IsPlannedOf bytes x → IsPlannedOf bytes y → IsSamePlan x y }
+{}
+
+/// Bytes that are refused are refused by one rule, at one place.
+pub fn refusals_are_one()
+    ensures { (bytes : List ℕ) (r s : Refusal) → IsPlanRefusalOf bytes (Rule r) → IsPlanRefusalOf bytes (Rule s) → r ≡ s }
+{}
+
+/// Bytes that are refused have no plan.
+pub fn no_refused_description_has_a_plan()
+    ensures { (bytes : List ℕ) (r : Refusal) (x : PlannedDescription) → IsPlanRefusalOf bytes (Rule r) → ¬ IsPlannedOf bytes x }
+{}
+
+/// Rule 30 counts what is listed: the plan has as many objects, events and places in queues.
+pub fn plans_count_what_is_listed()
+    ensures { (d : Description) (f : Flat) → is_too_large (plan_of d f) ≡ is_past d f }
+{}
