@@ -185,7 +185,7 @@ description_once n m k l e = cc
 script_once : (n m k l : List ℕ) → run_words n m ≡ run_words k l → m ≡ l
 script_once n m k l e = cc
 
-same_files : (words : Texts) (files : ToldFiles) (d s d' s' : List ℕ) → AreHeld words files d s → Names words files d' s' → (d' ≡ d) × (s' ≡ s)
+pub same_files : (words : Texts) (files : ToldFiles) (d s d' s' : List ℕ) → AreHeld words files d s → Names words files d' s' → (d' ≡ d) × (s' ≡ s)
 same_files words files d s d' s' held names = let e : run_words names.description_name names.script_name ≡ run_words held.description_name held.script_name = sym names.words_are ∙ held.words_are in (
   held_once files held.description_name d d' held.description_held (subst (λ n. HeldWhereTold files n d') (description_once _ _ _ _ e) names.description_held),
   held_once files held.script_name s s' held.script_held (subst (λ n. HeldWhereTold files n s') (script_once _ _ _ _ e) names.script_held),
@@ -205,7 +205,7 @@ plan_file n name zero pos is = absurd (omega arith)
 plan_file n name (suc zero) pos is = sym (same_Some n name is)
 plan_file n name (suc (suc k)) pos is = absurd cc
 
-apart : (n m k : List ℕ) → run_words n m ≡ plan_words k → ⊥
+pub apart : (n m k : List ℕ) → run_words n m ≡ plan_words k → ⊥
 apart n m k e = cc
 
 judged : (words : Texts) (files : ToldFiles) (b a : ShelfCounts) (d s : List ℕ) (why : Stop) → AreHeld words files d s → ¬ Rose b.faults a.faults → IsStopped words files b a why → IsJudged d s why
@@ -226,7 +226,7 @@ judged words files b a d s stop.Memory held quiet stopped = tt
 name_once : (n k : List ℕ) → plan_words n ≡ plan_words k → n ≡ k
 name_once n k e = cc
 
-same_file : (words : Texts) (files : ToldFiles) (d d' : List ℕ) → IsOneHeld words files d → NamesOne words files d' → d' ≡ d
+pub same_file : (words : Texts) (files : ToldFiles) (d d' : List ℕ) → IsOneHeld words files d → NamesOne words files d' → d' ≡ d
 same_file words files d d' held names = let e : plan_words names.name ≡ plan_words held.name = sym names.words_are ∙ held.words_are in
     held_once files held.name d d' held.held (subst (λ n. HeldWhereTold files n d') (name_once _ _ e) names.held)
 

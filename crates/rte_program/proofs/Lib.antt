@@ -3,3 +3,4 @@ pub mod Soaks
 pub mod Judging
 pub mod Ran
 pub mod Words
+pub mod Complete

@@ -7,10 +7,11 @@ use Rattle.rte_text.specs.Shelves.{ToldFiles, ShelfCounts}
 use Rattle.rte_text.specs.Sinks.{AppendsWhereTold, AppendsPrefixWhereTold}
 use Rattle.bus_semantics.specs.declared.script.Line.{Line}
 use Rattle.bus_semantics.specs.Plan.{plan_of}
+use Rattle.script_reading.specs.Reading.{IsScript}
 use Rattle.description_stages.specs.declared.planning.PlannedDescription.{PlannedDescription}
 use Rattle.rte_program.specs.declared.stop.Stop.{Stop}
 use Rattle.rte_program.specs.declared.status.Status.{Status}
-use Rattle.rte_program.specs.declared.status.Status.TheVariants.{Memory}
+use Rattle.rte_program.specs.declared.status.Status.TheVariants.{Done, Refused, Script, Memory}
 use Rattle.rte_program.specs.Stops.{stop_text, refusal_text, script_refusal_text}
 use Rattle.plan_text.specs.Lines.{plan_text}
 use Rattle.rte_program.specs.Inputs.{Texts, run_words, plan_words, AreFetched, IsNoForm, NamesInputs, NamesPlanned, NamesRefused, NamesBadLine, NamesUnread, IsStopped}
@@ -125,3 +126,18 @@ pub record NoFault (shelf_before shelf_after sink_before sink_after : ℕ) : Typ
 -- this answer, or want of memory
 abbrev pub AnswersOrMemory : Status → Status → Type 0
 AnswersOrMemory answer status = (answer ≡ status) ⊎ (answer ≡ Memory)
+
+-- ---- each answer with its text, or want of memory
+
+abbrev pub RefusesOrMemory : Refusal → Status → (before : Option (List ℕ)) → (after : Option (List ℕ)) → Type 0
+RefusesOrMemory r answer before after = ((answer ≡ Refused) × AppendsWhereTold before after (refusal_text r.rule r.place)) ⊎ (answer ≡ Memory)
+
+abbrev pub RefusesLineOrMemory : (line : ℕ) → (cause : ℕ) → Status → (before : Option (List ℕ)) → (after : Option (List ℕ)) → Type 0
+RefusesLineOrMemory line cause answer before after = ((answer ≡ Script) × AppendsWhereTold before after (script_refusal_text line cause)) ⊎ (answer ≡ Memory)
+
+-- the run is one of the script that these bytes are over the plan
+abbrev pub RunsOrMemory : (script_bytes : List ℕ) → PlannedDescription → Status → (before : Option (List ℕ)) → (after : Option (List ℕ)) → Type 0
+RunsOrMemory s found answer before after = ((answer ≡ Done) × ((script : List Line) × IsScript (plan_of found.plan) s script × PrintsRun (plan_of found.plan) found.mapping script before after)) ⊎ (answer ≡ Memory)
+
+abbrev pub PrintsPlanOrMemory : PlannedDescription → Status → (before : Option (List ℕ)) → (after : Option (List ℕ)) → Type 0
+PrintsPlanOrMemory found answer before after = ((answer ≡ Done) × AppendsWhereTold before after (plan_text found.description found.flat found.plan)) ⊎ (answer ≡ Memory)

@@ -2,13 +2,19 @@
 
 ghost use Rattle.std.specs.Prelude.{◌≡◌, ◌≢◌, ◌⊎◌, ℕ, List, map, string_bytes};
 ghost use Rattle.rte_text.specs.Counts.{Rose};
-ghost use Rattle.rte_program.specs.Inputs.{counts_of, AsksForSoak, BreaksNoRule, HasNoPlan, IsNoForm, IsNoScriptOver, IsScriptOver};
-ghost use Rattle.rte_program.specs.Answers.{DoesWhatIsNamed, RefusesWhatIsAsked, RefusesWords, RefusesScript, SaysUnread, CutsWhatIsPut, EndsForMemory, AreHeld, IsOneHeld, NoFault, AnswersOrMemory};
+ghost use Rattle.rte_text.specs.declared.refusal.Refusal.{Refusal};
+ghost use Rattle.rte_text.specs.declared.refusal.Refused.TheVariants.{Rule};
+ghost use Rattle.bus_semantics.specs.declared.script.Line.{Line};
+ghost use Rattle.description_stages.specs.declared.planning.PlannedDescription.{PlannedDescription};
+ghost use Rattle.description_stages.specs.Plans.{IsPlanRefusalOf, IsPlannedOf};
+ghost use Rattle.rte_program.specs.Inputs.{counts_of, AreInputs, AsksForSoak, HaveBadLine, IsNoForm};
+ghost use Rattle.rte_program.specs.Answers.{DoesWhatIsNamed, RefusesWhatIsAsked, RefusesWords, RefusesScript, SaysUnread, CutsWhatIsPut, EndsForMemory, AreHeld, IsOneHeld, NoFault, AnswersOrMemory, PrintsPlanOrMemory, RefusesLineOrMemory, RefusesOrMemory, RunsOrMemory};
 ghost use Rattle.rte_program.specs.Soaking.{SoakKeepsRules};
 
 use crate::command::run_command;
 use crate::quiet::rte_quiet;
 use crate::status::Status;
+use plan_laws::{no_refused_description_has_a_plan, plans_are_one, refusals_are_one};
 use rte_text::{Gate, Shelf, Sink};
 use std::alloc::Global;
 use std::sync::Wait;
@@ -57,21 +63,29 @@ pub fn rte_top<R: Threads + Wait + Sync, S: Shelf, K: Sink, G: Gate>(
         → counts_of (S.faults shelf.new) (S.long_files shelf.new) ≡ counts_of (S.faults shelf.old) (S.long_files shelf.old) }
     ensures files_stay { S.files shelf.new ≡ S.files shelf.old }
 
-    // When the answers come, but for want of memory: where no file and no put failed.
+    // When the answers come, except for want of memory: if no file and no put failed.
     ensures always_words { IsNoForm (map string_bytes words.now) → ¬ Rose (K.faults out.old) (K.faults out.new) → result ≡ Status.Words }
-    ensures always_refused { (d s : List ℕ) → AreHeld (map string_bytes words.now) (S.files shelf.old) d s → HasNoPlan d
-        → NoFault (S.faults shelf.old) (S.faults shelf.new) (K.faults out.old) (K.faults out.new) → AnswersOrMemory result Status.Refused }
-    ensures always_script { (d s : List ℕ) → AreHeld (map string_bytes words.now) (S.files shelf.old) d s → BreaksNoRule d → IsNoScriptOver d s
-        → NoFault (S.faults shelf.old) (S.faults shelf.new) (K.faults out.old) (K.faults out.new) → AnswersOrMemory result Status.Script }
-    ensures complete { (d s : List ℕ) → AreHeld (map string_bytes words.now) (S.files shelf.old) d s → BreaksNoRule d → IsScriptOver d s
-        → NoFault (S.faults shelf.old) (S.faults shelf.new) (K.faults out.old) (K.faults out.new) → AnswersOrMemory result Status.Done }
-    ensures plan_refused { (d : List ℕ) → IsOneHeld (map string_bytes words.now) (S.files shelf.old) d → HasNoPlan d
-        → NoFault (S.faults shelf.old) (S.faults shelf.new) (K.faults out.old) (K.faults out.new) → AnswersOrMemory result Status.Refused }
-    ensures plan_complete { (d : List ℕ) → IsOneHeld (map string_bytes words.now) (S.files shelf.old) d → BreaksNoRule d
-        → NoFault (S.faults shelf.old) (S.faults shelf.new) (K.faults out.old) (K.faults out.new) → AnswersOrMemory result Status.Done }
+    ensures always_refused { (d s : List ℕ) (refusal : Refusal) → AreHeld (map string_bytes words.now) (S.files shelf.old) d s
+        → IsPlanRefusalOf d (Rule refusal) → NoFault (S.faults shelf.old) (S.faults shelf.new) (K.faults out.old) (K.faults out.new)
+        → RefusesOrMemory refusal result (K.told out.old) (K.told out.new) }
+    ensures always_script { (d s : List ℕ) (line cause : ℕ) → AreHeld (map string_bytes words.now) (S.files shelf.old) d s
+        → HaveBadLine d s line cause → NoFault (S.faults shelf.old) (S.faults shelf.new) (K.faults out.old) (K.faults out.new)
+        → RefusesLineOrMemory line cause result (K.told out.old) (K.told out.new) }
+    ensures complete { (d s : List ℕ) (found : PlannedDescription) (script : List Line) → AreHeld (map string_bytes words.now) (S.files shelf.old) d s
+        → AreInputs d s found script → NoFault (S.faults shelf.old) (S.faults shelf.new) (K.faults out.old) (K.faults out.new)
+        → RunsOrMemory s found result (K.told out.old) (K.told out.new) }
+    ensures plan_refused { (d : List ℕ) (refusal : Refusal) → IsOneHeld (map string_bytes words.now) (S.files shelf.old) d
+        → IsPlanRefusalOf d (Rule refusal) → NoFault (S.faults shelf.old) (S.faults shelf.new) (K.faults out.old) (K.faults out.new)
+        → RefusesOrMemory refusal result (K.told out.old) (K.told out.new) }
+    ensures plan_complete { (d : List ℕ) (found : PlannedDescription) → IsOneHeld (map string_bytes words.now) (S.files shelf.old) d
+        → IsPlannedOf d found → NoFault (S.faults shelf.old) (S.faults shelf.new) (K.faults out.old) (K.faults out.new)
+        → PrintsPlanOrMemory found result (K.told out.old) (K.told out.new) }
     ensures soak_complete { (n : ℕ) → AsksForSoak (map string_bytes words.now) n → SoakKeepsRules n
         → ¬ Rose (K.faults out.old) (K.faults out.new) → AnswersOrMemory result Status.Done }
 {
+    plans_are_one();
+    refusals_are_one();
+    no_refused_description_has_a_plan();
     match rte_quiet(alloc, words, shelf, out) {
         Some(status) => status,
         None => run_command(rt, alloc, words, shelf, out, gate),

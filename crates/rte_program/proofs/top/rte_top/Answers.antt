@@ -1,5 +1,6 @@
 use Rattle.std.proofs.Common.{inl, inr}
 use Rattle.rte_program.proofs.Answering as by
+use Rattle.rte_program.proofs.Complete.{breaks_none, has_no_plan, is_no_script, is_script, only_named, only_run, plan_prints, plan_refuses, run_prints, run_refuses, run_refuses_line}
 use Rattle.rte_program.proofs.top.rte_top.Goals as goal
 
 pub run_command-requires-clause-asked : goal.run_command-requires-clause-asked
@@ -24,15 +25,15 @@ pub returns-in-Some-clause-memory : goal.returns-in-Some-clause-memory
 returns-in-Some-clause-memory g c = λ is. inl (c.in-Some.ensures.memory is)
 
 pub returns-in-Some-clause-always_refused : goal.returns-in-Some-clause-always_refused
-returns-in-Some-clause-always_refused g c = λ d s held none quiet.
+returns-in-Some-clause-always_refused g c = λ d s refusal held is quiet.
     by.is_no_run c.rte_quiet.result c.in-Some.status _ _ d s c.rte_quiet.ensures.other c.in-Some.is held
 
 pub returns-in-Some-clause-always_script : goal.returns-in-Some-clause-always_script
-returns-in-Some-clause-always_script g c = λ d s held keeps none quiet.
+returns-in-Some-clause-always_script g c = λ d s line cause held is quiet.
     by.is_no_run c.rte_quiet.result c.in-Some.status _ _ d s c.rte_quiet.ensures.other c.in-Some.is held
 
 pub returns-in-Some-clause-complete : goal.returns-in-Some-clause-complete
-returns-in-Some-clause-complete g c = λ d s held keeps over quiet.
+returns-in-Some-clause-complete g c = λ d s found script held is quiet.
     by.is_no_run c.rte_quiet.result c.in-Some.status _ _ d s c.rte_quiet.ensures.other c.in-Some.is held
 
 pub returns-in-None-clause-done : goal.returns-in-None-clause-done
@@ -69,19 +70,35 @@ pub returns-in-None-clause-always_words : goal.returns-in-None-clause-always_wor
 returns-in-None-clause-always_words g c = λ none quiet. absurd (none (by.runs_are_forms _ (c.rte_quiet.ensures.other.0 c.in-None.is)))
 
 pub returns-in-None-clause-always_refused : goal.returns-in-None-clause-always_refused
-returns-in-None-clause-always_refused g c = rw (← c.in-None.ensures.unread, ← c.in-None.ensures.unwritten) c.run_command.ensures.always_refused
+returns-in-None-clause-always_refused g c = rw (← c.in-None.ensures.unread, ← c.in-None.ensures.unwritten) (λ d s refusal held is quiet.
+    run_refuses _ _ _ _ c.refusals_are_one.ensures d s refusal c.run_command.result held is (λ e. only_named _ _ _ _ d s held (c.run_command.ensures.refused e))
+    (c.run_command.ensures.always_refused d s held (has_no_plan c.no_refused_description_has_a_plan.ensures d refusal is) quiet))
 
 pub returns-in-None-clause-always_script : goal.returns-in-None-clause-always_script
-returns-in-None-clause-always_script g c = rw (← c.in-None.ensures.unread, ← c.in-None.ensures.unwritten) c.run_command.ensures.always_script
+returns-in-None-clause-always_script g c = rw (← c.in-None.ensures.unread, ← c.in-None.ensures.unwritten) (λ d s line cause held is quiet.
+    run_refuses_line _ _ _ _ c.plans_are_one.ensures d s line cause c.run_command.result held is c.run_command.ensures.script
+    (c.run_command.ensures.always_script d s held (breaks_none c.no_refused_description_has_a_plan.ensures d is.found is.described) (is_no_script c.plans_are_one.ensures d s line cause is) quiet))
 
 pub returns-in-None-clause-complete : goal.returns-in-None-clause-complete
-returns-in-None-clause-complete g c = rw (← c.in-None.ensures.unread, ← c.in-None.ensures.unwritten) c.run_command.ensures.complete
+returns-in-None-clause-complete g c = rw (← c.in-None.ensures.unread, ← c.in-None.ensures.unwritten) (λ d s found script held is quiet.
+    run_prints _ _ _ _ c.plans_are_one.ensures d s found script c.run_command.result held is (λ e. only_run _ _ _ _ d s held (c.run_command.ensures.done e))
+    (c.run_command.ensures.complete d s held (breaks_none c.no_refused_description_has_a_plan.ensures d found is.described) (is_script c.plans_are_one.ensures d s found script is) quiet))
 
 pub returns-in-None-clause-soak_complete : goal.returns-in-None-clause-soak_complete
 returns-in-None-clause-soak_complete g c = rw (← c.in-None.ensures.unwritten) c.run_command.ensures.soak_complete
 
 pub returns-in-None-clause-plan_refused : goal.returns-in-None-clause-plan_refused
-returns-in-None-clause-plan_refused g c = λ d held none quiet. absurd (by.run_is_no_plan _ _ d (c.rte_quiet.ensures.other.0 c.in-None.is) held)
+returns-in-None-clause-plan_refused g c = λ d refusal held is quiet. absurd (by.run_is_no_plan _ _ d (c.rte_quiet.ensures.other.0 c.in-None.is) held)
 
 pub returns-in-None-clause-plan_complete : goal.returns-in-None-clause-plan_complete
-returns-in-None-clause-plan_complete g c = λ d held keeps quiet. absurd (by.run_is_no_plan _ _ d (c.rte_quiet.ensures.other.0 c.in-None.is) held)
+returns-in-None-clause-plan_complete g c = λ d found held is quiet. absurd (by.run_is_no_plan _ _ d (c.rte_quiet.ensures.other.0 c.in-None.is) held)
+
+pub returns-in-Some-clause-plan_refused : goal.returns-in-Some-clause-plan_refused
+returns-in-Some-clause-plan_refused g c = λ d refusal held is quiet.
+    plan_refuses _ _ _ _ c.refusals_are_one.ensures d refusal c.in-Some.status held is c.in-Some.ensures.refused
+    (c.in-Some.ensures.always_refused d held (has_no_plan c.no_refused_description_has_a_plan.ensures d refusal is) quiet)
+
+pub returns-in-Some-clause-plan_complete : goal.returns-in-Some-clause-plan_complete
+returns-in-Some-clause-plan_complete g c = λ d found held is quiet.
+    plan_prints _ _ _ _ c.plans_are_one.ensures d found c.in-Some.status held is c.in-Some.ensures.done
+    (c.in-Some.ensures.complete d held (breaks_none c.no_refused_description_has_a_plan.ensures d found is) quiet)
