@@ -13,6 +13,7 @@ use Rattle.bus_semantics.specs.Run.{Session}
 use Rattle.bus_semantics.specs.Sound.{IsSound}
 use Rattle.bus_semantics.specs.Spelling.{Letters, spelling_of}
 use Rattle.description_places.specs.Rules.{Reads}
+use Rattle.description_stages.specs.declared.planning.PlannedDescription.{PlannedDescription}
 use Rattle.line_fields.specs.Numbers.{is_number, number_in}
 use Rattle.line_fields.specs.Texts.{lines_of}
 use Rattle.line_fields.proofs.Spelt.{decimal_back, decimal_is_number, number_spelt}
@@ -186,6 +187,17 @@ cut_said words n before after f g answer stop.Memory asked stopped says is = let
 cut_said words n before after f g answer (stop.Script line cause) asked stopped says is = absurd stopped
 cut_said words n before after f g answer stop.Words asked stopped says is = absurd stopped
 cut_said words n before after f g answer (stop.NotRead word) asked stopped says is = absurd stopped
+
+-- the numbers of the run were cut
+pub numbers_cut : (words : Texts) (n : ℕ) (found : PlannedDescription) (script : List Line) (before after : Option (List ℕ)) → AsksForSoak words n → IsSoaked n found script
+    → PrintsSomeNumbers n (plan_of found.plan) found.mapping script before after → CutsSoak words before after
+numbers_cut words n found script before after asked soaks printed = inr (record {
+  pairs = n;
+  asked = asked;
+  found = found;
+  soaked = subst (λ (ls : List Line). IsSoaked n found ls) soaks.lines soaks;
+  printed = subst (λ (ls : List Line). PrintsSomeNumbers n (plan_of found.plan) found.mapping ls before after) soaks.lines printed;
+})
 
 -- it is one of three: refused, not written, out of memory
 pub none_of : (n : ℕ) (before after : Option (List ℕ)) (f g : ℕ) (answer wanted : Status) (why : Stop) → IsUnsoaked n why → Says why answer before after f g
