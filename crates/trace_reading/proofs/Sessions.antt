@@ -60,13 +60,13 @@ one_item v p r line (run_closes unsettled) (run_closes unsettled) a b = refl
 -- ---- the lines of a text
 
 -- the line of an item without its newline
-abbrev line_in : Version → Plan → Item → Letters
+abbrev pub line_in : Version → Plan → Item → Letters
 line_in v p (made e) = text_of v p e
 line_in v p run_begins = codes "run"
 line_in v p (run_closes idle) = codes "idle"
 line_in v p (run_closes unsettled) = codes "unsettled"
 
-item-line : (v : Version) (p : Plan) (i : Item) → item_text v p i ≡ line_in v p i ++ codes "\n"
+pub item-line : (v : Version) (p : Plan) (i : Item) → item_text v p i ≡ line_in v p i ++ codes "\n"
 item-line v p (made e) = entry-line v p e
 item-line v p run_begins = refl
 item-line v p (run_closes idle) = refl
@@ -78,7 +78,7 @@ fields_lack t (u ∷ us) h k =
     let two = and_parts (are_visible u) (list_all are_visible us) k in
     all-append (λ c. not (c == 10)) t (32 ∷ line_of u us) (visible_lacks 10 refl t h) (and_from (not (32 == 10)) (lacks 10 (line_of u us)) refl (fields_lack u us two.0 two.1))
 
-line_lacks : (v : Version) (p : Plan) → IsNamed p → (i : Item) → item_fits p i ≡ true → lacks 10 (line_in v p i) ≡ true
+pub line_lacks : (v : Version) (p : Plan) → IsNamed p → (i : Item) → item_fits p i ≡ true → lacks 10 (line_in v p i) ≡ true
 line_lacks v p r (made e) h = let g = entry_read v p r e h in fields_lack (actor_text p e.actor) (word_of e.deed ∷ fields_of v p e.actor e.deed) g.visible_actor g.visible_deed
 line_lacks v p r run_begins h = refl
 line_lacks v p r (run_closes idle) h = refl

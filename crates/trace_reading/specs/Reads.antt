@@ -1,12 +1,12 @@
 -- What a line is read as.
-use Rattle.std.specs.Prelude.{◌≡◌, true, Option, Some, None}
+use Rattle.std.specs.Prelude.{◌≡◌, ◌==◌, ◌++◌, codes, not, true, Option, Some, None}
 use Rattle.std.specs.List.{list_all}
 use Rattle.bus_semantics.specs.declared.entries.Entry.{Entry}
 use Rattle.bus_semantics.specs.declared.version.Version.{Version}
 use Rattle.bus_semantics.specs.Plan.{Plan}
 use Rattle.bus_semantics.specs.Reading.{IsReadingOf, item_fits}
 use Rattle.bus_semantics.specs.Run.{Item, Session, idle, made, run_begins, run_closes, unsettled}
-use Rattle.bus_semantics.specs.Spelling.{Letters, Spells}
+use Rattle.bus_semantics.specs.Spelling.{Letters, Spells, item_text}
 use Rattle.trace_reading.specs.declared.reading.LineRead.{LineRead}
 use Rattle.trace_reading.specs.declared.reading.LineRead.TheVariants as read
 
@@ -28,6 +28,16 @@ ReadsEntry v p line (Some e) = IsReadingOf v p line (made e)
 -- each item of the session fits the plan
 abbrev pub IsOfPlan : Plan → Session → Type 0
 IsOfPlan p s = list_all (item_fits p) s ≡ true
+
+-- a text that ends by a newline, and has no other
+pub record IsOneLine (text : Letters) : Type 0 where
+  pub line : Letters
+  pub whole : text ≡ line ++ codes "\n"
+  pub unbroken : list_all (λ c. not (c == 10)) line ≡ true
+
+-- an item has one line
+abbrev pub ItemsHaveOneLine : Plan → Type 0
+ItemsHaveOneLine p = (v : Version) (i : Item) → item_fits p i ≡ true → IsOneLine (item_text v p i)
 
 -- a line is that of one item
 abbrev pub LinesHaveOneReading : Plan → Type 0

@@ -4,7 +4,12 @@ ghost use Rattle.bus_semantics.specs.declared.script.Mapping.{Mapping};
 ghost use Rattle.bus_semantics.specs.Plan.{Plan};
 ghost use Rattle.bus_semantics.specs.Sound.{IsSound};
 ghost use Rattle.trace_reading.specs.Readable.{SoundPlansAreReadable};
-ghost use Rattle.trace_reading.specs.Reads.{LinesHaveOneReading, SessionsHaveOneText, TextsHaveOneSession, TextsHaveOneVersion};
+ghost use Rattle.trace_reading.specs.Reads.{ItemsHaveOneLine, LinesHaveOneReading, SessionsHaveOneText, TextsHaveOneSession, TextsHaveOneVersion};
+
+/// In a sound plan an item that fits has one line: its text ends by a newline, and has no other.
+pub fn items_have_one_line()
+    ensures { (p : Plan) (m : Mapping) → IsSound p m → ItemsHaveOneLine p }
+{}
 
 /// Every sound plan has what reading needs of one. To call it before a reader is made shows that the plan may be read.
 pub fn sound_plans_are_readable()

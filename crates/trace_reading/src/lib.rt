@@ -17,5 +17,7 @@ mod sizes;
 mod tables;
 mod words;
 
-pub use laws::{lines_have_one_reading, sound_plans_are_readable, texts_have_one_session};
+pub use laws::{
+    items_have_one_line, lines_have_one_reading, sound_plans_are_readable, texts_have_one_session,
+};
 pub use reading::{LineRead, Reader, read_entry};

@@ -1,0 +1,4 @@
+mod Clauses
+mod Accepted
+mod Cuts
+mod Reached
