@@ -1,0 +1,3 @@
+mod Same
+mod Wholes
+pub mod SameWishes
