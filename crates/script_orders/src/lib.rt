@@ -1,0 +1,6 @@
+//! What a script asks for, order by order.
+#![tactic(auto)]
+
+mod orders;
+
+pub use orders::Orders;
