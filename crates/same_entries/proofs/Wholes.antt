@@ -1,8 +1,6 @@
 -- What was laid out flat is got back: so nothing is lost by it.
-use Rattle.std.proofs.Common.{◌≡◌, ℕ, ℤ, Bool, true, false, ◌==◌, if◌then◌else◌, List, [], ◌∷◌, Option, Some, None, unwrap_or, refl, sym, ap, ◌∙◌}
-use Rattle.rte_value.specs.declared.kinds.Step.{Step}
+use Rattle.std.proofs.Common.{◌≡◌, ℕ, true, false, ◌==◌, if◌then◌else◌, List, [], ◌∷◌, unwrap_or, refl, sym, ap, ◌∙◌}
 use Rattle.rte_value.specs.declared.kinds.Step.TheVariants as step
-use Rattle.rte_value.specs.declared.value.Value.{Value}
 use Rattle.rte_value.specs.ShortValues.{empty_value}
 use Rattle.bus_semantics.specs.declared.entries.Deed.{Deed}
 use Rattle.bus_semantics.specs.declared.entries.Deed.TheVariants as deed
