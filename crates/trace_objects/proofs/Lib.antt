@@ -1,0 +1,5 @@
+mod Tried
+mod Parted
+mod Alone
+mod Compared
+mod TriedEntries

@@ -1,0 +1,64 @@
+-- Objects that stand for a history, and an entry of a trace that is tried on them. Histories stand the newest first.
+use Rattle.std.specs.Prelude.{◌≡◌, ℕ, List, ◌∷◌, Bool, true, false, ◌⊎◌, Option, Some, slice_get}
+use Rattle.bus_semantics.specs.declared.entries.Deed.{Deed}
+use Rattle.bus_semantics.specs.declared.entries.Entry.{Entry}
+use Rattle.bus_semantics.specs.declared.script.Mapping.{Mapping}
+use Rattle.bus_semantics.specs.Plan.{Plan}
+use Rattle.bus_semantics.specs.Wanted.{Wanted}
+use Rattle.bus_semantics.specs.History.{History, Noted, Past, note, noted}
+use Rattle.bus_semantics.specs.Objects.{entries_of}
+use Rattle.bus_semantics.specs.Fitting.{fits}
+use Rattle.bus_semantics.specs.Actor.{follows_program}
+use Rattle.bus_semantics.specs.Legal.{Answers, IsLegal}
+use Rattle.bus_semantics.specs.Asked.{MayCome}
+use Rattle.bus_semantics.specs.Sound.{IsSound}
+use Rattle.port_objects.specs.declared.object.Object.{Object}
+use Rattle.port_objects.specs.Kept.{Kept}
+use Rattle.port_objects.specs.Coming.{IsTheOne}
+use Rattle.port_objects.specs.Freed.{is_free, IsFree}
+use Rattle.port_objects.specs.Objects.{kept_of}
+use Rattle.port_objects.specs.Standing.{Stands}
+
+-- each object stands for its entries of the history
+abbrev pub ObjectsStand : Plan → History → List Object → Type 0
+ObjectsStand p h objects = (i : ℕ) (o : Object) → slice_get objects i ≡ Some o → Stands p i (kept_of o) (entries_of p h i)
+
+-- an entry that fits, and for which its actor's program asks after a legal history; with the event that started the activation, if it is an
+-- Admit or an End
+pub record IsTried (p : Plan) (m : Mapping) (h : History) (e : Entry) (event : Option ℕ) : Type 0 where
+  pub sound : IsSound p m
+  pub legal : IsLegal p h
+  pub fit : fits p e ≡ true
+  pub program : follows_program p h e.actor e.deed ≡ true
+  pub by : event ≡ (note h e).event
+
+-- after some history, for which the objects stand
+pub record CanTry (p : Plan) (objects : List Object) (e : Entry) (event : Option ℕ) : Type 0 where
+  pub mapping : Mapping
+  pub history : History
+  pub tried : IsTried p mapping history e event
+  pub stand : ObjectsStand p history objects
+
+-- whether it is what the bus answers; if so, the objects stand for the history and it
+abbrev pub Tries : Plan → History → (objects : List Object) → Entry → Bool → Type 0
+Tries p h objects e true = Answers p (noted h) (note h e) × ObjectsStand p (e ∷ h) objects
+Tries p h objects e false = Answers p (noted h) (note h e) → ⊥
+
+-- ---- on its object, and without one
+
+-- whether it is the one entry of the wish that may come after these
+abbrev pub IsMadeOn : Plan → Wanted → (after : Kept) → Past → Entry → Bool → Type 0
+IsMadeOn p w after l e true = IsTheOne p e.actor w after l e
+IsMadeOn p w after l e false = (n : Noted) → MayCome p e.actor w l n → n.entry ≡ e → ⊥
+
+-- another deed is what is answered to the wish
+pub record IsOther (w : Wanted) (e : Entry) : Type 0 where
+  pub deed : Deed
+  pub free : is_free w ≡ true
+  pub answer : IsFree w deed
+  pub other : record { actor = e.actor; deed = deed } ≡ e → ⊥
+
+-- whether it is what is answered to a wish that touches no object
+abbrev pub IsMadeAlone : Wanted → Entry → Bool → Type 0
+IsMadeAlone w e true = (is_free w ≡ true) × IsFree w e.deed
+IsMadeAlone w e false = (is_free w ≡ false) ⊎ IsOther w e

@@ -1,0 +1,84 @@
+//! An entry of a trace, made on its object.
+
+ghost use Rattle.std.specs.Prelude.{◌≡◌, true, Some};
+ghost use Rattle.bus_semantics.specs.declared.script.Mapping.{Mapping};
+ghost use Rattle.bus_semantics.specs.Plan.{plan_of};
+ghost use Rattle.bus_semantics.specs.SoundPlan.{groups_fit};
+ghost use Rattle.bus_semantics.specs.Wanted.{wanted_of};
+ghost use Rattle.bus_semantics.specs.History.{History, Past};
+ghost use Rattle.bus_semantics.specs.Fitting.{wish_fits};
+ghost use Rattle.bus_semantics.specs.Objects.{object_of, touched};
+ghost use Rattle.bus_semantics.specs.Asked.{asks_its_own};
+ghost use Rattle.port_objects.specs.Coming.{MayAsk};
+ghost use Rattle.port_objects.specs.Objects.{ArePlans, IsOfPlan, kept_of};
+ghost use Rattle.trace_objects.specs.Standing.{CanTry, IsMadeAlone, IsMadeOn, IsTried, ObjectsStand, Tries};
+
+use activation_laws::what_touches_nothing;
+use bus_semantics::{BusPlan, Entry, Wish, wish_of};
+use history_laws::{
+    hearers_have_asked, legal_histories_part_into_objects, running_activations_go_on,
+    unjoined_points_return_nothing, what_comes_may_follow,
+};
+use port_objects::{
+    Acted, Object, act, free_deed, free_deeds_are_legal, object_of, sound_plans_have_objects,
+};
+use same_entries::same_entry;
+
+/// Makes the entry on the object of its wish, and answers whether it was the one that may come. If not, what the object keeps then is
+/// of no use.
+fn make_on(p: &BusPlan, object: &mut Object, entry: &Entry, wish: &Wish) -> bool
+    requires groups { groups_fit (plan_of p.now) ≡ true }
+    requires touching { object_of (plan_of p.now) entry.now.actor (wanted_of wish.now) ≡ Some (touched (plan_of p.now) entry.now.actor (wanted_of wish.now)) }
+    requires fits { wish_fits (plan_of p.now) entry.now.actor (wanted_of wish.now) ≡ true }
+    requires own { asks_its_own (plan_of p.now) entry.now.actor (wanted_of wish.now) ≡ true }
+    requires planned { IsOfPlan (plan_of p.now) (touched (plan_of p.now) entry.now.actor (wanted_of wish.now)) object.old }
+    ensures planned { IsOfPlan (plan_of p.now) (touched (plan_of p.now) entry.now.actor (wanted_of wish.now)) object.new }
+    ensures made { (m : Mapping) (l : Past) → MayAsk (plan_of p.now) m entry.now.actor (wanted_of wish.now) (kept_of object.old) l →
+        IsMadeOn (plan_of p.now) (wanted_of wish.now) (kept_of object.new) l entry.now result }
+{
+    match act(p, object, &entry.actor, wish) {
+        Acted::Done(made) => same_entry(&made, entry),
+        Acted::NotYet(_) => false,
+    }
+}
+
+/// Whether the entry is what is answered to a wish that touches no object.
+fn is_made_alone(entry: &Entry, wish: &Wish) -> bool
+    ensures { IsMadeAlone (wanted_of wish.now) entry.now result }
+{
+    match free_deed(wish) {
+        Some(deed) => same_entry(
+            &Entry {
+                actor: entry.actor,
+                deed,
+            },
+            entry,
+        ),
+        None => false,
+    }
+}
+
+/// Makes an entry on the object that it touches, if it touches one, and answers whether it is what the bus answers after the entries
+/// for which the objects stand. Then they stand for these and it; if not, what they keep then is of no use. The entry fits, and its
+/// actor's program asks for it; `event` is the one that started the activation, for an admission and an end. It takes no memory.
+pub fn make(p: &BusPlan, objects: &mut Vec<Object>, entry: &Entry, event: Option<u32>) -> bool
+    requires planned { ArePlans (plan_of p.now) objects.old.items }
+    requires tried { CanTry (plan_of p.now) objects.old.items entry.now event }
+    ensures planned { ArePlans (plan_of p.now) objects.new.items }
+    ensures made { (m : Mapping) (h : History) → IsTried (plan_of p.now) m h entry.now event → ObjectsStand (plan_of p.now) h objects.old.items →
+        Tries (plan_of p.now) h objects.new.items entry.now result }
+{
+    sound_plans_have_objects();
+    running_activations_go_on();
+    legal_histories_part_into_objects();
+    what_comes_may_follow();
+    free_deeds_are_legal();
+    unjoined_points_return_nothing();
+    hearers_have_asked();
+    what_touches_nothing();
+    let wish = wish_of(entry, event);
+    match object_of(p, &entry.actor, &wish) {
+        Some(object) => make_on(p, &mut objects[object as usize], entry, &wish),
+        None => is_made_alone(entry, &wish),
+    }
+}
