@@ -21,7 +21,7 @@ use Rattle.trace_counts.proofs.Codes.{code_0, code_64, code_130, grown}
 use Rattle.trace_counts.proofs.Visible.{actor_visible, deed_visible}
 use Rattle.trace_reading.proofs.Cutting.{are_visible, is_visible, line_of}
 use Rattle.trace_reading.proofs.Lines.{entry-line, fields_of, word_of}
-use Rattle.trace_reading.proofs.Readable.{IsReadable}
+use Rattle.trace_reading.proofs.Naming.{IsNamed}
 
 abbrev pub stands : Begun → Numbers → Tally
 stands l n = record { line = l; numbers = n }
@@ -121,7 +121,7 @@ deed_mark v p a (deed.Phase step.Stable) who = refl
 deed_mark v p a (deed.Publish x value) who = refl
 deed_mark v p a deed.End who = refl
 
-pub item_told : (v : Version) (p : Plan) → IsReadable p → (i : Item) (n : Numbers) → after (stands nothing_begun n) (item_text v p i) ≡ stands nothing_begun (counted (mark_of_item i) n)
+pub item_told : (v : Version) (p : Plan) → IsNamed p → (i : Item) (n : Numbers) → after (stands nothing_begun n) (item_text v p i) ≡ stands nothing_begun (counted (mark_of_item i) n)
 item_told v p r (made e) n =
     ap (λ t. after (stands nothing_begun n) t) (entry-line v p e)
     ∙ line_ended (actor_text p e.actor) (word_of e.deed ∷ fields_of v p e.actor e.deed) (actor_visible p r e.actor) (deed_visible p r v e.actor e.deed) n

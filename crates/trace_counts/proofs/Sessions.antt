@@ -18,7 +18,7 @@ use Rattle.trace_counts.specs.Numbers.{counted, most, next}
 use Rattle.trace_counts.specs.Sessions.{count, did, is_accepted_ask, is_at_limit, is_good_answer, is_idle, is_run, is_send, is_taking, numbers_of}
 use Rattle.trace_counts.specs.Tallies.{after, nothing_told, numbers_in, tally_of}
 use Rattle.trace_counts.proofs.Counting.{after-append, item_told, mark_of_deed, mark_of_item, stands}
-use Rattle.trace_reading.proofs.Readable.{IsReadable, readable}
+use Rattle.trace_reading.proofs.Naming.{IsNamed, named, readable}
 
 one_more : (n : ℕ) → next (min n most) ≡ min (suc n) most
 one_more n = omega arith
@@ -175,7 +175,7 @@ item_more (run_closes unsettled) s = refl
 
 -- ---- all of it
 
-session_told : (v : Version) (p : Plan) → IsReadable p → (s : Session) → tally_of (spelling_of v p s) ≡ stands nothing_begun (numbers_of s)
+session_told : (v : Version) (p : Plan) → IsNamed p → (s : Session) → tally_of (spelling_of v p s) ≡ stands nothing_begun (numbers_of s)
 session_told One p r [] = refl
 session_told Two p r [] = refl
 session_told v p r (i ∷ s) =
@@ -185,4 +185,4 @@ session_told v p r (i ∷ s) =
     ∙ ap (λ n. stands nothing_begun n) (item_more i s)
 
 pub session_numbers : (v : Version) (p : Plan) (m : Mapping) (s : Session) → IsSound p m → numbers_in (spelling_of v p s) ≡ numbers_of s
-session_numbers v p m s sound = ap (λ (t : Tally). t.numbers) (session_told v p (readable p m sound) s)
+session_numbers v p m s sound = ap (λ (t : Tally). t.numbers) (session_told v p (named p (readable p m sound)) s)

@@ -29,7 +29,7 @@ use Rattle.trace_counts.proofs.Codes.{decimal_visible}
 use Rattle.trace_reading.proofs.Cutting.{are_visible, is_visible}
 use Rattle.trace_reading.proofs.Letters.{name_visible, pair_visible, path_visible}
 use Rattle.trace_reading.proofs.Lines.{fields_of, start_fields, step_fields, word_of}
-use Rattle.trace_reading.proofs.Readable.{IsReadable, elem_passes}
+use Rattle.trace_reading.proofs.Naming.{IsNamed, elem_passes}
 
 both : (a b : Letters) → are_visible a ≡ true → are_visible b ≡ true → are_visible (a ++ b) ≡ true
 both a b h k = all-append is_visible a b h k
@@ -63,7 +63,7 @@ look_holds P test f otherwise o h (x ∷ xs) k (suc i) = look_holds P test f oth
 look_visible : {X : Type 0} (test : X → Bool) (f : X → Letters) → ((x : X) → test x ≡ true → are_visible (f x) ≡ true) → (xs : List X) → list_all test xs ≡ true → (i : ℕ) → are_visible (look xs i f []) ≡ true
 look_visible test f h xs k i = look_holds (λ t. are_visible t ≡ true) test f [] refl h xs k i
 
-module _ (p : Plan) (r : IsReadable p) where
+module _ (p : Plan) (r : IsNamed p) where
   instance_visible : (o : Option ℕ) → are_visible (instance_text p o) ≡ true
   instance_visible None = refl
   instance_visible (Some i) = look_visible is_path (λ (t : Letters). t) path_visible p.names r.paths i
