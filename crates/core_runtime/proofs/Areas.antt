@@ -38,16 +38,21 @@ woken_waiting p t objects touched cores old new woken waiting = λ i c b core_is
     let was : slice_get old i ≡ Some a = slice_get-get_or old i b within in
     (woken.each i a b was awake_is).waiters p t objects touched c.slots (waiting i c a core_is was)
 
+pub watched_even : (p : Plan) (objects : List Object) (cores : List CoreState) (awake : List AwakeState) → AreWatched p objects cores awake → AreEven awake
+watched_even p objects cores awake watched = λ i a awake_is.
+    let within : i < length awake = slice_get_within awake i a awake_is in
+    let fresh : CoreState = record { number = 0; slots = []; first = 0; trace = []; room = 0 } in
+    let there : i < length cores = omega (arith, watched.count) in
+    let fits = (watched.each i (get_or cores i fresh) a (slice_get-get_or cores i fresh there) awake_is).fits in
+    record { waiting = fits.waiting ∙ sym fits.count; areas = fits.areas ∙ sym fits.count }
+
 pub woken_even : (p : Plan) (objects : List Object) (cores : List CoreState) (old new : List AwakeState) → AreWatched p objects cores old → AreWoken old new → AreEven new
 woken_even p objects cores old new watched woken = λ i b awake_is.
     let inside : i < length new = slice_get_within new i b awake_is in
     let within : i < length old = omega (arith, woken.count) in
     let a = get_or old i b in
     let was : slice_get old i ≡ Some a = slice_get-get_or old i b within in
-    let fresh : CoreState = record { number = 0; slots = []; first = 0; trace = []; room = 0 } in
-    let there : i < length cores = omega (arith, watched.count) in
-    let fits = (watched.each i (get_or cores i fresh) a (slice_get-get_or cores i fresh there) was).fits in
-    (woken.each i a b was awake_is).even (record { waiting = fits.waiting ∙ sym fits.count; areas = fits.areas ∙ sym fits.count })
+    (woken.each i a b was awake_is).even (watched_even p objects cores old watched i a was)
 
 -- ---- one core after the other
 

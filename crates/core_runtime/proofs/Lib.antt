@@ -10,6 +10,7 @@ pub mod Outside
 pub mod Watched
 pub mod Wakes
 pub mod Areas
+pub mod Behind
 pub mod Seated
 pub mod Turned
 pub mod Later

@@ -21,12 +21,12 @@ use Rattle.port_objects.specs.Benches.{Plain}
 use Rattle.task_machine.specs.declared.instr.TaskSet.{TaskSet}
 use Rattle.task_slots.specs.declared.slot.Slot.{Slot}
 use Rattle.core_turn.specs.Cores.{CoreState}
-use Rattle.task_slots.specs.Slots.{table_of, listed_in, events_of_slot}
+use Rattle.task_slots.specs.Slots.{Table, table_of, listed_in, events_of_slot}
 use Rattle.task_slots.specs.Looking.{MadeAt, event_for}
 use Rattle.core_turn.specs.Awake.{AwakeState, Fits, StartsHeld, WaitersHeld}
 use Rattle.core_turn.specs.Turning.{Steps}
 use Rattle.core_runtime.specs.declared.seats.Seat.{Seat}
-use Rattle.core_runtime.specs.Watching.{tables_of, AreSeated, IsWatched, AreWatched, AreWaiting, Touches, IsAfter}
+use Rattle.core_runtime.specs.Watching.{tables_of, owners_of, AreBehind, AreSeated, IsWatched, AreWatched, AreWaiting, Touches, IsAfter}
 use Rattle.core_runtime.proofs.Places.{Placed, here, there, placed}
 use Rattle.core_runtime.proofs.NewNodes.{Last, earlier, last, last_or}
 use Rattle.core_runtime.proofs.Stepping.{told_by}
@@ -46,6 +46,24 @@ tables_kept (c ∷ cores) zero old new found same =
     let is : c ≡ old = same_Some _ _ found in
     ap (λ es. es ∷ tables_of cores) (same ∙ ap (λ (x : CoreState). map events_of_slot x.slots) (sym is))
 tables_kept (c ∷ cores) (suc n) old new found same = ap (λ es. map events_of_slot c.slots ∷ es) (tables_kept cores n old new found same)
+
+-- a slot, and a core, that is of the same owner
+pub owners_same : (slots : List Slot) (at : ℕ) (slot stepped : Slot) → slice_get slots at ≡ Some slot → table_of stepped ≡ table_of slot → map table_of (set slots at stepped) ≡ map table_of slots
+owners_same [] at slot stepped found same = absurd (cc found)
+owners_same (s ∷ slots) zero slot stepped found same =
+    let is : s ≡ slot = same_Some _ _ found in
+    ap (λ (x : Table). x ∷ map table_of slots) (same ∙ ap table_of (sym is))
+owners_same (s ∷ slots) (suc at) slot stepped found same = ap (λ xs. table_of s ∷ xs) (owners_same slots at slot stepped found same)
+
+owners_kept : (cores : List CoreState) (n : ℕ) (old new : CoreState) → slice_get cores n ≡ Some old → map table_of new.slots ≡ map table_of old.slots → owners_of (set cores n new) ≡ owners_of cores
+owners_kept [] n old new found same = absurd (cc found)
+owners_kept (c ∷ cores) zero old new found same =
+    let is : c ≡ old = same_Some _ _ found in
+    ap (λ xs. xs ∷ owners_of cores) (same ∙ ap (λ (x : CoreState). map table_of x.slots) (sym is))
+owners_kept (c ∷ cores) (suc n) old new found same = ap (λ xs. map table_of c.slots ∷ xs) (owners_kept cores n old new found same)
+
+pub behind_on : (p : Plan) (cores : List CoreState) (n : ℕ) (old turned k : CoreState) → slice_get cores n ≡ Some old → k.slots ≡ turned.slots → map table_of turned.slots ≡ map table_of old.slots → AreBehind p (owners_of cores) → AreBehind p (owners_of (set cores n k))
+behind_on p cores n old turned k found slots same behind = subst (AreBehind p) (sym (owners_kept cores n old k found (ap (map table_of) slots ∙ same))) behind
 
 -- one core and its flags
 pub watched_put : (p : Plan) (objects : List Object) (cores : List CoreState) (awake : List AwakeState) (n : ℕ) (new : CoreState) (b : AwakeState) → AreWatched p objects cores awake → IsWatched p objects new b → AreWatched p objects (set cores n new) (set awake n b)

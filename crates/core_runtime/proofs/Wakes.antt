@@ -74,6 +74,24 @@ woken_then a b c first second = record {
   waiters = λ p t objects touched of held. second.waiters p t objects touched of (first.waiters p t objects touched of held);
 }
 
+-- a slot woke, and none of its events
+pub woken_slot : (a b : AwakeState) (slot : ℕ) → b.slots ≡ set a.slots slot true → b.events ≡ a.events → b.waiting ≡ set a.waiting slot false → b.areas ≡ a.areas → b.first ≡ a.first → ((of : List Slot) (first : ℕ) → Fits of first a → Fits of first b)
+    → ((p : Plan) (objects : List Object) (of : List Slot) → StartsHeld p objects of a → StartsHeld p objects of b)
+    → ((p : Plan) (t : TaskSet) (objects : List Object) (touched : Option ℕ) (of : List Slot) (first : ℕ) → WaitersHeld p t objects touched of first a → WaitersHeld p t objects touched of first b) → IsWoken a b
+woken_slot a b slot slots events waiting areas begins fits starts waiters =
+    let slots_count : length b.slots ≡ length a.slots = ap length slots ∙ length-set a.slots slot true in
+    record {
+      count = slots_count;
+      rows = ap length events;
+      widths = λ i. ap (λ rs. length (get_or rs i [])) events;
+      slots = λ i on. ap (λ fs. get_or fs i false) slots ∙ set_keeps a.slots slot i on;
+      events = λ i j on. ap (λ rs. get_or (get_or rs i []) j false) events ∙ on;
+      even = λ even. record { waiting = ap length waiting ∙ length-set a.waiting slot false ∙ even.waiting ∙ sym slots_count; areas = ap length areas ∙ even.areas ∙ sym slots_count };
+      fits = fits;
+      starts = starts;
+      waiters = λ p t objects touched of held. waiters p t objects touched of b.first (subst (λ n. WaitersHeld p t objects touched of n a) (sym begins) held);
+    }
+
 module _ (a b : AwakeState) (slot place : ℕ) (slots : b.slots ≡ set a.slots slot true) (events : b.events ≡ row_set a.events slot place) where
   pub woken_one : b.waiting ≡ set a.waiting slot false → b.areas ≡ a.areas → b.first ≡ a.first → ((of : List Slot) (first : ℕ) → Fits of first a → Fits of first b) → ((p : Plan) (objects : List Object) (of : List Slot) → StartsHeld p objects of a → StartsHeld p objects of b)
       → ((p : Plan) (t : TaskSet) (objects : List Object) (touched : Option ℕ) (of : List Slot) (first : ℕ) → WaitersHeld p t objects touched of first a → WaitersHeld p t objects touched of first b) → IsWoken a b

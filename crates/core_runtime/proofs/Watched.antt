@@ -1,5 +1,5 @@
 -- What of the cores is awake, after an entry whose object told what came.
-use Rattle.std.proofs.Common.{◌≡◌, ℕ, zero, suc, ◌<◌, ◌==◌, Bool, true, false, ◌||◌, not, ◌⊎◌, inl, inr, refl, sym, ◌∙◌, ap, subst, arith, List, [], ◌∷◌, ◌++◌, length, get_or, map, Option, Some, None}
+use Rattle.std.proofs.Common.{◌≡◌, ℕ, zero, suc, ◌+◌, ◌<◌, ◌==◌, Bool, true, false, ◌||◌, not, ◌⊎◌, inl, inr, refl, sym, ◌∙◌, ap, subst, arith, List, [], ◌∷◌, ◌++◌, length, get_or, map, Option, Some, None}
 use Rattle.std.specs.Option.{option_map}
 use Rattle.std.specs.List.{Contains, slice_get}
 use Rattle.std.specs.Cmp.{unsigned_Decides}
@@ -7,12 +7,12 @@ use Rattle.std.specs.Prelude.{Vec}
 use Rattle.std.specs.Global.{Global}
 use Rattle.std.proofs.lemmas.Bool.{and_left, and_right, false≢true}
 use Rattle.std.proofs.lemmas.Option.{get_or_from_slice_get, slice_get-get_or, slice_get_within, slice_get-map, same_Some}
-use Rattle.bus_semantics.specs.declared.entries.Actor.TheVariants.{Act}
+use Rattle.bus_semantics.specs.declared.entries.Actor.TheVariants.{Act, Machine}
 use Rattle.bus_semantics.specs.Plan.{Plan, kind_of, runnable_of_event}
 use Rattle.bus_semantics.specs.History.{Noted}
-use Rattle.bus_semantics.specs.Objects.{object_of_kind}
+use Rattle.bus_semantics.specs.Objects.{touched_by, object_of_kind, first_machine, machine_object}
 use Rattle.bus_semantics.specs.Rest.{Try, option_list, gathered, plain_key, start_try}
-use Rattle.bus_semantics.specs.Wanted.{to_start}
+use Rattle.bus_semantics.specs.Wanted.{to_start, to_move_on}
 use Rattle.object_kinds.specs.Kinds.{IsPlainStart}
 use Rattle.port_objects.specs.declared.object.Object.{Object}
 use Rattle.port_objects.specs.Kept.{Kept}
@@ -20,13 +20,14 @@ use Rattle.port_objects.specs.Leading.{lead}
 use Rattle.port_objects.specs.Objects.{kept_of}
 use Rattle.port_objects.specs.Waking.{may_start_in, wakes, woken_in}
 use Rattle.task_slots.specs.declared.slot.Slot.{Slot}
+use Rattle.task_slots.specs.declared.slot.Slot.TheVariants as kind
 use Rattle.core_turn.specs.Cores.{CoreState}
 use Rattle.task_slots.specs.Slots.{events_of_slot}
 use Rattle.task_slots.specs.Looking.{AllHeld, IsHeldOn, IsHeldAt}
-use Rattle.task_slots.specs.Waiting.{is_free}
+use Rattle.task_slots.specs.Waiting.{is_free, idle_tries}
 use Rattle.core_turn.specs.Awake.{AwakeState, StartsHeld}
 use Rattle.core_runtime.specs.declared.seats.Seat.{Seat}
-use Rattle.core_runtime.specs.Watching.{tables_of, IsOfCores, IsAt, AreSeated, IsWatched, AreWatched, is_awake, IsWoken, AreWoken, IsThere, IsSeen, Touches, IsAfter}
+use Rattle.core_runtime.specs.Watching.{tables_of, IsOfCores, IsAt, AreSeated, IsWatched, AreWatched, is_awake, IsWoken, AreWoken, IsThere, IsSeen, Touches, AreRoused, IsAfter}
 use Rattle.core_runtime.proofs.Places.{set_here, set_there}
 
 -- ---- what the laws of objects say
@@ -111,10 +112,24 @@ module _ (nowhere : NowhereLaw) (p : Plan) (before later : List Object) (e : Not
       of_runnable None held = tt
       of_runnable (Some k) held = (at_object nowhere p before later e t event k (calm k) (object_of_kind p (kind_of p event)) held.0, tt)
 
+-- a machine that the entry does not touch
+machine_moved : (p : Plan) (before later : List Object) (e : Noted) (machine : ℕ) → IsAfter p before later e → (touched_by p e ≡ machine_object p (Some machine) → ⊥) → AllHeld p before ((Machine machine, to_move_on) ∷ []) → AllHeld p later ((Machine machine, to_move_on) ∷ [])
+machine_moved p before later e machine (inl none) apart held = subst (λ os. AllHeld p os ((Machine machine, to_move_on) ∷ [])) (sym none.1) held
+machine_moved p before later e machine (inr t) apart held = (
+  record {
+    before = held.0.before;
+    found = ap (λ os. slice_get os (first_machine p + machine)) t.others
+        ∙ set_there before t.object (first_machine p + machine) held.0.before t.new (λ at. apart (t.touching ∙ ap (λ n. Some n) (sym at))) held.0.found;
+    none = held.0.none;
+    flag = held.0.flag;
+  },
+  tt,
+)
+
 -- ---- all cores
 
 module _ (nowhere : NowhereLaw) (others : OthersLaw) (p : Plan) (before later : List Object) (e : Noted) (cores : List CoreState) (old new : List AwakeState) (seats : List (Vec Seat Global))
-    (seated : AreSeated (tables_of cores) seats) (woken : AreWoken old new) where
+    (seated : AreSeated (tables_of cores) seats) (woken : AreWoken old new) (roused : AreRoused p e cores old) where
   -- each seat of the events that its object tells was looked at
   abbrev pub IsLookedAt : Touches p before later e → Type 0
   IsLookedAt t = (event : ℕ) (s : Seat) → Contains (woken_in t.new) event → IsAt seats event s → IsSeen (kept_of t.new) new event s
@@ -167,7 +182,13 @@ module _ (nowhere : NowhereLaw) (others : OthersLaw) (p : Plan) (before later : 
   same_moves : later ≡ before → Moves
   same_moves same = λ n c b core_is awake_is i j event s slot_is place_is sleeps held. subst (λ os. AllHeld p os (start_try p event)) (sym same) held
 
-  module _ (moves : Moves) (n : ℕ) (c : CoreState) (b : AwakeState) (core_is : slice_get cores n ≡ Some c) (awake_is : slice_get new n ≡ Some b) where
+  -- the machine that it touches does not sleep
+  machine_apart : (n i machine : ℕ) (c : CoreState) (a b : AwakeState) → slice_get cores n ≡ Some c → slice_get old n ≡ Some a → IsWoken a b → slice_get c.slots i ≡ Some (kind.Machine machine) → slice_get b.slots i ≡ Some false
+      → touched_by p e ≡ machine_object p (Some machine) → ⊥
+  machine_apart n i machine c a b core_is was_is one slot_is sleeps touching =
+      false≢true (sym (get_or_from_slice_get b.slots i false false sleeps) ∙ one.slots i (roused n i machine c a core_is was_is slot_is touching))
+
+  module _ (moves : Moves) (after : IsAfter p before later e) (n : ℕ) (c : CoreState) (a b : AwakeState) (core_is : slice_get cores n ≡ Some c) (was_is : slice_get old n ≡ Some a) (awake_is : slice_get new n ≡ Some b) (one : IsWoken a b) where
     module _ (starts : StartsHeld p before c.slots b) where
       events_on : (i j event : ℕ) (s : Slot) (row : List Bool) → slice_get c.slots i ≡ Some s → slice_get b.events i ≡ Some row → slice_get (events_of_slot s) j ≡ Some event → slice_get row j ≡ Some false → AllHeld p later (start_try p event)
       events_on i j event s row slot_is row_is place_is sleeps =
@@ -176,34 +197,37 @@ module _ (nowhere : NowhereLaw) (others : OthersLaw) (p : Plan) (before later : 
           let flag : get_or (get_or b.events i []) j false ≡ false = get_or_from_slice_get (get_or b.events i []) j false false off_here in
           moves n c b core_is awake_is i j event s slot_is place_is (and_right (get_or b.slots i false) (get_or (get_or b.events i []) j false) flag) (starts.events i j event s row slot_is row_is place_is sleeps)
 
-      slots_on : (i : ℕ) (s : Slot) → slice_get c.slots i ≡ Some s → slice_get b.slots i ≡ Some false → slice_get b.waiting i ≡ Some false → (is_free s ≡ true) × AllHeld p later (gathered (start_try p) (events_of_slot s))
-      slots_on i s slot_is sleeps waits =
-          let was = starts.slots i s slot_is sleeps waits in
-          let flag : get_or b.slots i false ≡ false = get_or_from_slice_get b.slots i false false sleeps in (
-            was.0,
-            held_each p before later (events_of_slot s) (λ j event place_is. moves n c b core_is awake_is i j event s slot_is place_is (and_left (get_or b.slots i false) (get_or (get_or b.events i []) j false) flag)) was.1,
-          )
+      slots_on : (i : ℕ) (s : Slot) → slice_get c.slots i ≡ Some s → slice_get b.slots i ≡ Some false → slice_get b.waiting i ≡ Some false → (is_free s ≡ true) × AllHeld p later (idle_tries p s)
+      slots_on i s slot_is sleeps waits = let was = starts.slots i s slot_is sleeps waits in (was.0, of_slot s slot_is was.1)
+        where
+          flag : get_or b.slots i false ≡ false
+          flag = get_or_from_slice_get b.slots i false false sleeps
+
+          of_slot : (s : Slot) → slice_get c.slots i ≡ Some s → AllHeld p before (idle_tries p s) → AllHeld p later (idle_tries p s)
+          of_slot (kind.Task x) is held =
+              held_each p before later x.events.items (λ j event place_is. moves n c b core_is awake_is i j event (kind.Task x) is place_is (and_left (get_or b.slots i false) (get_or (get_or b.events i []) j false) flag)) held
+          of_slot (kind.Machine machine) is held = machine_moved p before later e machine after (machine_apart n i machine c a b core_is was_is one is sleeps) held
 
       starts_on : StartsHeld p later c.slots b
       starts_on = record { events = events_on; slots = slots_on }
 
-    watched_on : (a : AwakeState) → IsWoken a b → IsWatched p before c a → IsWatched p later c b
-    watched_on a one watched = record { fits = one.fits c.slots c.first watched.fits; starts = starts_on (one.starts p before c.slots watched.starts) }
+    watched_on : IsWatched p before c a → IsWatched p later c b
+    watched_on watched = record { fits = one.fits c.slots c.first watched.fits; starts = starts_on (one.starts p before c.slots watched.starts) }
 
-  all_watched : AreWatched p before cores old → Moves → AreWatched p later cores new
-  all_watched watched moves = record {
+  all_watched : AreWatched p before cores old → IsAfter p before later e → Moves → AreWatched p later cores new
+  all_watched watched after moves = record {
     count = woken.count ∙ watched.count;
     each = λ n c b core_is awake_is.
         let inside : n < length new = slice_get_within new n b awake_is in
         let within : n < length old = omega (arith, woken.count) in
         let a = get_or old n b in
         let was_is : slice_get old n ≡ Some a = slice_get-get_or old n b within in
-        watched_on moves n c b core_is awake_is a (woken.each n a b was_is awake_is) (watched.each n c a core_is was_is);
+        watched_on moves after n c a b core_is was_is awake_is (woken.each n a b was_is awake_is) (watched.each n c a core_is was_is);
   }
 
   pub after_entry : AreWatched p before cores old → IsAfter p before later e → ((t : Touches p before later e) → wakes e.entry.deed ≡ true → IsLookedAt t) → AreWatched p later cores new
-  after_entry watched (inl none) loud = all_watched watched (same_moves none.1)
-  after_entry watched (inr t) loud = all_watched watched (touched_moves t (calm (wakes e.entry.deed) refl))
+  after_entry watched (inl none) loud = all_watched watched (inl none) (same_moves none.1)
+  after_entry watched (inr t) loud = all_watched watched (inr t) (touched_moves t (calm (wakes e.entry.deed) refl))
     where
       calm : (b : Bool) → wakes e.entry.deed ≡ b → IsCalm t
       calm false quiet = inl quiet

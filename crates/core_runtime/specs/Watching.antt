@@ -1,9 +1,9 @@
 -- What of the cores may step, and where the events stand on them.
-use Rattle.std.specs.Prelude.{◌≡◌, ◌<◌, ◌⊎◌, ℕ, List, [], map, length, set, slice_get, slice_index_or, Bool, true, false, not, ◌&&◌, ◌||◌, Option, Some, None, Vec}
+use Rattle.std.specs.Prelude.{◌≡◌, ◌<◌, ◌+◌, ◌⊎◌, ℕ, List, [], map, length, set, slice_get, slice_index_or, Bool, true, false, not, ◌&&◌, ◌||◌, Option, Some, None, Vec}
 use Rattle.std.specs.Global.{Global}
 use Rattle.bus_semantics.specs.Plan.{Plan}
 use Rattle.bus_semantics.specs.History.{Noted}
-use Rattle.bus_semantics.specs.Objects.{touched_by}
+use Rattle.bus_semantics.specs.Objects.{touched_by, machine_object}
 use Rattle.port_objects.specs.declared.object.Object.{Object}
 use Rattle.port_objects.specs.Kept.{Kept}
 use Rattle.port_objects.specs.Leading.{lead}
@@ -11,8 +11,9 @@ use Rattle.port_objects.specs.Objects.{kept_of}
 use Rattle.port_objects.specs.Waking.{may_start_in, Tells}
 use Rattle.task_machine.specs.declared.instr.TaskSet.{TaskSet}
 use Rattle.task_slots.specs.declared.slot.Slot.{Slot}
+use Rattle.task_slots.specs.declared.slot.Slot.TheVariants as slot
 use Rattle.core_turn.specs.Cores.{CoreState}
-use Rattle.task_slots.specs.Slots.{events_of_slot}
+use Rattle.task_slots.specs.Slots.{Table, of_machine, table_of, events_of_slot}
 use Rattle.core_turn.specs.Awake.{AwakeState, Fits, StartsHeld, WaitersHeld}
 use Rattle.core_runtime.specs.declared.seats.Seat.{Seat}
 use Rattle.core_runtime.specs.declared.watch.Watch.{Watch}
@@ -60,6 +61,16 @@ pub record AreSeated (table : List (List (List ℕ))) (seats : List (Vec Seat Gl
   pub all : (event : ℕ) (s : Seat) → IsOfCores table event s → IsAt seats event s
   pub only : (event : ℕ) (s : Seat) → IsAt seats event s → IsOfCores table event s
 
+-- ---- machines
+
+-- whose slots each core has
+abbrev pub owners_of : List CoreState → List (List Table)
+owners_of cores = map (λ (c : CoreState). map table_of c.slots) cores
+
+-- the slot of a machine stands on the first core, behind its tasks, in the order of numbers (SWS_RTE: mode machine instance)
+abbrev pub AreBehind : Plan → (owners : List (List Table)) → Type 0
+AreBehind p owners = (i j machine : ℕ) (tables : List Table) → slice_get owners i ≡ Some tables → slice_get tables j ≡ Some (of_machine machine) → (i ≡ 0) × (j + length p.machines ≡ length tables + machine)
+
 -- ---- what is awake
 
 -- a core with what of it may start, over these objects
@@ -75,11 +86,12 @@ pub record AreWatched (p : Plan) (objects : List Object) (cores : List CoreState
 abbrev pub AreWaiting : Plan → TaskSet → List Object → (touched : Option ℕ) → List CoreState → List AwakeState → Type 0
 AreWaiting p t objects touched cores awake = (i : ℕ) (c : CoreState) (a : AwakeState) → slice_get cores i ≡ Some c → slice_get awake i ≡ Some a → WaitersHeld p t objects touched c.slots a.first a
 
--- each core is watched, and the seats are theirs
+-- each core is watched, the seats are theirs, and the machines stand behind the tasks
 pub record IsWatch (p : Plan) (t : TaskSet) (objects : List Object) (touched : Option ℕ) (cores : List CoreState) (w : Watch) : Type 0 where
   pub awake : AreWatched p objects cores w.awake.items
   pub waiting : AreWaiting p t objects touched cores w.awake.items
   pub seated : AreSeated (tables_of cores) w.seats.items
+  pub behind : AreBehind p (owners_of cores)
 
 -- over all objects the cores are watched, where all is awake
 abbrev pub AllWatched : List CoreState → List AwakeState → Type 0
@@ -149,6 +161,11 @@ pub record Touches (p : Plan) (before later : List Object) (n : Noted) : Type 0 
   pub leads : lead p object (kept_of old) n ≡ Some (kept_of new)
   pub told : Tells (kept_of old) new
   pub others : later ≡ set before object new
+
+-- the slot of the machine that it touches is awake
+abbrev pub AreRoused : Plan → Noted → List CoreState → List AwakeState → Type 0
+AreRoused p n cores awake = (i j machine : ℕ) (c : CoreState) (a : AwakeState) → slice_get cores i ≡ Some c → slice_get awake i ≡ Some a → slice_get c.slots j ≡ Some (slot.Machine machine) → touched_by p n ≡ machine_object p (Some machine)
+    → slice_index_or a.slots j false ≡ true
 
 -- or it touches none
 abbrev pub IsAfter : Plan → (before later : List Object) → Noted → Type 0

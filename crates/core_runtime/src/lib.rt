@@ -5,6 +5,7 @@ mod alone;
 mod environment;
 mod lap;
 mod live;
+mod machines;
 mod making;
 mod node;
 mod pass;

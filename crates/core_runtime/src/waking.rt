@@ -9,8 +9,9 @@ ghost use Rattle.port_objects.specs.Objects.{kept_of};
 ghost use Rattle.port_objects.specs.Waking.{wakes};
 ghost use Rattle.task_machine.specs.declared.instr.TaskSet.{TaskSet};
 ghost use Rattle.core_turn.specs.Cores.{CoreState};
-ghost use Rattle.core_runtime.specs.Watching.{AreSeated, AreWatched, AreWoken, IsAfter, IsAt, IsSeen, IsThere, IsWatch, tables_of};
+ghost use Rattle.core_runtime.specs.Watching.{AreRoused, AreSeated, AreWatched, AreWoken, IsAfter, IsAt, IsSeen, IsThere, IsWatch, tables_of};
 
+use crate::machines::wake_machine;
 use crate::seats::Seat;
 use crate::waiting::wake_waiting;
 use crate::watch::Watch;
@@ -92,7 +93,8 @@ fn wake_starts(p: &BusPlan, entry: &Entry, event: Option<u32>, objects: &[Object
     ensures seats { w.new.seats ≡ w.old.seats }
     ensures woken { AreWoken w.old.awake.items w.new.awake.items }
     ensures starts { (cores : List CoreState) (before : List Object) → IsAfter (plan_of p.now) before objects.now (record { entry = entry.now; event = event })
-        → AreSeated (tables_of cores) w.old.seats.items → AreWatched (plan_of p.now) before cores w.old.awake.items → AreWatched (plan_of p.now) objects.now cores w.new.awake.items }
+        → AreRoused (plan_of p.now) (record { entry = entry.now; event = event }) cores w.old.awake.items → AreSeated (tables_of cores) w.old.seats.items
+        → AreWatched (plan_of p.now) before cores w.old.awake.items → AreWatched (plan_of p.now) objects.now cores w.new.awake.items }
 {
     held_starts_lead_nowhere();
     other_entries_wake_nothing();
@@ -106,7 +108,8 @@ fn wake_starts(p: &BusPlan, entry: &Entry, event: Option<u32>, objects: &[Object
     }
 }
 
-/// Wakes what an entry, after which the objects are these, may make come: starts, and after a Leave those who may enter the area.
+/// Wakes what an entry, after which the objects are these, may make come: the next phase of the machine that it touches, starts, and
+/// after a Leave those who may enter the area.
 /// `event` is the one that started the activation, for an admission and an end that touch an object.
 pub(crate) fn wake_after(
     p: &BusPlan,
@@ -120,6 +123,7 @@ pub(crate) fn wake_after(
     ensures { (t : TaskSet) (cores : List CoreState) (before : List Object) → IsAfter (plan_of p.now) before objects.now (record { entry = entry.now; event = event })
         → IsWatch (plan_of p.now) t before (touched_by (plan_of p.now) (record { entry = entry.now; event = event })) cores w.old → IsWatch (plan_of p.now) t objects.now None cores w.new }
 {
+    wake_machine(p, entry, event, &mut w.awake);
     wake_starts(p, entry, event, objects, w);
     wake_waiting(p, entry, event, &mut w.awake);
 }

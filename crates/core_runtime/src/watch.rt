@@ -1,10 +1,11 @@
 //! What of the cores may step, and where the events stand on them.
 
-ghost use Rattle.std.specs.Prelude.{◌≡◌, ℕ, List, None, IfOk};
+ghost use Rattle.std.specs.Prelude.{◌≡◌, ℕ, List, None, Some, IfOk, slice_get};
 ghost use Rattle.bus_semantics.specs.declared.script.Mapping.{Mapping};
 ghost use Rattle.bus_semantics.specs.Plan.{plan_of};
 ghost use Rattle.port_objects.specs.declared.object.Object.{Object};
 ghost use Rattle.task_machine.specs.declared.instr.TaskSet.{TaskSet};
+ghost use Rattle.core_turn.specs.Cores.{CoreState};
 ghost use Rattle.core_runtime.specs.Turns.{AreReady};
 ghost use Rattle.core_runtime.specs.Watching.{IsWatch, AllWatched};
 
@@ -33,9 +34,10 @@ fn awake_of(alloc: Global, cores: &[Core]) -> Result<Vec<Awake>, Memory>
 }
 
 impl Watch {
-    /// Over these cores all is awake. The only error is that there is no memory; no other call takes any.
+    /// Over these cores, each at its number, all is awake. The only error is that there is no memory; no other call takes any.
     pub fn new(alloc: Global, p: &BusPlan, cores: &[Core]) -> Result<Watch, Memory>
-        requires { (m : Mapping) × (t : TaskSet) × AreReady (plan_of p.now) m t cores.now }
+        requires ready { (m : Mapping) × (t : TaskSet) × AreReady (plan_of p.now) m t cores.now }
+        requires numbers { (i : ℕ) (c : CoreState) → slice_get cores.now i ≡ Some c → c.number ≡ i }
         ensures { IfOk result (λ w. (t : TaskSet) (objects : List Object) → IsWatch (plan_of p.now) t objects None cores.now w) }
     {
         let awake = awake_of(alloc, cores)?;

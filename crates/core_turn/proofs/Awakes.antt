@@ -16,16 +16,16 @@ use Rattle.task_slots.specs.declared.slot.Activity.{Activity}
 use Rattle.task_slots.specs.declared.slot.Activity.TheVariants.{Free, Runs, Calls, Serves}
 use Rattle.task_slots.specs.Slots.{tries_of, slot_tries, events_of_slot}
 use Rattle.task_slots.specs.Looking.{AllHeld}
-use Rattle.task_slots.specs.Waiting.{EventsHeld, is_free_task, is_free}
+use Rattle.task_slots.specs.Waiting.{EventsHeld, is_free_task, is_free, idle_tries}
 use Rattle.task_slots.proofs.Placed.{Placed, here, there, placed}
 use Rattle.task_slots.proofs.Unchanged.{TriesHeld}
 use Rattle.core_turn.specs.Awake.{AwakeState, all_awake, Fits, AreHeld, StartsHeld, HeldTold, IsSettled, with_slots}
 use Rattle.core_turn.proofs.Order.{no_both}
 use Rattle.core_turn.proofs.Waiters.{none_waits, waiter_held}
 
--- all that a free task tries is to start its events
-pub free_tries : (p : Plan) (t : TaskSet) (s : Slot) → is_free s ≡ true → slot_tries p t s ≡ gathered (start_try p) (events_of_slot s)
-free_tries p t (of.Machine n) free = absurd (false≢true free)
+-- all that a slot tries in which nothing runs
+pub free_tries : (p : Plan) (t : TaskSet) (s : Slot) → is_free s ≡ true → slot_tries p t s ≡ idle_tries p s
+free_tries p t (of.Machine n) free = refl
 free_tries p t (of.Task s) free = by_activity s.activity free
   where
     by_activity : (a : Activity) → is_free_task a ≡ true → tries_of p t s.events.items s.frame s.inner a ≡ gathered (start_try p) s.events.items
@@ -160,11 +160,11 @@ module _ (p : Plan) where
           slots = λ i x there_it sleeps dry. of_place i x there_it dry (placed a.slots at false i false sleeps);
         })
           where
-            of_place : (i : ℕ) (x : Slot) → slice_get slots i ≡ Some x → slice_get a.waiting i ≡ Some false → Placed Bool a.slots at false i false → (is_free x ≡ true) × AllHeld p objects (gathered (start_try p) (events_of_slot x))
+            of_place : (i : ℕ) (x : Slot) → slice_get slots i ≡ Some x → slice_get a.waiting i ≡ Some false → Placed Bool a.slots at false i false → (is_free x ≡ true) × AllHeld p objects (idle_tries p x)
             of_place i x there_it dry (here same is) =
                 let one : Some x ≡ Some s = sym there_it ∙ ap (slice_get slots) same ∙ found in
                 let own_slot : x ≡ s = cc in
-                subst (λ y. (is_free y ≡ true) × AllHeld p objects (gathered (start_try p) (events_of_slot y))) (sym own_slot) (free, subst (AllHeld p objects) (free_tries p t s free) held)
+                subst (λ y. (is_free y ≡ true) × AllHeld p objects (idle_tries p y)) (sym own_slot) (free, subst (AllHeld p objects) (free_tries p t s free) held)
             of_place i x there_it dry (there other sleeps) = before.slots i x there_it sleeps dry
 
     -- a slot that is awake stepped
@@ -181,7 +181,7 @@ module _ (p : Plan) where
             before.events i j e s row (ap (slice_get slots) place ∙ found) at_it (subst (λ v. slice_get v j ≡ Some e) listed event) sleeps
         of_events i j e x row at_it event sleeps (there other here_it) = before.events i j e x row here_it at_it event sleeps
 
-        of_slots : (i : ℕ) (x : Slot) → slice_get a.slots i ≡ Some false → slice_get a.waiting i ≡ Some false → Placed Slot slots at stepped i x → (is_free x ≡ true) × AllHeld p objects (gathered (start_try p) (events_of_slot x))
+        of_slots : (i : ℕ) (x : Slot) → slice_get a.slots i ≡ Some false → slice_get a.waiting i ≡ Some false → Placed Slot slots at stepped i x → (is_free x ≡ true) × AllHeld p objects (idle_tries p x)
         of_slots i x sleeps dry (here place is) = no_both (slice_get a.slots at) awake (ap (slice_get a.slots) (sym place) ∙ sleeps)
         of_slots i x sleeps dry (there other here_it) = before.slots i x here_it sleeps dry
 

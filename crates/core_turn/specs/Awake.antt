@@ -1,10 +1,10 @@
--- Which slots and events of a core may step. What sleeps is held: no start of it may come, as the objects are; and an activation that waits
--- at an area may not enter it, or another that waits there is awake and is tried before it.
+-- Which slots and events of a core may step. What sleeps is held: no start of it and no phase may come, as the objects are; and an activation
+-- that waits at an area may not enter it, or another that waits there is awake and is tried before it.
 use Rattle.std.specs.Prelude.{◌≡◌, ◌<◌, ◌≤◌, ◌⊎◌, ◌++◌, ◌∷◌, [], ℕ, suc, List, Bool, true, false, ◌&&◌, ◌==◌, length, map, replicate, set, slice_get, slice_index_or, Option, Some, None}
 use Rattle.bus_semantics.specs.declared.entries.Stamped.{Stamped}
 use Rattle.bus_semantics.specs.Plan.{Plan}
 use Rattle.bus_semantics.specs.Objects.{touched_by}
-use Rattle.bus_semantics.specs.Rest.{gathered, start_try}
+use Rattle.bus_semantics.specs.Rest.{start_try}
 use Rattle.port_objects.specs.declared.object.Object.{Object}
 use Rattle.port_objects.specs.Objects.{kept_of}
 use Rattle.port_objects.specs.Waking.{IsClosed}
@@ -13,7 +13,7 @@ use Rattle.task_slots.specs.declared.slot.Slot.{Slot}
 use Rattle.task_slots.specs.Slots.{events_of_slot}
 use Rattle.task_slots.specs.Looking.{AllHeld}
 use Rattle.task_slots.specs.Stepping.{noting_of}
-use Rattle.task_slots.specs.Waiting.{is_free, WaitsAt}
+use Rattle.task_slots.specs.Waiting.{is_free, idle_tries, WaitsAt}
 use Rattle.core_turn.specs.declared.passed.Passed.{Passed}
 use Rattle.core_turn.specs.declared.passed.Passed.TheVariants as pass
 use Rattle.core_turn.specs.declared.turning.Turned.{Turned}
@@ -44,11 +44,12 @@ pub record Fits (slots : List Slot) (first : ℕ) (a : AwakeState) : Type 0 wher
 
 -- ---- starts
 
--- no event that sleeps may start; and in a slot that sleeps, and waits at no area, nothing runs, and no event of it may start
+-- no event that sleeps may start; and in a slot that sleeps, and waits at no area, nothing runs, and nothing of it may come: no start by its
+-- events, or not the machine's next phase
 pub record StartsHeld (p : Plan) (objects : List Object) (of : List Slot) (a : AwakeState) : Type 0 where
   pub events : (i j e : ℕ) (s : Slot) (row : List Bool) → slice_get of i ≡ Some s → slice_get a.events i ≡ Some row → slice_get (events_of_slot s) j ≡ Some e → slice_get row j ≡ Some false
       → AllHeld p objects (start_try p e)
-  pub slots : (i : ℕ) (s : Slot) → slice_get of i ≡ Some s → slice_get a.slots i ≡ Some false → slice_get a.waiting i ≡ Some false → (is_free s ≡ true) × AllHeld p objects (gathered (start_try p) (events_of_slot s))
+  pub slots : (i : ℕ) (s : Slot) → slice_get of i ≡ Some s → slice_get a.slots i ≡ Some false → slice_get a.waiting i ≡ Some false → (is_free s ≡ true) × AllHeld p objects (idle_tries p s)
 
 -- ---- activations that wait at areas
 

@@ -139,6 +139,32 @@ impl Awake {
         self.waiting.remove(slot);
     }
 
+    /// How many slots the core has.
+    pub fn count(&self) -> usize
+        requires areas { length self.now.areas ≡ length self.now.slots }
+        ensures { result ≡ length self.now.slots }
+    {
+        self.areas.len()
+    }
+
+    /// Wakes a slot, and none of its events.
+    pub fn rouse(&mut self, slot: usize)
+        requires slot { slot < length self.old.slots }
+        requires waiting { length self.old.waiting ≡ length self.old.slots }
+        ensures slots { self.new.slots ≡ slice_set self.old.slots slot true }
+        ensures events { self.new.events ≡ self.old.events }
+        ensures waiting { self.new.waiting ≡ slice_set self.old.waiting slot false }
+        ensures areas { self.new.areas ≡ self.old.areas }
+        ensures first { self.new.first ≡ self.old.first }
+        ensures fits { (slots : List Slot) (first : ℕ) → Fits slots first self.old → Fits slots first self.new }
+        ensures starts { (p : Plan) (objects : List Object) (slots : List Slot) → StartsHeld p objects slots self.old → StartsHeld p objects slots self.new }
+        ensures waiters { (p : Plan) (t : TaskSet) (objects : List Object) (touched : Option ℕ) (slots : List Slot) (first : ℕ) →
+            WaitersHeld p t objects touched slots first self.old → WaitersHeld p t objects touched slots first self.new }
+    {
+        self.slots.insert(slot);
+        self.waiting.remove(slot);
+    }
+
     /// Wakes the first slot that waits at the area which is this object, in the order in which the core's next turn looks at
     /// slots (SWS_RTE: Rte_Exit). So nobody who waits there is tried before it, and if it may not enter, nobody else may.
     pub fn wake_first(&mut self, object: u32)

@@ -18,8 +18,8 @@ use port_objects::{Bench, areas_are_closed_alike};
 use task_machine::TaskSet;
 use task_slots::{Look, Slot, area_tried, is_free, look_at_awake};
 
-/// A slot of which nothing may come falls asleep, if nothing runs in it or its activation waits at an area. What other
-/// activations wait for wakes no slot.
+/// A slot of which nothing may come falls asleep, if nothing runs in it (a free task, a machine between two phases) or its
+/// activation waits at an area. What other activations wait for wakes no slot.
 fn settle(p: &BusPlan, t: &TaskSet, slot: &Slot, place: usize, a: &mut Awake)
     requires bodies { AsksAsPlanned (plan_of p.now) t.now }
     requires sound { (m : Mapping) × IsSound (plan_of p.now) m }

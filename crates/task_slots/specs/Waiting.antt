@@ -1,12 +1,13 @@
--- Slots that may sleep: a free task of whose events none may start, and an activation that waits at an exclusive area (SWS_RTE: Rte_Enter).
+-- Slots that may sleep: a free task of whose events none may start, a machine whose next phase is held (SWS_RTE: mode machine instance), and
+-- an activation that waits at an exclusive area (SWS_RTE: Rte_Enter).
 use Rattle.std.specs.Prelude.{◌≡◌, ℕ, List, [], ◌∷◌, Bool, true, false, Option, Some, None, slice_get}
 use Rattle.rte_value.specs.declared.kinds.ActKey.{ActKey}
-use Rattle.bus_semantics.specs.declared.entries.Actor.TheVariants.{Act}
+use Rattle.bus_semantics.specs.declared.entries.Actor.TheVariants.{Act, Machine}
 use Rattle.bus_semantics.specs.Plan.{Plan}
-use Rattle.bus_semantics.specs.Wanted.{to_enter}
+use Rattle.bus_semantics.specs.Wanted.{to_enter, to_move_on}
 use Rattle.bus_semantics.specs.Objects.{object_of}
 use Rattle.bus_semantics.specs.Fitting.{wish_fits}
-use Rattle.bus_semantics.specs.Rest.{start_try}
+use Rattle.bus_semantics.specs.Rest.{Try, gathered, start_try}
 use Rattle.port_objects.specs.declared.object.Object.{Object}
 use Rattle.task_machine.specs.declared.instr.TaskSet.{TaskSet}
 use Rattle.task_machine.specs.Standing.{Standing}
@@ -29,14 +30,20 @@ pub record AsksAt (p : Plan) (t : TaskSet) (key : ActKey) (f : Standing) (object
   pub fits : wish_fits p (Act key) (to_enter area) ≡ true
   pub there : object_of p (Act key) (to_enter area) ≡ Some object
 
--- nothing runs in a task; a machine's slot is never free
+-- nothing runs in a task
 abbrev pub is_free_task : Activity → Bool
 is_free_task Free = true
 is_free_task a = false
 
+-- nor in a machine's slot
 abbrev pub is_free : Slot → Bool
 is_free (slot.Task s) = is_free_task s.activity
-is_free (slot.Machine n) = false
+is_free (slot.Machine n) = true
+
+-- what a slot tries in which nothing runs: the starts of its events, or the machine's next phase
+abbrev pub idle_tries : Plan → Slot → List Try
+idle_tries p (slot.Task s) = gathered (start_try p) s.events.items
+idle_tries p (slot.Machine n) = (Machine n, to_move_on) ∷ []
 
 -- all that a slot tries is that an activation enters the area which is this object
 pub record WaitsAt (p : Plan) (t : TaskSet) (s : Slot) (object : ℕ) : Type 0 where

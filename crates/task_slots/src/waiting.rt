@@ -15,13 +15,13 @@ use port_objects::object_of;
 use rte_value::ActKey;
 use task_machine::{Frame, Next, TaskSet};
 
-/// Whether a slot is that of a task in which nothing runs.
+/// Whether nothing runs in a slot: it is that of a free task, or a mode machine's, which keeps nothing between its phases.
 pub fn is_free(slot: &Slot) -> bool
     ensures { result ≡ is_free slot.now }
 {
     match slot {
         Slot::Task(task) => matches!(task.activity, Activity::Free),
-        Slot::Machine(_) => false,
+        Slot::Machine(_) => true,
     }
 }
 

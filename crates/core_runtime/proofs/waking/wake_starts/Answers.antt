@@ -15,18 +15,18 @@ pub returns-then-not-wakes-clause-woken : goal.returns-then-not-wakes-clause-wok
 returns-then-not-wakes-clause-woken c = are_same c.args.w.now.awake.items
 
 pub returns-then-not-wakes-clause-starts : goal.returns-then-not-wakes-clause-starts
-returns-then-not-wakes-clause-starts c = λ cores before after seated watched.
+returns-then-not-wakes-clause-starts c = λ cores before after roused seated watched.
     after_entry c.held_starts_lead_nowhere.ensures c.other_entries_wake_nothing.ensures (plan_of c.args.p.now) before c.args.objects.now (record { entry = c.args.entry.now; event = c.args.event }) cores
-    c.args.w.now.awake.items c.args.w.now.awake.items c.args.w.now.seats.items seated (are_same c.args.w.now.awake.items) watched after
+    c.args.w.now.awake.items c.args.w.now.awake.items c.args.w.now.seats.items seated (are_same c.args.w.now.awake.items) roused watched after
     (λ t on. absurd (false≢true (c.if-not-wakes.ensures ∙ on)))
 
 pub returns-in-Some-get-clause-starts : goal.returns-in-Some-get-clause-starts
-returns-in-Some-get-clause-starts c = λ cores before after seated watched.
+returns-in-Some-get-clause-starts c = λ cores before after roused seated watched.
     let p = plan_of c.args.p.now in
     let n = c.in-Some.number in
     let object = c.in-Some-get.object.now in
     after_entry c.held_starts_lead_nowhere.ensures c.other_entries_wake_nothing.ensures p before c.args.objects.now (record { entry = c.args.entry.now; event = c.args.event }) cores
-    c.args.w.now.awake.items c.wake_events.new.w.awake.items c.args.w.now.seats.items seated c.wake_events.ensures.woken watched after
+    c.args.w.now.awake.items c.wake_events.new.w.awake.items c.args.w.now.seats.items seated c.wake_events.ensures.woken roused watched after
     (λ t on event s told at.
     let number : Some n ≡ Some t.object = c.in-Some.ensures ∙ t.touching in
     let place : n ≡ t.object = cc in

@@ -61,6 +61,7 @@ invariant_of-self c =
       awake = c.self.invariant.1.awake;
       waiting = still_waiting c.waiters_sleep_on.ensures.still p t objects touched cores watch.awake.items c.self.invariant.1.waiting;
       seated = c.self.invariant.1.seated;
+      behind = c.self.invariant.1.behind;
     } in
     let changed = touches_then (wanted_of c.args.wish.now) c.self.invariant.0 fit c.in-Some.ensures c.sound_plans_have_objects.ensures.touched c.index_mut.result.now c.index_mut.ensures.value c.act.new.object c.in-Done.entry c.in-Done.ensures.lead in
     let is_after = subst (λ os. IsAfter p objects os (record { entry = c.in-Done.entry; event = None })) (sym c.as_slice.ensures.value) (inr changed) in (

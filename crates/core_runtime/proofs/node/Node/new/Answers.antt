@@ -1,4 +1,5 @@
-use Rattle.std.proofs.Common.{[], sym, subst, None}
+use Rattle.std.proofs.Common.{◌≡◌, [], sym, subst, Some, None}
+use Rattle.std.specs.List.{slice_get}
 use Rattle.bus_semantics.specs.Plan.{plan_of}
 use Rattle.core_runtime.specs.Turns.{AreReady}
 use Rattle.core_runtime.specs.Watching.{IsWatch}
@@ -8,12 +9,15 @@ use Rattle.core_runtime.proofs.node.Node.new.Goals as goal
 pub returns-clause-lawful : goal.returns-clause-lawful
 returns-clause-lawful c = new_lawful (plan_of c.args.p) c.args.m c.args.t c.in_ok-cores.cores.items c.in_ok-objects.objects.items c.requires.sound c.in_ok-cores.ensures.cores c.in_ok-objects.ensures.standing
 
-pub new-requires : goal.new-requires
-new-requires c = (
+pub new-requires-clause-ready : goal.new-requires-clause-ready
+new-requires-clause-ready c = (
   c.args.m,
   c.args.t,
   subst (AreReady (plan_of c.args.p) c.args.m c.args.t) (sym c.as_slice.ensures.value) (λ i k found. (c.in_ok-cores.ensures.cores i k found).is_ready c.requires.sound),
 )
+
+pub new-requires-clause-numbers : goal.new-requires-clause-numbers
+new-requires-clause-numbers c = λ i k found. (c.in_ok-cores.ensures.cores i k (subst (λ cs. slice_get cs i ≡ Some k) c.as_slice.ensures.value found)).is_number
 
 pub invariant_of-result : goal.invariant_of-result
 invariant_of-result c = (

@@ -11,13 +11,13 @@ use Rattle.bus_semantics.specs.Locality.{starts_its_own}
 use Rattle.bus_semantics.specs.Objects.{touched_by, IsObject}
 use Rattle.port_objects.specs.Benches.{Plain}
 use Rattle.core_turn.specs.Cores.{CoreState}
-use Rattle.task_slots.specs.Slots.{events_of_slot}
+use Rattle.task_slots.specs.Slots.{events_of_slot, table_of}
 use Rattle.core_runtime.specs.Nodes.{HasRoom}
 use Rattle.core_runtime.specs.Rounds.{RoundState, IsRound, IsLater, Rested}
 use Rattle.core_runtime.specs.Watching.{IsAfter, IsWatch}
 use Rattle.core_runtime.proofs.Places.{found_at}
 use Rattle.core_runtime.proofs.Areas.{still_waiting}
-use Rattle.core_runtime.proofs.Turned.{after_step, awake_on, waiting_on, events_kept, seated_on}
+use Rattle.core_runtime.proofs.Turned.{after_step, awake_on, waiting_on, events_kept, seated_on, owners_same, behind_on}
 use Rattle.core_runtime.proofs.Stepping.{makes, rests, last_is}
 use Rattle.core_runtime.proofs.Later.{round_of, round_on, later_on, turn_on}
 use Rattle.core_runtime.proofs.round_state.Round.step.Goals as goal
@@ -115,6 +115,7 @@ invariant_of-self c =
       waiting = waiting_on p t before.objects cores watch.awake.items watch.seats.items c.args.number old c.turn_of_awake.new.c new flags found c.clear.ensures.slots c.clear.ensures.first events touched held.waiters
           (still_waiting c.waiters_sleep_on.ensures.still p t before.objects touched cores watch.awake.items c.self.invariant.1.waiting);
       seated = seated_on p t before.objects cores watch.awake.items watch.seats.items c.args.number old c.turn_of_awake.new.c new flags found c.clear.ensures.slots c.clear.ensures.first events c.self.invariant.1.seated;
+      behind = behind_on p cores c.args.number old c.turn_of_awake.new.c new found c.clear.ensures.slots (ap (map table_of) steps.slots ∙ owners_same old.slots steps.at steps.slot steps.stepped steps.there steps.step.table) c.self.invariant.1.behind;
     } in
     elim c.match-last.branch [
       | in-Some w ↦
@@ -158,6 +159,7 @@ invariant_of-self-in-NothingNow c =
             awake = awake_on p t before.objects cores w.awake.items w.seats.items c.args.number old new new c.turn_of_awake.new.a found refl refl events c.in-NothingNow.ensures.fits c.in-NothingNow.ensures.held.starts c.self.invariant.1.awake;
             waiting = waiting_on p t before.objects cores w.awake.items w.seats.items c.args.number old new new c.turn_of_awake.new.a found refl refl events None c.in-NothingNow.ensures.held.waiters c.self.invariant.1.waiting;
             seated = seated_on p t before.objects cores w.awake.items w.seats.items c.args.number old new new c.turn_of_awake.new.a found refl refl events c.self.invariant.1.seated;
+            behind = behind_on p cores c.args.number old new new found refl (ap (λ (k : CoreState). map table_of k.slots) turned.same) c.self.invariant.1.behind;
           }),
     )
 

@@ -1,0 +1,70 @@
+//! What an entry wakes of the mode machines.
+
+ghost use Rattle.std.specs.Prelude.{◌≡◌, ◌<◌, ◌+◌, ℕ, List, true, false, length, Some, IfSome, slice_get, slice_index_or};
+ghost use Rattle.bus_semantics.specs.Objects.{touched_by, first_machine, IsObject};
+ghost use Rattle.bus_semantics.specs.Plan.{plan_of};
+ghost use Rattle.port_objects.specs.declared.object.Object.{Object};
+ghost use Rattle.core_turn.specs.Cores.{CoreState};
+ghost use Rattle.core_turn.specs.Awake.{AwakeState};
+ghost use Rattle.core_runtime.specs.Watching.{AreBehind, AreEven, AreRoused, AreWatched, AreWoken, IsEven, IsWoken, owners_of};
+
+use bus_semantics::{BusPlan, Entry};
+use core_turn::Awake;
+use port_objects::touched_object;
+
+/// The number of the machine whose object this is. Objects are groups, servers, areas, machines and the clock, in this order.
+fn machine_of(p: &BusPlan, object: u32) -> Option<usize>
+    ensures { (machine : ℕ) → object ≡ first_machine (plan_of p.now) + machine → result ≡ Some machine }
+{
+    let server = (object as usize).checked_sub(p.groups.len())?;
+    let area = server.checked_sub(p.servers.len())?;
+    area.checked_sub(p.areas.len())
+}
+
+/// The slot of the machine whose object this is, on a core with so many slots. Machines stand behind the tasks.
+fn slot_of_machine(p: &BusPlan, object: u32, slots: usize) -> Option<usize>
+    ensures within { IfSome result (λ at. at < slots) }
+    ensures slot { (machine at : ℕ) → object ≡ first_machine (plan_of p.now) + machine → at + length p.now.machines ≡ slots + machine → at < slots → result ≡ Some at }
+{
+    let machines = p.machines.len();
+    match machine_of(p, object) {
+        Some(machine) => {
+            if machine < machines && machines - machine <= slots {
+                Some(slots - (machines - machine))
+            } else {
+                None
+            }
+        }
+        None => None,
+    }
+}
+
+/// Wakes the slot of the machine whose object this is.
+fn rouse_machine(p: &BusPlan, object: u32, core: &mut Awake)
+    requires even { IsEven core.old }
+    ensures woken { IsWoken core.old core.new }
+    ensures awake { (machine at : ℕ) → object ≡ first_machine (plan_of p.now) + machine → at + length p.now.machines ≡ length core.old.slots + machine
+        → at < length core.old.slots → slice_index_or core.new.slots at false ≡ true }
+{
+    let count = core.count();
+    if let Some(slot) = slot_of_machine(p, object, count) {
+        core.rouse(slot);
+    }
+}
+
+/// Wakes the slot of the machine that an entry touches: its next phase may come now (SWS_RTE: mode switch procedure). No other entry
+/// changes what a phase waits for.
+pub(crate) fn wake_machine(p: &BusPlan, entry: &Entry, event: Option<u32>, awake: &mut Vec<Awake>)
+    requires within { IfSome (touched_by (plan_of p.now) (record { entry = entry.now; event = event })) (IsObject (plan_of p.now)) }
+    requires even { AreEven awake.old.items }
+    ensures woken { AreWoken awake.old.items awake.new.items }
+    ensures roused { (objects : List Object) (cores : List CoreState) → AreBehind (plan_of p.now) (owners_of cores) → AreWatched (plan_of p.now) objects cores awake.old.items
+        → AreRoused (plan_of p.now) (record { entry = entry.now; event = event }) cores awake.new.items }
+{
+    if awake.is_empty() {
+        return;
+    }
+    if let Some(object) = touched_object(p, entry, event) {
+        rouse_machine(p, object, &mut awake[0]);
+    }
+}
