@@ -1,4 +1,4 @@
-use Rattle.std.proofs.Common.{◌≡◌, ◌-◌, sym, ap, arith, length, Some}
+use Rattle.std.proofs.Common.{◌≡◌, ◌-◌, ap, arith, length, Some}
 use Rattle.std.proofs.lemmas.Option.{same_Some}
 use Rattle.core_runtime.proofs.machines.slot_of_machine.Goals as goal
 use Rattle.core_runtime.proofs.machines.slot_of_machine.Goals.{else-machine-machines-via-then-machine-machines+else-machines-machine, else-machine-machines-via-else-machine-machines}

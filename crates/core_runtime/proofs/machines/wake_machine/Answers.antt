@@ -1,9 +1,8 @@
-use Rattle.std.proofs.Common.{◌≡◌, ◌<◌, length, sym, ◌∙◌, ap, subst, arith, Some}
-use Rattle.std.specs.List.{slice_get}
+use Rattle.std.proofs.Common.{◌<◌, length, arith}
 use Rattle.bus_semantics.specs.Plan.{plan_of}
-use Rattle.core_runtime.proofs.Behind.{roused_here, roused_none, roused_empty}
+use Rattle.core_runtime.proofs.Behind.{roused_here}
 use Rattle.core_runtime.proofs.Places.{found_at}
-use Rattle.core_runtime.proofs.Wakes.{are_set, are_same}
+use Rattle.core_runtime.proofs.Wakes.{are_set}
 use Rattle.core_runtime.proofs.machines.wake_machine.Goals as goal
 
 pub rouse_machine-requires : goal.rouse_machine-requires

@@ -1,7 +1,7 @@
 use Rattle.std.proofs.Common.{sym, subst}
 use Rattle.bus_semantics.specs.Plan.{plan_of}
 use Rattle.bus_semantics.specs.Objects.{touched_by}
-use Rattle.core_runtime.specs.Watching.{AreSeated, AreWatched, tables_of}
+use Rattle.core_runtime.specs.Watching.{AreSeated, tables_of}
 use Rattle.core_runtime.proofs.Areas.{watched_even, woken_even, woken_waiting}
 use Rattle.core_runtime.proofs.Behind.{watched_still}
 use Rattle.core_runtime.proofs.Wakes.{are_then}
