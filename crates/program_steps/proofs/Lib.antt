@@ -1,0 +1,13 @@
+pub mod Finding
+pub mod Resuming
+pub mod Serving
+pub mod Starting
+pub mod Views
+pub mod Placing
+pub mod Calling
+pub mod Stepping
+pub mod OfSound
+pub mod Alike
+pub mod Kept
+pub mod Returning
+pub mod Weighing

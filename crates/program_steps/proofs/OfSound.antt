@@ -1,0 +1,92 @@
+-- What a sound plan bounds of its runnables.
+use Rattle.std.proofs.Common.{◌≡◌, ◌≤◌, ℕ, ◌+◌, suc, Bool, true, false, ◌&&◌, ◌||◌, not, if◌then◌else◌, refl, sym, ap, ◌∙◌, subst, arith, List, [], ◌∷◌, length, replicate, Option, Some, None}
+use Rattle.std.specs.Prelude.{nat_le, ◌==◌}
+use Rattle.std.specs.List.{slice_get}
+use Rattle.std.proofs.lemmas.Bool.{and_parts, false≢true, leb-true}
+use Rattle.std.proofs.lemmas.List.{length-replicate}
+use Rattle.rte_value.specs.declared.kinds.Limits.{Limits}
+use Rattle.rte_value.specs.Values.{same_number}
+use Rattle.runnable_lang.specs.declared.program.AccessKind.{AccessKind}
+use Rattle.runnable_lang.specs.declared.program.AccessKind.TheVariants as kind
+use Rattle.runnable_lang.specs.declared.program.AccessSig.{AccessSig}
+use Rattle.bus_semantics.specs.declared.plan.ElemPlan.{ElemPlan}
+use Rattle.bus_semantics.specs.declared.plan.PointPlan.{PointPlan}
+use Rattle.bus_semantics.specs.declared.script.Mapping.{Mapping}
+use Rattle.bus_semantics.specs.Plan.{Plan, Runnable}
+use Rattle.bus_semantics.specs.State.{same_kind, is_to, found}
+use Rattle.bus_semantics.specs.SoundPlan.{is_in}
+use Rattle.bus_semantics.specs.SoundElements.{same_limits}
+use Rattle.bus_semantics.specs.SoundAccesses.{access_sound, each_access, takes_words, point_takes}
+use Rattle.bus_semantics.specs.Sound.{IsSound}
+use Rattle.activation_laws.specs.LookUps.{sought}
+use Rattle.activation_laws.proofs.Served.{kind_same, sound_of_kind}
+use Rattle.activation_laws.proofs.Accesses.{elem_is, point_is, accesses_sound}
+use Rattle.activation_laws.proofs.SoundServers.{server_is, server_fits}
+use Rattle.program_steps.specs.Served.{served, arguments_in}
+use Rattle.program_steps.specs.Few.{gives, GivesFewWords, HasFewArguments}
+
+-- limits that are the same are as many
+as_many : (ls bs : List Limits) → same_limits ls bs ≡ true → length ls ≡ length bs
+as_many [] [] same = refl
+as_many [] (b ∷ bs) same = absurd (false≢true same)
+as_many (l ∷ ls) [] same = absurd (false≢true same)
+as_many (l ∷ ls) (b ∷ bs) same = ap (λ n. suc n) (as_many ls bs (and_parts _ (same_limits ls bs) same).1)
+
+module _ (p : Plan) (m : Mapping) (sound : IsSound p m) where
+  -- an element takes few words
+  elem_few : (x : ℕ) (limits : List Limits) → takes_words p x limits ≡ true → length limits ≤ 16
+  elem_few x limits takes =
+      let at = sought p.elements x (λ (e : ElemPlan). same_limits limits (replicate e.words e.limits)) takes in
+      let count : length limits ≡ at.item.words = as_many limits (replicate at.item.words at.item.limits) at.holds ∙ length-replicate at.item.words at.item.limits in
+      let few : at.item.words ≤ 16 = leb-true at.item.words 16 (and_parts (nat_le 1 at.item.words) (nat_le at.item.words 16) (and_parts (is_in 1 16 at.item.words) _ (elem_is p m sound x at.item at.found)).0).1 in
+      omega arith
+
+  -- a point takes few words
+  point_few : (i : ℕ) (asynchronous : Bool) (ins outs : List Limits) (q : ℕ) → point_takes p i asynchronous ins outs q ≡ true → length ins ≤ 16
+  point_few i asynchronous ins outs q takes =
+      let at = sought p.points q
+      (λ (t : PointPlan). (same_number t.runnable (Some i) && (if asynchronous then t.asynchronous else not t.asynchronous)) && (same_limits ins t.ins && (asynchronous || same_limits outs t.outs))) takes in
+      let same : same_limits ins at.item.ins ≡ true = (and_parts (same_limits ins at.item.ins) _ (and_parts _ (same_limits ins at.item.ins && (asynchronous || same_limits outs at.item.outs)) at.holds).1).0 in
+      let count : length ins ≡ length at.item.ins = as_many ins at.item.ins same in
+      let few : length at.item.ins + length at.item.outs ≤ 16 = leb-true (length at.item.ins + length at.item.outs) 16 (and_parts (nat_le (length at.item.ins + length at.item.outs) 16) _ (point_is p m sound q at.item at.found)).0 in
+      omega arith
+
+  module _ (i : ℕ) (home : Option ℕ) where
+    -- what a sound access gives
+    few_of_kind : (k : AccessKind) (a : AccessSig) (t : ℕ) → gives k ≡ true → access_sound p i home (record { kind = k; port = a.port; item = a.item; ins = a.ins; outs = a.outs; modes = a.modes }) t ≡ true → length a.ins ≤ 16
+    few_of_kind kind.Write a t gives fits = elem_few t a.ins (and_parts _ (takes_words p t a.ins) fits).1
+    few_of_kind kind.Send a t gives fits = elem_few t a.ins (and_parts _ (takes_words p t a.ins) fits).1
+    few_of_kind kind.IWrite a t gives fits = elem_few t a.ins (and_parts _ (takes_words p t a.ins) fits).1
+    few_of_kind kind.IrvWrite a t gives fits = elem_few t a.ins (and_parts _ (takes_words p t a.ins) fits).1
+    few_of_kind kind.IrvIWrite a t gives fits = elem_few t a.ins (and_parts _ (takes_words p t a.ins) fits).1
+    few_of_kind kind.Call a t gives fits = point_few i false a.ins a.outs t fits
+    few_of_kind kind.ACall a t gives fits = point_few i true a.ins a.outs t fits
+    few_of_kind k a t gives fits = absurd (false≢true gives)
+
+    few_found : (k : AccessKind) (port item : ℕ) → gives k ≡ true → (sigs : List AccessSig) (targets : List ℕ) → each_access (access_sound p i home) sigs targets ≡ true → length (found (is_to k port item) sigs targets).ins ≤ 16
+    few_found k port item gives [] [] all = omega arith
+    few_found k port item gives [] (t ∷ ts) all = omega arith
+    few_found k port item gives (a ∷ sigs) [] all = absurd (false≢true all)
+    few_found k port item gives (a ∷ sigs) (t ∷ ts) all =
+        let parts = and_parts (access_sound p i home a t) (each_access (access_sound p i home) sigs ts) all in
+        by_test (is_to k port item a) refl parts.0 (few_found k port item gives sigs ts parts.1)
+      where
+        by_test : (b : Bool) → is_to k port item a ≡ b → access_sound p i home a t ≡ true → length (found (is_to k port item) sigs ts).ins ≤ 16
+            → length (if b then record { target = t; ins = a.ins } else found (is_to k port item) sigs ts).ins ≤ 16
+        by_test true at fits rest =
+            let same = kind_same a.kind k (and_parts (same_kind a.kind k) (a.port == port) (and_parts (same_kind a.kind k && (a.port == port)) (a.item == item) at).0).0 in
+            few_of_kind k a t gives (sound_of_kind p i home a k t same fits)
+        by_test false at fits rest = rest
+
+  module _ (i : ℕ) (r : Runnable) (there : slice_get p.runnables i ≡ Some r) where
+    few_arguments : (o : Option ℕ) → r.server ≡ o → length (arguments_in (served p.servers o)) ≤ 16
+    few_arguments None is = omega arith
+    few_arguments (Some n) is =
+        let of = server_is p m sound i r there n is in
+        subst (λ v. length (arguments_in v) ≤ 16) (sym of.there) (leb-true (length of.server.arguments) 16 (server_fits of.server of.sound).few)
+
+    pub few_words : GivesFewWords r
+    few_words = λ k port item gives. few_found i (Some r.instance) k port item gives r.accesses r.targets (accesses_sound p m sound i r there)
+
+    pub few_given : HasFewArguments p r
+    few_given = few_arguments r.server refl

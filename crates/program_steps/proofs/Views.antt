@@ -1,0 +1,62 @@
+-- The trees that statements are.
+use Rattle.std.proofs.Common.{◌≡◌, ℕ, rules, Vec, Global}
+use Rattle.runnable_lang.specs.declared.stmt.Expr.{Expr}
+use Rattle.runnable_lang.specs.declared.stmt.Stmt.{Stmt, If, Area, Write, Read, Invalidate, IsUpdated, Send, Receive, IWrite, IRead, IrvWrite, IrvRead, IrvIWrite, IrvIRead, Call, ACall, TakeResult, Switch, Mode, the_lemmas}
+use Rattle.runnable_lang.specs.Trees.{expr_tree, exprs, stmt_tree, body_tree, chooses, in_area, writes, reads, invalidates, asks_updated, sends, receives, writes_late, reads_early, writes_variable, reads_variable, writes_variable_late, reads_variable_early, calls, calls_and_goes_on, takes_result, switches, asks_mode}
+
+pub tree_of_if : (e : Expr) (one two : Vec Stmt Global) → stmt_tree (If e one two) ≡ chooses (expr_tree e) (body_tree one.items) (body_tree two.items)
+tree_of_if e one two = search (rules, the_lemmas)
+
+pub tree_of_area : (x : ℕ) (body : Vec Stmt Global) → stmt_tree (Area x body) ≡ in_area x (body_tree body.items)
+tree_of_area x body = search (rules, the_lemmas)
+
+pub tree_of_write : (port item : ℕ) (values : Vec Expr Global) (status : ℕ) → stmt_tree (Write port item values status) ≡ writes port item (exprs values.items) status
+tree_of_write port item values status = search (rules, the_lemmas)
+
+pub tree_of_read : (port item : ℕ) (vars : Vec ℕ Global) (status : ℕ) → stmt_tree (Read port item vars status) ≡ reads port item vars.items status
+tree_of_read port item vars status = search (rules, the_lemmas)
+
+pub tree_of_invalidate : (port item status : ℕ) → stmt_tree (Invalidate port item status) ≡ invalidates port item status
+tree_of_invalidate port item status = search (rules, the_lemmas)
+
+pub tree_of_is_updated : (port item var : ℕ) → stmt_tree (IsUpdated port item var) ≡ asks_updated port item var
+tree_of_is_updated port item var = search (rules, the_lemmas)
+
+pub tree_of_send : (port item : ℕ) (values : Vec Expr Global) (status : ℕ) → stmt_tree (Send port item values status) ≡ sends port item (exprs values.items) status
+tree_of_send port item values status = search (rules, the_lemmas)
+
+pub tree_of_receive : (port item : ℕ) (vars : Vec ℕ Global) (status : ℕ) → stmt_tree (Receive port item vars status) ≡ receives port item vars.items status
+tree_of_receive port item vars status = search (rules, the_lemmas)
+
+pub tree_of_iwrite : (port item : ℕ) (values : Vec Expr Global) → stmt_tree (IWrite port item values) ≡ writes_late port item (exprs values.items)
+tree_of_iwrite port item values = search (rules, the_lemmas)
+
+pub tree_of_iread : (port item : ℕ) (vars : Vec ℕ Global) → stmt_tree (IRead port item vars) ≡ reads_early port item vars.items
+tree_of_iread port item vars = search (rules, the_lemmas)
+
+pub tree_of_irv_write : (item : ℕ) (values : Vec Expr Global) → stmt_tree (IrvWrite item values) ≡ writes_variable item (exprs values.items)
+tree_of_irv_write item values = search (rules, the_lemmas)
+
+pub tree_of_irv_read : (item : ℕ) (vars : Vec ℕ Global) → stmt_tree (IrvRead item vars) ≡ reads_variable item vars.items
+tree_of_irv_read item vars = search (rules, the_lemmas)
+
+pub tree_of_irv_iwrite : (item : ℕ) (values : Vec Expr Global) → stmt_tree (IrvIWrite item values) ≡ writes_variable_late item (exprs values.items)
+tree_of_irv_iwrite item values = search (rules, the_lemmas)
+
+pub tree_of_irv_iread : (item : ℕ) (vars : Vec ℕ Global) → stmt_tree (IrvIRead item vars) ≡ reads_variable_early item vars.items
+tree_of_irv_iread item vars = search (rules, the_lemmas)
+
+pub tree_of_call : (port item : ℕ) (values : Vec Expr Global) (vars : Vec ℕ Global) (status : ℕ) → stmt_tree (Call port item values vars status) ≡ calls port item (exprs values.items) vars.items status
+tree_of_call port item values vars status = search (rules, the_lemmas)
+
+pub tree_of_acall : (port item : ℕ) (values : Vec Expr Global) (status : ℕ) → stmt_tree (ACall port item values status) ≡ calls_and_goes_on port item (exprs values.items) status
+tree_of_acall port item values status = search (rules, the_lemmas)
+
+pub tree_of_take_result : (port item : ℕ) (vars : Vec ℕ Global) (status : ℕ) → stmt_tree (TakeResult port item vars status) ≡ takes_result port item vars.items status
+tree_of_take_result port item vars status = search (rules, the_lemmas)
+
+pub tree_of_switch : (port mode status : ℕ) → stmt_tree (Switch port mode status) ≡ switches port mode status
+tree_of_switch port mode status = search (rules, the_lemmas)
+
+pub tree_of_mode : (port var : ℕ) → stmt_tree (Mode port var) ≡ asks_mode port var
+tree_of_mode port var = search (rules, the_lemmas)

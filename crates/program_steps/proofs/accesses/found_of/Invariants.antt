@@ -1,0 +1,17 @@
+use Rattle.std.proofs.Common.{◌≡◌, ℕ, ◌≤◌, drop, length}
+use Rattle.indexmap.specs.IndexMap.{get}
+use Rattle.runnable_lang.specs.declared.program.AccessKind.{AccessKind}
+use Rattle.runnable_lang.specs.Accesses.{kind_number}
+use Rattle.bus_semantics.specs.State.{is_to, found}
+use Rattle.program_steps.specs.Found.{same_key, access_in}
+use Rattle.program_steps.proofs.accesses.found_of.Given as goal
+
+abbrev pub invariant-loop-left : goal.invariant-loop-left
+invariant-loop-left l = record {
+  accesses : l.left ≤ length l.accesses;
+  targets : l.left ≤ length l.targets;
+  found : (k : AccessKind) (port item : ℕ) → access_in (get same_key l.found (kind_number k, port, item)) ≡ found (is_to k port item) (drop l.left l.accesses) (drop l.left l.targets);
+}
+
+abbrev pub decreases-loop-left : goal.decreases-loop-left
+decreases-loop-left l = l.left
