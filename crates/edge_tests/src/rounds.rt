@@ -173,7 +173,7 @@ fn share(
     m: &Mapping,
     round: Round,
     seats: Vec<CoreSeat>,
-) -> Result<[String; 3], AllocError>
+) -> Result<(String, String, String), AllocError>
     requires sound { IsSound (plan_of p.now) m.now }
     requires opened { IsOpened (plan_of p.now) round.opening.objects.value.items 2 4 round seats.items }
 {
@@ -192,11 +192,11 @@ fn share(
     for made in closed.entries.as_slice() {
         all.push_str(told(alloc, made)?.as_str())?;
     }
-    Ok([turns.first_told, turns.second_told, all])
+    Ok((turns.first_told, turns.second_told, all))
 }
 
 /// What is told of a round of two cores over new objects of the plan.
-fn run(alloc: Global, p: &BusPlan, m: &Mapping) -> Result<[String; 3], AllocError>
+fn run(alloc: Global, p: &BusPlan, m: &Mapping) -> Result<(String, String, String), AllocError>
     requires sound { IsSound (plan_of p.now) m.now }
 {
     sound_plans_have_objects();
@@ -221,7 +221,7 @@ fn planned(alloc: Global) -> Option<PlannedDescription>
 fn two_seats_share_a_round(rt: HostRuntime) -> Result<(), Fail> {
     let alloc = rt.alloc();
     let found = planned(alloc).expect(&rt, "a plan");
-    let [first, second, all] = run(alloc, &found.plan, &found.mapping)?;
+    let (first, second, all) = run(alloc, &found.plan, &found.mapping)?;
     assert_eq!(rt; first.as_str(), FIRST);
     assert_eq!(rt; second.as_str(), SECOND);
     assert_eq!(rt; all.as_str(), ALL);
