@@ -37,7 +37,7 @@ use Rattle.task_slots.specs.Slots.{events_of_slot, is_key_of}
 use Rattle.task_slots.specs.Ready.{IsReadySlot}
 use Rattle.task_slots.specs.Standing.{SlotStands}
 use Rattle.task_slots.specs.Looking.{event_for, IsEntryOf, MadeAt}
-use Rattle.task_slots.specs.Stepping.{noting_of, IsApart, StepFollows}
+use Rattle.task_slots.specs.Stepping.{noting_of, IsApart, IsOwn, StepFollows}
 use Rattle.task_slots.proofs.Histories.{free_same, bound_event}
 use Rattle.task_slots.proofs.Placed.{Placed, here, there, placed}
 use Rattle.task_slots.proofs.Changing.{other_stands}
@@ -117,6 +117,19 @@ rule_next p h k d n bound rule last = by_next (next_wish p h k) (ap (λ o. is_th
     by_next None is = absurd (false≢true is)
     by_next (Some v) is = ap (λ v. Some v) (same_bound d v bound is)
 
+-- ---- another core
+
+-- it stands for an entry of this one too
+pub stands_beside : (p : Plan) (m : Mapping) (t : TaskSet) (g : History) (one other : CoreState) (at : ℕ) (slot : Slot) (e : Entry) → IsReady p m t one → IsReady p m t other → one.number ≢ other.number
+    → slice_get one.slots at ≡ Some slot → IsOwn p slot e.actor → CoreStands p t g other → CoreStands p t (e ∷ g) other
+stands_beside p m t g one other at slot e ready beside differ at_slot own stands n x found = of_slot x found (beside.each n x found) (stands n x found)
+  where
+    of_slot : (x : Slot) → slice_get other.slots n ≡ Some x → IsReadySlot p t x → SlotStands p t g x → SlotStands p t (e ∷ g) x
+    of_slot (of.Machine k) found ready_it stands_it = tt
+    of_slot (of.Task y) found ready_it stands_it =
+        let foreign : (k : ActKey) → is_key_of p (events_of_slot slot) k ≡ true → is_key_of p y.events.items k ≡ false = λ k mine. cores_apart p m ready.sound one other k at n slot (of.Task y) ready.has beside.has differ at_slot mine found in
+        other_stands p t g y.events.items y.frame y.inner e y.activity (other_entry p slot e.actor y.events.items own foreign) ready_it.active stands_it
+
 -- ---- a turn
 
 module _ (p : Plan) (m : Mapping) (t : TaskSet) (cores : List CoreState) (i : ℕ) (old new : CoreState) (objects after : List Object) (before now : Told) (s : Stamped) (h : History)
@@ -134,19 +147,10 @@ module _ (p : Plan) (m : Mapping) (t : TaskSet) (cores : List CoreState) (i : �
   -- ---- the cores
 
   other_core : (j : ℕ) (c : CoreState) → j ≢ i → slice_get cores j ≡ Some c → CoreStands p t (s.entry ∷ h) c
-  other_core j c other found n x at = of_slot x at (c_ready.each n x at) (lawful.stands j c found n x at)
+  other_core j c other found = stands_beside p m t h old c steps.at steps.slot s.entry old_ready (lawful.ready j c found) differ steps.there steps.step.own (lawful.stands j c found)
     where
-      c_ready : IsReady p m t c
-      c_ready = lawful.ready j c found
-
       differ : old.number ≢ c.number
       differ e = other (sym (sym (lawful.number i old is) ∙ e ∙ lawful.number j c found))
-
-      of_slot : (x : Slot) → slice_get c.slots n ≡ Some x → IsReadySlot p t x → SlotStands p t h x → SlotStands p t (s.entry ∷ h) x
-      of_slot (of.Machine k) at ready_it stands_it = tt
-      of_slot (of.Task y) at ready_it stands_it =
-          let foreign : (k : ActKey) → is_key_of p (events_of_slot steps.slot) k ≡ true → is_key_of p y.events.items k ≡ false = λ k own. cores_apart p m old_ready.sound old c k steps.at n steps.slot (of.Task y) old_ready.has c_ready.has differ steps.there own at in
-          other_stands p t h y.events.items y.frame y.inner s.entry y.activity (other_entry p steps.slot s.entry.actor y.events.items steps.step.own foreign) ready_it.active stands_it
 
   cores_stand : (j : ℕ) (c : CoreState) → Placed CoreState cores i new j c → CoreStands p t (s.entry ∷ h) c
   cores_stand j c (here place same) = subst (CoreStands p t (s.entry ∷ h)) (sym same) (steps.stands h (lawful.stands i old is))

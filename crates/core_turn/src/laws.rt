@@ -1,6 +1,6 @@
 //! Laws of turns.
 
-ghost use Rattle.std.specs.Prelude.{◌≡◌, ◌<◌, ℕ, List, ◌∷◌, set, true, false, Option, Some, None, slice_get};
+ghost use Rattle.std.specs.Prelude.{◌≡◌, ◌≢◌, ◌<◌, ℕ, List, ◌∷◌, set, true, false, Option, Some, None, slice_get};
 ghost use Rattle.bus_semantics.specs.declared.script.Mapping.{Mapping};
 ghost use Rattle.bus_semantics.specs.declared.entries.Entry.{Entry};
 ghost use Rattle.bus_semantics.specs.declared.entries.Stamped.{Stamped};
@@ -14,6 +14,7 @@ ghost use Rattle.port_objects.specs.Objects.{kept_of};
 ghost use Rattle.port_objects.specs.Waking.{is_leave};
 ghost use Rattle.task_machine.specs.declared.instr.TaskSet.{TaskSet};
 ghost use Rattle.task_slots.specs.declared.slot.Slot.{Slot};
+ghost use Rattle.task_slots.specs.Stepping.{IsOwn};
 ghost use Rattle.core_turn.specs.Awake.{AwakeState, WaitersHeld};
 ghost use Rattle.task_generator.specs.Promise.{AsksAsPlanned};
 ghost use Rattle.core_turn.specs.Cores.{CoreState};
@@ -53,6 +54,13 @@ pub fn turns_keep_the_law()
 /// What the environment does changes nothing of what a core stands for.
 pub fn cores_stand_beside_the_environment()
     ensures { (p : Plan) (t : TaskSet) (g : History) (c : CoreState) (e : Entry) → is_environment e.actor ≡ true → CoreStands p t g c → CoreStands p t (e ∷ g) c }
+{}
+
+/// What a core does changes nothing of what another core stands for, since each activation is of one core's tasks (SWS_RTE: mapping
+/// of RTEEvents to tasks): so it is of an entry by an actor of one of its slots.
+pub fn cores_stand_beside_one_another()
+    ensures { (p : Plan) (m : Mapping) (t : TaskSet) (g : History) (one other : CoreState) (at : ℕ) (slot : Slot) (e : Entry) → IsReady p m t one → IsReady p m t other →
+        one.number ≢ other.number → slice_get one.slots at ≡ Some slot → IsOwn p slot e.actor → CoreStands p t g other → CoreStands p t (e ∷ g) other }
 {}
 
 /// Where cores and objects are lawful for a history, and a turn of a core over a bench that tells these objects makes

@@ -17,8 +17,9 @@ pub use awake::Awake;
 pub use awake_turn::turn_of_awake;
 pub use cores::Core;
 pub use laws::{
-    cores_stand_beside_the_environment, nothing_now_is_rest_of_the_core, resting_cores_are_at_rest,
-    turns_keep_the_law, waiters_sleep_on,
+    cores_stand_beside_one_another, cores_stand_beside_the_environment,
+    nothing_now_is_rest_of_the_core, resting_cores_are_at_rest, turns_keep_the_law,
+    waiters_sleep_on,
 };
 pub use turning::{Turned, turn};
 
