@@ -1,0 +1,4 @@
+pub mod Lists
+pub mod Runs
+pub mod Taken
+pub mod Passing

@@ -1,0 +1,36 @@
+use Rattle.std.proofs.Common.{◌≡◌, ◌++◌, ◌∷◌, [], ◌∙◌, List, length, length-append, append_assoc, sym, ap, arith}
+use Rattle.std.proofs.lemmas.List.{map-append}
+use Rattle.std.specs.Vec.Iter.{into_iter_items}
+use Rattle.cross_core_table.specs.declared.seats.CoreSeat.{CoreSeat}
+use Rattle.core_turn.specs.Cores.{CoreState}
+use Rattle.core_lanes.specs.declared.lanes.Lane.{Lane}
+use Rattle.core_lanes.specs.Lanes.{core_in, with_seat}
+use Rattle.core_lanes.proofs.Lists.{seats_within, seats_more}
+use Rattle.core_lanes.proofs.benching.part_all.Goals as goal
+
+pub keep-requires : goal.keep-requires
+keep-requires c =
+    let at = c.loop-lane in
+    let x : Lane = c.in-Some.lane in
+    let rest : List Lane = into_iter_items c.next.new.self in
+    let steps : into_iter_items at.lane-iterator ≡ x ∷ rest = c.in-Some.ensures.steps.0 in
+    let whole : at.yielded ++ x ∷ rest ≡ c.args.lanes.items = ap (λ (l : List Lane). at.yielded ++ l) (sym steps) ∙ (at.invariant.all ∙ c.into_iter-lane-iterator.ensures.into_iter_gives.0) in
+    omega (arith, ap (λ (l : List Lane). length l) whole, length-append at.yielded (x ∷ rest), ap (λ (ss : List CoreSeat). length ss) at.invariant.seats, seats_within at.yielded, at.invariant.seats_space, c.requires.seats.1)
+
+pub loop-lane-preserved : goal.loop-lane-preserved
+loop-lane-preserved c =
+    let at = c.loop-lane in
+    let x : Lane = c.in-Some.lane in
+    let rest : List Lane = into_iter_items c.next.new.self in
+    let steps : into_iter_items at.lane-iterator ≡ x ∷ rest = c.in-Some.ensures.steps.0 in
+    let given : at.yielded ++ x ∷ rest ≡ _ = ap (λ (l : List Lane). at.yielded ++ l) (sym steps) ∙ at.invariant.all in
+    let was = at.invariant.left in
+    let gone = c.in-Some.ensures.steps.1 in
+    record {
+      all = append_assoc at.yielded (x ∷ []) rest ∙ given;
+      left = let short = ap (λ (l : List Lane). length l) steps in omega arith;
+      cores = c.push_reserved.ensures.items ∙ (ap (λ (cs : List CoreState). cs ++ x.core ∷ []) at.invariant.cores ∙ sym (map-append core_in at.yielded (x ∷ [])));
+      seats = c.keep.ensures.items ∙ (ap (λ (ss : List CoreSeat). ss ++ with_seat x.seat []) at.invariant.seats ∙ sym (seats_more at.yielded x));
+      cores_space = c.push_reserved.ensures.capacity ∙ at.invariant.cores_space;
+      seats_space = c.keep.ensures.capacity ∙ at.invariant.seats_space;
+    }

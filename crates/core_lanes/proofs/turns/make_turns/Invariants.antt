@@ -1,0 +1,17 @@
+use Rattle.std.proofs.Common.{◌≡◌, length}
+use Rattle.bus_semantics.specs.declared.script.Mapping.{Mapping}
+use Rattle.bus_semantics.specs.Plan.{plan_of}
+use Rattle.core_turn.specs.Ready.{IsReady}
+use Rattle.round_merging.specs.Taking.{TakesTurns}
+use Rattle.core_lanes.specs.Rooms.{HasRoom}
+use Rattle.core_lanes.proofs.turns.make_turns.Given as goal
+
+abbrev pub invariant-loop-turns : goal.invariant-loop-turns
+invariant-loop-turns g l = record {
+  round : l.bench.round ≡ l.initial.bench.round;
+  number : l.bench.core ≡ l.initial.bench.core;
+  room : HasRoom l.core;
+  ready : (m : Mapping) → IsReady (plan_of l.p) m l.t l.initial.core → IsReady (plan_of l.p) m l.t l.core;
+  taken : TakesTurns (plan_of l.p) l.t l.initial.core l.bench.view.made l.core;
+  made : length l.bench.view.made ≡ l.stay.made;
+}

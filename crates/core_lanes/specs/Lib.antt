@@ -1,0 +1,4 @@
+pub mod Rooms
+pub mod Benching
+pub mod Lanes
+pub mod Together

@@ -1,0 +1,11 @@
+//! Cores on threads: each core of a round makes its turns in a lane of its own, at the same time as the others.
+#![tactic(auto)]
+
+mod benching;
+mod lanes;
+mod stay;
+mod threads;
+mod together;
+mod turns;
+
+pub use together::{Changing, Together, run_together};

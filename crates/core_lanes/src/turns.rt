@@ -1,0 +1,77 @@
+//! The turns of a core at its bench.
+
+ghost use Rattle.std.specs.Prelude.{◌≡◌, ◌<◌, [], length};
+ghost use Rattle.bus_semantics.specs.declared.script.Mapping.{Mapping};
+ghost use Rattle.bus_semantics.specs.Plan.{plan_of};
+ghost use Rattle.task_generator.specs.Promise.{AsksAsPlanned};
+ghost use Rattle.core_turn.specs.Ready.{IsReady};
+ghost use Rattle.cross_core_table.specs.Logs.{plan_in};
+ghost use Rattle.round_merging.specs.Taking.{TakesTurns};
+ghost use Rattle.core_lanes.specs.Rooms.{HasRoom};
+ghost use Rattle.core_lanes.specs.Benching.{IsTaken};
+
+use crate::stay::Stay;
+use bus_semantics::BusPlan;
+use core_turn::{Core, Turned, turn};
+use cross_core_table::SeatBench;
+use rte_text::Gate;
+use task_machine::TaskSet;
+
+/// So many turns a core makes in a round at most: 1,024 with an entry, and before each of them 63 without one, or 64 at the end.
+const MOST_TURNS: u32 = 1024 * 64;
+
+/// A core makes a turn at its bench, and the answer is whether it made an entry. A turn that found its object held by another core
+/// made none. The trace is empty again then, since the seat keeps the entry.
+fn turn_once(p: &BusPlan, t: &TaskSet, core: &mut Core, bench: &mut SeatBench) -> bool
+    requires plan { plan_in bench.old.round.opening ≡ plan_of p.now }
+    requires bodies { AsksAsPlanned (plan_of p.now) t.now }
+    requires ready { (m : Mapping) × IsReady (plan_of p.now) m t.now core.old }
+    requires room { HasRoom core.old }
+    requires bench_room { length bench.old.view.made < bench.old.round.opening.room }
+    ensures round { bench.new.round ≡ bench.old.round }
+    ensures number { bench.new.core ≡ bench.old.core }
+    ensures ready { (m : Mapping) → IsReady (plan_of p.now) m t.now core.old → IsReady (plan_of p.now) m t.now core.new }
+    ensures room { HasRoom core.new }
+    ensures taken { IsTaken (plan_of p.now) t.now core.old core.new bench.old.view.made bench.new.view.made result }
+{
+    match turn(p, t, core, bench) {
+        Turned::Stepped => {
+            core.clear();
+            true
+        }
+        Turned::NothingNow => false,
+        Turned::Contended(_) => false,
+    }
+}
+
+/// A core makes turns at its bench until it leaves the round: after 1,024 entries, or 64 turns in a row without one. It passes the gate
+/// before each turn.
+pub(crate) fn make_turns<G: Gate>(
+    p: &BusPlan,
+    t: &TaskSet,
+    core: &mut Core,
+    bench: &mut SeatBench,
+    number: u32,
+    gate: &G,
+)
+    requires plan { plan_in bench.old.round.opening ≡ plan_of p.now }
+    requires bodies { AsksAsPlanned (plan_of p.now) t.now }
+    requires ready { (m : Mapping) × IsReady (plan_of p.now) m t.now core.old }
+    requires room { HasRoom core.old }
+    requires none { bench.old.view.made ≡ [] }
+    requires limit { bench.old.round.opening.room ≡ 1024 }
+    ensures round { bench.new.round ≡ bench.old.round }
+    ensures number { bench.new.core ≡ bench.old.core }
+    ensures room { HasRoom core.new }
+    ensures turns { TakesTurns (plan_of p.now) t.now core.old bench.new.view.made core.new }
+{
+    let mut stay = Stay { made: 0, quiet: 0 };
+    for turns in 0..MOST_TURNS {
+        if !stay.goes_on() {
+            return;
+        }
+        gate.pass(number);
+        let made = turn_once(p, t, core, bench);
+        stay.note(made);
+    }
+}
