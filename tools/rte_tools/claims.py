@@ -119,7 +119,7 @@ class Document:
         yield from self.check_clauses(found, named, clauses)
 
     def crates_of_paths(self, part: str) -> list[Crate]:
-        """The crates of paths that begin with a crate, such as `plan_ports/src/source.rt`."""
+        """The crates of paths that begin with a crate, such as `plan_numbers/src/source.rt`."""
         starts = [name.removeprefix("crates/").split("/")[0] for name in QUOTED.findall(part) if "/" in name]
         return [self.crates[start] for start in starts if start in self.crates]
 

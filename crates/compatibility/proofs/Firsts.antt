@@ -1,8 +1,8 @@
 -- The turns of the loops that look for the first.
 use Rattle.std.proofs.Common.{◌≡◌, ℕ, zero, suc, ◌+◌, ◌<◌, ◌≤◌, List, [], ◌∷◌, length, get_or, drop, Option, Some, None, Bool, false, ◌-◌, if◌then◌else◌, refl, sym, ap, ◌∙◌, arith, add-one}
 use Rattle.std.specs.Option.{option_or}
-use Rattle.compatibility.specs.Firsts.{first_of}
-use Rattle.compatibility.specs.Items.{first_number}
+use Rattle.plan_definitions.specs.Firsts.{first_of}
+use Rattle.plan_definitions.specs.JoinedItems.{first_number}
 
 module _ {X Y : Type 0} (f : ℕ → X → Option Y) where
   first_next : (xs : List X) (n i : ℕ) (x : X) → i < length xs → x ≡ get_or xs i x

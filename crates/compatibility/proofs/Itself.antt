@@ -19,8 +19,8 @@ use Rattle.interface_types.specs.declared.interface.Operation.{Operation}
 use Rattle.interface_types.specs.declared.interface.SwImplPolicy.{SwImplPolicy}
 use Rattle.interface_types.specs.declared.interface.SwImplPolicy.TheVariants.{Standard, Queued}
 use Rattle.interface_types.specs.declared.interface.TypeTable.{TypeTable}
-use Rattle.compatibility.specs.Types.{agree, are_compatible_types, base_number, types_agree}
-use Rattle.compatibility.specs.Interfaces.{same_policy, same_direction, serves_element, same_argument, same_error, declares_errors, serves_operation, same_modes, serves, serves_in, are_compatible}
+use Rattle.plan_definitions.specs.Types.{agree, are_compatible_types, base_number, types_agree}
+use Rattle.plan_definitions.specs.Interfaces.{same_policy, same_direction, serves_element, same_argument, same_error, declares_errors, serves_operation, same_modes, serves, serves_in, are_compatible}
 
 same_bytes : (xs : List ℕ) → bytes_eq xs xs ≡ true
 same_bytes xs = (bytes_eq-Decides xs xs).1 refl

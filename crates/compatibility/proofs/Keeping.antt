@@ -3,10 +3,10 @@ use Rattle.std.proofs.Common.{◌≡◌, ℕ, zero, suc, ◌+◌, ◌<◌, ◌�
 use Rattle.std.proofs.lemmas.Bool.{eqb-true, eq-eqb, and_parts}
 use Rattle.std.specs.List.{list_any}
 use Rattle.std.specs.Option.{option_eq, option_map_or, is_some}
-use Rattle.composition_flatten.specs.declared.flat.End.{End}
-use Rattle.composition_flatten.specs.declared.flat.Join.{Join}
+use Rattle.flat_descriptions.specs.declared.flat.End.{End}
+use Rattle.flat_descriptions.specs.declared.flat.Join.{Join}
 use Rattle.compatibility.specs.declared.partners.Partners.{Partners}
-use Rattle.compatibility.specs.Joins.{same_end, partners, are_several, is_none}
+use Rattle.plan_definitions.specs.Joins.{same_end, partners, are_several, is_none}
 use Rattle.compatibility.specs.Partners.{added, summary, with_one, key_of, same_key, Key}
 
 -- one that is said to be the same is the same

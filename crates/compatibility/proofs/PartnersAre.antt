@@ -2,10 +2,10 @@
 use Rattle.std.proofs.Common.{◌≡◌, ◌≢◌, List, [], ◌∷◌, map, filter, Bool, true, false, cond, ◌||◌, not, ◌⊎◌, inl, inr, ⊎_elim, refl, sym, ap, subst, ◌∙◌, true≢false}
 use Rattle.std.proofs.lemmas.Bool.{or_cases, or_right}
 use Rattle.std.specs.List.{list_any}
-use Rattle.composition_flatten.specs.declared.flat.End.{End}
-use Rattle.composition_flatten.specs.declared.flat.Join.{Join}
-use Rattle.compatibility.specs.Groups.{IsJoined}
-use Rattle.compatibility.specs.Joins.{same_end, partners, providers, requirers, are_several}
+use Rattle.flat_descriptions.specs.declared.flat.End.{End}
+use Rattle.flat_descriptions.specs.declared.flat.Join.{Join}
+use Rattle.plan_definitions.specs.JoinGroups.{IsJoined}
+use Rattle.plan_definitions.specs.Joins.{same_end, partners, providers, requirers, are_several}
 use Rattle.compatibility.proofs.Keeping.{same_end_is, same_end_refl}
 
 -- x is one of these

@@ -3,10 +3,10 @@
 use Rattle.std.proofs.Common.{◌≡◌, ℕ, zero, suc, List, Bool, true, false, ◌&&◌, ◌↔◌, refl, sym, subst, ◌∙◌, true≢false}
 use Rattle.std.proofs.lemmas.Bool.{and_from, and_parts, false_from_ne_true}
 use Rattle.std.specs.List.{list_any}
-use Rattle.composition_flatten.specs.declared.flat.End.{End}
-use Rattle.composition_flatten.specs.declared.flat.Join.{Join}
-use Rattle.compatibility.specs.Groups.{IsJoined, Leads, HasRequired, HasProvided, IsManyToMany}
-use Rattle.compatibility.specs.Joins.{same_end, providers, requirers, are_several, crowds, is_crowded, is_many_to_many}
+use Rattle.flat_descriptions.specs.declared.flat.End.{End}
+use Rattle.flat_descriptions.specs.declared.flat.Join.{Join}
+use Rattle.plan_definitions.specs.JoinGroups.{IsJoined, Leads, HasRequired, HasProvided, IsManyToMany}
+use Rattle.plan_definitions.specs.Joins.{same_end, providers, requirers, are_several, crowds, is_crowded, is_many_to_many}
 use Rattle.compatibility.proofs.Keeping.{same_end_is, same_end_refl}
 use Rattle.compatibility.proofs.PartnersAre.{one_provider, one_requirer, two_providers, two_requirers, any_joined, joined_any}
 

@@ -1,11 +1,2 @@
-pub mod Firsts
-pub mod Types
-pub mod Interfaces
-pub mod Connectors
 pub mod Passed
-pub mod Refusals
-pub mod Joins
 pub mod Partners
-pub mod Items
-pub mod Names
-pub mod Groups

@@ -3,12 +3,12 @@ use Rattle.std.specs.Prelude.{◌≡◌, ℕ, List, [], ◌∷◌, Bool, false, 
 use Rattle.std.specs.List.{list_any}
 use Rattle.std.specs.Option.{option_eq}
 use Rattle.indexmap.specs.IndexMap.{IndexMap, get}
-use Rattle.composition_flatten.specs.declared.flat.End.{End}
-use Rattle.composition_flatten.specs.declared.flat.Join.{Join}
+use Rattle.flat_descriptions.specs.declared.flat.End.{End}
+use Rattle.flat_descriptions.specs.declared.flat.Join.{Join}
 use Rattle.compatibility.specs.declared.partners.Partners.{Partners}
 use Rattle.compatibility.specs.declared.partners.Side.{Side}
 use Rattle.compatibility.specs.declared.partners.Side.TheVariants as side
-use Rattle.compatibility.specs.Joins.{same_end, partners}
+use Rattle.plan_definitions.specs.Joins.{same_end, partners}
 
 -- an end on this side of a join, and the one on the other side
 abbrev pub own : Side → Join → End

@@ -2,7 +2,7 @@
 use Rattle.std.specs.Prelude.{◌≡◌, ℕ, List, true}
 use Rattle.std.specs.List.{list_all}
 use Rattle.interface_types.specs.declared.interface.TypeTable.{TypeTable}
-use Rattle.compatibility.specs.Interfaces.{are_compatible}
+use Rattle.plan_definitions.specs.Interfaces.{are_compatible}
 
 -- each of these pairs is compatible
 abbrev pub HavePassed : TypeTable → List (ℕ × ℕ) → Type 0

@@ -1,16 +1,17 @@
 //! The checks, and what they refuse.
 
 ghost use Rattle.std.specs.Prelude.{◌≡◌, Some};
-ghost use Rattle.compatibility.specs.Refusals.{Tells, of_connectors, of_root_ports, of_items, number_of, port_refusal, item_refusal, refusal};
+ghost use Rattle.plan_definitions.specs.Telling.{Tells};
+ghost use Rattle.plan_definitions.specs.JoinRefusals.{of_connectors, of_root_ports, of_items, number_of, port_refusal, item_refusal, refusal};
 
 use crate::connectors::incompatible;
 use crate::items::Search;
 use crate::names::end_text;
 use crate::places::in_composition;
 use crate::root_ports::root_client;
-use crate::rule::Rule;
-use composition_flatten::Flat;
 use description_types::Description;
+use flat_descriptions::Flat;
+use plan_definitions::JoinRule;
 use rte_text::{Refusal, Refused, Text};
 use std::alloc::Global;
 
@@ -51,19 +52,19 @@ fn check_ports(alloc: Global, d: &Description) -> Result<(), Refused>
     check_root_ports(alloc, d)
 }
 
-fn number_of(rule: Rule) -> u16
+fn number_of(rule: JoinRule) -> u16
     ensures { result ≡ number_of rule }
 {
     match rule {
-        Rule::Services => 14,
-        Rule::Groups => 15,
+        JoinRule::Services => 14,
+        JoinRule::Groups => 15,
     }
 }
 
 fn check_rule(
     alloc: Global,
     search: &Search,
-    rule: Rule,
+    rule: JoinRule,
     d: &Description,
     f: &Flat,
 ) -> Result<(), Refused>
@@ -84,8 +85,8 @@ fn check_items(alloc: Global, d: &Description, f: &Flat) -> Result<(), Refused>
     ensures { Tells (item_refusal d.now f.now) result }
 {
     let search = Search::new(alloc, d, f)?;
-    check_rule(alloc, &search, Rule::Services, d, f)?;
-    check_rule(alloc, &search, Rule::Groups, d, f)
+    check_rule(alloc, &search, JoinRule::Services, d, f)?;
+    check_rule(alloc, &search, JoinRule::Groups, d, f)
 }
 
 /// Whether what a description joins may be joined: the ports of each connector are compatible (12), the environment serves no

@@ -1,8 +1,8 @@
 //! Whether connectors join compatible ports.
 
 ghost use Rattle.std.specs.Prelude.{◌≡◌, IfOk, OnOk};
-ghost use Rattle.compatibility.specs.Connectors.{joins_compatible, incompatible_in, incompatible};
-ghost use Rattle.compatibility.specs.Interfaces.{are_compatible};
+ghost use Rattle.plan_definitions.specs.Connectors.{joins_compatible, incompatible_in, incompatible};
+ghost use Rattle.plan_definitions.specs.Interfaces.{are_compatible};
 ghost use Rattle.compatibility.specs.Passed.{HavePassed};
 
 use crate::judge::Judge;

@@ -1,7 +1,7 @@
 //! Data elements and mode elements that serve others.
 
 ghost use Rattle.std.specs.Prelude.{◌≡◌};
-ghost use Rattle.compatibility.specs.Interfaces.{same_policy, serves_element, same_modes, groups_agree};
+ghost use Rattle.plan_definitions.specs.Interfaces.{same_policy, serves_element, same_modes, groups_agree};
 
 use crate::types::types_agree;
 use interface_types::{DataElement, ModeElement, ModeGroup, SwImplPolicy, TypeTable};

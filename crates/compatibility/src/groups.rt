@@ -1,14 +1,14 @@
 //! Groups of data elements that joins connect.
 
 ghost use Rattle.std.specs.Prelude.{◌≡◌, ◌&&◌, ◌↔◌, ◌||◌, IfOk, IsTrue, OnOk};
-ghost use Rattle.composition_flatten.specs.declared.flat.End.{End};
+ghost use Rattle.flat_descriptions.specs.declared.flat.End.{End};
 ghost use Rattle.indexmap.specs.IndexSet.{contains};
-ghost use Rattle.compatibility.specs.Groups.{IsManyToMany};
-ghost use Rattle.compatibility.specs.Joins.{is_crowded, is_many_to_many};
+ghost use Rattle.plan_definitions.specs.JoinGroups.{IsManyToMany};
+ghost use Rattle.plan_definitions.specs.Joins.{is_crowded, is_many_to_many};
 ghost use Rattle.compatibility.specs.Partners.{key_of, same_key, Key};
 
 use crate::partners::{Degrees, Key, key_of};
-use composition_flatten::{End, Join};
+use flat_descriptions::{End, Join};
 use indexmap::IndexSet;
 use rte_text::Memory;
 use std::alloc::Global;

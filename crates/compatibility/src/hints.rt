@@ -3,7 +3,7 @@
 ghost use Rattle.std.specs.Prelude.{◌≡◌, ◌≤◌, length, IfOk, IfSome};
 ghost use Rattle.indexmap.specs.IndexMap.{index_map_len};
 ghost use Rattle.std.specs.List.{list_any, list_all, IsAmong};
-ghost use Rattle.compatibility.specs.Interfaces.{item_count, serves_element, serve_elements, serves_operation, serve_operations};
+ghost use Rattle.plan_definitions.specs.Interfaces.{item_count, serves_element, serve_elements, serves_operation, serve_operations};
 
 use crate::elements::serves_element;
 use crate::operations::serves_operation;

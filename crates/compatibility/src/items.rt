@@ -1,23 +1,23 @@
 //! Required items, and the first that breaks a rule.
 
 ghost use Rattle.std.specs.Prelude.{◌≡◌, IfOk, IsTrue, false, None, Some, if◌then◌else◌};
-ghost use Rattle.composition_flatten.specs.declared.flat.End.{End};
+ghost use Rattle.flat_descriptions.specs.declared.flat.End.{End};
 ghost use Rattle.description_types.specs.declared.description.PrototypeType.TheVariants as of_type;
 ghost use Rattle.indexmap.specs.IndexSet.{contains};
 ghost use Rattle.interface_types.specs.declared.interface.InterfaceKind.{InterfaceKind};
-ghost use Rattle.compatibility.specs.Connectors.{ports_of};
-ghost use Rattle.compatibility.specs.Joins.{is_many_to_many};
+ghost use Rattle.plan_definitions.specs.Connectors.{ports_of};
+ghost use Rattle.plan_definitions.specs.Joins.{is_many_to_many};
 ghost use Rattle.compatibility.specs.Partners.{key_of, same_key};
-ghost use Rattle.compatibility.specs.Items.{breaks, first_broken, first_item, in_instances, in_port, in_ports, looked_at, needs_provider, requires_at};
+ghost use Rattle.plan_definitions.specs.JoinedItems.{breaks, first_broken, first_item, in_instances, in_port, in_ports, looked_at, needs_provider, requires_at};
 
 use crate::groups::many_to_many;
 use crate::partners::{Degrees, Key, key_of};
 use crate::ports::ports_of;
-use crate::rule::Rule;
-use composition_flatten::{End, Flat, Instance};
 use description_types::{Description, Port, PortKind, PrototypeType};
+use flat_descriptions::{End, Flat, Instance};
 use indexmap::IndexSet;
 use interface_types::InterfaceKind;
+use plan_definitions::JoinRule;
 use rte_text::Memory;
 use std::alloc::{AllocError, Global};
 
@@ -27,13 +27,13 @@ fn position(number: usize) -> Result<u32, Memory>
     u32::try_from(number).map_err(|_| AllocError)
 }
 
-fn looked_at(rule: Rule, kind: &InterfaceKind) -> usize
+fn looked_at(rule: JoinRule, kind: &InterfaceKind) -> usize
     ensures { result ≡ looked_at rule kind.now }
 {
     match (rule, kind) {
-        (Rule::Services, InterfaceKind::ClientServer(operations)) => operations.len(),
-        (Rule::Services, InterfaceKind::ModeSwitch(_)) => 1,
-        (Rule::Groups, InterfaceKind::SenderReceiver(elements)) => elements.len(),
+        (JoinRule::Services, InterfaceKind::ClientServer(operations)) => operations.len(),
+        (JoinRule::Services, InterfaceKind::ModeSwitch(_)) => 1,
+        (JoinRule::Groups, InterfaceKind::SenderReceiver(elements)) => elements.len(),
         _ => 0,
     }
 }
@@ -83,31 +83,31 @@ impl Search<'_> {
         })
     }
 
-    fn breaks(&self, rule: Rule, kind: &InterfaceKind, end: End) -> bool
+    fn breaks(&self, rule: JoinRule, kind: &InterfaceKind, end: End) -> bool
         ensures { result ≡ breaks rule self.now.f.now.joins kind.now end }
     {
         match rule {
-            Rule::Services => {
+            JoinRule::Services => {
                 self.degrees.has_several_providers(end)
                     || (needs_provider(kind, end) && self.degrees.has_no_provider(end))
             }
-            Rule::Groups => self.crowded.contains(&key_of(end)),
+            JoinRule::Groups => self.crowded.contains(&key_of(end)),
         }
     }
 
     /// Whether no item breaks the rule, which shows at once where no group is one of many to many.
-    fn is_kept(&self, rule: Rule) -> bool
+    fn is_kept(&self, rule: JoinRule) -> bool
         ensures { IsTrue result → (kind : InterfaceKind) (e : End) → breaks rule self.now.f.now.joins kind e ≡ false }
     {
         match rule {
-            Rule::Services => false,
-            Rule::Groups => self.crowded.is_empty(),
+            JoinRule::Services => false,
+            JoinRule::Groups => self.crowded.is_empty(),
         }
     }
 
     fn first_item(
         &self,
-        rule: Rule,
+        rule: JoinRule,
         instance: Option<u32>,
         port: u32,
         kind: &InterfaceKind,
@@ -123,7 +123,7 @@ impl Search<'_> {
     #[tactic(auto, using(crate::proofs::Firsts::number_more))]
     fn first_item_of(
         &self,
-        rule: Rule,
+        rule: JoinRule,
         instance: Option<u32>,
         port: u32,
         kind: &InterfaceKind,
@@ -146,7 +146,7 @@ impl Search<'_> {
 
     fn in_port(
         &self,
-        rule: Rule,
+        rule: JoinRule,
         instance: Option<u32>,
         number: usize,
         port: &Port,
@@ -162,7 +162,7 @@ impl Search<'_> {
 
     fn in_requiring_port(
         &self,
-        rule: Rule,
+        rule: JoinRule,
         instance: Option<u32>,
         number: usize,
         port: &Port,
@@ -179,7 +179,7 @@ impl Search<'_> {
     #[tactic(auto, using(crate::proofs::Firsts::first_more, crate::proofs::Firsts::first_here, crate::proofs::Firsts::first_none))]
     fn in_ports(
         &self,
-        rule: Rule,
+        rule: JoinRule,
         instance: Option<u32>,
         ports: &[Port],
     ) -> Result<Option<End>, Memory>
@@ -195,7 +195,7 @@ impl Search<'_> {
 
     fn in_instance(
         &self,
-        rule: Rule,
+        rule: JoinRule,
         number: usize,
         instance: &Instance,
     ) -> Result<Option<End>, Memory>
@@ -206,7 +206,7 @@ impl Search<'_> {
     }
 
     #[tactic(auto, using(crate::proofs::Firsts::first_more, crate::proofs::Firsts::first_here, crate::proofs::Firsts::first_none))]
-    fn in_instances(&self, rule: Rule) -> Result<Option<End>, Memory>
+    fn in_instances(&self, rule: JoinRule) -> Result<Option<End>, Memory>
         ensures { IfOk result (λ end. end ≡ in_instances rule self.now.d.now self.now.f.now) }
     {
         for (number, instance) in self.f.instances.items().iter().enumerate() {
@@ -218,7 +218,7 @@ impl Search<'_> {
     }
 
     /// The first required item that breaks the rule.
-    pub fn first_broken(&self, rule: Rule) -> Result<Option<End>, Memory>
+    pub fn first_broken(&self, rule: JoinRule) -> Result<Option<End>, Memory>
         ensures { IfOk result (λ end. end ≡ first_broken rule self.now.d.now self.now.f.now) }
     {
         match self.in_instances(rule)? {

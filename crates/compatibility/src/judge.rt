@@ -1,7 +1,7 @@
 //! Compatible interfaces.
 
 ghost use Rattle.std.specs.Prelude.{◌≡◌, IfOk, is_some, slice_get};
-ghost use Rattle.compatibility.specs.Interfaces.{serves, are_compatible};
+ghost use Rattle.plan_definitions.specs.Interfaces.{serves, are_compatible};
 
 use crate::elements::groups_agree;
 use crate::hints::{Hints, hints_of, serve_elements, serve_operations};

@@ -15,7 +15,6 @@ mod partners;
 mod places;
 mod ports;
 mod root_ports;
-mod rule;
 mod types;
 
 pub use check::check_joins;

@@ -1,11 +1,11 @@
 //! Names of ends.
 
 ghost use Rattle.std.specs.Prelude.{◌≡◌, IfOk, Some};
-ghost use Rattle.compatibility.specs.Names.{end_text, item_name, item_of_port, item_text, owner_name, owner_ports};
+ghost use Rattle.plan_definitions.specs.Names.{end_text, item_name, item_of_port, item_text, owner_name, owner_ports};
 
 use crate::ports::ports_of;
-use composition_flatten::{End, Flat};
 use description_types::{Description, Port, PrototypeType};
+use flat_descriptions::{End, Flat};
 use interface_types::InterfaceKind;
 use rte_text::{Memory, Text};
 use std::alloc::Global;

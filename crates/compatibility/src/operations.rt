@@ -2,7 +2,7 @@
 
 ghost use Rattle.std.specs.Prelude.{◌≡◌};
 ghost use Rattle.std.specs.List.{list_any};
-ghost use Rattle.compatibility.specs.Interfaces.{same_direction, same_argument, same_arguments, same_error, declares_errors, serves_operation};
+ghost use Rattle.plan_definitions.specs.Interfaces.{same_direction, same_argument, same_arguments, same_error, declares_errors, serves_operation};
 
 use crate::types::types_agree;
 use interface_types::{ApplicationError, Argument, Direction, Operation, TypeTable};

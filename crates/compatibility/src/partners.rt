@@ -2,11 +2,11 @@
 
 ghost use Rattle.std.specs.Prelude.{◌≡◌, IfOk, OnOk, Some};
 ghost use Rattle.indexmap.specs.IndexMap.{Updates, get};
-ghost use Rattle.compatibility.specs.Joins.{are_several, crowds, is_none, providers, requirers, same_end};
+ghost use Rattle.plan_definitions.specs.Joins.{are_several, crowds, is_none, providers, requirers, same_end};
 ghost use Rattle.compatibility.specs.declared.partners.Side.TheVariants as side;
 ghost use Rattle.compatibility.specs.Partners.{AreKept, key_of, other, own, same_key, with_one};
 
-use composition_flatten::{End, Join};
+use flat_descriptions::{End, Join};
 use indexmap::IndexMap;
 use rte_text::Memory;
 use std::alloc::Global;

@@ -2,7 +2,7 @@
 
 ghost use Rattle.std.specs.Prelude.{◌≡◌, ◌++◌, IfOk, OnOk};
 ghost use Rattle.std.specs.Fmt.{decimal};
-ghost use Rattle.compatibility.specs.Refusals.{in_composition};
+ghost use Rattle.plan_definitions.specs.JoinRefusals.{in_composition};
 
 use itoa::Buffer;
 use rte_text::{Memory, Text};

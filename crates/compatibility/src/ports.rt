@@ -1,7 +1,7 @@
 //! Ports, and the interfaces of those that a connector joins.
 
 ghost use Rattle.std.specs.Prelude.{◌≡◌};
-ghost use Rattle.compatibility.specs.Connectors.{ports_of, inner_interface, both, delegated, sides};
+ghost use Rattle.plan_definitions.specs.Connectors.{ports_of, inner_interface, both, delegated, sides};
 
 use description_types::{
     Composition, Connector, Description, InnerPort, Port, PortKind, PrototypeType,

@@ -1,7 +1,7 @@
 //! Which ports the root may have.
 
 ghost use Rattle.std.specs.Prelude.{◌≡◌};
-ghost use Rattle.compatibility.specs.Connectors.{is_client_server, requires_server, root_client};
+ghost use Rattle.plan_definitions.specs.Connectors.{is_client_server, requires_server, root_client};
 
 use crate::ports::ports_of;
 use description_types::{Description, Port, PortKind, PrototypeType};

@@ -1,7 +1,7 @@
 //! Compatible data types.
 
 ghost use Rattle.std.specs.Prelude.{◌≡◌};
-ghost use Rattle.compatibility.specs.Types.{are_compatible_types, base_number, types_agree};
+ghost use Rattle.plan_definitions.specs.Types.{are_compatible_types, base_number, types_agree};
 
 use interface_types::{BaseType, DataType};
 

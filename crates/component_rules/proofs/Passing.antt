@@ -4,9 +4,9 @@ use Rattle.std.specs.Option.{option_or}
 use Rattle.interface_types.specs.declared.interface.TypeTable.{TypeTable}
 use Rattle.description_types.specs.declared.component.Component.{Component}
 use Rattle.description_types.specs.declared.description.Description.{Description}
-use Rattle.component_rules.specs.Programs.{path_of, program_refusal, refused_in, refused_program}
-use Rattle.component_rules.specs.Refusals.{of_program, of_programs}
-use Rattle.component_rules.specs.Spots.{program_text}
+use Rattle.plan_definitions.specs.Programs.{path_of, program_refusal, refused_in, refused_program}
+use Rattle.plan_definitions.specs.ComponentRefusals.{of_program, of_programs}
+use Rattle.plan_definitions.specs.Spots.{program_text}
 use Rattle.component_rules.proofs.Firsts.{none_where}
 
 one_passes : (m r : ℕ) (refused : Option (ℕ × List ℕ)) → option_map {U = ℕ × List ℕ} (λ path. (m, path)) (option_and_then (path_of None) refused) ≡ None

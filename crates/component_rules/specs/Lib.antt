@@ -1,11 +1,1 @@
-pub mod Firsts
 pub mod Tallies
-pub mod Items
-pub mod Accesses
-pub mod Signatures
-pub mod Programs
-pub mod Events
-pub mod Invocations
-pub mod Calls
-pub mod Spots
-pub mod Refusals

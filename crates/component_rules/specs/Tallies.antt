@@ -1,14 +1,7 @@
--- How often something is among others.
-use Rattle.std.specs.Prelude.{◌≡◌, ℕ, zero, suc, List, [], ◌∷◌, Bool, true, false, if◌then◌else◌, ◌&&◌, nat_eq, Option, Some, None, is_some}
+-- What comes again, by key.
+use Rattle.std.specs.Prelude.{◌≡◌, ℕ, zero, suc, List, Bool, true, false, Option, Some, None, is_some}
 use Rattle.indexmap.specs.IndexMap.{IndexMap, get}
-
-abbrev pub count : {X : Type 0} → (X → Bool) → List X → ℕ
-count test [] = zero
-count test (x ∷ xs) = if test x then suc (count test xs) else count test xs
-
--- an operation of a port, by the positions of the port and of the operation
-abbrev pub same_operation : ℕ × ℕ → ℕ × ℕ → Bool
-same_operation a b = nat_eq a.0 b.0 && nat_eq a.1 b.1
+use Rattle.plan_definitions.specs.Counts.{count}
 
 -- whether what comes so often comes again, where it comes at all
 abbrev pub again_in : ℕ → Option Bool

@@ -1,12 +1,12 @@
 //! Whether accesses fit.
 
 ghost use Rattle.std.specs.Prelude.{◌≡◌};
-ghost use Rattle.component_rules.specs.Accesses.{names_port, fits, access_fits, misfit_among, misfit};
+ghost use Rattle.plan_definitions.specs.Accesses.{names_port, fits, access_fits, misfit_among, misfit};
 
-use crate::items::{Item, item_at};
-use crate::spots::Spot;
+use crate::items::item_at;
 use description_types::{Access, Component, Port, PortKind};
 use interface_types::{SwImplPolicy, TypeTable};
+use plan_definitions::{Item, Spot};
 use runnable_lang::AccessKind;
 
 fn names_port(kind: AccessKind) -> bool

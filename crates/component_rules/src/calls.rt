@@ -2,11 +2,11 @@
 
 ghost use Rattle.std.specs.Prelude.{◌≡◌, ◌++◌, IfOk, OnOk};
 ghost use Rattle.std.specs.List.{flat_map};
-ghost use Rattle.component_rules.specs.Calls.{called_by, left_by, called, left, is_called_once, is_left, access_keeps, event_keeps, mixed_among, mixed_access, mixed_event, mixed};
+ghost use Rattle.plan_definitions.specs.Calls.{called_by, left_by, called, left, is_called_once, is_left, access_keeps, event_keeps, mixed_among, mixed_access, mixed_event, mixed};
 
-use crate::spots::Spot;
 use crate::tally::Tally;
 use description_types::{Access, Component, Event, EventKind, Runnable};
+use plan_definitions::Spot;
 use rte_text::Memory;
 use runnable_lang::AccessKind;
 use std::alloc::Global;

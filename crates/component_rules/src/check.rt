@@ -1,9 +1,10 @@
 //! The checks, and what they refuse.
 
 ghost use Rattle.std.specs.Prelude.{◌≡◌, Some, None, IfOk};
-ghost use Rattle.component_rules.specs.declared.rule.Rule.TheVariants as rules;
-ghost use Rattle.component_rules.specs.Programs.{refused_program};
-ghost use Rattle.component_rules.specs.Refusals.{Tells, number_of, broken_in, first_broken, of_rule, of_program, of_programs, of_events, refusal};
+ghost use Rattle.plan_definitions.specs.declared.component_rule.ComponentRule.TheVariants as rules;
+ghost use Rattle.plan_definitions.specs.Programs.{refused_program};
+ghost use Rattle.plan_definitions.specs.Telling.{Tells};
+ghost use Rattle.plan_definitions.specs.ComponentRefusals.{number_of, broken_in, first_broken, of_rule, of_program, of_programs, of_events, refusal};
 
 use crate::accesses::misfit;
 use crate::calls::mixed;
@@ -11,44 +12,47 @@ use crate::events::{misplaced, wrongly_disabled};
 use crate::invocations::wrongly_served;
 use crate::places::{program_text, spot_text};
 use crate::programs::refused_program;
-use crate::rule::Rule;
-use crate::spots::Spot;
 use description_types::{Component, Description};
 use interface_types::TypeTable;
+use plan_definitions::{ComponentRule, Spot};
 use rte_text::{Memory, Refusal, Refused, Text};
 use std::alloc::Global;
 
-fn number_of(rule: Rule) -> u16
+fn number_of(rule: ComponentRule) -> u16
     ensures { result ≡ number_of rule }
 {
     match rule {
-        Rule::Accesses => 16,
-        Rule::EventKinds => 21,
-        Rule::Invocations => 22,
-        Rule::Calls => 23,
-        Rule::Disablings => 24,
+        ComponentRule::Accesses => 16,
+        ComponentRule::EventKinds => 21,
+        ComponentRule::Invocations => 22,
+        ComponentRule::Calls => 23,
+        ComponentRule::Disablings => 24,
     }
 }
 
 fn broken_in(
     alloc: Global,
-    rule: Rule,
+    rule: ComponentRule,
     types: &TypeTable,
     component: &Component,
 ) -> Result<Option<Spot>, Memory>
     ensures { IfOk result (λ spot. spot ≡ broken_in rule types.now component.now) }
 {
     match rule {
-        Rule::Accesses => Ok(misfit(types, component)),
-        Rule::EventKinds => Ok(misplaced(types, component)),
-        Rule::Invocations => wrongly_served(alloc, types, component),
-        Rule::Calls => mixed(alloc, component),
-        Rule::Disablings => Ok(wrongly_disabled(types, component)),
+        ComponentRule::Accesses => Ok(misfit(types, component)),
+        ComponentRule::EventKinds => Ok(misplaced(types, component)),
+        ComponentRule::Invocations => wrongly_served(alloc, types, component),
+        ComponentRule::Calls => mixed(alloc, component),
+        ComponentRule::Disablings => Ok(wrongly_disabled(types, component)),
     }
 }
 
 #[tactic(auto, using(crate::proofs::Firsts::first_more, crate::proofs::Firsts::first_here, crate::proofs::Firsts::first_none))]
-fn first_broken(alloc: Global, rule: Rule, d: &Description) -> Result<Option<(usize, Spot)>, Memory>
+fn first_broken(
+    alloc: Global,
+    rule: ComponentRule,
+    d: &Description,
+) -> Result<Option<(usize, Spot)>, Memory>
     ensures { IfOk result (λ found. found ≡ first_broken rule d.now) }
 {
     for (position, component) in d.components.items().iter().enumerate() {
@@ -65,7 +69,7 @@ fn refused(rule: u16, place: Text) -> Result<(), Refused>
     Err(Refused::Rule(Refusal { rule, place }))
 }
 
-fn check_rule(alloc: Global, rule: Rule, d: &Description) -> Result<(), Refused>
+fn check_rule(alloc: Global, rule: ComponentRule, d: &Description) -> Result<(), Refused>
     ensures { Tells (of_rule rule d.now) result }
 {
     match first_broken(alloc, rule, d)? {
@@ -112,10 +116,10 @@ fn check_programs(alloc: Global, d: &Description) -> Result<(), Refused>
 fn check_events(alloc: Global, d: &Description) -> Result<(), Refused>
     ensures { Tells (of_events d.now) result }
 {
-    check_rule(alloc, Rule::EventKinds, d)?;
-    check_rule(alloc, Rule::Invocations, d)?;
-    check_rule(alloc, Rule::Calls, d)?;
-    check_rule(alloc, Rule::Disablings, d)
+    check_rule(alloc, ComponentRule::EventKinds, d)?;
+    check_rule(alloc, ComponentRule::Invocations, d)?;
+    check_rule(alloc, ComponentRule::Calls, d)?;
+    check_rule(alloc, ComponentRule::Disablings, d)
 }
 
 /// Whether each component of a description, used or not, keeps its rules: each access fits its port (16, at the access); each
@@ -124,14 +128,14 @@ fn check_events(alloc: Global, d: &Description) -> Result<(), Refused>
 /// (22, at the event); an operation that is called without waiting is called by no other access, and results and
 /// AsynchronousServerCallReturnsEvents are of such operations (23, at the access or the event); modes disable only TimingEvents,
 /// InitEvents, DataReceivedEvents and AsynchronousServerCallReturnsEvents, and are of the group of an R-port (24, at the event).
-/// An error of `Rule` names the least of these that is broken and its first place in the order of the document: within a
+/// An error of `ComponentRule` names the least of these that is broken and its first place in the order of the document: within a
 /// component ports come before accesses, and these before events.
 ///
 /// An error of `Memory` may come at any time.
 pub fn check_components(alloc: Global, d: &Description) -> Result<(), Refused>
     ensures { Tells (refusal d.now) result }
 {
-    check_rule(alloc, Rule::Accesses, d)?;
+    check_rule(alloc, ComponentRule::Accesses, d)?;
     check_programs(alloc, d)?;
     check_events(alloc, d)
 }

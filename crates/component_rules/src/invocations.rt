@@ -2,14 +2,14 @@
 
 ghost use Rattle.std.specs.Prelude.{◌≡◌, ◌++◌, ◌==◌, IfOk, OnOk, nat_eq};
 ghost use Rattle.std.specs.Option.{option_or};
-ghost use Rattle.component_rules.specs.Firsts.{each_number};
-ghost use Rattle.component_rules.specs.Tallies.{count, same_operation};
-ghost use Rattle.component_rules.specs.Invocations.{operation_of, invoked, operation_count, operations_at, is_served, started, is_alone, unserved, shared, wrongly_served};
+ghost use Rattle.plan_definitions.specs.Firsts.{each_number};
+ghost use Rattle.plan_definitions.specs.Counts.{count, same_operation};
+ghost use Rattle.plan_definitions.specs.Invocations.{operation_of, invoked, operation_count, operations_at, is_served, started, is_alone, unserved, shared, wrongly_served};
 
-use crate::spots::Spot;
 use crate::tally::Tally;
 use description_types::{Component, Event, EventKind, Port, PortKind};
 use interface_types::{InterfaceKind, TypeTable};
+use plan_definitions::Spot;
 use rte_text::Memory;
 use std::alloc::{AllocError, Global};
 

@@ -1,21 +1,11 @@
 //! The items of ports.
 
 ghost use Rattle.std.specs.Prelude.{◌≡◌};
-ghost use Rattle.component_rules.specs.Items.{item_of, item_of_port, item_at};
+ghost use Rattle.plan_definitions.specs.Items.{item_of, item_of_port, item_at};
 
 use description_types::{Port, PortKind};
 use interface_types::{InterfaceKind, SwImplPolicy, TypeTable};
-
-/// What an item of a port is.
-#[derive(Clone, Copy)]
-pub enum Item {
-    /// A data element.
-    Data(SwImplPolicy),
-    /// An operation.
-    Operation,
-    /// A mode element, of a group with so many modes.
-    Modes(usize),
-}
+use plan_definitions::Item;
 
 fn item_of(types: &TypeTable, kind: &InterfaceKind, item: u32) -> Option<Item>
     ensures { result ≡ item_of types.now kind.now item }

@@ -10,9 +10,7 @@ mod invocations;
 mod items;
 mod places;
 mod programs;
-mod rule;
 mod signatures;
-mod spots;
 mod tally;
 
 pub use check::check_components;

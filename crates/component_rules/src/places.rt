@@ -2,10 +2,10 @@
 
 ghost use Rattle.std.specs.Prelude.{◌≡◌, ◌++◌, IfOk, OnOk};
 ghost use Rattle.std.specs.Fmt.{decimal};
-ghost use Rattle.component_rules.specs.Spots.{in_component, runnable_text, spot_text, path_text, program_text};
+ghost use Rattle.plan_definitions.specs.Spots.{in_component, runnable_text, spot_text, path_text, program_text};
 
-use crate::spots::Spot;
 use itoa::Buffer;
+use plan_definitions::Spot;
 use rte_text::{Memory, Text};
 use std::alloc::Global;
 

@@ -1,11 +1,12 @@
 //! The signatures of runnables.
 
 ghost use Rattle.std.specs.Prelude.{◌≡◌, ◌++◌, IfOk, OnOk, replicate, option_copied};
-ghost use Rattle.component_rules.specs.Signatures.{limits_of, words_of, goes, arguments_of, words_of_item, kind_at, words_at, words_of_variable, given, taken, mode_count, modes_of, access_sig, signature};
+ghost use Rattle.plan_definitions.specs.Signatures.{limits_of, words_of, goes, arguments_of, words_of_item, kind_at, words_at, words_of_variable, given, taken, mode_count, modes_of, access_sig, signature};
 
-use crate::items::{Item, item_at};
+use crate::items::item_at;
 use description_types::{Access, Component};
 use interface_types::{Argument, DataType, Direction, InterfaceKind, TypeTable};
+use plan_definitions::Item;
 use rte_text::{Memory, Seq};
 use rte_value::Limits;
 use runnable_lang::{AccessKind, AccessSig, Signature};

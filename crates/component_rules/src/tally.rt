@@ -2,7 +2,8 @@
 
 ghost use Rattle.std.specs.Prelude.{◌≡◌, ◌==◌, Some, IfOk, OnOk, nat_lt};
 ghost use Rattle.indexmap.specs.IndexMap.{Updates, get};
-ghost use Rattle.component_rules.specs.Tallies.{count, AreTallied, noted};
+ghost use Rattle.plan_definitions.specs.Counts.{count};
+ghost use Rattle.component_rules.specs.Tallies.{AreTallied, noted};
 
 use indexmap::IndexMap;
 use rte_text::Memory;

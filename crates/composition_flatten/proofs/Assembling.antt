@@ -7,12 +7,12 @@ use Rattle.description_types.specs.declared.description.Description.{Description
 use Rattle.description_types.specs.declared.description.InnerPort.{InnerPort}
 use Rattle.composition_tables.specs.declared.links.Link.{Link}
 use Rattle.composition_tables.specs.declared.tree.Owner.TheVariants.{Instance}
-use Rattle.composition_tables.specs.Connectors.{lets_join, connectors_of}
+use Rattle.flat_descriptions.specs.Connectors.{lets_join, connectors_of}
 use Rattle.composition_tables.specs.Ends.{ends, inner_ends}
 use Rattle.end_crossing.specs.PortLinks.{IsCrossLink}
 use Rattle.composition_flatten.specs.Links.{IsAssemblyLink, IsOwnLink}
-use Rattle.composition_tables.specs.Growing.{Grown}
-use Rattle.composition_tables.specs.Members.{Among}
+use Rattle.flat_descriptions.specs.Growing.{Grown}
+use Rattle.flat_descriptions.specs.Members.{Among}
 use Rattle.composition_tables.proofs.Growth.{grown_same, grown_none}
 use Rattle.std.specs.Option.{option_map_or}
 use Rattle.description_types.specs.declared.description.Composition.{Composition}

@@ -7,10 +7,10 @@ use Rattle.std.proofs.lemmas.Option.{get_or_from_slice_get, slice_get_past, slic
 use Rattle.description_types.specs.declared.description.Connector.{Connector}
 use Rattle.description_types.specs.declared.description.Description.{Description}
 use Rattle.composition_flatten.specs.declared.wiring.Key.{Key}
-use Rattle.composition_tables.specs.Connectors.{connectors_of, lets_join, IsBrokenConnector}
-use Rattle.composition_tables.specs.Firsts.{IsFirst}
+use Rattle.flat_descriptions.specs.Connectors.{connectors_of, lets_join, IsBrokenConnector}
+use Rattle.flat_descriptions.specs.Firsts.{IsFirst}
 use Rattle.composition_flatten.specs.Keys.{key_of}
-use Rattle.composition_tables.specs.Members.{Among}
+use Rattle.flat_descriptions.specs.Members.{Among}
 use Rattle.composition_tables.proofs.Members.{left, right, cases}
 use Rattle.composition_flatten.proofs.SameKeys.{same_connector}
 

@@ -18,14 +18,14 @@ use Rattle.composition_tables.specs.declared.tree.Owner.{Owner}
 use Rattle.composition_tables.specs.declared.tree.Owner.TheVariants.{Instance}
 use Rattle.composition_tables.specs.declared.tree.PortEnd.{PortEnd}
 use Rattle.composition_flatten.specs.declared.whole.Own.{Own}
-use Rattle.composition_tables.specs.Connectors.{ports_of, interface_of, kind_of}
+use Rattle.flat_descriptions.specs.Connectors.{ports_of, interface_of, kind_of}
 use Rattle.composition_tables.specs.Ends.{ends, own_end, inner_ends, inner_ports, number_from, offset}
-use Rattle.composition_tables.specs.Growing.{AnyOf, Grown}
+use Rattle.flat_descriptions.specs.Growing.{AnyOf, Grown}
 use Rattle.composition_flatten.specs.Links.{IsAssemblyLink, IsOwnLink, IsNodeLink, IsOwn, IsOuterLink, IsLink, outer_link, link_from}
 use Rattle.composition_tables.specs.Nodes.{IsNode}
 use Rattle.end_search.specs.Gates.{outer_ends}
 use Rattle.composition_tables.specs.Owners.{owner_from}
-use Rattle.composition_tables.specs.Members.{Among, AllApart}
+use Rattle.flat_descriptions.specs.Members.{Among, AllApart}
 use Rattle.composition_tables.proofs.Following.{inner_cases}
 use Rattle.composition_tables.proofs.Growth.{grown_same, grown_none, grown_then, grown_stop}
 use Rattle.end_crossing.proofs.SamePorts.{cross_same}

@@ -1,9 +1,5 @@
-pub mod Flattening
-pub mod Instances
-pub mod Joined
 pub mod Joins
 pub mod Keys
 pub mod Links
 pub mod Named
-pub mod Orders
 pub mod Within

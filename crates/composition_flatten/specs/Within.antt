@@ -2,15 +2,15 @@
 use Rattle.std.specs.Prelude.{◌≡◌, ◌≤◌, List, false, length, ◌↔◌}
 use Rattle.std.specs.List.Sorted.{IsStrictlySortedBy}
 use Rattle.description_types.specs.declared.description.Description.{Description}
-use Rattle.composition_flatten.specs.declared.flat.Join.{Join}
+use Rattle.flat_descriptions.specs.declared.flat.Join.{Join}
 use Rattle.composition_flatten.specs.declared.limits.Within.{Within}
-use Rattle.composition_flatten.specs.Flattening.{KeepsLimits}
-use Rattle.composition_tables.specs.Growing.{IsPastLimit}
-use Rattle.composition_flatten.specs.Instances.{instances, names_env}
-use Rattle.composition_tables.specs.Places.{places, IsTooDeep}
-use Rattle.composition_flatten.specs.Joined.{IsJoined}
-use Rattle.composition_tables.specs.Members.{Among}
-use Rattle.composition_flatten.specs.Orders.{join_order}
+use Rattle.flat_descriptions.specs.Flattening.{KeepsLimits}
+use Rattle.flat_descriptions.specs.Growing.{IsPastLimit}
+use Rattle.flat_descriptions.specs.Instances.{instances, names_env}
+use Rattle.flat_descriptions.specs.Places.{places, IsTooDeep}
+use Rattle.flat_descriptions.specs.Joined.{IsJoined}
+use Rattle.flat_descriptions.specs.Members.{Among}
+use Rattle.flat_descriptions.specs.Orders.{join_order}
 
 -- the limits on instances
 pub record KeepsCounts (d : Description) : Type 0 where

@@ -1,7 +1,6 @@
 //! A description made flat: its component instances, and which of their ports' items are joined.
 #![tactic(auto)]
 
-mod flat;
 mod flattening;
 mod limits;
 mod listing;
@@ -9,5 +8,4 @@ mod own;
 mod whole;
 mod wiring;
 
-pub use flat::{End, Flat, Instance, Join};
 pub use flattening::flatten;

@@ -2,15 +2,14 @@
 
 ghost use Rattle.std.specs.Prelude.{◌≡◌, ◌↔◌, IfOk, IfSome, IfNone, IsTrue, map};
 ghost use Rattle.composition_tables.specs.Counts.{IsCounted};
-ghost use Rattle.composition_flatten.specs.Flattening.{KeepsLimits};
-ghost use Rattle.composition_tables.specs.Growing.{IsPastLimit};
-ghost use Rattle.composition_flatten.specs.Instances.{names_env};
-ghost use Rattle.composition_flatten.specs.Joined.{IsJoined};
+ghost use Rattle.flat_descriptions.specs.Flattening.{KeepsLimits};
+ghost use Rattle.flat_descriptions.specs.Growing.{IsPastLimit};
+ghost use Rattle.flat_descriptions.specs.Instances.{names_env};
+ghost use Rattle.flat_descriptions.specs.Joined.{IsJoined};
 ghost use Rattle.composition_flatten.specs.Joins.{instance_of, end_of, join_of};
 ghost use Rattle.composition_tables.specs.Trees.{IsTree};
 ghost use Rattle.composition_flatten.specs.Within.{IsWithin, AreJoins, KeepsCounts};
 
-use crate::flat::{End, Instance, Join};
 use crate::listing::list_instances;
 use crate::whole::{add_links, listed};
 use composition_tables::counts::{DEPTH_LIMIT, count_below, count_levels};
@@ -21,6 +20,7 @@ use composition_tables::prototypes::prototypes_of;
 use composition_tables::starts::start_levels;
 use composition_tables::tree::{Owner, Tree};
 use description_types::Description;
+use flat_descriptions::{End, Instance, Join};
 use rte_text::Memory;
 use std::alloc::Global;
 use std::collections::BTreeSet;

@@ -4,10 +4,10 @@ ghost use Rattle.std.specs.Prelude.{◌≡◌, ◌≤◌, ◌<◌, ◌++◌, [],
 ghost use Rattle.composition_tables.specs.Counts.{IsCounted};
 ghost use Rattle.composition_flatten.specs.Named.{named_below, named_of};
 
-use crate::flat::Instance;
 use composition_tables::counts::{DEPTH_LIMIT, count_below};
 use composition_tables::prototypes::prototypes_of;
 use description_types::{Description, Prototype, PrototypeType};
+use flat_descriptions::Instance;
 use rte_text::{Memory, Text};
 use std::alloc::Global;
 

@@ -1,13 +1,13 @@
 //! All links of a description.
 
 ghost use Rattle.std.specs.Prelude.{◌≡◌, ◌≤◌, ◌<◌, ◌^◌, [], ◌∷◌, ℕ, IfOk, OnOk, Some, length};
-ghost use Rattle.composition_tables.specs.Connectors.{ports_of};
+ghost use Rattle.flat_descriptions.specs.Connectors.{ports_of};
 ghost use Rattle.composition_tables.specs.declared.links.Link.{Link};
 ghost use Rattle.composition_tables.specs.declared.nodes.Node.{Node};
 ghost use Rattle.composition_tables.specs.Ends.{ends};
 ghost use Rattle.end_search.specs.Gates.{gate_ends, IsShallow};
-ghost use Rattle.composition_tables.specs.Members.{Among};
-ghost use Rattle.composition_tables.specs.Growing.{AnyOf, Grown};
+ghost use Rattle.flat_descriptions.specs.Members.{Among};
+ghost use Rattle.flat_descriptions.specs.Growing.{AnyOf, Grown};
 ghost use Rattle.composition_flatten.specs.Links.{IsOwn, IsNodeLink, IsOuterLink, IsLink, link_from, item_from, outer_link};
 ghost use Rattle.composition_tables.specs.Nodes.{IsNode};
 ghost use Rattle.end_crossing.specs.Crossings.{IsAdding, IsMatched};

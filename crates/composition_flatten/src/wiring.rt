@@ -2,10 +2,10 @@
 
 ghost use Rattle.std.specs.Prelude.{◌≡◌, ◌↔◌, ◌⊎◌, IfOk, OnOk, IsTrue, length, not, ◌||◌};
 ghost use Rattle.composition_flatten.specs.declared.wiring.Key.{Key};
-ghost use Rattle.composition_tables.specs.Members.{Among};
-ghost use Rattle.composition_tables.specs.Connectors.{connectors_of, lets_join, IsBrokenConnector, IsFirstBroken};
+ghost use Rattle.flat_descriptions.specs.Members.{Among};
+ghost use Rattle.flat_descriptions.specs.Connectors.{connectors_of, lets_join, IsBrokenConnector, IsFirstBroken};
 ghost use Rattle.composition_flatten.specs.Keys.{key_of};
-ghost use Rattle.composition_tables.specs.Firsts.{IsFirst};
+ghost use Rattle.flat_descriptions.specs.Firsts.{IsFirst};
 
 use composition_tables::connectors::{connectors_of, lets_join};
 use composition_tables::containing::composition_count;

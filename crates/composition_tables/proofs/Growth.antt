@@ -2,8 +2,8 @@
 use Rattle.std.proofs.Common.{◌≡◌, ℕ, ◌+◌, ◌<◌, ◌≤◌, List, [], ◌∷◌, length, get_or, take, drop, Bool, true, false, ltb, ◌⊎◌, inl, inr, ⊎_elim, ◌↔◌, refl, sym, subst, ◌∙◌, true≢false}
 use Rattle.std.proofs.lemmas.Bool.{ltb-true}
 use Rattle.std.proofs.lemmas.List.{take_more, take_all, take-append-drop}
-use Rattle.composition_tables.specs.Growing.{AnyOf, IsPastLimit, Grown}
-use Rattle.composition_tables.specs.Members.{Among, AllApart}
+use Rattle.flat_descriptions.specs.Growing.{AnyOf, IsPastLimit, Grown}
+use Rattle.flat_descriptions.specs.Members.{Among, AllApart}
 use Rattle.composition_tables.proofs.Members.{left, right, cases, at}
 
 pub past_weaker : {X : Type 0} (P Q : X → Type 0) → ((x : X) → P x → Q x) → IsPastLimit P → IsPastLimit Q

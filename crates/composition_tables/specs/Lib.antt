@@ -1,16 +1,9 @@
-pub mod Connectors
 pub mod Counts
 pub mod Ends
-pub mod Firsts
-pub mod Growing
 pub mod Inner
-pub mod Items
 pub mod Levels
-pub mod Members
 pub mod Multi
 pub mod Nodes
 pub mod Owners
-pub mod Paths
-pub mod Places
 pub mod Ranks
 pub mod Trees

@@ -1,7 +1,7 @@
 //! Which inner ports each outer port is delegated to.
 
 ghost use Rattle.std.specs.Prelude.{◌≡◌, ◌<◌, ◌==◌, ◌++◌, [], ◌∷◌, ℕ, IfOk, OnOk, length, if◌then◌else◌};
-ghost use Rattle.composition_tables.specs.Connectors.{ports_of};
+ghost use Rattle.flat_descriptions.specs.Connectors.{ports_of};
 ghost use Rattle.composition_tables.specs.Ends.{delegated, inner_ports};
 ghost use Rattle.std.specs.Option.{option_to_list};
 ghost use Rattle.composition_tables.specs.Trees.{ports_at, IsDelegated};

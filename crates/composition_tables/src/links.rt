@@ -1,7 +1,7 @@
 //! Sets of links.
 
 ghost use Rattle.std.specs.Prelude.{◌≡◌, IfOk};
-ghost use Rattle.composition_tables.specs.Growing.{Grown};
+ghost use Rattle.flat_descriptions.specs.Growing.{Grown};
 ghost use Rattle.composition_tables.specs.Owners.{owner_from};
 
 use crate::tree::Owner;

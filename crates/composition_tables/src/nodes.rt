@@ -1,10 +1,10 @@
 //! The compositions that stand in a description.
 
 ghost use Rattle.std.specs.Prelude.{◌≡◌, ◌≤◌, ◌<◌, ◌↔◌, ◌⊎◌, OnOk, IfOk, length};
-ghost use Rattle.composition_tables.specs.Paths.{prototypes_of};
+ghost use Rattle.flat_descriptions.specs.Paths.{prototypes_of};
 ghost use Rattle.composition_tables.specs.declared.nodes.Node.{Node};
 ghost use Rattle.composition_tables.specs.Nodes.{IsNode, IsInnerNode};
-ghost use Rattle.composition_tables.specs.Members.{Among};
+ghost use Rattle.flat_descriptions.specs.Members.{Among};
 ghost use Rattle.composition_tables.specs.Trees.{IsTree};
 
 use crate::connectors::type_in;

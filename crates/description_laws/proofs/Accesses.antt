@@ -34,7 +34,7 @@ use Rattle.component_model.specs.Components.{access_reading, item_of_access, por
 use Rattle.component_model.specs.Ports.{port_reading}
 use Rattle.component_model.specs.Types.{types_reading}
 use Rattle.program_reading.specs.Words.{access_kind_of}
-use Rattle.sound_descriptions.specs.WellFormed.{accesses_distinct, items_of_port, same_access}
+use Rattle.plan_definitions.specs.WellFormed.{accesses_distinct, items_of_port, same_access}
 use Rattle.description_laws.proofs.ComponentLists.{found_area, found_port, found_variable}
 use Rattle.description_laws.proofs.Kept.{Part, Kept, Differ, kept_part, parts_kept, right_part, shape_here, found_here}
 use Rattle.description_laws.proofs.Lists.{IsIn, in_left, Apart, apart_across}

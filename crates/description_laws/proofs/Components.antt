@@ -38,12 +38,12 @@ use Rattle.declared_names.specs.Names.{position_in, texts}
 use Rattle.declared_names.specs.Scopes.{interface_names, scope_of, type_names}
 use Rattle.declared_names.specs.Values.{items_at, listed}
 use Rattle.component_model.specs.Components.{access_reading, event_reading, variable_reading}
-use Rattle.component_model.specs.Initials.{keeps}
+use Rattle.interface_types.specs.Initials.{keeps}
 use Rattle.component_model.specs.Ports.{port_reading}
 use Rattle.component_model.specs.Programs.{behavior_in, behavior_reading, component_reading, component_tree, ComponentTree, first_names, invoked_events, runnable_names, runnable_reading, runnable_tree, RunnableTree}
 use Rattle.component_model.specs.Types.{types_reading}
 use Rattle.bus_semantics.specs.SoundPrograms.{is_well_formed}
-use Rattle.sound_descriptions.specs.WellFormed.{access_fits, accesses_distinct, arguments_at, component_fits, event_fits, event_kind_fits, names_fit, ports_fit, runnable_fits, serves_fit, variable_fits}
+use Rattle.plan_definitions.specs.WellFormed.{access_fits, accesses_distinct, arguments_at, component_fits, event_fits, event_kind_fits, names_fit, ports_fit, runnable_fits, serves_fit, variable_fits}
 use Rattle.description_laws.proofs.Accesses.{access_low, accesses_law}
 use Rattle.description_laws.proofs.ComponentLists.{runnables_list, variables_list}
 use Rattle.description_laws.proofs.Events.{event_low, events_law, kind_low, disabled_low}

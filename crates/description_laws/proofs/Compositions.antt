@@ -24,7 +24,7 @@ use Rattle.declared_names.specs.Scopes.{interface_names, prototype_names, type_n
 use Rattle.declared_names.specs.Values.{items_at, listed}
 use Rattle.component_model.specs.Compositions.{composition_reading, prototype_reading, type_named}
 use Rattle.component_model.specs.Types.{types_reading}
-use Rattle.sound_descriptions.specs.WellFormed.{names_fit, ports_fit}
+use Rattle.plan_definitions.specs.WellFormed.{names_fit, ports_fit}
 use Rattle.description_laws.proofs.Kept.{Kept, kept_part, found_here}
 use Rattle.description_laws.proofs.Listings.{Objects}
 use Rattle.description_laws.proofs.Naming.{all_listed, on_list, short_names_fit}

@@ -33,7 +33,7 @@ use Rattle.component_model.specs.Components.{disabling_reading, event_kind_readi
 use Rattle.component_model.specs.Ports.{port_reading}
 use Rattle.component_model.specs.Types.{types_reading}
 use Rattle.bus_semantics.specs.SoundPlan.{is_in}
-use Rattle.sound_descriptions.specs.WellFormed.{items_of_port, names_fit}
+use Rattle.plan_definitions.specs.WellFormed.{items_of_port, names_fit}
 use Rattle.description_laws.proofs.ComponentLists.{found_runnable}
 use Rattle.description_laws.proofs.Hits.{is_named, is_object}
 use Rattle.description_laws.proofs.Kept.{Kept, kept_part, shape_here, found_here}

@@ -15,7 +15,7 @@ use Rattle.description_types.specs.declared.description.Description.{Description
 use Rattle.declared_names.specs.Names.{position_in, short_names}
 use Rattle.declared_names.specs.Values.{items_at}
 use Rattle.component_model.specs.Descriptions.{description_of, reading, DescriptionTree}
-use Rattle.sound_descriptions.specs.WellFormed.{component_fits, composition_fits, IsWellFormed, mapping_fits, prototype_fits, types_fit}
+use Rattle.plan_definitions.specs.WellFormed.{component_fits, composition_fits, IsWellFormed, mapping_fits, prototype_fits, types_fit}
 use Rattle.description_laws.proofs.Beginning.{Whole}
 use Rattle.description_laws.proofs.Kept.{Kept, found_here}
 use Rattle.description_laws.proofs.Mappings.{fits_mapping, mapping_law}
@@ -36,7 +36,7 @@ use Rattle.description_types.specs.declared.description.PrototypeType.{Prototype
 use Rattle.description_types.specs.declared.description.PrototypeType.TheVariants as of
 use Rattle.component_model.specs.Programs.{component_reading, component_tree}
 use Rattle.declared_names.specs.Scopes.{scope_of}
-use Rattle.sound_descriptions.specs.WellFormed.{names_fit, ports_fit}
+use Rattle.plan_definitions.specs.WellFormed.{names_fit, ports_fit}
 
 pub mapping : (d : Description) → Whole (description_of d) → mapping_fits d ≡ true
 mapping d w = subst (λ m. fits_mapping m ≡ true) (sym (ap (λ (t : DescriptionTree). t.mapping) w.is_reading)) (mapping_law w.value w.kept)

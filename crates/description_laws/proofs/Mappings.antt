@@ -24,7 +24,7 @@ use Rattle.declared_names.specs.Names.{position_in, short_names}
 use Rattle.declared_names.specs.Values.{below as under, items_at, listed, number_at}
 use Rattle.component_model.specs.Compositions.{mapped_event_reading, mapping_reading, task_reading}
 use Rattle.bus_semantics.specs.SoundPlan.{is_in}
-use Rattle.sound_descriptions.specs.WellFormed.{names_fit}
+use Rattle.plan_definitions.specs.WellFormed.{names_fit}
 use Rattle.description_laws.proofs.Kept.{Kept, kept_part, shape_here, found_here}
 use Rattle.description_laws.proofs.Lookups.{found_task, tasks_list}
 use Rattle.description_laws.proofs.Naming.{all_listed, on_list, short_names_fit}

@@ -21,7 +21,7 @@ use Rattle.description_places.specs.Spots.{Spot, inside, inside_part}
 use Rattle.description_places.specs.Visits.{visits, items_visits, part_of, in_parts}
 use Rattle.bus_semantics.specs.SoundNames as bus
 use Rattle.bus_semantics.specs.SoundPlan.{is_in, same_numbers}
-use Rattle.sound_descriptions.specs.WellFormed.{distinct, names_fit}
+use Rattle.plan_definitions.specs.WellFormed.{distinct, names_fit}
 use Rattle.description_laws.proofs.Hits.{is_object}
 use Rattle.description_laws.proofs.Kept.{Part, Kept, Differ, right_part, parts_kept, kept_part, shape_here}
 use Rattle.description_laws.proofs.Lists.{IsIn, in_left, in_right, Apart, apart_across}

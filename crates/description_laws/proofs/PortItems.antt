@@ -25,7 +25,7 @@ use Rattle.declared_names.specs.Scopes.{interface_names, item_names, type_names}
 use Rattle.declared_names.specs.Values.{items_at, listed}
 use Rattle.component_model.specs.Ports.{port_reading}
 use Rattle.component_model.specs.Types.{types_reading}
-use Rattle.sound_descriptions.specs.WellFormed.{items_at as item_number, items_of_port}
+use Rattle.plan_definitions.specs.WellFormed.{items_at as item_number, items_of_port}
 use Rattle.description_laws.proofs.ComponentLists.{found_port}
 use Rattle.description_laws.proofs.Kept.{Kept, kept_part}
 use Rattle.description_laws.proofs.Lists.{IsIn}

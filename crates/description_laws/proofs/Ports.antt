@@ -31,11 +31,11 @@ use Rattle.declared_names.specs.Components.{interface_of_port}
 use Rattle.declared_names.specs.Names.{position_among, position_at, position_in, short_names}
 use Rattle.declared_names.specs.Scopes.{interface_names, item_names, type_names}
 use Rattle.declared_names.specs.Values.{below as under, items_at, listed, number_at, text_at_in}
-use Rattle.component_model.specs.Initials.{keeps_element}
+use Rattle.interface_types.specs.Initials.{keeps_element}
 use Rattle.component_model.specs.Ports.{com_spec_reading, port_reading}
 use Rattle.component_model.specs.Types.{data_element_reading, interface_reading, mode_element_reading, operation_reading, types_reading}
 use Rattle.bus_semantics.specs.SoundPlan.{is_in}
-use Rattle.sound_descriptions.specs.WellFormed.{com_spec_fits, item_count, items_at as item_number, names_fit, port_fits, ports_fit}
+use Rattle.plan_definitions.specs.WellFormed.{com_spec_fits, item_count, items_at as item_number, names_fit, port_fits, ports_fit}
 use Rattle.description_laws.proofs.Hits.{is_object}
 use Rattle.description_laws.proofs.InterfaceItems.{found_item}
 use Rattle.description_laws.proofs.Kept.{Kept, kept_part, shape_here, found_here}

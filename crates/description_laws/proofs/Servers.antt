@@ -34,7 +34,7 @@ use Rattle.component_model.specs.Components.{event_kind_reading, event_reading, 
 use Rattle.component_model.specs.Ports.{port_reading}
 use Rattle.component_model.specs.Programs.{arguments_among, arguments_of, first_names, invoked_events, is_invoked, runnable_names, runnable_reading, runnables_in, RunnableTree}
 use Rattle.component_model.specs.Types.{argument_reading, interface_kind_reading, interface_reading, operation_reading, types_reading}
-use Rattle.sound_descriptions.specs.WellFormed.{argument_count, arguments_at, distinct, names_fit}
+use Rattle.plan_definitions.specs.WellFormed.{argument_count, arguments_at, distinct, names_fit}
 use Rattle.description_laws.proofs.ComponentLists.{found_runnable}
 use Rattle.description_laws.proofs.Events.{port_here, runnable_refers}
 use Rattle.description_laws.proofs.Kept.{Kept, kept_part, shape_here}

@@ -16,7 +16,7 @@ use Rattle.declared_names.specs.Values.{listed}
 use Rattle.program_reading.specs.Variables.{added, all_added}
 use Rattle.component_model.specs.Programs.{is_invoked, runnable_names}
 use Rattle.bus_semantics.specs.SoundPlan.{same_numbers}
-use Rattle.sound_descriptions.specs.WellFormed.{distinct}
+use Rattle.plan_definitions.specs.WellFormed.{distinct}
 use Rattle.description_laws.proofs.Programs.{has}
 
 -- ---- names that are added

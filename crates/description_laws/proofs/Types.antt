@@ -32,7 +32,7 @@ use Rattle.declared_names.specs.Values.{items_at, listed, number_at}
 use Rattle.component_model.specs.Types.{data_element_reading, data_type_reading, error_reading, interface_kind_reading, interface_reading, mode_element_reading, mode_group_reading, operation_reading, types_reading}
 use Rattle.bus_semantics.specs.SoundNames as bus
 use Rattle.bus_semantics.specs.SoundPlan.{is_in}
-use Rattle.sound_descriptions.specs.WellFormed.{group_fits, kind_fits, names_fit, operation_fits, type_fits, types_fit}
+use Rattle.plan_definitions.specs.WellFormed.{group_fits, kind_fits, names_fit, operation_fits, type_fits, types_fit}
 use Rattle.description_laws.proofs.Kept.{Kept, kept_part, shape_here, found_here}
 use Rattle.description_laws.proofs.Lookups.{found_data_type, found_group, found_mode}
 use Rattle.description_laws.proofs.Naming.{all_listed, name_fits, names_owned, on_list, Owns}

@@ -18,7 +18,8 @@ use Rattle.component_model.specs.declared.initials.Initial.TheVariants.{OfPort, 
 use Rattle.component_model.specs.declared.initials.Owner.{Owner}
 use Rattle.component_model.specs.declared.initials.Owner.TheVariants as owner
 use Rattle.component_model.specs.Descriptions.{DescriptionTree}
-use Rattle.component_model.specs.Initials.{broken_initials, broken_of_component, broken_of_composition, broken_of_port, broken_of_ports, broken_of_variables, initial_place, keeps, keeps_element}
+use Rattle.interface_types.specs.Initials.{keeps, keeps_element}
+use Rattle.component_model.specs.Initials.{broken_initials, broken_of_component, broken_of_composition, broken_of_port, broken_of_ports, broken_of_variables, initial_place}
 use Rattle.component_model.specs.Programs.{ComponentTree}
 
 cons_nil : {X : Type 0} {x : X} {xs : List X} → ◌≡◌ {A = List X} (x ∷ xs) [] → ⊥

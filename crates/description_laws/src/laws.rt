@@ -6,7 +6,7 @@ ghost use Rattle.std.specs.List.{list_all};
 ghost use Rattle.description_types.specs.declared.description.Description.{Description};
 ghost use Rattle.component_model.specs.Descriptions.{description_of};
 ghost use Rattle.component_model.specs.Refusals.{IsRead};
-ghost use Rattle.sound_descriptions.specs.WellFormed.{IsWellFormed, component_fits, composition_fits, mapping_fits, types_fit};
+ghost use Rattle.plan_definitions.specs.WellFormed.{IsWellFormed, component_fits, composition_fits, mapping_fits, types_fit};
 
 use description_places::unbroken_descriptions;
 

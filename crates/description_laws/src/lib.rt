@@ -1,4 +1,4 @@
-//! What a description keeps that has been read: `IsWellFormed` of `sound_descriptions`, whole and field by field.
+//! What a description keeps that has been read: `IsWellFormed` of `plan_definitions`, whole and field by field.
 //!
 //! The crate has laws alone. What they rest on are the rules that a description which is read keeps: each of its values
 //! passes the rules of shape, names and references, and what it declares is declared once (`proofs/Kept.antt`). The key of a

@@ -3,13 +3,13 @@ use Rattle.std.proofs.Common.{◌≡◌, ◌<◌, ◌^◌, ℕ, sym, subst, leng
 use Rattle.description_types.specs.declared.description.Description.{Description}
 use Rattle.component_model.specs.Descriptions.{description_of}
 use Rattle.component_model.specs.Refusals.{IsRead}
-use Rattle.composition_flatten.specs.declared.flat.Flat.{Flat}
+use Rattle.flat_descriptions.specs.declared.flat.Flat.{Flat}
 use Rattle.bus_semantics.specs.declared.plan.BusPlan.{BusPlan}
 use Rattle.bus_semantics.specs.declared.script.Mapping.{Mapping}
 use Rattle.bus_semantics.specs.Plan.{plan_of}
 use Rattle.bus_semantics.specs.Sound.{IsSound}
-use Rattle.sound_descriptions.specs.WellFormed.{IsWellFormed}
-use Rattle.planned_descriptions.specs.Whole.{IsWhole}
+use Rattle.plan_definitions.specs.WellFormed.{IsWellFormed}
+use Rattle.plan_definitions.specs.Whole.{IsWhole}
 use Rattle.description_stages.specs.declared.joining.JoinedDescription.{JoinedDescription}
 use Rattle.description_stages.specs.declared.planning.PlannedDescription.{PlannedDescription}
 use Rattle.description_stages.specs.Plans.{IsPlannedFrom, IsPlannedOf}

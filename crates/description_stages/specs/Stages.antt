@@ -6,10 +6,10 @@ use Rattle.description_types.specs.declared.description.Description.{Description
 use Rattle.component_model.specs.Descriptions.{description_of}
 use Rattle.component_model.specs.Refusals as reading
 use Rattle.component_model.specs.Refusals.{IsRead}
-use Rattle.composition_flatten.specs.declared.flat.Flat.{Flat}
-use Rattle.composition_flatten.specs.Flattening as flattening
-use Rattle.composition_flatten.specs.Flattening.{IsFlatOf}
-use Rattle.compatibility.specs.Refusals.{refusal}
+use Rattle.flat_descriptions.specs.declared.flat.Flat.{Flat}
+use Rattle.flat_descriptions.specs.Flattening as flattening
+use Rattle.flat_descriptions.specs.Flattening.{IsFlatOf}
+use Rattle.plan_definitions.specs.JoinRefusals.{refusal}
 use Rattle.description_stages.specs.declared.joining.JoinedDescription.{JoinedDescription}
 
 -- the bytes are read as the description, it is made flat, and what is joined may be joined

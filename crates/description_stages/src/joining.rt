@@ -1,13 +1,14 @@
 //! From the bytes of a description to what its connectors join.
 
 ghost use Rattle.std.specs.Prelude.{◌≡◌, IfErr, IfOk, None, OnOk};
-ghost use Rattle.composition_flatten.specs.Flattening.{IsFlatOf};
-ghost use Rattle.compatibility.specs.Refusals.{refusal};
+ghost use Rattle.flat_descriptions.specs.Flattening.{IsFlatOf};
+ghost use Rattle.plan_definitions.specs.JoinRefusals.{refusal};
 ghost use Rattle.description_stages.specs.Stages.{IsJoinRefusalOf, IsJoinedOf, IsRefusalOf, IsToldAs};
 
 use compatibility::check_joins;
 use component_model::{Description, read_description};
-use composition_flatten::{Flat, flatten};
+use composition_flatten::flatten;
+use flat_descriptions::Flat;
 use rte_text::Refused;
 use std::alloc::Global;
 

@@ -6,6 +6,8 @@
 
 mod joining;
 mod planning;
+mod soundness;
 
 pub use joining::{JoinedDescription, join_description};
 pub use planning::{PlannedDescription, plan_description};
+pub use soundness::plans_are_sound;

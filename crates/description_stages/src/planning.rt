@@ -1,16 +1,16 @@
 //! From the bytes of a description to its plan and its mapping.
 
 ghost use Rattle.std.specs.Prelude.{IfErr, IfOk};
-ghost use Rattle.event_mapping.specs.Refusals.{IsRefusal};
+ghost use Rattle.plan_definitions.specs.PlanRefusals.{IsRefusal};
 ghost use Rattle.description_stages.specs.Plans.{IsPlanRefusalOf, IsPlannedFrom, IsPlannedOf, IsToldBy};
 
 use crate::joining::{JoinedDescription, join_description};
+use crate::soundness::plans_are_sound;
 use bus_semantics::{BusPlan, Mapping};
 use component_model::Description;
-use composition_flatten::Flat;
 use description_laws::read_descriptions_are_well_formed;
 use event_mapping::map_events;
-use plan_soundness::plans_are_sound;
+use flat_descriptions::Flat;
 use rte_text::Refused;
 use std::alloc::Global;
 

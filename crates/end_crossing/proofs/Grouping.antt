@@ -7,11 +7,11 @@ use Rattle.end_crossing.specs.declared.crossings.Crossing.{Crossing}
 use Rattle.composition_tables.specs.declared.links.Link.{Link}
 use Rattle.end_crossing.specs.declared.matched.Matched.{Matched}
 use Rattle.composition_tables.specs.declared.tree.PortEnd.{PortEnd}
-use Rattle.composition_tables.specs.Growing.{AnyOf, Grown}
+use Rattle.flat_descriptions.specs.Growing.{AnyOf, Grown}
 use Rattle.end_crossing.specs.PortLinks.{link_of, IsPairLink, IsCrossLink}
 use Rattle.end_crossing.specs.Crossings.{same_gate, same_pair, HasPairs, IsAdding, IsBetween, IsCrossingLink, IsMatched}
 use Rattle.end_search.specs.Matching.{AreListed, AreMatches}
-use Rattle.composition_tables.specs.Members.{Among}
+use Rattle.flat_descriptions.specs.Members.{Among}
 use Rattle.end_search.specs.Tables.{AreGroups}
 use Rattle.composition_tables.proofs.Growth.{grown_same}
 

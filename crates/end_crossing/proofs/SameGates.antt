@@ -8,10 +8,10 @@ use Rattle.interface_types.specs.declared.interface.InterfaceKind.TheVariants.{S
 use Rattle.end_search.specs.declared.gates.Gate.{Gate}
 use Rattle.end_search.specs.declared.gates.Gate.TheVariants.{Outer, Component, Composition}
 use Rattle.end_search.specs.declared.sides.Side.{Side}
-use Rattle.composition_tables.specs.Items.{element_names, operation_names, interface_at, ItemsJoin}
+use Rattle.flat_descriptions.specs.Items.{element_names, operation_names, interface_at, ItemsJoin}
 use Rattle.end_crossing.specs.Crossings.{same_gate}
 use Rattle.end_search.specs.Sides.{IsSide}
-use Rattle.composition_tables.specs.Members.{Among}
+use Rattle.flat_descriptions.specs.Members.{Among}
 use Rattle.end_search.specs.Sharing.{interface_keys, SharesKey}
 use Rattle.composition_tables.proofs.Members.{get_some}
 

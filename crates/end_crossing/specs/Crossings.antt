@@ -12,9 +12,9 @@ use Rattle.end_crossing.specs.declared.matched.Matched.{Matched}
 use Rattle.end_search.specs.declared.sides.Side.{Side}
 use Rattle.composition_tables.specs.declared.tree.PortEnd.{PortEnd}
 use Rattle.end_search.specs.Gates.{gate_ends}
-use Rattle.composition_tables.specs.Items.{interface_at, ItemsJoin}
+use Rattle.flat_descriptions.specs.Items.{interface_at, ItemsJoin}
 use Rattle.end_crossing.specs.PortLinks.{IsPairLink, IsCrossLink}
-use Rattle.composition_tables.specs.Members.{Among}
+use Rattle.flat_descriptions.specs.Members.{Among}
 use Rattle.composition_tables.specs.Multi.{under}
 use Rattle.end_search.specs.Matching.{AreListed, AreMatches}
 use Rattle.end_search.specs.Sides.{AreOf, IsSide}

@@ -2,11 +2,11 @@
 
 ghost use Rattle.std.specs.Prelude.{◌≡◌, ℕ, IfOk, IfSome, IfNone, OnOk};
 ghost use Rattle.end_search.specs.Gates.{gate_ends, IsShallow};
-ghost use Rattle.composition_tables.specs.Growing.{Grown};
+ghost use Rattle.flat_descriptions.specs.Growing.{Grown};
 ghost use Rattle.end_crossing.specs.PortLinks.{IsCrossLink};
 ghost use Rattle.end_crossing.specs.Crossings.{HasPairs, IsAdding, IsPart};
 ghost use Rattle.end_search.specs.Sides.{IsSide};
-ghost use Rattle.composition_tables.specs.Members.{Among};
+ghost use Rattle.flat_descriptions.specs.Members.{Among};
 ghost use Rattle.composition_tables.specs.Trees.{IsTree};
 
 use crate::completing::complete_all;

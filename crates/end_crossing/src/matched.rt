@@ -4,7 +4,7 @@ ghost use Rattle.std.specs.Prelude.{◌≡◌, ◌↔◌, ◌⊎◌, List, IfOk,
 ghost use Rattle.end_crossing.specs.declared.crossings.Crossing.{Crossing};
 ghost use Rattle.composition_tables.specs.declared.links.Link.{Link};
 ghost use Rattle.composition_tables.specs.declared.tree.PortEnd.{PortEnd};
-ghost use Rattle.composition_tables.specs.Members.{Among};
+ghost use Rattle.flat_descriptions.specs.Members.{Among};
 ghost use Rattle.indexmap.specs.IndexMap.{get};
 ghost use Rattle.end_search.specs.Gates.{IsShallow};
 ghost use Rattle.end_crossing.specs.Crossings.{same_pair, IsAdding, IsMatched};

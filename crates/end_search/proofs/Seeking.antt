@@ -8,9 +8,9 @@ use Rattle.description_types.specs.declared.description.PrototypeType.TheVariant
 use Rattle.end_search.specs.declared.below.Search.{Search}
 use Rattle.composition_tables.specs.declared.tree.PortEnd.{PortEnd}
 use Rattle.end_search.specs.Below.{Stays, Goes, IsCovered, IsInnerCovered, IsFollowed, IsSearching, IsDone}
-use Rattle.composition_tables.specs.Connectors.{interface_of}
+use Rattle.flat_descriptions.specs.Connectors.{interface_of}
 use Rattle.composition_tables.specs.Ends.{ends, own_end, inner_ends, inner_ports, number_from, offset}
-use Rattle.composition_tables.specs.Members.{Among}
+use Rattle.flat_descriptions.specs.Members.{Among}
 use Rattle.composition_tables.proofs.Following.{inner_cases}
 use Rattle.composition_tables.proofs.Members.{left, right, cases, unflat}
 

@@ -5,10 +5,10 @@ use Rattle.description_types.specs.declared.description.InnerPort.{InnerPort}
 use Rattle.description_types.specs.declared.description.PrototypeType.{PrototypeType}
 use Rattle.description_types.specs.declared.description.PrototypeType.TheVariants.{Component, Composition}
 use Rattle.end_search.specs.declared.below.Search.{Search}
-use Rattle.composition_tables.specs.Connectors.{interface_of}
+use Rattle.flat_descriptions.specs.Connectors.{interface_of}
 use Rattle.composition_tables.specs.Ends.{inner_ports}
-use Rattle.composition_tables.specs.Members.{Among}
-use Rattle.composition_tables.specs.Paths.{type_in}
+use Rattle.flat_descriptions.specs.Members.{Among}
+use Rattle.flat_descriptions.specs.Paths.{type_in}
 
 -- nothing that a search has seen or found is lost
 pub record Stays (before after : Search) : Type 0 where

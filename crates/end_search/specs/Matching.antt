@@ -2,8 +2,8 @@
 use Rattle.std.specs.Prelude.{◌≡◌, ◌↔◌, ℕ, List, map}
 use Rattle.description_types.specs.declared.description.Description.{Description}
 use Rattle.end_search.specs.declared.interfaces.Listed.{Listed}
-use Rattle.composition_tables.specs.Items.{interface_at, ItemsJoin}
-use Rattle.composition_tables.specs.Members.{Among}
+use Rattle.flat_descriptions.specs.Items.{interface_at, ItemsJoin}
+use Rattle.flat_descriptions.specs.Members.{Among}
 
 -- these are the interfaces of the description
 abbrev pub AreListed : Description → List Listed → Type 0

@@ -4,15 +4,15 @@ use Rattle.std.proofs.lemmas.Bool.{and_from, and_parts, eq-eqb, eqb-true, or_par
 use Rattle.std.proofs.lemmas.List.Filters.{length-filter_both}
 use Rattle.std.specs.List.{position_from}
 use Rattle.std.specs.Option.{option_eq, option_map_or}
-use Rattle.composition_flatten.specs.declared.flat.End.{End}
-use Rattle.composition_flatten.specs.declared.flat.Join.{Join}
-use Rattle.composition_tables.specs.Members.{Among}
-use Rattle.plan_numbers.specs.declared.site.Site.{Site}
-use Rattle.plan_numbers.specs.Joined.{end_at, end_of, is_joined, partners, same_end}
-use Rattle.plan_numbers.specs.Keys.{Key, end_key, key_of, keys_of, number_in, same_key}
-use Rattle.plan_numbers.specs.Lists.{from, positions}
-use Rattle.plan_numbers.specs.Sites.{site}
-use Rattle.plan_elements.specs.Groups.{groups, group_number, head_at, heads, leader, leader_of, least, members, nearest, own_number}
+use Rattle.flat_descriptions.specs.declared.flat.End.{End}
+use Rattle.flat_descriptions.specs.declared.flat.Join.{Join}
+use Rattle.flat_descriptions.specs.Members.{Among}
+use Rattle.plan_definitions.specs.declared.site.Site.{Site}
+use Rattle.plan_definitions.specs.Joined.{end_at, end_of, is_joined, partners, same_end}
+use Rattle.plan_definitions.specs.Keys.{Key, end_key, key_of, keys_of, number_in, same_key}
+use Rattle.plan_definitions.specs.Lists.{from, positions}
+use Rattle.plan_definitions.specs.Sites.{site}
+use Rattle.plan_definitions.specs.ElementGroups.{groups, group_number, head_at, heads, leader, leader_of, least, members, nearest, own_number}
 use Rattle.event_mapping.proofs.Apart.{Apart}
 
 -- ---- keys and ends

@@ -6,21 +6,21 @@ use Rattle.std.specs.List.{sum_by}
 use Rattle.std.specs.Option.{option_map_or, unwrap_or}
 use Rattle.description_types.specs.declared.component.Component.{Component}
 use Rattle.description_types.specs.declared.description.Description.{Description}
-use Rattle.composition_flatten.specs.declared.flat.Flat.{Flat}
-use Rattle.composition_flatten.specs.declared.flat.Instance.{Instance}
-use Rattle.plan_numbers.specs.declared.site.Site.{Site}
-use Rattle.plan_numbers.specs.Keys.{is_element, key_of}
-use Rattle.plan_numbers.specs.Sites.{sites}
-use Rattle.plan_ports.specs.Things.{elements_of, machines_of, servers_of}
-use Rattle.plan_elements.specs.Elements.{element_of, elements, group_of, leaders}
-use Rattle.plan_elements.specs.Groups.{groups}
-use Rattle.plan_runnables.specs.Started.{event_of, events, events_of_component}
-use Rattle.plan_services.specs.Modes.{machine_at, machines}
-use Rattle.plan_services.specs.Services.{server_of, servers}
+use Rattle.flat_descriptions.specs.declared.flat.Flat.{Flat}
+use Rattle.flat_descriptions.specs.declared.flat.Instance.{Instance}
+use Rattle.plan_definitions.specs.declared.site.Site.{Site}
+use Rattle.plan_definitions.specs.Keys.{is_element, key_of}
+use Rattle.plan_definitions.specs.Sites.{sites}
+use Rattle.plan_definitions.specs.Things.{elements_of, machines_of, servers_of}
+use Rattle.plan_definitions.specs.Elements.{element_of, elements, group_of, leaders}
+use Rattle.plan_definitions.specs.ElementGroups.{groups}
+use Rattle.plan_definitions.specs.Started.{event_of, events, events_of_component}
+use Rattle.plan_definitions.specs.Modes.{machine_at, machines}
+use Rattle.plan_definitions.specs.Services.{server_of, servers}
 use Rattle.event_mapping.specs.Foretold.{IsForetold, listed}
 use Rattle.event_mapping.specs.Guard.{event_count, events_of_instance, is_counted, item_count}
-use Rattle.event_mapping.specs.Planned.{area_of, areas, areas_at, named_areas, plan_of}
-use Rattle.event_mapping.specs.Rules.{is_too_large, queue_lengths}
+use Rattle.plan_definitions.specs.Planned.{area_of, areas, areas_at, named_areas, plan_of}
+use Rattle.plan_definitions.specs.PlanRules.{is_too_large, queue_lengths}
 use Rattle.event_mapping.proofs.Alone.{groups_most}
 use Rattle.event_mapping.proofs.Apart.{apart_filter, sites_apart}
 use Rattle.event_mapping.proofs.Totals.{areas_in, by_kind, length_from, sites_counted}

@@ -1,6 +1,6 @@
 -- The turns of the loops that list.
 use Rattle.std.proofs.Common.{◌≡◌, ℕ, zero, suc, ◌+◌, ◌<◌, ◌≤◌, List, [], ◌∷◌, ◌++◌, map, length, get_or, drop, ◌-◌, refl, sym, ap, ◌∙◌, arith, add-one, append_assoc}
-use Rattle.plan_numbers.specs.Lists.{positions, from}
+use Rattle.plan_definitions.specs.Lists.{positions, from}
 
 module _ {Y : Type 0} (f : ℕ → Y) where
   pub one_more : (whole old new : List Y) (i n : ℕ) → i < n → new ≡ old ++ f i ∷ [] → whole ≡ old ++ map f (positions i (n - i)) → whole ≡ new ++ map f (positions (i + 1) (n - (i + 1)))

@@ -2,11 +2,11 @@
 use Rattle.std.proofs.Common.{◌≡◌, ℕ, List, Bool, true, false, if◌then◌else◌, ap, Option, Some, None, Result, Ok, Err, OnOk, ◌⊎◌, inl, inr, refl, sym, subst, ◌∙◌}
 use Rattle.rte_text.specs.declared.refusal.Refused.{Refused}
 use Rattle.rte_text.specs.declared.refusal.Refused.TheVariants.{Rule, Memory}
-use Rattle.component_rules.specs.Refusals as components
-use Rattle.mapping_rules.specs.Refusals.{IsAfter, Says, Tells, mapping_text}
-use Rattle.event_mapping.specs.Planned.{Planned}
-use Rattle.event_mapping.specs.Refusals.{IsThen, of_size}
-use Rattle.event_mapping.specs.Rules.{is_too_large}
+use Rattle.plan_definitions.specs.Telling.{Tells as Says}
+use Rattle.plan_definitions.specs.MappingRefusals.{IsAfter, Tells, mapping_text}
+use Rattle.plan_definitions.specs.Planned.{Planned}
+use Rattle.plan_definitions.specs.PlanRefusals.{IsThen, of_size}
+use Rattle.plan_definitions.specs.PlanRules.{is_too_large}
 
 -- the same of another type of what is accepted
 pub still_says : (U V : Type 0) (o : Option (ℕ × List ℕ)) (x : Refused) → Says {U = U} o (Err x) → Says {U = V} o (Err x)
@@ -33,7 +33,7 @@ module _ (later : Option (ℕ × List ℕ) → Type 0) (o : Option (ℕ × List 
   passed_on (Err Memory) none tells = tt
 
   -- something is
-  pub refused_before : (U V : Type 0) (x : Refused) → components.Tells {U = U} o (Err x) → Tells {U = V} (IsAfter o later) (Err x)
+  pub refused_before : (U V : Type 0) (x : Refused) → Says {U = U} o (Err x) → Tells {U = V} (IsAfter o later) (Err x)
   refused_before U V (Rule x) says = subst (λ p. IsAfter p later (Some (x.rule, x.place))) (sym says) refl
   refused_before U V Memory says = tt
 

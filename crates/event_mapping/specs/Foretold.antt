@@ -1,9 +1,9 @@
 -- What the counts tell before anything is listed.
 use Rattle.std.specs.Prelude.{◌≡◌, ◌≤◌, ◌+◌, ℕ, length, Bool, true, false}
 use Rattle.description_types.specs.declared.description.Description.{Description}
-use Rattle.composition_flatten.specs.declared.flat.Flat.{Flat}
-use Rattle.event_mapping.specs.Planned.{Planned, plan_of}
-use Rattle.event_mapping.specs.Rules.{is_too_large}
+use Rattle.flat_descriptions.specs.declared.flat.Flat.{Flat}
+use Rattle.plan_definitions.specs.Planned.{Planned, plan_of}
+use Rattle.plan_definitions.specs.PlanRules.{is_too_large}
 
 -- the elements, servers, areas and mode machines of a plan
 abbrev pub listed : Planned → ℕ

@@ -1,18 +1,18 @@
 -- The lists of a plan, piece by piece.
 use Rattle.std.specs.Prelude.{◌≡◌, map}
 use Rattle.bus_semantics.specs.Plan.{runnable_of}
-use Rattle.composition_flatten.specs.declared.flat.Flat.{Flat}
+use Rattle.flat_descriptions.specs.declared.flat.Flat.{Flat}
 use Rattle.description_types.specs.declared.description.Description.{Description}
-use Rattle.plan_elements.specs.Elements.{elem_seen, elements, leaders}
-use Rattle.plan_elements.specs.Groups.{groups}
-use Rattle.plan_runnables.specs.Started.{events, runnables}
-use Rattle.plan_services.specs.Modes.{machines, mode_ports}
-use Rattle.plan_services.specs.Services.{points, servers}
+use Rattle.plan_definitions.specs.Elements.{elem_seen, elements, leaders}
+use Rattle.plan_definitions.specs.ElementGroups.{groups}
+use Rattle.plan_definitions.specs.Started.{events, runnables}
+use Rattle.plan_definitions.specs.Modes.{machines, mode_ports}
+use Rattle.plan_definitions.specs.Services.{points, servers}
 use Rattle.event_mapping.specs.declared.pieces.Behavior.{Behavior}
 use Rattle.event_mapping.specs.declared.pieces.Items.{Items}
 use Rattle.event_mapping.specs.declared.pieces.Modes.{Modes}
 use Rattle.event_mapping.specs.declared.pieces.Services.{Services}
-use Rattle.event_mapping.specs.Planned.{areas}
+use Rattle.plan_definitions.specs.Planned.{areas}
 
 pub record AreItems (d : Description) (f : Flat) (x : Items) : Type 0 where
   pub names : x.names ≡ map (λ i. i.path) f.instances

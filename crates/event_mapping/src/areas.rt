@@ -1,12 +1,12 @@
 //! The exclusive areas of a plan.
 
 ghost use Rattle.std.specs.Prelude.{◌≡◌, [], ◌∷◌, ◌++◌, IfOk, OnOk, map};
-ghost use Rattle.plan_numbers.specs.Lists.{from};
-ghost use Rattle.event_mapping.specs.Planned.{area_of, areas, areas_at, named_areas};
+ghost use Rattle.plan_definitions.specs.Lists.{from};
+ghost use Rattle.plan_definitions.specs.Planned.{area_of, areas, areas_at, named_areas};
 
 use bus_semantics::AreaPlan;
-use composition_flatten::{Flat, Instance};
 use description_types::Description;
+use flat_descriptions::{Flat, Instance};
 use rte_text::{Memory, Text};
 use std::alloc::{AllocError, Global};
 

@@ -1,16 +1,16 @@
 //! The whole plan.
 
 ghost use Rattle.std.specs.Prelude.{◌≡◌, ◌+◌, IfOk, map};
-ghost use Rattle.mapping_rules.specs.Mapped.{is_mapped};
-ghost use Rattle.plan_numbers.specs.Parts.{events_of};
-ghost use Rattle.plan_services.specs.Callings.{callings as all_callings};
-ghost use Rattle.event_mapping.specs.Planned.{object_count, plan_of, seen};
+ghost use Rattle.plan_definitions.specs.Mapped.{is_mapped};
+ghost use Rattle.plan_definitions.specs.Parts.{events_of};
+ghost use Rattle.plan_definitions.specs.Callings.{callings as all_callings};
+ghost use Rattle.plan_definitions.specs.Planned.{object_count, plan_of, seen};
 
 use crate::pieces::{behavior_of, items_of, modes_of, services_of};
 use bus_semantics::BusPlan;
-use composition_flatten::Flat;
 use description_types::Description;
-use plan_ports::{Source, position};
+use flat_descriptions::Flat;
+use plan_numbers::{Source, position};
 use plan_services::Callings;
 use rte_text::Memory;
 use std::alloc::{AllocError, Global};

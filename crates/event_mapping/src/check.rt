@@ -1,20 +1,21 @@
 //! The checks of a description made flat, and its plan and mapping where it keeps them.
 
 ghost use Rattle.std.specs.Prelude.{◌≡◌, Err, IfOk, OnOk, Some};
-ghost use Rattle.mapping_rules.specs.Refusals.{Says, Tells, mapping_text};
-ghost use Rattle.mapping_rules.specs.Refusals as rules;
-ghost use Rattle.mapping_rules.specs.Rules.{HaveOrder};
-ghost use Rattle.mapping_rules.specs.Tasks.{are_mapped, mapping_of};
-ghost use Rattle.event_mapping.specs.Planned.{plan_of, seen};
-ghost use Rattle.event_mapping.specs.Refusals.{IsOfSize, IsRefusal, IsThen, of_size};
+ghost use Rattle.plan_definitions.specs.Telling.{Tells as Says};
+ghost use Rattle.plan_definitions.specs.MappingRefusals.{Tells, mapping_text};
+ghost use Rattle.plan_definitions.specs.MappingRefusals as rules;
+ghost use Rattle.plan_definitions.specs.MappingRules.{HaveOrder};
+ghost use Rattle.plan_definitions.specs.Tasks.{are_mapped, mapping_of};
+ghost use Rattle.plan_definitions.specs.Planned.{plan_of, seen};
+ghost use Rattle.plan_definitions.specs.PlanRefusals.{IsOfSize, IsRefusal, IsThen, of_size};
 
 use crate::build::build_plan;
 use crate::guard::is_foretold;
 use crate::size::is_too_large;
 use bus_semantics::{BusPlan, Mapping};
 use component_rules::check_components;
-use composition_flatten::Flat;
 use description_types::Description;
+use flat_descriptions::Flat;
 use mapping_rules::{check_mapping, list_mapping};
 use rte_text::{Refusal, Refused, Text};
 use std::alloc::Global;

@@ -2,13 +2,13 @@
 
 ghost use Rattle.std.specs.Prelude.{◌≡◌, ◌+◌, ◌||◌, IfOk, map, nat_le, nat_lt, slice_get, sum_by};
 ghost use Rattle.std.specs.Option.{unwrap_or};
-ghost use Rattle.plan_numbers.specs.Sites.{count_at, kind_at, provides_at, root_ports};
+ghost use Rattle.plan_definitions.specs.Sites.{count_at, kind_at, provides_at, root_ports};
 ghost use Rattle.event_mapping.specs.Foretold.{IsForetold};
 ghost use Rattle.event_mapping.specs.Guard.{counted_with, event_count, events_of_instance, item_count, items_at, items_in, items_of_instance, items_of_ports};
 
 use crate::size::{EVENTS, OBJECTS};
-use composition_flatten::{Flat, Instance};
 use description_types::{Component, Description, Port, PortKind};
+use flat_descriptions::{Flat, Instance};
 use interface_types::{InterfaceKind, TypeTable};
 use rte_text::Memory;
 use std::alloc::{AllocError, Global};

@@ -1,22 +1,24 @@
 //! The lists of a plan, piece by piece.
 
 ghost use Rattle.std.specs.Prelude.{◌≡◌, IfOk, map};
-ghost use Rattle.mapping_rules.specs.Mapped.{is_mapped};
-ghost use Rattle.plan_numbers.specs.Parts.{events_of};
-ghost use Rattle.plan_services.specs.Callings.{callings as all_callings};
-ghost use Rattle.plan_services.specs.Services.{points, servers};
-ghost use Rattle.event_mapping.specs.Planned.{areas};
+ghost use Rattle.plan_definitions.specs.Mapped.{is_mapped};
+ghost use Rattle.plan_definitions.specs.Parts.{events_of};
+ghost use Rattle.plan_definitions.specs.Callings.{callings as all_callings};
+ghost use Rattle.plan_definitions.specs.Services.{points, servers};
+ghost use Rattle.plan_definitions.specs.Planned.{areas};
 ghost use Rattle.event_mapping.specs.Pieces.{AreItems, AreModes, AreServices, IsBehavior};
 
 use crate::areas::areas_of_plan;
 use bus_semantics::{
     AreaPlan, ElemPlan, EventPlan, MachinePlan, ModePortPlan, PointPlan, RunnablePlan, ServerPlan,
 };
-use composition_flatten::Instance;
+use flat_descriptions::Instance;
 use plan_elements::{element_plans, group_lists, groups_over};
-use plan_ports::Source;
-use plan_runnables::{event_plans, runnable_plans};
-use plan_services::{Callings, machine_plans, mode_port_plans, point_plans, server_plans};
+use plan_numbers::Source;
+use plan_services::{
+    Callings, event_plans, machine_plans, mode_port_plans, point_plans, runnable_plans,
+    server_plans,
+};
 use rte_text::{Memory, Seq, Text};
 use std::alloc::Global;
 

@@ -1,9 +1,9 @@
 //! How large a plan is.
 
 ghost use Rattle.std.specs.Prelude.{◌≡◌, ◌+◌, ◌||◌, IfOk, nat_lt, sum_by};
-ghost use Rattle.plan_elements.specs.Elements.{elem_seen};
-ghost use Rattle.event_mapping.specs.Planned.{seen};
-ghost use Rattle.event_mapping.specs.Rules.{is_queued, is_too_large, queue_lengths, received, requested};
+ghost use Rattle.plan_definitions.specs.Elements.{elem_seen};
+ghost use Rattle.plan_definitions.specs.Planned.{seen};
+ghost use Rattle.plan_definitions.specs.PlanRules.{is_queued, is_too_large, queue_lengths, received, requested};
 
 use bus_semantics::{BusPlan, ElemKind, ElemPlan, MachinePlan, ServerPlan};
 use rte_text::Memory;

@@ -1,3 +1,4 @@
 pub mod Ranges
 pub mod Lists
 pub mod Refusals
+pub mod Initials

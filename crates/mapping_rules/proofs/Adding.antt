@@ -8,11 +8,11 @@ use Rattle.description_types.specs.declared.component.Component.{Component}
 use Rattle.description_types.specs.declared.component.Event.{Event}
 use Rattle.description_types.specs.declared.component.Runnable.{Runnable}
 use Rattle.description_types.specs.declared.description.Description.{Description}
-use Rattle.composition_flatten.specs.declared.flat.Flat.{Flat}
-use Rattle.composition_flatten.specs.declared.flat.Instance.{Instance}
-use Rattle.plan_numbers.specs.Parts.{component_of}
+use Rattle.flat_descriptions.specs.declared.flat.Flat.{Flat}
+use Rattle.flat_descriptions.specs.declared.flat.Instance.{Instance}
+use Rattle.plan_definitions.specs.Parts.{component_of}
 use Rattle.mapping_rules.specs.Groups.{values_at}
-use Rattle.mapping_rules.specs.Rules.{are_same, tasks_from, waits_by}
+use Rattle.plan_definitions.specs.MappingRules.{are_same, tasks_from, waits_by}
 use Rattle.mapping_rules.specs.Waiting.{any_at, leads, pairs, waits_in}
 
 -- what was there, what is added, and what is still to come

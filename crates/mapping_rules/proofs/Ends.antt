@@ -4,9 +4,9 @@ use Rattle.std.proofs.lemmas.Bool.{eqb-true, eq-eqb}
 use Rattle.std.specs.List.{list_any, flat_map, position_from}
 use Rattle.std.specs.Map.{lookup}
 use Rattle.std.specs.Option.{option_eq}
-use Rattle.composition_flatten.specs.declared.flat.End.{End}
-use Rattle.composition_flatten.specs.declared.flat.Join.{Join}
-use Rattle.plan_numbers.specs.Joined.{same_end, provider_of}
+use Rattle.flat_descriptions.specs.declared.flat.End.{End}
+use Rattle.flat_descriptions.specs.declared.flat.Join.{Join}
+use Rattle.plan_definitions.specs.Joined.{same_end, provider_of}
 use Rattle.mapping_rules.specs.Listed.{triple, provided_for, outside_at}
 
 nat_eq-sym : (a b : ℕ) → nat_eq a b ≡ nat_eq b a

@@ -7,14 +7,14 @@ use Rattle.description_types.specs.declared.component.Component.{Component}
 use Rattle.description_types.specs.declared.component.Event.{Event}
 use Rattle.description_types.specs.declared.description.Description.{Description}
 use Rattle.description_types.specs.declared.description.MappedEvent.{MappedEvent}
-use Rattle.composition_flatten.specs.declared.flat.Flat.{Flat}
-use Rattle.plan_numbers.specs.Keys.{same_pair}
-use Rattle.plan_numbers.specs.Lists.{from}
+use Rattle.flat_descriptions.specs.declared.flat.Flat.{Flat}
+use Rattle.plan_definitions.specs.Keys.{same_pair}
+use Rattle.plan_definitions.specs.Lists.{from}
 use Rattle.mapping_rules.specs.Groups.{values_at}
 use Rattle.mapping_rules.specs.Listed.{task_of, tasks_at}
-use Rattle.mapping_rules.specs.Mapped.{event_names, mapped_as, named_by, names, is_mapped}
+use Rattle.plan_definitions.specs.Mapped.{event_names, mapped_as, named_by, names, is_mapped}
 use Rattle.mapping_rules.specs.Positions.{names_of}
-use Rattle.mapping_rules.specs.Rules.{tasks_of_event, tasks_from}
+use Rattle.plan_definitions.specs.MappingRules.{tasks_of_event, tasks_from}
 use Rattle.mapping_rules.proofs.Named.{same_place}
 
 module _ (name : List ℕ) (i : ℕ) where

@@ -1,7 +1,7 @@
 -- The turns of the loops that look for the first.
 use Rattle.std.proofs.Common.{◌≡◌, ℕ, zero, suc, ◌+◌, ◌<◌, ◌≤◌, List, [], ◌∷◌, length, get_or, drop, Option, Some, None, refl, sym, ap, ◌∙◌, arith, add-one}
 use Rattle.std.specs.Option.{option_or}
-use Rattle.component_rules.specs.Firsts.{first_of}
+use Rattle.plan_definitions.specs.Firsts.{first_of}
 
 module _ {X Y : Type 0} (f : ℕ → X → Option Y) where
   first_next : (xs : List X) (n i : ℕ) (x : X) → i < length xs → x ≡ get_or xs i x

@@ -6,10 +6,10 @@ use Rattle.description_types.specs.declared.component.Component.{Component}
 use Rattle.description_types.specs.declared.component.Event.{Event}
 use Rattle.description_types.specs.declared.component.EventKind.{EventKind}
 use Rattle.description_types.specs.declared.component.EventKind.TheVariants.{Timing, Init, DataReceived, OperationInvoked, CallReturns, ModeSwitch, ModeSwitchedAck}
-use Rattle.plan_numbers.specs.Keys.{same_pair}
-use Rattle.plan_numbers.specs.Lists.{from}
+use Rattle.plan_definitions.specs.Keys.{same_pair}
+use Rattle.plan_definitions.specs.Lists.{from}
 use Rattle.mapping_rules.specs.Listed.{invoked_at, invoked_in}
-use Rattle.mapping_rules.specs.Mapped.{invokes}
+use Rattle.plan_definitions.specs.Mapped.{invokes}
 
 module _ (k n : ℕ) where
   one : (m : ℕ) (kind : EventKind) (es : List ((ℕ × ℕ) × ℕ)) → lookup (same_pair (k, n)) (invoked_at m kind ++ es) ≡ cond (invokes k n kind) (Some m) (lookup (same_pair (k, n)) es)

@@ -1,6 +1,6 @@
 -- The turns of the loops that list.
 use Rattle.std.proofs.Common.{◌≡◌, ℕ, zero, suc, ◌+◌, ◌<◌, ◌≤◌, List, [], ◌∷◌, ◌++◌, length, get_or, drop, refl, sym, ap, ◌∙◌, arith, add-one, append_assoc}
-use Rattle.plan_numbers.specs.Lists.{from}
+use Rattle.plan_definitions.specs.Lists.{from}
 
 module _ {X Y : Type 0} (f : ℕ → X → List Y) where
   from_next : (xs : List X) (n i : ℕ) (x : X) → i < length xs → x ≡ get_or xs i x → from n f (drop i xs) ≡ f n x ++ from (n + 1) f (drop (suc i) xs)

@@ -5,15 +5,15 @@ use Rattle.std.specs.Option.{option_map_or}
 use Rattle.description_types.specs.declared.description.Description.{Description}
 use Rattle.description_types.specs.declared.description.MappedEvent.{MappedEvent}
 use Rattle.description_types.specs.declared.description.Task as declared_task
-use Rattle.composition_flatten.specs.declared.flat.Flat.{Flat}
-use Rattle.plan_numbers.specs.Keys.{pair_number}
-use Rattle.plan_numbers.specs.Lists.{from}
-use Rattle.plan_numbers.specs.Parts.{events_of}
+use Rattle.flat_descriptions.specs.declared.flat.Flat.{Flat}
+use Rattle.plan_definitions.specs.Keys.{pair_number}
+use Rattle.plan_definitions.specs.Lists.{from}
+use Rattle.plan_definitions.specs.Parts.{events_of}
 use Rattle.mapping_rules.specs.Groups.{values_at}
-use Rattle.mapping_rules.specs.Mapped.{named_by}
+use Rattle.plan_definitions.specs.Mapped.{named_by}
 use Rattle.mapping_rules.specs.Placing.{in_task, numbers_of, placed_at, task_entry, task_with}
-use Rattle.mapping_rules.specs.Sorting.{in_order, put}
-use Rattle.mapping_rules.specs.Tasks.{events_in, number_of, task_at}
+use Rattle.plan_definitions.specs.Sorting.{in_order, put}
+use Rattle.plan_definitions.specs.Tasks.{events_in, number_of, task_at}
 
 -- a list in order is so after each member is replaced by one with the same number
 module _ {X Y : Type 0} (n : Y → ℕ) (g : X → Y) where

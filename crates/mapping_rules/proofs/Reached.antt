@@ -8,13 +8,13 @@ use Rattle.description_types.specs.declared.component.Access.{Access}
 use Rattle.description_types.specs.declared.component.Component.{Component}
 use Rattle.description_types.specs.declared.component.Runnable.{Runnable}
 use Rattle.description_types.specs.declared.description.Description.{Description}
-use Rattle.composition_flatten.specs.declared.flat.Flat.{Flat}
-use Rattle.composition_flatten.specs.declared.flat.Instance.{Instance}
-use Rattle.composition_tables.specs.Members.{Among}
-use Rattle.plan_numbers.specs.Keys.{same_pair}
-use Rattle.plan_numbers.specs.Parts.{component_of}
+use Rattle.flat_descriptions.specs.declared.flat.Flat.{Flat}
+use Rattle.flat_descriptions.specs.declared.flat.Instance.{Instance}
+use Rattle.flat_descriptions.specs.Members.{Among}
+use Rattle.plan_definitions.specs.Keys.{same_pair}
+use Rattle.plan_definitions.specs.Parts.{component_of}
 use Rattle.mapping_rules.specs.Edges.{HaveCircle, HaveRanks, IsDecided, Way}
-use Rattle.mapping_rules.specs.Rules.{Chain, HaveOrder, ReachesItself, TellsOrder, Waits, tasks_from, waits_by}
+use Rattle.plan_definitions.specs.MappingRules.{Chain, HaveOrder, ReachesItself, TellsOrder, Waits, tasks_from, waits_by}
 use Rattle.mapping_rules.specs.Waiting.{any_at, has_wait, leads, pairs, waits_in}
 
 module _ {X : Type 0} (test : ℕ → X → Bool) where

@@ -3,15 +3,15 @@ use Rattle.std.proofs.Common.{◌≡◌, ℕ, List, [], ◌∷◌, true, nat_eq,
 use Rattle.std.proofs.lemmas.Bool.{eq-eqb}
 use Rattle.std.specs.List.{list_all}
 use Rattle.std.specs.Option.{option_map_or}
-use Rattle.component_rules.specs.Firsts.{first_of, unless}
+use Rattle.plan_definitions.specs.Firsts.{first_of, unless}
 use Rattle.description_types.specs.declared.component.Component.{Component}
 use Rattle.description_types.specs.declared.component.Event.{Event}
 use Rattle.description_types.specs.declared.component.Runnable.{Runnable}
 use Rattle.description_types.specs.declared.description.Description.{Description}
-use Rattle.composition_flatten.specs.declared.flat.Flat.{Flat}
-use Rattle.plan_numbers.specs.Parts.{component_of}
+use Rattle.flat_descriptions.specs.declared.flat.Flat.{Flat}
+use Rattle.plan_definitions.specs.Parts.{component_of}
 use Rattle.mapping_rules.specs.Groups.{values_at}
-use Rattle.mapping_rules.specs.Rules.{are_same, spread_in, tasks_from, tasks_of}
+use Rattle.plan_definitions.specs.MappingRules.{are_same, spread_in, tasks_from, tasks_of}
 use Rattle.mapping_rules.proofs.Firsts.{first_same}
 
 pub same_as_first : (t : ℕ) (ts : List ℕ) → Some t ≡ slice_get ts 0 → list_all (λ u. nat_eq t u) ts ≡ are_same ts

@@ -2,11 +2,11 @@
 use Rattle.std.specs.Prelude.{ℕ, List, Option, option_map}
 use Rattle.description_types.specs.declared.component.Component.{Component}
 use Rattle.description_types.specs.declared.description.Description.{Description}
-use Rattle.composition_flatten.specs.declared.flat.Flat.{Flat}
+use Rattle.flat_descriptions.specs.declared.flat.Flat.{Flat}
 use Rattle.mapping_rules.specs.declared.instances.InstanceRule.{InstanceRule}
 use Rattle.mapping_rules.specs.declared.instances.InstanceRule.TheVariants.{MappedOnce, OneTask, Direct}
-use Rattle.mapping_rules.specs.Refusals.{event_text, runnable_text}
-use Rattle.mapping_rules.specs.Rules.{badly_mapped_in, in_instances, not_direct_in, spread_in}
+use Rattle.plan_definitions.specs.MappingRefusals.{event_text, runnable_text}
+use Rattle.plan_definitions.specs.MappingRules.{badly_mapped_in, in_instances, not_direct_in, spread_in}
 
 abbrev pub broken_in : InstanceRule → Description → Flat → ℕ → Component → Option (ℕ × ℕ)
 broken_in MappedOnce = badly_mapped_in

@@ -1,12 +1,7 @@
 pub mod Positions
 pub mod Groups
-pub mod Sorting
 pub mod Edges
-pub mod Mapped
-pub mod Rules
 pub mod Listed
 pub mod Waiting
-pub mod Tasks
 pub mod Placing
-pub mod Refusals
 pub mod InstanceRules

@@ -7,12 +7,12 @@ use Rattle.description_types.specs.declared.component.EventKind.{EventKind}
 use Rattle.description_types.specs.declared.component.EventKind.TheVariants.{OperationInvoked}
 use Rattle.description_types.specs.declared.description.Description.{Description}
 use Rattle.description_types.specs.declared.description.MappedEvent.{MappedEvent}
-use Rattle.composition_flatten.specs.declared.flat.End.{End}
-use Rattle.composition_flatten.specs.declared.flat.Flat.{Flat}
-use Rattle.composition_flatten.specs.declared.flat.Join.{Join}
-use Rattle.plan_numbers.specs.Lists.{from}
-use Rattle.mapping_rules.specs.Mapped.{named_by}
-use Rattle.mapping_rules.specs.Rules.{tasks_of_event}
+use Rattle.flat_descriptions.specs.declared.flat.End.{End}
+use Rattle.flat_descriptions.specs.declared.flat.Flat.{Flat}
+use Rattle.flat_descriptions.specs.declared.flat.Join.{Join}
+use Rattle.plan_definitions.specs.Lists.{from}
+use Rattle.plan_definitions.specs.Mapped.{named_by}
+use Rattle.plan_definitions.specs.MappingRules.{tasks_of_event}
 
 -- a mapped event that names one, with its task
 abbrev pub task_of : Description → Flat → MappedEvent → List ((ℕ × ℕ) × ℕ)

@@ -5,13 +5,13 @@ use Rattle.std.specs.Option.{option_map_or}
 use Rattle.description_types.specs.declared.description.Description.{Description}
 use Rattle.description_types.specs.declared.description.MappedEvent.{MappedEvent}
 use Rattle.description_types.specs.declared.description.Task as declared_task
-use Rattle.composition_flatten.specs.declared.flat.Flat.{Flat}
+use Rattle.flat_descriptions.specs.declared.flat.Flat.{Flat}
 use Rattle.bus_semantics.specs.declared.script.Task.{Task}
-use Rattle.plan_numbers.specs.Keys.{pair_number}
-use Rattle.plan_numbers.specs.Parts.{events_of}
+use Rattle.plan_definitions.specs.Keys.{pair_number}
+use Rattle.plan_definitions.specs.Parts.{events_of}
 use Rattle.mapping_rules.specs.Groups.{values_at}
-use Rattle.mapping_rules.specs.Mapped.{named_by}
-use Rattle.mapping_rules.specs.Sorting.{in_order}
+use Rattle.plan_definitions.specs.Mapped.{named_by}
+use Rattle.plan_definitions.specs.Sorting.{in_order}
 
 -- the position in the task, and the number of the event, if it names one
 abbrev pub placed_at : Description → Flat → MappedEvent → ℕ × Option ℕ

@@ -3,9 +3,9 @@ use Rattle.std.specs.Prelude.{ℕ, ◌+◌, List, [], ◌∷◌, Bool, false, �
 use Rattle.std.specs.Option.{option_map_or}
 use Rattle.description_types.specs.declared.component.Component.{Component}
 use Rattle.description_types.specs.declared.description.Description.{Description}
-use Rattle.composition_flatten.specs.declared.flat.Flat.{Flat}
-use Rattle.plan_numbers.specs.Keys.{same_pair}
-use Rattle.mapping_rules.specs.Rules.{tasks_from, waits_by}
+use Rattle.flat_descriptions.specs.declared.flat.Flat.{Flat}
+use Rattle.plan_definitions.specs.Keys.{same_pair}
+use Rattle.plan_definitions.specs.MappingRules.{tasks_from, waits_by}
 
 -- whether a member passes the test, each taken with its position, the first of which is i
 abbrev pub any_at : {X : Type 0} → (ℕ → X → Bool) → ℕ → List X → Bool

@@ -1,11 +1,12 @@
 //! The checks, and what they refuse.
 
 ghost use Rattle.std.specs.Prelude.{◌≡◌, IfOk, OnOk, Some, None, is_some};
-ghost use Rattle.component_rules.specs.Firsts.{first_of, unless};
+ghost use Rattle.plan_definitions.specs.Firsts.{first_of, unless};
 ghost use Rattle.mapping_rules.specs.InstanceRules.{number_of, of_rule, part_text};
-ghost use Rattle.mapping_rules.specs.Mapped.{named_by};
-ghost use Rattle.mapping_rules.specs.Refusals.{IsOfTasks, IsRefusal, Says, Tells, mapping_text, of_events, of_named};
-ghost use Rattle.mapping_rules.specs.Rules.{HaveOrder, TellsOrder};
+ghost use Rattle.plan_definitions.specs.Mapped.{named_by};
+ghost use Rattle.plan_definitions.specs.Telling.{Tells as Says};
+ghost use Rattle.plan_definitions.specs.MappingRefusals.{IsOfTasks, IsRefusal, Tells, mapping_text, of_events, of_named};
+ghost use Rattle.plan_definitions.specs.MappingRules.{HaveOrder, TellsOrder};
 
 use crate::instances::{InstanceRule, Part, first_broken};
 use crate::naming::Names;
@@ -13,8 +14,8 @@ use crate::peeling::are_acyclic;
 use crate::places::{event_text, mapped_text, mapping_text, runnable_text};
 use crate::servers::Servers;
 use crate::waits::waits;
-use composition_flatten::Flat;
 use description_types::{Description, MappedEvent};
+use flat_descriptions::Flat;
 use rte_text::{Memory, Refusal, Refused, Text};
 use std::alloc::Global;
 

@@ -2,11 +2,11 @@
 
 ghost use Rattle.std.specs.Prelude.{◌≡◌, ◌++◌, IfOk, OnOk, Some, map, is_none, ◌&&◌};
 ghost use Rattle.std.specs.List.{flat_map, list_any};
-ghost use Rattle.plan_numbers.specs.Joined.{provider_of, same_end};
+ghost use Rattle.plan_definitions.specs.Joined.{provider_of, same_end};
 ghost use Rattle.mapping_rules.specs.Listed.{triple, provided_for, outside_at};
 
 use crate::positions::Positions;
-use composition_flatten::{End, Flat, Join};
+use flat_descriptions::{End, Flat, Join};
 use plan_numbers::Table;
 use rte_text::Memory;
 use std::alloc::Global;

@@ -2,17 +2,17 @@
 
 ghost use Rattle.std.specs.Prelude.{◌≡◌, ℕ, ◌++◌, IfOk, OnOk, map, nat_eq};
 ghost use Rattle.std.specs.List.{flat_map};
-ghost use Rattle.plan_numbers.specs.Lists.{from};
+ghost use Rattle.plan_definitions.specs.Lists.{from};
 ghost use Rattle.mapping_rules.specs.Groups.{values_at};
 ghost use Rattle.mapping_rules.specs.Listed.{task_of, tasks_at};
-ghost use Rattle.mapping_rules.specs.Mapped.{is_mapped};
-ghost use Rattle.mapping_rules.specs.Rules.{tasks_of_event, tasks_from};
+ghost use Rattle.plan_definitions.specs.Mapped.{is_mapped};
+ghost use Rattle.plan_definitions.specs.MappingRules.{tasks_of_event, tasks_from};
 
 use crate::groups::Groups;
 use crate::naming::Names;
 use crate::positions::position;
-use composition_flatten::Flat;
 use description_types::{Description, Event, MappedEvent};
+use flat_descriptions::Flat;
 use rte_text::Memory;
 use std::alloc::Global;
 

@@ -1,13 +1,13 @@
 //! Instances and their events, by name.
 
 ghost use Rattle.std.specs.Prelude.{◌≡◌, IfOk, OnOk, map, option_copied, option_map, slice_get};
-ghost use Rattle.plan_numbers.specs.Parts.{component_of};
-ghost use Rattle.mapping_rules.specs.Mapped.{instance_named, event_named, named_by, event_names};
+ghost use Rattle.plan_definitions.specs.Parts.{component_of};
+ghost use Rattle.plan_definitions.specs.Mapped.{instance_named, event_named, named_by, event_names};
 ghost use Rattle.mapping_rules.specs.Positions.{names_of};
 
 use crate::positions::Positions;
-use composition_flatten::{Flat, Instance};
 use description_types::{Component, Description, Event, MappedEvent};
+use flat_descriptions::{Flat, Instance};
 use rte_text::Memory;
 use std::alloc::Global;
 

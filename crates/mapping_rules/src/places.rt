@@ -3,12 +3,12 @@
 ghost use Rattle.std.specs.Prelude.{◌≡◌, ◌++◌, codes, IfOk, OnOk, option_and_then, slice_get};
 ghost use Rattle.std.specs.Fmt.{decimal};
 ghost use Rattle.std.specs.Option.{option_map_or};
-ghost use Rattle.plan_numbers.specs.Parts.{component_of};
-ghost use Rattle.mapping_rules.specs.Refusals.{event_text, mapped_text, mapping_text, path_of, runnable_text};
+ghost use Rattle.plan_definitions.specs.Parts.{component_of};
+ghost use Rattle.plan_definitions.specs.MappingRefusals.{event_text, mapped_text, mapping_text, path_of, runnable_text};
 
 use crate::instances::Part;
 use crate::naming::Names;
-use composition_flatten::Flat;
+use flat_descriptions::Flat;
 use itoa::Buffer;
 use rte_text::{Memory, Text};
 use std::alloc::Global;

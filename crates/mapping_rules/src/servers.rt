@@ -3,17 +3,17 @@
 ghost use Rattle.std.specs.Prelude.{◌≡◌, [], ◌++◌, IfOk, OnOk, map, option_and_then, option_copied, slice_get};
 ghost use Rattle.std.specs.List.{position_from};
 ghost use Rattle.std.specs.Option.{option_map_or};
-ghost use Rattle.plan_numbers.specs.Joined.{provider_of};
-ghost use Rattle.plan_numbers.specs.Lists.{from};
+ghost use Rattle.plan_definitions.specs.Joined.{provider_of};
+ghost use Rattle.plan_definitions.specs.Lists.{from};
 ghost use Rattle.mapping_rules.specs.Listed.{invoked_at, invoked_in};
-ghost use Rattle.mapping_rules.specs.Mapped.{invokes, invocation_of};
-ghost use Rattle.mapping_rules.specs.Rules.{serves_outside, task_of_server, tasks_behind, waits_by};
+ghost use Rattle.plan_definitions.specs.Mapped.{invokes, invocation_of};
+ghost use Rattle.plan_definitions.specs.MappingRules.{serves_outside, task_of_server, tasks_behind, waits_by};
 
 use crate::joined::Joined;
 use crate::mapped::Mapped;
 use crate::positions::position;
-use composition_flatten::{End, Flat};
 use description_types::{Access, Component, Description, Event, EventKind};
+use flat_descriptions::{End, Flat};
 use plan_numbers::Table;
 use rte_text::Memory;
 use runnable_lang::AccessKind;

@@ -2,12 +2,12 @@
 
 ghost use Rattle.std.specs.Prelude.{◌≡◌, [], ◌∷◌, ◌++◌, IfOk, OnOk, map};
 ghost use Rattle.std.specs.List.{flat_map};
-ghost use Rattle.plan_numbers.specs.Keys.{pair_number};
-ghost use Rattle.plan_numbers.specs.Lists.{from};
-ghost use Rattle.plan_numbers.specs.Parts.{events_of};
-ghost use Rattle.mapping_rules.specs.Mapped.{is_mapped};
+ghost use Rattle.plan_definitions.specs.Keys.{pair_number};
+ghost use Rattle.plan_definitions.specs.Lists.{from};
+ghost use Rattle.plan_definitions.specs.Parts.{events_of};
+ghost use Rattle.plan_definitions.specs.Mapped.{is_mapped};
 ghost use Rattle.mapping_rules.specs.Placing.{in_task, numbers_of, placed_at, task_entry, task_with};
-ghost use Rattle.mapping_rules.specs.Tasks.{are_mapped, mapping_of};
+ghost use Rattle.plan_definitions.specs.Tasks.{are_mapped, mapping_of};
 
 use crate::groups::Groups;
 use crate::mapped::Mapped;
@@ -15,8 +15,8 @@ use crate::naming::Names;
 use crate::positions::{Positions, position};
 use crate::sorting::{Placed, sort_by_position};
 use bus_semantics::{Mapping, Task};
-use composition_flatten::Flat;
 use description_types::{Description, MappedEvent, Task as DeclaredTask};
+use flat_descriptions::Flat;
 use plan_numbers::numbered_events;
 use rte_text::{Memory, Seq, Text};
 use std::alloc::Global;

@@ -4,10 +4,10 @@ ghost use Rattle.std.specs.Prelude.{◌≡◌, ◌||◌, ℕ, IfOk, OnOk, Some, 
 ghost use Rattle.std.specs.List.{list_any};
 ghost use Rattle.std.specs.Option.{option_map_or};
 ghost use Rattle.indexmap.specs.IndexSet.{contains};
-ghost use Rattle.plan_numbers.specs.Keys.{same_pair};
-ghost use Rattle.plan_numbers.specs.Parts.{component_of};
+ghost use Rattle.plan_definitions.specs.Keys.{same_pair};
+ghost use Rattle.plan_definitions.specs.Parts.{component_of};
 ghost use Rattle.mapping_rules.specs.Groups.{values_at};
-ghost use Rattle.mapping_rules.specs.Rules.{are_same, waits_by};
+ghost use Rattle.plan_definitions.specs.MappingRules.{are_same, waits_by};
 ghost use Rattle.mapping_rules.specs.Waiting.{any_at, has_wait, leads, pairs, waits_in};
 
 use crate::groups::Groups;

@@ -2,8 +2,8 @@
 use Rattle.std.proofs.Common.{◌≡◌, ℕ, zero, suc, ◌+◌, ◌<◌, ◌≤◌, List, [], ◌∷◌, ◌++◌, map, length, get_or, set, take, replicate, Bool, true, false, cond, nat_eq, refl, sym, ap, ◌∙◌, arith, add-one, add-zero, append_assoc, length-take}
 use Rattle.std.proofs.lemmas.Bool.{eq-eqb, ne_eqb}
 use Rattle.std.proofs.lemmas.List.{append-nil, get_or-map, map-set, take_more}
-use Rattle.plan_numbers.specs.Lists.{from, positions}
-use Rattle.plan_elements.specs.Groups.{all_members, member_at, members}
+use Rattle.plan_definitions.specs.Lists.{from, positions}
+use Rattle.plan_definitions.specs.ElementGroups.{all_members, member_at, members}
 use Rattle.plan_elements.specs.Lists.{put_in}
 
 -- no group has an element yet

@@ -4,11 +4,11 @@ use Rattle.std.specs.List.{flat_map}
 use Rattle.std.specs.Option.{option_eq}
 use Rattle.std.proofs.lemmas.List.{map-append}
 use Rattle.std.proofs.lemmas.Bool.{eqb-true, eq-eqb, ne_eqb, cases_eq, and_parts, true≢false}
-use Rattle.composition_flatten.specs.declared.flat.End.{End}
-use Rattle.composition_flatten.specs.declared.flat.Join.{Join}
-use Rattle.plan_numbers.specs.Joined.{across, partners, same_end}
-use Rattle.plan_ports.specs.Ends.{EndKey, key_of, same_end_key}
-use Rattle.plan_elements.specs.Groups.{least, spread}
+use Rattle.flat_descriptions.specs.declared.flat.End.{End}
+use Rattle.flat_descriptions.specs.declared.flat.Join.{Join}
+use Rattle.plan_definitions.specs.Joined.{across, partners, same_end}
+use Rattle.plan_numbers.specs.Ends.{EndKey, key_of, same_end_key}
+use Rattle.plan_definitions.specs.ElementGroups.{least, spread}
 use Rattle.plan_elements.specs.Spreads.{edges_of, least_with, lower, lowered, value_for, values_for}
 
 nat_eq_sym : (a b : ℕ) → nat_eq a b ≡ nat_eq b a

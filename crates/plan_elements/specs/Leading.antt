@@ -1,13 +1,13 @@
 -- The numbers of ends and of their partners, as they spread over joins.
 use Rattle.std.specs.Prelude.{◌≡◌}
 use Rattle.std.specs.List.{flat_map}
-use Rattle.composition_flatten.specs.declared.flat.Flat.{Flat}
+use Rattle.flat_descriptions.specs.declared.flat.Flat.{Flat}
 use Rattle.description_types.specs.declared.description.Description.{Description}
-use Rattle.plan_numbers.specs.Keys.{keys_of}
-use Rattle.plan_ports.specs.Things.{elements_of}
+use Rattle.plan_definitions.specs.Keys.{keys_of}
+use Rattle.plan_definitions.specs.Things.{elements_of}
 use Rattle.plan_elements.specs.declared.leaders.Leaders.{Leaders}
 use Rattle.plan_elements.specs.declared.spread.Spread.{Spread}
-use Rattle.plan_elements.specs.Groups.{nearest, own_number}
+use Rattle.plan_definitions.specs.ElementGroups.{nearest, own_number}
 use Rattle.plan_elements.specs.Spreads.{edges_of}
 
 abbrev pub IsNearest : Description → Flat → Spread → Type 0

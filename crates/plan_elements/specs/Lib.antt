@@ -1,6 +1,4 @@
-pub mod Groups
 pub mod Lists
 pub mod Spreads
 pub mod Leading
 pub mod Grouped
-pub mod Elements

@@ -2,9 +2,9 @@
 use Rattle.std.specs.Prelude.{◌≡◌, ℕ, List, [], ◌∷◌, min, Bool, Option, Some, None, if◌then◌else◌}
 use Rattle.std.specs.List.{flat_map}
 use Rattle.indexmap.specs.IndexMap.{IndexMap, get}
-use Rattle.composition_flatten.specs.declared.flat.End.{End}
-use Rattle.composition_flatten.specs.declared.flat.Join.{Join}
-use Rattle.plan_ports.specs.Ends.{EndKey, key_of, same_end_key}
+use Rattle.flat_descriptions.specs.declared.flat.End.{End}
+use Rattle.flat_descriptions.specs.declared.flat.Join.{Join}
+use Rattle.plan_numbers.specs.Ends.{EndKey, key_of, same_end_key}
 
 -- each end of a join, with the number of the other
 abbrev pub edges_of : (End → ℕ) → Join → List (EndKey × ℕ)

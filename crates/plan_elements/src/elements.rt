@@ -2,17 +2,17 @@
 
 ghost use Rattle.std.specs.Prelude.{◌≡◌, false, IfOk, map};
 ghost use Rattle.std.specs.Option.{option_map_or};
-ghost use Rattle.plan_numbers.specs.Joined.{end_of, is_joined};
-ghost use Rattle.plan_ports.specs.Ports.{site_name};
-ghost use Rattle.plan_elements.specs.Elements.{elem_seen, element_of, elements, group_of, is_provided};
+ghost use Rattle.plan_definitions.specs.Joined.{end_of, is_joined};
+ghost use Rattle.plan_definitions.specs.Ports.{site_name};
+ghost use Rattle.plan_definitions.specs.Elements.{elem_seen, element_of, elements, group_of, is_provided};
 ghost use Rattle.plan_elements.specs.Grouped.{AreGroups};
 
 use crate::groups::{Groups, group_of};
 use crate::said::{init_of, limits_of, never_received_of, queue_of, words_of};
 use crate::types::{kind_of, type_of};
 use bus_semantics::ElemPlan;
-use plan_numbers::{Site, SiteKind};
-use plan_ports::{Source, end_of, item_text, variable_name};
+use plan_definitions::{Site, SiteKind};
+use plan_numbers::{Source, end_of, item_text, variable_name};
 use rte_text::{Memory, Text};
 use std::alloc::Global;
 

@@ -1,14 +1,14 @@
 //! Groups of elements that joins connect.
 
 ghost use Rattle.std.specs.Prelude.{◌≡◌, IfOk, length, map};
-ghost use Rattle.plan_elements.specs.Elements.{group_of, leaders as all_leaders};
+ghost use Rattle.plan_definitions.specs.Elements.{group_of, leaders as all_leaders};
 ghost use Rattle.plan_elements.specs.Grouped.{AreGroups};
-ghost use Rattle.plan_elements.specs.Groups.{groups as all_groups, heads as all_heads, number_among};
+ghost use Rattle.plan_definitions.specs.ElementGroups.{groups as all_groups, heads as all_heads, number_among};
 
 use crate::leaders::{Leaders, leader_of, leaders_of, leaders_over};
 use crate::members::{all_members, heads};
-use plan_numbers::Site;
-use plan_ports::{Numbers, Source};
+use plan_definitions::Site;
+use plan_numbers::{Numbers, Source};
 use rte_text::{Memory, Seq};
 use std::alloc::Global;
 

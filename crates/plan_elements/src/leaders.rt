@@ -2,17 +2,17 @@
 
 ghost use Rattle.std.specs.Prelude.{◌≡◌, ◌∷◌, ◌++◌, [], IfOk, OnOk, map};
 ghost use Rattle.std.specs.List.{flat_map};
-ghost use Rattle.plan_numbers.specs.Keys.{keys_of};
-ghost use Rattle.plan_ports.specs.Ends.{key_of};
-ghost use Rattle.plan_ports.specs.Things.{elements_of};
-ghost use Rattle.plan_elements.specs.Groups.{leader, leader_of, nearest, own_number};
+ghost use Rattle.plan_definitions.specs.Keys.{keys_of};
+ghost use Rattle.plan_numbers.specs.Ends.{key_of};
+ghost use Rattle.plan_definitions.specs.Things.{elements_of};
+ghost use Rattle.plan_definitions.specs.ElementGroups.{leader, leader_of, nearest, own_number};
 ghost use Rattle.plan_elements.specs.Leading.{AreLeaders, IsNearest};
 ghost use Rattle.plan_elements.specs.Spreads.{edges_of};
 
 use crate::spread::Spread;
-use composition_flatten::{End, Join};
-use plan_numbers::Site;
-use plan_ports::{EndKey, Source, end_of};
+use flat_descriptions::{End, Join};
+use plan_definitions::Site;
+use plan_numbers::{EndKey, Source, end_of};
 use rte_text::Memory;
 use std::alloc::Global;
 

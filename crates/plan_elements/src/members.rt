@@ -1,10 +1,10 @@
 //! The elements of each group.
 
 ghost use Rattle.std.specs.Prelude.{◌≡◌, [], ◌∷◌, ◌++◌, IfOk, OnOk, length, map, replicate};
-ghost use Rattle.plan_elements.specs.Groups.{all_members, head_at, heads};
+ghost use Rattle.plan_definitions.specs.ElementGroups.{all_members, head_at, heads};
 ghost use Rattle.plan_elements.specs.Lists.{put_in};
 
-use plan_ports::position;
+use plan_numbers::position;
 use rte_text::{Memory, Seq};
 use std::alloc::Global;
 

@@ -4,14 +4,14 @@ ghost use Rattle.std.specs.Prelude.{◌≡◌, false, IfOk, option_and_then, opt
 ghost use Rattle.std.specs.Option.{option_map_or};
 ghost use Rattle.rte_value.specs.Arithmetic.{clamped};
 ghost use Rattle.rte_value.specs.Values.{words_of as value_words};
-ghost use Rattle.plan_ports.specs.Ports.{com_spec_of};
-ghost use Rattle.plan_elements.specs.Elements.{given_of, held, init_of, keeps_last, keeps_queue, kind_of, limits_of, never_received_of, queue_of, type_of, variable_at, words_of, zeros};
+ghost use Rattle.plan_definitions.specs.Ports.{com_spec_of};
+ghost use Rattle.plan_definitions.specs.Elements.{given_of, held, init_of, keeps_last, keeps_queue, kind_of, limits_of, never_received_of, queue_of, type_of, variable_at, words_of, zeros};
 
 use crate::types::{kind_of, type_of, variable_at};
 use bus_semantics::ElemKind;
 use interface_types::DataType;
-use plan_numbers::{Site, SiteKind};
-use plan_ports::Source;
+use plan_definitions::{Site, SiteKind};
+use plan_numbers::Source;
 use rte_text::{Memory, Seq};
 use rte_value::{Limits, Value, Word};
 use std::alloc::Global;

@@ -2,12 +2,12 @@
 
 ghost use Rattle.std.specs.Prelude.{◌≡◌, IfOk, OnOk, Some, None, min};
 ghost use Rattle.indexmap.specs.IndexMap.{Updates, get};
-ghost use Rattle.plan_ports.specs.Ends.{key_of, same_end_key};
+ghost use Rattle.plan_numbers.specs.Ends.{key_of, same_end_key};
 ghost use Rattle.plan_elements.specs.Spreads.{HasLeasts, least_with, lower, lowered, values_for};
 
-use composition_flatten::End;
+use flat_descriptions::End;
 use indexmap::IndexMap;
-use plan_ports::EndKey;
+use plan_numbers::EndKey;
 use rte_text::Memory;
 use std::alloc::Global;
 

@@ -1,13 +1,13 @@
 //! Data elements and variables, with their types.
 
 ghost use Rattle.std.specs.Prelude.{◌≡◌, option_and_then, option_copied, slice_get};
-ghost use Rattle.plan_elements.specs.Elements.{declared_at, element_in, kind_of, policy_kind, type_of, variable_at};
+ghost use Rattle.plan_definitions.specs.Elements.{declared_at, element_in, kind_of, policy_kind, type_of, variable_at};
 
 use bus_semantics::ElemKind;
 use description_types::Variable;
 use interface_types::{DataElement, DataType, InterfaceKind, SwImplPolicy};
-use plan_numbers::Site;
-use plan_ports::{Source, component_of, interface_of};
+use plan_definitions::Site;
+use plan_numbers::{Source, component_of, interface_of};
 
 fn element_in(kind: &InterfaceKind, item: u32) -> Option<&DataElement>
     ensures { option_copied result ≡ element_in kind.now item }

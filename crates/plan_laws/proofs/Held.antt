@@ -9,8 +9,8 @@ use Rattle.description_types.specs.declared.component.Runnable.{Runnable}
 use Rattle.description_types.specs.declared.description.Description.{Description}
 use Rattle.component_model.specs.Descriptions.{description_of}
 use Rattle.component_model.specs.Programs.{ComponentTree, RunnableTree, component_tree}
-use Rattle.component_rules.specs.Firsts.{first_of}
-use Rattle.plan_numbers.specs.Lists.{from}
+use Rattle.plan_definitions.specs.Firsts.{first_of}
+use Rattle.plan_definitions.specs.Lists.{from}
 
 -- the description with these components
 abbrev pub held_as : Description → List Component → Description

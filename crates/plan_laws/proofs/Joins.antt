@@ -11,16 +11,16 @@ use Rattle.description_types.specs.declared.description.InnerPort.{InnerPort}
 use Rattle.description_types.specs.declared.description.PrototypeType.{PrototypeType}
 use Rattle.description_types.specs.declared.description.PrototypeType.TheVariants as of_type
 use Rattle.component_model.specs.Programs.{component_tree}
-use Rattle.composition_flatten.specs.declared.flat.End.{End}
-use Rattle.composition_flatten.specs.declared.flat.Flat.{Flat}
-use Rattle.compatibility.specs.declared.rule.Rule.{Rule}
-use Rattle.compatibility.specs.declared.rule.Rule.TheVariants.{Services, Groups}
-use Rattle.compatibility.specs.Connectors.{both, delegated, incompatible, inner_interface, joins_compatible, ports_of, sides}
-use Rattle.compatibility.specs.Firsts.{first_of}
-use Rattle.compatibility.specs.Interfaces.{are_compatible}
-use Rattle.compatibility.specs.Items.{first_broken, in_instances, in_ports}
-use Rattle.compatibility.specs.Names.{end_text, item_text, owner_name, owner_ports}
-use Rattle.compatibility.specs.Refusals.{in_composition, number_of, of_connectors, of_items, of_root_ports, refusal}
+use Rattle.flat_descriptions.specs.declared.flat.End.{End}
+use Rattle.flat_descriptions.specs.declared.flat.Flat.{Flat}
+use Rattle.plan_definitions.specs.declared.join_rule.JoinRule.{JoinRule}
+use Rattle.plan_definitions.specs.declared.join_rule.JoinRule.TheVariants.{Services, Groups}
+use Rattle.plan_definitions.specs.Connectors.{both, delegated, incompatible, inner_interface, joins_compatible, ports_of, sides}
+use Rattle.plan_definitions.specs.Firsts.{first_of}
+use Rattle.plan_definitions.specs.Interfaces.{are_compatible}
+use Rattle.plan_definitions.specs.JoinedItems.{first_broken, in_instances, in_ports}
+use Rattle.plan_definitions.specs.Names.{end_text, item_text, owner_name, owner_ports}
+use Rattle.plan_definitions.specs.JoinRefusals.{in_composition, number_of, of_connectors, of_items, of_root_ports, refusal}
 use Rattle.plan_laws.proofs.Held.{at_place, held_as, look}
 
 module _ (d : Description) (cs : List Component) (same : map component_tree d.components ≡ map component_tree cs) where
@@ -41,10 +41,10 @@ module _ (d : Description) (cs : List Component) (same : map component_tree d.co
   incompatible-again : incompatible d ≡ incompatible (held_as d cs)
   incompatible-again = λ i. first_of (λ n c. option_map (λ m. (n, m)) (first_of (λ m k. if joins_compatible-again c k i then None else Some m) 0 c.connectors)) 0 d.compositions
 
-  in_instances-again : (rule : Rule) (f : Flat) → in_instances rule d f ≡ in_instances rule (held_as d cs) f
+  in_instances-again : (rule : JoinRule) (f : Flat) → in_instances rule d f ≡ in_instances rule (held_as d cs) f
   in_instances-again rule f = λ i. first_of (λ n x. in_ports rule d f (Some n) (ports_of-again (of_type.Component x.component) i)) 0 f.instances
 
-  first_broken-again : (rule : Rule) (f : Flat) → first_broken rule d f ≡ first_broken rule (held_as d cs) f
+  first_broken-again : (rule : JoinRule) (f : Flat) → first_broken rule d f ≡ first_broken rule (held_as d cs) f
   first_broken-again rule f = ap (λ o. option_or o (in_ports rule d f None (ports_of d (of_type.Composition d.root)))) (in_instances-again rule f)
 
   owner_ports-again : (f : Flat) (owner : Option ℕ) → owner_ports d f owner ≡ owner_ports (held_as d cs) f owner
@@ -58,7 +58,7 @@ module _ (d : Description) (cs : List Component) (same : map component_tree d.co
   end_text-again : (f : Flat) (e : End) → end_text d f e ≡ end_text (held_as d cs) f e
   end_text-again f e = λ i. (owner_name f e.instance ++ codes ".") ++ item_text-again (slice_get (owner_ports-again f e.instance i) e.port) e.element i
 
-  of_items-again : (rule : Rule) (f : Flat) → of_items rule d f ≡ of_items rule (held_as d cs) f
+  of_items-again : (rule : JoinRule) (f : Flat) → of_items rule d f ≡ of_items rule (held_as d cs) f
   of_items-again rule f = λ i. option_map (λ e. (number_of rule, end_text-again f e i)) (first_broken-again rule f i)
 
   of_connectors-again : of_connectors d ≡ of_connectors (held_as d cs)

@@ -14,17 +14,17 @@ use Rattle.description_types.specs.declared.description.Description.{Description
 use Rattle.description_types.specs.declared.description.MappedEvent.{MappedEvent}
 use Rattle.description_types.specs.declared.description.Task as declared_task
 use Rattle.component_model.specs.Programs.{component_tree, runnable_tree}
-use Rattle.component_rules.specs.Firsts.{first_of, unless}
-use Rattle.composition_flatten.specs.declared.flat.End.{End}
-use Rattle.composition_flatten.specs.declared.flat.Flat.{Flat}
-use Rattle.plan_numbers.specs.Joined.{end_at, provider_of}
-use Rattle.plan_numbers.specs.Keys.{pair_number, same_pair}
-use Rattle.plan_numbers.specs.Lists.{from}
-use Rattle.plan_numbers.specs.Parts.{component_of}
-use Rattle.mapping_rules.specs.Mapped.{instance_named, invocation_of, invokes, is_mapped, mapped_as, named_by, names}
-use Rattle.mapping_rules.specs.Refusals.{event_text, mapped_text, of_events, path_of, runnable_text, IsAfter, IsOfTasks, IsRefusal}
-use Rattle.mapping_rules.specs.Rules.{are_same, badly_mapped_in, in_instances, is_mapped_well, keeps_direct, may_be_direct, not_direct_in, serves_outside, spread_in, task_of_server, tasks_behind, tasks_from, tasks_of, tasks_of_event, unnamed, waits_by, waits_for, Chain, ReachesItself, Waits}
-use Rattle.mapping_rules.specs.Tasks.{by_position, mapping_of, number_of}
+use Rattle.plan_definitions.specs.Firsts.{first_of, unless}
+use Rattle.flat_descriptions.specs.declared.flat.End.{End}
+use Rattle.flat_descriptions.specs.declared.flat.Flat.{Flat}
+use Rattle.plan_definitions.specs.Joined.{end_at, provider_of}
+use Rattle.plan_definitions.specs.Keys.{pair_number, same_pair}
+use Rattle.plan_definitions.specs.Lists.{from}
+use Rattle.plan_definitions.specs.Parts.{component_of}
+use Rattle.plan_definitions.specs.Mapped.{instance_named, invocation_of, invokes, is_mapped, mapped_as, named_by, names}
+use Rattle.plan_definitions.specs.MappingRefusals.{event_text, mapped_text, of_events, path_of, runnable_text, IsAfter, IsOfTasks, IsRefusal}
+use Rattle.plan_definitions.specs.MappingRules.{are_same, badly_mapped_in, in_instances, is_mapped_well, keeps_direct, may_be_direct, not_direct_in, serves_outside, spread_in, task_of_server, tasks_behind, tasks_from, tasks_of, tasks_of_event, unnamed, waits_by, waits_for, Chain, ReachesItself, Waits}
+use Rattle.plan_definitions.specs.Tasks.{by_position, mapping_of, number_of}
 use Rattle.plan_laws.proofs.Held.{at_place, held_as, look, look_on, look_within, on_first, running}
 use Rattle.plan_laws.proofs.Parts.{component_of-again, events_of-again, found}
 

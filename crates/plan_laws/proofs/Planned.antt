@@ -17,27 +17,27 @@ use Rattle.description_types.specs.declared.component.Port.{Port}
 use Rattle.description_types.specs.declared.component.Runnable as declared_runnable
 use Rattle.description_types.specs.declared.description.Description.{Description}
 use Rattle.component_model.specs.Programs.{component_tree, runnable_tree}
-use Rattle.composition_flatten.specs.declared.flat.Flat.{Flat}
-use Rattle.composition_flatten.specs.declared.flat.Instance.{Instance}
+use Rattle.flat_descriptions.specs.declared.flat.Flat.{Flat}
+use Rattle.flat_descriptions.specs.declared.flat.Instance.{Instance}
 use Rattle.bus_semantics.specs.declared.plan.ElemKind.TheVariants as elem
 use Rattle.bus_semantics.specs.declared.plan.EventKind.TheVariants as plan_event
-use Rattle.component_rules.specs.Signatures.{arguments_of}
-use Rattle.plan_numbers.specs.declared.site.Site.{Site}
-use Rattle.plan_numbers.specs.Joined.{end_at, end_of, is_joined, provider_of}
-use Rattle.plan_numbers.specs.Keys.{end_key, is_element, is_machine, is_server, keys_of, pair_number}
-use Rattle.plan_numbers.specs.Lists.{from}
-use Rattle.plan_numbers.specs.Parts.{component_of}
-use Rattle.plan_numbers.specs.Sites.{root_ports}
-use Rattle.plan_elements.specs.Elements.{declared_at, element_in, element_of, elements, given_of, group_of, held, is_provided, keeps_last, keeps_queue, kind_of, leaders, limits_of, never_received_of, policy_kind, queue_of, type_of, variable_at, words_of, zeros}
-use Rattle.plan_elements.specs.Groups.{group_number, groups, leader_of}
-use Rattle.plan_services.specs.declared.callings.Calling.{Calling}
-use Rattle.plan_services.specs.Callings.{calling_of, callings, callings_in, callings_of_component, first_calling, is_calling, leaves, outer_callings, owner_of, point_number}
-use Rattle.plan_services.specs.Modes.{group_at, group_in, machine_at, machines, mode_port_at, mode_ports, refuses_asynchronous, is_user, waits_of}
-use Rattle.plan_services.specs.Services as services
-use Rattle.plan_services.specs.Services.{argument_of, operation_at, operation_in, point_of, point_words, points, server_at, server_of, servers, started_by}
-use Rattle.plan_runnables.specs.Started.{disabling_of, event_of, events, moment_of, runnable_of, runnables, served_by, target_of}
-use Rattle.plan_runnables.specs.Started as started
-use Rattle.event_mapping.specs.Planned.{areas, areas_at, named_areas, object_count, plan_of}
+use Rattle.plan_definitions.specs.Signatures.{arguments_of}
+use Rattle.plan_definitions.specs.declared.site.Site.{Site}
+use Rattle.plan_definitions.specs.Joined.{end_at, end_of, is_joined, provider_of}
+use Rattle.plan_definitions.specs.Keys.{end_key, is_element, is_machine, is_server, keys_of, pair_number}
+use Rattle.plan_definitions.specs.Lists.{from}
+use Rattle.plan_definitions.specs.Parts.{component_of}
+use Rattle.plan_definitions.specs.Sites.{root_ports}
+use Rattle.plan_definitions.specs.Elements.{declared_at, element_in, element_of, elements, given_of, group_of, held, is_provided, keeps_last, keeps_queue, kind_of, leaders, limits_of, never_received_of, policy_kind, queue_of, type_of, variable_at, words_of, zeros}
+use Rattle.plan_definitions.specs.ElementGroups.{group_number, groups, leader_of}
+use Rattle.plan_definitions.specs.declared.calling.Calling.{Calling}
+use Rattle.plan_definitions.specs.Callings.{calling_of, callings, callings_in, callings_of_component, first_calling, is_calling, leaves, outer_callings, owner_of, point_number}
+use Rattle.plan_definitions.specs.Modes.{group_at, group_in, machine_at, machines, mode_port_at, mode_ports, refuses_asynchronous, is_user, waits_of}
+use Rattle.plan_definitions.specs.Services as services
+use Rattle.plan_definitions.specs.Services.{argument_of, operation_at, operation_in, point_of, point_words, points, server_at, server_of, servers, started_by}
+use Rattle.plan_definitions.specs.Started.{disabling_of, event_of, events, moment_of, runnable_of, runnables, served_by, target_of}
+use Rattle.plan_definitions.specs.Started as started
+use Rattle.plan_definitions.specs.Planned.{areas, areas_at, named_areas, object_count, plan_of}
 use Rattle.plan_laws.proofs.Components.{signature-again}
 use Rattle.plan_laws.proofs.Held.{held_as, look, look_on, on_from}
 use Rattle.plan_laws.proofs.Mapped.{at_events, invocation_of-again, is_mapped-again}

@@ -4,16 +4,16 @@ use Rattle.std.specs.List.{concat}
 use Rattle.description_types.specs.declared.component.Component.{Component}
 use Rattle.description_types.specs.declared.description.Description.{Description}
 use Rattle.component_model.specs.Programs.{component_tree}
-use Rattle.composition_flatten.specs.declared.flat.End.{End}
-use Rattle.composition_flatten.specs.declared.flat.Flat.{Flat}
-use Rattle.composition_flatten.specs.declared.flat.Instance.{Instance}
-use Rattle.composition_flatten.specs.declared.flat.Join.{Join}
+use Rattle.flat_descriptions.specs.declared.flat.End.{End}
+use Rattle.flat_descriptions.specs.declared.flat.Flat.{Flat}
+use Rattle.flat_descriptions.specs.declared.flat.Instance.{Instance}
+use Rattle.flat_descriptions.specs.declared.flat.Join.{Join}
 use Rattle.bus_semantics.specs.declared.plan.BusPlan.{BusPlan}
 use Rattle.bus_semantics.specs.declared.plan.EventKind.{EventKind}
 use Rattle.bus_semantics.specs.declared.plan.EventKind.TheVariants.{Timing, Init, DataReceived, Invoked, Returns, ModeSwitch, Ack}
 use Rattle.bus_semantics.specs.Plan.{instance_of, plan_of, queue_of}
 use Rattle.bus_semantics.specs.Spelling.{spaced}
-use Rattle.plan_numbers.specs.Lists.{from}
+use Rattle.plan_definitions.specs.Lists.{from}
 use Rattle.plan_text.specs.Lines.{direct_events, direct_line, end_text, instance_line, invokes_directly, join_line, machine_line, owned_text, plan_text, task_lines}
 use Rattle.plan_laws.proofs.Held.{at_place, held_as, look}
 use Rattle.plan_laws.proofs.Parts.{item_text-again}

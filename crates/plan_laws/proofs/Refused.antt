@@ -3,16 +3,16 @@ use Rattle.std.proofs.Common.{◌≡◌, ℕ, ◌<◌, List, map, length, Option
 use Rattle.description_types.specs.declared.component.Component.{Component}
 use Rattle.description_types.specs.declared.description.Description.{Description}
 use Rattle.component_model.specs.Programs.{component_tree}
-use Rattle.composition_tables.specs.Connectors.{IsBrokenConnector, IsFirstBroken}
-use Rattle.composition_tables.specs.Firsts.{IsFirst}
-use Rattle.composition_tables.specs.Paths.{ContainsItself}
-use Rattle.composition_flatten.specs.declared.flat.Flat.{Flat}
-use Rattle.composition_flatten.specs.Flattening.{IsFlatOf, IsRefusedAt, composition_place, connector_place}
-use Rattle.compatibility.specs.Refusals as joins
-use Rattle.component_rules.specs.Refusals as components
-use Rattle.mapping_rules.specs.Refusals.{IsAfter, IsOfTasks, mapping_text, of_events}
-use Rattle.mapping_rules.specs.Refusals as mapping
-use Rattle.event_mapping.specs.Refusals.{IsOfSize, IsRefusal, IsThen, of_size}
+use Rattle.flat_descriptions.specs.Connectors.{IsBrokenConnector, IsFirstBroken}
+use Rattle.flat_descriptions.specs.Firsts.{IsFirst}
+use Rattle.flat_descriptions.specs.Paths.{ContainsItself}
+use Rattle.flat_descriptions.specs.declared.flat.Flat.{Flat}
+use Rattle.flat_descriptions.specs.Flattening.{IsFlatOf, IsRefusedAt, composition_place, connector_place}
+use Rattle.plan_definitions.specs.JoinRefusals as joins
+use Rattle.plan_definitions.specs.ComponentRefusals as components
+use Rattle.plan_definitions.specs.MappingRefusals.{IsAfter, IsOfTasks, mapping_text, of_events}
+use Rattle.plan_definitions.specs.MappingRefusals as mapping
+use Rattle.plan_definitions.specs.PlanRefusals.{IsOfSize, IsRefusal, IsThen, of_size}
 use Rattle.plan_laws.proofs.Components as again
 use Rattle.plan_laws.proofs.Flat.{flat_as, refused_as}
 use Rattle.plan_laws.proofs.Held.{held_as}

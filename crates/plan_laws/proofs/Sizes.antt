@@ -10,27 +10,27 @@ use Rattle.description_types.specs.declared.component.Component.{Component}
 use Rattle.description_types.specs.declared.component.Port.{Port}
 use Rattle.description_types.specs.declared.component.PortKind.{PortKind}
 use Rattle.description_types.specs.declared.description.Description.{Description}
-use Rattle.composition_flatten.specs.declared.flat.Flat.{Flat}
-use Rattle.composition_flatten.specs.declared.flat.Instance.{Instance}
+use Rattle.flat_descriptions.specs.declared.flat.Flat.{Flat}
+use Rattle.flat_descriptions.specs.declared.flat.Instance.{Instance}
 use Rattle.bus_semantics.specs.declared.plan.ElemKind.{ElemKind}
 use Rattle.bus_semantics.specs.declared.plan.MachinePlan.{MachinePlan}
 use Rattle.bus_semantics.specs.declared.plan.ServerPlan.{ServerPlan}
 use Rattle.bus_semantics.specs.declared.plan.ElemKind.TheVariants as elem
-use Rattle.plan_numbers.specs.declared.site.Site.{Site}
-use Rattle.plan_numbers.specs.declared.site.SiteKind.{SiteKind}
-use Rattle.plan_numbers.specs.declared.site.SiteKind.TheVariants.{Element, Variable, Server, Machine, ModePort}
-use Rattle.plan_numbers.specs.Keys.{is_element, is_machine, is_server}
-use Rattle.plan_numbers.specs.Lists.{from, positions}
-use Rattle.plan_numbers.specs.Parts.{areas_of, events_of, numbered}
-use Rattle.plan_numbers.specs.Sites.{count_at, kind_at, provides_at, root_ports, site, sites, sites_at, sites_of_component, sites_of_instance, sites_of_ports, sites_with, variables_of}
-use Rattle.plan_ports.specs.Things.{machines_of, servers_of}
-use Rattle.plan_elements.specs.Elements.{Elem, element_of, group_of, kind_of, leaders, queue_of}
-use Rattle.plan_elements.specs.Groups.{groups, heads}
-use Rattle.plan_services.specs.Modes.{machine_at}
-use Rattle.plan_services.specs.Services.{server_of}
-use Rattle.plan_runnables.specs.Started.{event_of, events}
-use Rattle.event_mapping.specs.Planned.{areas, areas_at, named_areas, plan_of}
-use Rattle.event_mapping.specs.Rules.{is_queued, is_too_large, received, requested}
+use Rattle.plan_definitions.specs.declared.site.Site.{Site}
+use Rattle.plan_definitions.specs.declared.site.SiteKind.{SiteKind}
+use Rattle.plan_definitions.specs.declared.site.SiteKind.TheVariants.{Element, Variable, Server, Machine, ModePort}
+use Rattle.plan_definitions.specs.Keys.{is_element, is_machine, is_server}
+use Rattle.plan_definitions.specs.Lists.{from, positions}
+use Rattle.plan_definitions.specs.Parts.{areas_of, events_of, numbered}
+use Rattle.plan_definitions.specs.Sites.{count_at, kind_at, provides_at, root_ports, site, sites, sites_at, sites_of_component, sites_of_instance, sites_of_ports, sites_with, variables_of}
+use Rattle.plan_definitions.specs.Things.{machines_of, servers_of}
+use Rattle.plan_definitions.specs.Elements.{Elem, element_of, group_of, kind_of, leaders, queue_of}
+use Rattle.plan_definitions.specs.ElementGroups.{groups, heads}
+use Rattle.plan_definitions.specs.Modes.{machine_at}
+use Rattle.plan_definitions.specs.Services.{server_of}
+use Rattle.plan_definitions.specs.Started.{event_of, events}
+use Rattle.plan_definitions.specs.Planned.{areas, areas_at, named_areas, plan_of}
+use Rattle.plan_definitions.specs.PlanRules.{is_queued, is_too_large, received, requested}
 use Rattle.plan_laws.specs.Sizes.{is_past, objects_of, waiting_at}
 
 -- ---- lengths

@@ -12,13 +12,13 @@ use Rattle.component_model.specs.Refusals.{Breaks, IsRead, refusal}
 use Rattle.bus_semantics.specs.declared.plan.BusPlan.{BusPlan}
 use Rattle.bus_semantics.specs.declared.plan.ElemPlan.{ElemPlan}
 use Rattle.bus_semantics.specs.Plan as bus
-use Rattle.composition_flatten.specs.declared.flat.Flat.{Flat}
-use Rattle.composition_flatten.specs.Flattening.{IsFlatOf}
-use Rattle.compatibility.specs.Refusals as joins
-use Rattle.mapping_rules.specs.Tasks.{mapping_of}
-use Rattle.plan_elements.specs.Elements.{elem_seen}
-use Rattle.event_mapping.specs.Planned.{plan_of, seen}
-use Rattle.event_mapping.specs.Refusals.{IsRefusal}
+use Rattle.flat_descriptions.specs.declared.flat.Flat.{Flat}
+use Rattle.flat_descriptions.specs.Flattening.{IsFlatOf}
+use Rattle.plan_definitions.specs.JoinRefusals as joins
+use Rattle.plan_definitions.specs.Tasks.{mapping_of}
+use Rattle.plan_definitions.specs.Elements.{elem_seen}
+use Rattle.plan_definitions.specs.Planned.{plan_of, seen}
+use Rattle.plan_definitions.specs.PlanRefusals.{IsRefusal}
 use Rattle.description_stages.specs.declared.planning.PlannedDescription.{PlannedDescription}
 use Rattle.description_stages.specs.Plans.{IsPlanRefusalOf, IsPlannedOf}
 use Rattle.description_stages.specs.Stages.{IsJoinRefusalOf}

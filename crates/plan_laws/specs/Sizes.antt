@@ -3,18 +3,18 @@
 use Rattle.std.specs.Prelude.{ℕ, ◌+◌, length, sum_by, Bool, false, ◌||◌, nat_lt, if◌then◌else◌}
 use Rattle.std.specs.Option.{unwrap_or}
 use Rattle.description_types.specs.declared.description.Description.{Description}
-use Rattle.composition_flatten.specs.declared.flat.Flat.{Flat}
-use Rattle.plan_numbers.specs.declared.site.Site.{Site}
-use Rattle.plan_numbers.specs.declared.site.SiteKind.{SiteKind}
-use Rattle.plan_numbers.specs.declared.site.SiteKind.TheVariants.{Element, Server, Machine}
-use Rattle.plan_numbers.specs.Parts.{areas_of, events_of}
-use Rattle.plan_numbers.specs.Sites.{sites}
-use Rattle.plan_ports.specs.Ports.{queue_length_of}
-use Rattle.plan_ports.specs.Things.{machines_of, servers_of}
-use Rattle.plan_elements.specs.Elements.{kind_of, leaders}
-use Rattle.plan_elements.specs.Groups.{heads}
-use Rattle.plan_services.specs.Services.{server_of}
-use Rattle.event_mapping.specs.Rules.{is_queued}
+use Rattle.flat_descriptions.specs.declared.flat.Flat.{Flat}
+use Rattle.plan_definitions.specs.declared.site.Site.{Site}
+use Rattle.plan_definitions.specs.declared.site.SiteKind.{SiteKind}
+use Rattle.plan_definitions.specs.declared.site.SiteKind.TheVariants.{Element, Server, Machine}
+use Rattle.plan_definitions.specs.Parts.{areas_of, events_of}
+use Rattle.plan_definitions.specs.Sites.{sites}
+use Rattle.plan_definitions.specs.Ports.{queue_length_of}
+use Rattle.plan_definitions.specs.Things.{machines_of, servers_of}
+use Rattle.plan_definitions.specs.Elements.{kind_of, leaders}
+use Rattle.plan_definitions.specs.ElementGroups.{heads}
+use Rattle.plan_definitions.specs.Services.{server_of}
+use Rattle.plan_definitions.specs.PlanRules.{is_queued}
 
 -- the groups of data elements, each by its least element, the servers, the exclusive areas, the mode machines, and the clock
 abbrev pub objects_of : Description → Flat → ℕ

@@ -1,10 +1,10 @@
 //! The laws.
 
 ghost use Rattle.std.specs.Prelude.{◌≡◌, ℕ, List};
-ghost use Rattle.composition_flatten.specs.declared.flat.Flat.{Flat};
+ghost use Rattle.flat_descriptions.specs.declared.flat.Flat.{Flat};
 ghost use Rattle.description_types.specs.declared.description.Description.{Description};
-ghost use Rattle.event_mapping.specs.Planned.{plan_of};
-ghost use Rattle.event_mapping.specs.Rules.{is_too_large};
+ghost use Rattle.plan_definitions.specs.Planned.{plan_of};
+ghost use Rattle.plan_definitions.specs.PlanRules.{is_too_large};
 ghost use Rattle.rte_text.specs.declared.refusal.Refusal.{Refusal};
 ghost use Rattle.rte_text.specs.declared.refusal.Refused.TheVariants.{Rule};
 ghost use Rattle.description_stages.specs.declared.planning.PlannedDescription.{PlannedDescription};

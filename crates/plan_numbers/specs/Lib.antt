@@ -1,6 +1,5 @@
-pub mod Lists
-pub mod Sites
 pub mod Tables
-pub mod Keys
-pub mod Joined
-pub mod Parts
+pub mod Numbering
+pub mod Ends
+pub mod ComSpecs
+pub mod Listed

@@ -1,13 +1,13 @@
 //! All sites of a description, in order.
 
 ghost use Rattle.std.specs.Prelude.{◌≡◌, [], ◌∷◌, ◌++◌, IfOk, OnOk, Some, option_copied, slice_get};
-ghost use Rattle.plan_numbers.specs.Lists.{from};
-ghost use Rattle.plan_numbers.specs.Sites.{site, provides_at, kind_at, count_at, shape_at, sites_with, sites_at, sites_of_ports, variables_of, sites_of_component, sites_of_instance, root_ports, sites};
+ghost use Rattle.plan_definitions.specs.Lists.{from};
+ghost use Rattle.plan_definitions.specs.Sites.{site, provides_at, kind_at, count_at, shape_at, sites_with, sites_at, sites_of_ports, variables_of, sites_of_component, sites_of_instance, root_ports, sites};
 
-use crate::site::{Site, SiteKind};
-use composition_flatten::{Flat, Instance};
 use description_types::{Component, Description, Port, PortKind};
+use flat_descriptions::{Flat, Instance};
 use interface_types::{InterfaceKind, TypeTable};
+use plan_definitions::{Site, SiteKind};
 use rte_text::Memory;
 use std::alloc::{AllocError, Global};
 

@@ -1,12 +1,25 @@
-//! What a plan numbers, in its order, and tables that find what stands first.
+//! What a plan numbers, in its order, and what stands at the other ends of the items of its ports.
 #![tactic(auto)]
 
 mod all_sites;
+mod com_specs;
+mod joined;
+mod kinds;
+mod lists;
+mod numbers;
+mod owners;
 mod parts;
-mod site;
+mod source;
 mod table;
+mod texts;
 
 pub use all_sites::sites;
+pub use joined::{EndKey, Joined};
+pub use kinds::end_of;
+pub use lists::{Lists, Pair};
+pub use numbers::{Key, Numbers, position};
+pub use owners::{component_of, interface_of, ports_of};
 pub use parts::{numbered_areas, numbered_events, numbered_runnables};
-pub use site::{Site, SiteKind};
+pub use source::Source;
 pub use table::Table;
+pub use texts::{item_text, variable_name};

@@ -1,21 +1,14 @@
 //! What instances have, by number.
 
 ghost use Rattle.std.specs.Prelude.{◌≡◌, [], ◌∷◌, ◌++◌, IfOk, OnOk};
-ghost use Rattle.plan_numbers.specs.Lists.{from};
-ghost use Rattle.plan_numbers.specs.Parts.{areas_of, counted, counted_at, events_of, numbered, runnables_of};
+ghost use Rattle.plan_definitions.specs.Lists.{from};
+ghost use Rattle.plan_definitions.specs.Parts.{areas_of, counted, counted_at, events_of, numbered, runnables_of};
 
-use composition_flatten::{Flat, Instance};
 use description_types::{Component, Description};
+use flat_descriptions::{Flat, Instance};
+use plan_definitions::Part;
 use rte_text::Memory;
 use std::alloc::{AllocError, Global};
-
-/// What the instances of a component have each for themselves.
-#[derive(Clone, Copy)]
-enum Part {
-    Runnables,
-    Events,
-    Areas,
-}
 
 fn position(number: usize) -> Result<u32, Memory>
     ensures { IfOk result (λ position. position ≡ number) }

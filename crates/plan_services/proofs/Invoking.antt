@@ -6,13 +6,13 @@ use Rattle.std.specs.Option.{option_and_then, option_eq, option_map, option_map_
 use Rattle.description_types.specs.declared.component.Component.{Component}
 use Rattle.description_types.specs.declared.component.Event.{Event}
 use Rattle.description_types.specs.declared.description.Description.{Description}
-use Rattle.composition_flatten.specs.declared.flat.Flat.{Flat}
-use Rattle.composition_flatten.specs.declared.flat.Instance.{Instance}
+use Rattle.flat_descriptions.specs.declared.flat.Flat.{Flat}
+use Rattle.flat_descriptions.specs.declared.flat.Instance.{Instance}
 use Rattle.description_types.specs.declared.component.EventKind.{EventKind}
 use Rattle.description_types.specs.declared.component.EventKind.TheVariants.{Timing, Init, DataReceived, OperationInvoked, CallReturns, ModeSwitch, ModeSwitchedAck}
-use Rattle.plan_numbers.specs.Keys.{same_pair}
-use Rattle.mapping_rules.specs.Mapped.{invocation_of, invokes}
-use Rattle.plan_services.specs.Invoked.{all_invoked, invoked_by, invoked_in}
+use Rattle.plan_definitions.specs.Keys.{same_pair}
+use Rattle.plan_definitions.specs.Mapped.{invocation_of, invokes}
+use Rattle.plan_definitions.specs.Invoked.{all_invoked, invoked_by, invoked_in}
 use Rattle.plan_services.proofs.Pointing.{position_map}
 
 -- the flag of a number

@@ -2,3 +2,4 @@ pub mod Listing
 pub mod Pointing
 pub mod Invoking
 pub mod Using
+pub mod Serving

@@ -4,9 +4,9 @@ use Rattle.std.specs.List.{position_from}
 use Rattle.std.specs.Option.{option_eq, option_map, option_map_or, unwrap_or}
 use Rattle.std.proofs.lemmas.Bool.{eq-eqb, ne_eqb, cases_eq}
 use Rattle.std.proofs.Math.Bool.{and_assoc}
-use Rattle.plan_numbers.specs.Keys.{same_pair}
-use Rattle.plan_services.specs.declared.callings.Calling.{Calling}
-use Rattle.plan_services.specs.Callings.{call_key, first_calling, is_calling, leaves, left_key}
+use Rattle.plan_definitions.specs.Keys.{same_pair}
+use Rattle.plan_definitions.specs.declared.calling.Calling.{Calling}
+use Rattle.plan_definitions.specs.Callings.{call_key, first_calling, is_calling, leaves, left_key}
 
 pub nat_eq_sym : (a b : ℕ) → nat_eq a b ≡ nat_eq b a
 nat_eq_sym a b = ⊎_elim (λ e. eq-eqb a b e ∙ sym (eq-eqb b a (sym e))) (λ ne. ne_eqb a b ne ∙ sym (ne_eqb b a (λ e. ne (sym e)))) (cases_eq a b)

@@ -2,12 +2,12 @@
 use Rattle.std.proofs.Common.{◌≡◌, ℕ, List, [], ◌∷◌, map, filter, Bool, true, false, ◌&&◌, ◌||◌, not, nat_eq, is_some, if◌then◌else◌, refl, sym, ap, ◌∙◌}
 use Rattle.std.specs.List.{list_any}
 use Rattle.description_types.specs.declared.description.Description.{Description}
-use Rattle.composition_flatten.specs.declared.flat.Flat.{Flat}
-use Rattle.plan_numbers.specs.declared.site.Site.{Site}
+use Rattle.flat_descriptions.specs.declared.flat.Flat.{Flat}
+use Rattle.plan_definitions.specs.declared.site.Site.{Site}
 use Rattle.indexmap.specs.IndexSet.{contains}
-use Rattle.plan_ports.specs.Things.{mode_ports_of}
+use Rattle.plan_definitions.specs.Things.{mode_ports_of}
 use Rattle.plan_services.specs.declared.users.Users.{Users}
-use Rattle.plan_services.specs.Modes.{is_user, machine_required, refuses_asynchronous, supports_asynchronous, waits_of}
+use Rattle.plan_definitions.specs.Modes.{is_user, machine_required, refuses_asynchronous, supports_asynchronous, waits_of}
 use Rattle.plan_services.specs.Users.{AreUsers, is_refusal, is_use}
 
 -- a number is that of one of those that are kept

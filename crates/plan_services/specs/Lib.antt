@@ -1,5 +1,2 @@
-pub mod Callings
-pub mod Invoked
-pub mod Modes
-pub mod Services
 pub mod Users
+pub mod Served

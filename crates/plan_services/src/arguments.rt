@@ -2,13 +2,13 @@
 
 ghost use Rattle.std.specs.Prelude.{◌≡◌, [], IfOk, Some, map, filter, option_copied};
 ghost use Rattle.std.specs.Option.{option_map_or};
-ghost use Rattle.component_rules.specs.Signatures.{arguments_of, goes, limits_of};
-ghost use Rattle.plan_services.specs.Services.{argument_of, is_out, operation_at, operation_in};
+ghost use Rattle.plan_definitions.specs.Signatures.{arguments_of, goes, limits_of};
+ghost use Rattle.plan_definitions.specs.Services.{argument_of, is_out, operation_at, operation_in};
 
 use bus_semantics::ArgPlan;
 use description_types::Description;
 use interface_types::{Argument, DataType, Direction, InterfaceKind, Operation};
-use plan_ports::{Source, interface_of};
+use plan_numbers::{Source, interface_of};
 use rte_text::{Memory, Seq};
 use rte_value::{Code, Limits};
 use std::alloc::Global;

@@ -3,28 +3,17 @@
 ghost use Rattle.std.specs.Prelude.{◌≡◌, [], ◌∷◌, ◌++◌, IfOk, OnOk, map, option_copied, slice_get};
 ghost use Rattle.std.specs.List.{flat_map};
 ghost use Rattle.std.specs.Option.{option_map_or};
-ghost use Rattle.plan_numbers.specs.Lists.{from, positions};
-ghost use Rattle.plan_services.specs.Callings.{calling_of, callings, callings_in, callings_of_component, operation_count, operations_at, outer_calling, outer_callings};
+ghost use Rattle.plan_definitions.specs.Lists.{from, positions};
+ghost use Rattle.plan_definitions.specs.Callings.{calling_of, callings, callings_in, callings_of_component, operation_count, operations_at, outer_calling, outer_callings};
 
-use composition_flatten::{Flat, Instance};
 use description_types::{Access, Component, Description, Port, PortKind, Runnable};
+use flat_descriptions::{Flat, Instance};
 use interface_types::InterfaceKind;
-use plan_ports::{ports_of, position};
+use plan_definitions::Calling;
+use plan_numbers::{ports_of, position};
 use rte_text::Memory;
 use runnable_lang::AccessKind;
 use std::alloc::Global;
-
-/// A call: who makes it, by what port, and of which operation.
-#[derive(Clone, Copy)]
-pub struct Calling {
-    /// The instance and the position of the runnable; None is the environment.
-    pub caller: Option<(u32, u32)>,
-    pub port: u32,
-    /// The position of the operation.
-    pub item: u32,
-    /// The caller goes on without waiting.
-    pub asynchronous: bool,
-}
 
 fn push_call(
     list: &mut Vec<Calling>,

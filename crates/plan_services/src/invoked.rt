@@ -3,13 +3,13 @@
 ghost use Rattle.std.specs.Prelude.{◌≡◌, IfOk, Some, map, option_and_then, option_copied, slice_get};
 ghost use Rattle.std.specs.List.{position_from};
 ghost use Rattle.std.specs.Option.{option_eq};
-ghost use Rattle.plan_numbers.specs.Keys.{same_pair};
-ghost use Rattle.mapping_rules.specs.Mapped.{invocation_of};
-ghost use Rattle.plan_services.specs.Invoked.{all_invoked, invoked_by, invoked_in};
+ghost use Rattle.plan_definitions.specs.Keys.{same_pair};
+ghost use Rattle.plan_definitions.specs.Mapped.{invocation_of};
+ghost use Rattle.plan_definitions.specs.Invoked.{all_invoked, invoked_by, invoked_in};
 
-use composition_flatten::Flat;
 use description_types::{Component, Description, Event, EventKind};
-use plan_ports::{Numbers, Pair, Source};
+use flat_descriptions::Flat;
+use plan_numbers::{Numbers, Pair, Source};
 use rte_text::{Memory, Seq};
 use std::alloc::Global;
 

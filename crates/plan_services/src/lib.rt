@@ -1,18 +1,24 @@
-//! The services of a plan: mode machines and ports, servers, and the points at which they are called.
+//! The machines, servers, points, events and runnables of a plan.
 #![tactic(auto)]
 
 mod arguments;
 mod callings;
+mod events;
 mod invoked;
+mod kinds;
 mod listed_callings;
 mod machines;
 mod points;
+mod runnables;
+mod served;
 mod servers;
+mod targets;
 mod users;
 
-pub use callings::Calling;
+pub use events::event_plans;
 pub use invoked::invoked_by;
 pub use listed_callings::Callings;
 pub use machines::{machine_plans, mode_port_plans};
 pub use points::point_plans;
+pub use runnables::runnable_plans;
 pub use servers::server_plans;

@@ -1,12 +1,13 @@
 //! Calls in their order, and the numbers of the points at which they are made.
 
 ghost use Rattle.std.specs.Prelude.{◌≡◌, IfOk, map};
-ghost use Rattle.plan_services.specs.Callings.{call_key, left_key};
+ghost use Rattle.plan_definitions.specs.Callings.{call_key, left_key};
 
-use crate::callings::{Calling, callings_of};
-use composition_flatten::Flat;
+use crate::callings::callings_of;
 use description_types::Description;
-use plan_ports::{EndKey, Numbers, Pair};
+use flat_descriptions::Flat;
+use plan_definitions::Calling;
+use plan_numbers::{EndKey, Numbers, Pair};
 use rte_text::Memory;
 use std::alloc::Global;
 use std::marker::Model;
@@ -73,8 +74,8 @@ pub struct Callings {
 
 impl Model for Callings {
     ghost use Rattle.std.specs.Prelude.{◌≡◌, List, map};
-    ghost use Rattle.plan_services.specs.declared.callings.Calling.{Calling};
-    ghost use Rattle.plan_services.specs.Callings.{call_key, left_key};
+    ghost use Rattle.plan_definitions.specs.declared.calling.Calling.{Calling};
+    ghost use Rattle.plan_definitions.specs.Callings.{call_key, left_key};
 
     ghost Value = { List Calling };
 
@@ -85,7 +86,7 @@ impl Model for Callings {
 
 impl Callings {
     ghost use Rattle.std.specs.Prelude.{◌≡◌, IfOk};
-    ghost use Rattle.plan_services.specs.Callings.{callings, first_calling, is_calling, leaves};
+    ghost use Rattle.plan_definitions.specs.Callings.{callings, first_calling, is_calling, leaves};
 
     /// All calls that may be made: by instance, runnable and access, then each operation that the root provides, which the
     /// environment may call.

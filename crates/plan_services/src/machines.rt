@@ -2,15 +2,15 @@
 
 ghost use Rattle.std.specs.Prelude.{◌≡◌, [], IfOk, Some, map, option_copied};
 ghost use Rattle.std.specs.Option.{option_map_or, unwrap_or};
-ghost use Rattle.plan_services.specs.Modes.{group_at, group_in, machine_at, machines, mode_port_at, mode_ports};
+ghost use Rattle.plan_definitions.specs.Modes.{group_at, group_in, machine_at, machines, mode_port_at, mode_ports};
 ghost use Rattle.plan_services.specs.Users.{AreUsers};
 
 use crate::users::Users;
 use bus_semantics::{MachinePlan, ModePortPlan};
 use description_types::Description;
 use interface_types::{InterfaceKind, ModeGroup};
-use plan_numbers::Site;
-use plan_ports::{Source, interface_of, item_text};
+use plan_definitions::Site;
+use plan_numbers::{Source, interface_of, item_text};
 use rte_text::{Memory, Seq, Text};
 use std::alloc::Global;
 

@@ -1,18 +1,18 @@
 //! Points at which operations are called.
 
 ghost use Rattle.std.specs.Prelude.{◌≡◌, IfOk, map, option_map};
-ghost use Rattle.plan_numbers.specs.Joined.{end_at, provider_of};
-ghost use Rattle.plan_numbers.specs.Keys.{end_key, pair_number};
-ghost use Rattle.plan_numbers.specs.Parts.{runnables_of};
-ghost use Rattle.plan_ports.specs.Things.{server_number};
-ghost use Rattle.plan_services.specs.Callings.{owner_of};
-ghost use Rattle.plan_services.specs.Services.{point_of, point_words};
+ghost use Rattle.plan_definitions.specs.Joined.{end_at, provider_of};
+ghost use Rattle.plan_definitions.specs.Keys.{end_key, pair_number};
+ghost use Rattle.plan_definitions.specs.Parts.{runnables_of};
+ghost use Rattle.plan_definitions.specs.Things.{server_number};
+ghost use Rattle.plan_definitions.specs.Callings.{owner_of};
+ghost use Rattle.plan_definitions.specs.Services.{point_of, point_words};
 
 use crate::arguments::words_at;
-use crate::callings::Calling;
 use bus_semantics::PointPlan;
 use interface_types::Direction;
-use plan_ports::{Source, item_text};
+use plan_definitions::Calling;
+use plan_numbers::{Source, item_text};
 use rte_text::{Memory, Seq};
 use rte_value::Limits;
 use std::alloc::Global;

@@ -2,18 +2,18 @@
 
 ghost use Rattle.std.specs.Prelude.{◌≡◌, IfOk, false, map, slice_get};
 ghost use Rattle.std.specs.Option.{unwrap_or};
-ghost use Rattle.plan_numbers.specs.Parts.{events_of};
-ghost use Rattle.mapping_rules.specs.Mapped.{is_mapped};
-ghost use Rattle.plan_services.specs.Invoked.{all_invoked};
-ghost use Rattle.plan_services.specs.Services.{queue_of, server_at, server_of, servers, started_by};
+ghost use Rattle.plan_definitions.specs.Parts.{events_of};
+ghost use Rattle.plan_definitions.specs.Mapped.{is_mapped};
+ghost use Rattle.plan_definitions.specs.Invoked.{all_invoked};
+ghost use Rattle.plan_definitions.specs.Services.{queue_of, server_at, server_of, servers, started_by};
 
 use crate::arguments::{arguments_at, errors_at};
 use crate::invoked::{Invocations, all_invoked, invocation_of};
 use bus_semantics::ServerPlan;
-use composition_flatten::Flat;
 use description_types::Description;
-use plan_numbers::Site;
-use plan_ports::{Source, component_of, item_text};
+use flat_descriptions::Flat;
+use plan_definitions::Site;
+use plan_numbers::{Source, component_of, item_text};
 use rte_text::Memory;
 use std::alloc::Global;
 

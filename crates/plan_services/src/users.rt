@@ -3,13 +3,13 @@
 ghost use Rattle.std.specs.Prelude.{◌≡◌, ℕ, IfOk, filter, map, nat_eq};
 ghost use Rattle.std.specs.List.{list_any};
 ghost use Rattle.indexmap.specs.IndexSet.{contains};
-ghost use Rattle.plan_ports.specs.Things.{mode_ports_of};
-ghost use Rattle.plan_services.specs.Modes.{machine_required, supports_asynchronous, waits_of};
+ghost use Rattle.plan_definitions.specs.Things.{mode_ports_of};
+ghost use Rattle.plan_definitions.specs.Modes.{machine_required, supports_asynchronous, waits_of};
 ghost use Rattle.plan_services.specs.Users.{AreUsers, is_refusal, is_use};
 
 use indexmap::IndexSet;
-use plan_numbers::Site;
-use plan_ports::Source;
+use plan_definitions::Site;
+use plan_numbers::Source;
 use rte_text::Memory;
 use std::alloc::Global;
 

@@ -5,10 +5,10 @@ ghost use Rattle.bus_semantics.specs.Plan.{instance_of, plan_of};
 ghost use Rattle.plan_text.specs.Lines.{component_text, direct_line, end_text, event_line, instance_line, join_line, machine_line, owned_text, owner_text, task_line};
 
 use bus_semantics::{BusPlan, EventPlan, MachinePlan};
-use composition_flatten::{End, Flat, Instance, Join};
 use description_types::{Description, MappedEvent, Task};
+use flat_descriptions::{End, Flat, Instance, Join};
 use itoa::Buffer;
-use plan_ports::item_text;
+use plan_numbers::item_text;
 use rte_text::{Memory, Text};
 use std::alloc::Global;
 

@@ -1,16 +1,16 @@
 //! All lines, kind by kind.
 
 ghost use Rattle.std.specs.Prelude.{◌≡◌, ◌<◌, ◌∷◌, ◌++◌, IfOk, OnOk, filter, length, map, nat_eq};
-ghost use Rattle.plan_numbers.specs.Lists.{from};
-ghost use Rattle.mapping_rules.specs.Tasks.{by_position};
+ghost use Rattle.plan_definitions.specs.Lists.{from};
+ghost use Rattle.plan_definitions.specs.Tasks.{by_position};
 ghost use Rattle.plan_text.specs.Lines.{direct_events, direct_line, event_line, instance_line, invokes_directly, join_line, machine_line, plan_lines, task_line, task_lines};
 ghost use Rattle.plan_text.specs.Mapped.{listed, seen};
 
 use crate::lines::{direct_line, event_line, instance_line, join_line, machine_line, task_line};
 use crate::mapped::{in_order, mapped_by_task};
 use bus_semantics::{BusPlan, EventKind, EventPlan, MachinePlan};
-use composition_flatten::Flat;
 use description_types::{Description, MappedEvent, Task};
+use flat_descriptions::Flat;
 use rte_text::{Memory, Text};
 use std::alloc::Global;
 

@@ -7,8 +7,8 @@ ghost use Rattle.plan_text.specs.Lines.{plan_text};
 
 use crate::listing::plan_lines;
 use bus_semantics::BusPlan;
-use composition_flatten::Flat;
 use description_types::Description;
+use flat_descriptions::Flat;
 use rte_text::{Memory, Put, Sink, Text};
 use std::alloc::Global;
 

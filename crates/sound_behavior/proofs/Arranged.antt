@@ -13,8 +13,8 @@ use Rattle.description_types.specs.declared.component.Access.{Access}
 use Rattle.description_types.specs.declared.component.Component.{Component}
 use Rattle.description_types.specs.declared.component.Runnable as declared_runnable
 use Rattle.description_types.specs.declared.description.Description.{Description}
-use Rattle.composition_flatten.specs.declared.flat.Flat.{Flat}
-use Rattle.composition_flatten.specs.declared.flat.Instance.{Instance}
+use Rattle.flat_descriptions.specs.declared.flat.Flat.{Flat}
+use Rattle.flat_descriptions.specs.declared.flat.Instance.{Instance}
 use Rattle.bus_semantics.specs.declared.plan.BusPlan.{BusPlan}
 use Rattle.bus_semantics.specs.declared.plan.ElemPlan.{ElemPlan}
 use Rattle.bus_semantics.specs.declared.plan.PointPlan.{PointPlan}
@@ -24,13 +24,13 @@ use Rattle.bus_semantics.specs.Plan as plan
 use Rattle.bus_semantics.specs.Rest.{gathered}
 use Rattle.bus_semantics.specs.SoundAccesses.{called_points, points_arranged}
 use Rattle.bus_semantics.specs.SoundPlan.{same_numbers}
-use Rattle.component_rules.specs.Signatures.{access_sig}
-use Rattle.plan_numbers.specs.Lists.{from}
-use Rattle.plan_runnables.specs.Started.{target_of, runnable_of, runnables_of_component, runnables}
-use Rattle.plan_services.specs.declared.callings.Calling.{Calling}
-use Rattle.plan_services.specs.Callings.{calling_of, callings_in, callings_of_component, callings, is_calling, point_number}
-use Rattle.plan_services.specs.Services.{point_of, points}
-use Rattle.planned_descriptions.specs.Whole.{IsWhole}
+use Rattle.plan_definitions.specs.Signatures.{access_sig}
+use Rattle.plan_definitions.specs.Lists.{from}
+use Rattle.plan_definitions.specs.Started.{target_of, runnable_of, runnables_of_component, runnables}
+use Rattle.plan_definitions.specs.declared.calling.Calling.{Calling}
+use Rattle.plan_definitions.specs.Callings.{calling_of, callings_in, callings_of_component, callings, is_calling, point_number}
+use Rattle.plan_definitions.specs.Services.{point_of, points}
+use Rattle.plan_definitions.specs.Whole.{IsWhole}
 use Rattle.sound_behavior.proofs.Lists.{every_if, map_at, append_at, Later}
 use Rattle.sound_behavior.proofs.Rules.{planned, plan_is}
 use Rattle.sound_behavior.proofs.Points.{inner, outer, inner_call, outer_call}

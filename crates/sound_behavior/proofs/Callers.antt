@@ -12,7 +12,7 @@ use Rattle.description_types.specs.declared.component.Access.{Access}
 use Rattle.description_types.specs.declared.component.Component.{Component}
 use Rattle.description_types.specs.declared.component.Runnable.{Runnable}
 use Rattle.description_types.specs.declared.description.Description.{Description}
-use Rattle.composition_flatten.specs.declared.flat.Flat.{Flat}
+use Rattle.flat_descriptions.specs.declared.flat.Flat.{Flat}
 use Rattle.bus_semantics.specs.declared.plan.BusPlan.{BusPlan}
 use Rattle.bus_semantics.specs.declared.plan.ElemPlan.{ElemPlan}
 use Rattle.bus_semantics.specs.declared.plan.PointPlan.{PointPlan}
@@ -21,14 +21,14 @@ use Rattle.bus_semantics.specs.Owners.{result_point}
 use Rattle.bus_semantics.specs.Plan as plan
 use Rattle.bus_semantics.specs.Plan.{Plan, look, instance_of}
 use Rattle.bus_semantics.specs.SoundPrograms.{is_well_formed}
-use Rattle.plan_numbers.specs.Keys.{pair_number}
-use Rattle.plan_numbers.specs.Parts.{runnables_of}
-use Rattle.plan_runnables.specs.Started.{runnable_of, runnables}
-use Rattle.plan_services.specs.declared.callings.Calling.{Calling}
-use Rattle.plan_services.specs.Callings.{callings, is_calling, leaves, point_number}
-use Rattle.plan_services.specs.Services.{point_of, points}
-use Rattle.sound_descriptions.specs.WellFormed as formed
-use Rattle.planned_descriptions.specs.Whole.{IsWhole}
+use Rattle.plan_definitions.specs.Keys.{pair_number}
+use Rattle.plan_definitions.specs.Parts.{runnables_of}
+use Rattle.plan_definitions.specs.Started.{runnable_of, runnables}
+use Rattle.plan_definitions.specs.declared.calling.Calling.{Calling}
+use Rattle.plan_definitions.specs.Callings.{callings, is_calling, leaves, point_number}
+use Rattle.plan_definitions.specs.Services.{point_of, points}
+use Rattle.plan_definitions.specs.WellFormed as formed
+use Rattle.plan_definitions.specs.Whole.{IsWhole}
 use Rattle.sound_behavior.proofs.Lists.{clash, not_some, found, append_at, Later, looked, mapped, same_option}
 use Rattle.sound_behavior.proofs.Parts.{Home, same_home, runnable_there}
 use Rattle.sound_behavior.proofs.Points.{Calls, waits, goes_on, call, inner, outer, InnerCall, inner_call, outer_call, call_place, call_there, called_once, LeftBy}

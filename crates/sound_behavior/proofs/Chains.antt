@@ -12,14 +12,14 @@ use Rattle.description_types.specs.declared.description.Description.{Description
 use Rattle.description_types.specs.declared.description.InnerPort.{InnerPort}
 use Rattle.description_types.specs.declared.description.Prototype.{Prototype}
 use Rattle.description_types.specs.declared.description.PrototypeType.TheVariants.{Composition}
-use Rattle.compatibility.specs.Connectors.{both, delegated, incompatible, incompatible_in, joins_compatible}
-use Rattle.compatibility.specs.Firsts.{first_of}
-use Rattle.compatibility.specs.Interfaces.{are_compatible}
-use Rattle.composition_tables.specs.Connectors.{connectors_of, is_one_kind, is_provided, is_required, kind_in, kind_of, ports_of}
-use Rattle.composition_tables.specs.Items.{interface_at}
-use Rattle.composition_flatten.specs.Joined.{Assembles, Delegates, IsBelow, Stand, StandsJoin, as_inner, further, itself}
-use Rattle.composition_tables.specs.Members.{Among}
-use Rattle.composition_tables.specs.Paths.{type_at, type_in}
+use Rattle.plan_definitions.specs.Connectors.{both, delegated, incompatible, incompatible_in, joins_compatible}
+use Rattle.plan_definitions.specs.Firsts.{first_of}
+use Rattle.plan_definitions.specs.Interfaces.{are_compatible}
+use Rattle.flat_descriptions.specs.Connectors.{connectors_of, is_one_kind, is_provided, is_required, kind_in, kind_of, ports_of}
+use Rattle.flat_descriptions.specs.Items.{interface_at}
+use Rattle.flat_descriptions.specs.Joined.{Assembles, Delegates, IsBelow, Stand, StandsJoin, as_inner, further, itself}
+use Rattle.flat_descriptions.specs.Members.{Among}
+use Rattle.flat_descriptions.specs.Paths.{type_at, type_in}
 use Rattle.sound_behavior.proofs.Listed.{place}
 use Rattle.sound_behavior.proofs.Passing.{Passes, compatible_passes, passes_refl, passes_then}
 use Rattle.sound_behavior.proofs.Places.{kind_below, port_below}

@@ -19,9 +19,9 @@ use Rattle.description_types.specs.declared.component.EventKind.TheVariants as d
 use Rattle.description_types.specs.declared.component.Port.{Port}
 use Rattle.description_types.specs.declared.component.Runnable as declared_runnable
 use Rattle.description_types.specs.declared.description.Description.{Description}
-use Rattle.composition_flatten.specs.declared.flat.End.{End}
-use Rattle.composition_flatten.specs.declared.flat.Flat.{Flat}
-use Rattle.composition_flatten.specs.declared.flat.Join.{Join}
+use Rattle.flat_descriptions.specs.declared.flat.End.{End}
+use Rattle.flat_descriptions.specs.declared.flat.Flat.{Flat}
+use Rattle.flat_descriptions.specs.declared.flat.Join.{Join}
 use Rattle.bus_semantics.specs.declared.plan.BusPlan.{BusPlan}
 use Rattle.bus_semantics.specs.declared.plan.ElemPlan.{ElemPlan}
 use Rattle.bus_semantics.specs.declared.plan.PointPlan.{PointPlan}
@@ -30,22 +30,22 @@ use Rattle.bus_semantics.specs.declared.script.Mapping.{Mapping}
 use Rattle.bus_semantics.specs.Plan.{Runnable, plan_of, look, every_from}
 use Rattle.bus_semantics.specs.SoundEvents.{direct_sound}
 use Rattle.bus_semantics.specs.State.{same_kind}
-use Rattle.component_rules.specs.Signatures.{access_sig}
-use Rattle.mapping_rules.specs.Mapped.{is_mapped}
-use Rattle.mapping_rules.specs.Rules.{is_call, may_be_direct, serves_outside, keeps_direct}
-use Rattle.plan_numbers.specs.declared.site.Site.{Site}
-use Rattle.plan_numbers.specs.declared.site.SiteKind.TheVariants.{Server}
-use Rattle.plan_numbers.specs.Joined.{end_at, provider_of, same_end}
-use Rattle.plan_numbers.specs.Keys.{end_key, pair_number}
-use Rattle.plan_numbers.specs.Parts.{events_of, runnables_of}
-use Rattle.plan_numbers.specs.Sites.{site}
-use Rattle.plan_ports.specs.Ports.{interface_of, queue_length_of}
-use Rattle.plan_ports.specs.Things.{server_number, servers_of}
-use Rattle.plan_runnables.specs.Started.{runnable_of, runnables}
-use Rattle.plan_services.specs.declared.callings.Calling.{Calling}
-use Rattle.plan_services.specs.Callings.{callings, operations_at, operation_count, outer_calling}
-use Rattle.plan_services.specs.Services.{is_numbered_mapped, point_of, points, servers, started_by}
-use Rattle.planned_descriptions.specs.Whole.{IsWhole}
+use Rattle.plan_definitions.specs.Signatures.{access_sig}
+use Rattle.plan_definitions.specs.Mapped.{is_mapped}
+use Rattle.plan_definitions.specs.MappingRules.{is_call, may_be_direct, serves_outside, keeps_direct}
+use Rattle.plan_definitions.specs.declared.site.Site.{Site}
+use Rattle.plan_definitions.specs.declared.site.SiteKind.TheVariants.{Server}
+use Rattle.plan_definitions.specs.Joined.{end_at, provider_of, same_end}
+use Rattle.plan_definitions.specs.Keys.{end_key, pair_number}
+use Rattle.plan_definitions.specs.Parts.{events_of, runnables_of}
+use Rattle.plan_definitions.specs.Sites.{site}
+use Rattle.plan_definitions.specs.Ports.{interface_of, queue_length_of}
+use Rattle.plan_definitions.specs.Things.{server_number, servers_of}
+use Rattle.plan_definitions.specs.Started.{runnable_of, runnables}
+use Rattle.plan_definitions.specs.declared.calling.Calling.{Calling}
+use Rattle.plan_definitions.specs.Callings.{callings, operations_at, operation_count, outer_calling}
+use Rattle.plan_definitions.specs.Services.{is_numbered_mapped, point_of, points, servers, started_by}
+use Rattle.plan_definitions.specs.Whole.{IsWhole}
 use Rattle.sound_behavior.proofs.Lists.{clash, not_some, option_same, all_if, all_at, every_if, looked, there_at, map_at, append_at, Later}
 use Rattle.sound_behavior.proofs.Parts.{number_there, runnable_there, event_count}
 use Rattle.sound_behavior.proofs.Rules.{planned, plan_is, direct_kept}
@@ -78,7 +78,7 @@ module _ (d : Description) (f : Flat) (p : BusPlan) (m : Mapping) (w : IsWhole d
     pub operation : Operation
     pub there : slice_get all n ≡ Some operation
 
-  pub outer_operation : (k : ℕ) (port : Port) (n : ℕ) → slice_get (Rattle.plan_numbers.specs.Sites.root_ports d) k ≡ Some port → n < operations_at d port → Called k n
+  pub outer_operation : (k : ℕ) (port : Port) (n : ℕ) → slice_get (Rattle.plan_definitions.specs.Sites.root_ports d) k ≡ Some port → n < operations_at d port → Called k n
   outer_operation k port n at less = by (slice_get d.types.interfaces port.interface) refl less
     where
       by_kind : (i : Interface) → slice_get d.types.interfaces port.interface ≡ Some i → (x : InterfaceKind) → i.kind ≡ x → n < operation_count x → Called k n

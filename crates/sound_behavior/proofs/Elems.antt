@@ -11,18 +11,18 @@ use Rattle.description_types.specs.declared.component.Port.{Port}
 use Rattle.description_types.specs.declared.component.PortKind.{PortKind}
 use Rattle.description_types.specs.declared.component.Variable.{Variable as DeclaredVariable}
 use Rattle.description_types.specs.declared.description.Description.{Description}
-use Rattle.composition_flatten.specs.declared.flat.Flat.{Flat}
+use Rattle.flat_descriptions.specs.declared.flat.Flat.{Flat}
 use Rattle.bus_semantics.specs.declared.plan.ElemKind.{ElemKind}
 use Rattle.bus_semantics.specs.declared.plan.ElemKind.TheVariants as elem
 use Rattle.bus_semantics.specs.declared.plan.ElemPlan.{ElemPlan}
-use Rattle.component_rules.specs.declared.items.Item.TheVariants.{Data}
-use Rattle.plan_elements.specs.Elements.{Elem, elem_seen, declared_at, variable_at, type_of, limits_of, words_of, policy_kind, kind_of, element_of, group_of, elements, element_in}
-use Rattle.plan_numbers.specs.declared.site.Site.{Site}
-use Rattle.plan_numbers.specs.declared.site.SiteKind.TheVariants.{Element, Variable}
-use Rattle.plan_numbers.specs.Keys.{is_element}
-use Rattle.plan_numbers.specs.Sites.{kind_at, count_at, shape_at, provides_at, site}
-use Rattle.plan_ports.specs.Ports.{port_of}
-use Rattle.plan_ports.specs.Things.{element_number, elements_of}
+use Rattle.plan_definitions.specs.declared.item.Item.TheVariants.{Data}
+use Rattle.plan_definitions.specs.Elements.{Elem, elem_seen, declared_at, variable_at, type_of, limits_of, words_of, policy_kind, kind_of, element_of, group_of, elements, element_in}
+use Rattle.plan_definitions.specs.declared.site.Site.{Site}
+use Rattle.plan_definitions.specs.declared.site.SiteKind.TheVariants.{Element, Variable}
+use Rattle.plan_definitions.specs.Keys.{is_element}
+use Rattle.plan_definitions.specs.Sites.{kind_at, count_at, shape_at, provides_at, site}
+use Rattle.plan_definitions.specs.Ports.{port_of}
+use Rattle.plan_definitions.specs.Things.{element_number, elements_of}
 use Rattle.sound_behavior.proofs.Lists.{mapped, map_at}
 use Rattle.sound_behavior.proofs.Parts.{Home, home_component}
 use Rattle.sound_behavior.proofs.Sites.{ports_at_home, site_there, variable_there, numbered_kind, place_of}
@@ -50,7 +50,7 @@ module _ (d : Description) (f : Flat) (es : List ElemPlan) (seen : map elem_seen
     pub limits : elem.limits ≡ limits_of found
     pub words : elem.words ≡ words_of found
 
-  elem_at : (number : ℕ) (s : Site) → slice_get (elements_of d f) number ≡ Some s → ElemAt number s (kind_of d f s) (Rattle.plan_elements.specs.Elements.is_provided s.kind) (type_of d f s)
+  elem_at : (number : ℕ) (s : Site) → slice_get (elements_of d f) number ≡ Some s → ElemAt number s (kind_of d f s) (Rattle.plan_definitions.specs.Elements.is_provided s.kind) (type_of d f s)
   elem_at number s at =
       let there : slice_get (map elem_seen es) number ≡ Some (element_of d f (group_of d f s) s) =
       ap (λ l. slice_get l number) seen ∙ mapped (λ s. element_of d f (group_of d f s) s) (elements_of d f) number s at in

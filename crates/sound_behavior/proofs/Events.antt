@@ -18,7 +18,7 @@ use Rattle.description_types.specs.declared.component.ModeActivation.TheVariants
 use Rattle.description_types.specs.declared.component.PortKind.TheVariants.{Provided, Required}
 use Rattle.description_types.specs.declared.component.Runnable as declared_runnable
 use Rattle.description_types.specs.declared.description.Description.{Description}
-use Rattle.composition_flatten.specs.declared.flat.Flat.{Flat}
+use Rattle.flat_descriptions.specs.declared.flat.Flat.{Flat}
 use Rattle.bus_semantics.specs.declared.plan.BusPlan.{BusPlan}
 use Rattle.bus_semantics.specs.declared.plan.ElemPlan.{ElemPlan}
 use Rattle.bus_semantics.specs.declared.plan.EventPlan.{EventPlan}
@@ -30,20 +30,20 @@ use Rattle.bus_semantics.specs.Owners.{modes_of}
 use Rattle.bus_semantics.specs.Plan.{plan_of, every_from, instance_of}
 use Rattle.bus_semantics.specs.SoundEvents.{moment_sound, requires_machine, kind_sound, may_be_disabled, disabling_sound, is_invoked, event_sound}
 use Rattle.bus_semantics.specs.SoundPlan.{is_variable}
-use Rattle.component_rules.specs.declared.items.Item.TheVariants.{Data, Modes}
-use Rattle.component_rules.specs.Events as starting
-use Rattle.component_rules.specs.Items.{item_at}
-use Rattle.event_mapping.specs.Planned.{plan_of as whole_plan}
-use Rattle.event_mapping.specs.Rules.{queue_lengths}
-use Rattle.plan_elements.specs.Elements.{elem_seen, elements, policy_kind}
-use Rattle.plan_numbers.specs.Keys.{pair_number}
-use Rattle.plan_numbers.specs.Parts.{events_of, runnables_of}
-use Rattle.plan_ports.specs.Things.{element_number, machine_for, machine_number, mode_port_number, server_number}
-use Rattle.plan_runnables.specs.Started.{moment_of, kind_of, disabling_of, events, runnables}
-use Rattle.plan_services.specs.Modes.{machines, mode_ports, mode_port_at}
-use Rattle.plan_services.specs.Services.{server_at, servers, started_by}
-use Rattle.sound_descriptions.specs.WellFormed as formed
-use Rattle.planned_descriptions.specs.Whole.{IsWhole}
+use Rattle.plan_definitions.specs.declared.item.Item.TheVariants.{Data, Modes}
+use Rattle.plan_definitions.specs.Events as starting
+use Rattle.plan_definitions.specs.Items.{item_at}
+use Rattle.plan_definitions.specs.Planned.{plan_of as whole_plan}
+use Rattle.plan_definitions.specs.PlanRules.{queue_lengths}
+use Rattle.plan_definitions.specs.Elements.{elem_seen, elements, policy_kind}
+use Rattle.plan_definitions.specs.Keys.{pair_number}
+use Rattle.plan_definitions.specs.Parts.{events_of, runnables_of}
+use Rattle.plan_definitions.specs.Things.{element_number, machine_for, machine_number, mode_port_number, server_number}
+use Rattle.plan_definitions.specs.Started.{moment_of, kind_of, disabling_of, events, runnables}
+use Rattle.plan_definitions.specs.Modes.{machines, mode_ports, mode_port_at}
+use Rattle.plan_definitions.specs.Services.{server_at, servers, started_by}
+use Rattle.plan_definitions.specs.WellFormed as formed
+use Rattle.plan_definitions.specs.Whole.{IsWhole}
 use Rattle.sound_behavior.proofs.Lists.{same_option, every_if, looked}
 use Rattle.sound_behavior.proofs.Parts.{Home, same_home, EventAt, event_at, runnable_there, numbers_apart, runnable_count}
 use Rattle.sound_behavior.proofs.Rules.{planned, plan_is, kind_kept, disabling_kept, return_kept, event_formed, of_size}
@@ -135,7 +135,7 @@ module _ (d : Description) (f : Flat) (p : BusPlan) (m : Mapping) (w : IsWhole d
         (same_option (Some x.i) (Some x.i) refl))
     kind_here (declared_event.CallReturns k n) is =
         result_there d f p m w es x.i x.c x.home k n (left_by_access d f p m w x.home.instance.component x.c x.home.has k n
-        (subst (λ k. Rattle.component_rules.specs.Calls.event_keeps x.c.behavior.runnables k ≡ true) is (return_kept d f p m w x.home.instance.component x.c x.home.has x.m x.event x.there)))
+        (subst (λ k. Rattle.plan_definitions.specs.Calls.event_keeps x.c.behavior.runnables k ≡ true) is (return_kept d f p m w x.home.instance.component x.c x.home.has x.m x.event x.there)))
     kind_here (declared_event.ModeSwitch k when) is =
         let fit : starting.has_moment (starting.required_modes (item_at d.types x.c.ports k 0)) when ≡ true = kept (declared_event.ModeSwitch k when) is in
         let n = has_count (starting.required_modes (item_at d.types x.c.ports k 0)) when fit in
@@ -147,7 +147,7 @@ module _ (d : Description) (f : Flat) (p : BusPlan) (m : Mapping) (w : IsWhole d
         let item = item_there d.types x.c.ports k 0 Provided (Modes prov.0) prov.1 in
         let z = modes_item d.types item.interface.kind 0 prov.0 item.is in
         looked (machines d f) (machine_number d f (Some x.i, Some k, 0)) _ (λ (n : MachinePlan). same_number n.instance (Some x.i)) false
-        (machine_there d f p m w (Some x.i) k item.port z.element (ap (λ ps. slice_get ps k) (ports_at_home d f x.i x.c x.home) ∙ item.there) (ap (λ s. Rattle.plan_numbers.specs.Sites.provides_at (Some x.i) s) item.kind)
+        (machine_there d f p m w (Some x.i) k item.port z.element (ap (λ ps. slice_get ps k) (ports_at_home d f x.i x.c x.home) ∙ item.there) (ap (λ s. Rattle.plan_definitions.specs.Sites.provides_at (Some x.i) s) item.kind)
         (ap (option_map (λ (i : Interface). i.kind)) item.has ∙ ap (λ k. Some k) z.is))
         ∙ same_option (Some x.i) (Some x.i) refl
 

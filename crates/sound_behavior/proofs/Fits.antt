@@ -10,10 +10,10 @@ use Rattle.description_types.specs.declared.component.Access.{Access}
 use Rattle.description_types.specs.declared.component.Port.{Port}
 use Rattle.description_types.specs.declared.component.PortKind.{PortKind}
 use Rattle.description_types.specs.declared.component.PortKind.TheVariants.{Provided, Required}
-use Rattle.component_rules.specs.declared.items.Item.{Item}
-use Rattle.component_rules.specs.declared.items.Item.TheVariants.{Data, Operation, Modes}
-use Rattle.component_rules.specs.Accesses.{names_port, fits, access_fits}
-use Rattle.component_rules.specs.Items.{item_at}
+use Rattle.plan_definitions.specs.declared.item.Item.{Item}
+use Rattle.plan_definitions.specs.declared.item.Item.TheVariants.{Data, Operation, Modes}
+use Rattle.plan_definitions.specs.Accesses.{names_port, fits, access_fits}
+use Rattle.plan_definitions.specs.Items.{item_at}
 
 -- what an access of a kind needs
 abbrev pub Needs : AccessKind → PortKind → Item → Type 0

@@ -15,10 +15,10 @@ use Rattle.interface_types.specs.declared.interface.TypeTable.{TypeTable}
 use Rattle.description_types.specs.declared.component.Port.{Port}
 use Rattle.description_types.specs.declared.component.PortKind.{PortKind}
 use Rattle.description_types.specs.declared.component.PortKind.TheVariants.{Provided, Required}
-use Rattle.component_rules.specs.declared.items.Item.{Item}
-use Rattle.component_rules.specs.declared.items.Item.TheVariants.{Data, Operation, Modes}
-use Rattle.component_rules.specs.Events.{requires_data, provides_operation, requires_operation, provides_modes, required_modes}
-use Rattle.component_rules.specs.Items.{item_of, item_of_port, item_at}
+use Rattle.plan_definitions.specs.declared.item.Item.{Item}
+use Rattle.plan_definitions.specs.declared.item.Item.TheVariants.{Data, Operation, Modes}
+use Rattle.plan_definitions.specs.Events.{requires_data, provides_operation, requires_operation, provides_modes, required_modes}
+use Rattle.plan_definitions.specs.Items.{item_of, item_of_port, item_at}
 use Rattle.sound_behavior.proofs.Lists.{not_some}
 
 pub record ItemAt (types : TypeTable) (ports : List Port) (k n : ℕ) (side : PortKind) (item : Item) : Type 0 where

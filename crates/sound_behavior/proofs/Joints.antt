@@ -9,20 +9,20 @@ use Rattle.description_types.specs.declared.component.Port.{Port}
 use Rattle.description_types.specs.declared.component.PortKind.{PortKind}
 use Rattle.description_types.specs.declared.component.PortKind.TheVariants.{Provided, Required}
 use Rattle.description_types.specs.declared.description.Description.{Description}
-use Rattle.composition_flatten.specs.declared.flat.End.{End}
-use Rattle.composition_flatten.specs.declared.flat.Flat.{Flat}
-use Rattle.composition_flatten.specs.declared.flat.Join.{Join}
-use Rattle.composition_tables.specs.Items.{interface_at, ItemsJoin}
-use Rattle.composition_flatten.specs.Joined.{IsJoined, Stand, stand_in}
-use Rattle.compatibility.specs.Connectors.{incompatible, root_client}
-use Rattle.compatibility.specs.Refusals as joins
-use Rattle.compatibility.specs.declared.rule.Rule.TheVariants.{Services, Groups}
+use Rattle.flat_descriptions.specs.declared.flat.End.{End}
+use Rattle.flat_descriptions.specs.declared.flat.Flat.{Flat}
+use Rattle.flat_descriptions.specs.declared.flat.Join.{Join}
+use Rattle.flat_descriptions.specs.Items.{interface_at, ItemsJoin}
+use Rattle.flat_descriptions.specs.Joined.{IsJoined, Stand, stand_in}
+use Rattle.plan_definitions.specs.Connectors.{incompatible, root_client}
+use Rattle.plan_definitions.specs.JoinRefusals as joins
+use Rattle.plan_definitions.specs.declared.join_rule.JoinRule.TheVariants.{Services, Groups}
 use Rattle.bus_semantics.specs.declared.plan.BusPlan.{BusPlan}
 use Rattle.bus_semantics.specs.declared.script.Mapping.{Mapping}
-use Rattle.plan_numbers.specs.Joined.{same_end, provider_of}
-use Rattle.plan_numbers.specs.Sites.{provides_at}
-use Rattle.plan_ports.specs.Ports.{port_of}
-use Rattle.planned_descriptions.specs.Whole.{IsWhole}
+use Rattle.plan_definitions.specs.Joined.{same_end, provider_of}
+use Rattle.plan_definitions.specs.Sites.{provides_at}
+use Rattle.plan_definitions.specs.Ports.{port_of}
+use Rattle.plan_definitions.specs.Whole.{IsWhole}
 use Rattle.sound_behavior.proofs.Lists.{not_some, none_or, none_map}
 use Rattle.sound_behavior.proofs.Listed.{at}
 use Rattle.sound_behavior.proofs.Members.{Has}
@@ -77,8 +77,8 @@ module _ (d : Description) (f : Flat) (p : BusPlan) (m : Mapping) (w : IsWhole d
   pub no_root_client : root_client d ≡ None
   no_root_client = none_map (λ k. (13, joins.in_composition d.root (Rattle.std.specs.Prelude.codes "/ports/") k)) (root_client d) (none_or (joins.of_connectors d) (joins.of_root_ports d) port_rules).1
 
-  pub services_kept : Rattle.compatibility.specs.Items.first_broken Services d f ≡ None
-  services_kept = none_map (λ e. (joins.number_of Services, Rattle.compatibility.specs.Names.end_text d f e)) (Rattle.compatibility.specs.Items.first_broken Services d f)
+  pub services_kept : Rattle.plan_definitions.specs.JoinedItems.first_broken Services d f ≡ None
+  services_kept = none_map (λ e. (joins.number_of Services, Rattle.plan_definitions.specs.Names.end_text d f e)) (Rattle.plan_definitions.specs.JoinedItems.first_broken Services d f)
       (none_or (joins.of_items Services d f) (joins.of_items Groups d f) (none_or (joins.port_refusal d) (joins.item_refusal d f) w.may_join).1).0
 
   -- ---- joints
@@ -138,5 +138,5 @@ module _ (d : Description) (f : Flat) (p : BusPlan) (m : Mapping) (w : IsWhole d
         passes = subst (λ o. Passes d.types (option_and_then (λ (p : Port). interface_at d p.interface) o) (interface_at d b.port.interface)) s
             (subst (λ o. Passes d.types (option_and_then (λ (p : Port). interface_at d p.interface) (port_below d x.provided)) (option_and_then (λ (p : Port). interface_at d p.interface) o)) t passes);
         items = subst (λ o. ItemsJoin o (interface_at d b.port.interface) j.provided.element j.required.element) (interface_there d x.provided a.port s)
-            (subst (λ o. ItemsJoin (Rattle.composition_flatten.specs.Joined.interface_below d x.provided) o j.provided.element j.required.element) (interface_there d x.required b.port t) x.items);
+            (subst (λ o. ItemsJoin (Rattle.flat_descriptions.specs.Joined.interface_below d x.provided) o j.provided.element j.required.element) (interface_there d x.required b.port t) x.items);
       }

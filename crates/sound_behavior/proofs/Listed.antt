@@ -2,7 +2,7 @@
 use Rattle.std.proofs.Common.{◌≡◌, ℕ, zero, suc, List, [], ◌∷◌, ◌++◌, map, Some, ◌⊎◌, inl, inr, sym, ap}
 use Rattle.std.proofs.lemmas.Option.{same_Some}
 use Rattle.std.specs.List.{slice_get, flat_map}
-use Rattle.composition_tables.specs.Members.{Among}
+use Rattle.flat_descriptions.specs.Members.{Among}
 use Rattle.sound_behavior.proofs.Lists.{mapped}
 
 pub at : {X : Type 0} (xs : List X) (n : ℕ) (x : X) → slice_get xs n ≡ Some x → Among x xs

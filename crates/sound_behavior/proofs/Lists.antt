@@ -6,9 +6,9 @@ use Rattle.std.proofs.lemmas.Bool.{and_from, and_parts, eq-eqb, eqb-true, falseâ
 use Rattle.std.proofs.lemmas.Option.{slice_get-map}
 use Rattle.rte_value.specs.Values.{same_number}
 use Rattle.bus_semantics.specs.Plan.{look, every_from}
-use Rattle.component_rules.specs.Firsts.{first_of, unless}
-use Rattle.component_rules.specs.Tallies.{count}
-use Rattle.plan_numbers.specs.Lists.{from, positions}
+use Rattle.plan_definitions.specs.Firsts.{first_of, unless}
+use Rattle.plan_definitions.specs.Counts.{count}
+use Rattle.plan_definitions.specs.Lists.{from, positions}
 
 -- ---- tests
 

@@ -8,9 +8,9 @@ use Rattle.bus_semantics.specs.History.{count}
 use Rattle.bus_semantics.specs.Plan as plan
 use Rattle.bus_semantics.specs.Rest.{gathered}
 use Rattle.bus_semantics.specs.SoundPlan.{same_numbers}
-use Rattle.mapping_rules.specs.Rules.{are_same}
-use Rattle.mapping_rules.specs.Sorting.{put, in_order}
-use Rattle.sound_descriptions.specs.WellFormed.{distinct}
+use Rattle.plan_definitions.specs.MappingRules.{are_same}
+use Rattle.plan_definitions.specs.Sorting.{put, in_order}
+use Rattle.plan_definitions.specs.WellFormed.{distinct}
 use Rattle.sound_behavior.proofs.Lists.{clash, append_left, append_right, append_at, Later, kept_at, kept, mapped, all_at}
 
 pub record Has (X : Type 0) (xs : List X) (x : X) : Type 0 where

@@ -27,8 +27,8 @@ use Rattle.description_types.specs.declared.component.Port.{Port}
 use Rattle.description_types.specs.declared.component.PortKind.TheVariants.{Required}
 use Rattle.description_types.specs.declared.description.Composition.{Composition}
 use Rattle.description_types.specs.declared.description.Description.{Description}
-use Rattle.composition_flatten.specs.declared.flat.End.{End}
-use Rattle.composition_flatten.specs.declared.flat.Flat.{Flat}
+use Rattle.flat_descriptions.specs.declared.flat.End.{End}
+use Rattle.flat_descriptions.specs.declared.flat.Flat.{Flat}
 use Rattle.bus_semantics.specs.declared.plan.BusPlan.{BusPlan}
 use Rattle.bus_semantics.specs.declared.plan.ElemPlan.{ElemPlan}
 use Rattle.bus_semantics.specs.declared.plan.PointPlan.{PointPlan}
@@ -39,20 +39,20 @@ use Rattle.bus_semantics.specs.SoundAccesses.{same_operation, points_fit}
 use Rattle.bus_semantics.specs.SoundElements.{argument_limits, limits_fit, same_limits}
 use Rattle.bus_semantics.specs.SoundNames.{is_letter, is_name_part, is_name}
 use Rattle.bus_semantics.specs.SoundPlan.{is_in, same_numbers}
-use Rattle.component_rules.specs.declared.items.Item.TheVariants.{Operation}
-use Rattle.component_rules.specs.Items.{item_at}
-use Rattle.component_rules.specs.Signatures.{arguments_of, goes, limits_of}
-use Rattle.plan_numbers.specs.Joined.{end_at, provider_of}
-use Rattle.plan_numbers.specs.Keys.{end_key}
-use Rattle.plan_numbers.specs.Parts.{component_of}
-use Rattle.plan_numbers.specs.Sites.{root_ports}
-use Rattle.plan_ports.specs.Ports.{ports_of, port_of, interface_of, item_name, item_text}
-use Rattle.plan_ports.specs.Things.{server_number}
-use Rattle.plan_services.specs.declared.callings.Calling.{Calling}
-use Rattle.plan_services.specs.Callings.{callings, owner_of, outer_calling}
-use Rattle.plan_services.specs.Services.{argument_of, is_out, operation_in, point_of, point_words, points, server_at, servers}
-use Rattle.sound_descriptions.specs.WellFormed as formed
-use Rattle.planned_descriptions.specs.Whole.{IsWhole}
+use Rattle.plan_definitions.specs.declared.item.Item.TheVariants.{Operation}
+use Rattle.plan_definitions.specs.Items.{item_at}
+use Rattle.plan_definitions.specs.Signatures.{arguments_of, goes, limits_of}
+use Rattle.plan_definitions.specs.Joined.{end_at, provider_of}
+use Rattle.plan_definitions.specs.Keys.{end_key}
+use Rattle.plan_definitions.specs.Parts.{component_of}
+use Rattle.plan_definitions.specs.Sites.{root_ports}
+use Rattle.plan_definitions.specs.Ports.{ports_of, port_of, interface_of, item_name, item_text}
+use Rattle.plan_definitions.specs.Things.{server_number}
+use Rattle.plan_definitions.specs.declared.calling.Calling.{Calling}
+use Rattle.plan_definitions.specs.Callings.{callings, owner_of, outer_calling}
+use Rattle.plan_definitions.specs.Services.{argument_of, is_out, operation_in, point_of, point_words, points, server_at, servers}
+use Rattle.plan_definitions.specs.WellFormed as formed
+use Rattle.plan_definitions.specs.Whole.{IsWhole}
 use Rattle.sound_behavior.proofs.Lists.{clash, not_some, option_same, all_if, all_at, every_if, looked, map_at, MapAt, mapped, kept_at, append_at, Later}
 use Rattle.sound_behavior.proofs.Members.{numbers_equal, names_apart}
 use Rattle.sound_behavior.proofs.Parts.{Home, component_home, same_home}
@@ -229,7 +229,7 @@ module _ (d : Description) (f : Flat) (p : BusPlan) (m : Mapping) (w : IsWhole d
   call_found i c home _ _ waits port item x = x.there ∙ (λ j. Some (x.needed.0 j, x.needed.1 j))
   call_found i c home _ _ goes_on port item x = x.there ∙ (λ j. Some (x.needed.0 j, x.needed.1 j))
 
-  call_names : (k : AccessKind) (b : Bool) → Calls k b → Rattle.component_rules.specs.Accesses.names_port k ≡ true
+  call_names : (k : AccessKind) (b : Bool) → Calls k b → Rattle.plan_definitions.specs.Accesses.names_port k ≡ true
   call_names _ _ waits = refl
   call_names _ _ goes_on = refl
 
@@ -335,7 +335,7 @@ module _ (d : Description) (f : Flat) (p : BusPlan) (m : Mapping) (w : IsWhole d
     same_outer i j y u z v same =
         let text : item_text d f None z.k z.n ≡ item_text d f None v.k v.n = ap (λ (c : Calling). (point_of d f c).name) (sym z.is) ∙ numbers_equal (point_of d f y).name (point_of d f u).name same ∙ ap (λ (c : Calling). (point_of d f c).name) v.is in
         let operation = names_one None z.k v.k z.n v.n (outer_at i y z) (outer_at j u v) text in
-        z.place ∙ (λ t. length (inner d f) + (Rattle.sound_behavior.proofs.Lists.before (Rattle.plan_services.specs.Callings.outer_callings d) 0 (root_ports d) (operation.0 t) + operation.1 t)) ∙ sym v.place
+        z.place ∙ (λ t. length (inner d f) + (Rattle.sound_behavior.proofs.Lists.before (Rattle.plan_definitions.specs.Callings.outer_callings d) 0 (root_ports d) (operation.0 t) + operation.1 t)) ∙ sym v.place
 
     apart : (i j : ℕ) (y u : Calling) → slice_get (callings d f) i ≡ Some y → slice_get (callings d f) j ≡ Some u → same_operation (planned d f es) (point_of d f y) (point_of d f u) ≡ true → (y.asynchronous || u.asynchronous) ≡ true → i ≡ j
     apart i j y u at_i at_j same goes = by (append_at (inner d f) (outer d f) i y at_i) (append_at (inner d f) (outer d f) j u at_j)

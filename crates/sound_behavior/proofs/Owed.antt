@@ -11,7 +11,7 @@ use Rattle.description_types.specs.declared.component.EventKind.TheVariants as d
 use Rattle.description_types.specs.declared.description.Description.{Description}
 use Rattle.description_types.specs.declared.description.MappedEvent.{MappedEvent}
 use Rattle.description_types.specs.declared.description.Task as declared_task
-use Rattle.composition_flatten.specs.declared.flat.Flat.{Flat}
+use Rattle.flat_descriptions.specs.declared.flat.Flat.{Flat}
 use Rattle.bus_semantics.specs.declared.plan.BusPlan.{BusPlan}
 use Rattle.bus_semantics.specs.declared.plan.ElemPlan.{ElemPlan}
 use Rattle.bus_semantics.specs.declared.plan.EventPlan.{EventPlan}
@@ -26,19 +26,19 @@ use Rattle.bus_semantics.specs.Sound as sound
 use Rattle.bus_semantics.specs.Sound.{mapped_events, times_mapped}
 use Rattle.bus_semantics.specs.SoundNames.{is_name}
 use Rattle.bus_semantics.specs.SoundPlan.{is_in, same_numbers}
-use Rattle.mapping_rules.specs.Mapped.{named_by, names, mapped_as, is_mapped}
-use Rattle.mapping_rules.specs.Rules.{is_mapped_well}
-use Rattle.mapping_rules.specs.Tasks.{by_position, number_of, events_in, task_at, mapping_of}
-use Rattle.plan_numbers.specs.Keys.{same_pair, pair_number}
-use Rattle.plan_numbers.specs.Lists.{from}
-use Rattle.plan_numbers.specs.Parts.{events_of}
-use Rattle.plan_runnables.specs.Started.{kind_of, events, runnables}
-use Rattle.plan_services.specs.Services.{server_at, servers, is_numbered_mapped}
-use Rattle.plan_services.specs.Services as services
-use Rattle.plan_ports.specs.Ports.{queue_length_of}
-use Rattle.plan_ports.specs.Things.{server_number}
-use Rattle.sound_descriptions.specs.WellFormed as formed
-use Rattle.planned_descriptions.specs.Whole.{IsWhole}
+use Rattle.plan_definitions.specs.Mapped.{named_by, names, mapped_as, is_mapped}
+use Rattle.plan_definitions.specs.MappingRules.{is_mapped_well}
+use Rattle.plan_definitions.specs.Tasks.{by_position, number_of, events_in, task_at, mapping_of}
+use Rattle.plan_definitions.specs.Keys.{same_pair, pair_number}
+use Rattle.plan_definitions.specs.Lists.{from}
+use Rattle.plan_definitions.specs.Parts.{events_of}
+use Rattle.plan_definitions.specs.Started.{kind_of, events, runnables}
+use Rattle.plan_definitions.specs.Services.{server_at, servers, is_numbered_mapped}
+use Rattle.plan_definitions.specs.Services as services
+use Rattle.plan_definitions.specs.Ports.{queue_length_of}
+use Rattle.plan_definitions.specs.Things.{server_number}
+use Rattle.plan_definitions.specs.WellFormed as formed
+use Rattle.plan_definitions.specs.Whole.{IsWhole}
 use Rattle.sound_behavior.proofs.Lists.{all_if, all_at, every_if, looked, there_at, mapped}
 use Rattle.sound_behavior.proofs.Members.{position_at_plan, numbers_equal, names_apart, count_append, count_flat, added_same, added_kept, added_order, spread, spread_all}
 use Rattle.sound_behavior.proofs.Parts.{one_at, OneAt, length-one_each, EventAt, event_at, event_there, numbers_apart, number_there, same_pairs, event_count}

@@ -9,16 +9,16 @@ use Rattle.description_types.specs.declared.component.Component.{Component}
 use Rattle.description_types.specs.declared.component.Event.{Event}
 use Rattle.description_types.specs.declared.component.Runnable as declared_runnable
 use Rattle.description_types.specs.declared.description.Description.{Description}
-use Rattle.composition_flatten.specs.declared.flat.Flat.{Flat}
-use Rattle.composition_flatten.specs.declared.flat.Instance.{Instance}
+use Rattle.flat_descriptions.specs.declared.flat.Flat.{Flat}
+use Rattle.flat_descriptions.specs.declared.flat.Instance.{Instance}
 use Rattle.bus_semantics.specs.declared.plan.AreaPlan.{AreaPlan}
 use Rattle.bus_semantics.specs.declared.plan.EventPlan.{EventPlan}
 use Rattle.bus_semantics.specs.Plan.{Runnable}
-use Rattle.plan_numbers.specs.Keys.{same_pair, pair_number}
-use Rattle.plan_numbers.specs.Lists.{from, positions}
-use Rattle.plan_numbers.specs.Parts.{component_of, of_instances, numbered, runnables_of, events_of, areas_of}
-use Rattle.plan_runnables.specs.Started.{event_of, events_of_component, events, runnable_of, runnables_of_component, runnables}
-use Rattle.event_mapping.specs.Planned.{area_of, areas}
+use Rattle.plan_definitions.specs.Keys.{same_pair, pair_number}
+use Rattle.plan_definitions.specs.Lists.{from, positions}
+use Rattle.plan_definitions.specs.Parts.{component_of, of_instances, numbered, runnables_of, events_of, areas_of}
+use Rattle.plan_definitions.specs.Started.{event_of, events_of_component, events, runnable_of, runnables_of_component, runnables}
+use Rattle.plan_definitions.specs.Planned.{area_of, areas}
 use Rattle.sound_behavior.proofs.Lists.{found, before, In, in_from, reach, before_same, position_is, length-positions, mapped, map_at}
 
 -- ---- lists with one item for each

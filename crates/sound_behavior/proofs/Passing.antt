@@ -18,9 +18,9 @@ use Rattle.interface_types.specs.declared.interface.ModeElement.{ModeElement}
 use Rattle.interface_types.specs.declared.interface.ModeGroup.{ModeGroup}
 use Rattle.interface_types.specs.declared.interface.Operation.{Operation}
 use Rattle.interface_types.specs.declared.interface.TypeTable.{TypeTable}
-use Rattle.compatibility.specs.Interfaces.{same_argument, same_arguments, same_direction, same_modes, serves, serves_in, serves_operation}
-use Rattle.compatibility.specs.Types.{agree, are_compatible_types, base_number, types_agree}
-use Rattle.component_rules.specs.Signatures.{arguments_of, goes, limits_of}
+use Rattle.plan_definitions.specs.Interfaces.{same_argument, same_arguments, same_direction, same_modes, serves, serves_in, serves_operation}
+use Rattle.plan_definitions.specs.Types.{agree, are_compatible_types, base_number, types_agree}
+use Rattle.plan_definitions.specs.Signatures.{arguments_of, goes, limits_of}
 use Rattle.sound_behavior.proofs.Lists.{all_at, any_at}
 
 pub same_bytes : (a b : List ℕ) → bytes_eq a b ≡ true → a ≡ b

@@ -6,7 +6,7 @@ use Rattle.std.proofs.lemmas.Option.{same_Some, slice_get_within}
 use Rattle.description_types.specs.declared.component.Component.{Component}
 use Rattle.description_types.specs.declared.component.Runnable as declared_runnable
 use Rattle.description_types.specs.declared.description.Description.{Description}
-use Rattle.composition_flatten.specs.declared.flat.Flat.{Flat}
+use Rattle.flat_descriptions.specs.declared.flat.Flat.{Flat}
 use Rattle.bus_semantics.specs.declared.plan.BusPlan.{BusPlan}
 use Rattle.bus_semantics.specs.declared.plan.ElemPlan.{ElemPlan}
 use Rattle.bus_semantics.specs.declared.plan.PointPlan.{PointPlan}
@@ -14,13 +14,13 @@ use Rattle.bus_semantics.specs.declared.script.Mapping.{Mapping}
 use Rattle.bus_semantics.specs.Plan.{plan_of}
 use Rattle.bus_semantics.specs.SoundNames.{Named, caller_rank, named_once, same_named}
 use Rattle.bus_semantics.specs.SoundPlan.{same_numbers}
-use Rattle.plan_numbers.specs.Keys.{pair_number}
-use Rattle.plan_numbers.specs.Parts.{runnables_of}
-use Rattle.plan_runnables.specs.Started.{runnable_of, runnables}
-use Rattle.plan_services.specs.declared.callings.Calling.{Calling}
-use Rattle.plan_services.specs.Callings.{callings}
-use Rattle.plan_services.specs.Services.{point_of, points}
-use Rattle.planned_descriptions.specs.Whole.{IsWhole}
+use Rattle.plan_definitions.specs.Keys.{pair_number}
+use Rattle.plan_definitions.specs.Parts.{runnables_of}
+use Rattle.plan_definitions.specs.Started.{runnable_of, runnables}
+use Rattle.plan_definitions.specs.declared.calling.Calling.{Calling}
+use Rattle.plan_definitions.specs.Callings.{callings}
+use Rattle.plan_definitions.specs.Services.{point_of, points}
+use Rattle.plan_definitions.specs.Whole.{IsWhole}
 use Rattle.sound_behavior.proofs.Lists.{any_at, append_at, map_at, Later}
 use Rattle.sound_behavior.proofs.Parts.{numbers_apart, runnable_count, runnable_there}
 use Rattle.sound_behavior.proofs.Rules.{planned, plan_is}

@@ -12,17 +12,17 @@ use Rattle.description_types.specs.declared.component.PortKind.{PortKind}
 use Rattle.description_types.specs.declared.component.PortKind.TheVariants.{Provided, Required}
 use Rattle.description_types.specs.declared.component.Runnable.{Runnable}
 use Rattle.description_types.specs.declared.description.Description.{Description}
-use Rattle.composition_flatten.specs.declared.flat.Flat.{Flat}
+use Rattle.flat_descriptions.specs.declared.flat.Flat.{Flat}
 use Rattle.bus_semantics.specs.declared.plan.BusPlan.{BusPlan}
 use Rattle.bus_semantics.specs.declared.script.Mapping.{Mapping}
-use Rattle.component_rules.specs.Calls.{called_by, left_by, called, left, is_left, access_keeps}
-use Rattle.component_rules.specs.Tallies.{count, same_operation}
-use Rattle.plan_numbers.specs.Lists.{from, positions}
-use Rattle.plan_numbers.specs.Parts.{of_instances}
-use Rattle.plan_numbers.specs.Sites.{root_ports}
-use Rattle.plan_services.specs.declared.callings.Calling.{Calling}
-use Rattle.plan_services.specs.Callings.{calling_of, callings_in, callings_of_component, operations_at, outer_calling, outer_callings, callings}
-use Rattle.planned_descriptions.specs.Whole.{IsWhole}
+use Rattle.plan_definitions.specs.Calls.{called_by, left_by, called, left, is_left, access_keeps}
+use Rattle.plan_definitions.specs.Counts.{count, same_operation}
+use Rattle.plan_definitions.specs.Lists.{from, positions}
+use Rattle.plan_definitions.specs.Parts.{of_instances}
+use Rattle.plan_definitions.specs.Sites.{root_ports}
+use Rattle.plan_definitions.specs.declared.calling.Calling.{Calling}
+use Rattle.plan_definitions.specs.Callings.{calling_of, callings_in, callings_of_component, operations_at, outer_calling, outer_callings, callings}
+use Rattle.plan_definitions.specs.Whole.{IsWhole}
 use Rattle.sound_behavior.proofs.Lists.{before, in_from, reach, within_before, append_left, Later, map_at, counted_at, once, position_is, length-positions}
 use Rattle.sound_behavior.proofs.Members.{Has, has_flat}
 use Rattle.sound_behavior.proofs.Parts.{Home, start, of_instance, to_instance}

@@ -17,31 +17,31 @@ use Rattle.interface_types.specs.declared.interface.InterfaceKind.TheVariants.{C
 use Rattle.interface_types.specs.declared.interface.ModeElement.{ModeElement}
 use Rattle.interface_types.specs.declared.interface.ModeGroup.{ModeGroup}
 use Rattle.interface_types.specs.declared.interface.Operation.{Operation}
-use Rattle.composition_flatten.specs.declared.flat.End.{End}
-use Rattle.composition_flatten.specs.declared.flat.Flat.{Flat}
-use Rattle.composition_flatten.specs.declared.flat.Instance.{Instance}
-use Rattle.composition_flatten.specs.declared.flat.Join.{Join}
-use Rattle.composition_tables.specs.Items.{interface_at, ItemsJoin, operation_names, IsSameName}
-use Rattle.compatibility.specs.Connectors as connectors
-use Rattle.compatibility.specs.Connectors.{requires_server, root_client}
-use Rattle.compatibility.specs.Items as items
-use Rattle.compatibility.specs.Joins as sides
-use Rattle.compatibility.specs.declared.rule.Rule.TheVariants.{Services}
+use Rattle.flat_descriptions.specs.declared.flat.End.{End}
+use Rattle.flat_descriptions.specs.declared.flat.Flat.{Flat}
+use Rattle.flat_descriptions.specs.declared.flat.Instance.{Instance}
+use Rattle.flat_descriptions.specs.declared.flat.Join.{Join}
+use Rattle.flat_descriptions.specs.Items.{interface_at, ItemsJoin, operation_names, IsSameName}
+use Rattle.plan_definitions.specs.Connectors as connectors
+use Rattle.plan_definitions.specs.Connectors.{requires_server, root_client}
+use Rattle.plan_definitions.specs.JoinedItems as items
+use Rattle.plan_definitions.specs.Joins as sides
+use Rattle.plan_definitions.specs.declared.join_rule.JoinRule.TheVariants.{Services}
 use Rattle.bus_semantics.specs.declared.plan.BusPlan.{BusPlan}
 use Rattle.bus_semantics.specs.declared.plan.MachinePlan.{MachinePlan}
 use Rattle.bus_semantics.specs.declared.script.Mapping.{Mapping}
-use Rattle.component_rules.specs.declared.items.Item.TheVariants.{Modes}
-use Rattle.plan_numbers.specs.declared.site.Site.{Site}
-use Rattle.plan_numbers.specs.declared.site.SiteKind.TheVariants.{Machine, ModePort}
-use Rattle.plan_numbers.specs.Joined.{same_end, end_at, provider_of}
-use Rattle.plan_numbers.specs.Keys.{key_of, end_key, is_machine, is_mode_port, keys_of, of_kind, number_in}
-use Rattle.plan_numbers.specs.Parts.{component_of}
-use Rattle.plan_numbers.specs.Sites.{kind_at, count_at, shape_at, provides_at, root_ports, site}
-use Rattle.plan_ports.specs.Ports.{port_of, interface_of}
-use Rattle.plan_ports.specs.Things.{machine_for, machine_number, machines_of, mode_port_number, mode_ports_of, has_machine}
-use Rattle.plan_services.specs.Modes.{group_in, machine_at, machines, mode_port_at, mode_ports}
-use Rattle.sound_descriptions.specs.WellFormed as formed
-use Rattle.planned_descriptions.specs.Whole.{IsWhole}
+use Rattle.plan_definitions.specs.declared.item.Item.TheVariants.{Modes}
+use Rattle.plan_definitions.specs.declared.site.Site.{Site}
+use Rattle.plan_definitions.specs.declared.site.SiteKind.TheVariants.{Machine, ModePort}
+use Rattle.plan_definitions.specs.Joined.{same_end, end_at, provider_of}
+use Rattle.plan_definitions.specs.Keys.{key_of, end_key, is_machine, is_mode_port, keys_of, of_kind, number_in}
+use Rattle.plan_definitions.specs.Parts.{component_of}
+use Rattle.plan_definitions.specs.Sites.{kind_at, count_at, shape_at, provides_at, root_ports, site}
+use Rattle.plan_definitions.specs.Ports.{port_of, interface_of}
+use Rattle.plan_definitions.specs.Things.{machine_for, machine_number, machines_of, mode_port_number, mode_ports_of, has_machine}
+use Rattle.plan_definitions.specs.Modes.{group_in, machine_at, machines, mode_port_at, mode_ports}
+use Rattle.plan_definitions.specs.WellFormed as formed
+use Rattle.plan_definitions.specs.Whole.{IsWhole}
 use Rattle.sound_behavior.proofs.Lists.{not_some, all_at, map_at, mapped, none_or, kept}
 use Rattle.sound_behavior.proofs.Members.{names_apart}
 use Rattle.sound_behavior.proofs.Parts.{Home, component_home}

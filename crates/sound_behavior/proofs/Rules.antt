@@ -9,37 +9,37 @@ use Rattle.description_types.specs.declared.component.Port.{Port}
 use Rattle.description_types.specs.declared.component.Runnable.{Runnable}
 use Rattle.description_types.specs.declared.component.Variable.{Variable}
 use Rattle.description_types.specs.declared.description.Description.{Description}
-use Rattle.composition_flatten.specs.declared.flat.Flat.{Flat}
-use Rattle.composition_flatten.specs.declared.flat.Instance.{Instance}
+use Rattle.flat_descriptions.specs.declared.flat.Flat.{Flat}
+use Rattle.flat_descriptions.specs.declared.flat.Instance.{Instance}
 use Rattle.bus_semantics.specs.declared.plan.BusPlan.{BusPlan}
 use Rattle.bus_semantics.specs.declared.plan.ElemPlan.{ElemPlan}
 use Rattle.bus_semantics.specs.declared.script.Mapping.{Mapping}
 use Rattle.bus_semantics.specs.Plan.{Plan, plan_of}
-use Rattle.component_rules.specs.declared.rule.Rule as rules
-use Rattle.component_rules.specs.declared.rule.Rule.TheVariants as rule
-use Rattle.component_rules.specs.declared.spots.Spot.TheVariants as spot
-use Rattle.component_rules.specs.Accesses as reaches
-use Rattle.component_rules.specs.Calls as waiting
-use Rattle.component_rules.specs.Events as starting
-use Rattle.component_rules.specs.Firsts.{first_of, unless}
-use Rattle.component_rules.specs.Invocations as serving
-use Rattle.component_rules.specs.Programs as programs
-use Rattle.component_rules.specs.Refusals as components
-use Rattle.mapping_rules.specs.Mapped.{mapped_as}
-use Rattle.mapping_rules.specs.Refusals as mapping
-use Rattle.mapping_rules.specs.Rules as mapped
-use Rattle.plan_elements.specs.Elements.{leaders}
-use Rattle.plan_elements.specs.Groups.{groups}
-use Rattle.plan_services.specs.Modes.{machines, mode_ports}
-use Rattle.plan_services.specs.Services.{points, servers}
-use Rattle.plan_runnables.specs.Started.{events, runnables}
-use Rattle.event_mapping.specs.Planned.{areas, object_count, seen}
-use Rattle.event_mapping.specs.Planned.{plan_of as whole_plan}
-use Rattle.event_mapping.specs.Refusals as whole
-use Rattle.event_mapping.specs.Rules.{is_too_large}
-use Rattle.sound_descriptions.specs.WellFormed.{IsWellFormed}
-use Rattle.sound_descriptions.specs.WellFormed as formed
-use Rattle.planned_descriptions.specs.Whole.{IsWhole}
+use Rattle.plan_definitions.specs.declared.component_rule.ComponentRule as rules
+use Rattle.plan_definitions.specs.declared.component_rule.ComponentRule.TheVariants as rule
+use Rattle.plan_definitions.specs.declared.spot.Spot.TheVariants as spot
+use Rattle.plan_definitions.specs.Accesses as reaches
+use Rattle.plan_definitions.specs.Calls as waiting
+use Rattle.plan_definitions.specs.Events as starting
+use Rattle.plan_definitions.specs.Firsts.{first_of, unless}
+use Rattle.plan_definitions.specs.Invocations as serving
+use Rattle.plan_definitions.specs.Programs as programs
+use Rattle.plan_definitions.specs.ComponentRefusals as components
+use Rattle.plan_definitions.specs.Mapped.{mapped_as}
+use Rattle.plan_definitions.specs.MappingRefusals as mapping
+use Rattle.plan_definitions.specs.MappingRules as mapped
+use Rattle.plan_definitions.specs.Elements.{leaders}
+use Rattle.plan_definitions.specs.ElementGroups.{groups}
+use Rattle.plan_definitions.specs.Modes.{machines, mode_ports}
+use Rattle.plan_definitions.specs.Services.{points, servers}
+use Rattle.plan_definitions.specs.Started.{events, runnables}
+use Rattle.plan_definitions.specs.Planned.{areas, object_count, seen}
+use Rattle.plan_definitions.specs.Planned.{plan_of as whole_plan}
+use Rattle.plan_definitions.specs.PlanRefusals as whole
+use Rattle.plan_definitions.specs.PlanRules.{is_too_large}
+use Rattle.plan_definitions.specs.WellFormed.{IsWellFormed}
+use Rattle.plan_definitions.specs.WellFormed as formed
+use Rattle.plan_definitions.specs.Whole.{IsWhole}
 use Rattle.sound_behavior.proofs.Lists.{not_some, all_at, none_or, none_map, none_of, unless_none}
 use Rattle.sound_behavior.proofs.Parts.{Home}
 
@@ -123,9 +123,9 @@ module _ (d : Description) (f : Flat) (p : BusPlan) (m : Mapping) (w : IsWhole d
   of_mapped_events = (after_none (mapping.of_events d f) (mapping.IsOfTasks d f) of_mapping).0
 
   module _ (n : ℕ) (c : Component) (there : slice_get d.components n ≡ Some c) where
-    component_kept : (r : rules.Rule) → components.of_rule r d ≡ None → components.broken_in r d.types c ≡ None
+    component_kept : (r : rules.ComponentRule) → components.of_rule r d ≡ None → components.broken_in r d.types c ≡ None
     component_kept r e = none_map (λ place. (n, place)) (components.broken_in r d.types c)
-        (none_at (λ k x. option_map (λ place. (k, place)) (components.broken_in r d.types x)) d.components n c (none_map (λ x. (components.number_of r, Rattle.component_rules.specs.Spots.spot_text x.0 x.1)) (components.first_broken r d) e) there)
+        (none_at (λ k x. option_map (λ place. (k, place)) (components.broken_in r d.types x)) d.components n c (none_map (λ x. (components.number_of r, Rattle.plan_definitions.specs.Spots.spot_text x.0 x.1)) (components.first_broken r d) e) there)
 
     of_accesses : components.of_rule rule.Accesses d ≡ None
     of_accesses = (none_or (components.of_rule rule.Accesses d) (option_or (components.of_programs d) (components.of_events d)) of_components).0
@@ -179,7 +179,7 @@ module _ (d : Description) (f : Flat) (p : BusPlan) (m : Mapping) (w : IsWhole d
         none_map (λ path. (k, path)) (option_and_then (programs.path_of (Some wanted)) (programs.program_refusal d.types c r))
         (none_at (λ i x. option_map (λ path. (i, path)) (option_and_then (programs.path_of (Some wanted)) (programs.program_refusal d.types c x))) c.behavior.runnables k r
         (none_map (λ x. (n, x)) (programs.refused_in (Some wanted) d.types c)
-        (none_at (λ i x. option_map (λ y. (i, y)) (programs.refused_in (Some wanted) d.types x)) d.components n c (none_map (λ x. (wanted, Rattle.component_rules.specs.Spots.program_text x.0 x.1.0 x.1.1)) (programs.refused_program (Some wanted) d) e) there)) at)
+        (none_at (λ i x. option_map (λ y. (i, y)) (programs.refused_in (Some wanted) d.types x)) d.components n c (none_map (λ x. (wanted, Rattle.plan_definitions.specs.Spots.program_text x.0 x.1.0 x.1.1)) (programs.refused_program (Some wanted) d) e) there)) at)
 
     pub program_kept : (k : ℕ) (r : Runnable) → slice_get c.behavior.runnables k ≡ Some r
         → (option_and_then (programs.path_of (Some 17)) (programs.program_refusal d.types c r) ≡ None) × (option_and_then (programs.path_of (Some 18)) (programs.program_refusal d.types c r) ≡ None)

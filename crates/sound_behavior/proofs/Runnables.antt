@@ -24,7 +24,7 @@ use Rattle.description_types.specs.declared.component.EventKind.TheVariants as d
 use Rattle.description_types.specs.declared.component.Port.{Port}
 use Rattle.description_types.specs.declared.component.Runnable as declared_runnable
 use Rattle.description_types.specs.declared.description.Description.{Description}
-use Rattle.composition_flatten.specs.declared.flat.Flat.{Flat}
+use Rattle.flat_descriptions.specs.declared.flat.Flat.{Flat}
 use Rattle.bus_semantics.specs.declared.plan.ArgPlan.{ArgPlan}
 use Rattle.bus_semantics.specs.declared.plan.BusPlan.{BusPlan}
 use Rattle.bus_semantics.specs.declared.plan.ElemPlan.{ElemPlan}
@@ -35,14 +35,14 @@ use Rattle.bus_semantics.specs.SoundAccesses as sound
 use Rattle.bus_semantics.specs.SoundAccesses.{access_sound, each_access}
 use Rattle.bus_semantics.specs.SoundPrograms.{is_well_formed, body_sound, has_arguments, runnable_sound}
 use Rattle.bus_semantics.specs.State.{same_kind}
-use Rattle.component_rules.specs.Programs.{program_refusal, path_of}
-use Rattle.component_rules.specs.Signatures.{access_sig, signature}
-use Rattle.plan_elements.specs.Elements.{elem_seen, elements}
-use Rattle.plan_ports.specs.Things.{server_number}
-use Rattle.plan_runnables.specs.Started.{target_of, served_by, served_number, runnable_of, runnables}
-use Rattle.plan_services.specs.Services.{argument_of, server_at, servers}
-use Rattle.sound_descriptions.specs.WellFormed as formed
-use Rattle.planned_descriptions.specs.Whole.{IsWhole}
+use Rattle.plan_definitions.specs.Programs.{program_refusal, path_of}
+use Rattle.plan_definitions.specs.Signatures.{access_sig, signature}
+use Rattle.plan_definitions.specs.Elements.{elem_seen, elements}
+use Rattle.plan_definitions.specs.Things.{server_number}
+use Rattle.plan_definitions.specs.Started.{target_of, served_by, served_number, runnable_of, runnables}
+use Rattle.plan_definitions.specs.Services.{argument_of, server_at, servers}
+use Rattle.plan_definitions.specs.WellFormed as formed
+use Rattle.plan_definitions.specs.Whole.{IsWhole}
 use Rattle.sound_behavior.proofs.Lists.{not_some, all_at, every_if, looked}
 use Rattle.sound_behavior.proofs.Parts.{Home, RunnableAt, area_count, number_is, pairs_in, runnable_at, start}
 use Rattle.sound_behavior.proofs.Rules.{planned, plan_is, program_kept, runnable_formed, serves_formed}

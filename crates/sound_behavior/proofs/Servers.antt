@@ -25,7 +25,7 @@ use Rattle.description_types.specs.declared.component.EventKind.TheVariants as d
 use Rattle.description_types.specs.declared.component.Port.{Port}
 use Rattle.description_types.specs.declared.component.Runnable as declared_runnable
 use Rattle.description_types.specs.declared.description.Description.{Description}
-use Rattle.composition_flatten.specs.declared.flat.Flat.{Flat}
+use Rattle.flat_descriptions.specs.declared.flat.Flat.{Flat}
 use Rattle.bus_semantics.specs.declared.plan.ArgPlan.{ArgPlan}
 use Rattle.bus_semantics.specs.declared.plan.BusPlan.{BusPlan}
 use Rattle.bus_semantics.specs.declared.plan.ElemPlan.{ElemPlan}
@@ -38,19 +38,19 @@ use Rattle.bus_semantics.specs.Plan.{Runnable, plan_of, look, every_from}
 use Rattle.bus_semantics.specs.SoundElements.{limits_fit, code_list_fits, queue_fits, server_sound}
 use Rattle.bus_semantics.specs.SoundEvents.{server_served, serves_back}
 use Rattle.bus_semantics.specs.SoundPlan.{is_in, is_distinct}
-use Rattle.component_rules.specs.Invocations.{started, is_alone}
-use Rattle.component_rules.specs.Signatures.{limits_of}
-use Rattle.component_rules.specs.Tallies.{count}
-use Rattle.plan_numbers.specs.Keys.{pair_number}
-use Rattle.plan_numbers.specs.Parts.{events_of, runnables_of}
-use Rattle.plan_ports.specs.Ports.{com_spec_of, queue_length_of}
-use Rattle.plan_ports.specs.Things.{server_number}
-use Rattle.plan_runnables.specs.Started.{event_of, kind_of, events, serves, served_by, served_number, runnable_of, runnables}
-use Rattle.plan_services.specs.Invoked.{invoked_by}
-use Rattle.plan_services.specs.Services.{operation_in, operation_at, started_by, argument_of, is_numbered_mapped, server_at, servers}
-use Rattle.plan_services.specs.Services as services
-use Rattle.sound_descriptions.specs.WellFormed as formed
-use Rattle.planned_descriptions.specs.Whole.{IsWhole}
+use Rattle.plan_definitions.specs.Invocations.{started, is_alone}
+use Rattle.plan_definitions.specs.Signatures.{limits_of}
+use Rattle.plan_definitions.specs.Counts.{count}
+use Rattle.plan_definitions.specs.Keys.{pair_number}
+use Rattle.plan_definitions.specs.Parts.{events_of, runnables_of}
+use Rattle.plan_definitions.specs.Ports.{com_spec_of, queue_length_of}
+use Rattle.plan_definitions.specs.Things.{server_number}
+use Rattle.plan_definitions.specs.Started.{event_of, kind_of, events, serves, served_by, served_number, runnable_of, runnables}
+use Rattle.plan_definitions.specs.Invoked.{invoked_by}
+use Rattle.plan_definitions.specs.Services.{operation_in, operation_at, started_by, argument_of, is_numbered_mapped, server_at, servers}
+use Rattle.plan_definitions.specs.Services as services
+use Rattle.plan_definitions.specs.WellFormed as formed
+use Rattle.plan_definitions.specs.Whole.{IsWhole}
 use Rattle.sound_behavior.proofs.Lists.{not_some, same_option, all_if, all_at, every_if, looked, there_at, mapped, map_at, once}
 use Rattle.sound_behavior.proofs.Members.{Has}
 use Rattle.sound_behavior.proofs.Parts.{Home, home_component, RunnableAt, runnable_at, runnable_there, event_there}

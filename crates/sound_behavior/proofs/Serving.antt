@@ -16,27 +16,27 @@ use Rattle.description_types.specs.declared.component.Port.{Port}
 use Rattle.description_types.specs.declared.component.PortKind.{PortKind}
 use Rattle.description_types.specs.declared.component.PortKind.TheVariants.{Provided, Required}
 use Rattle.description_types.specs.declared.description.Description.{Description}
-use Rattle.composition_flatten.specs.declared.flat.Flat.{Flat}
+use Rattle.flat_descriptions.specs.declared.flat.Flat.{Flat}
 use Rattle.bus_semantics.specs.declared.plan.BusPlan.{BusPlan}
 use Rattle.bus_semantics.specs.declared.plan.ServerPlan.{ServerPlan}
 use Rattle.bus_semantics.specs.declared.script.Mapping.{Mapping}
-use Rattle.component_rules.specs.declared.items.Item.TheVariants as item
-use Rattle.component_rules.specs.Events as starting
-use Rattle.component_rules.specs.Firsts.{each_number}
-use Rattle.component_rules.specs.Invocations.{operation_of, invoked, operations_at, is_served, operation_count}
-use Rattle.component_rules.specs.Items.{item_at}
-use Rattle.component_rules.specs.Tallies.{count, same_operation}
-use Rattle.mapping_rules.specs.Mapped.{invokes, invocation_of}
-use Rattle.plan_numbers.specs.declared.site.Site.{Site}
-use Rattle.plan_numbers.specs.declared.site.SiteKind.{SiteKind}
-use Rattle.plan_numbers.specs.declared.site.SiteKind.TheVariants.{Element, Variable, Server, Machine, ModePort}
-use Rattle.plan_numbers.specs.Keys.{key_of, is_server}
-use Rattle.plan_numbers.specs.Parts.{component_of}
-use Rattle.plan_numbers.specs.Sites.{kind_at, count_at, shape_at, site}
-use Rattle.plan_ports.specs.Ports.{ports_of, port_of}
-use Rattle.plan_ports.specs.Things.{server_number, servers_of}
-use Rattle.plan_services.specs.Services.{server_at, server_of, servers}
-use Rattle.planned_descriptions.specs.Whole.{IsWhole}
+use Rattle.plan_definitions.specs.declared.item.Item.TheVariants as item
+use Rattle.plan_definitions.specs.Events as starting
+use Rattle.plan_definitions.specs.Firsts.{each_number}
+use Rattle.plan_definitions.specs.Invocations.{operation_of, invoked, operations_at, is_served, operation_count}
+use Rattle.plan_definitions.specs.Items.{item_at}
+use Rattle.plan_definitions.specs.Counts.{count, same_operation}
+use Rattle.plan_definitions.specs.Mapped.{invokes, invocation_of}
+use Rattle.plan_definitions.specs.declared.site.Site.{Site}
+use Rattle.plan_definitions.specs.declared.site.SiteKind.{SiteKind}
+use Rattle.plan_definitions.specs.declared.site.SiteKind.TheVariants.{Element, Variable, Server, Machine, ModePort}
+use Rattle.plan_definitions.specs.Keys.{key_of, is_server}
+use Rattle.plan_definitions.specs.Parts.{component_of}
+use Rattle.plan_definitions.specs.Sites.{kind_at, count_at, shape_at, site}
+use Rattle.plan_definitions.specs.Ports.{ports_of, port_of}
+use Rattle.plan_definitions.specs.Things.{server_number, servers_of}
+use Rattle.plan_definitions.specs.Services.{server_at, server_of, servers}
+use Rattle.plan_definitions.specs.Whole.{IsWhole}
 use Rattle.sound_behavior.proofs.Lists.{clash, not_some, found, position_at, Passes, counted_at, once, counts_some, mapped, map_at, MapAt}
 use Rattle.sound_behavior.proofs.Parts.{Home, home_component, component_home}
 use Rattle.sound_behavior.proofs.Rules.{kind_kept, served_kept}

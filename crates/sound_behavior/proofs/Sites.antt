@@ -8,15 +8,15 @@ use Rattle.interface_types.specs.declared.interface.TypeTable.{TypeTable}
 use Rattle.description_types.specs.declared.component.Component.{Component}
 use Rattle.description_types.specs.declared.component.Port.{Port}
 use Rattle.description_types.specs.declared.description.Description.{Description}
-use Rattle.composition_flatten.specs.declared.flat.Flat.{Flat}
-use Rattle.plan_numbers.specs.declared.site.Site.{Site}
-use Rattle.plan_numbers.specs.declared.site.SiteKind.{SiteKind}
-use Rattle.plan_numbers.specs.declared.site.SiteKind.TheVariants.{Variable}
-use Rattle.plan_numbers.specs.Keys.{Key, key_of, same_key, number_in, keys_of, of_kind}
-use Rattle.plan_numbers.specs.Lists.{positions}
-use Rattle.plan_numbers.specs.Parts.{component_of, of_instances}
-use Rattle.plan_numbers.specs.Sites.{site, sites_with, shape_at, sites_at, sites_of_ports, variables_of, sites_of_component, root_ports, sites}
-use Rattle.plan_ports.specs.Ports.{ports_of, port_of}
+use Rattle.flat_descriptions.specs.declared.flat.Flat.{Flat}
+use Rattle.plan_definitions.specs.declared.site.Site.{Site}
+use Rattle.plan_definitions.specs.declared.site.SiteKind.{SiteKind}
+use Rattle.plan_definitions.specs.declared.site.SiteKind.TheVariants.{Variable}
+use Rattle.plan_definitions.specs.Keys.{Key, key_of, same_key, number_in, keys_of, of_kind}
+use Rattle.plan_definitions.specs.Lists.{positions}
+use Rattle.plan_definitions.specs.Parts.{component_of, of_instances}
+use Rattle.plan_definitions.specs.Sites.{site, sites_with, shape_at, sites_at, sites_of_ports, variables_of, sites_of_component, root_ports, sites}
+use Rattle.plan_definitions.specs.Ports.{ports_of, port_of}
 use Rattle.sound_behavior.proofs.Lists.{not_some, found, before, In, in_from, reach, position_is, length-positions, mapped, map_at, append_left, append_right, append_at, Later, kept, kept_at}
 use Rattle.sound_behavior.proofs.Parts.{Home, home_component, component_home, start, OfInstance, of_instance, to_instance}
 

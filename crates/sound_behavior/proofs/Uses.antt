@@ -25,7 +25,7 @@ use Rattle.description_types.specs.declared.component.PortKind.TheVariants.{Prov
 use Rattle.description_types.specs.declared.component.Runnable as declared_runnable
 use Rattle.description_types.specs.declared.component.Variable.{Variable}
 use Rattle.description_types.specs.declared.description.Description.{Description}
-use Rattle.composition_flatten.specs.declared.flat.Flat.{Flat}
+use Rattle.flat_descriptions.specs.declared.flat.Flat.{Flat}
 use Rattle.bus_semantics.specs.declared.plan.AreaPlan.{AreaPlan}
 use Rattle.bus_semantics.specs.declared.plan.BusPlan.{BusPlan}
 use Rattle.bus_semantics.specs.declared.plan.ElemKind.{ElemKind}
@@ -39,28 +39,28 @@ use Rattle.bus_semantics.specs.Owners.{is_queued, is_unqueued, modes_of, elem_fi
 use Rattle.bus_semantics.specs.SoundAccesses.{takes_words, point_takes, mode_count, access_sound}
 use Rattle.bus_semantics.specs.SoundElements.{same_limits}
 use Rattle.bus_semantics.specs.SoundPlan.{is_in, is_variable}
-use Rattle.component_rules.specs.declared.items.Item.{Item}
-use Rattle.component_rules.specs.declared.items.Item.TheVariants.{Data, Operation, Modes}
-use Rattle.component_rules.specs.Accesses as reaches
-use Rattle.component_rules.specs.Items.{item_at}
-use Rattle.component_rules.specs.Signatures.{arguments_of, words_of, words_of_item, words_at, words_of_variable, access_sig}
-use Rattle.component_rules.specs.Signatures as signatures
-use Rattle.event_mapping.specs.Planned.{area_of, areas}
-use Rattle.plan_elements.specs.Elements.{elem_seen, elements, policy_kind}
-use Rattle.plan_elements.specs.Elements as seen
-use Rattle.plan_numbers.specs.declared.site.Site.{Site}
-use Rattle.plan_numbers.specs.declared.site.SiteKind.TheVariants as site_kind
-use Rattle.plan_numbers.specs.Keys.{pair_number}
-use Rattle.plan_numbers.specs.Parts.{areas_of, runnables_of}
-use Rattle.plan_numbers.specs.Sites.{provides_at, site}
-use Rattle.plan_ports.specs.Things.{element_number, machine_for, machine_number, mode_port_number}
-use Rattle.plan_runnables.specs.Started.{target_of}
-use Rattle.plan_services.specs.declared.callings.Calling.{Calling}
-use Rattle.plan_services.specs.Callings.{owner_of, is_calling, leaves, point_number}
-use Rattle.plan_services.specs.Modes.{machine_at, machines, mode_port_at, mode_ports}
-use Rattle.plan_services.specs.Services.{point_of, point_words, points}
-use Rattle.sound_descriptions.specs.WellFormed as formed
-use Rattle.planned_descriptions.specs.Whole.{IsWhole}
+use Rattle.plan_definitions.specs.declared.item.Item.{Item}
+use Rattle.plan_definitions.specs.declared.item.Item.TheVariants.{Data, Operation, Modes}
+use Rattle.plan_definitions.specs.Accesses as reaches
+use Rattle.plan_definitions.specs.Items.{item_at}
+use Rattle.plan_definitions.specs.Signatures.{arguments_of, words_of, words_of_item, words_at, words_of_variable, access_sig}
+use Rattle.plan_definitions.specs.Signatures as signatures
+use Rattle.plan_definitions.specs.Planned.{area_of, areas}
+use Rattle.plan_definitions.specs.Elements.{elem_seen, elements, policy_kind}
+use Rattle.plan_definitions.specs.Elements as seen
+use Rattle.plan_definitions.specs.declared.site.Site.{Site}
+use Rattle.plan_definitions.specs.declared.site.SiteKind.TheVariants as site_kind
+use Rattle.plan_definitions.specs.Keys.{pair_number}
+use Rattle.plan_definitions.specs.Parts.{areas_of, runnables_of}
+use Rattle.plan_definitions.specs.Sites.{provides_at, site}
+use Rattle.plan_definitions.specs.Things.{element_number, machine_for, machine_number, mode_port_number}
+use Rattle.plan_definitions.specs.Started.{target_of}
+use Rattle.plan_definitions.specs.declared.calling.Calling.{Calling}
+use Rattle.plan_definitions.specs.Callings.{owner_of, is_calling, leaves, point_number}
+use Rattle.plan_definitions.specs.Modes.{machine_at, machines, mode_port_at, mode_ports}
+use Rattle.plan_definitions.specs.Services.{point_of, point_words, points}
+use Rattle.plan_definitions.specs.WellFormed as formed
+use Rattle.plan_definitions.specs.Whole.{IsWhole}
 use Rattle.sound_behavior.proofs.Lists.{same_option, looked, there_at, all_at}
 use Rattle.sound_behavior.proofs.Parts.{Home, area_there}
 use Rattle.sound_behavior.proofs.Rules.{planned, access_kept, call_kept, runnable_formed}
@@ -150,7 +150,7 @@ module _ (d : Description) (f : Flat) (p : BusPlan) (m : Mapping) (w : IsWhole d
         ∙ sym (λ j. point_words_at (owner j) (port j) (item j))
       where
         point_words_at : Option ℕ → ℕ → ℕ → List Limits
-        point_words_at o k n = option_map_or (λ (z : declared_operation.Operation). arguments_of d.types.data_types way z.arguments) (Rattle.plan_services.specs.Services.operation_at d f o k n) []
+        point_words_at o k n = option_map_or (λ (z : declared_operation.Operation). arguments_of d.types.data_types way z.arguments) (Rattle.plan_definitions.specs.Services.operation_at d f o k n) []
 
     -- ---- each access, by its kind
 

@@ -15,8 +15,8 @@ use Rattle.description_types.specs.declared.component.Component.{Component}
 use Rattle.description_types.specs.declared.component.Event.{Event}
 use Rattle.description_types.specs.declared.component.Runnable as declared_runnable
 use Rattle.description_types.specs.declared.description.Description.{Description}
-use Rattle.composition_flatten.specs.declared.flat.End.{End}
-use Rattle.composition_flatten.specs.declared.flat.Flat.{Flat}
+use Rattle.flat_descriptions.specs.declared.flat.End.{End}
+use Rattle.flat_descriptions.specs.declared.flat.Flat.{Flat}
 use Rattle.bus_semantics.specs.declared.plan.BusPlan.{BusPlan}
 use Rattle.bus_semantics.specs.declared.plan.ElemPlan.{ElemPlan}
 use Rattle.bus_semantics.specs.declared.plan.PointPlan.{PointPlan}
@@ -25,21 +25,21 @@ use Rattle.bus_semantics.specs.declared.script.Mapping.{Mapping}
 use Rattle.bus_semantics.specs.declared.script.Task.{Task}
 use Rattle.bus_semantics.specs.Plan.{Plan, Runnable, plan_of, look, positions, runnable_of_event}
 use Rattle.bus_semantics.specs.Sound as sound
-use Rattle.component_rules.specs.declared.items.Item.TheVariants.{Operation}
-use Rattle.component_rules.specs.Items.{item_at}
-use Rattle.mapping_rules.specs.Rules.{tasks_of_event, tasks_from, task_of_server, tasks_behind, waits_by, waits_for, Waits}
-use Rattle.mapping_rules.specs.Rules as mapped_rules
-use Rattle.mapping_rules.specs.Tasks.{mapping_of}
-use Rattle.plan_numbers.specs.Joined.{end_at, provider_of}
-use Rattle.plan_numbers.specs.Keys.{end_key, pair_number}
-use Rattle.plan_numbers.specs.Parts.{runnables_of}
-use Rattle.plan_ports.specs.Ports.{interface_of}
-use Rattle.plan_ports.specs.Things.{server_number}
-use Rattle.plan_runnables.specs.Started.{runnable_of}
-use Rattle.plan_services.specs.declared.callings.Calling.{Calling}
-use Rattle.plan_services.specs.Callings.{callings}
-use Rattle.plan_services.specs.Services.{point_of, points, server_at, servers}
-use Rattle.planned_descriptions.specs.Whole.{IsWhole}
+use Rattle.plan_definitions.specs.declared.item.Item.TheVariants.{Operation}
+use Rattle.plan_definitions.specs.Items.{item_at}
+use Rattle.plan_definitions.specs.MappingRules.{tasks_of_event, tasks_from, task_of_server, tasks_behind, waits_by, waits_for, Waits}
+use Rattle.plan_definitions.specs.MappingRules as mapped_rules
+use Rattle.plan_definitions.specs.Tasks.{mapping_of}
+use Rattle.plan_definitions.specs.Joined.{end_at, provider_of}
+use Rattle.plan_definitions.specs.Keys.{end_key, pair_number}
+use Rattle.plan_definitions.specs.Parts.{runnables_of}
+use Rattle.plan_definitions.specs.Ports.{interface_of}
+use Rattle.plan_definitions.specs.Things.{server_number}
+use Rattle.plan_definitions.specs.Started.{runnable_of}
+use Rattle.plan_definitions.specs.declared.calling.Calling.{Calling}
+use Rattle.plan_definitions.specs.Callings.{callings}
+use Rattle.plan_definitions.specs.Services.{point_of, points, server_at, servers}
+use Rattle.plan_definitions.specs.Whole.{IsWhole}
 use Rattle.sound_behavior.proofs.Lists.{any_at, looked, map_at, append_at, Later}
 use Rattle.sound_behavior.proofs.Members.{Has, has_either, has_gathered, to_flat}
 use Rattle.sound_behavior.proofs.Parts.{Home, home_component, RunnableAt}
@@ -151,7 +151,7 @@ module _ (d : Description) (f : Flat) (p : BusPlan) (m : Mapping) (w : IsWhole d
 
       required : RequiredAt d f z.i z.access.port z.access.item
       required = call_required z.i z.c z.home z.access.kind z.access.port z.access.item is_call
-          (finds d.types z.c.ports z.access (access_kept d f p m w z.home.instance.component z.c z.home.has z.m z.runnable z.j z.access z.there z.here) (ap Rattle.component_rules.specs.Accesses.names_port is_call))
+          (finds d.types z.c.ports z.access (access_kept d f p m w z.home.instance.component z.c z.home.has z.m z.runnable z.j z.access z.there z.here) (ap Rattle.plan_definitions.specs.Accesses.names_port is_call))
 
       waits_behind : (e : End) → provider_of f.joins (end_at (Some z.i) z.access.port z.access.item) ≡ Some e → Has ℕ (tasks_behind d f e) b → Waits d f a b
       waits_behind e by h = record {

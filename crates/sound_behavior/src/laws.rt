@@ -2,7 +2,7 @@
 
 ghost use Rattle.std.specs.Prelude.{◌≡◌, true, ◌&&◌, length, map, nat_le};
 ghost use Rattle.description_types.specs.declared.description.Description.{Description};
-ghost use Rattle.composition_flatten.specs.declared.flat.Flat.{Flat};
+ghost use Rattle.flat_descriptions.specs.declared.flat.Flat.{Flat};
 ghost use Rattle.bus_semantics.specs.declared.plan.BusPlan.{BusPlan};
 ghost use Rattle.bus_semantics.specs.declared.plan.PointPlan.{PointPlan};
 ghost use Rattle.bus_semantics.specs.declared.script.Mapping.{Mapping};
@@ -12,7 +12,7 @@ ghost use Rattle.bus_semantics.specs.SoundAccesses.{points_arranged, points_fit}
 ghost use Rattle.bus_semantics.specs.SoundNames.{caller_rank, named_once};
 ghost use Rattle.bus_semantics.specs.SoundPrograms.{runnable_sound};
 ghost use Rattle.bus_semantics.specs.SoundEvents.{direct_sound, event_sound, server_served, serves_back};
-ghost use Rattle.planned_descriptions.specs.Whole.{IsWhole};
+ghost use Rattle.plan_definitions.specs.Whole.{IsWhole};
 
 use bus_laws::accepted_programs_are_sound;
 

@@ -1,6 +1,6 @@
 //! A plan whose description breaks no rule is sound in what happens: its tasks, events, servers, calls, accesses and programs.
 //!
-//! Each law is a field of `IsSound` (`bus_semantics`), from `IsWhole` (`planned_descriptions`).
+//! Each law is a field of `IsSound` (`bus_semantics`), from `IsWhole` (`plan_definitions`).
 #![tactic(auto)]
 
 mod laws;

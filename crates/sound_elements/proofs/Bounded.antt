@@ -3,7 +3,7 @@ use Rattle.std.proofs.Common.{◌≡◌, ℕ, ◌+◌, ◌≤◌, List, [], ◌�
 use Rattle.std.proofs.lemmas.Bool.{and_from, eq-eqb, le-leb, ltb-false, or_parts}
 use Rattle.std.specs.List.{sum_by}
 use Rattle.description_types.specs.declared.description.Description.{Description}
-use Rattle.composition_flatten.specs.declared.flat.Flat.{Flat}
+use Rattle.flat_descriptions.specs.declared.flat.Flat.{Flat}
 use Rattle.bus_semantics.specs.declared.plan.BusPlan.{BusPlan}
 use Rattle.bus_semantics.specs.declared.plan.ElemPlan.{ElemPlan}
 use Rattle.bus_semantics.specs.declared.plan.MachinePlan.{MachinePlan}
@@ -14,17 +14,17 @@ use Rattle.bus_semantics.specs.Owners.{is_queued}
 use Rattle.bus_semantics.specs.Plan.{plan_of}
 use Rattle.bus_semantics.specs.Sound.{number_or_0, queue_lengths, sum_over}
 use Rattle.bus_semantics.specs.SoundPlan.{objects_counted}
-use Rattle.component_rules.specs.Refusals as components
-use Rattle.mapping_rules.specs.Refusals.{IsAfter, mapping_text}
-use Rattle.mapping_rules.specs.Refusals as mapping
-use Rattle.plan_elements.specs.Elements.{elem_seen, elements, leaders}
-use Rattle.plan_elements.specs.Groups.{groups}
-use Rattle.plan_services.specs.Modes.{machines}
-use Rattle.plan_services.specs.Services.{servers}
-use Rattle.event_mapping.specs.Planned.{areas, object_count, plan_of as planned}
-use Rattle.event_mapping.specs.Refusals.{IsOfSize, IsRefusal, IsThen}
-use Rattle.event_mapping.specs.Rules.{is_too_large, queue_lengths as all_lengths, received, requested}
-use Rattle.planned_descriptions.specs.Whole.{IsWhole}
+use Rattle.plan_definitions.specs.ComponentRefusals as components
+use Rattle.plan_definitions.specs.MappingRefusals.{IsAfter, mapping_text}
+use Rattle.plan_definitions.specs.MappingRefusals as mapping
+use Rattle.plan_definitions.specs.Elements.{elem_seen, elements, leaders}
+use Rattle.plan_definitions.specs.ElementGroups.{groups}
+use Rattle.plan_definitions.specs.Modes.{machines}
+use Rattle.plan_definitions.specs.Services.{servers}
+use Rattle.plan_definitions.specs.Planned.{areas, object_count, plan_of as planned}
+use Rattle.plan_definitions.specs.PlanRefusals.{IsOfSize, IsRefusal, IsThen}
+use Rattle.plan_definitions.specs.PlanRules.{is_too_large, queue_lengths as all_lengths, received, requested}
+use Rattle.plan_definitions.specs.Whole.{IsWhole}
 
 -- ---- rule 30
 

@@ -2,23 +2,23 @@
 use Rattle.std.proofs.Common.{◌≡◌, ℕ, zero, suc, List, [], ◌∷◌, map, Option, Some, None, option_map, ◌⊎◌, inl, inr, ⊎_elim, ◌↔◌, refl, sym, ap, subst, ◌∙◌, slice_get}
 use Rattle.std.proofs.lemmas.Option.{slice_get-map}
 use Rattle.description_types.specs.declared.description.Description.{Description}
-use Rattle.compatibility.specs.Groups.{IsJoined}
-use Rattle.compatibility.specs.Refusals.{refusal}
-use Rattle.composition_flatten.specs.declared.flat.End.{End}
-use Rattle.composition_flatten.specs.declared.flat.Flat.{Flat}
-use Rattle.composition_flatten.specs.declared.flat.Join.{Join}
-use Rattle.composition_flatten.specs.Flattening.{IsFlatOf}
-use Rattle.composition_tables.specs.Members.{Among}
+use Rattle.plan_definitions.specs.JoinGroups.{IsJoined}
+use Rattle.plan_definitions.specs.JoinRefusals.{refusal}
+use Rattle.flat_descriptions.specs.declared.flat.End.{End}
+use Rattle.flat_descriptions.specs.declared.flat.Flat.{Flat}
+use Rattle.flat_descriptions.specs.declared.flat.Join.{Join}
+use Rattle.flat_descriptions.specs.Flattening.{IsFlatOf}
+use Rattle.flat_descriptions.specs.Members.{Among}
 use Rattle.bus_semantics.specs.declared.plan.BusPlan.{BusPlan}
 use Rattle.bus_semantics.specs.declared.plan.ElemPlan.{ElemPlan}
 use Rattle.bus_semantics.specs.declared.script.Mapping.{Mapping}
-use Rattle.plan_numbers.specs.declared.site.Site.{Site}
-use Rattle.plan_numbers.specs.Joined.{end_of, partners}
-use Rattle.plan_numbers.specs.Keys.{key_of}
-use Rattle.plan_ports.specs.Things.{elements_of}
-use Rattle.plan_elements.specs.Elements.{Elem, elem_seen, element_of, elements, group_of}
-use Rattle.planned_descriptions.specs.Whole.{IsWhole}
-use Rattle.sound_descriptions.specs.WellFormed.{IsWellFormed}
+use Rattle.plan_definitions.specs.declared.site.Site.{Site}
+use Rattle.plan_definitions.specs.Joined.{end_of, partners}
+use Rattle.plan_definitions.specs.Keys.{key_of}
+use Rattle.plan_definitions.specs.Things.{elements_of}
+use Rattle.plan_definitions.specs.Elements.{Elem, elem_seen, element_of, elements, group_of}
+use Rattle.plan_definitions.specs.Whole.{IsWhole}
+use Rattle.plan_definitions.specs.WellFormed.{IsWellFormed}
 use Rattle.sound_elements.specs.Connected.{AreConnected, AreJoined, Chain, GroupsAreConnected, group_at}
 use Rattle.sound_elements.proofs.Bounded.{elements_are}
 use Rattle.sound_elements.proofs.Linked.{Linked, group_linked, linked_group, linked_then}

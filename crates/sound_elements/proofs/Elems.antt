@@ -18,9 +18,9 @@ use Rattle.description_types.specs.declared.component.Component.{Component}
 use Rattle.description_types.specs.declared.component.PortKind.{PortKind}
 use Rattle.description_types.specs.declared.component.Variable.{Variable as DeclaredVariable}
 use Rattle.description_types.specs.declared.description.Description.{Description}
-use Rattle.component_model.specs.Initials.{element_type, fits, fits_type, is_within, keeps, keeps_element, keeps_type, type_in}
-use Rattle.composition_flatten.specs.declared.flat.Flat.{Flat}
-use Rattle.composition_tables.specs.Members.{Among}
+use Rattle.interface_types.specs.Initials.{element_type, fits, fits_type, is_within, keeps, keeps_element, keeps_type, type_in}
+use Rattle.flat_descriptions.specs.declared.flat.Flat.{Flat}
+use Rattle.flat_descriptions.specs.Members.{Among}
 use Rattle.bus_semantics.specs.declared.plan.BusPlan.{BusPlan}
 use Rattle.bus_semantics.specs.declared.plan.ElemKind.{ElemKind}
 use Rattle.bus_semantics.specs.declared.plan.ElemKind.TheVariants as kind
@@ -28,15 +28,15 @@ use Rattle.bus_semantics.specs.declared.plan.ElemPlan.{ElemPlan}
 use Rattle.bus_semantics.specs.declared.script.Mapping.{Mapping}
 use Rattle.bus_semantics.specs.SoundElements.{elem_sound, limits_fit, zeros}
 use Rattle.bus_semantics.specs.SoundPlan.{is_in}
-use Rattle.plan_numbers.specs.declared.site.Site.{Site}
-use Rattle.plan_numbers.specs.declared.site.SiteKind.TheVariants as site_kind
-use Rattle.plan_numbers.specs.Keys.{is_element}
-use Rattle.plan_numbers.specs.Sites.{count_at, kind_at, provides_at, site, sites}
-use Rattle.plan_ports.specs.Ports.{com_spec_of, queue_length_of}
-use Rattle.plan_ports.specs.Things.{elements_of}
-use Rattle.plan_elements.specs.Elements.{Elem, declared_at, elem_seen, element_in, element_of, elements, group_of, held, keeps_last, keeps_queue, limits_of, policy_kind, variable_at, words_of, zeros as type_zeros}
-use Rattle.sound_descriptions.specs.WellFormed.{IsWellFormed, items_at, kind_fits, names_fit, type_fits, variable_fits}
-use Rattle.planned_descriptions.specs.Whole.{IsWhole}
+use Rattle.plan_definitions.specs.declared.site.Site.{Site}
+use Rattle.plan_definitions.specs.declared.site.SiteKind.TheVariants as site_kind
+use Rattle.plan_definitions.specs.Keys.{is_element}
+use Rattle.plan_definitions.specs.Sites.{count_at, kind_at, provides_at, site, sites}
+use Rattle.plan_definitions.specs.Ports.{com_spec_of, queue_length_of}
+use Rattle.plan_definitions.specs.Things.{elements_of}
+use Rattle.plan_definitions.specs.Elements.{Elem, declared_at, elem_seen, element_in, element_of, elements, group_of, held, keeps_last, keeps_queue, limits_of, policy_kind, variable_at, words_of, zeros as type_zeros}
+use Rattle.plan_definitions.specs.WellFormed.{IsWellFormed, items_at, kind_fits, names_fit, type_fits, variable_fits}
+use Rattle.plan_definitions.specs.Whole.{IsWhole}
 use Rattle.sound_elements.proofs.Kept.{com_spec_keeps, component_keeps, interface_is, interface_keeps, queue_keeps, some_type, variables_keep}
 use Rattle.sound_elements.proofs.Lists.{all_at, all_from, at, there, unkept, unmapped}
 use Rattle.sound_elements.proofs.Sites.{AtPort, IsVariable, is_site, with_port}

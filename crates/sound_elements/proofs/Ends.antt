@@ -9,20 +9,20 @@ use Rattle.description_types.specs.declared.component.Port.{Port}
 use Rattle.description_types.specs.declared.component.PortKind.{PortKind}
 use Rattle.description_types.specs.declared.component.PortKind.TheVariants.{Provided, Required}
 use Rattle.description_types.specs.declared.description.Description.{Description}
-use Rattle.compatibility.specs.Connectors.{incompatible}
-use Rattle.composition_flatten.specs.declared.flat.Flat.{Flat}
-use Rattle.composition_flatten.specs.declared.flat.Join.{Join}
-use Rattle.composition_flatten.specs.Flattening.{IsFlatOf}
-use Rattle.composition_tables.specs.Items.{ItemsJoin, interface_at}
-use Rattle.composition_flatten.specs.Joined.{IsJoined, Stand, interface_below, stand_in}
-use Rattle.composition_tables.specs.Members.{Among}
+use Rattle.plan_definitions.specs.Connectors.{incompatible}
+use Rattle.flat_descriptions.specs.declared.flat.Flat.{Flat}
+use Rattle.flat_descriptions.specs.declared.flat.Join.{Join}
+use Rattle.flat_descriptions.specs.Flattening.{IsFlatOf}
+use Rattle.flat_descriptions.specs.Items.{ItemsJoin, interface_at}
+use Rattle.flat_descriptions.specs.Joined.{IsJoined, Stand, interface_below, stand_in}
+use Rattle.flat_descriptions.specs.Members.{Among}
 use Rattle.bus_semantics.specs.declared.plan.ElemKind.{ElemKind}
 use Rattle.bus_semantics.specs.SoundPlan.{same_numbers}
-use Rattle.plan_numbers.specs.declared.site.Site.{Site}
-use Rattle.plan_numbers.specs.Sites.{provides_at}
-use Rattle.plan_ports.specs.Ports.{port_of}
-use Rattle.plan_elements.specs.Elements.{kind_of, limits_of, type_of, words_of}
-use Rattle.sound_descriptions.specs.WellFormed.{distinct}
+use Rattle.plan_definitions.specs.declared.site.Site.{Site}
+use Rattle.plan_definitions.specs.Sites.{provides_at}
+use Rattle.plan_definitions.specs.Ports.{port_of}
+use Rattle.plan_definitions.specs.Elements.{kind_of, limits_of, type_of, words_of}
+use Rattle.plan_definitions.specs.WellFormed.{distinct}
 use Rattle.sound_elements.proofs.Chains.{Faces, are_joined}
 use Rattle.sound_elements.proofs.Lists.{any_from, mapped}
 use Rattle.sound_elements.proofs.Passing.{Passes, SameTypes}

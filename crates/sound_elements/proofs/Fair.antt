@@ -11,18 +11,18 @@ use Rattle.description_types.specs.declared.component.PortKind.{PortKind}
 use Rattle.description_types.specs.declared.component.PortKind.TheVariants.{Provided, Required}
 use Rattle.description_types.specs.declared.description.Description.{Description}
 use Rattle.description_types.specs.declared.description.PrototypeType.TheVariants.{Component, Composition}
-use Rattle.compatibility.specs.declared.rule.Rule.TheVariants.{Groups, Services}
-use Rattle.compatibility.specs.Connectors.{incompatible, ports_of}
-use Rattle.compatibility.specs.Items.{end_of as item_end, first_broken, first_item, first_number, in_instances, in_port, in_ports, requires_at}
-use Rattle.compatibility.specs.Joins.{are_several, crowds, is_crowded, is_many_to_many, providers, requirers, same_end}
-use Rattle.compatibility.specs.Refusals.{item_refusal, of_connectors, of_items, of_root_ports, port_refusal, refusal}
-use Rattle.composition_flatten.specs.declared.flat.End.{End}
-use Rattle.composition_flatten.specs.declared.flat.Flat.{Flat}
-use Rattle.composition_flatten.specs.declared.flat.Instance.{Instance}
-use Rattle.composition_flatten.specs.declared.flat.Join.{Join}
-use Rattle.composition_tables.specs.Members.{Among}
-use Rattle.plan_numbers.specs.Sites.{provides_at}
-use Rattle.plan_ports.specs.Ports.{port_of}
+use Rattle.plan_definitions.specs.declared.join_rule.JoinRule.TheVariants.{Groups, Services}
+use Rattle.plan_definitions.specs.Connectors.{incompatible, ports_of}
+use Rattle.plan_definitions.specs.JoinedItems.{end_of as item_end, first_broken, first_item, first_number, in_instances, in_port, in_ports, requires_at}
+use Rattle.plan_definitions.specs.Joins.{are_several, crowds, is_crowded, is_many_to_many, providers, requirers, same_end}
+use Rattle.plan_definitions.specs.JoinRefusals.{item_refusal, of_connectors, of_items, of_root_ports, port_refusal, refusal}
+use Rattle.flat_descriptions.specs.declared.flat.End.{End}
+use Rattle.flat_descriptions.specs.declared.flat.Flat.{Flat}
+use Rattle.flat_descriptions.specs.declared.flat.Instance.{Instance}
+use Rattle.flat_descriptions.specs.declared.flat.Join.{Join}
+use Rattle.flat_descriptions.specs.Members.{Among}
+use Rattle.plan_definitions.specs.Sites.{provides_at}
+use Rattle.plan_definitions.specs.Ports.{port_of}
 use Rattle.sound_elements.proofs.Chains.{first_none, map_none, or_none}
 use Rattle.sound_elements.proofs.Lists.{kept, mapped, none_at}
 use Rattle.sound_elements.proofs.Numbers.{same_end_is, same_end_refl}

@@ -4,9 +4,9 @@ use Rattle.std.proofs.lemmas.Bool.{and_from, eq-eqb, eqb-true, eqb-false, le-leb
 use Rattle.std.proofs.lemmas.Option.{slice_get_within}
 use Rattle.std.specs.List.{list_all, position_from}
 use Rattle.std.specs.Option.{unwrap_or}
-use Rattle.composition_tables.specs.Members.{Among}
-use Rattle.plan_numbers.specs.Lists.{from, positions}
-use Rattle.plan_elements.specs.Groups.{group_number, groups, head_at, heads, member_at, members, number_among}
+use Rattle.flat_descriptions.specs.Members.{Among}
+use Rattle.plan_definitions.specs.Lists.{from, positions}
+use Rattle.plan_definitions.specs.ElementGroups.{group_number, groups, head_at, heads, member_at, members, number_among}
 use Rattle.bus_semantics.specs.SoundPlan.{first_of, firsts, is_rising}
 use Rattle.sound_elements.proofs.Lists.{all_from, at, get_map, in_from, map_get, out_from}
 

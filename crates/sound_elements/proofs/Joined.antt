@@ -10,23 +10,23 @@ use Rattle.interface_types.specs.declared.interface.InterfaceKind.{InterfaceKind
 use Rattle.interface_types.specs.declared.interface.InterfaceKind.TheVariants.{ClientServer, ModeSwitch, SenderReceiver}
 use Rattle.description_types.specs.declared.component.Port.{Port}
 use Rattle.description_types.specs.declared.description.Description.{Description}
-use Rattle.composition_flatten.specs.declared.flat.End.{End}
-use Rattle.composition_flatten.specs.declared.flat.Flat.{Flat}
-use Rattle.composition_flatten.specs.declared.flat.Join.{Join}
-use Rattle.composition_tables.specs.Items.{ItemsJoin, interface_at}
-use Rattle.composition_tables.specs.Members.{Among}
+use Rattle.flat_descriptions.specs.declared.flat.End.{End}
+use Rattle.flat_descriptions.specs.declared.flat.Flat.{Flat}
+use Rattle.flat_descriptions.specs.declared.flat.Join.{Join}
+use Rattle.flat_descriptions.specs.Items.{ItemsJoin, interface_at}
+use Rattle.flat_descriptions.specs.Members.{Among}
 use Rattle.bus_semantics.specs.declared.plan.ElemKind.TheVariants.{Unqueued}
 use Rattle.bus_semantics.specs.SoundNames.{is_name}
-use Rattle.plan_numbers.specs.declared.site.Site.{Site}
-use Rattle.plan_numbers.specs.declared.site.SiteKind.{SiteKind}
-use Rattle.plan_numbers.specs.declared.site.SiteKind.TheVariants.{Element}
-use Rattle.plan_numbers.specs.Joined.{end_at, end_of}
-use Rattle.plan_numbers.specs.Keys.{is_element}
-use Rattle.plan_numbers.specs.Sites.{count_at, kind_at, provides_at, site, sites}
-use Rattle.plan_ports.specs.Ports.{port_of}
-use Rattle.plan_ports.specs.Things.{elements_of}
-use Rattle.plan_elements.specs.Elements.{declared_at, element_in, limits_of, policy_kind, words_of}
-use Rattle.sound_descriptions.specs.WellFormed.{IsWellFormed, distinct, kind_fits, names_fit}
+use Rattle.plan_definitions.specs.declared.site.Site.{Site}
+use Rattle.plan_definitions.specs.declared.site.SiteKind.{SiteKind}
+use Rattle.plan_definitions.specs.declared.site.SiteKind.TheVariants.{Element}
+use Rattle.plan_definitions.specs.Joined.{end_at, end_of}
+use Rattle.plan_definitions.specs.Keys.{is_element}
+use Rattle.plan_definitions.specs.Sites.{count_at, kind_at, provides_at, site, sites}
+use Rattle.plan_definitions.specs.Ports.{port_of}
+use Rattle.plan_definitions.specs.Things.{elements_of}
+use Rattle.plan_definitions.specs.Elements.{declared_at, element_in, limits_of, policy_kind, words_of}
+use Rattle.plan_definitions.specs.WellFormed.{IsWellFormed, distinct, kind_fits, names_fit}
 use Rattle.sound_elements.proofs.Elems.{is_element_of}
 use Rattle.sound_elements.proofs.Ends.{HasPorts, one_named, same_limits, same_words, traits}
 use Rattle.sound_elements.proofs.Kept.{interface_is, interface_keeps}

@@ -6,12 +6,12 @@ use Rattle.std.proofs.lemmas.List.Folds.{list_all-map}
 use Rattle.std.specs.List.{list_all, list_any}
 use Rattle.std.specs.Option.{option_map_or}
 use Rattle.description_types.specs.declared.description.Description.{Description}
-use Rattle.compatibility.specs.Refusals.{refusal}
-use Rattle.composition_flatten.specs.declared.flat.End.{End}
-use Rattle.composition_flatten.specs.declared.flat.Flat.{Flat}
-use Rattle.composition_flatten.specs.declared.flat.Join.{Join}
-use Rattle.composition_flatten.specs.Flattening.{IsFlatOf}
-use Rattle.composition_tables.specs.Members.{Among}
+use Rattle.plan_definitions.specs.JoinRefusals.{refusal}
+use Rattle.flat_descriptions.specs.declared.flat.End.{End}
+use Rattle.flat_descriptions.specs.declared.flat.Flat.{Flat}
+use Rattle.flat_descriptions.specs.declared.flat.Join.{Join}
+use Rattle.flat_descriptions.specs.Flattening.{IsFlatOf}
+use Rattle.flat_descriptions.specs.Members.{Among}
 use Rattle.bus_semantics.specs.declared.plan.BusPlan.{BusPlan}
 use Rattle.bus_semantics.specs.declared.plan.ElemKind.{ElemKind}
 use Rattle.bus_semantics.specs.declared.plan.ElemKind.TheVariants as kind
@@ -19,13 +19,13 @@ use Rattle.bus_semantics.specs.declared.plan.ElemPlan.{ElemPlan}
 use Rattle.bus_semantics.specs.declared.script.Mapping.{Mapping}
 use Rattle.bus_semantics.specs.Plan.{plan_of}
 use Rattle.bus_semantics.specs.SoundElements.{agrees, count_side, has_side, joins_fit}
-use Rattle.plan_numbers.specs.declared.site.Site.{Site}
-use Rattle.plan_numbers.specs.Joined.{end_of, is_joined, partners, same_end}
-use Rattle.plan_numbers.specs.Keys.{end_key, key_of}
-use Rattle.plan_ports.specs.Things.{elements_of}
-use Rattle.plan_elements.specs.Elements.{Elem, elem_seen, element_of, elements, group_of, is_provided}
-use Rattle.sound_descriptions.specs.WellFormed.{IsWellFormed}
-use Rattle.planned_descriptions.specs.Whole.{IsWhole}
+use Rattle.plan_definitions.specs.declared.site.Site.{Site}
+use Rattle.plan_definitions.specs.Joined.{end_of, is_joined, partners, same_end}
+use Rattle.plan_definitions.specs.Keys.{end_key, key_of}
+use Rattle.plan_definitions.specs.Things.{elements_of}
+use Rattle.plan_definitions.specs.Elements.{Elem, elem_seen, element_of, elements, group_of, is_provided}
+use Rattle.plan_definitions.specs.WellFormed.{IsWellFormed}
+use Rattle.plan_definitions.specs.Whole.{IsWhole}
 use Rattle.sound_elements.proofs.Bounded.{elements_are}
 use Rattle.sound_elements.proofs.Counting.{Two, by_second, one, two}
 use Rattle.sound_elements.proofs.Elems.{queued, unqueued, variable}

@@ -12,12 +12,12 @@ use Rattle.description_types.specs.declared.component.Port.{Port}
 use Rattle.description_types.specs.declared.component.Variable.{Variable}
 use Rattle.description_types.specs.declared.description.Composition.{Composition}
 use Rattle.description_types.specs.declared.description.Description.{Description}
-use Rattle.composition_flatten.specs.declared.flat.Flat.{Flat}
-use Rattle.composition_flatten.specs.declared.flat.Instance.{Instance}
-use Rattle.plan_numbers.specs.Parts.{component_of}
-use Rattle.plan_ports.specs.Ports.{com_spec_of, interface_of, port_of, queue_length_of}
+use Rattle.flat_descriptions.specs.declared.flat.Flat.{Flat}
+use Rattle.flat_descriptions.specs.declared.flat.Instance.{Instance}
+use Rattle.plan_definitions.specs.Parts.{component_of}
+use Rattle.plan_definitions.specs.Ports.{com_spec_of, interface_of, port_of, queue_length_of}
 use Rattle.bus_semantics.specs.SoundPlan.{is_in}
-use Rattle.sound_descriptions.specs.WellFormed.{IsWellFormed, com_spec_fits, component_fits, composition_fits, group_fits, kind_fits, names_fit, port_fits, ports_fit, type_fits, variable_fits}
+use Rattle.plan_definitions.specs.WellFormed.{IsWellFormed, com_spec_fits, component_fits, composition_fits, group_fits, kind_fits, names_fit, port_fits, ports_fit, type_fits, variable_fits}
 use Rattle.sound_elements.proofs.Lists.{all_at, at, found, there}
 
 module _ (d : Description) (w : IsWellFormed d) where

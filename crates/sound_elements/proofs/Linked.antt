@@ -1,18 +1,18 @@
 -- Two elements have one group exactly where they are the same, are joined, or are joined with a third one.
 use Rattle.std.proofs.Common.{◌≡◌, Option, Some, None, ◌⊎◌, inl, inr, refl, sym, ap, subst, ◌∙◌, slice_get}
 use Rattle.description_types.specs.declared.description.Description.{Description}
-use Rattle.compatibility.specs.Refusals.{refusal}
-use Rattle.composition_flatten.specs.declared.flat.End.{End}
-use Rattle.composition_flatten.specs.declared.flat.Flat.{Flat}
-use Rattle.composition_flatten.specs.Flattening.{IsFlatOf}
-use Rattle.composition_tables.specs.Members.{Among}
-use Rattle.plan_numbers.specs.declared.site.Site.{Site}
-use Rattle.plan_numbers.specs.Joined.{end_of, partners}
-use Rattle.plan_numbers.specs.Keys.{key_of, number_in}
-use Rattle.plan_ports.specs.Things.{elements_of}
-use Rattle.plan_elements.specs.Elements.{group_of, leaders}
-use Rattle.plan_elements.specs.Groups.{heads, leader_of, number_among, own_number}
-use Rattle.sound_descriptions.specs.WellFormed.{IsWellFormed}
+use Rattle.plan_definitions.specs.JoinRefusals.{refusal}
+use Rattle.flat_descriptions.specs.declared.flat.End.{End}
+use Rattle.flat_descriptions.specs.declared.flat.Flat.{Flat}
+use Rattle.flat_descriptions.specs.Flattening.{IsFlatOf}
+use Rattle.flat_descriptions.specs.Members.{Among}
+use Rattle.plan_definitions.specs.declared.site.Site.{Site}
+use Rattle.plan_definitions.specs.Joined.{end_of, partners}
+use Rattle.plan_definitions.specs.Keys.{key_of, number_in}
+use Rattle.plan_definitions.specs.Things.{elements_of}
+use Rattle.plan_definitions.specs.Elements.{group_of, leaders}
+use Rattle.plan_definitions.specs.ElementGroups.{heads, leader_of, number_among, own_number}
+use Rattle.plan_definitions.specs.WellFormed.{IsWellFormed}
 use Rattle.sound_elements.proofs.Ends.{traits}
 use Rattle.sound_elements.proofs.Heads.{here_head, number_is as head_is}
 use Rattle.sound_elements.proofs.Leading.{alone, keys, leads}

@@ -2,8 +2,8 @@
 use Rattle.std.proofs.Common.{◌≡◌, ℕ, zero, suc, ◌+◌, ◌<◌, List, [], ◌∷◌, ◌++◌, length, map, filter, Bool, true, false, cond, ◌||◌, Some, ◌⊎◌, inl, inr, ⊎_elim, refl, sym, ap, subst, ◌∙◌, true≢false, arith, slice_get}
 use Rattle.std.proofs.lemmas.Bool.{and_from, and_parts, or_cases, or_left, or_parts, or_right}
 use Rattle.std.specs.List.{find, flat_map, list_all, list_any}
-use Rattle.composition_tables.specs.Members.{Among}
-use Rattle.plan_numbers.specs.Lists.{from, positions}
+use Rattle.flat_descriptions.specs.Members.{Among}
+use Rattle.plan_definitions.specs.Lists.{from, positions}
 
 module _ {X : Type 0} where
   pub left : (x : X) (xs ys : List X) → Among x xs → Among x (xs ++ ys)

@@ -9,21 +9,21 @@ use Rattle.interface_types.specs.declared.interface.ModeElement.{ModeElement}
 use Rattle.interface_types.specs.declared.interface.ModeGroup.{ModeGroup}
 use Rattle.description_types.specs.declared.component.PortKind.{PortKind}
 use Rattle.description_types.specs.declared.description.Description.{Description}
-use Rattle.composition_flatten.specs.declared.flat.Flat.{Flat}
-use Rattle.composition_tables.specs.Members.{Among}
+use Rattle.flat_descriptions.specs.declared.flat.Flat.{Flat}
+use Rattle.flat_descriptions.specs.Members.{Among}
 use Rattle.bus_semantics.specs.declared.plan.BusPlan.{BusPlan}
 use Rattle.bus_semantics.specs.declared.plan.MachinePlan.{MachinePlan}
 use Rattle.bus_semantics.specs.declared.script.Mapping.{Mapping}
 use Rattle.bus_semantics.specs.SoundElements.{machine_sound}
 use Rattle.bus_semantics.specs.SoundPlan.{is_in}
-use Rattle.plan_numbers.specs.declared.site.Site.{Site}
-use Rattle.plan_numbers.specs.Keys.{is_machine}
-use Rattle.plan_numbers.specs.Sites.{kind_at, sites}
-use Rattle.plan_ports.specs.Ports.{item_text, queue_length_of}
-use Rattle.plan_ports.specs.Things.{machine_number, machines_of}
-use Rattle.plan_services.specs.Modes.{group_at, group_in, machine_at, machines, waits_of}
-use Rattle.sound_descriptions.specs.WellFormed.{IsWellFormed, group_fits, kind_fits, names_fit}
-use Rattle.planned_descriptions.specs.Whole.{IsWhole}
+use Rattle.plan_definitions.specs.declared.site.Site.{Site}
+use Rattle.plan_definitions.specs.Keys.{is_machine}
+use Rattle.plan_definitions.specs.Sites.{kind_at, sites}
+use Rattle.plan_definitions.specs.Ports.{item_text, queue_length_of}
+use Rattle.plan_definitions.specs.Things.{machine_number, machines_of}
+use Rattle.plan_definitions.specs.Modes.{group_at, group_in, machine_at, machines, waits_of}
+use Rattle.plan_definitions.specs.WellFormed.{IsWellFormed, group_fits, kind_fits, names_fit}
+use Rattle.plan_definitions.specs.Whole.{IsWhole}
 use Rattle.sound_elements.proofs.Kept.{interface_is, interface_keeps, queue_keeps, some_group}
 use Rattle.sound_elements.proofs.Lists.{all_from, unkept, unmapped}
 use Rattle.sound_elements.proofs.Sites.{AtPort, IsVariable, is_site}

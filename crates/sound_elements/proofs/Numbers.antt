@@ -3,11 +3,11 @@ use Rattle.std.proofs.Common.{◌≡◌, ℕ, zero, suc, ◌+◌, ◌≤◌, Lis
 use Rattle.std.proofs.lemmas.Bool.{and_from, and_parts, eq-eqb, eqb-true}
 use Rattle.std.specs.List.{position_from}
 use Rattle.std.specs.Option.{option_eq}
-use Rattle.composition_flatten.specs.declared.flat.End.{End}
-use Rattle.composition_tables.specs.Members.{Among}
-use Rattle.plan_numbers.specs.declared.site.Site.{Site}
-use Rattle.plan_numbers.specs.Joined.{end_at, end_of, same_end}
-use Rattle.plan_numbers.specs.Keys.{Key, end_key, key_of, number_in, same_key}
+use Rattle.flat_descriptions.specs.declared.flat.End.{End}
+use Rattle.flat_descriptions.specs.Members.{Among}
+use Rattle.plan_definitions.specs.declared.site.Site.{Site}
+use Rattle.plan_definitions.specs.Joined.{end_at, end_of, same_end}
+use Rattle.plan_definitions.specs.Keys.{Key, end_key, key_of, number_in, same_key}
 
 same_number : (a b : Option ℕ) → option_eq nat_eq a b ≡ true → a ≡ b
 same_number None None h = refl

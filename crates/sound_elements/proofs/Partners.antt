@@ -2,21 +2,21 @@
 use Rattle.std.proofs.Common.{◌≡◌, List, [], ◌∷◌, Bool, true, false, not, if◌then◌else◌, Some, None, option_map, ◌⊎◌, inl, inr, ⊎_elim, refl, sym, ap, subst, ◌∙◌}
 use Rattle.std.proofs.lemmas.Option.{slice_get_within}
 use Rattle.description_types.specs.declared.description.Description.{Description}
-use Rattle.compatibility.specs.Joins.{is_many_to_many, providers, requirers}
-use Rattle.compatibility.specs.Refusals.{refusal}
-use Rattle.composition_flatten.specs.declared.flat.End.{End}
-use Rattle.composition_flatten.specs.declared.flat.Flat.{Flat}
-use Rattle.composition_flatten.specs.declared.flat.Join.{Join}
-use Rattle.composition_flatten.specs.Flattening.{IsFlatOf}
-use Rattle.composition_tables.specs.Members.{Among}
-use Rattle.plan_numbers.specs.declared.site.Site.{Site}
-use Rattle.plan_numbers.specs.declared.site.SiteKind.TheVariants.{Element}
-use Rattle.plan_numbers.specs.Joined.{across, end_at, end_of, partners, same_end}
-use Rattle.plan_numbers.specs.Keys.{is_element, key_of}
-use Rattle.plan_numbers.specs.Sites.{provides_at, sites}
-use Rattle.plan_ports.specs.Things.{elements_of}
-use Rattle.plan_elements.specs.Elements.{is_provided}
-use Rattle.sound_descriptions.specs.WellFormed.{IsWellFormed}
+use Rattle.plan_definitions.specs.Joins.{is_many_to_many, providers, requirers}
+use Rattle.plan_definitions.specs.JoinRefusals.{refusal}
+use Rattle.flat_descriptions.specs.declared.flat.End.{End}
+use Rattle.flat_descriptions.specs.declared.flat.Flat.{Flat}
+use Rattle.flat_descriptions.specs.declared.flat.Join.{Join}
+use Rattle.flat_descriptions.specs.Flattening.{IsFlatOf}
+use Rattle.flat_descriptions.specs.Members.{Among}
+use Rattle.plan_definitions.specs.declared.site.Site.{Site}
+use Rattle.plan_definitions.specs.declared.site.SiteKind.TheVariants.{Element}
+use Rattle.plan_definitions.specs.Joined.{across, end_at, end_of, partners, same_end}
+use Rattle.plan_definitions.specs.Keys.{is_element, key_of}
+use Rattle.plan_definitions.specs.Sites.{provides_at, sites}
+use Rattle.plan_definitions.specs.Things.{elements_of}
+use Rattle.plan_definitions.specs.Elements.{is_provided}
+use Rattle.plan_definitions.specs.WellFormed.{IsWellFormed}
 use Rattle.sound_elements.proofs.Counting.{Apart, apart_filter, one_item}
 use Rattle.sound_elements.proofs.Elems.{is_element_of}
 use Rattle.sound_elements.proofs.Ends.{HasPorts, has_ports, traits}

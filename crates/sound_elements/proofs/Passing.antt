@@ -12,9 +12,9 @@ use Rattle.interface_types.specs.declared.interface.InterfaceKind.TheVariants.{C
 use Rattle.interface_types.specs.declared.interface.SwImplPolicy.{SwImplPolicy}
 use Rattle.interface_types.specs.declared.interface.SwImplPolicy.TheVariants.{Queued, Standard}
 use Rattle.interface_types.specs.declared.interface.TypeTable.{TypeTable}
-use Rattle.compatibility.specs.Interfaces.{same_policy, serve_elements, serves, serves_element, serves_in}
-use Rattle.compatibility.specs.Types.{agree, are_compatible_types, base_number, types_agree}
-use Rattle.composition_tables.specs.Members.{Among}
+use Rattle.plan_definitions.specs.Interfaces.{same_policy, serve_elements, serves, serves_element, serves_in}
+use Rattle.plan_definitions.specs.Types.{agree, are_compatible_types, base_number, types_agree}
+use Rattle.flat_descriptions.specs.Members.{Among}
 use Rattle.sound_elements.proofs.Lists.{all_at, any_at}
 
 same_bytes : (a b : List ℕ) → bytes_eq a b ≡ true → a ≡ b

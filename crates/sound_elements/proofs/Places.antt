@@ -9,18 +9,18 @@ use Rattle.description_types.specs.declared.description.Description.{Description
 use Rattle.description_types.specs.declared.description.Prototype.{Prototype}
 use Rattle.description_types.specs.declared.description.PrototypeType.{PrototypeType}
 use Rattle.description_types.specs.declared.description.PrototypeType.TheVariants.{Component, Composition}
-use Rattle.composition_flatten.specs.declared.flat.Flat.{Flat}
-use Rattle.composition_flatten.specs.declared.flat.Instance.{Instance}
-use Rattle.composition_tables.specs.Connectors.{interface_of, ports_of}
-use Rattle.composition_flatten.specs.Flattening.{IsFlatOf}
-use Rattle.composition_tables.specs.Places.{Place, places, places_below, places_of}
-use Rattle.composition_flatten.specs.Instances.{instance_at}
-use Rattle.composition_tables.specs.Items.{interface_at}
-use Rattle.composition_flatten.specs.Joined.{Stand, interface_below, stand_in}
-use Rattle.composition_tables.specs.Members.{Among}
-use Rattle.composition_tables.specs.Paths.{prototypes_of, type_at, type_in}
-use Rattle.plan_numbers.specs.Parts.{component_of}
-use Rattle.plan_ports.specs.Ports.{port_of}
+use Rattle.flat_descriptions.specs.declared.flat.Flat.{Flat}
+use Rattle.flat_descriptions.specs.declared.flat.Instance.{Instance}
+use Rattle.flat_descriptions.specs.Connectors.{interface_of, ports_of}
+use Rattle.flat_descriptions.specs.Flattening.{IsFlatOf}
+use Rattle.flat_descriptions.specs.Places.{Place, places, places_below, places_of}
+use Rattle.flat_descriptions.specs.Instances.{instance_at}
+use Rattle.flat_descriptions.specs.Items.{interface_at}
+use Rattle.flat_descriptions.specs.Joined.{Stand, interface_below, stand_in}
+use Rattle.flat_descriptions.specs.Members.{Among}
+use Rattle.flat_descriptions.specs.Paths.{prototypes_of, type_at, type_in}
+use Rattle.plan_definitions.specs.Parts.{component_of}
+use Rattle.plan_definitions.specs.Ports.{port_of}
 use Rattle.sound_elements.proofs.Lists.{at, map_get, unflat}
 
 unnumbered : {X : Type 0} (n : ℕ) (xs : List X) (k : ℕ) (x : X) → Among (k, x) (enumerate_from n xs) → (i : ℕ) × (k ≡ n + i) × (slice_get xs i ≡ Some x)

@@ -1,8 +1,8 @@
 -- Groups that are stars: each end is the only partner of its partners, or has one partner alone. Who is at most two steps apart is
 -- in one group, and the least number of a group is seen from each of its ends in two steps.
 use Rattle.std.proofs.Common.{◌≡◌, ℕ, ◌≤◌, List, [], ◌∷◌, map, min, ◌⊎◌, inl, inr, ⊎_elim, refl, sym, subst, ◌∙◌, arith}
-use Rattle.composition_tables.specs.Members.{Among}
-use Rattle.plan_elements.specs.Groups.{least}
+use Rattle.flat_descriptions.specs.Members.{Among}
+use Rattle.plan_definitions.specs.ElementGroups.{least}
 use Rattle.sound_elements.proofs.Lists.{mapped, unmapped}
 
 -- ---- the least number

@@ -12,9 +12,9 @@ use Rattle.interface_types.specs.declared.base_type.BaseType.{BaseType}
 use Rattle.interface_types.specs.declared.base_type.BaseType.TheVariants.{Boolean, Uint8, Uint16, Uint32, Sint8, Sint16, Sint32}
 use Rattle.interface_types.specs.declared.base_type.DataType.{DataType}
 use Rattle.interface_types.specs.Ranges.{keeps_range, range_of}
-use Rattle.component_model.specs.Initials.{fits, is_within}
+use Rattle.interface_types.specs.Initials.{fits, is_within}
 use Rattle.bus_semantics.specs.SoundElements.{limits_fit, zeros}
-use Rattle.plan_elements.specs.Elements.{held, zeros as type_zeros}
+use Rattle.plan_definitions.specs.Elements.{held, zeros as type_zeros}
 
 le_then : (a b c : ℤ) → int_le a b ≡ true → int_le b c ≡ true → int_le a c ≡ true
 le_then a b c x y = grind (arith, ints)

@@ -1,15 +1,15 @@
 -- What joins connect (SWS_RTE: sender-receiver communication 1:n and n:1).
 use Rattle.std.specs.Prelude.{◌≡◌, ℕ, zero, suc, List, Option, Some, option_map, slice_get, ◌⊎◌, ◌↔◌}
 use Rattle.description_types.specs.declared.description.Description.{Description}
-use Rattle.composition_flatten.specs.declared.flat.End.{End}
-use Rattle.composition_flatten.specs.declared.flat.Flat.{Flat}
-use Rattle.composition_flatten.specs.declared.flat.Join.{Join}
-use Rattle.compatibility.specs.Groups.{IsJoined}
+use Rattle.flat_descriptions.specs.declared.flat.End.{End}
+use Rattle.flat_descriptions.specs.declared.flat.Flat.{Flat}
+use Rattle.flat_descriptions.specs.declared.flat.Join.{Join}
+use Rattle.plan_definitions.specs.JoinGroups.{IsJoined}
 use Rattle.bus_semantics.specs.declared.plan.BusPlan.{BusPlan}
 use Rattle.bus_semantics.specs.declared.plan.ElemPlan.{ElemPlan}
-use Rattle.plan_numbers.specs.declared.site.Site.{Site}
-use Rattle.plan_numbers.specs.Joined.{end_of}
-use Rattle.plan_ports.specs.Things.{elements_of}
+use Rattle.plan_definitions.specs.declared.site.Site.{Site}
+use Rattle.plan_definitions.specs.Joined.{end_of}
+use Rattle.plan_definitions.specs.Things.{elements_of}
 
 -- a join connects the two ends, whichever of them provides
 abbrev pub AreJoined : List Join → End → End → Type 0

@@ -3,14 +3,14 @@
 ghost use Rattle.std.specs.Prelude.{◌≡◌, true, nat_le};
 ghost use Rattle.std.specs.List.{list_all};
 ghost use Rattle.description_types.specs.declared.description.Description.{Description};
-ghost use Rattle.composition_flatten.specs.declared.flat.Flat.{Flat};
+ghost use Rattle.flat_descriptions.specs.declared.flat.Flat.{Flat};
 ghost use Rattle.bus_semantics.specs.declared.plan.BusPlan.{BusPlan};
 ghost use Rattle.bus_semantics.specs.declared.script.Mapping.{Mapping};
 ghost use Rattle.bus_semantics.specs.Plan.{plan_of};
 ghost use Rattle.bus_semantics.specs.Sound.{queue_lengths};
 ghost use Rattle.bus_semantics.specs.SoundPlan.{objects_counted};
 ghost use Rattle.bus_semantics.specs.SoundElements.{machine_sound};
-ghost use Rattle.planned_descriptions.specs.Whole.{IsWhole};
+ghost use Rattle.plan_definitions.specs.Whole.{IsWhole};
 
 /// The objects of a plan are its groups, servers, areas and mode machines, and the clock; there are at most 16,384 of them.
 pub fn objects_of_plans_are_counted()

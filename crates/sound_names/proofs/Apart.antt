@@ -5,9 +5,9 @@ use Rattle.std.specs.List.{list_any}
 use Rattle.bus_semantics.specs.SoundNames.{Named, same_named, named_once}
 use Rattle.bus_semantics.specs.SoundPlan.{same_numbers}
 use Rattle.sound_names.proofs.Lists.{cases, filtered, mapped, map_has, none_from, any_has, piece, get_among, position_in}
-use Rattle.composition_tables.specs.Members.{Among, AllApart}
-use Rattle.plan_numbers.specs.Lists.{from, positions}
-use Rattle.sound_descriptions.specs.WellFormed.{distinct}
+use Rattle.flat_descriptions.specs.Members.{Among, AllApart}
+use Rattle.plan_definitions.specs.Lists.{from, positions}
+use Rattle.plan_definitions.specs.WellFormed.{distinct}
 use Rattle.sound_names.proofs.Texts.{same_is, same_itself}
 
 module _ {X : Type 0} where

@@ -6,8 +6,8 @@ use mathlib.Core.List.{map-map}
 use Rattle.std.specs.Option.{option_map_or, unwrap_or}
 use Rattle.description_types.specs.declared.component.Component.{Component}
 use Rattle.description_types.specs.declared.description.Description.{Description}
-use Rattle.composition_flatten.specs.declared.flat.Flat.{Flat}
-use Rattle.composition_flatten.specs.declared.flat.Instance.{Instance}
+use Rattle.flat_descriptions.specs.declared.flat.Flat.{Flat}
+use Rattle.flat_descriptions.specs.declared.flat.Instance.{Instance}
 use Rattle.bus_semantics.specs.declared.plan.AreaPlan.{AreaPlan}
 use Rattle.bus_semantics.specs.declared.plan.BusPlan.{BusPlan}
 use Rattle.bus_semantics.specs.declared.plan.ElemPlan.{ElemPlan}
@@ -18,18 +18,18 @@ use Rattle.bus_semantics.specs.declared.plan.ServerPlan.{ServerPlan}
 use Rattle.bus_semantics.specs.Plan as bus
 use Rattle.bus_semantics.specs.Plan.{Runnable, instance_of}
 use Rattle.bus_semantics.specs.SoundPlan.{is_arranged, is_rising, is_variable, rank}
-use Rattle.plan_numbers.specs.declared.site.Site.{Site}
-use Rattle.plan_numbers.specs.declared.site.SiteKind.TheVariants.{Variable}
-use Rattle.plan_numbers.specs.Keys.{is_element, is_machine, is_mode_port, is_server, of_kind}
-use Rattle.plan_numbers.specs.Lists.{from, positions}
-use Rattle.plan_numbers.specs.Sites.{root_ports, site, sites, sites_of_component, sites_of_instance, sites_of_ports, variables_of}
-use Rattle.plan_elements.specs.Elements.{Elem, elem_seen, element_of, group_of}
-use Rattle.plan_ports.specs.Things.{elements_of, has_machine, machines_of, mode_ports_of, servers_of}
-use Rattle.plan_runnables.specs.Started.{events_of_component, events, runnable_of, runnables_of_component, runnables}
-use Rattle.plan_services.specs.Modes.{machine_at, mode_port_at}
-use Rattle.plan_services.specs.Services.{server_of}
-use Rattle.event_mapping.specs.Planned.{areas, area_of, areas_at, named_areas, plan_of, seen}
-use Rattle.sound_descriptions.specs.WellFormed.{IsWellFormed}
+use Rattle.plan_definitions.specs.declared.site.Site.{Site}
+use Rattle.plan_definitions.specs.declared.site.SiteKind.TheVariants.{Variable}
+use Rattle.plan_definitions.specs.Keys.{is_element, is_machine, is_mode_port, is_server, of_kind}
+use Rattle.plan_definitions.specs.Lists.{from, positions}
+use Rattle.plan_definitions.specs.Sites.{root_ports, site, sites, sites_of_component, sites_of_instance, sites_of_ports, variables_of}
+use Rattle.plan_definitions.specs.Elements.{Elem, elem_seen, element_of, group_of}
+use Rattle.plan_definitions.specs.Things.{elements_of, has_machine, machines_of, mode_ports_of, servers_of}
+use Rattle.plan_definitions.specs.Started.{events_of_component, events, runnable_of, runnables_of_component, runnables}
+use Rattle.plan_definitions.specs.Modes.{machine_at, mode_port_at}
+use Rattle.plan_definitions.specs.Services.{server_of}
+use Rattle.plan_definitions.specs.Planned.{areas, area_of, areas_at, named_areas, plan_of, seen}
+use Rattle.plan_definitions.specs.WellFormed.{IsWellFormed}
 use Rattle.sound_names.proofs.Homes.{event_home}
 use Rattle.sound_names.proofs.Lists.{map_same, mapped, pieces}
 use Rattle.sound_names.proofs.Numbers.{in_component}

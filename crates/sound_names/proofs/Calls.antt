@@ -18,23 +18,23 @@ use Rattle.description_types.specs.declared.component.PortKind.{PortKind}
 use Rattle.description_types.specs.declared.component.PortKind.TheVariants.{Provided, Required}
 use Rattle.description_types.specs.declared.component.Runnable.{Runnable}
 use Rattle.description_types.specs.declared.description.Description.{Description}
-use Rattle.composition_flatten.specs.declared.flat.Flat.{Flat}
-use Rattle.composition_tables.specs.Members.{Among}
-use Rattle.component_rules.specs.declared.items.Item.{Item}
-use Rattle.component_rules.specs.declared.items.Item.TheVariants.{Data, Operation, Modes}
-use Rattle.component_rules.specs.declared.rule.Rule.TheVariants as rule
-use Rattle.component_rules.specs.declared.spots.Spot.TheVariants as spot
-use Rattle.component_rules.specs.Accesses.{names_port, fits, access_fits, misfit_among, misfit}
-use Rattle.component_rules.specs.Firsts.{first_of, unless}
-use Rattle.component_rules.specs.Items.{item_of, item_of_port, item_at}
-use Rattle.component_rules.specs.Refusals as components
-use Rattle.mapping_rules.specs.Refusals.{IsAfter}
-use Rattle.plan_numbers.specs.Lists.{from, positions}
-use Rattle.plan_numbers.specs.Parts.{of_instances}
-use Rattle.plan_numbers.specs.Sites.{provides_at, root_ports}
-use Rattle.plan_services.specs.declared.callings.Calling.{Calling}
-use Rattle.plan_services.specs.Callings.{calling_of, callings_in, callings_of_component, operation_count, operations_at, outer_calling, outer_callings, callings, owner_of}
-use Rattle.event_mapping.specs.Refusals.{IsRefusal}
+use Rattle.flat_descriptions.specs.declared.flat.Flat.{Flat}
+use Rattle.flat_descriptions.specs.Members.{Among}
+use Rattle.plan_definitions.specs.declared.item.Item.{Item}
+use Rattle.plan_definitions.specs.declared.item.Item.TheVariants.{Data, Operation, Modes}
+use Rattle.plan_definitions.specs.declared.component_rule.ComponentRule.TheVariants as rule
+use Rattle.plan_definitions.specs.declared.spot.Spot.TheVariants as spot
+use Rattle.plan_definitions.specs.Accesses.{names_port, fits, access_fits, misfit_among, misfit}
+use Rattle.plan_definitions.specs.Firsts.{first_of, unless}
+use Rattle.plan_definitions.specs.Items.{item_of, item_of_port, item_at}
+use Rattle.plan_definitions.specs.ComponentRefusals as components
+use Rattle.plan_definitions.specs.MappingRefusals.{IsAfter}
+use Rattle.plan_definitions.specs.Lists.{from, positions}
+use Rattle.plan_definitions.specs.Parts.{of_instances}
+use Rattle.plan_definitions.specs.Sites.{provides_at, root_ports}
+use Rattle.plan_definitions.specs.declared.calling.Calling.{Calling}
+use Rattle.plan_definitions.specs.Callings.{calling_of, callings_in, callings_of_component, operation_count, operations_at, outer_calling, outer_callings, callings, owner_of}
+use Rattle.plan_definitions.specs.PlanRefusals.{IsRefusal}
 use Rattle.sound_names.proofs.Lists.{among_get, and_then_some, cases, map_some, mapped, pieces, position_in, unflat}
 use Rattle.sound_names.proofs.Numbers.{of_instances_is}
 use Rattle.sound_names.proofs.Sites.{PortAt, ComponentAt, ports_are}

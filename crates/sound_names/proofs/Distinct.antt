@@ -7,10 +7,10 @@ use Rattle.description_types.specs.declared.component.Component.{Component}
 use Rattle.description_types.specs.declared.component.Event.{Event}
 use Rattle.description_types.specs.declared.component.Runnable as declared
 use Rattle.description_types.specs.declared.description.Description.{Description}
-use Rattle.composition_flatten.specs.declared.flat.Flat.{Flat}
-use Rattle.composition_flatten.specs.declared.flat.Instance.{Instance}
-use Rattle.composition_flatten.specs.Flattening.{IsFlatOf}
-use Rattle.composition_tables.specs.Members.{Among, AllApart}
+use Rattle.flat_descriptions.specs.declared.flat.Flat.{Flat}
+use Rattle.flat_descriptions.specs.declared.flat.Instance.{Instance}
+use Rattle.flat_descriptions.specs.Flattening.{IsFlatOf}
+use Rattle.flat_descriptions.specs.Members.{Among, AllApart}
 use Rattle.bus_semantics.specs.declared.plan.AreaPlan.{AreaPlan}
 use Rattle.bus_semantics.specs.declared.plan.BusPlan.{BusPlan}
 use Rattle.bus_semantics.specs.declared.plan.ElemPlan.{ElemPlan}
@@ -22,18 +22,18 @@ use Rattle.bus_semantics.specs.Plan as bus
 use Rattle.bus_semantics.specs.Plan.{Runnable, instance_of}
 use Rattle.bus_semantics.specs.SoundNames.{Named, named_once}
 use Rattle.bus_semantics.specs.SoundPlan.{rank}
-use Rattle.plan_numbers.specs.declared.site.Site.{Site}
-use Rattle.plan_numbers.specs.Keys.{is_element, is_machine, is_mode_port, is_server, of_kind}
-use Rattle.plan_numbers.specs.Lists.{from}
-use Rattle.plan_numbers.specs.Sites.{sites}
-use Rattle.plan_elements.specs.Elements.{Elem, elem_seen, element_of, group_of}
-use Rattle.plan_ports.specs.Ports.{site_name}
-use Rattle.plan_ports.specs.Things.{elements_of, has_machine, machines_of, mode_ports_of, servers_of}
-use Rattle.plan_runnables.specs.Started.{event_of, events_of_component, runnable_of, runnables_of_component}
-use Rattle.plan_services.specs.Modes.{machine_at, machines, mode_port_at}
-use Rattle.plan_services.specs.Services.{server_of}
-use Rattle.event_mapping.specs.Planned.{area_of, areas_at, named_areas, plan_of, seen}
-use Rattle.sound_descriptions.specs.WellFormed.{IsWellFormed}
+use Rattle.plan_definitions.specs.declared.site.Site.{Site}
+use Rattle.plan_definitions.specs.Keys.{is_element, is_machine, is_mode_port, is_server, of_kind}
+use Rattle.plan_definitions.specs.Lists.{from}
+use Rattle.plan_definitions.specs.Sites.{sites}
+use Rattle.plan_definitions.specs.Elements.{Elem, elem_seen, element_of, group_of}
+use Rattle.plan_definitions.specs.Ports.{site_name}
+use Rattle.plan_definitions.specs.Things.{elements_of, has_machine, machines_of, mode_ports_of, servers_of}
+use Rattle.plan_definitions.specs.Started.{event_of, events_of_component, runnable_of, runnables_of_component}
+use Rattle.plan_definitions.specs.Modes.{machine_at, machines, mode_port_at}
+use Rattle.plan_definitions.specs.Services.{server_of}
+use Rattle.plan_definitions.specs.Planned.{area_of, areas_at, named_areas, plan_of, seen}
+use Rattle.plan_definitions.specs.WellFormed.{IsWellFormed}
 use Rattle.sound_names.proofs.Apart.{all_apart, apart_filter, apart_finer, apart_map, distinct_apart, once}
 use Rattle.sound_names.proofs.Homes.{event_home}
 use Rattle.sound_names.proofs.Keeping.{of_component}

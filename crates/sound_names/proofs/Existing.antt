@@ -6,9 +6,9 @@ use Rattle.std.proofs.lemmas.Option.{slice_get_within}
 use Rattle.std.specs.List.{list_all}
 use Rattle.std.specs.Option.{unwrap_or}
 use Rattle.description_types.specs.declared.description.Description.{Description}
-use Rattle.composition_flatten.specs.declared.flat.Flat.{Flat}
-use Rattle.composition_flatten.specs.declared.flat.Instance.{Instance}
-use Rattle.composition_tables.specs.Members.{Among}
+use Rattle.flat_descriptions.specs.declared.flat.Flat.{Flat}
+use Rattle.flat_descriptions.specs.declared.flat.Instance.{Instance}
+use Rattle.flat_descriptions.specs.Members.{Among}
 use Rattle.bus_semantics.specs.declared.plan.AreaPlan.{AreaPlan}
 use Rattle.bus_semantics.specs.declared.plan.BusPlan.{BusPlan}
 use Rattle.bus_semantics.specs.declared.plan.ElemPlan.{ElemPlan}
@@ -18,15 +18,15 @@ use Rattle.bus_semantics.specs.declared.plan.ServerPlan.{ServerPlan}
 use Rattle.bus_semantics.specs.Plan as bus
 use Rattle.bus_semantics.specs.Plan.{Runnable}
 use Rattle.bus_semantics.specs.SoundPlan.{instance_exists, instances_exist}
-use Rattle.plan_numbers.specs.declared.site.Site.{Site}
-use Rattle.plan_numbers.specs.Keys.{is_element, is_machine, is_mode_port, is_server, of_kind}
-use Rattle.plan_numbers.specs.Sites.{sites}
-use Rattle.plan_elements.specs.Elements.{Elem, elem_seen, element_of, elements, group_of}
-use Rattle.plan_ports.specs.Things.{elements_of, has_machine, machines_of, mode_ports_of, servers_of}
-use Rattle.plan_runnables.specs.Started.{runnable_of, runnables_of_component, runnables}
-use Rattle.plan_services.specs.Modes.{machine_at, machines, mode_port_at, mode_ports}
-use Rattle.plan_services.specs.Services.{server_of, servers}
-use Rattle.event_mapping.specs.Planned.{areas, areas_at, area_of, named_areas, plan_of, seen}
+use Rattle.plan_definitions.specs.declared.site.Site.{Site}
+use Rattle.plan_definitions.specs.Keys.{is_element, is_machine, is_mode_port, is_server, of_kind}
+use Rattle.plan_definitions.specs.Sites.{sites}
+use Rattle.plan_definitions.specs.Elements.{Elem, elem_seen, element_of, elements, group_of}
+use Rattle.plan_definitions.specs.Things.{elements_of, has_machine, machines_of, mode_ports_of, servers_of}
+use Rattle.plan_definitions.specs.Started.{runnable_of, runnables_of_component, runnables}
+use Rattle.plan_definitions.specs.Modes.{machine_at, machines, mode_port_at, mode_ports}
+use Rattle.plan_definitions.specs.Services.{server_of, servers}
+use Rattle.plan_definitions.specs.Planned.{areas, areas_at, area_of, named_areas, plan_of, seen}
 use Rattle.sound_names.proofs.Lists.{all_from, filtered, mapped, pieces}
 use Rattle.sound_names.proofs.Numbers.{of_instances_is}
 use Rattle.sound_names.proofs.Owners.{Owns, instance_owns, site_owns}

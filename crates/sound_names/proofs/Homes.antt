@@ -3,17 +3,17 @@ use Rattle.std.proofs.Common.{◌≡◌, ℕ, ◌<◌, map, length, slice_get, S
 use Rattle.std.proofs.lemmas.Bool.{and_parts, ltb-true}
 use Rattle.std.specs.Option.{option_map_or}
 use Rattle.description_types.specs.declared.description.Description.{Description}
-use Rattle.composition_flatten.specs.declared.flat.Flat.{Flat}
-use Rattle.composition_tables.specs.Members.{Among}
+use Rattle.flat_descriptions.specs.declared.flat.Flat.{Flat}
+use Rattle.flat_descriptions.specs.Members.{Among}
 use Rattle.bus_semantics.specs.declared.plan.BusPlan.{BusPlan}
 use Rattle.bus_semantics.specs.declared.plan.EventPlan.{EventPlan}
 use Rattle.bus_semantics.specs.Plan as bus
 use Rattle.bus_semantics.specs.Plan.{Runnable, instance_of}
-use Rattle.plan_numbers.specs.Keys.{pair_number}
-use Rattle.plan_numbers.specs.Parts.{runnables_of}
-use Rattle.plan_runnables.specs.Started.{event_of}
-use Rattle.event_mapping.specs.Planned.{plan_of, seen}
-use Rattle.sound_descriptions.specs.WellFormed.{event_fits, IsWellFormed}
+use Rattle.plan_definitions.specs.Keys.{pair_number}
+use Rattle.plan_definitions.specs.Parts.{runnables_of}
+use Rattle.plan_definitions.specs.Started.{event_of}
+use Rattle.plan_definitions.specs.Planned.{plan_of, seen}
+use Rattle.plan_definitions.specs.WellFormed.{event_fits, IsWellFormed}
 use Rattle.sound_names.proofs.Keeping.{of_component}
 use Rattle.sound_names.proofs.Lists.{all_at, mapped}
 use Rattle.sound_names.proofs.Numbers.{runnable_at}

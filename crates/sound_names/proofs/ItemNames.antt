@@ -12,11 +12,11 @@ use Rattle.description_types.specs.declared.component.Component.{Component}
 use Rattle.description_types.specs.declared.component.Port.{Port}
 use Rattle.description_types.specs.declared.component.Variable.{Variable}
 use Rattle.description_types.specs.declared.description.Description.{Description}
-use Rattle.composition_flatten.specs.declared.flat.Flat.{Flat}
+use Rattle.flat_descriptions.specs.declared.flat.Flat.{Flat}
 use Rattle.bus_semantics.specs.SoundNames.{is_name, is_pair_name}
-use Rattle.plan_numbers.specs.declared.site.Site.{Site}
-use Rattle.plan_ports.specs.Ports.{interface_of, item_name, item_text, port_name, ports_of, site_name, variable_name}
-use Rattle.sound_descriptions.specs.WellFormed.{item_count, kind_fits, names_fit, IsWellFormed}
+use Rattle.plan_definitions.specs.declared.site.Site.{Site}
+use Rattle.plan_definitions.specs.Ports.{interface_of, item_name, item_text, port_name, ports_of, site_name, variable_name}
+use Rattle.plan_definitions.specs.WellFormed.{item_count, kind_fits, names_fit, IsWellFormed}
 use Rattle.sound_names.proofs.Keeping.{Names, names_from, of_component, of_interface, of_ports}
 use Rattle.sound_names.proofs.Lists.{all_at, get_among, get_some, map_has}
 use Rattle.sound_names.proofs.SiteKinds.{item_below}

@@ -13,12 +13,12 @@ use Rattle.description_types.specs.declared.component.Variable.{Variable}
 use Rattle.description_types.specs.declared.description.Composition.{Composition}
 use Rattle.description_types.specs.declared.description.Description.{Description}
 use Rattle.description_types.specs.declared.description.Prototype.{Prototype}
-use Rattle.composition_flatten.specs.declared.flat.Flat.{Flat}
+use Rattle.flat_descriptions.specs.declared.flat.Flat.{Flat}
 use Rattle.bus_semantics.specs.SoundNames.{is_name}
-use Rattle.plan_numbers.specs.Sites.{root_ports}
-use Rattle.plan_numbers.specs.Parts.{component_of}
-use Rattle.plan_ports.specs.Ports.{ports_of}
-use Rattle.sound_descriptions.specs.WellFormed.{distinct, names_fit, type_fits, group_fits, kind_fits, port_fits, ports_fit, variable_fits, runnable_fits, event_fits, serves_fit, component_fits, prototype_fits, composition_fits, IsWellFormed}
+use Rattle.plan_definitions.specs.Sites.{root_ports}
+use Rattle.plan_definitions.specs.Parts.{component_of}
+use Rattle.plan_definitions.specs.Ports.{ports_of}
+use Rattle.plan_definitions.specs.WellFormed.{distinct, names_fit, type_fits, group_fits, kind_fits, port_fits, ports_fit, variable_fits, runnable_fits, event_fits, serves_fit, component_fits, prototype_fits, composition_fits, IsWellFormed}
 use Rattle.sound_names.proofs.Lists.{all_at, get_among, and_then_some}
 
 -- a list of names

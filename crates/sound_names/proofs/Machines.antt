@@ -16,28 +16,28 @@ use Rattle.description_types.specs.declared.component.PortKind.TheVariants.{Prov
 use Rattle.description_types.specs.declared.description.Description.{Description}
 use Rattle.description_types.specs.declared.description.PrototypeType.{PrototypeType}
 use Rattle.description_types.specs.declared.description.PrototypeType.TheVariants as of
-use Rattle.composition_flatten.specs.declared.flat.End.{End}
-use Rattle.composition_flatten.specs.declared.flat.Flat.{Flat}
-use Rattle.composition_flatten.specs.declared.flat.Instance.{Instance}
-use Rattle.composition_flatten.specs.declared.flat.Join.{Join}
-use Rattle.composition_tables.specs.Connectors.{interface_of, kind_of, ports_of}
-use Rattle.composition_flatten.specs.Flattening.{IsFlatOf}
-use Rattle.composition_tables.specs.Places.{Place, places}
-use Rattle.composition_flatten.specs.Instances.{instance_at}
-use Rattle.composition_tables.specs.Items.{ItemsJoin, interface_at}
-use Rattle.composition_flatten.specs.Joined.{Stand, interface_below, stand_in}
-use Rattle.composition_tables.specs.Members.{Among}
-use Rattle.composition_tables.specs.Paths.{type_at}
+use Rattle.flat_descriptions.specs.declared.flat.End.{End}
+use Rattle.flat_descriptions.specs.declared.flat.Flat.{Flat}
+use Rattle.flat_descriptions.specs.declared.flat.Instance.{Instance}
+use Rattle.flat_descriptions.specs.declared.flat.Join.{Join}
+use Rattle.flat_descriptions.specs.Connectors.{interface_of, kind_of, ports_of}
+use Rattle.flat_descriptions.specs.Flattening.{IsFlatOf}
+use Rattle.flat_descriptions.specs.Places.{Place, places}
+use Rattle.flat_descriptions.specs.Instances.{instance_at}
+use Rattle.flat_descriptions.specs.Items.{ItemsJoin, interface_at}
+use Rattle.flat_descriptions.specs.Joined.{Stand, interface_below, stand_in}
+use Rattle.flat_descriptions.specs.Members.{Among}
+use Rattle.flat_descriptions.specs.Paths.{type_at}
 use Rattle.bus_semantics.specs.declared.plan.BusPlan.{BusPlan}
 use Rattle.bus_semantics.specs.declared.plan.ModePortPlan.{ModePortPlan}
-use Rattle.plan_numbers.specs.declared.site.Site.{Site}
-use Rattle.plan_numbers.specs.Joined.{end_at, provider_of, same_end}
-use Rattle.plan_numbers.specs.Keys.{end_key, is_machine, is_mode_port, key_of, keys_of, of_kind}
-use Rattle.plan_numbers.specs.Sites.{count_at, kind_at, provides_at, site, sites}
-use Rattle.plan_ports.specs.Ports as plan
-use Rattle.plan_ports.specs.Things.{has_machine, machine_for, machine_number, machines_of, mode_ports_of}
-use Rattle.plan_services.specs.Modes.{machine_at, machines, mode_port_at, mode_ports}
-use Rattle.event_mapping.specs.Planned.{plan_of, seen}
+use Rattle.plan_definitions.specs.declared.site.Site.{Site}
+use Rattle.plan_definitions.specs.Joined.{end_at, provider_of, same_end}
+use Rattle.plan_definitions.specs.Keys.{end_key, is_machine, is_mode_port, key_of, keys_of, of_kind}
+use Rattle.plan_definitions.specs.Sites.{count_at, kind_at, provides_at, site, sites}
+use Rattle.plan_definitions.specs.Ports as plan
+use Rattle.plan_definitions.specs.Things.{has_machine, machine_for, machine_number, machines_of, mode_ports_of}
+use Rattle.plan_definitions.specs.Modes.{machine_at, machines, mode_port_at, mode_ports}
+use Rattle.plan_definitions.specs.Planned.{plan_of, seen}
 use Rattle.sound_names.proofs.Lists.{all_from, filter_has, filtered, found, map_has, map_some, mapped}
 use Rattle.sound_names.proofs.Numbers.{key_below}
 use Rattle.sound_names.proofs.Owners.{component_at}

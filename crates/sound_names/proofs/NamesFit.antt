@@ -10,10 +10,10 @@ use Rattle.description_types.specs.declared.component.Component.{Component}
 use Rattle.description_types.specs.declared.component.Event.{Event}
 use Rattle.description_types.specs.declared.component.Runnable as declared
 use Rattle.description_types.specs.declared.description.Description.{Description}
-use Rattle.composition_flatten.specs.declared.flat.Flat.{Flat}
-use Rattle.composition_flatten.specs.declared.flat.Instance.{Instance}
-use Rattle.composition_flatten.specs.Flattening.{IsFlatOf}
-use Rattle.composition_tables.specs.Members.{Among}
+use Rattle.flat_descriptions.specs.declared.flat.Flat.{Flat}
+use Rattle.flat_descriptions.specs.declared.flat.Instance.{Instance}
+use Rattle.flat_descriptions.specs.Flattening.{IsFlatOf}
+use Rattle.flat_descriptions.specs.Members.{Among}
 use Rattle.bus_semantics.specs.declared.plan.AreaPlan.{AreaPlan}
 use Rattle.bus_semantics.specs.declared.plan.BusPlan.{BusPlan}
 use Rattle.bus_semantics.specs.declared.plan.ElemPlan.{ElemPlan}
@@ -26,20 +26,20 @@ use Rattle.bus_semantics.specs.Plan as bus
 use Rattle.bus_semantics.specs.Plan.{Runnable}
 use Rattle.bus_semantics.specs.SoundNames.{is_name, is_pair_name, names_fit}
 use Rattle.bus_semantics.specs.SoundPlan.{is_variable}
-use Rattle.plan_numbers.specs.declared.site.Site.{Site}
-use Rattle.plan_numbers.specs.Keys.{is_element}
-use Rattle.plan_numbers.specs.Sites.{sites}
-use Rattle.plan_elements.specs.Elements.{Elem, elem_seen, element_of, elements, group_of}
-use Rattle.plan_ports.specs.Ports.{interface_of, site_name}
-use Rattle.plan_ports.specs.Things.{elements_of, machines_of, mode_ports_of, servers_of}
-use Rattle.plan_runnables.specs.Started.{event_of, events, events_of_component, runnable_of, runnables, runnables_of_component}
-use Rattle.plan_services.specs.Callings.{callings, owner_of}
-use Rattle.plan_services.specs.Modes.{group_at, group_in, machine_at, machines, mode_port_at, mode_ports}
-use Rattle.plan_services.specs.Services.{point_of, points, server_of, servers}
-use Rattle.event_mapping.specs.Planned.{area_of, areas, areas_at, named_areas, plan_of, seen}
-use Rattle.event_mapping.specs.Refusals.{IsRefusal}
-use Rattle.sound_descriptions.specs.WellFormed as declared_names
-use Rattle.sound_descriptions.specs.WellFormed.{item_count, IsWellFormed}
+use Rattle.plan_definitions.specs.declared.site.Site.{Site}
+use Rattle.plan_definitions.specs.Keys.{is_element}
+use Rattle.plan_definitions.specs.Sites.{sites}
+use Rattle.plan_definitions.specs.Elements.{Elem, elem_seen, element_of, elements, group_of}
+use Rattle.plan_definitions.specs.Ports.{interface_of, site_name}
+use Rattle.plan_definitions.specs.Things.{elements_of, machines_of, mode_ports_of, servers_of}
+use Rattle.plan_definitions.specs.Started.{event_of, events, events_of_component, runnable_of, runnables, runnables_of_component}
+use Rattle.plan_definitions.specs.Callings.{callings, owner_of}
+use Rattle.plan_definitions.specs.Modes.{group_at, group_in, machine_at, machines, mode_port_at, mode_ports}
+use Rattle.plan_definitions.specs.Services.{point_of, points, server_of, servers}
+use Rattle.plan_definitions.specs.Planned.{area_of, areas, areas_at, named_areas, plan_of, seen}
+use Rattle.plan_definitions.specs.PlanRefusals.{IsRefusal}
+use Rattle.plan_definitions.specs.WellFormed as declared_names
+use Rattle.plan_definitions.specs.WellFormed.{item_count, IsWellFormed}
 use Rattle.sound_names.proofs.Calls.{call_is}
 use Rattle.sound_names.proofs.ItemNames.{item_site_name, site_text_fits, text_fits, variable_fits}
 use Rattle.sound_names.proofs.Keeping.{Names, names_from, of_component, of_group}

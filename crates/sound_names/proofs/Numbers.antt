@@ -6,14 +6,14 @@ use Rattle.std.specs.Option.{option_map, option_map_or, option_eq, unwrap_or}
 use Rattle.description_types.specs.declared.component.Component.{Component}
 use Rattle.description_types.specs.declared.component.Runnable as declared
 use Rattle.description_types.specs.declared.description.Description.{Description}
-use Rattle.composition_flatten.specs.declared.flat.Flat.{Flat}
-use Rattle.composition_flatten.specs.declared.flat.Instance.{Instance}
-use Rattle.composition_tables.specs.Members.{Among}
+use Rattle.flat_descriptions.specs.declared.flat.Flat.{Flat}
+use Rattle.flat_descriptions.specs.declared.flat.Instance.{Instance}
+use Rattle.flat_descriptions.specs.Members.{Among}
 use Rattle.bus_semantics.specs.Plan.{Runnable}
-use Rattle.plan_numbers.specs.Keys.{Key, same_key, number_in, same_pair, pair_number}
-use Rattle.plan_numbers.specs.Lists.{positions, from}
-use Rattle.plan_numbers.specs.Parts.{of_instances, numbered, runnables_of}
-use Rattle.plan_runnables.specs.Started.{runnable_of, runnables_of_component, runnables}
+use Rattle.plan_definitions.specs.Keys.{Key, same_key, number_in, same_pair, pair_number}
+use Rattle.plan_definitions.specs.Lists.{positions, from}
+use Rattle.plan_definitions.specs.Parts.{of_instances, numbered, runnables_of}
+use Rattle.plan_definitions.specs.Started.{runnable_of, runnables_of_component, runnables}
 use Rattle.sound_names.proofs.Lists.{position_found, pieces, in_pieces, map_has, in_positions, map_from, from_same, unmap}
 use Rattle.sound_names.proofs.Sites.{ComponentAt}
 

@@ -12,19 +12,19 @@ use Rattle.description_types.specs.declared.description.Description.{Description
 use Rattle.description_types.specs.declared.description.Prototype.{Prototype}
 use Rattle.description_types.specs.declared.description.PrototypeType.{PrototypeType}
 use Rattle.description_types.specs.declared.description.PrototypeType.TheVariants as of
-use Rattle.composition_flatten.specs.declared.flat.Flat.{Flat}
-use Rattle.composition_flatten.specs.declared.flat.Instance.{Instance}
-use Rattle.composition_flatten.specs.Flattening.{IsFlatOf}
-use Rattle.composition_tables.specs.Places.{Place, places_of, places_below, places}
-use Rattle.composition_flatten.specs.Instances.{name_in, name_at, prefix_at, written, instance_at, instances}
-use Rattle.composition_tables.specs.Members.{Among, AllApart}
-use Rattle.composition_tables.specs.Paths.{prototypes_of, type_in, type_at}
+use Rattle.flat_descriptions.specs.declared.flat.Flat.{Flat}
+use Rattle.flat_descriptions.specs.declared.flat.Instance.{Instance}
+use Rattle.flat_descriptions.specs.Flattening.{IsFlatOf}
+use Rattle.flat_descriptions.specs.Places.{Place, places_of, places_below, places}
+use Rattle.flat_descriptions.specs.Instances.{name_in, name_at, prefix_at, written, instance_at, instances}
+use Rattle.flat_descriptions.specs.Members.{Among, AllApart}
+use Rattle.flat_descriptions.specs.Paths.{prototypes_of, type_in, type_at}
 use Rattle.bus_semantics.specs.declared.plan.BusPlan.{BusPlan}
 use Rattle.bus_semantics.specs.Plan as bus
 use Rattle.bus_semantics.specs.SoundNames.{is_env_path, is_name, is_path, none_is_env, parts}
 use Rattle.bus_semantics.specs.SoundPlan.{is_in, same_numbers}
-use Rattle.event_mapping.specs.Planned.{plan_of, seen}
-use Rattle.sound_descriptions.specs.WellFormed.{IsWellFormed}
+use Rattle.plan_definitions.specs.Planned.{plan_of, seen}
+use Rattle.plan_definitions.specs.WellFormed.{IsWellFormed}
 use Rattle.sound_names.proofs.Apart.{apart_append, apart_map, distinct_apart}
 use Rattle.sound_names.proofs.Keeping.{Names, of_composition}
 use Rattle.sound_names.proofs.Lists.{all_from, all_at, any_has, map_has, map_same, mapped, unflat}

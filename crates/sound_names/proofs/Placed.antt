@@ -8,12 +8,12 @@ use Rattle.description_types.specs.declared.description.Description.{Description
 use Rattle.description_types.specs.declared.description.Prototype.{Prototype}
 use Rattle.description_types.specs.declared.description.PrototypeType.{PrototypeType}
 use Rattle.description_types.specs.declared.description.PrototypeType.TheVariants as of
-use Rattle.composition_tables.specs.Connectors.{is_one_kind, is_provided, is_required, kind_in, kind_of}
-use Rattle.composition_tables.specs.Places.{Place, places, places_below, places_of}
-use Rattle.composition_flatten.specs.Joined.{Delegates, IsBelow, Stand, StandsJoin, as_inner}
-use Rattle.composition_flatten.specs.Joined.IsBelow.{further, itself}
-use Rattle.composition_tables.specs.Members.{Among}
-use Rattle.composition_tables.specs.Paths.{prototypes_of, type_at, type_in}
+use Rattle.flat_descriptions.specs.Connectors.{is_one_kind, is_provided, is_required, kind_in, kind_of}
+use Rattle.flat_descriptions.specs.Places.{Place, places, places_below, places_of}
+use Rattle.flat_descriptions.specs.Joined.{Delegates, IsBelow, Stand, StandsJoin, as_inner}
+use Rattle.flat_descriptions.specs.Joined.IsBelow.{further, itself}
+use Rattle.flat_descriptions.specs.Members.{Among}
+use Rattle.flat_descriptions.specs.Paths.{prototypes_of, type_at, type_in}
 use Rattle.sound_names.proofs.Lists.{get_among, unflat}
 
 numbered_at : {X : Type 0} (n : ℕ) (xs : List X) (k : ℕ) (x : X) → Among (k, x) (enumerate_from n xs) → (i : ℕ) × (k ≡ n + i) × (slice_get xs i ≡ Some x)

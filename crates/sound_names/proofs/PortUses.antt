@@ -7,8 +7,8 @@ use Rattle.interface_types.specs.declared.interface.InterfaceKind.{InterfaceKind
 use Rattle.interface_types.specs.declared.interface.InterfaceKind.TheVariants.{SenderReceiver, ClientServer, ModeSwitch}
 use Rattle.description_types.specs.declared.component.PortKind.{PortKind}
 use Rattle.description_types.specs.declared.description.Description.{Description}
-use Rattle.composition_flatten.specs.declared.flat.Flat.{Flat}
-use Rattle.composition_tables.specs.Members.{Among}
+use Rattle.flat_descriptions.specs.declared.flat.Flat.{Flat}
+use Rattle.flat_descriptions.specs.Members.{Among}
 use Rattle.bus_semantics.specs.declared.plan.BusPlan.{BusPlan}
 use Rattle.bus_semantics.specs.declared.plan.ElemPlan.{ElemPlan}
 use Rattle.bus_semantics.specs.declared.plan.MachinePlan.{MachinePlan}
@@ -18,19 +18,19 @@ use Rattle.bus_semantics.specs.declared.plan.ServerPlan.{ServerPlan}
 use Rattle.bus_semantics.specs.Plan as bus
 use Rattle.bus_semantics.specs.SoundNames.{PortUse, parts, point_rank, port_of, port_uses, ports_agree, used, uses_agree}
 use Rattle.bus_semantics.specs.SoundPlan.{is_variable, rank, same_numbers}
-use Rattle.plan_numbers.specs.declared.site.Site.{Site}
-use Rattle.plan_numbers.specs.Keys.{is_element, pair_number}
-use Rattle.plan_numbers.specs.Parts.{runnables_of}
-use Rattle.plan_numbers.specs.Sites.{kind_at, provides_at, sites}
-use Rattle.plan_elements.specs.Elements.{Elem, elem_seen, element_of, group_of, is_provided}
-use Rattle.plan_ports.specs.Ports.{item_name, item_text}
-use Rattle.plan_ports.specs.Things.{elements_of, machines_of, mode_ports_of, servers_of}
-use Rattle.plan_services.specs.Callings.{callings, owner_of}
-use Rattle.plan_services.specs.Modes.{machine_at, machines, mode_port_at, mode_ports}
-use Rattle.plan_services.specs.Services.{point_of, points, server_of, servers}
-use Rattle.event_mapping.specs.Planned.{plan_of, seen}
-use Rattle.event_mapping.specs.Refusals.{IsRefusal}
-use Rattle.sound_descriptions.specs.WellFormed.{item_count, IsWellFormed}
+use Rattle.plan_definitions.specs.declared.site.Site.{Site}
+use Rattle.plan_definitions.specs.Keys.{is_element, pair_number}
+use Rattle.plan_definitions.specs.Parts.{runnables_of}
+use Rattle.plan_definitions.specs.Sites.{kind_at, provides_at, sites}
+use Rattle.plan_definitions.specs.Elements.{Elem, elem_seen, element_of, group_of, is_provided}
+use Rattle.plan_definitions.specs.Ports.{item_name, item_text}
+use Rattle.plan_definitions.specs.Things.{elements_of, machines_of, mode_ports_of, servers_of}
+use Rattle.plan_definitions.specs.Callings.{callings, owner_of}
+use Rattle.plan_definitions.specs.Modes.{machine_at, machines, mode_port_at, mode_ports}
+use Rattle.plan_definitions.specs.Services.{point_of, points, server_of, servers}
+use Rattle.plan_definitions.specs.Planned.{plan_of, seen}
+use Rattle.plan_definitions.specs.PlanRefusals.{IsRefusal}
+use Rattle.plan_definitions.specs.WellFormed.{item_count, IsWellFormed}
 use Rattle.sound_names.proofs.Calls.{IsCaller, call_is}
 use Rattle.sound_names.proofs.Homes.{home_is}
 use Rattle.sound_names.proofs.ItemNames.{item_named, item_site_name, port_named, text_is}

@@ -13,17 +13,17 @@ use Rattle.interface_types.specs.declared.interface.TypeTable.{TypeTable}
 use Rattle.description_types.specs.declared.component.Port.{Port}
 use Rattle.description_types.specs.declared.component.Variable.{Variable}
 use Rattle.description_types.specs.declared.description.Description.{Description}
-use Rattle.composition_flatten.specs.declared.flat.Flat.{Flat}
+use Rattle.flat_descriptions.specs.declared.flat.Flat.{Flat}
 use Rattle.bus_semantics.specs.declared.plan.BusPlan.{BusPlan}
 use Rattle.bus_semantics.specs.Plan as bus
 use Rattle.bus_semantics.specs.SoundNames.{is_name, is_pair_name, parts}
 use Rattle.bus_semantics.specs.SoundPlan.{rank}
-use Rattle.plan_numbers.specs.declared.site.Site.{Site}
-use Rattle.plan_numbers.specs.Parts.{component_of}
-use Rattle.plan_numbers.specs.Sites.{kind_at}
-use Rattle.plan_ports.specs.Ports.{item_name, item_text, ports_of, site_name}
-use Rattle.event_mapping.specs.Planned.{plan_of, seen}
-use Rattle.sound_descriptions.specs.WellFormed.{item_count, kind_fits, names_fit, IsWellFormed}
+use Rattle.plan_definitions.specs.declared.site.Site.{Site}
+use Rattle.plan_definitions.specs.Parts.{component_of}
+use Rattle.plan_definitions.specs.Sites.{kind_at}
+use Rattle.plan_definitions.specs.Ports.{item_name, item_text, ports_of, site_name}
+use Rattle.plan_definitions.specs.Planned.{plan_of, seen}
+use Rattle.plan_definitions.specs.WellFormed.{item_count, kind_fits, names_fit, IsWellFormed}
 use Rattle.sound_names.proofs.Apart.{distinct_apart, one_place}
 use Rattle.sound_names.proofs.ItemNames.{item_named, item_site_name, port_named, site_text_fits, text_is, variable_fits, variable_site_name}
 use Rattle.sound_names.proofs.Keeping.{Names, names_from, of_component, of_interface, of_ports}

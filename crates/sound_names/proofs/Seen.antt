@@ -2,15 +2,15 @@
 use Rattle.std.proofs.Common.{◌≡◌, length, map, ap, ◌∙◌}
 use Rattle.std.proofs.lemmas.List.{length-map}
 use Rattle.description_types.specs.declared.description.Description.{Description}
-use Rattle.composition_flatten.specs.declared.flat.Flat.{Flat}
-use Rattle.composition_flatten.specs.declared.flat.Instance.{Instance}
+use Rattle.flat_descriptions.specs.declared.flat.Flat.{Flat}
+use Rattle.flat_descriptions.specs.declared.flat.Instance.{Instance}
 use Rattle.bus_semantics.specs.declared.plan.BusPlan.{BusPlan}
 use Rattle.bus_semantics.specs.Plan.{runnable_of}
-use Rattle.plan_elements.specs.Elements.{elem_seen, elements}
-use Rattle.plan_services.specs.Modes.{machines, mode_ports}
-use Rattle.plan_services.specs.Services.{points, servers}
-use Rattle.plan_runnables.specs.Started.{events, runnables}
-use Rattle.event_mapping.specs.Planned.{plan_of, seen, areas}
+use Rattle.plan_definitions.specs.Elements.{elem_seen, elements}
+use Rattle.plan_definitions.specs.Modes.{machines, mode_ports}
+use Rattle.plan_definitions.specs.Services.{points, servers}
+use Rattle.plan_definitions.specs.Started.{events, runnables}
+use Rattle.plan_definitions.specs.Planned.{plan_of, seen, areas}
 
 module _ (d : Description) (f : Flat) (p : BusPlan) (is : seen p ≡ plan_of d f) where
   pub names_are : p.names ≡ map (λ (x : Instance). x.path) f.instances

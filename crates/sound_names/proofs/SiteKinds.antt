@@ -7,9 +7,9 @@ use Rattle.interface_types.specs.declared.interface.ModeElement.{ModeElement}
 use Rattle.interface_types.specs.declared.interface.Operation.{Operation}
 use Rattle.description_types.specs.declared.component.PortKind.{PortKind}
 use Rattle.description_types.specs.declared.component.PortKind.TheVariants.{Provided, Required}
-use Rattle.plan_numbers.specs.Keys.{is_element, is_server, is_machine, is_mode_port}
-use Rattle.plan_numbers.specs.Sites.{provides_at, kind_at, count_at}
-use Rattle.sound_descriptions.specs.WellFormed.{item_count}
+use Rattle.plan_definitions.specs.Keys.{is_element, is_server, is_machine, is_mode_port}
+use Rattle.plan_definitions.specs.Sites.{provides_at, kind_at, count_at}
+use Rattle.plan_definitions.specs.WellFormed.{item_count}
 
 pub record IsServer (o : Option ℕ) (side : PortKind) (k : InterfaceKind) (n : ℕ) : Type 0 where
   pub instance : ℕ

@@ -5,16 +5,16 @@ use Rattle.interface_types.specs.declared.interface.Interface.{Interface}
 use Rattle.description_types.specs.declared.component.Component.{Component}
 use Rattle.description_types.specs.declared.component.Port.{Port}
 use Rattle.description_types.specs.declared.description.Description.{Description}
-use Rattle.composition_flatten.specs.declared.flat.Flat.{Flat}
-use Rattle.composition_flatten.specs.declared.flat.Instance.{Instance}
-use Rattle.composition_tables.specs.Members.{Among}
-use Rattle.plan_numbers.specs.declared.site.Site.{Site}
-use Rattle.plan_numbers.specs.declared.site.SiteKind.{SiteKind}
-use Rattle.plan_numbers.specs.declared.site.SiteKind.TheVariants.{Variable}
-use Rattle.plan_numbers.specs.Lists.{positions, from}
-use Rattle.plan_numbers.specs.Parts.{component_of}
-use Rattle.plan_numbers.specs.Sites.{kind_at, count_at, site, sites_with, sites_at, sites_of_ports, variables_of, sites_of_component, sites_of_instance, root_ports, sites}
-use Rattle.plan_ports.specs.Ports.{ports_of}
+use Rattle.flat_descriptions.specs.declared.flat.Flat.{Flat}
+use Rattle.flat_descriptions.specs.declared.flat.Instance.{Instance}
+use Rattle.flat_descriptions.specs.Members.{Among}
+use Rattle.plan_definitions.specs.declared.site.Site.{Site}
+use Rattle.plan_definitions.specs.declared.site.SiteKind.{SiteKind}
+use Rattle.plan_definitions.specs.declared.site.SiteKind.TheVariants.{Variable}
+use Rattle.plan_definitions.specs.Lists.{positions, from}
+use Rattle.plan_definitions.specs.Parts.{component_of}
+use Rattle.plan_definitions.specs.Sites.{kind_at, count_at, site, sites_with, sites_at, sites_of_ports, variables_of, sites_of_component, sites_of_instance, root_ports, sites}
+use Rattle.plan_definitions.specs.Ports.{ports_of}
 use Rattle.sound_names.proofs.Lists.{cases, left, right, mapped, map_has, pieces, in_pieces, position_in, in_positions}
 
 -- an interface of a port of an owner, an instance or the environment

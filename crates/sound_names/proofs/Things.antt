@@ -2,15 +2,15 @@
 use Rattle.std.proofs.Common.{◌≡◌, Bool, true, false, Some, ⊎_elim, sym, ap, ◌∙◌}
 use Rattle.std.specs.Option.{unwrap_or}
 use Rattle.description_types.specs.declared.description.Description.{Description}
-use Rattle.composition_flatten.specs.declared.flat.Flat.{Flat}
-use Rattle.composition_tables.specs.Members.{Among}
-use Rattle.plan_numbers.specs.declared.site.Site.{Site}
-use Rattle.plan_numbers.specs.Keys.{is_machine, is_mode_port, is_server, of_kind}
-use Rattle.plan_numbers.specs.Sites.{sites}
-use Rattle.plan_ports.specs.Ports.{item_text}
-use Rattle.plan_ports.specs.Things.{has_machine, machines_of, mode_ports_of, servers_of}
-use Rattle.plan_services.specs.Modes.{machine_at, mode_port_at}
-use Rattle.plan_services.specs.Services.{server_of}
+use Rattle.flat_descriptions.specs.declared.flat.Flat.{Flat}
+use Rattle.flat_descriptions.specs.Members.{Among}
+use Rattle.plan_definitions.specs.declared.site.Site.{Site}
+use Rattle.plan_definitions.specs.Keys.{is_machine, is_mode_port, is_server, of_kind}
+use Rattle.plan_definitions.specs.Sites.{sites}
+use Rattle.plan_definitions.specs.Ports.{item_text}
+use Rattle.plan_definitions.specs.Things.{has_machine, machines_of, mode_ports_of, servers_of}
+use Rattle.plan_definitions.specs.Modes.{machine_at, mode_port_at}
+use Rattle.plan_definitions.specs.Services.{server_of}
 use Rattle.sound_names.proofs.Lists.{filtered}
 use Rattle.sound_names.proofs.SiteKinds.{IsModes, IsServer, machine_is, mode_port_is, server_is}
 use Rattle.sound_names.proofs.Sites.{ItemAt, VariableAt, site_is}

@@ -12,24 +12,24 @@ use Rattle.std.specs.Option.{option_map_or}
 use Rattle.description_types.specs.declared.component.Component.{Component}
 use Rattle.description_types.specs.declared.component.Port.{Port}
 use Rattle.description_types.specs.declared.description.Description.{Description}
-use Rattle.composition_flatten.specs.declared.flat.Flat.{Flat}
-use Rattle.composition_flatten.specs.declared.flat.Instance.{Instance}
-use Rattle.composition_tables.specs.Members.{Among}
+use Rattle.flat_descriptions.specs.declared.flat.Flat.{Flat}
+use Rattle.flat_descriptions.specs.declared.flat.Instance.{Instance}
+use Rattle.flat_descriptions.specs.Members.{Among}
 use Rattle.bus_semantics.specs.declared.plan.BusPlan.{BusPlan}
 use Rattle.bus_semantics.specs.declared.plan.ElemPlan.{ElemPlan}
 use Rattle.bus_semantics.specs.Plan as bus
 use Rattle.bus_semantics.specs.SoundNames.{Named, is_together, port_of, ports_together, same_named}
 use Rattle.bus_semantics.specs.SoundPlan.{is_variable, rank, same_numbers}
-use Rattle.plan_numbers.specs.declared.site.Site.{Site}
-use Rattle.plan_numbers.specs.declared.site.SiteKind.TheVariants.{Variable}
-use Rattle.plan_numbers.specs.Keys.{is_element}
-use Rattle.plan_numbers.specs.Lists.{from, positions}
-use Rattle.plan_numbers.specs.Sites.{root_ports, site, sites, sites_at, sites_of_component, sites_of_instance, sites_of_ports, variables_of}
-use Rattle.plan_elements.specs.Elements.{Elem, elem_seen, element_of, group_of}
-use Rattle.plan_ports.specs.Ports.{ports_of, site_name}
-use Rattle.plan_ports.specs.Things.{elements_of}
-use Rattle.event_mapping.specs.Planned.{plan_of, seen}
-use Rattle.sound_descriptions.specs.WellFormed.{IsWellFormed}
+use Rattle.plan_definitions.specs.declared.site.Site.{Site}
+use Rattle.plan_definitions.specs.declared.site.SiteKind.TheVariants.{Variable}
+use Rattle.plan_definitions.specs.Keys.{is_element}
+use Rattle.plan_definitions.specs.Lists.{from, positions}
+use Rattle.plan_definitions.specs.Sites.{root_ports, site, sites, sites_at, sites_of_component, sites_of_instance, sites_of_ports, variables_of}
+use Rattle.plan_definitions.specs.Elements.{Elem, elem_seen, element_of, group_of}
+use Rattle.plan_definitions.specs.Ports.{ports_of, site_name}
+use Rattle.plan_definitions.specs.Things.{elements_of}
+use Rattle.plan_definitions.specs.Planned.{plan_of, seen}
+use Rattle.plan_definitions.specs.WellFormed.{IsWellFormed}
 use Rattle.sound_names.proofs.Apart.{named_is}
 use Rattle.sound_names.proofs.ItemNames.{item_site_name}
 use Rattle.sound_names.proofs.Keeping.{Names, of_ports}

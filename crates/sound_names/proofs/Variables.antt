@@ -5,13 +5,13 @@ use Rattle.interface_types.specs.declared.interface.DataElement.{DataElement}
 use Rattle.interface_types.specs.declared.interface.SwImplPolicy.{SwImplPolicy}
 use Rattle.interface_types.specs.declared.interface.SwImplPolicy.TheVariants.{Standard, Queued}
 use Rattle.description_types.specs.declared.description.Description.{Description}
-use Rattle.composition_flatten.specs.declared.flat.Flat.{Flat}
+use Rattle.flat_descriptions.specs.declared.flat.Flat.{Flat}
 use Rattle.bus_semantics.specs.declared.plan.ElemKind.{ElemKind}
 use Rattle.bus_semantics.specs.declared.plan.ElemKind.TheVariants as kind
 use Rattle.bus_semantics.specs.declared.plan.ElemPlan.{ElemPlan}
 use Rattle.bus_semantics.specs.SoundPlan.{is_variable}
-use Rattle.plan_numbers.specs.declared.site.Site.{Site}
-use Rattle.plan_elements.specs.Elements.{declared_at, kind_of, policy_kind}
+use Rattle.plan_definitions.specs.declared.site.Site.{Site}
+use Rattle.plan_definitions.specs.Elements.{declared_at, kind_of, policy_kind}
 
 -- the kind of an element tells whether it is a variable
 abbrev pub variable_kind : ElemKind → Bool

@@ -3,7 +3,7 @@
 ghost use Rattle.std.specs.Prelude.{◌≡◌, true, length, map, nat_lt};
 ghost use Rattle.std.specs.List.{list_all};
 ghost use Rattle.description_types.specs.declared.description.Description.{Description};
-ghost use Rattle.composition_flatten.specs.declared.flat.Flat.{Flat};
+ghost use Rattle.flat_descriptions.specs.declared.flat.Flat.{Flat};
 ghost use Rattle.bus_semantics.specs.declared.plan.AreaPlan.{AreaPlan};
 ghost use Rattle.bus_semantics.specs.declared.plan.BusPlan.{BusPlan};
 ghost use Rattle.bus_semantics.specs.declared.plan.ElemPlan.{ElemPlan};
@@ -15,7 +15,7 @@ ghost use Rattle.bus_semantics.specs.declared.script.Mapping.{Mapping};
 ghost use Rattle.bus_semantics.specs.Plan.{Runnable, instance_of, plan_of};
 ghost use Rattle.bus_semantics.specs.SoundNames.{named_once, names_fit, none_is_env, ports_agree, ports_together};
 ghost use Rattle.bus_semantics.specs.SoundPlan.{instances_exist, is_arranged, rank};
-ghost use Rattle.planned_descriptions.specs.Whole.{IsWhole};
+ghost use Rattle.plan_definitions.specs.Whole.{IsWhole};
 
 /// Each instance that the plan names is one of the plan's.
 pub fn plans_name_their_instances()

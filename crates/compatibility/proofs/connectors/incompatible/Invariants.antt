@@ -1,6 +1,6 @@
 use Rattle.std.proofs.Common.{◌≡◌, ℕ, drop, option_map}
-use Rattle.compatibility.specs.Connectors.{incompatible_in}
-use Rattle.compatibility.specs.Firsts.{first_of}
+use Rattle.plan_definitions.specs.Connectors.{incompatible_in}
+use Rattle.plan_definitions.specs.Firsts.{first_of}
 use Rattle.compatibility.specs.Passed.{HavePassed}
 use Rattle.compatibility.proofs.connectors.incompatible.Given as goal
 

@@ -1,6 +1,6 @@
 use Rattle.std.proofs.Common.{◌≡◌, drop, Some, None, if◌then◌else◌}
-use Rattle.compatibility.specs.Connectors.{joins_compatible}
-use Rattle.compatibility.specs.Firsts.{first_of}
+use Rattle.plan_definitions.specs.Connectors.{joins_compatible}
+use Rattle.plan_definitions.specs.Firsts.{first_of}
 use Rattle.compatibility.specs.Passed.{HavePassed}
 use Rattle.compatibility.proofs.connectors.incompatible_in.Given as goal
 

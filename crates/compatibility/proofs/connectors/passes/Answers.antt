@@ -1,5 +1,5 @@
 use Rattle.std.proofs.Common.{sym, ◌∙◌}
-use Rattle.compatibility.specs.Interfaces.{are_compatible}
+use Rattle.plan_definitions.specs.Interfaces.{are_compatible}
 use Rattle.compatibility.proofs.Passing.{among_passed}
 use Rattle.compatibility.proofs.connectors.passes.Goals as goal
 

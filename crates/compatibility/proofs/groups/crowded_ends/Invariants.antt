@@ -1,8 +1,8 @@
 use Rattle.std.proofs.Common.{◌≡◌, drop, ◌&&◌, ◌||◌}
 use Rattle.std.specs.List.{list_any}
 use Rattle.indexmap.specs.IndexSet.{contains}
-use Rattle.composition_flatten.specs.declared.flat.End.{End}
-use Rattle.compatibility.specs.Joins.{same_end, crowds}
+use Rattle.flat_descriptions.specs.declared.flat.End.{End}
+use Rattle.plan_definitions.specs.Joins.{same_end, crowds}
 use Rattle.compatibility.specs.Partners.{key_of, same_key}
 use Rattle.compatibility.proofs.groups.crowded_ends.Given as goal
 

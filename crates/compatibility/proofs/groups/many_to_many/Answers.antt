@@ -1,9 +1,9 @@
 use Rattle.std.proofs.Common.{◌≡◌, ◌↔◌, true, subst}
 use Rattle.std.proofs.lemmas.Result.{IfOk-weaker}
 use Rattle.indexmap.specs.IndexSet.{contains}
-use Rattle.composition_flatten.specs.declared.flat.End.{End}
-use Rattle.compatibility.specs.Groups.{IsManyToMany}
-use Rattle.compatibility.specs.Joins.{is_many_to_many}
+use Rattle.flat_descriptions.specs.declared.flat.End.{End}
+use Rattle.plan_definitions.specs.JoinGroups.{IsManyToMany}
+use Rattle.plan_definitions.specs.Joins.{is_many_to_many}
 use Rattle.compatibility.specs.Partners.{key_of, same_key}
 use Rattle.compatibility.proofs.Stars.{known_groups}
 use Rattle.compatibility.proofs.groups.many_to_many.Goals as goal

@@ -1,5 +1,5 @@
 use Rattle.std.proofs.Common.{◌∙◌, sym}
-use Rattle.compatibility.specs.Interfaces.{same_argument}
+use Rattle.plan_definitions.specs.Interfaces.{same_argument}
 use Rattle.compatibility.proofs.Turns.{pair_fails, pair_passes, pairs_pass}
 use Rattle.compatibility.proofs.operations.same_arguments.Goals as goal
 

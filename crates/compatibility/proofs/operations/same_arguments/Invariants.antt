@@ -1,6 +1,6 @@
 use Rattle.std.proofs.Common.{◌≡◌, drop, zip}
 use Rattle.std.specs.List.{list_all}
-use Rattle.compatibility.specs.Interfaces.{same_argument}
+use Rattle.plan_definitions.specs.Interfaces.{same_argument}
 use Rattle.compatibility.proofs.operations.same_arguments.Given as goal
 
 abbrev pub invariant-loop-i : goal.invariant-loop-i

@@ -1,7 +1,7 @@
 use Rattle.std.proofs.Common.{sym, ap, ◌∙◌}
 use Rattle.std.specs.Map.{lookup}
 use Rattle.indexmap.specs.IndexMap.{get}
-use Rattle.compatibility.specs.Joins.{partners}
+use Rattle.plan_definitions.specs.Joins.{partners}
 use Rattle.compatibility.specs.Partners.{added, key_of, other, own, same_key}
 use Rattle.compatibility.proofs.Keeping.{added_all, noted_more}
 use Rattle.compatibility.proofs.partners.kept_of_all.Goals as goal

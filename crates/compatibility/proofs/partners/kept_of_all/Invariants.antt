@@ -1,7 +1,7 @@
 use Rattle.std.proofs.Common.{◌≡◌, drop}
 use Rattle.indexmap.specs.IndexMap.{get}
-use Rattle.composition_flatten.specs.declared.flat.End.{End}
-use Rattle.compatibility.specs.Joins.{partners}
+use Rattle.flat_descriptions.specs.declared.flat.End.{End}
+use Rattle.plan_definitions.specs.Joins.{partners}
 use Rattle.compatibility.specs.Partners.{added, key_of, other, own, same_key, summary}
 use Rattle.compatibility.proofs.partners.kept_of_all.Given as goal
 

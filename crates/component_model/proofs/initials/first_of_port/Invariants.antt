@@ -1,7 +1,8 @@
 use Rattle.std.proofs.Common.{◌≡◌, drop}
 use Rattle.interface_types.specs.Lists.{from, first, unless}
 use Rattle.component_model.specs.declared.initials.Initial.TheVariants.{OfPort}
-use Rattle.component_model.specs.Initials.{broken_of_port, keeps_element}
+use Rattle.interface_types.specs.Initials.{keeps_element}
+use Rattle.component_model.specs.Initials.{broken_of_port}
 use Rattle.component_model.proofs.initials.first_of_port.Given as goal
 
 abbrev pub invariant-loop-number : goal.invariant-loop-number

@@ -1,6 +1,6 @@
 use Rattle.std.proofs.Common.{◌≡◌, ◌++◌, take}
 use Rattle.std.specs.List.{flat_map}
-use Rattle.component_rules.specs.Calls.{called_by}
+use Rattle.plan_definitions.specs.Calls.{called_by}
 use Rattle.component_rules.proofs.calls.note_all_called.Given as goal
 
 abbrev pub invariant-loop-access : goal.invariant-loop-access

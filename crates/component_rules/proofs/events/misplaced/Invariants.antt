@@ -1,8 +1,8 @@
 use Rattle.std.proofs.Common.{◌≡◌, drop}
-use Rattle.component_rules.specs.Firsts.{first_of, unless}
-use Rattle.component_rules.specs.declared.spots.Spot.{Spot}
-use Rattle.component_rules.specs.declared.spots.Spot.TheVariants as spot
-use Rattle.component_rules.specs.Events.{kind_fits}
+use Rattle.plan_definitions.specs.Firsts.{first_of, unless}
+use Rattle.plan_definitions.specs.declared.spot.Spot.{Spot}
+use Rattle.plan_definitions.specs.declared.spot.Spot.TheVariants as spot
+use Rattle.plan_definitions.specs.Events.{kind_fits}
 use Rattle.component_rules.proofs.events.misplaced.Given as goal
 
 abbrev pub invariant-loop-position : goal.invariant-loop-position

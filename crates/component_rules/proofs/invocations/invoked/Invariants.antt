@@ -1,6 +1,6 @@
 use Rattle.std.proofs.Common.{◌≡◌, take}
 use Rattle.std.specs.List.{flat_map}
-use Rattle.component_rules.specs.Invocations.{operation_of}
+use Rattle.plan_definitions.specs.Invocations.{operation_of}
 use Rattle.component_rules.proofs.invocations.invoked.Given as goal
 
 abbrev pub invariant-loop-event : goal.invariant-loop-event

@@ -1,5 +1,5 @@
 use Rattle.std.proofs.Common.{◌≡◌, take}
-use Rattle.component_rules.specs.Invocations.{started}
+use Rattle.plan_definitions.specs.Invocations.{started}
 use Rattle.component_rules.proofs.invocations.started.Given as goal
 
 abbrev pub invariant-loop-event : goal.invariant-loop-event

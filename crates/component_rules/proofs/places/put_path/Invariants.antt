@@ -1,5 +1,5 @@
 use Rattle.std.proofs.Common.{◌≡◌, ◌++◌, drop}
-use Rattle.component_rules.specs.Spots.{path_text}
+use Rattle.plan_definitions.specs.Spots.{path_text}
 use Rattle.component_rules.proofs.places.put_path.Given as goal
 
 abbrev pub invariant-loop-position : goal.invariant-loop-position

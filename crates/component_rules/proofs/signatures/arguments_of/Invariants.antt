@@ -1,5 +1,5 @@
 use Rattle.std.proofs.Common.{◌≡◌, take}
-use Rattle.component_rules.specs.Signatures.{arguments_of}
+use Rattle.plan_definitions.specs.Signatures.{arguments_of}
 use Rattle.component_rules.proofs.signatures.arguments_of.Given as goal
 
 abbrev pub invariant-loop-argument : goal.invariant-loop-argument

@@ -1,5 +1,5 @@
 use Rattle.std.proofs.Common.{◌≡◌, take}
-use Rattle.component_rules.specs.Signatures.{signature}
+use Rattle.plan_definitions.specs.Signatures.{signature}
 use Rattle.component_rules.proofs.signatures.signature_of.Given as goal
 
 abbrev pub invariant-loop-access : goal.invariant-loop-access

@@ -1,6 +1,7 @@
 use Rattle.std.proofs.Common.{◌≡◌, drop}
 use Rattle.indexmap.specs.IndexMap.{get}
-use Rattle.component_rules.specs.Tallies.{again_in, count}
+use Rattle.plan_definitions.specs.Counts.{count}
+use Rattle.component_rules.specs.Tallies.{again_in}
 use Rattle.component_rules.proofs.Tallying.{after}
 use Rattle.component_rules.proofs.tally.again_of.Given as goal
 

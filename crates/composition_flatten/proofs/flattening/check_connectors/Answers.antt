@@ -1,5 +1,5 @@
 use Rattle.std.proofs.Common.{◌∙◌, inr, subst}
-use Rattle.composition_tables.specs.Connectors.{IsFirstBroken}
+use Rattle.flat_descriptions.specs.Connectors.{IsFirstBroken}
 use Rattle.composition_flatten.proofs.flattening.check_connectors.Goals as goal
 
 pub returns-in_ok-place-in-Some-clause-refused : goal.returns-in_ok-place-in-Some-clause-refused

@@ -1,6 +1,6 @@
 use Rattle.std.proofs.Common.{ℕ, ◌<◌, false}
 use Rattle.composition_tables.specs.declared.links.Link.{Link}
-use Rattle.composition_tables.specs.Growing.{Grown}
+use Rattle.flat_descriptions.specs.Growing.{Grown}
 use Rattle.composition_flatten.specs.Links.{IsOuterLink}
 use Rattle.end_crossing.specs.Crossings.{IsMatched}
 use Rattle.composition_flatten.proofs.whole.add_outers.Given as goal

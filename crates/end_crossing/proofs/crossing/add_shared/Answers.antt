@@ -1,6 +1,6 @@
 use Rattle.std.proofs.Common.{sym, subst}
 use Rattle.end_search.specs.Gates.{gate_ends}
-use Rattle.composition_tables.specs.Members.{Among}
+use Rattle.flat_descriptions.specs.Members.{Among}
 use Rattle.end_crossing.proofs.ByParts.{side_has}
 use Rattle.end_crossing.proofs.Parting.{known_all}
 use Rattle.end_crossing.proofs.crossing.add_shared.Goals as goal

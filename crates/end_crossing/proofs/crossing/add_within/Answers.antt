@@ -1,6 +1,6 @@
 use Rattle.std.proofs.Common.{sym, subst}
 use Rattle.end_search.specs.Gates.{gate_ends}
-use Rattle.composition_tables.specs.Members.{Among}
+use Rattle.flat_descriptions.specs.Members.{Among}
 use Rattle.end_crossing.proofs.Parting.{pairs_part, cross_full, cross_part, cross_whole}
 use Rattle.end_crossing.proofs.crossing.add_within.Goals as goal
 

@@ -1,5 +1,5 @@
 use Rattle.std.proofs.Common.{inl, ⊎_elim, subst}
-use Rattle.composition_tables.specs.Members.{Among}
+use Rattle.flat_descriptions.specs.Members.{Among}
 use Rattle.end_search.proofs.below.begun.Goals as goal
 
 pub returns-clause-searching : goal.returns-clause-searching

@@ -2,8 +2,8 @@ use Rattle.std.proofs.Common.{◌≡◌, ◌∙◌, ◌-◌, suc, get_or, true, 
 use Rattle.description_types.specs.declared.description.PrototypeType.TheVariants.{Component, Composition}
 use Rattle.composition_tables.specs.Counts.{count_in}
 use Rattle.composition_tables.specs.Ends.{ends}
-use Rattle.composition_tables.specs.Growing.{AnyOf}
-use Rattle.composition_tables.specs.Members.{Among}
+use Rattle.flat_descriptions.specs.Growing.{AnyOf}
+use Rattle.flat_descriptions.specs.Members.{Among}
 use Rattle.end_search.specs.Wishes.{IsBelowPrototype, IsEnd, IsInnerEnd, Sought}
 use Rattle.composition_tables.proofs.Noding.{type_declared}
 use Rattle.end_search.proofs.Wishing.{sought_none, sought_begin, sought_more, sought_full, sought_all, sought_inside, sought_dead, sought_known, sought_missing, sought_below}

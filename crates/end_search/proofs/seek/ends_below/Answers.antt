@@ -1,8 +1,8 @@
 use Rattle.std.proofs.Common.{◌∙◌, inl, ⊎_elim, refl, sym, subst, arith}
 use Rattle.description_types.specs.declared.description.PrototypeType.TheVariants.{Composition}
 use Rattle.composition_tables.specs.Ends.{ends}
-use Rattle.composition_tables.specs.Growing.{AnyOf}
-use Rattle.composition_tables.specs.Members.{Among}
+use Rattle.flat_descriptions.specs.Growing.{AnyOf}
+use Rattle.flat_descriptions.specs.Members.{Among}
 use Rattle.end_search.specs.Wishes.{IsEnd, Sought}
 use Rattle.end_search.proofs.Wishing.{all_moved, found_of}
 use Rattle.end_search.proofs.seek.ends_below.Goals as goal

@@ -1,6 +1,6 @@
 use Rattle.std.proofs.Common.{◌∙◌, ap, sym, subst}
 use Rattle.end_search.specs.Matching.{turned}
-use Rattle.composition_tables.specs.Members.{Among}
+use Rattle.flat_descriptions.specs.Members.{Among}
 use Rattle.end_search.proofs.SameNames.{turned_back}
 use Rattle.end_search.proofs.sides.shared.Goals as goal
 

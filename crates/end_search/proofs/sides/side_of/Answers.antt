@@ -1,5 +1,5 @@
 use Rattle.std.proofs.Common.{refl, sym, subst}
-use Rattle.composition_tables.specs.Members.{Among}
+use Rattle.flat_descriptions.specs.Members.{Among}
 use Rattle.end_search.specs.Sharing.{IsIndexed}
 use Rattle.end_search.proofs.sides.side_of.Goals as goal
 

@@ -1,6 +1,6 @@
 use Rattle.std.proofs.Common.{◌≡◌, ◌++◌, drop}
-use Rattle.plan_numbers.specs.Lists.{from}
-use Rattle.event_mapping.specs.Planned.{named_areas, areas_at}
+use Rattle.plan_definitions.specs.Lists.{from}
+use Rattle.plan_definitions.specs.Planned.{named_areas, areas_at}
 use Rattle.event_mapping.proofs.areas.areas_of_plan.Given as goal
 
 abbrev pub invariant-loop-number : goal.invariant-loop-number

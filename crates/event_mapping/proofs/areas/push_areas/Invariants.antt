@@ -1,5 +1,5 @@
 use Rattle.std.proofs.Common.{◌≡◌, ◌++◌, take}
-use Rattle.event_mapping.specs.Planned.{named_areas}
+use Rattle.plan_definitions.specs.Planned.{named_areas}
 use Rattle.event_mapping.proofs.areas.push_areas.Given as goal
 
 abbrev pub invariant-loop-name : goal.invariant-loop-name

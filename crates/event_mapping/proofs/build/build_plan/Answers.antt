@@ -1,5 +1,5 @@
 use Rattle.std.proofs.Common.{◌∙◌}
-use Rattle.event_mapping.specs.Planned.{plan_of}
+use Rattle.plan_definitions.specs.Planned.{plan_of}
 use Rattle.event_mapping.proofs.build.build_plan.Goals as goal
 
 pub returns : goal.returns

@@ -1,5 +1,5 @@
 use Rattle.std.proofs.Common.{◌≡◌, ◌∙◌, length}
-use Rattle.event_mapping.specs.Planned.{object_count}
+use Rattle.plan_definitions.specs.Planned.{object_count}
 use Rattle.event_mapping.proofs.build.plan_over.Goals as goal
 
 pub returns : goal.returns

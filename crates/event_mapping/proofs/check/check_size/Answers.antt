@@ -1,5 +1,5 @@
 use Rattle.std.proofs.Common.{Err}
-use Rattle.event_mapping.specs.Planned.{seen}
+use Rattle.plan_definitions.specs.Planned.{seen}
 use Rattle.event_mapping.proofs.Telling.{size_kept, size_refused}
 use Rattle.event_mapping.proofs.check.check_size.Goals as goal
 

@@ -1,7 +1,7 @@
 use Rattle.bus_semantics.specs.declared.plan.BusPlan.{BusPlan}
 use Rattle.bus_semantics.specs.declared.script.Mapping.{Mapping}
-use Rattle.event_mapping.specs.Planned.{plan_of}
-use Rattle.event_mapping.specs.Refusals.{of_size}
+use Rattle.plan_definitions.specs.Planned.{plan_of}
+use Rattle.plan_definitions.specs.PlanRefusals.{of_size}
 use Rattle.event_mapping.proofs.Telling.{still_says}
 use Rattle.event_mapping.proofs.check.listed.Goals as goal
 

@@ -1,8 +1,8 @@
 use Rattle.bus_semantics.specs.declared.plan.BusPlan.{BusPlan}
 use Rattle.bus_semantics.specs.declared.script.Mapping.{Mapping}
-use Rattle.component_rules.specs.Refusals as components
-use Rattle.mapping_rules.specs.Refusals as rules
-use Rattle.event_mapping.specs.Refusals.{IsOfSize, IsThen}
+use Rattle.plan_definitions.specs.ComponentRefusals as components
+use Rattle.plan_definitions.specs.MappingRefusals as rules
+use Rattle.plan_definitions.specs.PlanRefusals.{IsOfSize, IsThen}
 use Rattle.event_mapping.proofs.Telling.{passed_on, refused_before}
 use Rattle.event_mapping.proofs.check.map_events.Goals as goal
 

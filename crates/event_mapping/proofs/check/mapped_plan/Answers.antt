@@ -1,9 +1,9 @@
 use Rattle.bus_semantics.specs.declared.plan.BusPlan.{BusPlan}
 use Rattle.bus_semantics.specs.declared.script.Mapping.{Mapping}
-use Rattle.mapping_rules.specs.Refusals as rules
-use Rattle.mapping_rules.specs.Rules.{HaveOrder}
-use Rattle.event_mapping.specs.Planned.{plan_of}
-use Rattle.event_mapping.specs.Refusals.{of_size}
+use Rattle.plan_definitions.specs.MappingRefusals as rules
+use Rattle.plan_definitions.specs.MappingRules.{HaveOrder}
+use Rattle.plan_definitions.specs.Planned.{plan_of}
+use Rattle.plan_definitions.specs.PlanRefusals.{of_size}
 use Rattle.event_mapping.proofs.Telling.{on_ok, then_first, then_later}
 use Rattle.event_mapping.proofs.check.mapped_plan.Goals as goal
 

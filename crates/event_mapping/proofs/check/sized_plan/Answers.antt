@@ -1,8 +1,8 @@
 use Rattle.std.proofs.Common.{◌≡◌, None, Err, subst}
 use Rattle.bus_semantics.specs.declared.plan.BusPlan.{BusPlan}
-use Rattle.mapping_rules.specs.Refusals.{Says}
-use Rattle.event_mapping.specs.Planned.{plan_of}
-use Rattle.event_mapping.specs.Refusals.{of_size}
+use Rattle.plan_definitions.specs.Telling.{Tells as Says}
+use Rattle.plan_definitions.specs.Planned.{plan_of}
+use Rattle.plan_definitions.specs.PlanRefusals.{of_size}
 use Rattle.event_mapping.proofs.Telling.{still_says}
 use Rattle.event_mapping.proofs.check.sized_plan.Goals as goal
 

@@ -1,5 +1,5 @@
 use Rattle.std.proofs.Common.{map, ap, ◌∙◌}
-use Rattle.plan_services.specs.Services.{point_of}
+use Rattle.plan_definitions.specs.Services.{point_of}
 use Rattle.event_mapping.proofs.pieces.points_of.Goals as goal
 
 pub returns : goal.returns

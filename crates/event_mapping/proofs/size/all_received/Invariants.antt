@@ -1,7 +1,7 @@
 use Rattle.std.proofs.Common.{◌≡◌, map, take}
 use Rattle.std.specs.List.{sum_by}
-use Rattle.plan_elements.specs.Elements.{elem_seen}
-use Rattle.event_mapping.specs.Rules.{received}
+use Rattle.plan_definitions.specs.Elements.{elem_seen}
+use Rattle.plan_definitions.specs.PlanRules.{received}
 use Rattle.event_mapping.proofs.size.all_received.Given as goal
 
 abbrev pub invariant-loop-element : goal.invariant-loop-element

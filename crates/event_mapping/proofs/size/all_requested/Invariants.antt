@@ -1,6 +1,6 @@
 use Rattle.std.proofs.Common.{◌≡◌, take}
 use Rattle.std.specs.List.{sum_by}
-use Rattle.event_mapping.specs.Rules.{requested}
+use Rattle.plan_definitions.specs.PlanRules.{requested}
 use Rattle.event_mapping.proofs.size.all_requested.Given as goal
 
 abbrev pub invariant-loop-server : goal.invariant-loop-server

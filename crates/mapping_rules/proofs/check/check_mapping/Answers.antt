@@ -1,6 +1,6 @@
 use Rattle.std.proofs.Common.{OnOk}
-use Rattle.mapping_rules.specs.Refusals.{IsRefusal, Tells}
-use Rattle.mapping_rules.specs.Rules.{HaveOrder}
+use Rattle.plan_definitions.specs.MappingRefusals.{IsRefusal, Tells}
+use Rattle.plan_definitions.specs.MappingRules.{HaveOrder}
 use Rattle.mapping_rules.proofs.Telling.{moved}
 use Rattle.mapping_rules.proofs.check.check_mapping.Goals as goal
 

@@ -1,4 +1,4 @@
-use Rattle.mapping_rules.specs.Rules.{HaveOrder}
+use Rattle.plan_definitions.specs.MappingRules.{HaveOrder}
 use Rattle.mapping_rules.proofs.Reached.{order_kept, circle_kept, never_reaches}
 use Rattle.mapping_rules.proofs.Telling.{tasks_refused, never_ok}
 use Rattle.mapping_rules.proofs.check.check_tasks.Goals as goal

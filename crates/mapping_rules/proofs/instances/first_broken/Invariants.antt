@@ -1,5 +1,5 @@
 use Rattle.std.proofs.Common.{◌≡◌, ℕ, drop, option_and_then, slice_get}
-use Rattle.component_rules.specs.Firsts.{first_of}
+use Rattle.plan_definitions.specs.Firsts.{first_of}
 use Rattle.mapping_rules.specs.InstanceRules.{broken_in}
 use Rattle.mapping_rules.proofs.instances.first_broken.Given as goal
 

@@ -1,6 +1,6 @@
 use Rattle.std.proofs.Common.{◌≡◌, ℕ, drop}
-use Rattle.component_rules.specs.Firsts.{first_of, unless}
-use Rattle.mapping_rules.specs.Rules.{keeps_direct}
+use Rattle.plan_definitions.specs.Firsts.{first_of, unless}
+use Rattle.plan_definitions.specs.MappingRules.{keeps_direct}
 use Rattle.mapping_rules.proofs.instances.not_direct_in.Given as goal
 
 abbrev pub invariant-loop-number : goal.invariant-loop-number

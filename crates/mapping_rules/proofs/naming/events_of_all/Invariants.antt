@@ -1,5 +1,5 @@
 use Rattle.std.proofs.Common.{◌≡◌, take, map}
-use Rattle.mapping_rules.specs.Mapped.{event_names}
+use Rattle.plan_definitions.specs.Mapped.{event_names}
 use Rattle.mapping_rules.specs.Positions.{names_of}
 use Rattle.mapping_rules.proofs.naming.events_of_all.Given as goal
 

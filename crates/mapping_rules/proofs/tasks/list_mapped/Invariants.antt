@@ -1,5 +1,5 @@
 use Rattle.std.proofs.Common.{◌≡◌, map, take}
-use Rattle.mapping_rules.specs.Mapped.{is_mapped}
+use Rattle.plan_definitions.specs.Mapped.{is_mapped}
 use Rattle.mapping_rules.proofs.tasks.list_mapped.Given as goal
 
 abbrev pub invariant-loop-event : goal.invariant-loop-event

@@ -1,5 +1,5 @@
 use Rattle.std.proofs.Common.{[], ◌∷◌, ◌∙◌, map, ap}
-use Rattle.plan_numbers.specs.Lists.{from}
+use Rattle.plan_definitions.specs.Lists.{from}
 use Rattle.mapping_rules.specs.Placing.{task_entry, task_with}
 use Rattle.mapping_rules.proofs.Placed.{tasks_are}
 use Rattle.mapping_rules.proofs.tasks.tasks_of.Goals as goal

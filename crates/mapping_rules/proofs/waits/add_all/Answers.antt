@@ -1,6 +1,6 @@
 use Rattle.std.proofs.Common.{◌<◌, length, arith}
 use Rattle.indexmap.specs.IndexSet.{contains}
-use Rattle.plan_numbers.specs.Keys.{same_pair}
+use Rattle.plan_definitions.specs.Keys.{same_pair}
 use Rattle.mapping_rules.specs.Waiting.{waits_in}
 use Rattle.mapping_rules.proofs.Adding.{instances_more}
 use Rattle.mapping_rules.proofs.waits.add_all.Goals as goal

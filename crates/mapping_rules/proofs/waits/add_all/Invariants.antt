@@ -1,7 +1,7 @@
 use Rattle.std.proofs.Common.{◌≡◌, ℕ, ◌||◌, drop, false, slice_get}
 use Rattle.std.specs.Option.{option_map_or}
 use Rattle.indexmap.specs.IndexSet.{contains}
-use Rattle.plan_numbers.specs.Keys.{same_pair}
+use Rattle.plan_definitions.specs.Keys.{same_pair}
 use Rattle.mapping_rules.specs.Waiting.{any_at, has_wait, waits_in}
 use Rattle.mapping_rules.proofs.waits.add_all.Given as goal
 

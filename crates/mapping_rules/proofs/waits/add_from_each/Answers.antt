@@ -1,6 +1,6 @@
 use Rattle.std.proofs.Common.{get_or, refl}
 use Rattle.indexmap.specs.IndexSet.{contains}
-use Rattle.plan_numbers.specs.Keys.{same_pair}
+use Rattle.plan_definitions.specs.Keys.{same_pair}
 use Rattle.mapping_rules.specs.Waiting.{leads}
 use Rattle.mapping_rules.proofs.Adding.{each_more}
 use Rattle.mapping_rules.proofs.waits.add_from_each.Goals as goal

@@ -1,6 +1,6 @@
 use Rattle.std.proofs.Common.{◌≡◌, ℕ, ◌||◌, drop}
 use Rattle.indexmap.specs.IndexSet.{contains}
-use Rattle.plan_numbers.specs.Keys.{same_pair}
+use Rattle.plan_definitions.specs.Keys.{same_pair}
 use Rattle.mapping_rules.specs.Waiting.{pairs}
 use Rattle.mapping_rules.proofs.waits.add_from_each.Given as goal
 

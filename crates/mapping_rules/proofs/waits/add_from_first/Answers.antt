@@ -1,5 +1,5 @@
 use Rattle.indexmap.specs.IndexSet.{contains}
-use Rattle.plan_numbers.specs.Keys.{same_pair}
+use Rattle.plan_definitions.specs.Keys.{same_pair}
 use Rattle.mapping_rules.proofs.Adding.{none_added}
 use Rattle.mapping_rules.proofs.waits.add_from_first.Goals as goal
 

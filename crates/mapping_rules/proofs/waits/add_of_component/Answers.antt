@@ -1,6 +1,6 @@
 use Rattle.std.proofs.Common.{◌∙◌, ◌||◌, ap}
 use Rattle.indexmap.specs.IndexSet.{contains}
-use Rattle.plan_numbers.specs.Keys.{same_pair}
+use Rattle.plan_definitions.specs.Keys.{same_pair}
 use Rattle.mapping_rules.proofs.Adding.{component_waits}
 use Rattle.mapping_rules.proofs.waits.add_of_component.Goals as goal
 

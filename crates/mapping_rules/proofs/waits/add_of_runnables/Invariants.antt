@@ -1,8 +1,8 @@
 use Rattle.std.proofs.Common.{◌≡◌, ℕ, ◌||◌, drop, nat_eq}
 use Rattle.indexmap.specs.IndexSet.{contains}
-use Rattle.plan_numbers.specs.Keys.{same_pair}
+use Rattle.plan_definitions.specs.Keys.{same_pair}
 use Rattle.mapping_rules.specs.Groups.{values_at}
-use Rattle.mapping_rules.specs.Rules.{waits_by}
+use Rattle.plan_definitions.specs.MappingRules.{waits_by}
 use Rattle.mapping_rules.specs.Waiting.{any_at, pairs}
 use Rattle.mapping_rules.proofs.waits.add_of_runnables.Given as goal
 

@@ -1,6 +1,6 @@
 use Rattle.std.proofs.Common.{◌∙◌, get_or, refl}
 use Rattle.indexmap.specs.IndexSet.{contains}
-use Rattle.plan_numbers.specs.Keys.{same_pair}
+use Rattle.plan_definitions.specs.Keys.{same_pair}
 use Rattle.mapping_rules.proofs.Adding.{each_more, one_key}
 use Rattle.mapping_rules.proofs.waits.add_waits.Goals as goal
 

@@ -1,5 +1,5 @@
 use Rattle.std.proofs.Common.{◌≡◌, map, take}
-use Rattle.plan_elements.specs.Elements.{elem_seen, element_of, group_of}
+use Rattle.plan_definitions.specs.Elements.{elem_seen, element_of, group_of}
 use Rattle.plan_elements.proofs.elements.elements_at.Given as goal
 
 abbrev pub invariant-loop-site : goal.invariant-loop-site

@@ -1,5 +1,5 @@
 use Rattle.std.proofs.Common.{◌≡◌, map, take}
-use Rattle.plan_elements.specs.Groups.{number_among}
+use Rattle.plan_definitions.specs.ElementGroups.{number_among}
 use Rattle.plan_elements.proofs.groups.numbers_of.Given as goal
 
 abbrev pub invariant-loop-leader : goal.invariant-loop-leader

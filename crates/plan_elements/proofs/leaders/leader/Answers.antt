@@ -1,8 +1,8 @@
 use Rattle.std.proofs.Common.{None, ◌∙◌}
-use Rattle.plan_numbers.specs.Keys.{keys_of}
-use Rattle.plan_ports.specs.Ends.{key_of}
-use Rattle.plan_ports.specs.Things.{elements_of}
-use Rattle.plan_elements.specs.Groups.{nearest}
+use Rattle.plan_definitions.specs.Keys.{keys_of}
+use Rattle.plan_numbers.specs.Ends.{key_of}
+use Rattle.plan_definitions.specs.Things.{elements_of}
+use Rattle.plan_definitions.specs.ElementGroups.{nearest}
 use Rattle.plan_elements.specs.Spreads.{least_with, lowered, values_for}
 use Rattle.plan_elements.proofs.Spreading.{spread_found}
 use Rattle.plan_elements.proofs.leaders.leader.Goals as goal

@@ -1,7 +1,7 @@
 use Rattle.std.proofs.Common.{◌≡◌, map, take}
-use Rattle.plan_numbers.specs.Keys.{keys_of}
-use Rattle.plan_ports.specs.Things.{elements_of}
-use Rattle.plan_elements.specs.Groups.{leader_of}
+use Rattle.plan_definitions.specs.Keys.{keys_of}
+use Rattle.plan_definitions.specs.Things.{elements_of}
+use Rattle.plan_definitions.specs.ElementGroups.{leader_of}
 use Rattle.plan_elements.proofs.leaders.leaders_of.Given as goal
 
 abbrev pub invariant-loop-site : goal.invariant-loop-site

@@ -1,8 +1,8 @@
 use Rattle.std.proofs.Common.{◌≡◌, take}
 use Rattle.std.specs.List.{flat_map}
-use Rattle.plan_numbers.specs.Keys.{keys_of}
-use Rattle.plan_ports.specs.Things.{elements_of}
-use Rattle.plan_elements.specs.Groups.{nearest}
+use Rattle.plan_definitions.specs.Keys.{keys_of}
+use Rattle.plan_definitions.specs.Things.{elements_of}
+use Rattle.plan_definitions.specs.ElementGroups.{nearest}
 use Rattle.plan_elements.specs.Spreads.{edges_of}
 use Rattle.plan_elements.proofs.leaders.near_edges.Given as goal
 

@@ -1,5 +1,5 @@
 use Rattle.std.proofs.Common.{◌≡◌, map, take}
-use Rattle.plan_elements.specs.Groups.{all_members}
+use Rattle.plan_definitions.specs.ElementGroups.{all_members}
 use Rattle.plan_elements.proofs.members.filled.Given as goal
 
 abbrev pub invariant-loop-element : goal.invariant-loop-element

@@ -1,6 +1,6 @@
 use Rattle.std.proofs.Common.{◌≡◌, ◌++◌, drop}
-use Rattle.plan_numbers.specs.Lists.{from}
-use Rattle.plan_elements.specs.Groups.{head_at}
+use Rattle.plan_definitions.specs.Lists.{from}
+use Rattle.plan_definitions.specs.ElementGroups.{head_at}
 use Rattle.plan_elements.proofs.members.heads.Given as goal
 
 abbrev pub invariant-loop-number : goal.invariant-loop-number

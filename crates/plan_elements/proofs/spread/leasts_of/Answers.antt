@@ -1,6 +1,6 @@
 use Rattle.std.proofs.lemmas.List.{get_or_default}
 use Rattle.indexmap.specs.IndexMap.{get}
-use Rattle.plan_ports.specs.Ends.{same_end_key}
+use Rattle.plan_numbers.specs.Ends.{same_end_key}
 use Rattle.plan_elements.proofs.Spreading.{noted_more}
 use Rattle.plan_elements.proofs.spread.leasts_of.Goals as goal
 

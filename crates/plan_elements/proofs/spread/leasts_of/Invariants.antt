@@ -1,6 +1,6 @@
 use Rattle.std.proofs.Common.{◌≡◌, None, drop}
 use Rattle.indexmap.specs.IndexMap.{get}
-use Rattle.plan_ports.specs.Ends.{EndKey, same_end_key}
+use Rattle.plan_numbers.specs.Ends.{EndKey, same_end_key}
 use Rattle.plan_elements.specs.Spreads.{lowered, values_for}
 use Rattle.plan_elements.proofs.spread.leasts_of.Given as goal
 

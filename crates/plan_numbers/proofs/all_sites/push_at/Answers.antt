@@ -1,6 +1,6 @@
 use Rattle.std.proofs.Common.{[], sym, ap, ◌∙◌}
 use Rattle.std.specs.Option.{option_map_or}
-use Rattle.plan_numbers.specs.Sites.{sites_with}
+use Rattle.plan_definitions.specs.Sites.{sites_with}
 use Rattle.plan_numbers.proofs.Listing.{nothing}
 use Rattle.plan_numbers.proofs.all_sites.push_at.Goals as goal
 

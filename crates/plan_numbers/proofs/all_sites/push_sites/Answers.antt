@@ -1,5 +1,5 @@
 use Rattle.std.proofs.Common.{Some}
-use Rattle.plan_numbers.specs.Sites.{site}
+use Rattle.plan_definitions.specs.Sites.{site}
 use Rattle.plan_numbers.proofs.Listing.{one_more}
 use Rattle.plan_numbers.proofs.all_sites.push_sites.Goals as goal
 

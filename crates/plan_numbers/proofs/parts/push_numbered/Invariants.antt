@@ -1,5 +1,5 @@
 use Rattle.std.proofs.Common.{◌≡◌, ◌++◌, ◌-◌, ℕ, map}
-use Rattle.plan_numbers.specs.Lists.{positions}
+use Rattle.plan_definitions.specs.Lists.{positions}
 use Rattle.plan_numbers.proofs.parts.push_numbered.Given as goal
 
 abbrev pub invariant-loop-number : goal.invariant-loop-number

@@ -1,5 +1,5 @@
 use Rattle.std.proofs.Common.{◌≡◌, map, take}
-use Rattle.plan_services.specs.Services.{argument_of}
+use Rattle.plan_definitions.specs.Services.{argument_of}
 use Rattle.plan_services.proofs.arguments.arguments_in.Given as goal
 
 abbrev pub invariant-loop-argument : goal.invariant-loop-argument

@@ -1,5 +1,5 @@
 use Rattle.std.proofs.Common.{◌≡◌, take}
-use Rattle.component_rules.specs.Signatures.{arguments_of}
+use Rattle.plan_definitions.specs.Signatures.{arguments_of}
 use Rattle.plan_services.proofs.arguments.words_of.Given as goal
 
 abbrev pub invariant-loop-argument : goal.invariant-loop-argument

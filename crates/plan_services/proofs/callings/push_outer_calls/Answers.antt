@@ -1,4 +1,4 @@
-use Rattle.plan_services.specs.Callings.{outer_calling}
+use Rattle.plan_definitions.specs.Callings.{outer_calling}
 use Rattle.plan_services.proofs.Listing.{one_more}
 use Rattle.plan_services.proofs.callings.push_outer_calls.Goals as goal
 

@@ -1,5 +1,5 @@
 use Rattle.std.proofs.Common.{◌≡◌, map, take}
-use Rattle.plan_services.specs.Invoked.{invoked_by}
+use Rattle.plan_definitions.specs.Invoked.{invoked_by}
 use Rattle.plan_services.proofs.invoked.invoked_keys.Given as goal
 
 abbrev pub invariant-loop-event : goal.invariant-loop-event

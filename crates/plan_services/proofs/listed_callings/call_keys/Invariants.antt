@@ -1,5 +1,5 @@
 use Rattle.std.proofs.Common.{◌≡◌, map, take}
-use Rattle.plan_services.specs.Callings.{call_key}
+use Rattle.plan_definitions.specs.Callings.{call_key}
 use Rattle.plan_services.proofs.listed_callings.call_keys.Given as goal
 
 abbrev pub invariant-loop-calling : goal.invariant-loop-calling

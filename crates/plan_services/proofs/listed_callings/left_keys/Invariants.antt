@@ -1,5 +1,5 @@
 use Rattle.std.proofs.Common.{◌≡◌, map, take}
-use Rattle.plan_services.specs.Callings.{left_key}
+use Rattle.plan_definitions.specs.Callings.{left_key}
 use Rattle.plan_services.proofs.listed_callings.left_keys.Given as goal
 
 abbrev pub invariant-loop-calling : goal.invariant-loop-calling

@@ -1,6 +1,6 @@
 use Rattle.std.proofs.Common.{◌≡◌, map, take}
 use Rattle.std.specs.Option.{unwrap_or}
-use Rattle.plan_services.specs.Modes.{mode_port_at}
+use Rattle.plan_definitions.specs.Modes.{mode_port_at}
 use Rattle.plan_services.proofs.machines.mode_ports_at.Given as goal
 
 abbrev pub invariant-loop-site : goal.invariant-loop-site

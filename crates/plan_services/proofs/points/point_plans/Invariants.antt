@@ -1,5 +1,5 @@
 use Rattle.std.proofs.Common.{◌≡◌, map, take}
-use Rattle.plan_services.specs.Services.{point_of}
+use Rattle.plan_definitions.specs.Services.{point_of}
 use Rattle.plan_services.proofs.points.point_plans.Given as goal
 
 abbrev pub invariant-loop-calling : goal.invariant-loop-calling

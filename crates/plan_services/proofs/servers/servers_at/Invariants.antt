@@ -1,5 +1,5 @@
 use Rattle.std.proofs.Common.{◌≡◌, map, take}
-use Rattle.plan_services.specs.Services.{server_of}
+use Rattle.plan_definitions.specs.Services.{server_of}
 use Rattle.plan_services.proofs.servers.servers_at.Given as goal
 
 abbrev pub invariant-loop-site : goal.invariant-loop-site

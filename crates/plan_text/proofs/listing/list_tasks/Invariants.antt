@@ -1,5 +1,5 @@
 use Rattle.std.proofs.Common.{◌≡◌, ◌++◌, drop}
-use Rattle.plan_numbers.specs.Lists.{from}
+use Rattle.plan_definitions.specs.Lists.{from}
 use Rattle.plan_text.specs.Lines.{task_lines}
 use Rattle.plan_text.proofs.listing.list_tasks.Given as goal
 

@@ -1,5 +1,5 @@
 use Rattle.std.proofs.Common.{sym, ap, option_map}
-use Rattle.compatibility.specs.Items.{breaks, end_of, looked_at}
+use Rattle.plan_definitions.specs.JoinedItems.{breaks, end_of, looked_at}
 use Rattle.compatibility.proofs.Firsts.{number_none}
 use Rattle.compatibility.proofs.items.Search.first_item.Goals as goal
 

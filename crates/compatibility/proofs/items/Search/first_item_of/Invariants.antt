@@ -1,5 +1,5 @@
 use Rattle.std.proofs.Common.{◌≡◌, ◌-◌}
-use Rattle.compatibility.specs.Items.{breaks, end_of, first_number, looked_at}
+use Rattle.plan_definitions.specs.JoinedItems.{breaks, end_of, first_number, looked_at}
 use Rattle.compatibility.proofs.items.Search.first_item_of.Given as goal
 
 abbrev pub invariant-loop-element : goal.invariant-loop-element

@@ -1,9 +1,9 @@
 use Rattle.std.proofs.Common.{◌≡◌, drop, Some}
 use Rattle.description_types.specs.declared.description.PrototypeType.TheVariants as of_type
-use Rattle.composition_flatten.specs.declared.flat.End.{End}
-use Rattle.compatibility.specs.Connectors.{ports_of}
-use Rattle.compatibility.specs.Firsts.{first_of}
-use Rattle.compatibility.specs.Items.{in_ports}
+use Rattle.flat_descriptions.specs.declared.flat.End.{End}
+use Rattle.plan_definitions.specs.Connectors.{ports_of}
+use Rattle.plan_definitions.specs.Firsts.{first_of}
+use Rattle.plan_definitions.specs.JoinedItems.{in_ports}
 use Rattle.compatibility.proofs.items.Search.in_instances.Given as goal
 
 abbrev pub invariant-loop-number : goal.invariant-loop-number

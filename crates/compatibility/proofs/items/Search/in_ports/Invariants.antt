@@ -1,7 +1,7 @@
 use Rattle.std.proofs.Common.{◌≡◌, drop, None, if◌then◌else◌}
-use Rattle.composition_flatten.specs.declared.flat.End.{End}
-use Rattle.compatibility.specs.Firsts.{first_of}
-use Rattle.compatibility.specs.Items.{in_port, requires_at}
+use Rattle.flat_descriptions.specs.declared.flat.End.{End}
+use Rattle.plan_definitions.specs.Firsts.{first_of}
+use Rattle.plan_definitions.specs.JoinedItems.{in_port, requires_at}
 use Rattle.compatibility.proofs.items.Search.in_ports.Given as goal
 
 abbrev pub invariant-loop-number : goal.invariant-loop-number

@@ -1,5 +1,5 @@
 use Rattle.std.proofs.Common.{◌≡◌, ◌++◌, drop}
-use Rattle.plan_numbers.specs.Lists.{from}
+use Rattle.plan_definitions.specs.Lists.{from}
 use Rattle.mapping_rules.specs.Listed.{tasks_at}
 use Rattle.mapping_rules.proofs.mapped.Mapped.list_tasks.Given as goal
 

@@ -1,5 +1,5 @@
 use Rattle.std.proofs.Common.{◌∙◌, ap}
-use Rattle.plan_numbers.specs.Keys.{same_pair}
+use Rattle.plan_definitions.specs.Keys.{same_pair}
 use Rattle.mapping_rules.specs.Groups.{values_at}
 use Rattle.mapping_rules.proofs.Events.{tasks_listed}
 use Rattle.mapping_rules.proofs.mapped.Mapped.tasks_of_event.Goals as goal

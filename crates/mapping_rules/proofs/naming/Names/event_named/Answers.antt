@@ -1,5 +1,5 @@
 use Rattle.std.proofs.Common.{ℕ, ◌∙◌, ap, option_map}
-use Rattle.plan_numbers.specs.Parts.{component_of}
+use Rattle.plan_definitions.specs.Parts.{component_of}
 use Rattle.mapping_rules.proofs.Events.{event_found}
 use Rattle.mapping_rules.proofs.naming.Names.event_named.Goals as goal
 

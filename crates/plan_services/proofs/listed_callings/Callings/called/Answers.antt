@@ -1,5 +1,5 @@
 use Rattle.std.proofs.Common.{◌∙◌}
-use Rattle.plan_services.specs.Callings.{first_calling, is_calling}
+use Rattle.plan_definitions.specs.Callings.{first_calling, is_calling}
 use Rattle.plan_services.proofs.Pointing.{called_at}
 use Rattle.plan_services.proofs.listed_callings.Callings.called.Goals as goal
 

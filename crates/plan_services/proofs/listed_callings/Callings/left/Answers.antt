@@ -1,5 +1,5 @@
 use Rattle.std.proofs.Common.{◌∙◌}
-use Rattle.plan_services.specs.Callings.{first_calling, leaves}
+use Rattle.plan_definitions.specs.Callings.{first_calling, leaves}
 use Rattle.plan_services.proofs.Pointing.{left_at}
 use Rattle.plan_services.proofs.listed_callings.Callings.left.Goals as goal
 

@@ -1,0 +1,49 @@
+//! The law of sound plans.
+
+ghost use Rattle.description_types.specs.declared.description.Description.{Description};
+ghost use Rattle.flat_descriptions.specs.declared.flat.Flat.{Flat};
+ghost use Rattle.bus_semantics.specs.declared.plan.BusPlan.{BusPlan};
+ghost use Rattle.bus_semantics.specs.declared.script.Mapping.{Mapping};
+ghost use Rattle.bus_semantics.specs.Plan.{plan_of};
+ghost use Rattle.bus_semantics.specs.Sound.{IsSound};
+ghost use Rattle.plan_definitions.specs.Whole.{IsWhole};
+
+use sound_behavior::{
+    direct_servers_fit, events_fit, points_are_named_once, points_fit_their_servers,
+    points_stand_by_caller, runnables_fit, servers_serve, tasks_fit, waits_are_ordered,
+};
+use sound_elements::{
+    elements_of_plans_are_sound, groups_of_plans_fit, joined_elements_of_plans_agree,
+    machines_of_plans_are_sound, objects_of_plans_are_counted, queues_of_plans_are_bounded,
+};
+use sound_names::{
+    mode_ports_have_machines, names_of_plans_fit, plans_are_arranged, plans_name_their_instances,
+    ports_stand_together, things_of_plans_are_named_once,
+};
+
+/// The plan of a description that breaks none of the thirty rules is sound with its mapping.
+pub fn plans_are_sound()
+    ensures { (d : Description) (f : Flat) (p : BusPlan) (m : Mapping) → IsWhole d f p m → IsSound (plan_of p) m }
+{
+    names_of_plans_fit();
+    things_of_plans_are_named_once();
+    points_are_named_once();
+    ports_stand_together();
+    plans_are_arranged();
+    plans_name_their_instances();
+    groups_of_plans_fit();
+    objects_of_plans_are_counted();
+    elements_of_plans_are_sound();
+    joined_elements_of_plans_agree();
+    machines_of_plans_are_sound();
+    mode_ports_have_machines();
+    points_stand_by_caller();
+    points_fit_their_servers();
+    runnables_fit();
+    events_fit();
+    servers_serve();
+    direct_servers_fit();
+    queues_of_plans_are_bounded();
+    tasks_fit();
+    waits_are_ordered();
+}

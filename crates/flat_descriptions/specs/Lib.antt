@@ -1,0 +1,11 @@
+pub mod Connectors
+pub mod Firsts
+pub mod Flattening
+pub mod Growing
+pub mod Instances
+pub mod Items
+pub mod Joined
+pub mod Members
+pub mod Orders
+pub mod Paths
+pub mod Places

@@ -1,0 +1,118 @@
+-- Partners of ends, and what a list says of a key, as they are looked up.
+use Rattle.std.proofs.Common.{◌≡◌, ℕ, zero, suc, ◌+◌, List, [], ◌∷◌, map, Bool, true, false, cond, ◌&&◌, ◌||◌, nat_eq, Option, Some, None, ⊎_elim, refl, sym, ap, ◌∙◌, arith, add-one}
+use Rattle.std.specs.List.{find, list_any, position_from, slice_get}
+use Rattle.std.specs.Map.{lookup}
+use Rattle.std.specs.Option.{is_some, option_and_then, option_eq, option_map}
+use Rattle.std.proofs.lemmas.Bool.{eqb-true, eq-eqb, ne_eqb, cases_eq}
+use Rattle.interface_types.specs.declared.interface.ComSpec.{ComSpec}
+use Rattle.flat_descriptions.specs.declared.flat.End.{End}
+use Rattle.flat_descriptions.specs.declared.flat.Join.{Join}
+use Rattle.plan_definitions.specs.Joined.{is_joined, provider_of, same_end}
+use Rattle.plan_numbers.specs.Ends.{EndKey, key_of, provided_entry, required_entry, same_end_key}
+
+pub nat_eq_sym : (a b : ℕ) → nat_eq a b ≡ nat_eq b a
+nat_eq_sym a b = ⊎_elim (λ e. eq-eqb a b e ∙ sym (eq-eqb b a (sym e))) (λ ne. ne_eqb a b ne ∙ sym (ne_eqb b a (λ e. ne (sym e)))) (cases_eq a b)
+
+pub option_eq_sym : (a b : Option ℕ) → option_eq nat_eq a b ≡ option_eq nat_eq b a
+option_eq_sym None None = refl
+option_eq_sym None (Some b) = refl
+option_eq_sym (Some a) None = refl
+option_eq_sym (Some a) (Some b) = nat_eq_sym a b
+
+same_end_is : (a b : End) → same_end a b ≡ same_end_key (key_of b) (key_of a)
+same_end_is a b = λ j. (option_eq_sym a.instance b.instance j && nat_eq_sym a.port b.port j) && nat_eq_sym a.element b.element j
+
+provider_by : (e : End) (joins : List Join) → lookup (same_end_key (key_of e)) (map required_entry joins) ≡ option_map (λ j. j.provided) (find (λ j. same_end j.required e) joins)
+provider_by e [] = refl
+provider_by e (j ∷ joins) = ap (λ rest. cond (same_end_key (key_of e) (key_of j.required)) (Some j.provided) rest) (provider_by e joins)
+    ∙ ap (λ b. cond b (Some j.provided) (option_map (λ j. j.provided) (find (λ j. same_end j.required e) joins))) (sym (same_end_is j.required e))
+    ∙ by (same_end j.required e)
+  where
+    by : (b : Bool) → cond b (Some j.provided) (option_map (λ j. j.provided) (find (λ j. same_end j.required e) joins)) ≡ option_map (λ j. j.provided) (cond b (Some j) (find (λ j. same_end j.required e) joins))
+    by true = refl
+    by false = refl
+
+pub provider_found : (joins : List Join) (entries : List (EndKey × End)) (e : End) → entries ≡ map required_entry joins → lookup (same_end_key (key_of e)) entries ≡ provider_of joins e
+provider_found joins entries e are = ap (lookup (same_end_key (key_of e))) are ∙ provider_by e joins
+
+any_required : (e : End) (joins : List Join) → is_some (lookup (same_end_key (key_of e)) (map required_entry joins)) ≡ list_any (λ j. same_end j.required e) joins
+any_required e [] = refl
+any_required e (j ∷ joins) = ap (λ b. is_some (cond b (Some j.provided) (lookup (same_end_key (key_of e)) (map required_entry joins)))) (sym (same_end_is j.required e)) ∙ by (same_end j.required e) (any_required e joins)
+  where
+    by : (b : Bool) → is_some (lookup (same_end_key (key_of e)) (map required_entry joins)) ≡ list_any (λ j. same_end j.required e) joins
+        → is_some (cond b (Some j.provided) (lookup (same_end_key (key_of e)) (map required_entry joins))) ≡ (b || list_any (λ j. same_end j.required e) joins)
+    by true rest = refl
+    by false rest = rest
+
+any_provided : (e : End) (joins : List Join) → is_some (lookup (same_end_key (key_of e)) (map provided_entry joins)) ≡ list_any (λ j. same_end j.provided e) joins
+any_provided e [] = refl
+any_provided e (j ∷ joins) = ap (λ b. is_some (cond b (Some j.required) (lookup (same_end_key (key_of e)) (map provided_entry joins)))) (sym (same_end_is j.provided e)) ∙ by (same_end j.provided e) (any_provided e joins)
+  where
+    by : (b : Bool) → is_some (lookup (same_end_key (key_of e)) (map provided_entry joins)) ≡ list_any (λ j. same_end j.provided e) joins
+        → is_some (cond b (Some j.required) (lookup (same_end_key (key_of e)) (map provided_entry joins))) ≡ (b || list_any (λ j. same_end j.provided e) joins)
+    by true rest = refl
+    by false rest = rest
+
+either : (p q : Bool) (r s : Bool) → ((p || q) || (r || s)) ≡ ((p || r) || (q || s))
+either true q r s = refl
+either false true true s = refl
+either false true false s = refl
+either false false r s = refl
+
+any_of_both : (p q : Join → Bool) (joins : List Join) → list_any (λ j. p j || q j) joins ≡ (list_any p joins || list_any q joins)
+any_of_both p q [] = refl
+any_of_both p q (j ∷ joins) = ap (λ b. (p j || q j) || b) (any_of_both p q joins) ∙ either (p j) (q j) (list_any p joins) (list_any q joins)
+
+pub joined_found : (joins : List Join) (provided required : List (EndKey × End)) (e : End) → provided ≡ map provided_entry joins → required ≡ map required_entry joins
+    → (is_some (lookup (same_end_key (key_of e)) provided) || is_some (lookup (same_end_key (key_of e)) required)) ≡ is_joined joins e
+joined_found joins provided required e areprovided arerequired =
+    (λ j. is_some (lookup (same_end_key (key_of e)) (areprovided j)) || is_some (lookup (same_end_key (key_of e)) (arerequired j)))
+    ∙ (λ j. any_provided e joins j || any_required e joins j) ∙ sym (any_of_both (λ j. same_end j.provided e) (λ j. same_end j.required e) joins)
+
+-- what is found by its key
+pub position_next : {X : Type 0} (test : X → Bool) (n : ℕ) (xs : List X) → position_from test (n + 1) xs ≡ option_map (λ p. p + 1) (position_from test n xs)
+position_next test n [] = refl
+position_next test n (x ∷ xs) = ap (λ rest. cond (test x) (Some (n + 1)) rest) (position_next test (n + 1) xs) ∙ by (test x)
+  where
+    by : (b : Bool) → cond b (Some (n + 1)) (option_map (λ p. p + 1) (position_from test (n + 1) xs)) ≡ option_map (λ p. p + 1) (cond b (Some n) (position_from test (n + 1) xs))
+    by true = refl
+    by false = refl
+
+further : {X : Type 0} (x : X) (xs : List X) (p : Option ℕ) → option_and_then (slice_get (x ∷ xs)) (option_map (λ p. p + 1) p) ≡ option_and_then (slice_get xs) p
+further x xs None = refl
+further x xs (Some p) = ap (slice_get (x ∷ xs)) (add-one p)
+
+found_by : {X : Type 0} (key : X → ℕ) (k : ℕ) (x : X) (xs : List X) (b : Bool) → option_and_then (slice_get xs) (position_from (nat_eq k) 0 (map key xs)) ≡ find (λ x. nat_eq (key x) k) xs
+    → option_and_then (slice_get (x ∷ xs)) (cond b (Some 0) (position_from (nat_eq k) (0 + 1) (map key xs))) ≡ cond b (Some x) (find (λ x. nat_eq (key x) k) xs)
+found_by key k x xs true rest = refl
+found_by key k x xs false rest = ap (option_and_then (slice_get (x ∷ xs))) (position_next (nat_eq k) 0 (map key xs)) ∙ further x xs (position_from (nat_eq k) 0 (map key xs)) ∙ rest
+
+pub found_at : {X : Type 0} (key : X → ℕ) (k : ℕ) (xs : List X) → option_and_then (slice_get xs) (position_from (nat_eq k) 0 (map key xs)) ≡ find (λ x. nat_eq (key x) k) xs
+found_at key k [] = refl
+found_at key k (x ∷ xs) = found_by key k x xs (nat_eq k (key x)) (found_at key k xs) ∙ ap (λ b. cond b (Some x) (find (λ x. nat_eq (key x) k) xs)) (nat_eq_sym k (key x))
+
+pub spec_found : (item : ℕ) (specs : List ComSpec) (table : List ℕ) → table ≡ map (λ s. s.element) specs
+    → option_and_then (slice_get specs) (position_from (nat_eq item) 0 table) ≡ find (λ s. nat_eq s.element item) specs
+spec_found item specs table are = ap (λ keys. option_and_then (slice_get specs) (position_from (nat_eq item) 0 keys)) are ∙ found_at (λ s. s.element) item specs
+
+either_is : (a b c : Bool) → (a || b) ≡ c → a ≡ true → true ≡ c
+either_is true b c is here = is
+either_is false b c is here = cc
+
+or_is : (a b c : Bool) → (a || b) ≡ c → a ≡ false → b ≡ c
+or_is true b c is here = cc
+or_is false b c is here = is
+
+pub first_joined : (joins : List Join) (provided required : List (EndKey × End)) (e : End) (r : Bool) → provided ≡ map provided_entry joins → required ≡ map required_entry joins
+    → r ≡ is_some (lookup (same_end_key (key_of e)) provided) → r ≡ true → r ≡ is_joined joins e
+first_joined joins provided required e r areprovided arerequired is here = here ∙ either_is _ _ _ (joined_found joins provided required e areprovided arerequired) (sym is ∙ here)
+
+pub second_joined : (joins : List Join) (provided required : List (EndKey × End)) (e : End) (r s : Bool) → provided ≡ map provided_entry joins → required ≡ map required_entry joins
+    → r ≡ is_some (lookup (same_end_key (key_of e)) provided) → r ≡ false → s ≡ is_some (lookup (same_end_key (key_of e)) required) → s ≡ is_joined joins e
+second_joined joins provided required e r s areprovided arerequired is here then_is = then_is ∙ or_is _ _ _ (joined_found joins provided required e areprovided arerequired) (sym is ∙ here)
+
+-- The standard library's lemma has a dash in its name, which a `using` in code cannot write.
+pub slice_get_map : {X Y : Type 0} (f : X → Y) (xs : List X) (i : ℕ) → slice_get (map f xs) i ≡ option_map f (slice_get xs i)
+slice_get_map f [] i = refl
+slice_get_map f (x ∷ xs) zero = refl
+slice_get_map f (x ∷ xs) (suc i) = slice_get_map f xs i

@@ -1,0 +1,7 @@
+use Rattle.std.proofs.Common.{Some, ap, ◌∙◌}
+use Rattle.plan_definitions.specs.Keys.{keys_of, number_in}
+use Rattle.plan_numbers.proofs.source.Source.machine_number.Goals as goal
+
+pub returns : goal.returns
+returns c = c.number.ensures ∙ ap (λ keys. number_in keys (c.args.owner, Some c.args.port, c.args.item)) c.args.self.now.numbered.machines
+    ∙ ap (λ sites. number_in (keys_of sites) (c.args.owner, Some c.args.port, c.args.item)) c.args.self.now.listed.machines

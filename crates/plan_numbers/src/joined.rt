@@ -1,0 +1,95 @@
+//! Who is joined with whom.
+
+ghost use Rattle.std.specs.Prelude.{◌≡◌, IfOk, map};
+ghost use Rattle.plan_numbers.specs.Ends.{key_of, provided_entry, required_entry};
+
+use crate::table::Table;
+use flat_descriptions::{End, Join};
+use rte_text::Memory;
+use std::alloc::Global;
+use std::marker::Model;
+
+/// An end as a key: its owner, its port and its item.
+pub type EndKey = (Option<u32>, u32, u32);
+
+fn key_of(end: End) -> EndKey
+    ensures { result ≡ key_of end }
+{
+    (end.instance, end.port, end.element)
+}
+
+fn by_required(alloc: Global, joins: &[Join]) -> Result<Table<EndKey, End>, Memory>
+    ensures { IfOk result (λ table. table.entries.items ≡ map required_entry joins.now) }
+{
+    let mut entries = Vec::new(alloc);
+    for join in joins {
+        entries.push((key_of(join.required), join.provided))?;
+    }
+    Table::new(alloc, entries)
+}
+
+fn by_provided(alloc: Global, joins: &[Join]) -> Result<Table<EndKey, End>, Memory>
+    ensures { IfOk result (λ table. table.entries.items ≡ map provided_entry joins.now) }
+{
+    let mut entries = Vec::new(alloc);
+    for join in joins {
+        entries.push((key_of(join.provided), join.required))?;
+    }
+    Table::new(alloc, entries)
+}
+
+/// Joins, seen as their list, with the first partner of each end, found by hash.
+#[derive(Drop)]
+pub struct Joined {
+    joins: Vec<Join>,
+    required: Table<EndKey, End>,
+    provided: Table<EndKey, End>,
+}
+
+impl Model for Joined {
+    ghost use Rattle.std.specs.Prelude.{◌≡◌, List, map};
+    ghost use Rattle.flat_descriptions.specs.declared.flat.Join.{Join};
+    ghost use Rattle.plan_numbers.specs.Ends.{provided_entry, required_entry};
+
+    ghost Value = { List Join };
+
+    ghost view = { λ s. s.joins.items };
+
+    ghost invariant = { λ s. (s.required.entries.items ≡ map required_entry s.joins.items) × (s.provided.entries.items ≡ map provided_entry s.joins.items) };
+}
+
+impl Joined {
+    ghost use Rattle.std.specs.Prelude.{◌≡◌, IfOk};
+    ghost use Rattle.plan_definitions.specs.Joined.{is_joined, provider_of};
+
+    /// Those of these joins.
+    pub fn of(alloc: Global, joins: &[Join]) -> Result<Joined, Memory>
+        ensures { IfOk result (λ joined. joined ≡ joins.now) }
+    {
+        let required = by_required(alloc, joins)?;
+        let provided = by_provided(alloc, joins)?;
+        let joins = Vec::from_slice(alloc, joins)?;
+        Ok(Joined {
+            joins,
+            required,
+            provided,
+        })
+    }
+
+    /// The provided end that is joined with a required one.
+    #[tactic(auto, using(crate::proofs::Finding::provider_found))]
+    pub fn provider_of(&self, required: End) -> Option<End>
+        ensures { result ≡ provider_of self.now required }
+    {
+        self.required.find(key_of(required))
+    }
+
+    /// Whether a join has this end.
+    #[tactic(auto, using(crate::proofs::Finding::joined_found))]
+    pub fn is_joined(&self, end: End) -> bool
+        ensures { result ≡ is_joined self.now end }
+    {
+        let provides = self.provided.find(key_of(end)).is_some();
+        provides || self.required.find(key_of(end)).is_some()
+    }
+}

@@ -1,0 +1,122 @@
+//! All that a plan numbers, listed and numbered.
+
+ghost use Rattle.std.specs.Prelude.{◌≡◌, IfOk};
+ghost use Rattle.plan_definitions.specs.Parts.{areas_of, events_of, runnables_of};
+ghost use Rattle.plan_numbers.specs.Listed.{AreAmong, AreLists, AreNumbers, ArePairs};
+
+use crate::all_sites::sites;
+use crate::joined::Joined;
+use crate::kinds::{elements_among, machines_among, mode_ports_among, numbers_of, servers_among};
+use crate::numbers::{Key, Numbers};
+use crate::parts::{numbered_areas, numbered_events, numbered_runnables};
+use description_types::Description;
+use flat_descriptions::Flat;
+use plan_definitions::Site;
+use rte_text::Memory;
+use std::alloc::Global;
+
+/// An instance with the position of a runnable, an event or an area in its component.
+pub type Pair = (u32, u32);
+
+/// The sites of a plan by kind, each list in the order of the plan.
+#[derive(Drop)]
+pub struct Lists {
+    /// Data elements and variables.
+    pub elements: Vec<Site>,
+    pub servers: Vec<Site>,
+    pub machines: Vec<Site>,
+    /// The required mode elements that have a machine.
+    pub mode_ports: Vec<Site>,
+}
+
+/// Their numbers.
+#[derive(Drop)]
+pub struct SiteNumbers {
+    pub elements: Numbers<Key>,
+    pub servers: Numbers<Key>,
+    pub machines: Numbers<Key>,
+    pub mode_ports: Numbers<Key>,
+}
+
+/// The numbers of what instances have besides.
+#[derive(Drop)]
+pub struct PairNumbers {
+    pub runnables: Numbers<Pair>,
+    pub events: Numbers<Pair>,
+    pub areas: Numbers<Pair>,
+}
+
+fn lists_among(alloc: Global, joined: &Joined, sites: &[Site]) -> Result<Lists, Memory>
+    ensures { IfOk result (λ lists. AreAmong joined.now sites.now lists) }
+{
+    let elements = elements_among(alloc, sites)?;
+    let servers = servers_among(alloc, sites)?;
+    let machines = machines_among(alloc, sites)?;
+    let mode_ports = mode_ports_among(alloc, joined, sites)?;
+    Ok(Lists {
+        elements,
+        servers,
+        machines,
+        mode_ports,
+    })
+}
+
+/// The lists of a description.
+pub fn lists_of(alloc: Global, d: &Description, f: &Flat, joined: &Joined) -> Result<Lists, Memory>
+    requires { joined.now ≡ f.now.joins }
+    ensures { IfOk result (λ lists. AreLists d.now f.now lists) }
+{
+    let all = sites(alloc, d, f)?;
+    lists_among(alloc, joined, all.as_slice())
+}
+
+/// The numbers of what these lists hold.
+pub fn site_numbers(alloc: Global, lists: &Lists) -> Result<SiteNumbers, Memory>
+    ensures { IfOk result (λ numbers. AreNumbers lists.now numbers) }
+{
+    let elements = numbers_of(alloc, lists.elements.as_slice())?;
+    let servers = numbers_of(alloc, lists.servers.as_slice())?;
+    let machines = numbers_of(alloc, lists.machines.as_slice())?;
+    let mode_ports = numbers_of(alloc, lists.mode_ports.as_slice())?;
+    Ok(SiteNumbers {
+        elements,
+        servers,
+        machines,
+        mode_ports,
+    })
+}
+
+fn runnable_numbers(alloc: Global, d: &Description, f: &Flat) -> Result<Numbers<Pair>, Memory>
+    ensures { IfOk result (λ numbers. numbers ≡ runnables_of d.now f.now) }
+{
+    let list = numbered_runnables(alloc, d, f)?;
+    Numbers::of(alloc, list.as_slice())
+}
+
+fn event_numbers(alloc: Global, d: &Description, f: &Flat) -> Result<Numbers<Pair>, Memory>
+    ensures { IfOk result (λ numbers. numbers ≡ events_of d.now f.now) }
+{
+    let list = numbered_events(alloc, d, f)?;
+    Numbers::of(alloc, list.as_slice())
+}
+
+fn area_numbers(alloc: Global, d: &Description, f: &Flat) -> Result<Numbers<Pair>, Memory>
+    ensures { IfOk result (λ numbers. numbers ≡ areas_of d.now f.now) }
+{
+    let list = numbered_areas(alloc, d, f)?;
+    Numbers::of(alloc, list.as_slice())
+}
+
+/// The numbers of the runnables, events and areas of a description.
+pub fn pair_numbers(alloc: Global, d: &Description, f: &Flat) -> Result<PairNumbers, Memory>
+    ensures { IfOk result (λ numbers. ArePairs d.now f.now numbers) }
+{
+    let runnables = runnable_numbers(alloc, d, f)?;
+    let events = event_numbers(alloc, d, f)?;
+    let areas = area_numbers(alloc, d, f)?;
+    Ok(PairNumbers {
+        runnables,
+        events,
+        areas,
+    })
+}

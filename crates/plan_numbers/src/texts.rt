@@ -1,0 +1,101 @@
+//! Names of items of ports, and of variables.
+
+ghost use Rattle.std.specs.Prelude.{◌≡◌, ◌++◌, [], IfOk, Some, codes};
+ghost use Rattle.std.specs.Option.{option_map_or};
+ghost use Rattle.plan_definitions.specs.Ports.{interface_of, item_name, item_text, port_name, variable_name};
+
+use crate::owners::{component_of, interface_of, port_of};
+use description_types::Description;
+use flat_descriptions::Flat;
+use interface_types::InterfaceKind;
+use rte_text::{Memory, Text};
+use std::alloc::Global;
+
+fn item_name(kind: &InterfaceKind, item: u32) -> &[u8]
+    ensures { result.now ≡ item_name kind.now item }
+{
+    match kind {
+        InterfaceKind::SenderReceiver(elements) => match elements.items().get(item as usize) {
+            Some(element) => element.short_name.bytes(),
+            None => &[],
+        },
+        InterfaceKind::ClientServer(operations) => match operations.items().get(item as usize) {
+            Some(operation) => operation.short_name.bytes(),
+            None => &[],
+        },
+        InterfaceKind::ModeSwitch(element) => element.short_name.bytes(),
+    }
+}
+
+fn port_name<'a>(d: &'a Description, f: &Flat, owner: Option<u32>, port: u32) -> &'a [u8]
+    ensures { result.now ≡ port_name d.now f.now owner port }
+{
+    match port_of(d, f, owner, port) {
+        Some(port) => port.short_name.bytes(),
+        None => &[],
+    }
+}
+
+fn name_of_item<'a>(
+    d: &'a Description,
+    f: &Flat,
+    owner: Option<u32>,
+    port: u32,
+    item: u32,
+) -> &'a [u8]
+    ensures { result.now ≡ option_map_or (λ kind. item_name kind item) (interface_of d.now f.now owner port) [] }
+{
+    match interface_of(d, f, owner, port) {
+        Some(kind) => item_name(kind, item),
+        None => &[],
+    }
+}
+
+fn dotted(alloc: Global, first: &[u8], second: &[u8]) -> Result<Text, Memory>
+    ensures { IfOk result (λ text. text ≡ (first.now ++ codes ".") ++ second.now) }
+{
+    let mut held = Vec::from_slice(alloc, first)?;
+    held.push(b'.')?;
+    held.extend_from_slice(second)?;
+    Ok(Text::of(held))
+}
+
+/// The text PORT.ITEM of an item.
+pub fn item_text(
+    alloc: Global,
+    d: &Description,
+    f: &Flat,
+    owner: Option<u32>,
+    port: u32,
+    item: u32,
+) -> Result<Text, Memory>
+    ensures { IfOk result (λ text. text ≡ item_text d.now f.now owner port item) }
+{
+    dotted(
+        alloc,
+        port_name(d, f, owner, port),
+        name_of_item(d, f, owner, port, item),
+    )
+}
+
+fn variable_of_instance<'a>(d: &'a Description, f: &Flat, instance: u32, item: u32) -> &'a [u8]
+    ensures { result.now ≡ variable_name d.now f.now (Some instance) item }
+{
+    let Some(component) = component_of(d, f, instance) else {
+        return &[];
+    };
+    match component.behavior.variables.items().get(item as usize) {
+        Some(variable) => variable.short_name.bytes(),
+        None => &[],
+    }
+}
+
+/// The name of a variable of an instance. The environment has none.
+pub fn variable_name<'a>(d: &'a Description, f: &Flat, owner: Option<u32>, item: u32) -> &'a [u8]
+    ensures { result.now ≡ variable_name d.now f.now owner item }
+{
+    match owner {
+        Some(instance) => variable_of_instance(d, f, instance, item),
+        None => &[],
+    }
+}

@@ -1,0 +1,33 @@
+-- The operation that a runnable serves, as it is looked up.
+use Rattle.std.proofs.Common.{◌≡◌, ℕ, List, [], ◌∷◌, ◌++◌, Bool, true, false, cond, nat_eq, Option, Some, None, ⊎_elim, refl, sym, ap, ◌∙◌}
+use Rattle.std.specs.List.{flat_map}
+use Rattle.std.specs.Map.{lookup}
+use Rattle.std.specs.Option.{option_map_or}
+use Rattle.std.proofs.lemmas.Bool.{eq-eqb, ne_eqb, cases_eq}
+use Rattle.description_types.specs.declared.component.Event.{Event}
+use Rattle.plan_definitions.specs.Invoked.{invoked_by}
+use Rattle.plan_services.specs.Served.{Served, served_entry}
+use Rattle.plan_definitions.specs.Started.{served_by, serves}
+
+nat_eq_sym : (a b : ℕ) → nat_eq a b ≡ nat_eq b a
+nat_eq_sym a b = ⊎_elim (λ e. eq-eqb a b e ∙ sym (eq-eqb b a (sym e))) (λ ne. ne_eqb a b ne ∙ sym (ne_eqb b a (λ e. ne (sym e)))) (cases_eq a b)
+
+none_more : (b : Bool) (rest : Option Served) → rest ≡ option_map_or (λ x. Some x) (cond b None None) rest
+none_more true rest = refl
+none_more false rest = refl
+
+some_more : (b : Bool) (x : Served) (rest : Option Served) → cond b (Some x) rest ≡ option_map_or (λ x. Some x) (cond b (Some x) None) rest
+some_more true x rest = refl
+some_more false x rest = refl
+
+one_more : (m r : ℕ) (served : Option Served) (rest : List (ℕ × Served))
+    → lookup (nat_eq m) (option_map_or (λ x. (r, x) ∷ []) served [] ++ rest) ≡ option_map_or (λ x. Some x) (cond (nat_eq r m) served None) (lookup (nat_eq m) rest)
+one_more m r None rest = none_more (nat_eq r m) (lookup (nat_eq m) rest)
+one_more m r (Some x) rest = ap (λ b. cond b (Some x) (lookup (nat_eq m) rest)) (nat_eq_sym m r) ∙ some_more (nat_eq r m) x (lookup (nat_eq m) rest)
+
+found_in : (m : ℕ) (events : List Event) → lookup (nat_eq m) (flat_map served_entry events) ≡ served_by events m
+found_in m [] = refl
+found_in m (e ∷ events) = one_more m e.runnable (invoked_by e.kind) (flat_map served_entry events) ∙ ap (option_map_or (λ x. Some x) (serves m e)) (found_in m events)
+
+pub served_found : (m : ℕ) (events : List Event) (entries : List (ℕ × Served)) → entries ≡ flat_map served_entry events → lookup (nat_eq m) entries ≡ served_by events m
+served_found m events entries are = ap (lookup (nat_eq m)) are ∙ found_in m events
