@@ -28,19 +28,20 @@ use Rattle.object_kinds.specs.Kinds.{IsAnswerOf}
 use Rattle.object_kinds.specs.Flags.{given}
 use Rattle.object_kinds.specs.Layout.{place}
 use Rattle.server_objects.specs.Acting.{Leads, Holds, IsActed, StartLeads, NoStart, ReturnLeads, IsAskedAt, IsTaken}
-use Rattle.server_objects.specs.Kept.{Kept, ServerState, awaited_at, has_next, is_due_at, may_start}
+use Rattle.server_objects.specs.Kept.{Kept, ServerState, awaited_at, has_next, is_due_at, may_hear, may_start}
 use Rattle.server_objects.specs.Layout.{server_in}
-use Rattle.server_objects.specs.Leading.{is_outcome, is_result, asked_at, heard_at, taken_at, own_place, started_directly, started_server, started_return, lead_of_start, serving_of, returned_at, lead_of_server, with_served, lead, why_held}
+use Rattle.server_objects.specs.Leading.{is_outcome, is_result, asked_at, heard_at, taken_at, own_place, started_directly, started_server, started_return, lead_of_start, serving_of, returned_at, lead_of_server, heard_by, with_served, lead, why_held}
 use Rattle.server_objects.specs.Plans.{IsOfPlan}
 use Rattle.server_objects.proofs.Facts.{points_joined}
+use Rattle.server_objects.proofs.Hearing.{heard_comes}
 use Rattle.server_objects.proofs.Next.{awaited}
 use Rattle.server_objects.proofs.Starting.{flags_left, no_start}
 use Rattle.server_objects.proofs.Staying.{stays_planned}
 use Rattle.server_objects.proofs.Telling.{none_tells}
 
 -- a server by its parts
-abbrev pub state : (points : List ℕ) → (event : ℕ) → (returns awaited : List ℕ) → calls.Kept → (woken : List ℕ) → ServerState
-state points event returns awaited served woken = record { kept = record { points = points; event = event; returns = returns; awaited = awaited; served = served }; woken = woken }
+abbrev pub state : (points : List ℕ) → (event : ℕ) → (returns awaited : List ℕ) → calls.Kept → (woken : List ℕ) → (heard : Option ℕ) → ServerState
+state points event returns awaited served woken heard = record { kept = record { points = points; event = event; returns = returns; awaited = awaited; served = served }; woken = woken; heard = heard }
 
 same_itself : (v : Value) → same_words (words_of v) (words_of v) ≡ true
 same_itself v = (same_words-Decides (words_of v) (words_of v)).1 refl
@@ -56,6 +57,7 @@ ask_leads a q i code value old new there asked = record {
       ∙ ap (λ (k : Kept). Some k.served) (sym asked.kept);
   kept = asked.kept ∙ ap (λ (k : Kept). with_served old.kept k.served) (sym asked.kept);
   told = asked.told q;
+  heard = asked.heard;
 }
 
 pub ask_holds : (a : Actor) (q : ℕ) (ws : List ℤ) (old new : ServerState) (shown : Shown) → shown ≡ why_held old.kept (to_ask q ws) → new ≡ old → place q old.kept.points ≡ None → Holds a (to_ask q ws) old new shown
@@ -67,9 +69,9 @@ ask_holds a q ws old new shown why same none = record { why = why; same = same; 
 
 -- ---- Answer
 
-pub hear_leads : (a : Actor) (q i : ℕ) (o : Outcome) (k : Kept) (c : calls.Kept) (woken : List ℕ) → place q k.points ≡ Some i → Some o ≡ outcome_in (calls.point_at i k.served).stage → c ≡ calls.after_answer i k.served
-    → Leads a (to_hear q) (record { kept = k; woken = woken }) (record { kept = with_served k c; woken = woken }) (record { actor = a; deed = deed.Answer q o.code o.value })
-hear_leads a q i o k c woken there outcome is =
+pub hear_leads : (a : Actor) (q i : ℕ) (o : Outcome) (k : Kept) (c : calls.Kept) (woken : List ℕ) (heard : Option ℕ) → place q k.points ≡ Some i → Some o ≡ outcome_in (calls.point_at i k.served).stage → c ≡ calls.after_answer i k.served
+    → Leads a (to_hear q) (record { kept = k; woken = woken; heard = heard }) (record { kept = with_served k c; woken = woken; heard = heard }) (record { actor = a; deed = deed.Answer q o.code o.value })
+hear_leads a q i o k c woken heard there outcome is =
     let test : is_outcome o.code o.value (outcome_in (calls.point_at i k.served).stage) ≡ true = ap (is_outcome o.code o.value) (sym outcome) ∙ (λ t. eq-eqb o.code o.code refl t && same_itself o.value t) in
     let leads : lead_of_server k (deed.Answer q o.code o.value) a ≡ Some c =
     ap (heard_at o.code o.value k.served) there ∙ ap (λ b. given b (calls.after_answer i k.served)) test ∙ ap (λ z. Some z) (sym is) in
@@ -79,7 +81,8 @@ hear_leads a q i o k c woken there outcome is =
       answer = λ p object planned. refl;
       leads = leads;
       kept = refl;
-      told = none_tells (record { kept = k; woken = woken }) (record { kept = with_served k c; woken = woken }) (deed.Answer q o.code o.value) refl refl (flags_left k (deed.Answer q o.code o.value) a c leads refl);
+      told = none_tells (record { kept = k; woken = woken; heard = heard }) (record { kept = with_served k c; woken = woken; heard = heard }) (deed.Answer q o.code o.value) refl refl (flags_left k (deed.Answer q o.code o.value) a c leads refl);
+      heard = refl;
     }
 
 pub hear_holds : (a : Actor) (q : ℕ) (old new : ServerState) (shown : Shown) → shown ≡ why_held old.kept (to_hear q) → new ≡ old → ((code : ℕ) (value : Value) → heard_at code value old.kept.served (place q old.kept.points) ≡ None) → Holds a (to_hear q) old new shown
@@ -97,17 +100,17 @@ nothing_taken k i none = rw (sym none) refl
 
 -- ---- result
 
-pub outcome_taken : (k : Kept) (c : calls.Kept) (woken : List ℕ) (i : ℕ) (o : Outcome) → Some o ≡ outcome_in (calls.point_at i k.served).stage → c ≡ calls.after_answer i k.served
-    → IsTaken (record { kept = k; woken = woken }) (record { kept = with_served k c; woken = woken }) i o
-outcome_taken k c woken i o outcome is =
+pub outcome_taken : (k : Kept) (c : calls.Kept) (woken : List ℕ) (heard : Option ℕ) (i : ℕ) (o : Outcome) → Some o ≡ outcome_in (calls.point_at i k.served).stage → c ≡ calls.after_answer i k.served
+    → IsTaken (record { kept = k; woken = woken; heard = heard }) (record { kept = with_served k c; woken = woken; heard = heard }) i o
+outcome_taken k c woken heard i o outcome is =
     let test : is_result o.code o.value (outcome_in (calls.point_at i k.served).stage) ≡ true = ap (is_result o.code o.value) (sym outcome) ∙ (λ t. eq-eqb o.code o.code refl t && same_itself o.value t) in
-    record { leads = ap (λ b. given b (calls.after_answer i k.served)) test ∙ ap (λ z. Some z) (sym is); kept = refl; woken = refl }
+    record { leads = ap (λ b. given b (calls.after_answer i k.served)) test ∙ ap (λ z. Some z) (sym is); kept = refl; woken = refl; heard = refl }
 
-pub nothing_there : (k : Kept) (c : calls.Kept) (woken : List ℕ) (i : ℕ) (v : Value) → words_of v ≡ [] → None ≡ outcome_in (calls.point_at i k.served).stage → c ≡ calls.after_answer i k.served
-    → IsTaken (record { kept = k; woken = woken }) (record { kept = with_served k c; woken = woken }) i (record { code = 131; value = v })
-nothing_there k c woken i v empty outcome is =
+pub nothing_there : (k : Kept) (c : calls.Kept) (woken : List ℕ) (heard : Option ℕ) (i : ℕ) (v : Value) → words_of v ≡ [] → None ≡ outcome_in (calls.point_at i k.served).stage → c ≡ calls.after_answer i k.served
+    → IsTaken (record { kept = k; woken = woken; heard = heard }) (record { kept = with_served k c; woken = woken; heard = heard }) i (record { code = 131; value = v })
+nothing_there k c woken heard i v empty outcome is =
     let test : is_result 131 v (outcome_in (calls.point_at i k.served).stage) ≡ true = ap (is_result 131 v) (sym outcome) ∙ (same_words-Decides (words_of v) []).1 empty in
-    record { leads = ap (λ b. given b (calls.after_answer i k.served)) test ∙ ap (λ z. Some z) (sym is); kept = refl; woken = refl }
+    record { leads = ap (λ b. given b (calls.after_answer i k.served)) test ∙ ap (λ z. Some z) (sym is); kept = refl; woken = refl; heard = refl }
 
 pub result_leads : (a : Actor) (q i : ℕ) (o : Outcome) (old new : ServerState) → place q old.kept.points ≡ Some i → IsTaken old new i o → Leads a (to_take_result q) old new (record { actor = a; deed = deed.TakeResult q o.code o.value })
 result_leads a q i o old new there taken =
@@ -120,6 +123,7 @@ result_leads a q i o old new there taken =
       kept = taken.kept;
       told = none_tells old new (deed.TakeResult q o.code o.value) refl taken.woken
           (λ event off. ap (λ k. may_start k event) taken.kept ∙ flags_left old.kept (deed.TakeResult q o.code o.value) a new.kept.served leads refl event off);
+      heard = taken.heard;
     }
 
 pub result_holds : (a : Actor) (q : ℕ) (old new : ServerState) (shown : Shown) → shown ≡ why_held old.kept (to_take_result q) → new ≡ old → place q old.kept.points ≡ None → Holds a (to_take_result q) old new shown
@@ -131,9 +135,9 @@ result_holds a q old new shown why same none = record { why = why; same = same; 
 
 -- ---- starts
 
-pub next_leads : (k : Kept) (c : calls.Kept) (woken : List ℕ) (event : ℕ) (r : Request) (q : ℕ) → event ≡ k.event → IsSome k.served.queue → Some r ≡ calls.starting k.served → c ≡ calls.after_start k.served → slice_get k.points r.point ≡ Some q
-    → StartLeads None event (record { kept = k; woken = woken }) (record { kept = with_served k c; woken = woken }) (deed.Start event (Some q) r.value)
-next_leads k c woken event r q same queue starts is there = record {
+pub next_leads : (k : Kept) (c : calls.Kept) (woken : List ℕ) (heard : Option ℕ) (event : ℕ) (r : Request) (q : ℕ) → event ≡ k.event → IsSome k.served.queue → Some r ≡ calls.starting k.served → c ≡ calls.after_start k.served → slice_get k.points r.point ≡ Some q
+    → StartLeads None event (record { kept = k; woken = woken; heard = heard }) (record { kept = with_served k c; woken = woken; heard = heard }) (deed.Start event (Some q) r.value)
+next_leads k c woken heard event r q same queue starts is there = record {
   point = Some q;
   value = r.value;
   deed = refl;
@@ -144,6 +148,7 @@ next_leads k c woken event r q same queue starts is there = record {
   leads = (λ t. if eq-eqb event k.event same t then started_server k.served.queue k None (Some q) r.value else started_return k.served (awaited_at k event)) ∙ by_queue k.served.queue queue;
   kept = refl;
   woken = refl;
+  heard = refl;
 }
   where
     by_queue : (o : Option ℕ) → IsSome o → started_server o k None (Some q) r.value ≡ Some c
@@ -189,11 +194,11 @@ own_starts_none q event old same queue = record { none = λ point value. by_serv
     by_queue None none point value = absurd (false≢true none)
     by_queue (Some most) some point value = refl
 
-pub next_none : (k : Kept) (c : calls.Kept) (woken : List ℕ) (event : ℕ) → event ≡ k.event → IsSome k.served.queue → is_some (calls.next_point k.served) ≡ false → c ≡ calls.after_start k.served
-    → NoStart None event (record { kept = k; woken = woken }) (record { kept = with_served k c; woken = woken })
-next_none k c woken event same queue none is = record {
+pub next_none : (k : Kept) (c : calls.Kept) (woken : List ℕ) (heard : Option ℕ) (event : ℕ) → event ≡ k.event → IsSome k.served.queue → is_some (calls.next_point k.served) ≡ false → c ≡ calls.after_start k.served
+    → NoStart None event (record { kept = k; woken = woken; heard = heard }) (record { kept = with_served k c; woken = woken; heard = heard })
+next_none k c woken heard event same queue none is = record {
   none = λ point value. by_server k None event point value same ∙ by_queue k.served.queue queue point value;
-  same = ap (λ z. record { kept = with_served k z; woken = woken }) (is ∙ left (calls.next_point k.served) refl none);
+  same = ap (λ z. record { kept = with_served k z; woken = woken; heard = heard }) (is ∙ left (calls.next_point k.served) refl none);
   flag = λ plain. by_flag k event same ∙ (λ t. is_some k.served.queue && none t) ∙ no_test (is_some k.served.queue);
 }
   where
@@ -206,10 +211,10 @@ next_none k c woken event same queue none is = record {
     left None at off = rw at refl
     left (Some i) at off = absurd (false≢true (sym off))
 
-pub direct_leads : (k : Kept) (c : calls.Kept) (woken : List ℕ) (own : Option ℕ) (event i : ℕ) (v : Value) → event ≡ k.event → k.served.queue ≡ None → own_place k own ≡ Some i → Some v ≡ value_asked (calls.point_at i k.served).stage → c ≡ calls.after_direct_start i k.served
+pub direct_leads : (k : Kept) (c : calls.Kept) (woken : List ℕ) (heard : Option ℕ) (own : Option ℕ) (event i : ℕ) (v : Value) → event ≡ k.event → k.served.queue ≡ None → own_place k own ≡ Some i → Some v ≡ value_asked (calls.point_at i k.served).stage → c ≡ calls.after_direct_start i k.served
     → ((p : Plan) (object : ℕ) → IsOfPlan p object k → start_fits p (kind_of p event) own (words_of v) ≡ true)
-    → StartLeads own event (record { kept = k; woken = woken }) (record { kept = with_served k c; woken = woken }) (deed.Start event own v)
-direct_leads k c woken own event i v same queue there asked is fits = record {
+    → StartLeads own event (record { kept = k; woken = woken; heard = heard }) (record { kept = with_served k c; woken = woken; heard = heard }) (deed.Start event own v)
+direct_leads k c woken heard own event i v same queue there asked is fits = record {
   point = own;
   value = v;
   deed = refl;
@@ -222,6 +227,7 @@ direct_leads k c woken own event i v same queue there asked is fits = record {
       ∙ ap (λ z. Some z) (sym is);
   kept = refl;
   woken = refl;
+  heard = refl;
 }
   where
     itself : (o : Option ℕ) → same_number o o ≡ true
@@ -237,14 +243,14 @@ own_fits k (Some q) event i ws same there found p object planned =
     let joined : server_of p q ≡ Some (server_in p object) = points_joined p (server_in p object) k.points i q planned.points (found q there) in
     (λ t. start_fits p (kind t) (Some q) ws) ∙ (λ t. same_number (joined t) (Some (server_in p object))) ∙ eq-eqb (server_in p object) (server_in p object) refl
 
-pub direct_none : (k : Kept) (c : calls.Kept) (woken : List ℕ) (own : Option ℕ) (event i : ℕ) → event ≡ k.event → k.served.queue ≡ None → own_place k own ≡ Some i → None ≡ value_asked (calls.point_at i k.served).stage → c ≡ calls.after_direct_start i k.served
-    → NoStart own event (record { kept = k; woken = woken }) (record { kept = with_served k c; woken = woken })
-direct_none k c woken own event i same queue there none is = record {
+pub direct_none : (k : Kept) (c : calls.Kept) (woken : List ℕ) (heard : Option ℕ) (own : Option ℕ) (event i : ℕ) → event ≡ k.event → k.served.queue ≡ None → own_place k own ≡ Some i → None ≡ value_asked (calls.point_at i k.served).stage → c ≡ calls.after_direct_start i k.served
+    → NoStart own event (record { kept = k; woken = woken; heard = heard }) (record { kept = with_served k c; woken = woken; heard = heard })
+direct_none k c woken heard own event i same queue there none is = record {
   none = λ point value. by_server k own event point value same
       ∙ (λ t. started_server (queue t) k own point value)
       ∙ (λ t. started_directly own point value k.served (there t))
       ∙ ap (option_and_then (λ w. given (same_number point own && same_words (words_of value) (words_of w)) (calls.after_direct_start i k.served))) (sym none);
-  same = ap (λ z. record { kept = with_served k z; woken = woken }) (is ∙ left);
+  same = ap (λ z. record { kept = with_served k z; woken = woken; heard = heard }) (is ∙ left);
   flag = λ plain. by_flag k event same ∙ (λ t. is_some (queue t) && is_some (calls.next_point k.served));
 }
   where
@@ -258,9 +264,9 @@ direct_nowhere old own event same queue none = record {
   flag = λ plain. by_flag old.kept event same ∙ (λ t. is_some (queue t) && is_some (calls.next_point old.kept.served));
 }
 
-pub return_start_leads : (k : Kept) (c : calls.Kept) (woken : List ℕ) (own : Option ℕ) (event i : ℕ) (v : Value) → (event ≡ k.event → ⊥) → words_of v ≡ [] → awaited_at k event ≡ Some i → true ≡ (calls.point_at i k.served).due → c ≡ calls.after_return_start i k.served
-    → StartLeads own event (record { kept = k; woken = woken }) (record { kept = with_served k c; woken = woken }) (deed.Start event None v)
-return_start_leads k c woken own event i v apart empty there due is = record {
+pub return_start_leads : (k : Kept) (c : calls.Kept) (woken : List ℕ) (heard : Option ℕ) (own : Option ℕ) (event i : ℕ) (v : Value) → (event ≡ k.event → ⊥) → words_of v ≡ [] → awaited_at k event ≡ Some i → true ≡ (calls.point_at i k.served).due → c ≡ calls.after_return_start i k.served
+    → StartLeads own event (record { kept = k; woken = woken; heard = heard }) (record { kept = with_served k c; woken = woken; heard = heard }) (deed.Start event None v)
+return_start_leads k c woken heard own event i v apart empty there due is = record {
   point = None;
   value = v;
   deed = refl;
@@ -270,13 +276,14 @@ return_start_leads k c woken own event i v apart empty there due is = record {
   leads = by_return k own event None v apart ∙ ap (started_return k.served) there ∙ ap (λ b. given b (calls.after_return_start i k.served)) (sym due) ∙ ap (λ z. Some z) (sym is);
   kept = refl;
   woken = refl;
+  heard = refl;
 }
 
-pub return_start_none : (k : Kept) (c : calls.Kept) (woken : List ℕ) (own : Option ℕ) (event i : ℕ) → (event ≡ k.event → ⊥) → awaited_at k event ≡ Some i → false ≡ (calls.point_at i k.served).due → c ≡ calls.after_return_start i k.served
-    → NoStart own event (record { kept = k; woken = woken }) (record { kept = with_served k c; woken = woken })
-return_start_none k c woken own event i apart there due is = record {
+pub return_start_none : (k : Kept) (c : calls.Kept) (woken : List ℕ) (heard : Option ℕ) (own : Option ℕ) (event i : ℕ) → (event ≡ k.event → ⊥) → awaited_at k event ≡ Some i → false ≡ (calls.point_at i k.served).due → c ≡ calls.after_return_start i k.served
+    → NoStart own event (record { kept = k; woken = woken; heard = heard }) (record { kept = with_served k c; woken = woken; heard = heard })
+return_start_none k c woken heard own event i apart there due is = record {
   none = λ point value. by_return k own event point value apart ∙ ap (started_return k.served) there ∙ ap (λ b. given b (calls.after_return_start i k.served)) (sym due);
-  same = ap (λ z. record { kept = with_served k z; woken = woken }) (is ∙ left);
+  same = ap (λ z. record { kept = with_served k z; woken = woken; heard = heard }) (is ∙ left);
   flag = λ plain. by_return_flag k event apart ∙ ap (is_due_at k.served) there ∙ sym due;
 }
   where
@@ -307,6 +314,7 @@ start_leads a own event old new d by started =
       kept = started.kept;
       told = none_tells old new (deed.Start event started.point started.value) refl started.woken
           (λ f off. ap (λ k. may_start k f) started.kept ∙ flags_left old.kept (deed.Start event started.point started.value) a new.kept.served leads refl f off);
+      heard = started.heard;
     })
 
 pub start_holds : (a : Actor) (event : ℕ) (old new : ServerState) (shown : Shown) → shown ≡ why_held old.kept (to_start event) → new ≡ old → ((point : Option ℕ) (value : Value) → lead_of_server old.kept (deed.Start event point value) a ≡ None)
@@ -327,6 +335,7 @@ return_leads a i code value old new there returned = record {
   leads = ap (returned_at code value old.kept.served) there ∙ returned.leads;
   kept = returned.kept;
   told = returned.told;
+  heard = returned.heard ∙ sym (ap (option_and_then (λ n. slice_get old.kept.points n)) there);
 }
 
 pub return_holds : (a : Actor) (code : ℕ) (ws : List ℤ) (old new : ServerState) (shown : Shown) → shown ≡ why_held old.kept (to_return code ws) → new ≡ old → ((c : ℕ) (v : Value) → returned_at c v old.kept.served (serving_of old.kept a) ≡ None)
@@ -366,3 +375,7 @@ module _ (a : Actor) (w : Wanted) (old new : ServerState) where
   pub acted_tells : (r : Acted) → IsActed a w old new r → (event : ℕ) → may_start old.kept event ≡ false → may_start new.kept event ≡ true → Contains new.woken event
   acted_tells (Done e) made event off on = made.told.came event off on
   acted_tells (NotYet shown) held event off on = absurd (false≢true (sym off ∙ sym (ap (λ (s : ServerState). may_start s.kept event) held.same) ∙ on))
+
+  pub acted_heard : (r : Acted) → IsActed a w old new r → (q : ℕ) → may_hear old.kept q ≡ false → may_hear new.kept q ≡ true → new.heard ≡ Some q
+  acted_heard (Done e) made q off on = made.heard ∙ ap (heard_by old e.deed) made.actor ∙ heard_comes old e.deed a new.kept.served made.leads q off (subst (λ k. may_hear k q ≡ true) made.kept on)
+  acted_heard (NotYet shown) held q off on = absurd (false≢true (sym off ∙ sym (ap (λ (s : ServerState). may_hear s.kept q) held.same) ∙ on))

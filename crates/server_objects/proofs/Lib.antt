@@ -14,6 +14,7 @@ pub mod Opening
 pub mod Planned
 pub mod Own
 pub mod Telling
+pub mod Hearing
 pub mod Staying
 pub mod Acted
 pub mod Whole

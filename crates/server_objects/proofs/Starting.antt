@@ -21,7 +21,7 @@ use Rattle.object_kinds.specs.Kinds.{StartsByFlag, OthersWakeNothing}
 use Rattle.object_kinds.specs.Flags.{given}
 use Rattle.object_kinds.specs.Layout.{place}
 use Rattle.object_kinds.proofs.Options.{given_some, given_none, then_some, mapped_some}
-use Rattle.server_objects.specs.Kept.{Kept, awaited_at, is_due_at, has_next, may_start}
+use Rattle.server_objects.specs.Kept.{Kept, awaited_at, is_due_at, is_returned_at, has_next, may_start}
 use Rattle.server_objects.specs.Leading.{is_outcome, is_result, own_place, started_server, started_return, lead_of_start, lead_of_server, with_served, lead, wakes}
 use Rattle.server_objects.proofs.Next.{next_start}
 
@@ -75,11 +75,33 @@ cleared_due (t ∷ ts) zero (suc j) s off = off
 cleared_due (t ∷ ts) (suc i) zero s off = off
 cleared_due (t ∷ ts) (suc i) (suc j) s off = cleared_due ts i j s off
 
+-- ---- what may be heard
+
+kept_stage : (ts : List Point) (i j : ℕ) (due : Bool) → (get_or (set ts i (record { stage = (get_or ts i new_point).stage; due = due })) j new_point).stage ≡ (get_or ts j new_point).stage
+kept_stage [] i j due = refl
+kept_stage (t ∷ ts) zero zero due = refl
+kept_stage (t ∷ ts) zero (suc j) due = refl
+kept_stage (t ∷ ts) (suc i) zero due = refl
+kept_stage (t ∷ ts) (suc i) (suc j) due = kept_stage ts i j due
+
+none_set : (ts : List Point) (i j : ℕ) (x : Point) → is_some (outcome_in x.stage) ≡ false → is_some (outcome_in (get_or ts j new_point).stage) ≡ false → is_some (outcome_in (get_or (set ts i x) j new_point).stage) ≡ false
+none_set [] i j x none off = off
+none_set (t ∷ ts) zero zero x none off = none
+none_set (t ∷ ts) zero (suc j) x none off = off
+none_set (t ∷ ts) (suc i) zero x none off = off
+none_set (t ∷ ts) (suc i) (suc j) x none off = none_set ts i j x none off
+
+-- a point comes to a stage in which nothing was returned
+pub hushed : (k c : calls.Kept) (i : ℕ) (s : Stage) → c.points ≡ calls.staged i s k → is_some (outcome_in s) ≡ false → (at : Option ℕ) → is_returned_at k at ≡ false → is_returned_at c at ≡ false
+hushed k c i s points none None off = refl
+hushed k c i s points none (Some j) off = ap (λ (ts : List Point). is_some (outcome_in (get_or ts j new_point).stage)) points ∙ none_set k.points i j (record { stage = s; due = (calls.point_at i k).due }) none off
+
 -- ---- what other entries leave
 
-record Leaves (k c : calls.Kept) : Type 0 where
-  next : has_next k ≡ false → has_next c ≡ false
-  due : (at : Option ℕ) → is_due_at k at ≡ false → is_due_at c at ≡ false
+pub record Leaves (k c : calls.Kept) : Type 0 where
+  pub next : has_next k ≡ false → has_next c ≡ false
+  pub due : (at : Option ℕ) → is_due_at k at ≡ false → is_due_at c at ≡ false
+  pub hush : (at : Option ℕ) → is_returned_at k at ≡ false → is_returned_at c at ≡ false
 
 due_staged : (k : calls.Kept) (i : ℕ) (s : Stage) (queue : Option ℕ) (waiting : List ℕ) (serving : Option ℕ) (at : Option ℕ) → is_due_at k at ≡ false → is_due_at (record { queue = queue; waiting = waiting; serving = serving; points = calls.staged i s k }) at ≡ false
 due_staged k i s queue waiting serving None off = refl
@@ -89,11 +111,11 @@ answer_leaves : (k : calls.Kept) (i : ℕ) → Leaves k (calls.after_answer i k)
 answer_leaves k i = by_outcome (is_some (outcome_in (calls.point_at i k).stage)) refl
   where
     by_outcome : (b : Bool) → is_some (outcome_in (calls.point_at i k).stage) ≡ b → Leaves k (calls.after_answer i k)
-    by_outcome true is = subst (Leaves k) (sym (taken is)) (record { next = λ off. off; due = due_staged k i Idle k.queue k.waiting k.serving })
+    by_outcome true is = subst (Leaves k) (sym (taken is)) (record { next = λ off. off; due = due_staged k i Idle k.queue k.waiting k.serving; hush = hushed k (record { queue = k.queue; waiting = k.waiting; serving = k.serving; points = calls.staged i Idle k }) i Idle refl refl })
       where
         taken : is_some (outcome_in (calls.point_at i k).stage) ≡ true → calls.after_answer i k ≡ record { queue = k.queue; waiting = k.waiting; serving = k.serving; points = calls.staged i Idle k }
         taken is = rw is refl
-    by_outcome false is = subst (Leaves k) (sym (left is)) (record { next = λ off. off; due = λ at off. off })
+    by_outcome false is = subst (Leaves k) (sym (left is)) (record { next = λ off. off; due = λ at off. off; hush = λ at off. off })
       where
         left : is_some (outcome_in (calls.point_at i k).stage) ≡ false → calls.after_answer i k ≡ k
         left is = rw is refl
@@ -101,7 +123,7 @@ answer_leaves k i = by_outcome (is_some (outcome_in (calls.point_at i k).stage))
 start_leaves : (k : calls.Kept) (r : Request) → calls.starting k ≡ Some r → Leaves k (calls.after_start k)
 start_leaves k r starts =
     let next = next_start k r starts in
-    subst (Leaves k) (sym next.after) (record { next = λ off. none k.queue; due = due_staged k r.point Started k.queue next.more (Some r.point) })
+    subst (Leaves k) (sym next.after) (record { next = λ off. none k.queue; due = due_staged k r.point Started k.queue next.more (Some r.point); hush = hushed k (record { queue = k.queue; waiting = next.more; serving = Some r.point; points = calls.staged r.point Started k }) r.point Started refl refl })
   where
     none : (o : Option ℕ) → (is_some o && false) ≡ false
     none None = refl
@@ -110,11 +132,15 @@ start_leaves k r starts =
 direct_leaves : (k : calls.Kept) (i : ℕ) (v : Value) → k.queue ≡ None → value_asked (calls.point_at i k).stage ≡ Some v → Leaves k (calls.after_direct_start i k)
 direct_leaves k i v queue is =
     let started : calls.after_direct_start i k ≡ record { queue = k.queue; waiting = k.waiting; serving = k.serving; points = calls.staged i Started k } = rw is refl in
-    subst (Leaves k) (sym started) (record { next = λ off. off; due = due_staged k i Started k.queue k.waiting k.serving })
+    subst (Leaves k) (sym started) (record { next = λ off. off; due = due_staged k i Started k.queue k.waiting k.serving; hush = hushed k (record { queue = k.queue; waiting = k.waiting; serving = k.serving; points = calls.staged i Started k }) i Started refl refl })
 
 return_start_leaves : (k : calls.Kept) (i : ℕ) → Leaves k (calls.after_return_start i k)
-return_start_leaves k i = record { next = λ off. off; due = due }
+return_start_leaves k i = record { next = λ off. off; due = due; hush = hush }
   where
+    hush : (at : Option ℕ) → is_returned_at k at ≡ false → is_returned_at (calls.after_return_start i k) at ≡ false
+    hush None off = refl
+    hush (Some j) off = ap (λ s. is_some (outcome_in s)) (kept_stage k.points i j false) ∙ off
+
     due : (at : Option ℕ) → is_due_at k at ≡ false → is_due_at (calls.after_return_start i k) at ≡ false
     due None off = refl
     due (Some j) off = cleared_due k.points i j (calls.point_at i k).stage off
@@ -141,7 +167,7 @@ started_leaves k own event point value c leads = by_event (event == k.event) lea
         let gives = given_some (calls.point_at at.item k.served).due (calls.after_return_start at.item k.served) c at.gives in
         subst (Leaves k.served) gives.same (return_start_leaves k.served at.item)
 
-server_quiet : (k : Kept) (d : Deed) (a : Actor) (c : calls.Kept) → lead_of_server k d a ≡ Some c → wakes d ≡ false → Leaves k.served c
+pub server_quiet : (k : Kept) (d : Deed) (a : Actor) (c : calls.Kept) → lead_of_server k d a ≡ Some c → wakes d ≡ false → Leaves k.served c
 server_quiet k (deed.Ask q value code) a c leads other = absurd (false≢true (sym other))
 server_quiet k (deed.Return code value) a c leads other = absurd (false≢true (sym other))
 server_quiet k (deed.Answer q code value) a c leads other =

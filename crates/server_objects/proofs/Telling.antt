@@ -129,8 +129,8 @@ module _ (k : Kept) (c : calls.Kept) (i : ℕ) (apart : place k.event k.returns 
       by_part (inl told) = by_next (has_next k.served) (has_next c) refl refl told
       by_part (inr told) = by_due (calls.point_at i k.served).due (calls.point_at i c).due refl refl told
 
-  pub tells : (d : Deed) (before now : List ℕ) → wakes d ≡ true → now ≡ woken → Tells (record { kept = k; woken = before }) (record { kept = with_served k c; woken = now }) d
-  tells d before now is same = record {
+  pub tells : (d : Deed) (before now : List ℕ) (h g : Option ℕ) → wakes d ≡ true → now ≡ woken → Tells (record { kept = k; woken = before; heard = h }) (record { kept = with_served k c; woken = now; heard = g }) d
+  tells d before now h g is same = record {
     came = λ e off on. subst (λ es. Contains es e) (sym same) (came e off on);
     only = λ yes e among. made e (subst (λ es. Contains es e) same among);
     left = λ no. clash (wakes d) is no;
@@ -153,13 +153,13 @@ asked_due k i value j = by_test (calls.accepts i k) refl
     by_test true is = ap (λ b. (calls.point_at j (if b then calls.with_request i value k else k)).due) is ∙ same_due k.points i j (Asked value)
     by_test false is = ap (λ b. (calls.point_at j (if b then calls.with_request i value k else k)).due) is
 
-pub ask_tells : (k : Kept) (i : ℕ) (value : Value) (before now : List ℕ) → place k.event k.returns ≡ None → is_rising k.returns ≡ true → now ≡ told_where (has_next k.served) (has_next (calls.after_ask i value k.served)) (k.event ∷ [])
-    → (q code : ℕ) → Tells (record { kept = k; woken = before }) (record { kept = with_served k (calls.after_ask i value k.served); woken = now }) (deed.Ask q value code)
-ask_tells k i value before now apart up is q code =
+pub ask_tells : (k : Kept) (i : ℕ) (value : Value) (before now : List ℕ) (h g : Option ℕ) → place k.event k.returns ≡ None → is_rising k.returns ≡ true → now ≡ told_where (has_next k.served) (has_next (calls.after_ask i value k.served)) (k.event ∷ [])
+    → (q code : ℕ) → Tells (record { kept = k; woken = before; heard = h }) (record { kept = with_served k (calls.after_ask i value k.served); woken = now; heard = g }) (deed.Ask q value code)
+ask_tells k i value before now h g apart up is q code =
     let c = calls.after_ask i value k.served in
     let none : told_where (calls.point_at i k.served).due (calls.point_at i c).due (awaiting k.returns k.awaited i) ≡ [] =
     ap (λ b. told_where (calls.point_at i k.served).due b (awaiting k.returns k.awaited i)) (asked_due k.served i value i) ∙ same_told (calls.point_at i k.served).due in
-    tells k c i apart up (λ j other. asked_due k.served i value j) (deed.Ask q value code) before now refl
+    tells k c i apart up (λ j other. asked_due k.served i value j) (deed.Ask q value code) before now h g refl
     (is ∙ sym (ap (λ es. told_where (has_next k.served) (has_next c) (k.event ∷ []) ++ es) none ∙ append-nil (told_where (has_next k.served) (has_next c) (k.event ∷ []))))
   where
     same_told : (b : Bool) → told_where b b (awaiting k.returns k.awaited i) ≡ []
@@ -168,11 +168,11 @@ ask_tells k i value before now apart up is q code =
 
 -- ---- a Return
 
-pub return_tells : (k : Kept) (i code : ℕ) (value : Value) (before now : List ℕ) → place k.event k.returns ≡ None → is_rising k.returns ≡ true
+pub return_tells : (k : Kept) (i code : ℕ) (value : Value) (before now : List ℕ) (h g : Option ℕ) → place k.event k.returns ≡ None → is_rising k.returns ≡ true
     → (c : calls.Kept) → c.points ≡ set k.served.points i (record { stage = Returned (record { code = code; value = value }); due = true })
     → now ≡ told_where (has_next k.served) (has_next c) (k.event ∷ []) ++ told_where (calls.point_at i k.served).due (calls.point_at i c).due (awaiting k.returns k.awaited i)
-    → Tells (record { kept = k; woken = before }) (record { kept = with_served k c; woken = now }) (deed.Return code value)
-return_tells k i code value before now apart up c points is =
+    → Tells (record { kept = k; woken = before; heard = h }) (record { kept = with_served k c; woken = now; heard = g }) (deed.Return code value)
+return_tells k i code value before now h g apart up c points is =
     tells k c i apart up
     (λ j other. ap (λ (ts : List Point). (get_or ts j new_point).due) points ∙ ap (λ (t : Point). t.due) (get_or-set_other k.served.points i j (record { stage = Returned (record { code = code; value = value }); due = true }) new_point other))
-    (deed.Return code value) before now refl is
+    (deed.Return code value) before now h g refl is

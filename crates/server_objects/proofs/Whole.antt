@@ -56,12 +56,13 @@ few_awaiting (e ∷ es) (j ∷ awaited) i = by_test (j == i) (few_awaiting es aw
     by_test false rest = omega arith
 
 pub asked : (old new : ServerState) (i code : ℕ) (value : Value) (c : calls.Kept) → place old.kept.event old.kept.returns ≡ None → is_rising old.kept.returns ≡ true → code ≡ calls.answer_to_ask i old.kept.served → c ≡ calls.after_ask i value old.kept.served
-    → new.kept ≡ with_served old.kept c → new.woken ≡ told_where (has_next old.kept.served) (has_next c) (old.kept.event ∷ []) → IsAskedAt value old new i code
-asked old new i code value c apart up code_is is kept told = record {
+    → new.kept ≡ with_served old.kept c → new.woken ≡ told_where (has_next old.kept.served) (has_next c) (old.kept.event ∷ []) → new.heard ≡ old.heard → IsAskedAt value old new i code
+asked old new i code value c apart up code_is is kept told heard = record {
+  heard = heard;
   code_is = code_is;
   kept = whole;
-  told = λ q. subst (λ k. Tells old (record { kept = k; woken = new.woken }) (deed.Ask q value code)) (sym whole)
-      (ask_tells old.kept i value old.woken new.woken apart up (told ∙ ap (λ z. told_where (has_next old.kept.served) (has_next z) (old.kept.event ∷ [])) is) q code);
+  told = λ q. subst (λ k. Tells old (record { kept = k; woken = new.woken; heard = new.heard }) (deed.Ask q value code)) (sym whole)
+      (ask_tells old.kept i value old.woken new.woken old.heard new.heard apart up (told ∙ ap (λ z. told_where (has_next old.kept.served) (has_next z) (old.kept.event ∷ [])) is) q code);
 }
   where
     whole : new.kept ≡ with_served old.kept (calls.after_ask i value old.kept.served)
@@ -69,12 +70,13 @@ asked old new i code value c apart up code_is is kept told = record {
 
 pub returned : (old new : ServerState) (i code : ℕ) (value : Value) (c : calls.Kept) → place old.kept.event old.kept.returns ≡ None → is_rising old.kept.returns ≡ true → i < length old.kept.served.points
     → is_started (calls.point_at i old.kept.served).stage ≡ true → c ≡ calls.after_reply i (record { code = code; value = value }) old.kept.served → new.kept ≡ with_served old.kept c
-    → new.woken ≡ told_where (has_next old.kept.served) (has_next c) (old.kept.event ∷ []) ++ told_where (calls.point_at i old.kept.served).due true (awaiting old.kept.returns old.kept.awaited i) → ReturnLeads code value old new i
-returned old new i code value c apart up within started is kept told = record {
+    → new.woken ≡ told_where (has_next old.kept.served) (has_next c) (old.kept.event ∷ []) ++ told_where (calls.point_at i old.kept.served).due true (awaiting old.kept.returns old.kept.awaited i) → new.heard ≡ slice_get old.kept.points i → ReturnLeads code value old new i
+returned old new i code value c apart up within started is kept told heard = record {
+  heard = heard;
   leads = ap (λ b. given b (calls.after_reply i (record { code = code; value = value }) old.kept.served)) started ∙ ap (λ z. Some z) (sym is ∙ ap (λ (k : Kept). k.served) (sym kept));
   kept = kept ∙ ap (λ (k : Kept). with_served old.kept k.served) (sym kept);
-  told = subst (λ k. Tells old (record { kept = k; woken = new.woken }) (deed.Return code value)) (sym kept)
-      (return_tells old.kept i code value old.woken new.woken apart up c points (told ∙ ap (λ b. told_where (has_next old.kept.served) (has_next c) (old.kept.event ∷ []) ++ told_where (calls.point_at i old.kept.served).due b (awaiting old.kept.returns old.kept.awaited i)) (sym due)));
+  told = subst (λ k. Tells old (record { kept = k; woken = new.woken; heard = new.heard }) (deed.Return code value)) (sym kept)
+      (return_tells old.kept i code value old.woken new.woken old.heard new.heard apart up c points (told ∙ ap (λ b. told_where (has_next old.kept.served) (has_next c) (old.kept.event ∷ []) ++ told_where (calls.point_at i old.kept.served).due b (awaiting old.kept.returns old.kept.awaited i)) (sym due)));
 }
   where
     x : Point

@@ -1,6 +1,6 @@
 -- What the calls of a server answer, each for its own wish: the entry by which what was kept leads on, or that no deed of the wish leads
 -- anywhere.
-use Rattle.std.specs.Prelude.{◌≡◌, ℕ, ◌<◌, ◌≤◌, ◌+◌, List, length, Bool, true, false, Option, Some, None, All, IfSome, Vec, is_some}
+use Rattle.std.specs.Prelude.{◌≡◌, ℕ, ◌<◌, ◌≤◌, ◌+◌, List, length, Bool, true, false, Option, Some, None, All, IfSome, Vec, is_some, slice_get}
 use Rattle.std.specs.Global.{Global}
 use Rattle.std.specs.List.{Contains}
 use Rattle.rte_value.specs.declared.value.Value.{Value}
@@ -24,7 +24,7 @@ use Rattle.object_kinds.specs.declared.acted.Acted.{Acted}
 use Rattle.object_kinds.specs.declared.acted.Acted.TheVariants.{Done, NotYet}
 use Rattle.object_kinds.specs.declared.acted.Shown.{Shown}
 use Rattle.server_objects.specs.Kept.{Kept, ServerState, awaiting, may_start}
-use Rattle.server_objects.specs.Leading.{lead_of_server, lead_of_start, returned_at, taken_at, why_held, wakes, with_served}
+use Rattle.server_objects.specs.Leading.{lead_of_server, lead_of_start, returned_at, taken_at, why_held, wakes, heard_by, with_served}
 use Rattle.server_objects.specs.Plans.{IsOfPlan}
 
 -- each event that a deed made pending is told, and after an Ask or a Return no other; every other deed leaves what was told
@@ -40,6 +40,7 @@ pub record Leads (a : Actor) (w : Wanted) (old new : ServerState) (e : Entry) : 
   pub leads : lead_of_server old.kept e.deed a ≡ Some new.kept.served
   pub kept : new.kept ≡ with_served old.kept new.kept.served
   pub told : Tells old new e.deed
+  pub heard : new.heard ≡ heard_by old e.deed e.actor
 
 pub record Holds (a : Actor) (w : Wanted) (old new : ServerState) (shown : Shown) : Type 0 where
   pub why : shown ≡ why_held old.kept w
@@ -60,6 +61,7 @@ pub record StartLeads (own : Option ℕ) (event : ℕ) (old new : ServerState) (
   pub leads : lead_of_start old.kept own event point value ≡ Some new.kept.served
   pub kept : new.kept ≡ with_served old.kept new.kept.served
   pub woken : new.woken ≡ old.woken
+  pub heard : new.heard ≡ old.heard
 
 pub record NoStart (own : Option ℕ) (event : ℕ) (old new : ServerState) : Type 0 where
   pub none : (point : Option ℕ) (value : Value) → lead_of_start old.kept own event point value ≡ None
@@ -75,6 +77,7 @@ pub record ReturnLeads (code : ℕ) (value : Value) (old new : ServerState) (pla
   pub leads : returned_at code value old.kept.served (Some place) ≡ Some new.kept.served
   pub kept : new.kept ≡ with_served old.kept new.kept.served
   pub told : Tells old new (deed.Return code value)
+  pub heard : new.heard ≡ slice_get old.kept.points place
 
 pub record NoReturn (code : ℕ) (value : Value) (old new : ServerState) (place : ℕ) : Type 0 where
   pub none : is_started (point_at place old.kept.served).stage ≡ false
@@ -89,12 +92,14 @@ pub record IsAskedAt (value : Value) (old new : ServerState) (place : ℕ) (code
   pub code_is : code ≡ answer_to_ask place old.kept.served
   pub kept : new.kept ≡ with_served old.kept (after_ask place value old.kept.served)
   pub told : (point : ℕ) → Tells old new (deed.Ask point value code)
+  pub heard : new.heard ≡ old.heard
 
 -- what was returned to the point at a place, or 131 RTE_E_NO_DATA without words
 pub record IsTaken (old new : ServerState) (place : ℕ) (o : Outcome) : Type 0 where
   pub leads : taken_at o.code o.value old.kept.served (Some place) ≡ Some new.kept.served
   pub kept : new.kept ≡ with_served old.kept new.kept.served
   pub woken : new.woken ≡ old.woken
+  pub heard : new.heard ≡ old.heard
 
 -- what the code of a server needs: numbers in rising order, a place for each return event and each point, and room to tell all events
 pub record IsWhole (k : Kept) (queued : Bool) (lists : List (Vec ℕ Global)) (room : ℕ) : Type 0 where

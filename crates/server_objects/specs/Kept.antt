@@ -3,6 +3,7 @@ use Rattle.std.specs.Prelude.{ℕ, List, [], ◌∷◌, map, length, Bool, true,
 use Rattle.std.specs.Option.{option_and_then}
 use Rattle.bus_semantics.specs.Plan.{Plan, queue_of}
 use Rattle.client_server.specs.Kept as calls
+use Rattle.client_server.specs.Points.{outcome_in}
 use Rattle.object_kinds.specs.Layout.{events_of, place}
 use Rattle.server_objects.specs.Layout.{server_in, event_in, points_of, returns_for, awaited_by}
 
@@ -15,10 +16,11 @@ pub record Kept : Type 0 where
   pub awaited : List ℕ
   pub served : calls.Kept
 
--- with the events that the last Ask or Return made pending
+-- with the events that the last Ask or Return made pending, and the point to which the last Return went
 pub record ServerState : Type 0 where
   pub kept : Kept
   pub woken : List ℕ
+  pub heard : Option ℕ
 
 -- what is kept before anything has happened
 abbrev pub opening_at : Plan → (server : ℕ) → Kept
@@ -56,6 +58,15 @@ is_due_at k (Some i) = (calls.point_at i k).due
 -- a request waits for a queued server, and none is served
 abbrev pub has_next : calls.Kept → Bool
 has_next k = is_some k.queue && is_some (calls.next_point k)
+
+-- something was returned to the point at this place, and was not taken
+abbrev pub is_returned_at : calls.Kept → (at : Option ℕ) → Bool
+is_returned_at k None = false
+is_returned_at k (Some i) = is_some (outcome_in (calls.point_at i k).stage)
+
+-- whether an Answer at a point may come
+abbrev pub may_hear : Kept → (point : ℕ) → Bool
+may_hear k q = is_returned_at k.served (place q k.points)
 
 -- whether a start by an event may come. No plain start is by the event of a direct server
 abbrev pub may_start : Kept → (event : ℕ) → Bool

@@ -19,7 +19,7 @@ use Rattle.object_kinds.specs.declared.acted.Shown.{Shown}
 use Rattle.object_kinds.specs.declared.acted.Shown.TheVariants.{NotDue, NotReturned, Unmatched}
 use Rattle.object_kinds.specs.Flags.{given}
 use Rattle.object_kinds.specs.Layout.{place}
-use Rattle.server_objects.specs.Kept.{Kept, awaited_at}
+use Rattle.server_objects.specs.Kept.{Kept, ServerState, awaited_at}
 
 -- ---- calls. The point stands at this place
 
@@ -95,6 +95,11 @@ lead_of_server k (deed.TakeResult q code value) a = taken_at code value k.served
 lead_of_server k (deed.Start event point value) (Act key) = lead_of_start k key.point event point value
 lead_of_server k (deed.Return code value) a = returned_at code value k.served (serving_of k a)
 lead_of_server k _ _ = None
+
+-- the point to which the last Return went
+abbrev pub heard_by : ServerState → Deed → Actor → Option ℕ
+heard_by s (deed.Return code value) a = option_and_then (λ i. slice_get s.kept.points i) (serving_of s.kept a)
+heard_by s d a = s.heard
 
 -- the points and the events stay
 abbrev pub with_served : Kept → calls.Kept → Kept

@@ -53,6 +53,7 @@ impl ServerObject {
     fn tell_next(&mut self, had_next: bool)
         ensures kept { self.new.kept ≡ self.old.kept }
         ensures woken { self.new.woken ≡ told_where had_next (has_next self.old.kept.served) (self.old.kept.event ∷ []) }
+        ensures heard { self.new.heard ≡ self.old.heard }
     {
         self.woken.clear();
         if !had_next && self.has_next() {
@@ -66,6 +67,7 @@ impl ServerObject {
         requires first { length self.old.woken ≤ 1 }
         ensures kept { self.new.kept ≡ self.old.kept }
         ensures woken { self.new.woken ≡ self.old.woken ++ told_where was_due true (awaiting self.old.kept.returns self.old.kept.awaited place) }
+        ensures heard { self.new.heard ≡ self.old.heard }
     {
         if !was_due {
             append_all(&mut self.woken, self.by_point[place as usize].as_slice());
@@ -247,6 +249,7 @@ impl ServerObject {
     {
         let had_next = self.has_next();
         let was_due = self.server.is_return_due(place);
+        let point = self.points[place as usize];
         let outcome = Outcome {
             code,
             value: *value,
@@ -254,6 +257,7 @@ impl ServerObject {
         if !self.server.reply(place, &outcome) {
             return false;
         }
+        self.heard = Some(point);
         self.tell_next(had_next);
         self.tell_returns(was_due, place);
         true

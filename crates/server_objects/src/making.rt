@@ -53,6 +53,7 @@ impl ServerObject {
             server: served,
             is_queued: queue.is_some(),
             woken,
+            heard: None,
         })
     }
 }

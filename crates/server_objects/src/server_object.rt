@@ -1,6 +1,6 @@
 //! A server with its points and their return events.
 
-ghost use Rattle.std.specs.Prelude.{◌≡◌, ℕ, ◌<◌, length, true, false, IfSome};
+ghost use Rattle.std.specs.Prelude.{◌≡◌, ℕ, ◌<◌, length, true, false, Some, IfSome};
 ghost use Rattle.std.specs.List.{Contains};
 ghost use Rattle.bus_semantics.specs.declared.entries.Entry.{Entry};
 ghost use Rattle.bus_semantics.specs.Plan.{Plan};
@@ -10,7 +10,7 @@ ghost use Rattle.object_kinds.specs.declared.acted.Acted.TheVariants.{Done, NotY
 ghost use Rattle.object_kinds.specs.Kinds.{IsAnswerOf};
 ghost use Rattle.object_kinds.specs.Layout.{place};
 ghost use Rattle.server_objects.specs.Acting.{IsActed};
-ghost use Rattle.server_objects.specs.Kept.{awaited_at, has_next, may_start};
+ghost use Rattle.server_objects.specs.Kept.{awaited_at, has_next, may_hear, may_start};
 ghost use Rattle.server_objects.specs.Leading.{lead, own_place, serving_of, why_held, wakes};
 ghost use Rattle.server_objects.specs.Plans.{IsOfPlan};
 
@@ -33,6 +33,8 @@ pub struct ServerObject {
     pub(crate) server: Server,
     pub(crate) is_queued: bool,
     pub(crate) woken: Vec<u32>,
+    /// The point to which the last Return went.
+    pub(crate) heard: Option<u32>,
 }
 
 impl Model for ServerObject {
@@ -42,7 +44,7 @@ impl Model for ServerObject {
 
     ghost Value = { ServerState };
 
-    ghost view = { λ o. record { kept = record { points = o.points.items; event = o.event; returns = o.returns.items; awaited = o.awaited.items; served = o.server }; woken = o.woken.items } };
+    ghost view = { λ o. record { kept = record { points = o.points.items; event = o.event; returns = o.returns.items; awaited = o.awaited.items; served = o.server }; woken = o.woken.items; heard = o.heard } };
 
     ghost invariant = { λ o. IsWhole (record { points = o.points.items; event = o.event; returns = o.returns.items; awaited = o.awaited.items; served = o.server }) o.is_queued o.by_point.items (vec_capacity o.woken) };
 }
@@ -58,6 +60,7 @@ impl ServerObject {
         ensures same { (shown : Shown) → result ≡ NotYet shown → self.new ≡ self.old }
         ensures told { (event : ℕ) → may_start self.old.kept event ≡ false → may_start self.new.kept event ≡ true → Contains self.new.woken event }
         ensures only { (e : Entry) → result ≡ Done e → wakes e.deed ≡ true → (event : ℕ) → Contains self.new.woken event → (may_start self.old.kept event ≡ false) × (may_start self.new.kept event ≡ true) }
+        ensures heard { (point : ℕ) → may_hear self.old.kept point ≡ false → may_hear self.new.kept point ≡ true → self.new.heard ≡ Some point }
         ensures left { (e : Entry) → result ≡ Done e → wakes e.deed ≡ false → self.new.woken ≡ self.old.woken }
     {
         self.act_by_wish(who, wish)
@@ -95,6 +98,13 @@ impl ServerObject {
         ensures { result.now ≡ self.now.woken }
     {
         self.woken.as_slice()
+    }
+
+    /// The point to which the last Return went: if the last entry made an Answer come, it was at this one.
+    pub fn heard(&self) -> Option<u32>
+        ensures { result ≡ self.now.heard }
+    {
+        self.heard
     }
 
     /// Whether a queued server may start with a request.

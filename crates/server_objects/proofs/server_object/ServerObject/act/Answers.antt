@@ -1,7 +1,7 @@
 use Rattle.std.proofs.Common.{subst}
 use Rattle.bus_semantics.specs.Wanted.{wanted_of}
 use Rattle.server_objects.specs.Acting.{IsActed}
-use Rattle.server_objects.proofs.Acted.{acted_answers, acted_planned, acted_tells}
+use Rattle.server_objects.proofs.Acted.{acted_answers, acted_planned, acted_tells, acted_heard}
 use Rattle.server_objects.proofs.server_object.ServerObject.act.Goals as goal
 
 pub returns-clause-answer : goal.returns-clause-answer
@@ -14,6 +14,9 @@ returns-clause-planned c = λ p object planned.
 
 pub returns-clause-told : goal.returns-clause-told
 returns-clause-told c = acted_tells c.args.who.now (wanted_of c.args.wish.now) c.args.self.now c.act_by_wish.new.self c.act_by_wish.result c.act_by_wish.ensures
+
+pub returns-clause-heard : goal.returns-clause-heard
+returns-clause-heard c = acted_heard c.args.who.now (wanted_of c.args.wish.now) c.args.self.now c.act_by_wish.new.self c.act_by_wish.result c.act_by_wish.ensures
 
 pub returns-clause-same : goal.returns-clause-same
 returns-clause-same c = λ shown is. (subst (IsActed c.args.who.now (wanted_of c.args.wish.now) c.args.self.now c.act_by_wish.new.self) is c.act_by_wish.ensures).same

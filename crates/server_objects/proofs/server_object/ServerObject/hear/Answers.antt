@@ -15,15 +15,15 @@ returns-after-answer c =
     let i = c.self.inside in
     let q = c.args.point in
     let kept : Kept = record { points = i.points.items; event = i.event; returns = i.returns.items; awaited = i.awaited.items; served = i.server } in
-    let new = state i.points.items i.event i.returns.items i.awaited.items c.answer.new.self i.woken.items in
+    let new = state i.points.items i.event i.returns.items i.awaited.items c.answer.new.self i.woken.items i.heard in
     let there : place q i.points.items ≡ Some c.in-Some.place = ap (λ (z : ServerState). place q z.kept.points) c.self.view_is ∙ sym c.place_of.ensures.place ∙ c.in-Some.is in
     elim c.match-answer.branch [
       | in-Some-answer w ↦ subst (IsActed c.args.who.now (to_hear q) c.args.self.now new) (sym w.result-is)
           (subst (λ old. Leads c.args.who.now (to_hear q) old new (record { actor = c.args.who.now; deed = deed.Answer q w.in-Some-answer.outcome.code w.in-Some-answer.outcome.value })) c.self.view_is
-          (hear_leads c.args.who.now q c.in-Some.place w.in-Some-answer.outcome kept c.answer.new.self i.woken.items there (sym w.in-Some-answer.is ∙ c.answer.ensures.answer) c.answer.ensures.kept))
+          (hear_leads c.args.who.now q c.in-Some.place w.in-Some-answer.outcome kept c.answer.new.self i.woken.items i.heard there (sym w.in-Some-answer.is ∙ c.answer.ensures.answer) c.answer.ensures.kept))
       | in-None-answer w ↦ subst (IsActed c.args.who.now (to_hear q) c.args.self.now new) (sym w.result-is)
           (subst (λ old. IsActed c.args.who.now (to_hear q) old new (NotYet (NotReturned q))) c.self.view_is
-          (hear_holds c.args.who.now q (record { kept = kept; woken = i.woken.items }) new (NotReturned q) refl
-          (ap (λ z. state i.points.items i.event i.returns.items i.awaited.items z i.woken.items) (c.answer.ensures.kept ∙ nothing_taken i.server c.in-Some.place (sym w.in-None-answer.is ∙ c.answer.ensures.answer)))
+          (hear_holds c.args.who.now q (record { kept = kept; woken = i.woken.items; heard = i.heard }) new (NotReturned q) refl
+          (ap (λ z. state i.points.items i.event i.returns.items i.awaited.items z i.woken.items i.heard) (c.answer.ensures.kept ∙ nothing_taken i.server c.in-Some.place (sym w.in-None-answer.is ∙ c.answer.ensures.answer)))
           (none_heard i.server (place q i.points.items) c.in-Some.place there (sym w.in-None-answer.is ∙ c.answer.ensures.answer))))
     ]

@@ -12,15 +12,15 @@ pub returns-after-start_direct : goal.returns-after-start_direct
 returns-after-start_direct c =
     let i = c.self.inside in
     let kept : Kept = record { points = i.points.items; event = i.event; returns = i.returns.items; awaited = i.awaited.items; served = i.server } in
-    let new = state i.points.items i.event i.returns.items i.awaited.items c.start_direct.new.self i.woken.items in
+    let new = state i.points.items i.event i.returns.items i.awaited.items c.start_direct.new.self i.woken.items i.heard in
     let there : own_place kept c.args.own ≡ Some c.in-Some.place = ap (λ (z : ServerState). own_place z.kept c.args.own) c.self.view_is ∙ sym c.own_place.ensures.place ∙ c.in-Some.is in
     let same : c.args.event ≡ i.event = c.requires.event ∙ sym (ap (λ (z : ServerState). z.kept.event) c.self.view_is) in
     let direct : i.server.queue ≡ None = ap (λ (z : ServerState). z.kept.served.queue) c.self.view_is ∙ c.requires.direct in
     subst (λ old. IsStart c.args.own c.args.event old new c.match-start_direct.result) c.self.view_is
     (elim c.match-start_direct.branch [
-      | in-Some-start_direct w ↦ subst (IsStart c.args.own c.args.event (record { kept = kept; woken = i.woken.items }) new) (sym w.result-is)
-          (direct_leads kept c.start_direct.new.self i.woken.items c.args.own c.args.event c.in-Some.place w.in-Some-start_direct.value same direct there (sym w.in-Some-start_direct.is ∙ c.start_direct.ensures.answer) c.start_direct.ensures.kept
+      | in-Some-start_direct w ↦ subst (IsStart c.args.own c.args.event (record { kept = kept; woken = i.woken.items; heard = i.heard }) new) (sym w.result-is)
+          (direct_leads kept c.start_direct.new.self i.woken.items i.heard c.args.own c.args.event c.in-Some.place w.in-Some-start_direct.value same direct there (sym w.in-Some-start_direct.is ∙ c.start_direct.ensures.answer) c.start_direct.ensures.kept
           (own_fits kept c.args.own c.args.event c.in-Some.place (words_of w.in-Some-start_direct.value) same there (λ q at. place_at q i.points.items c.in-Some.place at)))
-      | in-None-start_direct w ↦ subst (IsStart c.args.own c.args.event (record { kept = kept; woken = i.woken.items }) new) (sym w.result-is)
-          (direct_none kept c.start_direct.new.self i.woken.items c.args.own c.args.event c.in-Some.place same direct there (sym w.in-None-start_direct.is ∙ c.start_direct.ensures.answer) c.start_direct.ensures.kept)
+      | in-None-start_direct w ↦ subst (IsStart c.args.own c.args.event (record { kept = kept; woken = i.woken.items; heard = i.heard }) new) (sym w.result-is)
+          (direct_none kept c.start_direct.new.self i.woken.items i.heard c.args.own c.args.event c.in-Some.place same direct there (sym w.in-None-start_direct.is ∙ c.start_direct.ensures.answer) c.start_direct.ensures.kept)
     ])
