@@ -22,7 +22,7 @@ use Rattle.port_objects.specs.Kept.{Kept}
 use Rattle.port_objects.specs.Leading.{lead}
 use Rattle.port_objects.specs.Objects.{kept_of}
 use Rattle.port_objects.specs.Standing.{Stands}
-use Rattle.port_objects.specs.Waking.{may_start_in, Tells}
+use Rattle.port_objects.specs.Waking.{may_start_in, Tells, TellsPoint}
 use Rattle.port_objects.specs.Answers.{why_held, IsMade, IsHeld, IsAnswer}
 use Rattle.port_objects.specs.Coming.{MayAsk, IsTheOne}
 use Rattle.port_objects.proofs.Gate.{opens, stays_shut}
@@ -32,8 +32,8 @@ use Rattle.port_objects.proofs.Asking.{made_touches, made_proper}
 module _ {K : Type 0} (p : Plan) (a : Actor) (w : Wanted) (of : K → Kept) (keeps : K → Past → Type 0) (kind_leads : K → Noted → Option K) (flag : K → ℕ → Bool) (why : K → Wanted → Shown)
     (row : Row p (touched p a w) of keeps kind_leads flag why) where
   pub answered : object_of p a w ≡ Some (touched p a w) → wish_fits p a w ≡ true → asks_its_own p a w ≡ true → (old new : Object) (before after : K) (r : Acted) → kept_of old ≡ of before → kept_of new ≡ of after
-      → IsAnswerOf p kind_leads flag why a w before after r → ((shown : Shown) → r ≡ NotYet shown → new ≡ old) → Tells (kept_of old) new → IsAnswer p (touched p a w) a w old new r
-  answered touching fits own old new before after (Done e) was is made same told =
+      → IsAnswerOf p kind_leads flag why a w before after r → ((shown : Shown) → r ≡ NotYet shown → new ≡ old) → Tells (kept_of old) new → TellsPoint (kept_of old) new → IsAnswer p (touched p a w) a w old new r
+  answered touching fits own old new before after (Done e) was is made same told heard =
       let touches_it = made_touches p a w e made.actor made.wish touching in
       let proper = made_proper p a w e made.actor made.wish fits own made.answer in
       record {
@@ -46,8 +46,9 @@ module _ {K : Type 0} (p : Plan) (a : Actor) (w : Wanted) (of : K → Kept) (kee
             ∙ ap (option_map of) made.leads
             ∙ ap (λ k. Some k) (sym is);
         told = told;
+        heard = heard;
       }
-  answered touching fits own old new before after (NotYet shown) was is (shows, stays, held) same told = record {
+  answered touching fits own old new before after (NotYet shown) was is (shows, stays, held) same told heard = record {
     why = shows ∙ sym (row.shows before w) ∙ ap (λ k. why_held k w) (sym was);
     same = same shown refl;
     none = λ n who wish. ap (λ k. lead p (touched p a w) k n) was ∙ stays_shut p (touched p a w) (of before) n (row.leads before n ∙ ap (option_map of) (held.none n who wish));

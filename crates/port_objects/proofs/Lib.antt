@@ -7,3 +7,4 @@ mod Opened
 mod Sounds
 mod Freeing
 mod Closed
+mod Hearing

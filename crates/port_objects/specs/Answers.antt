@@ -23,16 +23,17 @@ use Rattle.port_objects.specs.declared.object.Object.{Object}
 use Rattle.port_objects.specs.Kept.{Kept, of_group, of_queues, of_server, of_area, of_machine, of_clock}
 use Rattle.port_objects.specs.Leading.{lead}
 use Rattle.port_objects.specs.Objects.{kept_of}
-use Rattle.port_objects.specs.Waking.{may_start_in, Tells}
+use Rattle.port_objects.specs.Waking.{may_start_in, Tells, TellsPoint}
 
--- the entry is the actor's and of the wish, what it names as an answer fits, what was kept leads by it to what is kept, and the starts that
--- came are told
+-- the entry is the actor's and of the wish, what it names as an answer fits, what was kept leads by it to what is kept, and the starts and
+-- the Answer that came are told
 pub record IsMade (p : Plan) (object : ℕ) (a : Actor) (w : Wanted) (old new : Object) (e : Entry) : Type 0 where
   pub actor : e.actor ≡ a
   pub wish : wanted_by (unwrap_or (event_of w) 0) e.deed ≡ w
   pub answer : answer_fits p a e.deed ≡ true
   pub leads : lead p object (kept_of old) (noted_for w e) ≡ Some (kept_of new)
   pub told : Tells (kept_of old) new
+  pub heard : TellsPoint (kept_of old) new
 
 -- why a wish may not come, by the kind of the object
 abbrev pub why_held : Kept → Wanted → Shown

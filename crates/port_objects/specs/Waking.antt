@@ -1,6 +1,6 @@
--- Which starts an object allows, which entries can make one come, and which starts the last entry can have made come; and when an area is
--- closed.
-use Rattle.std.specs.Prelude.{◌≡◌, ℕ, List, [], Bool, true, false, None, unwrap_or}
+-- Which starts and Answers an object allows, which entries can make a start come, and what the last entry can have made come; and when an
+-- area is closed.
+use Rattle.std.specs.Prelude.{◌≡◌, ℕ, List, [], Bool, true, false, Option, Some, None, unwrap_or}
 use Rattle.std.specs.List.{Contains}
 use Rattle.bus_semantics.specs.declared.entries.Deed.{Deed}
 use Rattle.bus_semantics.specs.declared.entries.Deed.TheVariants as deed
@@ -52,6 +52,28 @@ woken_in (Clock t) = t.woken
 -- each start that an object came to allow is by one of these
 abbrev pub Tells : (before : Kept) → (now : Object) → Type 0
 Tells before now = (event : ℕ) → may_start_in before event ≡ false → may_start_in (kept_of now) event ≡ true → Contains (woken_in now) event
+
+-- whether an Answer at a point may come where an object keeps this (SWS_RTE: Rte_Call)
+abbrev pub may_hear_in : Kept → (point : ℕ) → Bool
+may_hear_in (of_group k) q = false
+may_hear_in (of_queues k) q = false
+may_hear_in (of_server k) q = servers.may_hear k q
+may_hear_in (of_area k) q = false
+may_hear_in (of_machine k) q = false
+may_hear_in (of_clock k) q = false
+
+-- the point to which the last Return on an object went
+abbrev pub heard_in : Object → Option ℕ
+heard_in (Unqueued g) = None
+heard_in (Queued g) = None
+heard_in (Server s) = s.heard
+heard_in (Area a) = None
+heard_in (Machine m) = None
+heard_in (Clock t) = None
+
+-- an Answer that an object came to allow is at this point
+abbrev pub TellsPoint : (before : Kept) → (now : Object) → Type 0
+TellsPoint before now = (point : ℕ) → may_hear_in before point ≡ false → may_hear_in (kept_of now) point ≡ true → heard_in now ≡ Some point
 
 -- what an activation does when it leaves an area (SWS_RTE: Rte_Exit)
 abbrev pub is_leave : Deed → Bool

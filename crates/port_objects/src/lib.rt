@@ -29,7 +29,10 @@ pub use object::Object;
 pub use object_kinds::{Acted, Shown};
 pub use plain_bench::PlainBench;
 pub use touching::touched_object;
-pub use waking::{held_starts_lead_nowhere, may_start, other_entries_wake_nothing, woken};
+pub use waking::{
+    answers_go_by_flags, heard, held_starts_lead_nowhere, may_start, other_entries_wake_nothing,
+    woken,
+};
 
 /// There was no memory for what a call makes.
 pub type Memory = std::alloc::AllocError;

@@ -1,13 +1,18 @@
 //! Which starts an object allows, which entries can make one come, and which starts the last entry can have made come.
 
-ghost use Rattle.std.specs.Prelude.{◌≡◌, ℕ, false, None, Some};
+ghost use Rattle.std.specs.Prelude.{◌≡◌, ℕ, true, false, None, Some, unwrap_or};
+ghost use Rattle.rte_value.specs.declared.kinds.ActKey.{ActKey};
+ghost use Rattle.bus_semantics.specs.declared.entries.Actor.TheVariants.{Act};
+ghost use Rattle.bus_semantics.specs.Fitting.{wish_fits};
+ghost use Rattle.bus_semantics.specs.Objects.{object_of};
+ghost use Rattle.bus_semantics.specs.Wanted.{to_hear, wanted_by};
 ghost use Rattle.bus_semantics.specs.Plan.{Plan};
 ghost use Rattle.bus_semantics.specs.History.{Noted};
 ghost use Rattle.object_kinds.specs.Kinds.{IsPlainStart};
 ghost use Rattle.port_objects.specs.Kept.{Kept};
 ghost use Rattle.port_objects.specs.Leading.{lead};
 ghost use Rattle.port_objects.specs.Objects.{kept_of};
-ghost use Rattle.port_objects.specs.Waking.{may_start_in, wakes, woken_in};
+ghost use Rattle.port_objects.specs.Waking.{heard_in, may_hear_in, may_start_in, wakes, woken_in};
 
 use crate::object::Object;
 
@@ -43,6 +48,16 @@ pub fn woken(object: &Object) -> &[u32]
     }
 }
 
+/// The point to which the last Return on an object went (SWS_RTE: Rte_Call): if the last entry made an Answer come, it is at this one.
+pub fn heard(object: &Object) -> Option<u32>
+    ensures { result ≡ heard_in object.now }
+{
+    match object {
+        Object::Server(server) => server.heard(),
+        _ => None,
+    }
+}
+
 /// If an object allows no plain start by an event, no such start leads on.
 pub fn held_starts_lead_nowhere()
     ensures { (p : Plan) (object : ℕ) (k : Kept) (event : ℕ) (n : Noted) → may_start_in k event ≡ false → IsPlainStart event n → lead p object k n ≡ None }
@@ -67,3 +82,11 @@ pub fn other_entries_wake_nothing()
     machine_objects::other_entries_wake_nothing();
     clock_objects::other_entries_wake_nothing();
 }
+
+/// An Answer at a point comes exactly if its object allows it (SWS_RTE: Rte_Call): if not, none leads on; and if none of an activation
+/// for which it fits leads on, the object does not allow it.
+pub fn answers_go_by_flags()
+    ensures held { (p : Plan) (object : ℕ) (k : Kept) (n : Noted) (point : ℕ) → wanted_by (unwrap_or n.event 0) n.entry.deed ≡ to_hear point → may_hear_in k point ≡ false → lead p object k n ≡ None }
+    ensures comes { (p : Plan) (object point : ℕ) (k : Kept) (a : ActKey) → wish_fits p (Act a) (to_hear point) ≡ true → object_of p (Act a) (to_hear point) ≡ Some object
+        → ((n : Noted) → n.entry.actor ≡ Act a → wanted_by (unwrap_or n.event 0) n.entry.deed ≡ to_hear point → lead p object k n ≡ None) → may_hear_in k point ≡ false }
+{}

@@ -42,7 +42,7 @@ returns-in-Unqueued-clause-lead c =
     subst (λ x. IsAnswer p o a w x (Unqueued new) c.act.result) (sym c.in-Unqueued.is)
     (answered p a w of_group (group_standing.Keeps p o) (group_leading.lead p o) groups.may_start group_leading.why_held (group_row p o)
     c.requires.touching c.requires.fits c.requires.own (Unqueued old) (Unqueued new) old.kept new.kept c.act.result refl refl
-    c.act.ensures.answer (λ shown is. ap Unqueued (c.act.ensures.same shown is)) c.act.ensures.told)
+    c.act.ensures.answer (λ shown is. ap Unqueued (c.act.ensures.same shown is)) c.act.ensures.told (λ point off on. absurd (false≢true on)))
 
 pub returns-in-Queued-clause-lead : goal.returns-in-Queued-clause-lead
 returns-in-Queued-clause-lead c =
@@ -55,7 +55,7 @@ returns-in-Queued-clause-lead c =
     subst (λ x. IsAnswer p o a w x (Queued new) c.act-in-Queued.result) (sym c.in-Queued.is)
     (answered p a w of_queues (queue_standing.Keeps p o) (queue_leading.lead p) queues.may_start queue_leading.why_held (queue_row p o)
     c.requires.touching c.requires.fits c.requires.own (Queued old) (Queued new) old.kept new.kept c.act-in-Queued.result refl refl
-    c.act-in-Queued.ensures.answer (λ shown is. ap Queued (c.act-in-Queued.ensures.same shown is)) c.act-in-Queued.ensures.told)
+    c.act-in-Queued.ensures.answer (λ shown is. ap Queued (c.act-in-Queued.ensures.same shown is)) c.act-in-Queued.ensures.told (λ point off on. absurd (false≢true on)))
 
 pub returns-in-Server-clause-lead : goal.returns-in-Server-clause-lead
 returns-in-Server-clause-lead c =
@@ -68,7 +68,7 @@ returns-in-Server-clause-lead c =
     subst (λ x. IsAnswer p o a w x (Server new) c.act-in-Server.result) (sym c.in-Server.is)
     (answered p a w of_server (server_standing.Keeps p o) server_leading.lead servers.may_start server_leading.why_held (server_row p o)
     c.requires.touching c.requires.fits c.requires.own (Server old) (Server new) old.kept new.kept c.act-in-Server.result refl refl
-    (c.act-in-Server.ensures.answer p o (subst (IsOfPlan p o) c.in-Server.is c.requires.planned)) (λ shown is. ap Server (c.act-in-Server.ensures.same shown is)) c.act-in-Server.ensures.told)
+    (c.act-in-Server.ensures.answer p o (subst (IsOfPlan p o) c.in-Server.is c.requires.planned)) (λ shown is. ap Server (c.act-in-Server.ensures.same shown is)) c.act-in-Server.ensures.told c.act-in-Server.ensures.heard)
 
 pub returns-in-Server-clause-planned : goal.returns-in-Server-clause-planned
 returns-in-Server-clause-planned c =
@@ -88,7 +88,7 @@ returns-in-Area-clause-lead c =
     subst (λ x. IsAnswer p o a w x (Area new) c.act-in-Area.result) (sym c.in-Area.is)
     (answered p a w of_area (area_standing.Keeps p o) area_leading.lead areas.may_start area_leading.why_held (area_row p o)
     c.requires.touching c.requires.fits c.requires.own (Area old) (Area new) old new c.act-in-Area.result refl refl
-    answer (λ shown is. ap Area (subst (IsAnswerOf p area_leading.lead areas.may_start area_leading.why_held a w old new) is answer).1) (λ event off on. absurd (false≢true on)))
+    answer (λ shown is. ap Area (subst (IsAnswerOf p area_leading.lead areas.may_start area_leading.why_held a w old new) is answer).1) (λ event off on. absurd (false≢true on)) (λ point off on. absurd (false≢true on)))
 
 pub returns-in-Area-clause-planned : goal.returns-in-Area-clause-planned
 returns-in-Area-clause-planned c =
@@ -108,7 +108,7 @@ returns-in-Machine-clause-lead c =
     subst (λ x. IsAnswer p o a w x (Machine new) c.act-in-Machine.result) (sym c.in-Machine.is)
     (answered p a w of_machine (machine_standing.Keeps p o) machine_leading.lead machines.may_start machine_leading.why_held (machine_row p o)
     c.requires.touching c.requires.fits c.requires.own (Machine old) (Machine new) old.kept new.kept c.act-in-Machine.result refl refl
-    (c.act-in-Machine.ensures.answer p o asked) (λ shown is. ap Machine (c.act-in-Machine.ensures.same shown is)) c.act-in-Machine.ensures.told)
+    (c.act-in-Machine.ensures.answer p o asked) (λ shown is. ap Machine (c.act-in-Machine.ensures.same shown is)) c.act-in-Machine.ensures.told (λ point off on. absurd (false≢true on)))
 
 pub returns-in-Machine-clause-planned : goal.returns-in-Machine-clause-planned
 returns-in-Machine-clause-planned c =
@@ -129,7 +129,7 @@ returns-in-Clock-clause-lead c =
     subst (λ x. IsAnswer p o a w x (Clock new) c.act-in-Clock.result) (sym c.in-Clock.is)
     (answered p a w of_clock (clock_standing.Keeps p o) clock_leading.lead clocks.may_start clock_leading.why_held (clock_row p o)
     c.requires.touching c.requires.fits c.requires.own (Clock old) (Clock new) old.kept new.kept c.act-in-Clock.result refl refl
-    (c.act-in-Clock.ensures.answer p o (subst (IsOfPlan p o) c.in-Clock.is c.requires.planned)) (λ shown is. ap Clock (c.act-in-Clock.ensures.same shown is)) c.act-in-Clock.ensures.told)
+    (c.act-in-Clock.ensures.answer p o (subst (IsOfPlan p o) c.in-Clock.is c.requires.planned)) (λ shown is. ap Clock (c.act-in-Clock.ensures.same shown is)) c.act-in-Clock.ensures.told (λ point off on. absurd (false≢true on)))
 
 pub returns-in-Clock-clause-planned : goal.returns-in-Clock-clause-planned
 returns-in-Clock-clause-planned c =
