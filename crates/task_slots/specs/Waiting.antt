@@ -1,10 +1,10 @@
 -- Slots that may sleep: a free task of whose events none may start, a machine whose next phase is held (SWS_RTE: mode machine instance), and
--- an activation that waits at an exclusive area (SWS_RTE: Rte_Enter).
+-- an activation that waits at an exclusive area (SWS_RTE: Rte_Enter) or for an answer (SWS_RTE: Rte_Call).
 use Rattle.std.specs.Prelude.{◌≡◌, ℕ, List, [], ◌∷◌, Bool, true, false, Option, Some, None, slice_get}
 use Rattle.rte_value.specs.declared.kinds.ActKey.{ActKey}
 use Rattle.bus_semantics.specs.declared.entries.Actor.TheVariants.{Act, Machine}
 use Rattle.bus_semantics.specs.Plan.{Plan}
-use Rattle.bus_semantics.specs.Wanted.{to_enter, to_move_on}
+use Rattle.bus_semantics.specs.Wanted.{to_enter, to_hear, to_move_on}
 use Rattle.bus_semantics.specs.Objects.{object_of}
 use Rattle.bus_semantics.specs.Fitting.{wish_fits}
 use Rattle.bus_semantics.specs.Rest.{Try, gathered, start_try}
@@ -15,7 +15,7 @@ use Rattle.task_slots.specs.declared.slot.Slot.{Slot}
 use Rattle.task_slots.specs.declared.slot.Slot.TheVariants as slot
 use Rattle.task_slots.specs.declared.slot.Activity.{Activity}
 use Rattle.task_slots.specs.declared.slot.Activity.TheVariants.{Free}
-use Rattle.task_slots.specs.Slots.{asked_by, slot_tries}
+use Rattle.task_slots.specs.Slots.{asked_by, slot_tries, is_key_of, events_of_slot}
 use Rattle.task_slots.specs.Looking.{AllHeld}
 
 -- where a bench tells its objects: no event of one slot that sleeps may start
@@ -52,3 +52,20 @@ pub record WaitsAt (p : Plan) (t : TaskSet) (s : Slot) (object : ℕ) : Type 0 w
   pub tries : slot_tries p t s ≡ (Act key, to_enter area) ∷ []
   pub fits : wish_fits p (Act key) (to_enter area) ≡ true
   pub there : object_of p (Act key) (to_enter area) ≡ Some object
+
+-- an activation asks for the answer at a point, which is joined
+pub record AsksToHear (p : Plan) (t : TaskSet) (key : ActKey) (f : Standing) (point : ℕ) : Type 0 where
+  pub asks : asked_by t f ≡ Some (to_hear point)
+  pub fits : wish_fits p (Act key) (to_hear point) ≡ true
+  pub object : ℕ
+  pub there : object_of p (Act key) (to_hear point) ≡ Some object
+
+-- all that a slot tries is the Answer at a point, for an activation that one of the task's events started
+pub record HearsAt (p : Plan) (t : TaskSet) (s : Slot) (point : ℕ) : Type 0 where
+  pub key : ActKey
+  pub tries : slot_tries p t s ≡ (Act key, to_hear point) ∷ []
+  pub fits : wish_fits p (Act key) (to_hear point) ≡ true
+  pub object : ℕ
+  pub there : object_of p (Act key) (to_hear point) ≡ Some object
+  pub plain : key.point ≡ None
+  pub own : is_key_of p (events_of_slot s) key ≡ true

@@ -20,7 +20,7 @@ pub use look::Look;
 pub use looking::look_at;
 pub use looking_awake::look_at_awake;
 pub use slot::{Activity, Call, Slot, TaskSlot};
-pub use waiting::{area_tried, is_free};
+pub use waiting::{area_tried, is_free, point_tried};
 
 /// There was no memory for what a call makes.
 pub type Memory = std::alloc::AllocError;

@@ -6,7 +6,7 @@ ghost use Rattle.bus_semantics.specs.Plan.{plan_of};
 ghost use Rattle.bus_semantics.specs.Sound.{IsSound};
 ghost use Rattle.task_generator.specs.Promise.{AsksAsPlanned};
 ghost use Rattle.task_slots.specs.Ready.{IsBegun, IsReadySlot};
-ghost use Rattle.task_slots.specs.Waiting.{AsksAt, WaitsAt, is_free};
+ghost use Rattle.task_slots.specs.Waiting.{AsksAt, AsksToHear, HearsAt, WaitsAt, is_free};
 
 use crate::asking::what_is_asked_may_be_tried;
 use crate::slot::{Activity, Slot};
@@ -50,6 +50,42 @@ pub fn area_tried(p: &BusPlan, t: &TaskSet, slot: &Slot) -> Option<u32>
         Slot::Task(task) => match task.activity {
             Activity::Runs(key) => area_asked(p, t, key, &task.frame),
             Activity::Serves(call) => area_asked(p, t, call.direct, &task.inner),
+            _ => None,
+        },
+        Slot::Machine(_) => None,
+    }
+}
+
+/// The point at which an activation asks for an answer, if that is what it asks.
+fn point_asked(p: &BusPlan, t: &TaskSet, key: ActKey, frame: &Frame) -> Option<u32>
+    requires bodies { AsksAsPlanned (plan_of p.now) t.now }
+    requires sound { (m : Mapping) × IsSound (plan_of p.now) m }
+    requires begun { IsBegun (plan_of p.now) t.now frame.now key }
+    ensures { IfSome result (AsksToHear (plan_of p.now) t.now key frame.now) }
+{
+    what_is_asked_may_be_tried();
+    match frame.next_call(t) {
+        Next::Call(Wish::Answer { point }) => {
+            match object_of(p, &Actor::Act(key), &Wish::Answer { point }) {
+                Some(_) => Some(point),
+                None => None,
+            }
+        }
+        _ => None,
+    }
+}
+
+/// The point at which an activation of a slot tries to hear an answer, if that is what the slot tries. A direct activation makes no
+/// call.
+pub fn point_tried(p: &BusPlan, t: &TaskSet, slot: &Slot) -> Option<u32>
+    requires bodies { AsksAsPlanned (plan_of p.now) t.now }
+    requires sound { (m : Mapping) × IsSound (plan_of p.now) m }
+    requires ready { IsReadySlot (plan_of p.now) t.now slot.now }
+    ensures { IfSome result (HearsAt (plan_of p.now) t.now slot.now) }
+{
+    match slot {
+        Slot::Task(task) => match task.activity {
+            Activity::Runs(key) => point_asked(p, t, key, &task.frame),
             _ => None,
         },
         Slot::Machine(_) => None,
