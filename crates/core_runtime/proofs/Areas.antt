@@ -38,21 +38,21 @@ woken_waiting p t objects touched cores old new woken waiting = λ i c b core_is
     let was : slice_get old i ≡ Some a = slice_get-get_or old i b within in
     (woken.each i a b was awake_is).waiters p t objects touched c.slots (waiting i c a core_is was)
 
-pub watched_even : (p : Plan) (objects : List Object) (cores : List CoreState) (awake : List AwakeState) → AreWatched p objects cores awake → AreEven awake
-watched_even p objects cores awake watched = λ i a awake_is.
+pub watched_even : (p : Plan) (t : TaskSet) (objects : List Object) (cores : List CoreState) (awake : List AwakeState) → AreWatched p t objects cores awake → AreEven awake
+watched_even p t objects cores awake watched = λ i a awake_is.
     let within : i < length awake = slice_get_within awake i a awake_is in
     let fresh : CoreState = record { number = 0; slots = []; first = 0; trace = []; room = 0 } in
     let there : i < length cores = omega (arith, watched.count) in
     let fits = (watched.each i (get_or cores i fresh) a (slice_get-get_or cores i fresh there) awake_is).fits in
     record { waiting = fits.waiting ∙ sym fits.count; areas = fits.areas ∙ sym fits.count }
 
-pub woken_even : (p : Plan) (objects : List Object) (cores : List CoreState) (old new : List AwakeState) → AreWatched p objects cores old → AreWoken old new → AreEven new
-woken_even p objects cores old new watched woken = λ i b awake_is.
+pub woken_even : (p : Plan) (t : TaskSet) (objects : List Object) (cores : List CoreState) (old new : List AwakeState) → AreWatched p t objects cores old → AreWoken old new → AreEven new
+woken_even p t objects cores old new watched woken = λ i b awake_is.
     let inside : i < length new = slice_get_within new i b awake_is in
     let within : i < length old = omega (arith, woken.count) in
     let a = get_or old i b in
     let was : slice_get old i ≡ Some a = slice_get-get_or old i b within in
-    (woken.each i a b was awake_is).even (watched_even p objects cores old watched i a was)
+    (woken.each i a b was awake_is).even (watched_even p t objects cores old watched i a was)
 
 -- ---- one core after the other
 
@@ -92,8 +92,8 @@ up_to_all object number old new all far = record {
 -- ---- an area was left
 
 module _ (object : ℕ) (old new : List AwakeState) (woken : AreWokenAt object old new) where
-  pub left_watched : (p : Plan) (objects : List Object) (cores : List CoreState) → AreWatched p objects cores old → AreWatched p objects cores new
-  left_watched p objects cores watched = record {
+  pub left_watched : (p : Plan) (t : TaskSet) (objects : List Object) (cores : List CoreState) → AreWatched p t objects cores old → AreWatched p t objects cores new
+  left_watched p t objects cores watched = record {
     count = woken.count ∙ watched.count;
     each = λ i c b core_is awake_is.
         let inside : i < length new = slice_get_within new i b awake_is in
@@ -102,7 +102,7 @@ module _ (object : ℕ) (old new : List AwakeState) (woken : AreWokenAt object o
         let was : slice_get old i ≡ Some a = slice_get-get_or old i b within in
         let one = woken.each i a b was awake_is in
         let had = watched.each i c a core_is was in
-        record { fits = one.fits c.slots c.first had.fits; starts = one.starts p objects c.slots had.starts };
+        record { fits = one.fits c.slots c.first had.fits; starts = one.starts p t objects c.slots had.starts };
   }
 
   told_waiting : (p : Plan) (t : TaskSet) (before : List Object) (left : Object) (cores : List CoreState) → AreWaiting p t before (Some object) cores old → AreWaiting p t (set before object left) None cores new

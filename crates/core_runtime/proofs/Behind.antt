@@ -76,8 +76,8 @@ module _ (p : Plan) (m : Mapping) (t : TaskSet) (cores : List CoreState) (ready 
 abbrev pub Rouses : Plan → (object : ℕ) → (a b : AwakeState) → Type 0
 Rouses p object a b = (machine at : ℕ) → object ≡ first_machine p + machine → at + length p.machines ≡ length a.slots + machine → at < length a.slots → get_or b.slots at false ≡ true
 
-module _ (p : Plan) (e : Noted) (objects : List Object) (cores : List CoreState) (old : List AwakeState) where
-  pub roused_here : (object : ℕ) (a b : AwakeState) → Some object ≡ touched_by p e → slice_get old 0 ≡ Some a → Rouses p object a b → AreBehind p (owners_of cores) → AreWatched p objects cores old → AreRoused p e cores (set old 0 b)
+module _ (p : Plan) (e : Noted) (ts : TaskSet) (objects : List Object) (cores : List CoreState) (old : List AwakeState) where
+  pub roused_here : (object : ℕ) (a b : AwakeState) → Some object ≡ touched_by p e → slice_get old 0 ≡ Some a → Rouses p object a b → AreBehind p (owners_of cores) → AreWatched p ts objects cores old → AreRoused p e cores (set old 0 b)
   roused_here object a b is found rouses behind watched = λ i j machine c x core_is awake_is slot_is touching.
       let core_at : slice_get (owners_of cores) i ≡ Some (map table_of c.slots) = slice_get-map (λ (k : CoreState). map table_of k.slots) cores i ∙ ap (option_map (λ (k : CoreState). map table_of k.slots)) core_is in
       let slot_at : slice_get (map table_of c.slots) j ≡ Some (of_machine machine) = slice_get-map table_of c.slots j ∙ ap (option_map table_of) slot_is in
@@ -100,8 +100,8 @@ module _ (p : Plan) (e : Noted) (objects : List Object) (cores : List CoreState)
   roused_empty none = λ i j machine c x core_is awake_is slot_is touching. let within : i < length old = slice_get_within old i x awake_is in absurd (omega (arith, none))
 
 -- what was watched is so while slots wake
-pub watched_still : (p : Plan) (objects : List Object) (cores : List CoreState) (old new : List AwakeState) → AreWoken old new → AreWatched p objects cores old → AreWatched p objects cores new
-watched_still p objects cores old new woken watched = record {
+pub watched_still : (p : Plan) (t : TaskSet) (objects : List Object) (cores : List CoreState) (old new : List AwakeState) → AreWoken old new → AreWatched p t objects cores old → AreWatched p t objects cores new
+watched_still p t objects cores old new woken watched = record {
   count = woken.count ∙ watched.count;
   each = λ i c b core_is awake_is.
       let inside : i < length new = slice_get_within new i b awake_is in
@@ -110,5 +110,13 @@ watched_still p objects cores old new woken watched = record {
       let was : slice_get old i ≡ Some a = slice_get-get_or old i b within in
       let one = woken.each i a b was awake_is in
       let had = watched.each i c a core_is was in
-      record { fits = one.fits c.slots c.first had.fits; starts = one.starts p objects c.slots had.starts };
+      record { fits = one.fits c.slots c.first had.fits; starts = one.starts p t objects c.slots had.starts };
 }
+
+pub roused_still : (p : Plan) (e : Noted) (cores : List CoreState) (old new : List AwakeState) → AreWoken old new → AreRoused p e cores old → AreRoused p e cores new
+roused_still p e cores old new woken roused = λ i j machine c b core_is awake_is slot_is touching.
+    let inside : i < length new = slice_get_within new i b awake_is in
+    let within : i < length old = omega (arith, woken.count) in
+    let a = get_or old i b in
+    let was : slice_get old i ≡ Some a = slice_get-get_or old i b within in
+    (woken.each i a b was awake_is).slots j (roused i j machine c a core_is was slot_is touching)

@@ -11,6 +11,8 @@ pub mod Watched
 pub mod Wakes
 pub mod Areas
 pub mod Behind
+pub mod Called
+pub mod Starting
 pub mod Seated
 pub mod Turned
 pub mod Later

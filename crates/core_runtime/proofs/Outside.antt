@@ -135,6 +135,7 @@ module _ {p : Plan} {m : Mapping} {t : TaskSet} {cores : List CoreState} {object
       found = found;
       leads = subst (λ v. lead p object (kept_of old) (record { entry = e; event = v }) ≡ Some (kept_of new)) (no_event p w may_want) (subst (λ n. lead p n (kept_of old) (noted_for w e) ≡ Some (kept_of new)) at made.leads);
       told = made.told;
+      heard = made.heard;
       others = refl;
     }
 

@@ -66,23 +66,23 @@ pub behind_on : (p : Plan) (cores : List CoreState) (n : ℕ) (old turned k : Co
 behind_on p cores n old turned k found slots same behind = subst (AreBehind p) (sym (owners_kept cores n old k found (ap (map table_of) slots ∙ same))) behind
 
 -- one core and its flags
-pub watched_put : (p : Plan) (objects : List Object) (cores : List CoreState) (awake : List AwakeState) (n : ℕ) (new : CoreState) (b : AwakeState) → AreWatched p objects cores awake → IsWatched p objects new b → AreWatched p objects (set cores n new) (set awake n b)
-watched_put p objects cores awake n new b watched one = record {
+pub watched_put : (p : Plan) (t : TaskSet) (objects : List Object) (cores : List CoreState) (awake : List AwakeState) (n : ℕ) (new : CoreState) (b : AwakeState) → AreWatched p t objects cores awake → IsWatched p t objects new b → AreWatched p t objects (set cores n new) (set awake n b)
+watched_put p t objects cores awake n new b watched one = record {
   count = length-set awake n b ∙ watched.count ∙ sym (length-set cores n new);
   each = λ i c a core_is awake_is. of_place i c a (placed cores n new i c core_is) (placed awake n b i a awake_is);
 }
   where
-    of_place : (i : ℕ) (c : CoreState) (a : AwakeState) → Placed CoreState cores n new i c → Placed AwakeState awake n b i a → IsWatched p objects c a
-    of_place i c a (here at is) (here place same) = subst (λ x. IsWatched p objects x a) (sym is) (subst (IsWatched p objects new) (sym same) one)
+    of_place : (i : ℕ) (c : CoreState) (a : AwakeState) → Placed CoreState cores n new i c → Placed AwakeState awake n b i a → IsWatched p t objects c a
+    of_place i c a (here at is) (here place same) = subst (λ x. IsWatched p t objects x a) (sym is) (subst (IsWatched p t objects new) (sym same) one)
     of_place i c a (here at is) (there other found) = absurd (other at)
     of_place i c a (there other found) (here place same) = absurd (other place)
     of_place i c a (there other found) (there another is) = watched.each i c a found is
 
 -- a core with the same slots, of which the next turn begins with the same one
-pub watched_slots : (p : Plan) (objects : List Object) (c k : CoreState) (a : AwakeState) → k.slots ≡ c.slots → k.first ≡ c.first → Fits c.slots c.first a → StartsHeld p objects c.slots a → IsWatched p objects k a
-watched_slots p objects c k a same begins fits starts = record {
+pub watched_slots : (p : Plan) (t : TaskSet) (objects : List Object) (c k : CoreState) (a : AwakeState) → k.slots ≡ c.slots → k.first ≡ c.first → Fits c.slots c.first a → StartsHeld p t objects c.slots a → IsWatched p t objects k a
+watched_slots p t objects c k a same begins fits starts = record {
   fits = subst (λ n. Fits k.slots n a) (sym begins) (subst (λ xs. Fits xs c.first a) (sym same) fits);
-  starts = subst (λ xs. StartsHeld p objects xs a) (sym same) starts;
+  starts = subst (λ xs. StartsHeld p t objects xs a) (sym same) starts;
 }
 
 -- what of one core waits
@@ -139,14 +139,15 @@ after_step p t old new before now s steps = of_object (object_of p tried.0 tried
           found = made.found;
           leads = made.made.leads;
           told = made.made.told;
+          heard = made.made.heard;
           others = same_Some _ _ made.others;
         }))
 
 -- what of the cores is watched after a turn of one, and the seats
 module _ (p : Plan) (t : TaskSet) (objects : List Object) (cores : List CoreState) (awake : List AwakeState) (seats : List (Vec Seat Global)) (n : ℕ) (old turned k : CoreState) (b : AwakeState)
     (found : slice_get cores n ≡ Some old) (slots : k.slots ≡ turned.slots) (first : k.first ≡ turned.first) (events : map events_of_slot turned.slots ≡ map events_of_slot old.slots) where
-  pub awake_on : Fits turned.slots turned.first b → StartsHeld p objects turned.slots b → AreWatched p objects cores awake → AreWatched p objects (set cores n k) (set awake n b)
-  awake_on fits starts watched = watched_put p objects cores awake n k b watched (watched_slots p objects turned k b slots first fits starts)
+  pub awake_on : Fits turned.slots turned.first b → StartsHeld p t objects turned.slots b → AreWatched p t objects cores awake → AreWatched p t objects (set cores n k) (set awake n b)
+  awake_on fits starts watched = watched_put p t objects cores awake n k b watched (watched_slots p t objects turned k b slots first fits starts)
 
   pub waiting_on : (touched : Option ℕ) → WaitersHeld p t objects touched turned.slots b.first b → AreWaiting p t objects touched cores awake → AreWaiting p t objects touched (set cores n k) (set awake n b)
   waiting_on touched held waiting = waiting_put p t objects touched cores awake n k b waiting (subst (λ xs. WaitersHeld p t objects touched xs b.first b) (sym slots) held)
@@ -156,13 +157,13 @@ module _ (p : Plan) (t : TaskSet) (objects : List Object) (cores : List CoreStat
 
 -- ---- new cores
 
-pub none_watched : (p : Plan) (objects : List Object) (awake : List AwakeState) → awake ≡ [] → AreWatched p objects [] awake
-none_watched p objects awake empty = record { count = ap length empty; each = λ i c a core_is awake_is. absurd (cc core_is) }
+pub none_watched : (p : Plan) (t : TaskSet) (objects : List Object) (awake : List AwakeState) → awake ≡ [] → AreWatched p t objects [] awake
+none_watched p t objects awake empty = record { count = ap length empty; each = λ i c a core_is awake_is. absurd (cc core_is) }
 
 pub none_waiting : (p : Plan) (t : TaskSet) (objects : List Object) (awake : List AwakeState) → AreWaiting p t objects None [] awake
 none_waiting p t objects awake = λ i c a core_is awake_is. absurd (cc core_is)
 
-module _ (p : Plan) (objects : List Object) (cores : List CoreState) (awake : List AwakeState) (c : CoreState) (a : AwakeState) (watched : AreWatched p objects cores awake) where
+module _ (p : Plan) (t : TaskSet) (objects : List Object) (cores : List CoreState) (awake : List AwakeState) (c : CoreState) (a : AwakeState) (watched : AreWatched p t objects cores awake) where
   -- a core and its flags stand at the same place
   data Paired (i : ℕ) (k : CoreState) (b : AwakeState) : Type 0 where
     earlier_pair : slice_get cores i ≡ Some k → slice_get awake i ≡ Some b → Paired i k b
@@ -174,18 +175,18 @@ module _ (p : Plan) (objects : List Object) (cores : List CoreState) (awake : Li
   paired i k b (last at same) (earlier awake_is) = let within : i < length awake = slice_get_within awake i b awake_is in absurd (omega (arith, watched.count))
   paired i k b (last at same) (last place is) = last_pair same is
 
-  pub one_watched : IsWatched p objects c a → AreWatched p objects (cores ++ c ∷ []) (awake ++ a ∷ [])
+  pub one_watched : IsWatched p t objects c a → AreWatched p t objects (cores ++ c ∷ []) (awake ++ a ∷ [])
   one_watched one = record {
     count = length-append awake (a ∷ []) ∙ ap (λ n. n + 1) watched.count ∙ sym (length-append cores (c ∷ []));
     each = λ i k b core_is awake_is. of_pair i k b (paired i k b (last_or cores c i k core_is) (last_or awake a i b awake_is));
   }
     where
-      of_pair : (i : ℕ) (k : CoreState) (b : AwakeState) → Paired i k b → IsWatched p objects k b
+      of_pair : (i : ℕ) (k : CoreState) (b : AwakeState) → Paired i k b → IsWatched p t objects k b
       of_pair i k b (earlier_pair core_is awake_is) = watched.each i k b core_is awake_is
-      of_pair i k b (last_pair same is) = subst (λ x. IsWatched p objects x b) (sym same) (subst (IsWatched p objects c) (sym is) one)
+      of_pair i k b (last_pair same is) = subst (λ x. IsWatched p t objects x b) (sym same) (subst (IsWatched p t objects c) (sym is) one)
 
-  pub one_waiting : (t : TaskSet) → WaitersHeld p t objects None c.slots a.first a → AreWaiting p t objects None cores awake → AreWaiting p t objects None (cores ++ c ∷ []) (awake ++ a ∷ [])
-  one_waiting t one waiting = λ i k b core_is awake_is. of_pair i k b (paired i k b (last_or cores c i k core_is) (last_or awake a i b awake_is))
+  pub one_waiting : WaitersHeld p t objects None c.slots a.first a → AreWaiting p t objects None cores awake → AreWaiting p t objects None (cores ++ c ∷ []) (awake ++ a ∷ [])
+  one_waiting one waiting = λ i k b core_is awake_is. of_pair i k b (paired i k b (last_or cores c i k core_is) (last_or awake a i b awake_is))
     where
       of_pair : (i : ℕ) (k : CoreState) (b : AwakeState) → Paired i k b → WaitersHeld p t objects None k.slots b.first b
       of_pair i k b (earlier_pair core_is awake_is) = waiting i k b core_is awake_is

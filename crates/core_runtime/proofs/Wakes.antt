@@ -12,7 +12,7 @@ use Rattle.task_machine.specs.declared.instr.TaskSet.{TaskSet}
 use Rattle.task_slots.specs.declared.slot.Slot.{Slot}
 use Rattle.core_turn.specs.Awake.{AwakeState, Fits, StartsHeld, WaitersHeld}
 use Rattle.core_runtime.specs.declared.seats.Seat.{Seat}
-use Rattle.core_runtime.specs.Watching.{is_awake, IsWoken, AreWoken, IsThere, IsSeen}
+use Rattle.core_runtime.specs.Watching.{is_awake, IsWoken, AreWoken, IsThere, IsSeen, IsUp}
 use Rattle.core_runtime.proofs.Places.{Placed, here, there, placed}
 
 -- ---- flags
@@ -57,7 +57,7 @@ woken_same a = record {
   events = λ i j on. on;
   even = λ even. even;
   fits = λ of first fits. fits;
-  starts = λ p objects of held. held;
+  starts = λ p t objects of held. held;
   waiters = λ p t objects touched of held. held;
 }
 
@@ -70,13 +70,13 @@ woken_then a b c first second = record {
   events = λ i j on. second.events i j (first.events i j on);
   even = λ even. second.even (first.even even);
   fits = λ of begins fits. second.fits of begins (first.fits of begins fits);
-  starts = λ p objects of held. second.starts p objects of (first.starts p objects of held);
+  starts = λ p t objects of held. second.starts p t objects of (first.starts p t objects of held);
   waiters = λ p t objects touched of held. second.waiters p t objects touched of (first.waiters p t objects touched of held);
 }
 
 -- a slot woke, and none of its events
 pub woken_slot : (a b : AwakeState) (slot : ℕ) → b.slots ≡ set a.slots slot true → b.events ≡ a.events → b.waiting ≡ set a.waiting slot false → b.areas ≡ a.areas → b.first ≡ a.first → ((of : List Slot) (first : ℕ) → Fits of first a → Fits of first b)
-    → ((p : Plan) (objects : List Object) (of : List Slot) → StartsHeld p objects of a → StartsHeld p objects of b)
+    → ((p : Plan) (t : TaskSet) (objects : List Object) (of : List Slot) → StartsHeld p t objects of a → StartsHeld p t objects of b)
     → ((p : Plan) (t : TaskSet) (objects : List Object) (touched : Option ℕ) (of : List Slot) (first : ℕ) → WaitersHeld p t objects touched of first a → WaitersHeld p t objects touched of first b) → IsWoken a b
 woken_slot a b slot slots events waiting areas begins fits starts waiters =
     let slots_count : length b.slots ≡ length a.slots = ap length slots ∙ length-set a.slots slot true in
@@ -93,7 +93,7 @@ woken_slot a b slot slots events waiting areas begins fits starts waiters =
     }
 
 module _ (a b : AwakeState) (slot place : ℕ) (slots : b.slots ≡ set a.slots slot true) (events : b.events ≡ row_set a.events slot place) where
-  pub woken_one : b.waiting ≡ set a.waiting slot false → b.areas ≡ a.areas → b.first ≡ a.first → ((of : List Slot) (first : ℕ) → Fits of first a → Fits of first b) → ((p : Plan) (objects : List Object) (of : List Slot) → StartsHeld p objects of a → StartsHeld p objects of b)
+  pub woken_one : b.waiting ≡ set a.waiting slot false → b.areas ≡ a.areas → b.first ≡ a.first → ((of : List Slot) (first : ℕ) → Fits of first a → Fits of first b) → ((p : Plan) (t : TaskSet) (objects : List Object) (of : List Slot) → StartsHeld p t objects of a → StartsHeld p t objects of b)
       → ((p : Plan) (t : TaskSet) (objects : List Object) (touched : Option ℕ) (of : List Slot) (first : ℕ) → WaitersHeld p t objects touched of first a → WaitersHeld p t objects touched of first b) → IsWoken a b
   woken_one waiting areas begins fits starts waiters = record {
     count = ap length slots ∙ length-set a.slots slot true;
@@ -146,6 +146,14 @@ there_still xs ys s woken at =
     let slot = at.slot in
     let place = at.place in
     record { core = b; core_is = now; slot = omega (arith, one.count); place = omega (arith, one.widths s.slot); even = one.even at.even }
+
+-- ---- what is up
+
+pub up_still : (xs ys : List AwakeState) (s : Seat) → AreWoken xs ys → IsThere xs s → IsUp xs s → IsUp ys s
+up_still xs ys s woken at up = λ b now. (woken.each s.core at.core b at.core_is now).slots s.slot (up at.core at.core_is)
+
+pub up_now : (xs : List AwakeState) (s : Seat) (a b : AwakeState) → slice_get xs s.core ≡ Some b → b.slots ≡ set a.slots s.slot true → s.slot < length a.slots → IsUp xs s
+up_now xs s a b is slots within = λ x now. let same : b ≡ x = same_Some _ _ (sym is ∙ now) in subst (λ (y : AwakeState). get_or y.slots s.slot false ≡ true) same (ap (λ fs. get_or fs s.slot false) slots ∙ get_or-set_same a.slots s.slot true false within)
 
 -- ---- what was looked at
 

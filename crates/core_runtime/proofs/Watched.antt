@@ -3,31 +3,34 @@ use Rattle.std.proofs.Common.{◌≡◌, ℕ, zero, suc, ◌+◌, ◌<◌, ◌==
 use Rattle.std.specs.Option.{option_map}
 use Rattle.std.specs.List.{Contains, slice_get}
 use Rattle.std.specs.Cmp.{unsigned_Decides}
-use Rattle.std.specs.Prelude.{Vec}
+use Rattle.std.specs.Prelude.{Vec, unwrap_or}
 use Rattle.std.specs.Global.{Global}
 use Rattle.std.proofs.lemmas.Bool.{and_left, and_right, false≢true}
 use Rattle.std.proofs.lemmas.Option.{get_or_from_slice_get, slice_get-get_or, slice_get_within, slice_get-map, same_Some}
 use Rattle.bus_semantics.specs.declared.entries.Actor.TheVariants.{Act, Machine}
 use Rattle.bus_semantics.specs.Plan.{Plan, kind_of, runnable_of_event}
 use Rattle.bus_semantics.specs.History.{Noted}
-use Rattle.bus_semantics.specs.Objects.{touched_by, object_of_kind, first_machine, machine_object}
+use Rattle.bus_semantics.specs.Objects.{touched_by, object_of, object_of_kind, first_machine, machine_object}
 use Rattle.bus_semantics.specs.Rest.{Try, option_list, gathered, plain_key, start_try}
-use Rattle.bus_semantics.specs.Wanted.{to_start, to_move_on}
+use Rattle.bus_semantics.specs.Wanted.{to_start, to_move_on, to_hear, wanted_by}
+use Rattle.bus_semantics.specs.Fitting.{wish_fits}
+use Rattle.rte_value.specs.declared.kinds.ActKey.{ActKey}
+use Rattle.task_machine.specs.declared.instr.TaskSet.{TaskSet}
 use Rattle.object_kinds.specs.Kinds.{IsPlainStart}
 use Rattle.port_objects.specs.declared.object.Object.{Object}
 use Rattle.port_objects.specs.Kept.{Kept}
 use Rattle.port_objects.specs.Leading.{lead}
 use Rattle.port_objects.specs.Objects.{kept_of}
-use Rattle.port_objects.specs.Waking.{may_start_in, wakes, woken_in}
+use Rattle.port_objects.specs.Waking.{may_start_in, may_hear_in, heard_in, wakes, woken_in}
 use Rattle.task_slots.specs.declared.slot.Slot.{Slot}
 use Rattle.task_slots.specs.declared.slot.Slot.TheVariants as kind
 use Rattle.core_turn.specs.Cores.{CoreState}
 use Rattle.task_slots.specs.Slots.{events_of_slot}
 use Rattle.task_slots.specs.Looking.{AllHeld, IsHeldOn, IsHeldAt}
-use Rattle.task_slots.specs.Waiting.{is_free, idle_tries}
-use Rattle.core_turn.specs.Awake.{AwakeState, StartsHeld}
+use Rattle.task_slots.specs.Waiting.{idle_tries}
+use Rattle.core_turn.specs.Awake.{AwakeState, StartsHeld, IsDeaf, IsQuiet}
 use Rattle.core_runtime.specs.declared.seats.Seat.{Seat}
-use Rattle.core_runtime.specs.Watching.{tables_of, IsOfCores, IsAt, AreSeated, IsWatched, AreWatched, is_awake, IsWoken, AreWoken, IsThere, IsSeen, Touches, AreRoused, IsAfter}
+use Rattle.core_runtime.specs.Watching.{tables_of, IsOfCores, IsAt, AreSeated, IsWatched, AreWatched, is_awake, IsWoken, AreWoken, IsThere, IsSeen, Touches, AreRoused, AreAnswered, IsAfter}
 use Rattle.core_runtime.proofs.Places.{set_here, set_there}
 
 -- ---- what the laws of objects say
@@ -126,10 +129,64 @@ machine_moved p before later e machine (inr t) apart held = (
   tt,
 )
 
+-- ---- callers
+
+abbrev pub DeafLaw : Type 0
+DeafLaw = (p : Plan) (object : ℕ) (k : Kept) (n : Noted) (point : ℕ) → wanted_by (unwrap_or n.event 0) n.entry.deed ≡ to_hear point → may_hear_in k point ≡ false → lead p object k n ≡ None
+
+abbrev pub ComesLaw : Type 0
+ComesLaw = (p : Plan) (object point : ℕ) (k : Kept) (a : ActKey) → wish_fits p (Act a) (to_hear point) ≡ true → object_of p (Act a) (to_hear point) ≡ Some object
+    → ((n : Noted) → n.entry.actor ≡ Act a → wanted_by (unwrap_or n.event 0) n.entry.deed ≡ to_hear point → lead p object k n ≡ None) → may_hear_in k point ≡ false
+
+-- a caller to whose point the entry did not return
+deaf_on : DeafLaw → ComesLaw → (p : Plan) (before later : List Object) (e : Noted) (t : Touches p before later e) (key : ActKey) (q object : ℕ) → wish_fits p (Act key) (to_hear q) ≡ true → object_of p (Act key) (to_hear q) ≡ Some object
+    → (heard_in t.new ≡ Some q → ⊥) → IsHeldOn p before (Act key) (to_hear q) object → IsHeldOn p later (Act key) (to_hear q) object
+deaf_on deaf comes p before later e t key q object fits there calm held = by_test (object == t.object) refl
+  where
+    off : object ≡ t.object → may_hear_in (kept_of t.new) q ≡ false
+    off at = of_test (may_hear_in (kept_of t.new) q) refl
+      where
+        was : may_hear_in (kept_of t.old) q ≡ false
+        was =
+            let same : held.before ≡ t.old = same_Some _ _ (sym held.found ∙ ap (slice_get before) at ∙ t.found) in
+            subst (λ o. may_hear_in (kept_of o) q ≡ false) same (comes p object q (kept_of held.before) key fits there held.none)
+
+        of_test : (b : Bool) → may_hear_in (kept_of t.new) q ≡ b → may_hear_in (kept_of t.new) q ≡ false
+        of_test false is = is
+        of_test true is = absurd (calm (t.heard q was is))
+
+    by_test : (b : Bool) → (object == t.object) ≡ b → IsHeldOn p later (Act key) (to_hear q) object
+    by_test true same =
+        let at : object ≡ t.object = (unsigned_Decides object t.object).0 same in
+        record {
+          before = t.new;
+          found = ap (slice_get later) at ∙ ap (λ os. slice_get os t.object) t.others ∙ set_here before t.object t.old t.new t.found;
+          none = λ m actor wish. deaf p object (kept_of t.new) m q wish (off at);
+          flag = λ r f actor wish. absurd (cc wish);
+        }
+    by_test false other = record {
+      before = held.before;
+      found = ap (λ os. slice_get os object) t.others ∙ set_there before t.object object held.before t.new (λ at. false≢true (sym other ∙ (unsigned_Decides object t.object).1 at)) held.found;
+      none = held.none;
+      flag = held.flag;
+    }
+
+deaf_moved : DeafLaw → ComesLaw → (p : Plan) (ts : TaskSet) (before later : List Object) (e : Noted) (s : Slot) (d : IsDeaf p ts before s) → IsAfter p before later e → ((t : Touches p before later e) → heard_in t.new ≡ Some d.point → ⊥) → IsDeaf p ts later s
+deaf_moved deaf comes p ts before later e s d (inl none) calm = subst (λ os. IsDeaf p ts os s) (sym none.1) d
+deaf_moved deaf comes p ts before later e s d (inr t) calm =
+    let first : AllHeld p before ((Act d.hears.key, to_hear d.point) ∷ []) = subst (AllHeld p before) d.hears.tries d.held in
+    let on : IsHeldOn p before (Act d.hears.key) (to_hear d.point) d.hears.object = subst (IsHeldAt p before (Act d.hears.key) (to_hear d.point)) d.hears.there first.0 in
+    let still = deaf_on deaf comes p before later e t d.hears.key d.point d.hears.object d.hears.fits d.hears.there (calm t) on in
+    record {
+      point = d.point;
+      hears = d.hears;
+      held = subst (AllHeld p later) (sym d.hears.tries) (subst (IsHeldAt p later (Act d.hears.key) (to_hear d.point)) (sym d.hears.there) still, tt);
+    }
+
 -- ---- all cores
 
 module _ (nowhere : NowhereLaw) (others : OthersLaw) (p : Plan) (before later : List Object) (e : Noted) (cores : List CoreState) (old new : List AwakeState) (seats : List (Vec Seat Global))
-    (seated : AreSeated (tables_of cores) seats) (woken : AreWoken old new) (roused : AreRoused p e cores old) where
+    (seated : AreSeated (tables_of cores) seats) (woken : AreWoken old new) (roused : AreRoused p e cores old) (deaf : DeafLaw) (comes : ComesLaw) (ts : TaskSet) (answered : AreAnswered p ts before later e cores old) where
   -- each seat of the events that its object tells was looked at
   abbrev pub IsLookedAt : Touches p before later e → Type 0
   IsLookedAt t = (event : ℕ) (s : Seat) → Contains (woken_in t.new) event → IsAt seats event s → IsSeen (kept_of t.new) new event s
@@ -189,7 +246,7 @@ module _ (nowhere : NowhereLaw) (others : OthersLaw) (p : Plan) (before later : 
       false≢true (sym (get_or_from_slice_get b.slots i false false sleeps) ∙ one.slots i (roused n i machine c a core_is was_is slot_is touching))
 
   module _ (moves : Moves) (after : IsAfter p before later e) (n : ℕ) (c : CoreState) (a b : AwakeState) (core_is : slice_get cores n ≡ Some c) (was_is : slice_get old n ≡ Some a) (awake_is : slice_get new n ≡ Some b) (one : IsWoken a b) where
-    module _ (starts : StartsHeld p before c.slots b) where
+    module _ (starts : StartsHeld p ts before c.slots b) where
       events_on : (i j event : ℕ) (s : Slot) (row : List Bool) → slice_get c.slots i ≡ Some s → slice_get b.events i ≡ Some row → slice_get (events_of_slot s) j ≡ Some event → slice_get row j ≡ Some false → AllHeld p later (start_try p event)
       events_on i j event s row slot_is row_is place_is sleeps =
           let here : get_or b.events i [] ≡ row = get_or_from_slice_get b.events i row [] row_is in
@@ -197,8 +254,8 @@ module _ (nowhere : NowhereLaw) (others : OthersLaw) (p : Plan) (before later : 
           let flag : get_or (get_or b.events i []) j false ≡ false = get_or_from_slice_get (get_or b.events i []) j false false off_here in
           moves n c b core_is awake_is i j event s slot_is place_is (and_right (get_or b.slots i false) (get_or (get_or b.events i []) j false) flag) (starts.events i j event s row slot_is row_is place_is sleeps)
 
-      slots_on : (i : ℕ) (s : Slot) → slice_get c.slots i ≡ Some s → slice_get b.slots i ≡ Some false → slice_get b.waiting i ≡ Some false → (is_free s ≡ true) × AllHeld p later (idle_tries p s)
-      slots_on i s slot_is sleeps waits = let was = starts.slots i s slot_is sleeps waits in (was.0, of_slot s slot_is was.1)
+      slots_on : (i : ℕ) (s : Slot) → slice_get c.slots i ≡ Some s → slice_get b.slots i ≡ Some false → slice_get b.waiting i ≡ Some false → IsQuiet p ts later s
+      slots_on i s slot_is sleeps waits = of_quiet (starts.slots i s slot_is sleeps waits)
         where
           flag : get_or b.slots i false ≡ false
           flag = get_or_from_slice_get b.slots i false false sleeps
@@ -208,13 +265,17 @@ module _ (nowhere : NowhereLaw) (others : OthersLaw) (p : Plan) (before later : 
               held_each p before later x.events.items (λ j event place_is. moves n c b core_is awake_is i j event (kind.Task x) is place_is (and_left (get_or b.slots i false) (get_or (get_or b.events i []) j false) flag)) held
           of_slot (kind.Machine machine) is held = machine_moved p before later e machine after (machine_apart n i machine c a b core_is was_is one is sleeps) held
 
-      starts_on : StartsHeld p later c.slots b
+          of_quiet : IsQuiet p ts before s → IsQuiet p ts later s
+          of_quiet (inl free) = inl (free.0, of_slot s slot_is free.1)
+          of_quiet (inr d) = inr (deaf_moved deaf comes p ts before later e s d after (λ x is. false≢true (sym flag ∙ one.slots i (answered x n i d.point c a s core_is was_is slot_is d.hears is))))
+
+      starts_on : StartsHeld p ts later c.slots b
       starts_on = record { events = events_on; slots = slots_on }
 
-    watched_on : IsWatched p before c a → IsWatched p later c b
-    watched_on watched = record { fits = one.fits c.slots c.first watched.fits; starts = starts_on (one.starts p before c.slots watched.starts) }
+    watched_on : IsWatched p ts before c a → IsWatched p ts later c b
+    watched_on watched = record { fits = one.fits c.slots c.first watched.fits; starts = starts_on (one.starts p ts before c.slots watched.starts) }
 
-  all_watched : AreWatched p before cores old → IsAfter p before later e → Moves → AreWatched p later cores new
+  all_watched : AreWatched p ts before cores old → IsAfter p before later e → Moves → AreWatched p ts later cores new
   all_watched watched after moves = record {
     count = woken.count ∙ watched.count;
     each = λ n c b core_is awake_is.
@@ -225,7 +286,7 @@ module _ (nowhere : NowhereLaw) (others : OthersLaw) (p : Plan) (before later : 
         watched_on moves after n c a b core_is was_is awake_is (woken.each n a b was_is awake_is) (watched.each n c a core_is was_is);
   }
 
-  pub after_entry : AreWatched p before cores old → IsAfter p before later e → ((t : Touches p before later e) → wakes e.entry.deed ≡ true → IsLookedAt t) → AreWatched p later cores new
+  pub after_entry : AreWatched p ts before cores old → IsAfter p before later e → ((t : Touches p before later e) → wakes e.entry.deed ≡ true → IsLookedAt t) → AreWatched p ts later cores new
   after_entry watched (inl none) loud = all_watched watched (inl none) (same_moves none.1)
   after_entry watched (inr t) loud = all_watched watched (inr t) (touched_moves t (calm (wakes e.entry.deed) refl))
     where
@@ -234,8 +295,8 @@ module _ (nowhere : NowhereLaw) (others : OthersLaw) (p : Plan) (before later : 
       calm true on = inr (loud t on)
 
 -- each seat has its flag
-pub seats_there : (p : Plan) (objects : List Object) (cores : List CoreState) (awake : List AwakeState) (seats : List (Vec Seat Global)) → AreWatched p objects cores awake → AreSeated (tables_of cores) seats → (event : ℕ) (s : Seat) → IsAt seats event s → IsThere awake s
-seats_there p objects cores awake seats watched seated event s at =
+pub seats_there : (p : Plan) (t : TaskSet) (objects : List Object) (cores : List CoreState) (awake : List AwakeState) (seats : List (Vec Seat Global)) → AreWatched p t objects cores awake → AreSeated (tables_of cores) seats → (event : ℕ) (s : Seat) → IsAt seats event s → IsThere awake s
+seats_there p t objects cores awake seats watched seated event s at =
     let of = seated.only event s at in
     let core = mapped_found (λ (k : CoreState). map events_of_slot k.slots) cores s.core of.tasks of.core_is in
     let slot = mapped_found events_of_slot core.item.slots s.slot of.seat.events (ap (λ ts. slice_get ts s.slot) core.gives ∙ of.seat.task_is) in

@@ -1,19 +1,21 @@
 -- What of the cores may step, and where the events stand on them.
 use Rattle.std.specs.Prelude.{◌≡◌, ◌<◌, ◌+◌, ◌⊎◌, ℕ, List, [], map, length, set, slice_get, slice_index_or, Bool, true, false, not, ◌&&◌, ◌||◌, Option, Some, None, Vec}
 use Rattle.std.specs.Global.{Global}
-use Rattle.bus_semantics.specs.Plan.{Plan}
+use Rattle.std.specs.List.{Contains}
+use Rattle.bus_semantics.specs.Plan.{Plan, runnable_of_event}
 use Rattle.bus_semantics.specs.History.{Noted}
 use Rattle.bus_semantics.specs.Objects.{touched_by, machine_object}
 use Rattle.port_objects.specs.declared.object.Object.{Object}
 use Rattle.port_objects.specs.Kept.{Kept}
 use Rattle.port_objects.specs.Leading.{lead}
 use Rattle.port_objects.specs.Objects.{kept_of}
-use Rattle.port_objects.specs.Waking.{may_start_in, Tells}
+use Rattle.port_objects.specs.Waking.{may_start_in, heard_in, Tells, TellsPoint}
 use Rattle.task_machine.specs.declared.instr.TaskSet.{TaskSet}
 use Rattle.task_slots.specs.declared.slot.Slot.{Slot}
 use Rattle.task_slots.specs.declared.slot.Slot.TheVariants as slot
 use Rattle.core_turn.specs.Cores.{CoreState}
 use Rattle.task_slots.specs.Slots.{Table, of_machine, table_of, events_of_slot}
+use Rattle.task_slots.specs.Waiting.{HearsAt}
 use Rattle.core_turn.specs.Awake.{AwakeState, Fits, StartsHeld, WaitersHeld}
 use Rattle.core_runtime.specs.declared.seats.Seat.{Seat}
 use Rattle.core_runtime.specs.declared.watch.Watch.{Watch}
@@ -71,16 +73,35 @@ owners_of cores = map (λ (c : CoreState). map table_of c.slots) cores
 abbrev pub AreBehind : Plan → (owners : List (List Table)) → Type 0
 AreBehind p owners = (i j machine : ℕ) (tables : List Table) → slice_get owners i ≡ Some tables → slice_get tables j ≡ Some (of_machine machine) → (i ≡ 0) × (j + length p.machines ≡ length tables + machine)
 
+-- ---- callers
+
+-- the event stands in the list of its runnable
+pub record IsListed (lists : List (Vec ℕ Global)) (runnable event : ℕ) : Type 0 where
+  pub row : Vec ℕ Global
+  pub row_is : slice_get lists runnable ≡ Some row
+  pub among : Contains row.items event
+
+-- so does each event that starts one of the plan's runnables
+pub record AreStarters (p : Plan) (lists : List (Vec ℕ Global)) : Type 0 where
+  pub count : length lists ≡ length p.runnables
+  pub all : (event runnable : ℕ) → runnable_of_event p event ≡ Some runnable → runnable < length p.runnables → IsListed lists runnable event
+
+-- the event was added to the list of its runnable
+pub record IsStarter (p : Plan) (event : ℕ) (old new : List (Vec ℕ Global)) : Type 0 where
+  pub count : length new ≡ length old
+  pub kept : (runnable other : ℕ) → IsListed old runnable other → IsListed new runnable other
+  pub added : (runnable : ℕ) → runnable_of_event p event ≡ Some runnable → runnable < length old → IsListed new runnable event
+
 -- ---- what is awake
 
 -- a core with what of it may start, over these objects
-pub record IsWatched (p : Plan) (objects : List Object) (c : CoreState) (a : AwakeState) : Type 0 where
+pub record IsWatched (p : Plan) (t : TaskSet) (objects : List Object) (c : CoreState) (a : AwakeState) : Type 0 where
   pub fits : Fits c.slots c.first a
-  pub starts : StartsHeld p objects c.slots a
+  pub starts : StartsHeld p t objects c.slots a
 
-pub record AreWatched (p : Plan) (objects : List Object) (cores : List CoreState) (awake : List AwakeState) : Type 0 where
+pub record AreWatched (p : Plan) (t : TaskSet) (objects : List Object) (cores : List CoreState) (awake : List AwakeState) : Type 0 where
   pub count : length awake ≡ length cores
-  pub each : (i : ℕ) (c : CoreState) (a : AwakeState) → slice_get cores i ≡ Some c → slice_get awake i ≡ Some a → IsWatched p objects c a
+  pub each : (i : ℕ) (c : CoreState) (a : AwakeState) → slice_get cores i ≡ Some c → slice_get awake i ≡ Some a → IsWatched p t objects c a
 
 -- what of each core waits at areas; `touched` is the object that an entry has just touched, of which those that wait there were not told
 abbrev pub AreWaiting : Plan → TaskSet → List Object → (touched : Option ℕ) → List CoreState → List AwakeState → Type 0
@@ -88,14 +109,15 @@ AreWaiting p t objects touched cores awake = (i : ℕ) (c : CoreState) (a : Awak
 
 -- each core is watched, the seats are theirs, and the machines stand behind the tasks
 pub record IsWatch (p : Plan) (t : TaskSet) (objects : List Object) (touched : Option ℕ) (cores : List CoreState) (w : Watch) : Type 0 where
-  pub awake : AreWatched p objects cores w.awake.items
+  pub awake : AreWatched p t objects cores w.awake.items
   pub waiting : AreWaiting p t objects touched cores w.awake.items
   pub seated : AreSeated (tables_of cores) w.seats.items
   pub behind : AreBehind p (owners_of cores)
+  pub starters : AreStarters p w.starters.items
 
 -- over all objects the cores are watched, where all is awake
 abbrev pub AllWatched : List CoreState → List AwakeState → Type 0
-AllWatched cores awake = (p : Plan) (t : TaskSet) (objects : List Object) → AreWatched p objects cores awake × AreWaiting p t objects None cores awake
+AllWatched cores awake = (p : Plan) (t : TaskSet) (objects : List Object) → AreWatched p t objects cores awake × AreWaiting p t objects None cores awake
 
 -- ---- waking
 
@@ -120,7 +142,7 @@ pub record IsWoken (a b : AwakeState) : Type 0 where
   pub events : (i j : ℕ) → slice_index_or (slice_index_or a.events i []) j false ≡ true → slice_index_or (slice_index_or b.events i []) j false ≡ true
   pub even : IsEven a → IsEven b
   pub fits : (of : List Slot) (first : ℕ) → Fits of first a → Fits of first b
-  pub starts : (p : Plan) (objects : List Object) (of : List Slot) → StartsHeld p objects of a → StartsHeld p objects of b
+  pub starts : (p : Plan) (t : TaskSet) (objects : List Object) (of : List Slot) → StartsHeld p t objects of a → StartsHeld p t objects of b
   pub waiters : (p : Plan) (t : TaskSet) (objects : List Object) (touched : Option ℕ) (of : List Slot) → WaitersHeld p t objects touched of a.first a → WaitersHeld p t objects touched of b.first b
 
 pub record AreWoken (old new : List AwakeState) : Type 0 where
@@ -130,7 +152,7 @@ pub record AreWoken (old new : List AwakeState) : Type 0 where
 -- the area that is this object was left: what sleeps is held as it was, and who waits there may sleep on, whatever the object is now
 pub record IsWokenAt (object : ℕ) (a b : AwakeState) : Type 0 where
   pub fits : (of : List Slot) (first : ℕ) → Fits of first a → Fits of first b
-  pub starts : (p : Plan) (objects : List Object) (of : List Slot) → StartsHeld p objects of a → StartsHeld p objects of b
+  pub starts : (p : Plan) (t : TaskSet) (objects : List Object) (of : List Slot) → StartsHeld p t objects of a → StartsHeld p t objects of b
   pub waiters : (p : Plan) (t : TaskSet) (objects : List Object) (of : List Slot) (left : Object) → WaitersHeld p t objects (Some object) of a.first a → WaitersHeld p t (set objects object left) None of b.first b
 
 pub record AreWokenAt (object : ℕ) (old new : List AwakeState) : Type 0 where
@@ -145,13 +167,17 @@ pub record IsThere (awake : List AwakeState) (s : Seat) : Type 0 where
   pub place : s.place < length (slice_index_or core.events s.slot [])
   pub even : IsEven core
 
+-- the slot of the seat is awake
+abbrev pub IsUp : List AwakeState → Seat → Type 0
+IsUp awake s = (a : AwakeState) → slice_get awake s.core ≡ Some a → slice_index_or a.slots s.slot false ≡ true
+
 -- at the seat the event is awake, or no start by it may come
 abbrev pub IsSeen : Kept → List AwakeState → (event : ℕ) → Seat → Type 0
 IsSeen k awake event s = (a : AwakeState) → slice_get awake s.core ≡ Some a → (is_awake a s.slot s.place || not (may_start_in k event)) ≡ true
 
 -- ---- what an entry does to the objects
 
--- the one that it touches changes by the lead, and tells which starts came
+-- the one that it touches changes by the lead, and tells which starts and which Answer came
 pub record Touches (p : Plan) (before later : List Object) (n : Noted) : Type 0 where
   pub object : ℕ
   pub touching : touched_by p n ≡ Some object
@@ -160,12 +186,18 @@ pub record Touches (p : Plan) (before later : List Object) (n : Noted) : Type 0 
   pub found : slice_get before object ≡ Some old
   pub leads : lead p object (kept_of old) n ≡ Some (kept_of new)
   pub told : Tells (kept_of old) new
+  pub heard : TellsPoint (kept_of old) new
   pub others : later ≡ set before object new
 
 -- the slot of the machine that it touches is awake
 abbrev pub AreRoused : Plan → Noted → List CoreState → List AwakeState → Type 0
 AreRoused p n cores awake = (i j machine : ℕ) (c : CoreState) (a : AwakeState) → slice_get cores i ≡ Some c → slice_get awake i ≡ Some a → slice_get c.slots j ≡ Some (slot.Machine machine) → touched_by p n ≡ machine_object p (Some machine)
     → slice_index_or a.slots j false ≡ true
+
+-- the slot of the caller to whose point it returned is awake
+abbrev pub AreAnswered : (p : Plan) → TaskSet → (before later : List Object) → (n : Noted) → List CoreState → List AwakeState → Type 0
+AreAnswered p t before later n cores awake = (x : Touches p before later n) (i j point : ℕ) (c : CoreState) (a : AwakeState) (s : Slot) → slice_get cores i ≡ Some c → slice_get awake i ≡ Some a → slice_get c.slots j ≡ Some s
+    → HearsAt p t s point → heard_in x.new ≡ Some point → slice_index_or a.slots j false ≡ true
 
 -- or it touches none
 abbrev pub IsAfter : Plan → (before later : List Object) → Noted → Type 0

@@ -2,6 +2,7 @@
 #![tactic(auto)]
 
 mod alone;
+mod callers;
 mod environment;
 mod lap;
 mod live;
@@ -12,6 +13,7 @@ mod pass;
 mod round;
 mod round_state;
 mod seats;
+mod starters;
 mod stay;
 mod step;
 mod waiting;

@@ -25,6 +25,7 @@ impl Live {
             watch: Watch {
                 awake: Vec::new(alloc),
                 seats: Vec::new(alloc),
+                starters: Vec::new(alloc),
             },
             entries: Vec::new(alloc),
         }

@@ -4,6 +4,7 @@ ghost use Rattle.std.specs.Prelude.{◌≡◌, ◌<◌, ◌+◌, ℕ, List, true
 ghost use Rattle.bus_semantics.specs.Objects.{touched_by, first_machine, IsObject};
 ghost use Rattle.bus_semantics.specs.Plan.{plan_of};
 ghost use Rattle.port_objects.specs.declared.object.Object.{Object};
+ghost use Rattle.task_machine.specs.declared.instr.TaskSet.{TaskSet};
 ghost use Rattle.core_turn.specs.Cores.{CoreState};
 ghost use Rattle.core_turn.specs.Awake.{AwakeState};
 ghost use Rattle.core_runtime.specs.Watching.{AreBehind, AreEven, AreRoused, AreWatched, AreWoken, IsEven, IsWoken, owners_of};
@@ -58,7 +59,7 @@ pub(crate) fn wake_machine(p: &BusPlan, entry: &Entry, event: Option<u32>, awake
     requires within { IfSome (touched_by (plan_of p.now) (record { entry = entry.now; event = event })) (IsObject (plan_of p.now)) }
     requires even { AreEven awake.old.items }
     ensures woken { AreWoken awake.old.items awake.new.items }
-    ensures roused { (objects : List Object) (cores : List CoreState) → AreBehind (plan_of p.now) (owners_of cores) → AreWatched (plan_of p.now) objects cores awake.old.items
+    ensures roused { (t : TaskSet) (objects : List Object) (cores : List CoreState) → AreBehind (plan_of p.now) (owners_of cores) → AreWatched (plan_of p.now) t objects cores awake.old.items
         → AreRoused (plan_of p.now) (record { entry = entry.now; event = event }) cores awake.new.items }
 {
     if awake.is_empty() {

@@ -37,7 +37,7 @@ fn wake_first_of_each(object: u32, awake: &mut Vec<Awake>)
 pub(crate) fn wake_waiting(p: &BusPlan, entry: &Entry, event: Option<u32>, awake: &mut Vec<Awake>)
     requires within { IfSome (touched_by (plan_of p.now) (record { entry = entry.now; event = event })) (IsObject (plan_of p.now)) }
     requires even { AreEven awake.old.items }
-    ensures starts { (objects : List Object) (cores : List CoreState) → AreWatched (plan_of p.now) objects cores awake.old.items → AreWatched (plan_of p.now) objects cores awake.new.items }
+    ensures starts { (t : TaskSet) (objects : List Object) (cores : List CoreState) → AreWatched (plan_of p.now) t objects cores awake.old.items → AreWatched (plan_of p.now) t objects cores awake.new.items }
     ensures waiting { (t : TaskSet) (cores : List CoreState) (before later : List Object) → IsAfter (plan_of p.now) before later (record { entry = entry.now; event = event })
         → AreWaiting (plan_of p.now) t before (touched_by (plan_of p.now) (record { entry = entry.now; event = event })) cores awake.old.items → AreWaiting (plan_of p.now) t later None cores awake.new.items }
 {

@@ -9,8 +9,9 @@ ghost use Rattle.port_objects.specs.Objects.{kept_of};
 ghost use Rattle.port_objects.specs.Waking.{wakes};
 ghost use Rattle.task_machine.specs.declared.instr.TaskSet.{TaskSet};
 ghost use Rattle.core_turn.specs.Cores.{CoreState};
-ghost use Rattle.core_runtime.specs.Watching.{AreRoused, AreSeated, AreWatched, AreWoken, IsAfter, IsAt, IsSeen, IsThere, IsWatch, tables_of};
+ghost use Rattle.core_runtime.specs.Watching.{AreAnswered, AreRoused, AreSeated, AreWatched, AreWoken, IsAfter, IsAt, IsSeen, IsThere, IsWatch, tables_of};
 
+use crate::callers::wake_caller;
 use crate::machines::wake_machine;
 use crate::seats::Seat;
 use crate::waiting::wake_waiting;
@@ -18,7 +19,8 @@ use crate::watch::Watch;
 use bus_semantics::{BusPlan, Deed, Entry};
 use core_turn::Awake;
 use port_objects::{
-    Object, held_starts_lead_nowhere, may_start, other_entries_wake_nothing, touched_object, woken,
+    Object, answers_go_by_flags, held_starts_lead_nowhere, may_start, other_entries_wake_nothing,
+    touched_object, woken,
 };
 
 /// Wakes an event at a seat, where it sleeps and may start now.
@@ -48,6 +50,7 @@ fn wake_seats(object: &Object, event: u32, seats: &[Seat], awake: &mut Vec<Awake
 fn wake_event(object: &Object, event: u32, w: &mut Watch)
     requires there { (e : ℕ) (s : Seat) → IsAt w.old.seats.items e s → IsThere w.old.awake.items s }
     ensures seats { w.new.seats ≡ w.old.seats }
+    ensures starters { w.new.starters ≡ w.old.starters }
     ensures woken { AreWoken w.old.awake.items w.new.awake.items }
     ensures seen { (s : Seat) → IsAt w.old.seats.items event s → IsSeen (kept_of object.now) w.new.awake.items event s }
 {
@@ -60,6 +63,7 @@ fn wake_event(object: &Object, event: u32, w: &mut Watch)
 fn wake_events(object: &Object, events: &[u32], w: &mut Watch)
     requires there { (e : ℕ) (s : Seat) → IsAt w.old.seats.items e s → IsThere w.old.awake.items s }
     ensures seats { w.new.seats ≡ w.old.seats }
+    ensures starters { w.new.starters ≡ w.old.starters }
     ensures woken { AreWoken w.old.awake.items w.new.awake.items }
     ensures seen { (e : ℕ) (s : Seat) → Contains events.now e → IsAt w.old.seats.items e s → IsSeen (kept_of object.now) w.new.awake.items e s }
 {
@@ -91,12 +95,14 @@ fn wake_starts(p: &BusPlan, entry: &Entry, event: Option<u32>, objects: &[Object
     requires within { IfSome (touched_by (plan_of p.now) (record { entry = entry.now; event = event })) (IsObject (plan_of p.now)) }
     requires there { (e : ℕ) (s : Seat) → IsAt w.old.seats.items e s → IsThere w.old.awake.items s }
     ensures seats { w.new.seats ≡ w.old.seats }
+    ensures starters { w.new.starters ≡ w.old.starters }
     ensures woken { AreWoken w.old.awake.items w.new.awake.items }
-    ensures starts { (cores : List CoreState) (before : List Object) → IsAfter (plan_of p.now) before objects.now (record { entry = entry.now; event = event })
-        → AreRoused (plan_of p.now) (record { entry = entry.now; event = event }) cores w.old.awake.items → AreSeated (tables_of cores) w.old.seats.items
-        → AreWatched (plan_of p.now) before cores w.old.awake.items → AreWatched (plan_of p.now) objects.now cores w.new.awake.items }
+    ensures starts { (t : TaskSet) (cores : List CoreState) (before : List Object) → IsAfter (plan_of p.now) before objects.now (record { entry = entry.now; event = event })
+        → AreRoused (plan_of p.now) (record { entry = entry.now; event = event }) cores w.old.awake.items → AreAnswered (plan_of p.now) t before objects.now (record { entry = entry.now; event = event }) cores w.old.awake.items
+        → AreSeated (tables_of cores) w.old.seats.items → AreWatched (plan_of p.now) t before cores w.old.awake.items → AreWatched (plan_of p.now) t objects.now cores w.new.awake.items }
 {
     held_starts_lead_nowhere();
+    answers_go_by_flags();
     other_entries_wake_nothing();
     if !wakes(&entry.deed) {
         return;
@@ -108,8 +114,8 @@ fn wake_starts(p: &BusPlan, entry: &Entry, event: Option<u32>, objects: &[Object
     }
 }
 
-/// Wakes what an entry, after which the objects are these, may make come: the next phase of the machine that it touches, starts, and
-/// after a Leave those who may enter the area.
+/// Wakes what an entry, after which the objects are these, may make come: the next phase of the machine that it touches, the Answer of
+/// the caller to whose point it returned, starts, and after a Leave those who may enter the area.
 /// `event` is the one that started the activation, for an admission and an end that touch an object.
 pub(crate) fn wake_after(
     p: &BusPlan,
@@ -119,11 +125,12 @@ pub(crate) fn wake_after(
     w: &mut Watch,
 )
     requires within { IfSome (touched_by (plan_of p.now) (record { entry = entry.now; event = event })) (IsObject (plan_of p.now)) }
-    requires watched { (cores : List CoreState) × (before : List Object) × AreWatched (plan_of p.now) before cores w.old.awake.items × AreSeated (tables_of cores) w.old.seats.items }
+    requires watched { (t : TaskSet) × (cores : List CoreState) × (before : List Object) × AreWatched (plan_of p.now) t before cores w.old.awake.items × AreSeated (tables_of cores) w.old.seats.items }
     ensures { (t : TaskSet) (cores : List CoreState) (before : List Object) → IsAfter (plan_of p.now) before objects.now (record { entry = entry.now; event = event })
         → IsWatch (plan_of p.now) t before (touched_by (plan_of p.now) (record { entry = entry.now; event = event })) cores w.old → IsWatch (plan_of p.now) t objects.now None cores w.new }
 {
     wake_machine(p, entry, event, &mut w.awake);
+    wake_caller(p, entry, event, objects, w);
     wake_starts(p, entry, event, objects, w);
     wake_waiting(p, entry, event, &mut w.awake);
 }

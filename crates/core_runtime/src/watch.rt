@@ -1,6 +1,6 @@
 //! What of the cores may step, and where the events stand on them.
 
-ghost use Rattle.std.specs.Prelude.{◌≡◌, ℕ, List, None, Some, IfOk, slice_get};
+ghost use Rattle.std.specs.Prelude.{◌≡◌, ◌<◌, ◌^◌, ℕ, List, None, Some, IfOk, length, slice_get};
 ghost use Rattle.bus_semantics.specs.declared.script.Mapping.{Mapping};
 ghost use Rattle.bus_semantics.specs.Plan.{plan_of};
 ghost use Rattle.port_objects.specs.declared.object.Object.{Object};
@@ -11,6 +11,7 @@ ghost use Rattle.core_runtime.specs.Watching.{IsWatch, AllWatched};
 
 use crate::Memory;
 use crate::seats::{Seat, seats_of};
+use crate::starters::starters_of;
 use bus_semantics::BusPlan;
 use core_turn::{Awake, Core};
 use std::alloc::Global;
@@ -20,6 +21,8 @@ use std::alloc::Global;
 pub(crate) struct Watch {
     pub awake: Vec<Awake>,
     pub seats: Vec<Vec<Seat>>,
+    /// For each runnable, by number, the events that start it.
+    pub starters: Vec<Vec<u32>>,
 }
 
 /// All that the cores have, awake.
@@ -37,11 +40,17 @@ impl Watch {
     /// Over these cores, each at its number, all is awake. The only error is that there is no memory; no other call takes any.
     pub fn new(alloc: Global, p: &BusPlan, cores: &[Core]) -> Result<Watch, Memory>
         requires ready { (m : Mapping) × (t : TaskSet) × AreReady (plan_of p.now) m t cores.now }
+        requires events { length p.now.events < 2 ^ 32 }
         requires numbers { (i : ℕ) (c : CoreState) → slice_get cores.now i ≡ Some c → c.number ≡ i }
         ensures { IfOk result (λ w. (t : TaskSet) (objects : List Object) → IsWatch (plan_of p.now) t objects None cores.now w) }
     {
         let awake = awake_of(alloc, cores)?;
         let seats = seats_of(alloc, p, cores)?;
-        Ok(Watch { awake, seats })
+        let starters = starters_of(alloc, p)?;
+        Ok(Watch {
+            awake,
+            seats,
+            starters,
+        })
     }
 }

@@ -19,7 +19,7 @@ use Rattle.task_slots.specs.Looking.{AllHeld}
 use Rattle.task_slots.specs.Waiting.{EventsHeld, is_free_task, is_free, idle_tries}
 use Rattle.task_slots.proofs.Placed.{Placed, here, there, placed}
 use Rattle.task_slots.proofs.Unchanged.{TriesHeld}
-use Rattle.core_turn.specs.Awake.{AwakeState, all_awake, Fits, AreHeld, StartsHeld, HeldTold, IsSettled, with_slots}
+use Rattle.core_turn.specs.Awake.{AwakeState, all_awake, Fits, AreHeld, StartsHeld, IsQuiet, HeldTold, IsSettled, with_slots}
 use Rattle.core_turn.proofs.Order.{no_both}
 use Rattle.core_turn.proofs.Waiters.{none_waits, waiter_held}
 
@@ -41,8 +41,8 @@ none_asleep n i e =
     let within : i < n = subst (λ k. i < k) (length-replicate n true) (slice_get_within (replicate n true) i false e) in
     false≢true (sym (get_or_from_slice_get (replicate n true) i false true e) ∙ get_or-replicate n i true true within)
 
-pub all_starts : (p : Plan) (objects : List Object) (slots : List Slot) (a : AwakeState) → a.slots ≡ replicate (length slots) true → a.events ≡ all_awake slots → StartsHeld p objects slots a
-all_starts p objects slots a flags rows = record {
+pub all_starts : (p : Plan) (t : TaskSet) (objects : List Object) (slots : List Slot) (a : AwakeState) → a.slots ≡ replicate (length slots) true → a.events ≡ all_awake slots → StartsHeld p t objects slots a
+all_starts p t objects slots a flags rows = record {
   events = λ i j e s row found at event sleeps.
       let f : Slot → List Bool = λ (s : Slot). replicate (length (events_of_slot s)) true in
       let is : Some row ≡ Some (f s) = sym at ∙ ap (λ xs. slice_get xs i) rows ∙ slice_get-map f slots i ∙ ap (option_map f) found in
@@ -53,7 +53,7 @@ all_starts p objects slots a flags rows = record {
 
 pub all_held : (p : Plan) (t : TaskSet) (objects : List Object) (touched : Option ℕ) (slots : List Slot) (first : ℕ) (a : AwakeState) (n : ℕ) → a.slots ≡ replicate (length slots) true → a.events ≡ all_awake slots → length a.waiting ≡ n → NoneBetween a.waiting 0 n
     → AreHeld p t objects touched slots first a
-all_held p t objects touched slots first a n flags rows count none = record { starts = all_starts p objects slots a flags rows; waiters = none_waits p t objects touched slots first a n count none }
+all_held p t objects touched slots first a n flags rows count none = record { starts = all_starts p t objects slots a flags rows; waiters = none_waits p t objects touched slots first a n count none }
 
 pub all_fits : (slots : List Slot) (first : ℕ) (a : AwakeState) → a.slots ≡ replicate (length slots) true → a.events ≡ all_awake slots → length a.waiting ≡ length slots → length a.areas ≡ length slots → a.first ≡ first → Fits slots first a
 all_fits slots first a flags rows waiting areas begins = record {
@@ -97,8 +97,8 @@ row_there rows n place within = elim (cases_lt n (length rows)) [
 ]
 
 -- a slot wakes
-pub starts_waking : (p : Plan) (objects : List Object) (slots : List Slot) (a : AwakeState) (n : ℕ) → StartsHeld p objects slots a → StartsHeld p objects slots (with_slots a (set a.slots n true) (set a.waiting n false) a.areas)
-starts_waking p objects slots a n held = record {
+pub starts_waking : (p : Plan) (t : TaskSet) (objects : List Object) (slots : List Slot) (a : AwakeState) (n : ℕ) → StartsHeld p t objects slots a → StartsHeld p t objects slots (with_slots a (set a.slots n true) (set a.waiting n false) a.areas)
+starts_waking p t objects slots a n held = record {
   events = held.events;
   slots = λ i s found sleeps dry.
       let before = not_before a.slots n i sleeps in
@@ -106,9 +106,9 @@ starts_waking p objects slots a n held = record {
 }
 
 -- an event wakes
-pub starts_on : (p : Plan) (objects : List Object) (slots : List Slot) (a : AwakeState) (n place : ℕ) (row : List Bool) → slice_get a.events n ≡ Some row → StartsHeld p objects slots a
-    → StartsHeld p objects slots (with_rows a (set a.events n (set row place true)))
-starts_on p objects slots a n place row at held = record {
+pub starts_on : (p : Plan) (t : TaskSet) (objects : List Object) (slots : List Slot) (a : AwakeState) (n place : ℕ) (row : List Bool) → slice_get a.events n ≡ Some row → StartsHeld p t objects slots a
+    → StartsHeld p t objects slots (with_rows a (set a.events n (set row place true)))
+starts_on p t objects slots a n place row at held = record {
   events = λ i j e s r found there_it event sleeps. of_place i j e s r found event sleeps (placed a.events n (set row place true) i r there_it);
   slots = held.slots;
 }
@@ -128,9 +128,9 @@ module _ (p : Plan) where
 
   module _ (objects : List Object) where
     -- the events of one slot fell asleep
-    pub starts_row : (slots : List Slot) (a : AwakeState) (at : ℕ) (s : Slot) (row : List Bool) → slice_get slots at ≡ Some s → EventsHeld p (Some objects) (events_of_slot s) row
-        → StartsHeld p objects slots a → StartsHeld p objects slots (with_rows a (set a.events at row))
-    starts_row slots a at s row found held before = record {
+    pub starts_row : (t : TaskSet) (slots : List Slot) (a : AwakeState) (at : ℕ) (s : Slot) (row : List Bool) → slice_get slots at ≡ Some s → EventsHeld p (Some objects) (events_of_slot s) row
+        → StartsHeld p t objects slots a → StartsHeld p t objects slots (with_rows a (set a.events at row))
+    starts_row t slots a at s row found held before = record {
       events = λ i j e x r there_it at_it event sleeps. of_place i j e x r there_it event sleeps (placed a.events at row i r at_it);
       slots = before.slots;
     }
@@ -143,34 +143,39 @@ module _ (p : Plan) where
         of_place i j e x r there_it event sleeps (there other here_it) = before.events i j e x r there_it here_it event sleeps
 
     -- a slot of which nothing may come fell asleep
-    pub starts_settled : (t : TaskSet) (slots : List Slot) (a a' : AwakeState) (at : ℕ) (s : Slot) → slice_get slots at ≡ Some s → AllHeld p objects (slot_tries p t s) → IsSettled p t s (is_free s) at a a' → StartsHeld p objects slots a
-        → StartsHeld p objects slots a'
+    pub starts_settled : (t : TaskSet) (slots : List Slot) (a a' : AwakeState) (at : ℕ) (s : Slot) → slice_get slots at ≡ Some s → AllHeld p objects (slot_tries p t s) → IsSettled p t s (is_free s) at a a' → StartsHeld p t objects slots a
+        → StartsHeld p t objects slots a'
     starts_settled t slots a a' at s found held settled before = of_free (is_free s) refl settled
       where
-        of_free : (r : Bool) → is_free s ≡ r → IsSettled p t s r at a a' → StartsHeld p objects slots a'
-        of_free false free (inl same) = subst (StartsHeld p objects slots) (sym same) before
-        of_free false free (inr f) = subst (StartsHeld p objects slots) (sym f.changed) (record {
+        -- its flag fell
+        put_out : IsQuiet p t objects s → StartsHeld p t objects slots (with_slots a (set a.slots at false) a.waiting a.areas)
+        put_out quiet = record {
+          events = before.events;
+          slots = λ i x there_it sleeps dry. of_place i x there_it dry (placed a.slots at false i false sleeps);
+        }
+          where
+            of_place : (i : ℕ) (x : Slot) → slice_get slots i ≡ Some x → slice_get a.waiting i ≡ Some false → Placed Bool a.slots at false i false → IsQuiet p t objects x
+            of_place i x there_it dry (here same is) =
+                let one : Some x ≡ Some s = sym there_it ∙ ap (slice_get slots) same ∙ found in
+                let own_slot : x ≡ s = cc in
+                subst (IsQuiet p t objects) (sym own_slot) quiet
+            of_place i x there_it dry (there other sleeps) = before.slots i x there_it sleeps dry
+
+        of_free : (r : Bool) → is_free s ≡ r → IsSettled p t s r at a a' → StartsHeld p t objects slots a'
+        of_free false free (inl same) = subst (StartsHeld p t objects slots) (sym same) before
+        of_free false free (inr (inl f)) = subst (StartsHeld p t objects slots) (sym f.changed) (record {
           events = before.events;
           slots = λ i x there_it sleeps dry.
               let waits = not_before a.waiting at i dry in
               before.slots i x there_it (other_flag a.slots at i false waits.0 sleeps) waits.1;
         })
-        of_free true free put = subst (StartsHeld p objects slots) (sym put) (record {
-          events = before.events;
-          slots = λ i x there_it sleeps dry. of_place i x there_it dry (placed a.slots at false i false sleeps);
-        })
-          where
-            of_place : (i : ℕ) (x : Slot) → slice_get slots i ≡ Some x → slice_get a.waiting i ≡ Some false → Placed Bool a.slots at false i false → (is_free x ≡ true) × AllHeld p objects (idle_tries p x)
-            of_place i x there_it dry (here same is) =
-                let one : Some x ≡ Some s = sym there_it ∙ ap (slice_get slots) same ∙ found in
-                let own_slot : x ≡ s = cc in
-                subst (λ y. (is_free y ≡ true) × AllHeld p objects (idle_tries p y)) (sym own_slot) (free, subst (AllHeld p objects) (free_tries p t s free) held)
-            of_place i x there_it dry (there other sleeps) = before.slots i x there_it sleeps dry
+        of_free false free (inr (inr f)) = subst (StartsHeld p t objects slots) (sym f.changed) (put_out (inr (record { point = f.point; hears = f.hears; held = held })))
+        of_free true free put = subst (StartsHeld p t objects slots) (sym put) (put_out (inl (free, subst (AllHeld p objects) (free_tries p t s free) held)))
 
     -- a slot that is awake stepped
-    pub starts_stepped : (slots : List Slot) (a : AwakeState) (at : ℕ) (s stepped : Slot) → slice_get slots at ≡ Some s → events_of_slot stepped ≡ events_of_slot s → slice_get a.slots at ≡ Some true → StartsHeld p objects slots a
-        → StartsHeld p objects (set slots at stepped) a
-    starts_stepped slots a at s stepped found same awake before = record {
+    pub starts_stepped : (t : TaskSet) (slots : List Slot) (a : AwakeState) (at : ℕ) (s stepped : Slot) → slice_get slots at ≡ Some s → events_of_slot stepped ≡ events_of_slot s → slice_get a.slots at ≡ Some true → StartsHeld p t objects slots a
+        → StartsHeld p t objects (set slots at stepped) a
+    starts_stepped t slots a at s stepped found same awake before = record {
       events = λ i j e x row there_it at_it event sleeps. of_events i j e x row at_it event sleeps (placed slots at stepped i x there_it);
       slots = λ i x there_it sleeps dry. of_slots i x sleeps dry (placed slots at stepped i x there_it);
     }
@@ -181,7 +186,7 @@ module _ (p : Plan) where
             before.events i j e s row (ap (slice_get slots) place ∙ found) at_it (subst (λ v. slice_get v j ≡ Some e) listed event) sleeps
         of_events i j e x row at_it event sleeps (there other here_it) = before.events i j e x row here_it at_it event sleeps
 
-        of_slots : (i : ℕ) (x : Slot) → slice_get a.slots i ≡ Some false → slice_get a.waiting i ≡ Some false → Placed Slot slots at stepped i x → (is_free x ≡ true) × AllHeld p objects (idle_tries p x)
+        of_slots : (i : ℕ) (x : Slot) → slice_get a.slots i ≡ Some false → slice_get a.waiting i ≡ Some false → Placed Slot slots at stepped i x → IsQuiet p t objects x
         of_slots i x sleeps dry (here place is) = no_both (slice_get a.slots at) awake (ap (slice_get a.slots) (sym place) ∙ sleeps)
         of_slots i x sleeps dry (there other here_it) = before.slots i x here_it sleeps dry
 
@@ -194,11 +199,13 @@ module _ (p : Plan) where
       flag : slice_get a.waiting i ≡ Some (get_or a.waiting i false)
       flag = slice_get-get_or a.waiting i false inside
 
+      quiet : IsQuiet p t objects s → AllHeld p objects (slot_tries p t s)
+      quiet (inl free) = subst (AllHeld p objects) (sym (free_tries p t s free.0)) free.1
+      quiet (inr deaf) = deaf.held
+
       of_flag : (b : Bool) → get_or a.waiting i false ≡ b → AllHeld p objects (slot_tries p t s)
       of_flag true is = waiter_held p t objects slots a from i s found begun none (flag ∙ ap (λ b. Some b) is) held.waiters
-      of_flag false is =
-          let facts = held.starts.slots i s found sleeps (flag ∙ ap (λ b. Some b) is) in
-          subst (AllHeld p objects) (sym (free_tries p t s facts.0)) facts.1
+      of_flag false is = quiet (held.starts.slots i s found sleeps (flag ∙ ap (λ b. Some b) is))
 
 -- ---- a place for each
 
@@ -212,8 +219,8 @@ fits_waking slots first a n fits = record {
   begins = fits.begins;
 }
 
-pub fits_settled : (p : Plan) (t : TaskSet) (slots : List Slot) (first : ℕ) (a a' : AwakeState) (at : ℕ) (s : Slot) (free : Bool) → IsSettled p t s free at a a' → Fits slots first a → Fits slots first a'
-fits_settled p t slots first a a' at s true put fits = subst (Fits slots first) (sym put) (record {
+fits_out : (slots : List Slot) (first : ℕ) (a a' : AwakeState) (at : ℕ) → a' ≡ with_slots a (set a.slots at false) a.waiting a.areas → Fits slots first a → Fits slots first a'
+fits_out slots first a a' at put fits = subst (Fits slots first) (sym put) (record {
   count = length-set a.slots at false ∙ fits.count;
   rows = fits.rows;
   widths = fits.widths;
@@ -221,8 +228,12 @@ fits_settled p t slots first a a' at s true put fits = subst (Fits slots first) 
   areas = fits.areas;
   begins = fits.begins;
 })
+
+pub fits_settled : (p : Plan) (t : TaskSet) (slots : List Slot) (first : ℕ) (a a' : AwakeState) (at : ℕ) (s : Slot) (free : Bool) → IsSettled p t s free at a a' → Fits slots first a → Fits slots first a'
+fits_settled p t slots first a a' at s true put fits = fits_out slots first a a' at put fits
 fits_settled p t slots first a a' at s false (inl same) fits = subst (Fits slots first) (sym same) fits
-fits_settled p t slots first a a' at s false (inr f) fits = subst (Fits slots first) (sym f.changed) (record {
+fits_settled p t slots first a a' at s false (inr (inr f)) fits = fits_out slots first a a' at f.changed fits
+fits_settled p t slots first a a' at s false (inr (inl f)) fits = subst (Fits slots first) (sym f.changed) (record {
   count = length-set a.slots at false ∙ fits.count;
   rows = fits.rows;
   widths = fits.widths;

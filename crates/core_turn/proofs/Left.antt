@@ -106,9 +106,9 @@ fits_woken slots first a (Some at) fits = fits_waking slots first a at fits
 pub fits_first : (slots : List Slot) (first object : ℕ) (old new : AwakeState) (which : Option ℕ) → FirstWakes object old new which → Fits slots first old → Fits slots first new
 fits_first slots first object old new which wakes fits = subst (Fits slots first) (sym wakes.changed) (fits_woken slots first old which fits)
 
-starts_woken : (p : Plan) (objects : List Object) (slots : List Slot) (a : AwakeState) (which : Option ℕ) → StartsHeld p objects slots a → StartsHeld p objects slots (woken_at a which)
-starts_woken p objects slots a None held = held
-starts_woken p objects slots a (Some at) held = starts_waking p objects slots a at held
+starts_woken : (p : Plan) (t : TaskSet) (objects : List Object) (slots : List Slot) (a : AwakeState) (which : Option ℕ) → StartsHeld p t objects slots a → StartsHeld p t objects slots (woken_at a which)
+starts_woken p t objects slots a None held = held
+starts_woken p t objects slots a (Some at) held = starts_waking p t objects slots a at held
 
-pub starts_first : (p : Plan) (objects : List Object) (slots : List Slot) (object : ℕ) (old new : AwakeState) (which : Option ℕ) → FirstWakes object old new which → StartsHeld p objects slots old → StartsHeld p objects slots new
-starts_first p objects slots object old new which wakes held = subst (StartsHeld p objects slots) (sym wakes.changed) (starts_woken p objects slots old which held)
+pub starts_first : (p : Plan) (t : TaskSet) (objects : List Object) (slots : List Slot) (object : ℕ) (old new : AwakeState) (which : Option ℕ) → FirstWakes object old new which → StartsHeld p t objects slots old → StartsHeld p t objects slots new
+starts_first p t objects slots object old new which wakes held = subst (StartsHeld p t objects slots) (sym wakes.changed) (starts_woken p t objects slots old which held)

@@ -121,7 +121,7 @@ module _ (slots : List Slot) (a : AwakeState) (first : ℕ) (fits : Fits slots f
             → HeldTold p t o (touched_by p (noting_of e)) (set slots at stepped) (suc at) (with_rows a (set a.events at row))
         of_told None held asleep looked = tt
         of_told (Some objects) held asleep looked = record {
-          starts = starts_stepped p objects slots (with_rows a (set a.events at row)) at s stepped (slot_found s is) events (flag_found chosen) (starts_row p objects slots a at s row (slot_found s is) asleep held.starts);
+          starts = starts_stepped p objects t slots (with_rows a (set a.events at row)) at s stepped (slot_found s is) events (flag_found chosen) (starts_row p objects t slots a at s row (slot_found s is) asleep held.starts);
           waiters = waiters_stepped p t objects slots (with_rows a (set a.events at row)) from at s (slot_found s is) (flag_found chosen) begun none (touched_by p (noting_of e)) stepped
               (λ object waits. touches_own p t s object objects after e waits looked) held.waiters;
         }
@@ -137,6 +137,6 @@ module _ (slots : List Slot) (a : AwakeState) (first : ℕ) (fits : Fits slots f
             let more = fits.areas in
             let widths : length a.areas ≡ length a.slots = omega arith in
             record {
-              starts = starts_settled p objects t slots (with_rows a (set a.events at row)) a' at s (slot_found s is) tries settled (starts_row p objects slots a at s row (slot_found s is) asleep held.starts);
+              starts = starts_settled p objects t slots (with_rows a (set a.events at row)) a' at s (slot_found s is) tries settled (starts_row p objects t slots a at s row (slot_found s is) asleep held.starts);
               waiters = waiters_settled p t objects slots (with_rows a (set a.events at row)) from at s (slot_found s is) (flag_found chosen) begun none alike tries a' settled widths held.waiters;
             }

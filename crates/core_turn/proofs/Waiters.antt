@@ -246,7 +246,8 @@ module _ (p : Plan) (t : TaskSet) where
           of_free : (r : Bool) → IsSettled p t s r at a a' → WaitersHeld p t objects None of (suc at) a'
           of_free true same = subst (WaitersHeld p t objects None of (suc at)) (sym same) (λ i waits. fallen a.areas (λ j n other is. is) i (held i waits))
           of_free false (inl same) = subst (WaitersHeld p t objects None of (suc at)) (sym same) (λ i waits. waiter_on shut a.slots a.areas (λ j b other is. is) (λ j n other is. is) i (held i waits))
-          of_free false (inr f) = subst (WaitersHeld p t objects None of (suc at)) (sym f.changed) (λ i waits. of_place f i (placed a.waiting at true i true waits))
+          of_free false (inr (inr f)) = subst (WaitersHeld p t objects None of (suc at)) (sym f.changed) (λ i waits. fallen a.areas (λ j n other is. is) i (held i waits))
+          of_free false (inr (inl f)) = subst (WaitersHeld p t objects None of (suc at)) (sym f.changed) (λ i waits. of_place f i (placed a.waiting at true i true waits))
 
       -- it stepped
       pub waiters_stepped : (touched : Option ℕ) (stepped : Slot) → ((object : ℕ) → WaitsAt p t s object → touched ≡ Some object) → WaitersHeld p t objects None of from a → WaitersHeld p t objects touched (set of at stepped) (suc at) a

@@ -10,10 +10,10 @@ use Rattle.port_objects.specs.Objects.{kept_of}
 use Rattle.port_objects.specs.Waking.{IsClosed}
 use Rattle.task_machine.specs.declared.instr.TaskSet.{TaskSet}
 use Rattle.task_slots.specs.declared.slot.Slot.{Slot}
-use Rattle.task_slots.specs.Slots.{events_of_slot}
+use Rattle.task_slots.specs.Slots.{events_of_slot, slot_tries}
 use Rattle.task_slots.specs.Looking.{AllHeld}
 use Rattle.task_slots.specs.Stepping.{noting_of}
-use Rattle.task_slots.specs.Waiting.{is_free, idle_tries, WaitsAt}
+use Rattle.task_slots.specs.Waiting.{is_free, idle_tries, WaitsAt, HearsAt}
 use Rattle.core_turn.specs.declared.passed.Passed.{Passed}
 use Rattle.core_turn.specs.declared.passed.Passed.TheVariants as pass
 use Rattle.core_turn.specs.declared.turning.Turned.{Turned}
@@ -44,12 +44,22 @@ pub record Fits (slots : List Slot) (first : ℕ) (a : AwakeState) : Type 0 wher
 
 -- ---- starts
 
--- no event that sleeps may start; and in a slot that sleeps, and waits at no area, nothing runs, and nothing of it may come: no start by its
--- events, or not the machine's next phase
-pub record StartsHeld (p : Plan) (objects : List Object) (of : List Slot) (a : AwakeState) : Type 0 where
+-- an activation waits for the answer at a point, which may not come
+pub record IsDeaf (p : Plan) (t : TaskSet) (objects : List Object) (s : Slot) : Type 0 where
+  pub point : ℕ
+  pub hears : HearsAt p t s point
+  pub held : AllHeld p objects (slot_tries p t s)
+
+-- nothing runs in a slot, and nothing of it may come: no start by its events, or not the machine's next phase; or its activation waits for an
+-- answer
+abbrev pub IsQuiet : Plan → TaskSet → List Object → Slot → Type 0
+IsQuiet p t objects s = ((is_free s ≡ true) × AllHeld p objects (idle_tries p s)) ⊎ IsDeaf p t objects s
+
+-- no event that sleeps may start; and of a slot that sleeps, and waits at no area, nothing may come
+pub record StartsHeld (p : Plan) (t : TaskSet) (objects : List Object) (of : List Slot) (a : AwakeState) : Type 0 where
   pub events : (i j e : ℕ) (s : Slot) (row : List Bool) → slice_get of i ≡ Some s → slice_get a.events i ≡ Some row → slice_get (events_of_slot s) j ≡ Some e → slice_get row j ≡ Some false
       → AllHeld p objects (start_try p e)
-  pub slots : (i : ℕ) (s : Slot) → slice_get of i ≡ Some s → slice_get a.slots i ≡ Some false → slice_get a.waiting i ≡ Some false → (is_free s ≡ true) × AllHeld p objects (idle_tries p s)
+  pub slots : (i : ℕ) (s : Slot) → slice_get of i ≡ Some s → slice_get a.slots i ≡ Some false → slice_get a.waiting i ≡ Some false → IsQuiet p t objects s
 
 -- ---- activations that wait at areas
 
@@ -98,7 +108,7 @@ WaitersHeld p t objects touched of first a = (i : ℕ) → slice_get a.waiting i
 -- what sleeps is held, in the order of slots from the first on. `touched` is the object that an entry has just touched and of which the
 -- waiting activations have not been told; None if there is none
 pub record AreHeld (p : Plan) (t : TaskSet) (objects : List Object) (touched : Option ℕ) (of : List Slot) (first : ℕ) (a : AwakeState) : Type 0 where
-  pub starts : StartsHeld p objects of a
+  pub starts : StartsHeld p t objects of a
   pub waiters : WaitersHeld p t objects touched of first a
 
 -- where a bench tells its objects
@@ -130,10 +140,16 @@ pub record FallsAsleep (p : Plan) (t : TaskSet) (s : Slot) (place : ℕ) (old ne
   pub waits : WaitsAt p t s object
   pub changed : new ≡ with_slots old (set old.slots place false) (set old.waiting place true) (set old.areas place object)
 
--- a slot of which nothing may come sleeps if nothing runs in it, and may sleep if its activation waits at an area
+-- an activation waits for an answer
+pub record FallsDeaf (p : Plan) (t : TaskSet) (s : Slot) (place : ℕ) (old new : AwakeState) : Type 0 where
+  pub point : ℕ
+  pub hears : HearsAt p t s point
+  pub changed : new ≡ with_slots old (set old.slots place false) old.waiting old.areas
+
+-- a slot of which nothing may come sleeps if nothing runs in it, and may sleep if its activation waits at an area or for an answer
 abbrev pub IsSettled : Plan → TaskSet → (s : Slot) → (free : Bool) → (place : ℕ) → (old new : AwakeState) → Type 0
 IsSettled p t s true place old new = new ≡ with_slots old (set old.slots place false) old.waiting old.areas
-IsSettled p t s false place old new = (new ≡ old) ⊎ FallsAsleep p t s place old new
+IsSettled p t s false place old new = (new ≡ old) ⊎ (FallsAsleep p t s place old new ⊎ FallsDeaf p t s place old new)
 
 -- ---- the first that waits at an area wakes
 

@@ -130,7 +130,7 @@ impl Awake {
         ensures areas { self.new.areas ≡ self.old.areas }
         ensures first { self.new.first ≡ self.old.first }
         ensures fits { (slots : List Slot) (first : ℕ) → Fits slots first self.old → Fits slots first self.new }
-        ensures starts { (p : Plan) (objects : List Object) (slots : List Slot) → StartsHeld p objects slots self.old → StartsHeld p objects slots self.new }
+        ensures starts { (p : Plan) (t : TaskSet) (objects : List Object) (slots : List Slot) → StartsHeld p t objects slots self.old → StartsHeld p t objects slots self.new }
         ensures waiters { (p : Plan) (t : TaskSet) (objects : List Object) (touched : Option ℕ) (slots : List Slot) (first : ℕ) →
             WaitersHeld p t objects touched slots first self.old → WaitersHeld p t objects touched slots first self.new }
     {
@@ -157,7 +157,7 @@ impl Awake {
         ensures areas { self.new.areas ≡ self.old.areas }
         ensures first { self.new.first ≡ self.old.first }
         ensures fits { (slots : List Slot) (first : ℕ) → Fits slots first self.old → Fits slots first self.new }
-        ensures starts { (p : Plan) (objects : List Object) (slots : List Slot) → StartsHeld p objects slots self.old → StartsHeld p objects slots self.new }
+        ensures starts { (p : Plan) (t : TaskSet) (objects : List Object) (slots : List Slot) → StartsHeld p t objects slots self.old → StartsHeld p t objects slots self.new }
         ensures waiters { (p : Plan) (t : TaskSet) (objects : List Object) (touched : Option ℕ) (slots : List Slot) (first : ℕ) →
             WaitersHeld p t objects touched slots first self.old → WaitersHeld p t objects touched slots first self.new }
     {
@@ -172,7 +172,7 @@ impl Awake {
         requires areas { length self.old.areas ≡ length self.old.slots }
         ensures woken { (which : Option ℕ) × FirstWakes object self.old self.new which }
         ensures fits { (slots : List Slot) (first : ℕ) → Fits slots first self.old → Fits slots first self.new }
-        ensures starts { (p : Plan) (objects : List Object) (slots : List Slot) → StartsHeld p objects slots self.old → StartsHeld p objects slots self.new }
+        ensures starts { (p : Plan) (t : TaskSet) (objects : List Object) (slots : List Slot) → StartsHeld p t objects slots self.old → StartsHeld p t objects slots self.new }
         ensures waiters { (p : Plan) (t : TaskSet) (objects : List Object) (slots : List Slot) (left : Object) →
             WaitersHeld p t objects (Some object) slots self.old.first self.old → WaitersHeld p t (set objects object left) None slots self.new.first self.new }
     {

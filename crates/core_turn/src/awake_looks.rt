@@ -16,10 +16,10 @@ use crate::passed::Passed;
 use bus_semantics::BusPlan;
 use port_objects::{Bench, areas_are_closed_alike};
 use task_machine::TaskSet;
-use task_slots::{Look, Slot, area_tried, is_free, look_at_awake};
+use task_slots::{Look, Slot, area_tried, is_free, look_at_awake, point_tried};
 
 /// A slot of which nothing may come falls asleep, if nothing runs in it (a free task, a machine between two phases) or its
-/// activation waits at an area. What other activations wait for wakes no slot.
+/// activation waits at an area or for an answer. What other activations wait for wakes no slot.
 fn settle(p: &BusPlan, t: &TaskSet, slot: &Slot, place: usize, a: &mut Awake)
     requires bodies { AsksAsPlanned (plan_of p.now) t.now }
     requires sound { (m : Mapping) × IsSound (plan_of p.now) m }
@@ -35,6 +35,8 @@ fn settle(p: &BusPlan, t: &TaskSet, slot: &Slot, place: usize, a: &mut Awake)
         a.slots.remove(place);
         a.waiting.insert(place);
         a.areas[place] = object;
+    } else if point_tried(p, t, slot).is_some() {
+        a.slots.remove(place);
     }
 }
 

@@ -14,11 +14,12 @@ wake_event-requires c = record {
 }
 
 pub loop-event-init : goal.loop-event-init
-loop-event-init c = record { seats = refl; woken = are_same c.args.w.now.awake.items; seen = λ k e s below found at. absurd (omega arith) }
+loop-event-init c = record { seats = refl; starters = refl; woken = are_same c.args.w.now.awake.items; seen = λ k e s below found at. absurd (omega arith) }
 
 pub loop-event-preserved : goal.loop-event-preserved
 loop-event-preserved c = record {
   seats = c.wake_event.ensures.seats ∙ c.loop-event.invariant.seats;
+  starters = c.wake_event.ensures.starters ∙ c.loop-event.invariant.starters;
   woken = are_then c.args.w.now.awake.items c.loop-event.w.awake.items c.wake_event.new.w.awake.items c.loop-event.invariant.woken c.wake_event.ensures.woken;
   seen = λ k e s below found at. elim (cases_lt k c.loop-event.event-index) [
     | inl before ↦

@@ -15,23 +15,23 @@ pub returns-then-not-wakes-clause-woken : goal.returns-then-not-wakes-clause-wok
 returns-then-not-wakes-clause-woken c = are_same c.args.w.now.awake.items
 
 pub returns-then-not-wakes-clause-starts : goal.returns-then-not-wakes-clause-starts
-returns-then-not-wakes-clause-starts c = λ cores before after roused seated watched.
+returns-then-not-wakes-clause-starts c = λ t cores before after roused answered seated watched.
     after_entry c.held_starts_lead_nowhere.ensures c.other_entries_wake_nothing.ensures (plan_of c.args.p.now) before c.args.objects.now (record { entry = c.args.entry.now; event = c.args.event }) cores
-    c.args.w.now.awake.items c.args.w.now.awake.items c.args.w.now.seats.items seated (are_same c.args.w.now.awake.items) roused watched after
-    (λ t on. absurd (false≢true (c.if-not-wakes.ensures ∙ on)))
+    c.args.w.now.awake.items c.args.w.now.awake.items c.args.w.now.seats.items seated (are_same c.args.w.now.awake.items) roused c.answers_go_by_flags.ensures.held c.answers_go_by_flags.ensures.comes t answered watched after
+    (λ x on. absurd (false≢true (c.if-not-wakes.ensures ∙ on)))
 
 pub returns-in-Some-get-clause-starts : goal.returns-in-Some-get-clause-starts
-returns-in-Some-get-clause-starts c = λ cores before after roused seated watched.
+returns-in-Some-get-clause-starts c = λ t cores before after roused answered seated watched.
     let p = plan_of c.args.p.now in
     let n = c.in-Some.number in
     let object = c.in-Some-get.object.now in
     after_entry c.held_starts_lead_nowhere.ensures c.other_entries_wake_nothing.ensures p before c.args.objects.now (record { entry = c.args.entry.now; event = c.args.event }) cores
-    c.args.w.now.awake.items c.wake_events.new.w.awake.items c.args.w.now.seats.items seated c.wake_events.ensures.woken roused watched after
-    (λ t on event s told at.
-    let number : Some n ≡ Some t.object = c.in-Some.ensures ∙ t.touching in
-    let place : n ≡ t.object = cc in
+    c.args.w.now.awake.items c.wake_events.new.w.awake.items c.args.w.now.seats.items seated c.wake_events.ensures.woken roused c.answers_go_by_flags.ensures.held c.answers_go_by_flags.ensures.comes t answered watched after
+    (λ x on event s told at.
+    let number : Some n ≡ Some x.object = c.in-Some.ensures ∙ x.touching in
+    let place : n ≡ x.object = cc in
     let found = found_at c.args.objects.now n object c.in-Some-get.ensures.lookup.3.0 c.in-Some-get.ensures.lookup.1 in
-    let same : t.new ≡ object = same_Some _ _ (sym (set_here before t.object t.old t.new t.found) ∙ sym (ap (slice_get c.args.objects.now) place ∙ ap (λ os. slice_get os t.object) t.others) ∙ found) in
+    let same : x.new ≡ object = same_Some _ _ (sym (set_here before x.object x.old x.new x.found) ∙ sym (ap (slice_get c.args.objects.now) place ∙ ap (λ os. slice_get os x.object) x.others) ∙ found) in
     subst (λ o. IsSeen (kept_of o) c.wake_events.new.w.awake.items event s) (sym same)
     (c.wake_events.ensures.seen event s (subst (λ events. Contains events event) (sym c.woken.ensures) (subst (λ o. Contains (woken_in o) event) same told)) at))
 

@@ -41,7 +41,7 @@ unreachable-requires c =
     c.in-NotYet.ensures.not_yet c.self.inside.mapping past _ ask refl comes.entry comes.comes
 
 pub wake_after-requires-clause-watched : goal.wake_after-requires-clause-watched
-wake_after-requires-clause-watched c = (c.self.inside.live.cores.items, c.self.inside.live.objects.items, c.self.invariant.1.awake, c.self.invariant.1.seated)
+wake_after-requires-clause-watched c = (c.self.inside.bodies, c.self.inside.live.cores.items, c.self.inside.live.objects.items, c.self.invariant.1.awake, c.self.invariant.1.seated)
 
 pub wake_after-requires-clause-within : goal.wake_after-requires-clause-within
 wake_after-requires-clause-within c =
@@ -62,6 +62,7 @@ invariant_of-self c =
       waiting = still_waiting c.waiters_sleep_on.ensures.still p t objects touched cores watch.awake.items c.self.invariant.1.waiting;
       seated = c.self.invariant.1.seated;
       behind = c.self.invariant.1.behind;
+      starters = c.self.invariant.1.starters;
     } in
     let changed = touches_then (wanted_of c.args.wish.now) c.self.invariant.0 fit c.in-Some.ensures c.sound_plans_have_objects.ensures.touched c.index_mut.result.now c.index_mut.ensures.value c.act.new.object c.in-Done.entry c.in-Done.ensures.lead in
     let is_after = subst (λ os. IsAfter p objects os (record { entry = c.in-Done.entry; event = None })) (sym c.as_slice.ensures.value) (inr changed) in (

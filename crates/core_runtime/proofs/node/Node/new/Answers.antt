@@ -1,6 +1,9 @@
-use Rattle.std.proofs.Common.{◌≡◌, [], sym, subst, Some, None}
+use Rattle.std.proofs.Common.{◌≡◌, ◌≤◌, [], length, arith, sym, subst, Some, None}
+use Rattle.std.specs.Prelude.{nat_le}
+use Rattle.std.proofs.lemmas.Bool.{and_parts, leb-true}
+use Rattle.bus_semantics.specs.SoundEvents.{event_sound}
 use Rattle.std.specs.List.{slice_get}
-use Rattle.bus_semantics.specs.Plan.{plan_of}
+use Rattle.bus_semantics.specs.Plan.{plan_of, every_from}
 use Rattle.core_runtime.specs.Turns.{AreReady}
 use Rattle.core_runtime.specs.Watching.{IsWatch}
 use Rattle.core_runtime.proofs.NewNodes.{new_lawful, new_room}
@@ -18,6 +21,12 @@ new-requires-clause-ready c = (
 
 pub new-requires-clause-numbers : goal.new-requires-clause-numbers
 new-requires-clause-numbers c = λ i k found. (c.in_ok-cores.ensures.cores i k (subst (λ cs. slice_get cs i ≡ Some k) c.as_slice.ensures.value found)).is_number
+
+pub new-requires-clause-events : goal.new-requires-clause-events
+new-requires-clause-events c =
+    let p = plan_of c.args.p in
+    let few : length p.events ≤ 16384 = leb-true (length p.events) 16384 (and_parts (every_from 0 (event_sound p) p.events) (nat_le (length p.events) 16384) c.requires.sound.events).1 in
+    omega arith
 
 pub invariant_of-result : goal.invariant_of-result
 invariant_of-result c = (

@@ -78,6 +78,7 @@ wake_after-requires-clause-watched c =
     let b = c.turn_of_awake.new.a in
     let events = ap (map events_of_slot) steps.slots ∙ events_kept old.slots steps.at steps.slot steps.stepped steps.there steps.step.table in
     let held = c.in-Stepped.ensures.held c.in-Stepped.ensures.turned.0 steps.trace in (
+      t,
       set cores c.args.number new,
       before,
       awake_on p t before cores w.awake.items w.seats.items c.args.number old new new b found refl refl events c.in-Stepped.ensures.fits held.starts c.self.invariant.1.awake,
@@ -110,12 +111,13 @@ invariant_of-self c =
     let held = c.in-Stepped.ensures.held turned.0 steps.trace in
     let flags = c.turn_of_awake.new.a in
     let touched = touched_by p (record { entry = turned.0.entry; event = turned.0.event }) in
-    let watched : IsWatch p t before.objects touched (set cores c.args.number new) (record { awake = with_item watch.awake c.args.number flags; seats = watch.seats }) = record {
+    let watched : IsWatch p t before.objects touched (set cores c.args.number new) (record { awake = with_item watch.awake c.args.number flags; seats = watch.seats; starters = watch.starters }) = record {
       awake = awake_on p t before.objects cores watch.awake.items watch.seats.items c.args.number old c.turn_of_awake.new.c new flags found c.clear.ensures.slots c.clear.ensures.first events c.in-Stepped.ensures.fits held.starts c.self.invariant.1.awake;
       waiting = waiting_on p t before.objects cores watch.awake.items watch.seats.items c.args.number old c.turn_of_awake.new.c new flags found c.clear.ensures.slots c.clear.ensures.first events touched held.waiters
           (still_waiting c.waiters_sleep_on.ensures.still p t before.objects touched cores watch.awake.items c.self.invariant.1.waiting);
       seated = seated_on p t before.objects cores watch.awake.items watch.seats.items c.args.number old c.turn_of_awake.new.c new flags found c.clear.ensures.slots c.clear.ensures.first events c.self.invariant.1.seated;
       behind = behind_on p cores c.args.number old c.turn_of_awake.new.c new found c.clear.ensures.slots (ap (map table_of) steps.slots ∙ owners_same old.slots steps.at steps.slot steps.stepped steps.there steps.step.table) c.self.invariant.1.behind;
+      starters = c.self.invariant.1.starters;
     } in
     elim c.match-last.branch [
       | in-Some w ↦
@@ -133,7 +135,7 @@ invariant_of-self c =
                 (subst (IsWatch p t now.objects None (set cores c.args.number new)) (sym watch_is)
                 (subst (λ os. IsWatch p t os None (set cores c.args.number new) w.wake_after.new.w) w.objects.ensures.objects
                 (w.wake_after.ensures t (set cores c.args.number new) before.objects after_made
-                (subst (λ (s : Stamped). IsWatch p t before.objects (touched_by p (record { entry = s.entry; event = s.event })) (set cores c.args.number new) (record { awake = with_item watch.awake c.args.number c.turn_of_awake.new.a; seats = watch.seats })) (sym made) watched)))),
+                (subst (λ (s : Stamped). IsWatch p t before.objects (touched_by p (record { entry = s.entry; event = s.event })) (set cores c.args.number new) (record { awake = with_item watch.awake c.args.number c.turn_of_awake.new.a; seats = watch.seats; starters = watch.starters })) (sym made) watched)))),
           )
       | in_default w ↦ absurd (cc (ap Rattle.std.specs.Option.option_copied (sym w.in_default.is) ∙ last))
     ]
@@ -154,12 +156,13 @@ invariant_of-self-in-NothingNow c =
     let events = ap (λ (k : CoreState). map events_of_slot k.slots) turned.same in (
       round_on c.self.inside.plan.now c.self.inside.bodies.now cores c.args.number old new before c.turn_of_awake.new.b c.self.inside.entries.items c.self.inside.entries.items (vec_capacity c.self.inside.entries) found room c.self.invariant.0 false
           (rests p c.self.inside.bodies.now old before c.turn_of_awake.new.b c.self.inside.entries.items new turned) (c.in-NothingNow.ensures.plan ∙ c.self.invariant.0.plan),
-      subst (λ os. IsWatch p t os None (set cores c.args.number new) (record { awake = with_item w.awake c.args.number c.turn_of_awake.new.a; seats = w.seats })) (sym (same_Some _ _ turned.objects.1))
+      subst (λ os. IsWatch p t os None (set cores c.args.number new) (record { awake = with_item w.awake c.args.number c.turn_of_awake.new.a; seats = w.seats; starters = w.starters })) (sym (same_Some _ _ turned.objects.1))
           (record {
             awake = awake_on p t before.objects cores w.awake.items w.seats.items c.args.number old new new c.turn_of_awake.new.a found refl refl events c.in-NothingNow.ensures.fits c.in-NothingNow.ensures.held.starts c.self.invariant.1.awake;
             waiting = waiting_on p t before.objects cores w.awake.items w.seats.items c.args.number old new new c.turn_of_awake.new.a found refl refl events None c.in-NothingNow.ensures.held.waiters c.self.invariant.1.waiting;
             seated = seated_on p t before.objects cores w.awake.items w.seats.items c.args.number old new new c.turn_of_awake.new.a found refl refl events c.self.invariant.1.seated;
             behind = behind_on p cores c.args.number old new new found refl (ap (λ (k : CoreState). map table_of k.slots) turned.same) c.self.invariant.1.behind;
+            starters = c.self.invariant.1.starters;
           }),
     )
 

@@ -4,12 +4,12 @@ use Rattle.core_turn.proofs.Left.{waiters_left, starts_first}
 use Rattle.core_turn.proofs.awake.Awake.wake_first.Goals as goal
 
 pub returns-in-Some-clause-starts : goal.returns-in-Some-clause-starts
-returns-in-Some-clause-starts c = λ p objects slots held.
+returns-in-Some-clause-starts c = λ p t objects slots held.
     let a : AwakeState = record { slots = c.self.inside.slots; events = c.self.inside.events.items; waiting = c.self.inside.waiting; areas = c.self.inside.areas.items; first = c.self.inside.first } in
     let new : AwakeState = record { slots = c.insert.new.self; events = a.events; waiting = c.remove.new.self; areas = a.areas; first = a.first } in
     let same : a ≡ c.args.self.now = c.self.view_is ∙ c.in-Some.ensures.same in
     let step : new ≡ woken_at a (Some c.in-Some.place) = λ i. record { slots = c.insert.ensures i; events = a.events; waiting = c.remove.ensures i; areas = a.areas; first = a.first } in
-    starts_first p objects slots c.args.object c.args.self.now new (Some c.in-Some.place) (record { first = c.in-Some.ensures.first; changed = step ∙ ap (λ b. woken_at b (Some c.in-Some.place)) same }) held
+    starts_first p t objects slots c.args.object c.args.self.now new (Some c.in-Some.place) (record { first = c.in-Some.ensures.first; changed = step ∙ ap (λ b. woken_at b (Some c.in-Some.place)) same }) held
 
 pub returns-in-Some-clause-waiters : goal.returns-in-Some-clause-waiters
 returns-in-Some-clause-waiters c = λ p t objects slots left held.
