@@ -41,6 +41,15 @@ impl PlaceSet {
         Ok(PlaceSet { flags, blocks })
     }
 
+    /// No place below a length. The only error is that there is no memory.
+    pub fn empty(alloc: Global, len: usize) -> Result<PlaceSet, Memory>
+        ensures { IfOk result (λ s. s ≡ replicate len false) }
+    {
+        let flags = vec![in alloc; false; len]?;
+        let blocks = vec![in alloc; false; len / BLOCK + 1]?;
+        Ok(PlaceSet { flags, blocks })
+    }
+
     /// Whether a place is in the set. One past its length is not.
     pub fn contains(&self, place: usize) -> bool
         ensures { result ≡ slice_index_or self.now place false }
