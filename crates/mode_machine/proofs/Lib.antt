@@ -1,3 +1,7 @@
 pub mod Each
-pub mod Rows
+pub mod Moments
+pub mod Nexts
 pub mod Told
+pub mod Tracking
+pub mod Walking
+pub mod Watching

@@ -28,6 +28,13 @@ module _ (names : List ℕ) (test : ℕ → Bool) where
           let is : x ≡ name = same_Some x name (sym there ∙ ap (slice_get names) (sym same) ∙ named) in
           subst (Contains more) is (tells (ap test (sym same) ∙ passes))
 
+  -- no place passes that one goes past
+  pub tells_past : (at to : ℕ) (told : List ℕ) → ((k : ℕ) → at ≤ k → k < to → test k ≡ false) → TellsBelow names test at told → TellsBelow names test to told
+  tells_past at to told fails before k name below passes named = elim (cases_lt k at) [
+    | inl earlier ↦ before k name earlier passes named
+    | inr past ↦ absurd (false≢true (sym (fails k past below) ∙ passes))
+  ]
+
   pub only_next : (at x : ℕ) (first told more : List ℕ) → slice_get names at ≡ Some x → ((name : ℕ) → Contains more name → Contains told name ⊎ ((test at ≡ true) × (x ≡ name))) → TellsOnly names test first told → TellsOnly names test first more
   only_next at x first told more there added before name among = of_now (added name among)
     where

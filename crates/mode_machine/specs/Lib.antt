@@ -1,3 +1,5 @@
+pub mod Chains
 pub mod Disabling
 pub mod Kept
 pub mod Owed
+pub mod Tracked

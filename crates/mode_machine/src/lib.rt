@@ -1,11 +1,13 @@
 //! Mode machines: the mode switch procedure, what its phases owe, and who may run in a mode.
 #![tactic(auto)]
 
+mod chains;
 mod disabling;
 mod machine;
 mod owed;
 mod telling;
 mod threads;
+mod tracked;
 
 pub use disabling::Admitted;
 pub use machine::{Advanced, Machine};

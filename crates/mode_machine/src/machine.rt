@@ -1,16 +1,17 @@
 //! A mode machine.
 
-ghost use Rattle.std.specs.Prelude.{◌≡◌, ◌<◌, ◌≤◌, ◌+◌, ◌^◌, ◌⊎◌, ◌&&◌, ℕ, IfOk, None, Some, false, if◌then◌else◌, length, map, position, replicate, set, slice_get, true};
+ghost use Rattle.std.specs.Prelude.{◌≡◌, ◌<◌, ◌≤◌, ◌+◌, ◌^◌, ◌⊎◌, ◌&&◌, ℕ, IfOk, IfSome, None, Some, false, if◌then◌else◌, length, map, replicate, set, slice_get, true};
 ghost use Rattle.std.specs.List.{Contains};
 ghost use Rattle.std.specs.Vec.{vec_capacity};
-ghost use Rattle.mode_machine.specs.Disabling.{holds_back, modes_in, row_of};
+ghost use Rattle.mode_machine.specs.Disabling.{modes_in};
 ghost use Rattle.mode_machine.specs.Kept.{IsAcknowledged, IsStartable, is_disabled, is_phase, is_stable, next_after, unless_owed, unless_running, after_admit, after_advance, after_end_admitted, after_owed, after_step, after_switch, answer_to_admit, answer_to_advance, answer_to_switch, dependency_at, fresh, is_acked, mode_of, owed_at, with_acks};
 ghost use Rattle.mode_machine.specs.Owed.{after_end, after_owed_start, may_start};
 
 use crate::Memory;
-use crate::disabling::{Admitted, Row, first_running, idle_rows};
-use crate::owed::{ModeEvent, OwedEvent, first_left, new_events, owe};
-use crate::telling::{tell_acks, tell_owed};
+use crate::disabling::{Admitted, Disablings};
+use crate::owed::ModeEvent;
+use crate::telling::tell_acks;
+use crate::tracked::TrackedEvents;
 use circular_buffer::HeapCircularBuffer;
 use rte_value::{Code, Step};
 use std::alloc::Global;
@@ -48,21 +49,20 @@ pub struct Machine {
     next: u32,
     was_stable: bool,
     unbegun: HeapCircularBuffer<u32>,
-    owed: Vec<OwedEvent>,
+    owed: TrackedEvents,
     acks: Vec<bool>,
-    rows: Vec<Row>,
+    disablings: Disablings,
 }
 
 impl Model for Machine {
-    ghost use Rattle.std.specs.Prelude.{map, length, ◌^◌, ◌≤◌};
-    ghost use Rattle.mode_machine.specs.Disabling.{row_of};
     ghost use Rattle.mode_machine.specs.Kept.{Kept};
+    ghost use Rattle.mode_machine.specs.Tracked.{AreTied};
 
     ghost Value = { Kept };
 
-    ghost view = { λ m. record { modes = m.modes; queue = m.unbegun.capacity; waits = m.waits; stage = m.stage; settled = m.settled; next = m.next; was_stable = m.was_stable; unbegun = m.unbegun.items; owed = m.owed.items; acks = m.acks.items; disablings = map row_of m.rows.items } };
+    ghost view = { λ m. record { modes = m.modes; queue = m.unbegun.capacity; waits = m.waits; stage = m.stage; settled = m.settled; next = m.next; was_stable = m.was_stable; unbegun = m.unbegun.items; owed = m.owed.events; acks = m.acks.items; disablings = m.disablings.events } };
 
-    ghost invariant = { λ m. (length m.owed.items ≤ 2 ^ 32) × (length m.rows.items ≤ 2 ^ 32) };
+    ghost invariant = { λ m. AreTied m.owed m.disablings m.stage m.settled m.next };
 }
 
 /// Sets all flags.
@@ -92,8 +92,6 @@ impl Machine {
         requires few_disablings { length disablings.items ≤ 2 ^ 32 }
         ensures { IfOk result (λ m. m ≡ fresh modes initial queue owed.items acks (map modes_in disablings.items) waits) }
     {
-        let mut events = new_events(alloc, &owed)?;
-        owe(&mut events, Step::Entry, initial, initial);
         Ok(Machine {
             modes,
             waits,
@@ -102,9 +100,9 @@ impl Machine {
             next: initial,
             was_stable: false,
             unbegun: HeapCircularBuffer::with_capacity(alloc, queue as usize)?,
-            owed: events,
+            owed: TrackedEvents::entered(alloc, &owed, initial)?,
             acks: vec![in alloc; false; acks as usize]?,
-            rows: idle_rows(alloc, disablings)?,
+            disablings: Disablings::new(alloc, disablings, initial)?,
         })
     }
 
@@ -139,10 +137,10 @@ impl Machine {
                 Some(mode) => Advanced::Did(Step::Close(*mode)),
                 None => Advanced::NoSwitch,
             },
-            Step::Close(_) => unless_running(&self.rows, self.waits, self.next),
-            Step::Exit => unless_owed(&self.owed, Step::Transition),
-            Step::Transition => unless_owed(&self.owed, Step::Entry),
-            Step::Entry => unless_owed(&self.owed, Step::Stable),
+            Step::Close(_) => unless_running(self.disablings.first_held(), self.waits),
+            Step::Exit => unless_owed(self.owed.first_left(), Step::Transition),
+            Step::Transition => unless_owed(self.owed.first_left(), Step::Entry),
+            Step::Entry => unless_owed(self.owed.first_left(), Step::Stable),
         }
     }
 
@@ -153,20 +151,22 @@ impl Machine {
         matches!(self.next_phase(), Advanced::Did(_))
     }
 
-    /// Makes a phase.
+    /// Makes a phase that may come.
     fn make(&mut self, step: Step)
+        requires { answer_to_advance self.old ≡ Advanced.Did step }
         ensures { self.new ≡ after_step step self.old }
     {
         match step {
             Step::Close(mode) => {
-                owe(&mut self.owed, step, self.settled, mode);
+                self.owed.owe(step, self.settled, mode);
+                self.disablings.watch(mode);
                 self.unbegun.pop_front();
                 self.next = mode;
                 self.stage = step;
             }
             Step::Stable => self.settle(),
             Step::Exit | Step::Transition | Step::Entry => {
-                owe(&mut self.owed, step, self.settled, self.next);
+                self.owed.owe(step, self.settled, self.next);
                 self.stage = step;
             }
         }
@@ -174,9 +174,10 @@ impl Machine {
 
     /// Ends a switch. The acknowledgement events become due, but not at the first Stable.
     fn settle(&mut self)
+        requires { answer_to_advance self.old ≡ Advanced.Did Step.Stable }
         ensures { self.new ≡ after_step Step.Stable self.old }
     {
-        owe(&mut self.owed, Step::Stable, self.settled, self.next);
+        self.owed.owe(Step::Stable, self.settled, self.next);
         if self.was_stable {
             set_all(&mut self.acks);
         }
@@ -208,6 +209,7 @@ impl Machine {
     /// Appends the names of the mode switch events by which a phase makes a start possible, and of the acknowledgement events that it
     /// makes pending.
     fn tell(&self, step: Step, names: &[u32], ack_names: &[u32], told: &mut Vec<u32>)
+        requires comes { answer_to_advance self.now ≡ Advanced.Did step }
         requires named { length names.now ≡ length self.now.owed }
         requires acks_named { length ack_names.now ≡ length self.now.acks }
         requires room { length told.old.items + (length self.now.owed + length self.now.acks) ≤ vec_capacity told.old }
@@ -217,7 +219,7 @@ impl Machine {
         ensures capacity { vec_capacity told.new ≡ vec_capacity told.old }
     {
         let next = self.next_after(step);
-        tell_owed(&self.owed, step, self.settled, next, names, told);
+        self.owed.tell(step, self.settled, next, names, told);
         if self.acknowledges(step) {
             tell_acks(&self.acks, ack_names, told);
         }
@@ -225,7 +227,8 @@ impl Machine {
 
     /// Makes the next phase, where it may come (mode switch procedure). The list then has the names of the mode switch events by
     /// which a start became possible and of the acknowledgement events that became pending, and no others; each of these events has
-    /// a name, at its place in its list of names. A phase costs as much as there are such events. Where none may come nothing changes.
+    /// a name, at its place in its list of names. A phase goes through the events that it owes and those that the last one owed, a
+    /// Close through the activations that run, and a Stable through the acknowledgement events. Where none may come nothing changes.
     pub fn advance(&mut self, names: &[u32], ack_names: &[u32], woken: &mut Vec<u32>) -> Advanced
         requires named { length names.now ≡ length self.old.owed }
         requires acks_named { length ack_names.now ≡ length self.old.acks }
@@ -252,7 +255,7 @@ impl Machine {
         requires { event < length self.now.owed }
         ensures { result ≡ may_start (owed_at event self.now) }
     {
-        self.owed[event as usize].may_start()
+        self.owed.may_start(event as usize)
     }
 
     /// Starts an activation by a mode switch event. True exactly where the event is due and does not run; else nothing changes.
@@ -261,9 +264,9 @@ impl Machine {
         ensures answer { result ≡ may_start (owed_at event self.old) }
         ensures kept { self.new ≡ after_owed event after_owed_start self.old }
     {
-        let before = self.owed[event as usize];
-        self.owed[event as usize] = before.after_start();
-        before.may_start()
+        let may_start = self.owed.may_start(event as usize);
+        self.owed.start(event as usize);
+        may_start
     }
 
     /// Ends the activation by a mode switch event. True exactly where it runs; else nothing changes.
@@ -272,9 +275,9 @@ impl Machine {
         ensures answer { result ≡ (owed_at event self.old).running }
         ensures kept { self.new ≡ after_owed event after_end self.old }
     {
-        let before = self.owed[event as usize];
-        self.owed[event as usize] = before.after_end();
-        before.running
+        let is_running = self.owed.is_running(event as usize);
+        self.owed.end(event as usize);
+        is_running
     }
 
     /// Whether an acknowledgement event is pending.
@@ -301,10 +304,10 @@ impl Machine {
         requires { event < length self.now.disablings }
         ensures { result ≡ is_disabled self.now (dependency_at event self.now).modes }
     {
-        let row = &self.rows[event as usize];
+        let by_settled = self.disablings.disables(self.settled, event as usize);
         match self.stage {
-            Step::Stable => row.has(self.settled),
-            _ => row.has(self.settled) || row.has(self.next),
+            Step::Stable => by_settled,
+            _ => by_settled || self.disablings.disables(self.next, event as usize),
         }
     }
 
@@ -315,13 +318,13 @@ impl Machine {
         ensures answer { result ≡ answer_to_admit event self.old }
         ensures kept { self.new ≡ after_admit event self.old }
     {
-        if self.rows[event as usize].runs {
+        if self.disablings.runs(event as usize) {
             return Admitted::Runs;
         }
         if self.is_disabled(event) {
             return Admitted::No;
         }
-        self.rows[event as usize].runs = true;
+        self.disablings.begin(event as usize);
         Admitted::Yes
     }
 
@@ -331,33 +334,30 @@ impl Machine {
         ensures answer { result ≡ (dependency_at event self.old).admitted }
         ensures kept { self.new ≡ after_end_admitted event self.old }
     {
-        let runs = self.rows[event as usize].runs;
-        self.rows[event as usize].runs = false;
+        let runs = self.disablings.runs(event as usize);
+        self.disablings.end(event as usize);
         runs
     }
 }
 
 /// The phase, unless the last one owes an event that is left.
-fn unless_owed(events: &[OwedEvent], step: Step) -> Advanced
-    requires { length events.now ≤ 2 ^ 32 }
-    ensures { result ≡ unless_owed (position (λ e. e.left) events.now) step }
+fn unless_owed(left: Option<usize>, step: Step) -> Advanced
+    requires { IfSome left (λ event. event < 2 ^ 32) }
+    ensures { result ≡ unless_owed left step }
 {
-    match first_left(events) {
+    match left {
         Some(event) => Advanced::Owed(event as u32),
         None => Advanced::Did(step),
     }
 }
 
 /// Exit, unless the machine waits for an admitted activation that the next mode disables.
-fn unless_running(rows: &[Row], waits: bool, next: u32) -> Advanced
-    requires { length rows.now ≤ 2 ^ 32 }
-    ensures { result ≡ unless_running (if waits then position (holds_back next) (map row_of rows.now) else None) }
+fn unless_running(held: Option<usize>, waits: bool) -> Advanced
+    requires { IfSome held (λ event. event < 2 ^ 32) }
+    ensures { result ≡ unless_running (if waits then held else None) }
 {
-    if !waits {
-        return Advanced::Did(Step::Exit);
-    }
-    match first_running(rows, next) {
-        Some(event) => Advanced::Running(event as u32),
-        None => Advanced::Did(Step::Exit),
+    match held {
+        Some(event) if waits => Advanced::Running(event as u32),
+        _ => Advanced::Did(Step::Exit),
     }
 }

@@ -1,6 +1,7 @@
 //! The events that the phases of a machine owe.
 
-ghost use Rattle.std.specs.Prelude.{◌≡◌, ◌<◌, IfOk, IfSome, map, length, position};
+ghost use Rattle.std.specs.Prelude.{◌≡◌, IfOk, map};
+ghost use Rattle.mode_machine.specs.Chains.{moment_of};
 ghost use Rattle.mode_machine.specs.Owed.{after_end, after_owed_start, is_woken, may_start, never_owed, owed_by, owes};
 
 use crate::Memory;
@@ -8,7 +9,7 @@ use rte_value::Step;
 use std::alloc::Global;
 
 /// When an event by a mode switch occurs (SwcModeSwitchEvent).
-#[derive(Clone, Copy)]
+#[derive(Clone, Copy, PartialEq, Eq, Hash)]
 pub enum ModeEvent {
     /// At the exit from this mode.
     OnExit(u32),
@@ -47,6 +48,18 @@ impl ModeEvent {
     }
 }
 
+/// The moment of the events that a phase owes, in a switch from one mode to the next.
+pub(crate) fn moment_of(step: Step, settled: u32, next: u32) -> Option<ModeEvent>
+    ensures { result ≡ moment_of step settled next }
+{
+    match step {
+        Step::Exit => Some(ModeEvent::OnExit(settled)),
+        Step::Transition => Some(ModeEvent::OnTransition(settled, next)),
+        Step::Entry => Some(ModeEvent::OnEntry(next)),
+        Step::Close(_) | Step::Stable => None,
+    }
+}
+
 impl OwedEvent {
     /// The event before anything happened.
     fn new(moment: ModeEvent) -> OwedEvent
@@ -62,7 +75,7 @@ impl OwedEvent {
     }
 
     /// The event after a phase.
-    fn after_phase(&self, step: Step, settled: u32, next: u32) -> OwedEvent
+    pub(crate) fn after_phase(&self, step: Step, settled: u32, next: u32) -> OwedEvent
         ensures { result ≡ owed_by step settled next self.now }
     {
         let is_owed = self.moment.is_owed(step, settled, next);
@@ -80,6 +93,13 @@ impl OwedEvent {
         ensures { result ≡ may_start self.now }
     {
         self.due && !self.running
+    }
+
+    /// Whether the last phase owes it still.
+    pub(crate) fn is_left(&self) -> bool
+        ensures { result ≡ self.now.left }
+    {
+        self.left
     }
 
     /// Whether a phase makes a start by it possible that was not so before.
@@ -131,21 +151,4 @@ pub(crate) fn new_events(alloc: Global, moments: &[ModeEvent]) -> Result<Vec<Owe
         events.push(OwedEvent::new(*moment))?;
     }
     Ok(events)
-}
-
-/// A phase makes the events that it owes due.
-pub(crate) fn owe(events: &mut [OwedEvent], step: Step, settled: u32, next: u32)
-    ensures { events.new ≡ map (owed_by step settled next) events.old }
-{
-    for event in events.iter_mut() {
-        *event = event.after_phase(step, settled, next);
-    }
-}
-
-/// The first event that is left.
-pub(crate) fn first_left(events: &[OwedEvent]) -> Option<usize>
-    ensures first { result ≡ position (λ e. e.left) events.now }
-    ensures within { IfSome result (λ at. at < length events.now) }
-{
-    events.iter().position(|event| event.left)
 }
