@@ -1,0 +1,17 @@
+-- Walks to which nothing has happened, one after the other.
+use Rattle.std.proofs.Common.{◌≡◌, ℕ, zero, suc, subst, List, [], ◌∷◌, ◌++◌, length}
+use Rattle.std.proofs.lemmas.Option.{same_Some}
+use Rattle.rte_value.specs.declared.kinds.ActKey.{ActKey}
+use Rattle.bus_semantics.specs.Plan.{Plan}
+use Rattle.trace_walks.specs.declared.walk.Walk.{Walk}
+use Rattle.trace_walks.specs.Walking.{AreFresh, WalkStands}
+
+pub record FreshSoFar (ws : List Walk) (counter : ℕ) : Type 0 where
+  pub counted : length ws ≡ counter
+  pub fresh : AreFresh ws
+
+pub one_more : (ws : List Walk) (w : Walk) → AreFresh ws → ((p : Plan) (k : ActKey) → WalkStands p k [] w) → AreFresh (ws ++ w ∷ [])
+one_more [] w all one zero x is = let same : w ≡ x = same_Some w x is in λ p k. subst (λ (y : Walk). WalkStands p k [] y) same (one p k)
+one_more [] w all one (suc i) x is = absurd (cc is)
+one_more (y ∷ ws) w all one zero x is = all zero x is
+one_more (y ∷ ws) w all one (suc i) x is = one_more ws w (λ j. all (suc j)) one i x is

@@ -1,0 +1,5 @@
+pub mod Going
+pub mod Following
+pub mod Fresh
+pub mod Freeing
+pub mod Noting

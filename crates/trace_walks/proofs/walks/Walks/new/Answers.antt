@@ -1,0 +1,16 @@
+use Rattle.std.proofs.Common.{◌∙◌, sym, ap, refl, length}
+use Rattle.std.proofs.lemmas.List.{length-map}
+use Rattle.bus_semantics.specs.Plan.{plan_of, runnable_of}
+use Rattle.bus_semantics.specs.Rest.{plain_key}
+use Rattle.trace_walks.proofs.walks.Walks.new.Goals as goal
+
+pub returns : goal.returns
+returns c =
+    let p = c.args.p.now in
+    record {
+      runnables = c.in_ok-plain.ensures.whole ∙ ap length c.items.ensures ∙ sym (length-map p.runnables runnable_of);
+      points = c.in_ok-direct.ensures.whole ∙ ap length c.items-2.ensures;
+      plain = λ r w is. c.in_ok-plain.ensures.fresh r w is (plan_of p) (plain_key r);
+      direct = λ k q w at fit is. c.in_ok-direct.ensures.fresh q w is (plan_of p) k;
+      outside = λ r none. refl;
+    }
