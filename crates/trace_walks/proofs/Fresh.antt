@@ -1,10 +1,12 @@
 -- Walks to which nothing has happened, one after the other.
-use Rattle.std.proofs.Common.{◌≡◌, ℕ, zero, suc, subst, List, [], ◌∷◌, ◌++◌, length}
+use Rattle.std.proofs.Common.{◌≡◌, ℕ, zero, suc, refl, subst, List, [], ◌∷◌, ◌++◌, length, Option, Some, None}
+use Rattle.std.proofs.lemmas.Bool.{false≢true}
 use Rattle.std.proofs.lemmas.Option.{same_Some}
 use Rattle.rte_value.specs.declared.kinds.ActKey.{ActKey}
 use Rattle.bus_semantics.specs.Plan.{Plan}
+use Rattle.trace_walks.specs.declared.walk.Running.{Running}
 use Rattle.trace_walks.specs.declared.walk.Walk.{Walk}
-use Rattle.trace_walks.specs.Walking.{AreFresh, WalkStands}
+use Rattle.trace_walks.specs.Walking.{AreFresh, RunningStands, WalkStands}
 
 pub record FreshSoFar (ws : List Walk) (counter : ℕ) : Type 0 where
   pub counted : length ws ≡ counter
@@ -15,3 +17,11 @@ one_more [] w all one zero x is = let same : w ≡ x = same_Some w x is in λ p 
 one_more [] w all one (suc i) x is = absurd (cc is)
 one_more (y ∷ ws) w all one zero x is = all zero x is
 one_more (y ∷ ws) w all one (suc i) x is = one_more ws w (λ j. all (suc j)) one i x is
+
+-- nothing runs where nothing has happened
+pub not_running : (p : Plan) (k : ActKey) (w : Walk) → WalkStands p k [] w → w.running ≡ None
+not_running p k w stands = by_running w.running refl stands.running
+  where
+    by_running : (o : Option Running) → w.running ≡ o → RunningStands p k [] o → o ≡ None
+    by_running None is none = refl
+    by_running (Some r) is of = absurd (false≢true of.going)

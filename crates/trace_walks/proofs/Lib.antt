@@ -3,3 +3,6 @@ pub mod Following
 pub mod Fresh
 pub mod Freeing
 pub mod Noting
+pub mod Askers
+pub mod Noted
+pub mod Idle

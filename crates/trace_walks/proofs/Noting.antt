@@ -27,6 +27,7 @@ module _ (p : Plan) (h : History) (e : Entry) where
     points = stands.points;
     plain = λ r w is. still (plain_key r) w (others (plain_key r)) (λ j calls. none j) (stands.plain r w is);
     direct = λ k q w at fit is. still k w (others k) (λ j calls. none j) (stands.direct k q w at fit is);
+    idle = stands.idle;
     outside = λ r is. asked r ∙ stands.outside r is;
   }
     where

@@ -3,15 +3,12 @@
 use Rattle.std.specs.Prelude.{◌≡◌, ℕ, List, ◌∷◌, length, slice_get, Bool, true, false, not, ◌&&◌, Option, Some, None}
 use Rattle.rte_value.specs.declared.kinds.ActKey.{ActKey}
 use Rattle.rte_value.specs.Values.{same_number}
-use Rattle.bus_semantics.specs.declared.entries.Actor.{Actor}
-use Rattle.bus_semantics.specs.declared.entries.Actor.TheVariants.{Env, Machine, Act}
 use Rattle.bus_semantics.specs.declared.entries.Deed.{Deed}
 use Rattle.bus_semantics.specs.declared.entries.Deed.TheVariants as deed
-use Rattle.bus_semantics.specs.declared.entries.Entry.{Entry}
 use Rattle.bus_semantics.specs.Plan.{Plan, look, caller_of, runnable_of_event}
 use Rattle.bus_semantics.specs.History.{History}
 use Rattle.bus_semantics.specs.Owners.{key_fits}
-use Rattle.bus_semantics.specs.Actor.{asked_last, starts_or_goes_on}
+use Rattle.bus_semantics.specs.Actor.{asked_last, direct_key, starts_or_goes_on}
 use Rattle.bus_semantics.specs.Rest.{plain_key}
 use Rattle.trace_walks.specs.declared.walk.Walk.{Walk}
 use Rattle.trace_walks.specs.declared.walks.Walks.{Walks}
@@ -19,12 +16,13 @@ use Rattle.trace_walks.specs.Walking.{WalkStands, entry_of, is_wanted, goes}
 
 -- ---- what they stand for
 
--- one for each runnable, and one for each point: at most one key with that point fits
+-- one for each runnable, and one for each point: at most one key with that point fits, and none where the point has no direct server
 pub record WalksStand (p : Plan) (h : History) (ws : Walks) : Type 0 where
   pub runnables : length ws.plain.items ≡ length p.runnables
   pub points : length ws.direct.items ≡ length p.points
   pub plain : (r : ℕ) (w : Walk) → slice_get ws.plain.items r ≡ Some w → WalkStands p (plain_key r) h w
   pub direct : (k : ActKey) (q : ℕ) (w : Walk) → k.point ≡ Some q → key_fits p k ≡ true → slice_get ws.direct.items q ≡ Some w → WalkStands p k h w
+  pub idle : (q : ℕ) (w : Walk) → direct_key p q ≡ None → slice_get ws.direct.items q ≡ Some w → w.running ≡ None
   pub outside : (r : ℕ) → slice_get ws.plain.items r ≡ None → asked_last (plain_key r) h ≡ None
 
 -- the walk at this place goes on by the deed, and the others stay
@@ -71,15 +69,6 @@ pub record IsNoted (p : Plan) (k : ActKey) (d : Deed) (old new : Walks) : Type 0
   pub between : Walks
   pub gone : KeyNoted p k d old between
   pub freed : Freed p k d between new
-
--- what an entry makes of them; one of the environment or of a machine changes nothing
-abbrev pub Noted : Plan → Entry → (old new : Walks) → Type 0
-Noted p e old new = by_actor e.actor
-  where
-    by_actor : Actor → Type 0
-    by_actor Env = new ≡ old
-    by_actor (Machine m) = new ≡ old
-    by_actor (Act k) = IsNoted p k e.deed old new
 
 -- ---- what they answer
 

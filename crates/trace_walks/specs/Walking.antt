@@ -25,7 +25,8 @@ pub record IsRunning (p : Plan) (k : ActKey) (h : History) (r : Running) : Type 
   pub activation : Activation
   pub current : activation_of k h ≡ Some activation
   pub event_is : r.event ≡ activation.event
-  pub wants_are : (more : List Deed) → wants r.steps more ≡ wanted_in p k (record { event = activation.event; start = activation.start; deeds = activation.deeds ++ more })
+  pub wants_are : (more : List Deed) → wants r.steps more
+      ≡ wanted_in p k (record { event = activation.event; start = activation.start; deeds = activation.deeds ++ more })
 
 abbrev pub RunningStands : Plan → ActKey → History → Option Running → Type 0
 RunningStands p k h None = runs k h ≡ false

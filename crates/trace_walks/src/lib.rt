@@ -1,11 +1,9 @@
 //! Activations gone through along a trace: what each key wants next, by its program and the answers before.
 #![tactic(auto)]
 
-mod laws;
 mod walk;
 mod walks;
 
-pub use laws::entries_of_others_change_no_walk;
 pub use walk::Walk;
 pub use walks::Walks;
 

@@ -147,7 +147,8 @@ impl<'a, 'p> Walk<'a, 'p> {
         event: u32,
         value: &Value,
     ) -> Result<(), Memory>
-        ensures { OnOk result ((h : History) (point : Option ℕ) → WalkStands (planned programs.now) key (entry_of key (Start event point value.now) ∷ h) self.new) }
+        ensures { OnOk result ((h : History) (point : Option ℕ) →
+            WalkStands (planned programs.now) key (entry_of key (Start event point value.now) ∷ h) self.new) }
     {
         let steps = programs.begin(alloc, key, event, value.words())?;
         self.running = Some(Running { event, steps });

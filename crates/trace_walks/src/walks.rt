@@ -1,9 +1,11 @@
 //! The activations of all keys.
 
-ghost use Rattle.std.specs.Prelude.{◌≡◌, OnOk};
+ghost use Rattle.std.specs.Prelude.{◌≡◌, OnOk, not};
+ghost use Rattle.std.specs.List.{list_all};
 ghost use Rattle.bus_semantics.specs.Plan.{plan_of};
 ghost use Rattle.bus_semantics.specs.History.{needs_event};
 ghost use Rattle.program_steps.specs.Wants.{planned};
+ghost use Rattle.trace_walks.specs.Walking.{goes};
 ghost use Rattle.trace_walks.specs.Standing.{FreedAt, NotedAt};
 
 use crate::Memory;
@@ -59,8 +61,22 @@ fn free_at<'a, 'p>(walks: &mut Vec<Walk<'a, 'p>>, at: u32)
     }
 }
 
+/// Whether no activation of the key runs.
+fn is_idle(walk: &Walk<'_, '_>) -> bool
+    ensures { result ≡ not (goes walk.now) }
+{
+    !walk.runs()
+}
+
+/// Whether no activation of any of these keys runs.
+fn all_idle(walks: &[Walk<'_, '_>]) -> bool
+    ensures { result ≡ list_all (λ walk. not (goes walk)) walks.now }
+{
+    walks.iter().all(|walk| is_idle(walk))
+}
+
 impl<'a, 'p> Walks<'a, 'p> {
-    ghost use Rattle.std.specs.Prelude.{◌≡◌, [], ℕ, true, Option, IfOk, OnOk, option_map};
+    ghost use Rattle.std.specs.Prelude.{◌≡◌, [], ◌∷◌, ℕ, true, Option, IfOk, OnOk, option_map};
     ghost use Rattle.rte_value.specs.declared.value.Value.{Value};
     ghost use Rattle.bus_semantics.specs.declared.entries.Deed.TheVariants.{Start};
     ghost use Rattle.bus_semantics.specs.Fitting.{fits};
@@ -68,9 +84,13 @@ impl<'a, 'p> Walks<'a, 'p> {
     ghost use Rattle.rte_value.specs.declared.kinds.ActKey.{ActKey};
     ghost use Rattle.bus_semantics.specs.declared.entries.Actor.TheVariants.{Act};
     ghost use Rattle.bus_semantics.specs.Actor.{follows_program};
-    ghost use Rattle.bus_semantics.specs.Plan.{plan_of};
+    ghost use Rattle.bus_semantics.specs.Plan.{Plan, plan_of};
+    ghost use Rattle.bus_semantics.specs.Legal.{IsLegal};
+    ghost use Rattle.bus_semantics.specs.Rest.{none_runs};
+    ghost use Rattle.bus_semantics.specs.Sound.{IsSound};
+    ghost use Rattle.bus_semantics.specs.declared.script.Mapping.{Mapping};
     ghost use Rattle.program_steps.specs.Wants.{planned};
-    ghost use Rattle.trace_walks.specs.Standing.{CallerFreed, Freed, KeyNoted, Noted, WalksStand, asked_by, is_called, may_come, walk_of};
+    ghost use Rattle.trace_walks.specs.Standing.{CallerFreed, Freed, KeyNoted, WalksStand, asked_by, is_called, may_come, walk_of};
 
     /// Those before a trace. An error says that there was no memory.
     pub fn new(alloc: Global, p: &BusPlan) -> Result<Walks<'a, 'p>, Memory>
@@ -197,8 +217,8 @@ impl<'a, 'p> Walks<'a, 'p> {
         }
     }
 
-    /// The entry has been made: the walk of its key goes on, and the end of a direct activation frees its caller. An error says that there
-    /// was no memory; the walks are of no use then.
+    /// A legal entry has been made, and the walks stand for the history with it: the walk of its key goes on, and the end of a direct
+    /// activation frees its caller. An error says that there was no memory; the walks are of no use then.
     pub fn note(
         &mut self,
         alloc: Global,
@@ -207,7 +227,8 @@ impl<'a, 'p> Walks<'a, 'p> {
         entry: &Entry,
     ) -> Result<(), Memory>
         requires planned { planned programs.now ≡ plan_of p.now }
-        ensures { OnOk result (Noted (plan_of p.now) entry.now self.old self.new) }
+        ensures { OnOk result ((m : Mapping) (h : History) → IsSound (plan_of p.now) m → IsLegal (plan_of p.now) (entry.now ∷ h) →
+            WalksStand (plan_of p.now) h self.old → WalksStand (plan_of p.now) (entry.now ∷ h) self.new) }
     {
         match entry.actor {
             Actor::Act(key) => {
@@ -236,5 +257,12 @@ impl<'a, 'p> Walks<'a, 'p> {
             },
             _ => None,
         }
+    }
+
+    /// Whether no activation of any key runs.
+    pub fn none_runs(&self) -> bool
+        ensures { (p : Plan) (m : Mapping) (h : History) → IsSound p m → WalksStand p h self.now → result ≡ none_runs p h }
+    {
+        all_idle(&self.plain) && all_idle(&self.direct)
     }
 }

@@ -2,6 +2,7 @@ use Rattle.std.proofs.Common.{◌∙◌, sym, ap, refl, length}
 use Rattle.std.proofs.lemmas.List.{length-map}
 use Rattle.bus_semantics.specs.Plan.{plan_of, runnable_of}
 use Rattle.bus_semantics.specs.Rest.{plain_key}
+use Rattle.trace_walks.proofs.Fresh.{not_running}
 use Rattle.trace_walks.proofs.walks.Walks.new.Goals as goal
 
 pub returns : goal.returns
@@ -12,5 +13,6 @@ returns c =
       points = c.in_ok-direct.ensures.whole ∙ ap length c.items-2.ensures;
       plain = λ r w is. c.in_ok-plain.ensures.fresh r w is (plan_of p) (plain_key r);
       direct = λ k q w at fit is. c.in_ok-direct.ensures.fresh q w is (plan_of p) k;
+      idle = λ q w none is. not_running (plan_of p) (plain_key 0) w (c.in_ok-direct.ensures.fresh q w is (plan_of p) (plain_key 0));
       outside = λ r none. refl;
     }
