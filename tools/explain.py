@@ -2,12 +2,14 @@
 """Runs the program and explains its refusal.
 
     tools/explain.py DESCRIPTION SCRIPT
+    tools/explain.py --trace TRACE --said FILE DESCRIPTION SCRIPT
 
 What the program prints is printed unchanged. Where it refuses, the line that it names follows with a caret, the rule or
 cause and its mend, as docs/FORMAT.md has them, and what else can be said.
 
 The status is the program's. With --said the program is not run: what it printed is read from a file, and the status is
-the one that belongs to it.
+the one that belongs to it. With --trace too, it is the verdict on a trace, such as `illegal 14 D6` or `bad line 20`: the line
+of the trace follows, with what the bus would have answered there.
 """
 
 from __future__ import annotations
@@ -37,7 +39,11 @@ def arguments() -> argparse.Namespace:
         help="the program to run; otherwise the variable RTE names it, or it is ./rte of the repository",
     )
     parser.add_argument("--said", metavar="FILE", help="a file with what the program printed; - is standard input")
-    return parser.parse_args()
+    parser.add_argument("--trace", metavar="TRACE", default="", help="the trace on which FILE has the verdict")
+    words = parser.parse_args()
+    if words.trace and words.said is None:
+        parser.error("--trace needs --said")
+    return words
 
 
 def pass_through(printed: IO[bytes]) -> Refusal | None:
@@ -74,7 +80,7 @@ def main() -> int:
         else:
             refusal, status = read_said(words.said)
         if refusal and refusal.status == status:
-            explained = "\n".join(explain(refusal, words.description, words.script)) + "\n"
+            explained = "\n".join(explain(refusal, words.description, words.script, words.trace)) + "\n"
             sys.stdout.buffer.write(explained.encode("utf-8", errors="replace"))
     except BrokenPipeError:
         return 4

@@ -5,25 +5,30 @@ from __future__ import annotations
 import os
 import textwrap
 
-from rte_tools import reference, scripts
+from rte_tools import reference, scripts, verdicts
+from rte_tools.bus_plan import plan_of
 from rte_tools.description import Description
 from rte_tools.files import Unfit, read_description, read_schema
 from rte_tools.hints import hints
 from rte_tools.located import NotJson, read_json
 from rte_tools.refusal import Refusal
 from rte_tools.source import Source, read_text
+from rte_tools.trace import HEADER, read_line
 
 LONGEST = 8_388_608  # bytes of a file
 WIDTH = 110  # of a line of an explanation
 UNKNOWN = reference.Entry("docs/FORMAT.md does not tell it", "see whether the program and the documents fit together.")
 
 
-def explain(refusal: Refusal, description: str, script: str) -> list[str]:
-    """The lines that explain a refusal of these two files."""
+def explain(refusal: Refusal, description: str, script: str, trace: str = "") -> list[str]:
+    """The lines that explain a refusal of these files. Without a trace there are two."""
     if refusal.kind == "words":
-        return ["The words were `run` and two paths, so a path is not UTF-8."]
+        return ["The words were a command and paths, so a path is not UTF-8."]
     if refusal.kind == "not read":
-        return explain_unread([description, script][refusal.number - 1])
+        files = [description, trace, script] if trace else [description, script]
+        return explain_unread(files[refusal.number - 1])
+    if refusal.kind in ("bad", "illegal"):
+        return explain_trace(refusal, description, trace, script)
     format_text = reference.read_format()
     if refusal.kind == "script":
         return explain_script(refusal, format_text, description, script)
@@ -64,6 +69,29 @@ def explain_script(refusal: Refusal, format_text: str, description: str, script:
     said = [remark.text] if remark.text else []
     title = f"cause {refusal.number}: the line {cause.title}"
     return explained(source, start + remark.start, start + remark.end, title, said, cause.mend)
+
+
+def explain_trace(refusal: Refusal, description: str, trace: str, script: str) -> list[str]:
+    """A line of a trace, the clause that it breaks, and what the bus would have answered."""
+    source = Source.of(trace, read_text(trace))
+    plan = plan_of(read_json(read_text(description)).plain())
+    is_there = refusal.line < len(source.starts) or not source.text.endswith("\n") and source.text != ""
+    text = source.line(refusal.line) if is_there else None
+    if refusal.kind == "bad":
+        title = "the line is not the one spelling of an entry that fits the description"
+        ends = refusal.line < len(source.starts)
+        said = list(verdicts.explain_bad(text, ends, refusal.line, plan))
+    else:
+        title = f"D{refusal.number}: {verdicts.CLAUSES.get(refusal.number, UNKNOWN.title)}"
+        before = [source.line(number) for number in range(2, refusal.line)]
+        reading = verdicts.read_before(plan, source.line(1).removeprefix(HEADER), before)
+        line = read_line(refusal.line, text) if text is not None else None
+        said = list(verdicts.explain_illegal(refusal.number, line, reading, read_text(script)))
+    shown = [f"{trace}:{refusal.line}: {title}"]
+    if text is not None:
+        start = source.starts[refusal.line - 1]
+        shown = [f"{source.where(start)}: {title}", *source.show(start, start + len(text))]
+    return shown + [line for sentence in said for line in wrapped(sentence)]
 
 
 def typed(path: str) -> Description | None:

@@ -10,24 +10,26 @@ from rte_tools.description import Component, Description, Port
 LINE = re.compile(
     r"refused rule (?P<rule>\d+) at (?P<place>\S+)"
     r"|script refused line (?P<line>\d+) cause (?P<cause>\d+)"
-    r"|not read (?P<file>[12])"
+    r"|not read (?P<file>[123])"
+    r"|bad line (?P<bad>\d+)"
+    r"|illegal (?P<illegal>\d+) D(?P<clause>\d+)"
     r"|(?P<words>words refused)"
 )
 
 
 @dataclass(frozen=True)
 class Refusal:
-    """One of the four kinds: a rule at a place, a script line with a cause, a file that was not read, or the words."""
+    """A rule at a place, a script line with a cause, a file that was not read, the words, or a line of a trace."""
 
-    kind: str  # "rule", "script", "not read" or "words"
-    number: int = 0  # of the rule, of the cause, or of the file
+    kind: str  # "rule", "script", "not read", "words", "bad" or "illegal"
+    number: int = 0  # of the rule, of the cause, of the file, or of the clause
     place: str = ""
     line: int = 0
 
     @property
     def status(self) -> int:
         """The status with which the program says it."""
-        return {"rule": 1, "words": 2, "not read": 3, "script": 5}[self.kind]
+        return {"rule": 1, "words": 2, "not read": 3, "script": 5, "bad": 6, "illegal": 6}[self.kind]
 
 
 def read_refusal(text: str) -> Refusal | None:
@@ -39,6 +41,10 @@ def read_refusal(text: str) -> Refusal | None:
         return Refusal("rule", int(found["rule"]), found["place"])
     if found["cause"]:
         return Refusal("script", int(found["cause"]), line=int(found["line"]))
+    if found["bad"]:
+        return Refusal("bad", line=int(found["bad"]))
+    if found["illegal"]:
+        return Refusal("illegal", int(found["clause"]), line=int(found["illegal"]))
     if found["file"]:
         return Refusal("not read", int(found["file"]))
     return Refusal("words")
