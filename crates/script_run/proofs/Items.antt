@@ -1,5 +1,7 @@
 -- A session and entries of runnables and machines that follow it inside a run line.
 use Rattle.std.proofs.Common.{◌≡◌, suc, ◌+◌, Bool, true, false, not, ◌&&◌, List, [], ◌∷◌, ◌++◌, length, refl, sym, ◌∙◌, append_assoc, append-nil, arith}
+use Rattle.std.specs.List.{list_all}
+use Rattle.std.proofs.lemmas.Bool.{and_parts, and_from}
 use Rattle.bus_semantics.specs.declared.entries.Entry.{Entry}
 use Rattle.bus_semantics.specs.declared.entries.Stamped.{Stamped}
 use Rattle.bus_semantics.specs.declared.script.Mapping.{Mapping}
@@ -7,10 +9,13 @@ use Rattle.bus_semantics.specs.declared.version.Version.{Version}
 use Rattle.bus_semantics.specs.Plan.{Plan}
 use Rattle.bus_semantics.specs.History.{History, is_environment}
 use Rattle.bus_semantics.specs.Legal.{IsLegal}
-use Rattle.bus_semantics.specs.Run.{Session, made, history_of, is_inside, is_placed, made_in_line, orders_of}
+use Rattle.bus_semantics.specs.Fitting.{fits}
+use Rattle.bus_semantics.specs.Reading.{item_fits}
+use Rattle.bus_semantics.specs.Run.{Session, made, run_begins, run_closes, history_of, is_inside, is_placed, made_in_line, orders_of}
 use Rattle.bus_semantics.specs.Spelling.{entry_text, spelling_of}
 use Rattle.core_runtime.specs.After.{after, are_within}
 use Rattle.script_run.specs.Legal.{IsLegalFrom}
+use Rattle.script_run.specs.Sizes.{is_sized_entry, is_sized_stamped, is_sized_item}
 use Rattle.script_run.specs.Texts.{entries_text}
 
 -- the session and then these entries, of which the oldest comes first
@@ -66,3 +71,20 @@ made-items (e ∷ es) s within =
     let one : made_in_line (made e.entry ∷ s) ≡ suc (made_in_line s) = rw both.0 refl in
     let more = made-items es (made e.entry ∷ s) both.1 in
     omega (arith, one, more)
+
+-- ---- sizes
+
+pub sized-items : (es : List Stamped) (s : Session) → list_all is_sized_stamped es ≡ true → list_all is_sized_item s ≡ true → list_all is_sized_item (items_after es s) ≡ true
+sized-items [] s sized before = before
+sized-items (e ∷ es) s sized before =
+    let both = and_parts (is_sized_entry e.entry) (list_all is_sized_stamped es) sized in
+    sized-items es (made e.entry ∷ s) both.1 (and_from (is_sized_entry e.entry) (list_all is_sized_item s) both.0 before)
+
+-- what goes on legally fits
+pub items_fit : (p : Plan) (m : Mapping) (h : History) (s : Session) → IsLegalFrom p m h s → list_all is_sized_item s ≡ true → list_all (item_fits p) s ≡ true
+items_fit p m h [] legal sized = refl
+items_fit p m h (made e ∷ s) legal sized =
+    let both = and_parts (is_sized_entry e) (list_all is_sized_item s) sized in
+    and_from (item_fits p (made e)) (list_all (item_fits p) s) (and_from (fits p e) (is_sized_entry e) legal.1.fit both.0) (items_fit p m h s legal.0 both.1)
+items_fit p m h (run_begins ∷ s) legal sized = items_fit p m h s legal sized
+items_fit p m h (run_closes word ∷ s) legal sized = items_fit p m h s legal.0 sized

@@ -1,6 +1,7 @@
 -- One more item of a session, or entries of a round: a call, a run mark, a closing word.
 use Rattle.std.proofs.Common.{◌≡◌, ◌≢◌, ℕ, suc, ◌+◌, ◌-◌, ◌<◌, ◌≤◌, true, false, List, [], ◌∷◌, ◌++◌, length, take, drop, replicate, get_or, Option, refl, sym, ap, ◌∙◌, subst, append_assoc, append-nil, drop-cons, arith}
-use Rattle.std.proofs.lemmas.Bool.{le-leb}
+use Rattle.std.specs.List.{list_all}
+use Rattle.std.proofs.lemmas.Bool.{le-leb, and_from}
 use Rattle.std.proofs.lemmas.List.{replicate-append-replicate, take_more, take-append-drop}
 use Rattle.rte_text.specs.declared.sink.Put.{Put}
 use Rattle.rte_text.specs.declared.sink.Put.TheVariants as putting
@@ -29,8 +30,9 @@ use Rattle.script_run.specs.declared.run_line.Lap.TheVariants.{Made, Ended}
 use Rattle.script_run.specs.Legal.{IsLegalFrom}
 use Rattle.script_run.specs.Texts.{entries_text}
 use Rattle.script_run.specs.Running.{PrintsRun, PrintsBeginning}
+use Rattle.script_run.specs.Sizes.{is_sized_entry, is_sized_stamped, is_sized_item}
 use Rattle.script_run.specs.Standing.{Place, outside, inside, IsAt, Stands, IsCut, GoesOn, came_of, Carries, CarriesLap}
-use Rattle.script_run.proofs.Items.{items_after, history-items, spelling-items, legal-items, inside-items, placed-items, orders-items, made-items}
+use Rattle.script_run.proofs.Items.{items_after, sized-items, items_fit, history-items, spelling-items, legal-items, inside-items, placed-items, orders-items, made-items}
 use Rattle.script_run.proofs.Quieting.{QuietLaw, idles_are_quiet}
 
 -- what follows of a put of further text of the session, which stands for it where all of the text is put
@@ -40,24 +42,26 @@ went_on : (v : Version) (p : Plan) (m : Mapping) (h : History) (orders more : Li
     → orders_of t ≡ orders ++ more
     → is_placed t ≡ true
     → IsAt to t
+    → list_all is_sized_item t ≡ true
     → IsLegalFrom p m h t
     → plan_of n.plan ≡ p
     → n.mapping ≡ m
     → IsLawfulNode n (history_of t ++ h)
     → ToldAfter put before now text
     → GoesOn v (came_of put) p m h (orders ++ more) to base n now
-went_on v p m h orders more to base before now n text putting.Done s t put spelled did placed at legal plan mapping lawful told = record {
+went_on v p m h orders more to base before now n text putting.Done s t put spelled did placed at sized legal plan mapping lawful told = record {
   session = t;
   did = did;
   placed = placed;
   at = at;
+  sized = sized;
   legal = legal;
   plan = plan;
   mapping = mapping;
   lawful = lawful;
   text = subst (AppendsWhereTold base now) (sym spelled) (appends_both base before now (spelling_of v p s) text put told);
 }
-went_on v p m h orders more to base before now n text putting.Failed s t put spelled did placed at legal plan mapping lawful told = record {
+went_on v p m h orders more to base before now n text putting.Failed s t put spelled did placed at sized legal plan mapping lawful told = record {
   session = t;
   left = [];
   did = append-nil (orders_of t) ∙ did;
@@ -75,9 +79,9 @@ pub call_carries : (v : Version) (old new : NodeState) (e : Entry) (w : Wanted) 
     → e.actor ≡ Env → wanted_by 0 e.deed ≡ w
     → new.plan ≡ old.plan → new.mapping ≡ old.mapping
     → ((h : History) → IsLawfulNode old h → IsLawfulNode new (e ∷ h))
-    → q ≡ plan_of new.plan → ToldAfter put before after (entry_text v q e)
+    → q ≡ plan_of new.plan → is_sized_entry e ≡ true → ToldAfter put before after (entry_text v q e)
     → Carries v (came_of put) (a_call w ∷ []) outside outside old new before after
-call_carries v old new e w put before now q actor wanted plan mapping lawful spelled told p m h orders base s =
+call_carries v old new e w put before now q actor wanted plan mapping lawful spelled sized told p m h orders base s =
     let env : is_environment e.actor ≡ true = rw actor refl in
     let ordered : orders_of (made e ∷ s.session) ≡ orders ++ a_call w ∷ [] = rw (env, wanted) (ap (λ os. os ++ a_call w ∷ []) s.did) in
     let planned : plan_of new.plan ≡ p = ap plan_of plan ∙ s.plan in
@@ -85,6 +89,7 @@ call_carries v old new e w put before now q actor wanted plan mapping lawful spe
     let may = later.legal.1 in
     went_on v p m h orders (a_call w ∷ []) outside base before now new (entry_text v p e) put s.session (made e ∷ s.session)
     s.text refl ordered (placed_outside e s.session env s.placed s.at) s.at
+    (and_from (is_sized_entry e) (list_all is_sized_item s.session) sized s.sized)
     (s.legal, subst (λ r. MayFollow r (history_of s.session ++ h) e) planned may)
     planned (mapping ∙ s.mapping) later
     (subst (λ r. ToldAfter put before now (entry_text v r e)) (spelled ∙ planned) told)
@@ -96,15 +101,15 @@ pub mark_carries : (v : Version) (n : NodeState) (put : Put) (before after : Opt
     → Carries v (came_of put) (a_run ∷ []) outside (inside 0) n n before after
 mark_carries v n put before now told p m h orders base s =
     went_on v p m h orders (a_run ∷ []) (inside 0) base before now n (item_text v p run_begins) put s.session (run_begins ∷ s.session)
-    s.text refl (ap (λ os. os ++ a_run ∷ []) s.did) (rw (s.placed, s.at) refl) (refl, omega arith) s.legal s.plan s.mapping s.lawful (told p)
+    s.text refl (ap (λ os. os ++ a_run ∷ []) s.did) (rw (s.placed, s.at) refl) (refl, omega arith) s.sized s.legal s.plan s.mapping s.lawful (told p)
 
 pub entries_carry : (v : Version) (old new : NodeState) (es : List Stamped) (put : Put) (before now : Option (List ℕ)) (q : Plan) (count total : ℕ)
     → new.plan ≡ old.plan → new.mapping ≡ old.mapping
-    → are_within es ≡ true → total ≤ count + length es
+    → are_within es ≡ true → list_all is_sized_stamped es ≡ true → total ≤ count + length es
     → ((h : History) → IsLawfulNode old h → IsLawfulNode new (after es h))
     → q ≡ plan_of new.plan → ToldAfter put before now (entries_text v q es)
     → Carries v (came_of put) [] (inside count) (inside total) old new before now
-entries_carry v old new es put before now q count total plan mapping within few lawful spelled told p m h orders base s =
+entries_carry v old new es put before now q count total plan mapping within sized few lawful spelled told p m h orders base s =
     let planned : plan_of new.plan ≡ p = ap plan_of plan ∙ s.plan in
     let past = history-items es s.session h in
     let later = lawful (history_of s.session ++ h) s.lawful in
@@ -114,6 +119,7 @@ entries_carry v old new es put before now q count total plan mapping within few 
     (orders-items es s.session within ∙ s.did ∙ sym (append-nil orders))
     (placed-items es s.session within s.placed s.at.0)
     (inside-items es s.session ∙ s.at.0, let n = made-items es s.session within in omega (arith, n, few, s.at.1))
+    (sized-items es s.session sized s.sized)
     (legal-items p m h es s.session s.legal legal)
     planned (mapping ∙ s.mapping)
     (subst (λ g. IsLawfulNode new g) (sym past) later)
@@ -130,7 +136,7 @@ idle_carries v old new put before now count plan mapping lawful rest told p m h 
     let all = history_of s.session ++ h in
     let resting = subst (λ r. IsIdle r m all) s.plan (subst (λ (r : Mapping). IsIdle (plan_of old.plan) r all) s.mapping (rest all s.lawful)) in
     went_on v p m h orders [] outside base before now new (closing_text idle) put s.session (run_closes idle ∷ s.session)
-    s.text refl (s.did ∙ sym (append-nil orders)) (rw (s.placed, s.at.0) refl) refl (s.legal, s.at.0, resting)
+    s.text refl (s.did ∙ sym (append-nil orders)) (rw (s.placed, s.at.0) refl) refl s.sized (s.legal, s.at.0, resting)
     (ap plan_of plan ∙ s.plan) (mapping ∙ s.mapping) (lawful all s.lawful) told
 
 -- where enough entries were made
@@ -140,7 +146,7 @@ pub unsettled_carries : (v : Version) (n : NodeState) (put : Put) (before after 
 unsettled_carries v n put before now count many told p m h orders base s =
     let enough : 100000 ≤ made_in_line s.session = omega (arith, many, s.at.1) in
     went_on v p m h orders [] outside base before now n (closing_text unsettled) put s.session (run_closes unsettled ∷ s.session)
-    s.text refl (s.did ∙ sym (append-nil orders)) (rw (s.placed, s.at.0) refl) refl (s.legal, s.at.0, le-leb 100000 (made_in_line s.session) enough)
+    s.text refl (s.did ∙ sym (append-nil orders)) (rw (s.placed, s.at.0) refl) refl s.sized (s.legal, s.at.0, le-leb 100000 (made_in_line s.session) enough)
     s.plan s.mapping s.lawful told
 
 -- ---- one thing after the other
@@ -202,6 +208,7 @@ fewer v more from many few a b before now less f p m h orders base s =
       did = there.did;
       placed = there.placed;
       at = (there.at.0, let n = there.at.1 in omega (arith, n, less));
+      sized = there.sized;
       legal = there.legal;
       plan = there.plan;
       mapping = there.mapping;
@@ -240,7 +247,7 @@ orders-whole ls i l h is = let rest : drop i ls ≡ l ∷ drop (suc i) ls = drop
 
 -- where the header was put, nothing was done yet
 begun : (v : Version) (n : NodeState) (h : History) (before now : Option (List ℕ)) → IsLawfulNode n h → AppendsWhereTold before now (header v) → Stands v (plan_of n.plan) n.mapping h [] outside before n now
-begun v n h before now lawful told = record { session = []; did = refl; placed = refl; at = refl; legal = tt; plan = refl; mapping = refl; lawful = lawful; text = told }
+begun v n h before now lawful told = record { session = []; did = refl; placed = refl; at = refl; sized = refl; legal = tt; plan = refl; mapping = refl; lawful = lawful; text = told }
 
 pub finishes : (v : Version) (answer : ScriptRun) (script : List Line) (old new : NodeState) (before between after : Option (List ℕ)) → AppendsWhereTold before between (header v)
     → Carries v answer (orders_of_script script) outside outside old new between after
@@ -252,6 +259,7 @@ finishes v Finished script old new before between now told f quiet sound is h la
       session = s.session;
       bytes = spelling_of v (plan_of old.plan) s.session;
       of_script = record { orders = s.did; placed = s.placed; closed = s.at };
+      fit = items_fit (plan_of old.plan) old.mapping h s.session s.legal s.sized;
       legal = s.legal;
       quiet = idles_are_quiet quiet (plan_of old.plan) old.mapping sound h lawful.legal s.session s.legal;
       lawful = s.lawful;

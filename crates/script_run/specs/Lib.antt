@@ -3,3 +3,4 @@ pub mod Quieting
 pub mod Texts
 pub mod Running
 pub mod Standing
+pub mod Sizes

@@ -1,5 +1,6 @@
 -- What a run of a script on a node puts, where the node has a history.
-use Rattle.std.specs.Prelude.{◌≡◌, ℕ, List, ◌++◌, Option}
+use Rattle.std.specs.Prelude.{◌≡◌, ℕ, List, ◌++◌, true, Option}
+use Rattle.std.specs.List.{list_all}
 use Rattle.rte_text.specs.Counts.{Rose}
 use Rattle.rte_text.specs.Sinks.{AppendsWhereTold, AppendsPrefixWhereTold}
 use Rattle.bus_semantics.specs.declared.script.Line.{Line}
@@ -7,6 +8,7 @@ use Rattle.bus_semantics.specs.declared.script.Mapping.{Mapping}
 use Rattle.bus_semantics.specs.declared.version.Version.{Version}
 use Rattle.bus_semantics.specs.Plan.{Plan}
 use Rattle.bus_semantics.specs.History.{History}
+use Rattle.bus_semantics.specs.Reading.{item_fits}
 use Rattle.bus_semantics.specs.Run.{Session, history_of, IsSessionOf, IsBeginningOf}
 use Rattle.bus_semantics.specs.Spelling.{Spells}
 use Rattle.core_runtime.specs.Nodes.{NodeState, IsLawfulNode}
@@ -15,12 +17,13 @@ use Rattle.script_run.specs.declared.script.ScriptRun.TheVariants.{Finished, Fai
 use Rattle.script_run.specs.Legal.{IsLegalFrom}
 use Rattle.script_run.specs.Quieting.{IdlesAreQuiet}
 
--- the bytes put are the text, in a version, of a run of the script that goes on from the history, what closes with `idle` is quiet, and the
--- node is lawful for both
+-- The bytes put are the text, in a version, of a run of the script that goes on from the history. Its items fit the plan and have the
+-- sizes of their types, what closes with `idle` is quiet, and the node is lawful for both.
 pub record PrintsRun (v : Version) (p : Plan) (m : Mapping) (h : History) (script : List Line) (now : NodeState) (before after : Option (List ℕ)) : Type 0 where
   pub session : Session
   pub bytes : List ℕ
   pub of_script : IsSessionOf script session
+  pub fit : list_all (item_fits p) session ≡ true
   pub legal : IsLegalFrom p m h session
   pub quiet : IdlesAreQuiet p h session
   pub lawful : IsLawfulNode now (history_of session ++ h)

@@ -1,5 +1,6 @@
 -- Where a node stands within a run of a script, and how its lines carry it on.
 use Rattle.std.specs.Prelude.{◌≡◌, ◌≤◌, ◌+◌, ◌-◌, ◌^◌, min, ℕ, List, [], ◌++◌, true, false, Option}
+use Rattle.std.specs.List.{list_all}
 use Rattle.rte_text.specs.declared.sink.Put.{Put}
 use Rattle.rte_text.specs.declared.sink.Put.TheVariants as putting
 use Rattle.rte_text.specs.Sinks.{AppendsWhereTold, AppendsPrefixWhereTold}
@@ -16,6 +17,7 @@ use Rattle.script_run.specs.declared.run_line.Lap.{Lap}
 use Rattle.script_run.specs.declared.run_line.Lap.TheVariants as lap
 use Rattle.script_run.specs.Legal.{IsLegalFrom}
 use Rattle.script_run.specs.Running.{FaultsAfter}
+use Rattle.script_run.specs.Sizes.{is_sized_item}
 
 -- outside run lines, or inside one that has made at least so many entries
 pub data Place : Type 0 where
@@ -32,6 +34,7 @@ pub record Stands (v : Version) (p : Plan) (m : Mapping) (h : History) (orders :
   pub did : orders_of session ≡ orders
   pub placed : is_placed session ≡ true
   pub at : IsAt place session
+  pub sized : list_all is_sized_item session ≡ true
   pub legal : IsLegalFrom p m h session
   pub plan : plan_of n.plan ≡ p
   pub mapping : n.mapping ≡ m

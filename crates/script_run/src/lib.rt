@@ -8,6 +8,7 @@ mod laws;
 mod lines;
 mod run_line;
 mod script;
+mod sizes;
 
 pub use laws::runs_from_nothing_are_runs;
 pub use script::{ScriptRun, run_script};

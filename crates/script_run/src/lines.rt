@@ -1,15 +1,18 @@
 //! Lines of the trace, each put at once.
 
-ghost use Rattle.std.specs.Prelude.{◌≡◌};
+ghost use Rattle.std.specs.Prelude.{◌≡◌, true};
+ghost use Rattle.std.specs.List.{list_all};
 ghost use Rattle.rte_text.specs.Sinks.{SinkFaultsAfter, ToldAfter};
 ghost use Rattle.bus_semantics.specs.declared.script.Mapping.{Mapping};
 ghost use Rattle.bus_semantics.specs.Plan.{plan_of};
 ghost use Rattle.bus_semantics.specs.Sound.{IsSound};
 ghost use Rattle.bus_semantics.specs.Spelling.{entry_text};
+ghost use Rattle.script_run.specs.Sizes.{is_sized_entry, is_sized_stamped};
 ghost use Rattle.script_run.specs.Standing.{came_of};
 ghost use Rattle.script_run.specs.Texts.{entries_text};
 
 use crate::script::ScriptRun;
+use crate::sizes::{entries_are_sized, entry_is_sized};
 use bus_semantics::{BusPlan, Entry, Stamped, Version};
 use rte_text::{LineBuf, Put, Sink};
 use trace_text::write_entry;
@@ -35,7 +38,9 @@ pub(crate) fn put_entry<K: Sink>(
     requires { (m : Mapping) × IsSound (plan_of p.now) m }
     ensures told { ToldAfter result (K.told out.old) (K.told out.new) (entry_text v (plan_of p.now) e.now) }
     ensures faults { SinkFaultsAfter result (K.faults out.old) (K.faults out.new) }
+    ensures sized { is_sized_entry e.now ≡ true }
 {
+    entry_is_sized(e);
     line.clear();
     write_entry(p, e, v, line);
     out.put(line.bytes())
@@ -52,7 +57,9 @@ pub(crate) fn put_entries<K: Sink>(
     requires { (m : Mapping) × IsSound (plan_of p.now) m }
     ensures told { ToldAfter result (K.told out.old) (K.told out.new) (entries_text v (plan_of p.now) entries.now) }
     ensures faults { SinkFaultsAfter result (K.faults out.old) (K.faults out.new) }
+    ensures sized { list_all is_sized_stamped entries.now ≡ true }
 {
+    entries_are_sized(entries);
     for stamped in entries {
         match put_entry(p, &stamped.entry, v, out, line) {
             Put::Done => {}

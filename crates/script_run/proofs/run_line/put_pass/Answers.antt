@@ -1,4 +1,5 @@
 use Rattle.std.proofs.Common.{◌≡◌, ◌+◌, ◌≤◌, ◌==◌, true, [], ◌∷◌, List, length, refl, sym, ap, ◌∙◌, subst, arith}
+use Rattle.std.specs.List.{list_all}
 use Rattle.std.proofs.lemmas.Bool.{eqb-true}
 use Rattle.rte_text.specs.Sinks.{ToldAfter}
 use Rattle.rte_text.specs.declared.sink.Put.TheVariants.{Done, Failed}
@@ -7,6 +8,7 @@ use Rattle.bus_semantics.specs.History.{History}
 use Rattle.bus_semantics.specs.Plan.{plan_of}
 use Rattle.core_runtime.specs.After.{after}
 use Rattle.core_runtime.specs.Nodes.{IsLawfulNode}
+use Rattle.script_run.specs.Sizes.{is_sized_stamped}
 use Rattle.script_run.specs.Texts.{entries_text}
 use Rattle.script_run.proofs.Sessions as by
 use Rattle.script_run.proofs.run_line.put_pass.Goals as goal
@@ -33,9 +35,10 @@ returns-in-Done-clause-carries g c =
     let new = c.serial_pass.new.n in
     let passed = c.serial_pass.ensures in
     let same = ap length c.entries-in-Done.ensures in
+    let sized = subst (λ (xs : List Stamped). list_all is_sized_stamped xs ≡ true) c.entries-2.ensures c.in-Done.ensures.sized in
     let few : c.saturating_add.result ≤ c.args.made + length new.entries = omega (arith, c.saturating_add.ensures, same) in
     by.entries_carry c.args.v c.args.n.now new new.entries Done (told c.args.out.now) (told c.put_entries.new.out) (plan_of c.plan.result.now) c.args.made c.saturating_add.result
-    passed.plan passed.mapping passed.within few passed.lawful (ap plan_of c.plan.ensures.plan)
+    passed.plan passed.mapping passed.within sized few passed.lawful (ap plan_of c.plan.ensures.plan)
     (subst (λ (xs : List Stamped). ToldAfter Done (told c.args.out.now) (told c.put_entries.new.out) (entries_text c.args.v (plan_of c.plan.result.now) xs)) c.entries-2.ensures c.in-Done.ensures.told)
 
 pub returns-in-Failed-clause-carries : goal.returns-in-Failed-clause-carries
@@ -43,7 +46,8 @@ returns-in-Failed-clause-carries g c =
     let told = g.K.Sink.told in
     let new = c.serial_pass.new.n in
     let passed = c.serial_pass.ensures in
+    let sized = subst (λ (xs : List Stamped). list_all is_sized_stamped xs ≡ true) c.entries-2.ensures c.in-Failed.ensures.sized in
     let few : c.args.made ≤ c.args.made + length new.entries = omega arith in
     by.entries_carry c.args.v c.args.n.now new new.entries Failed (told c.args.out.now) (told c.put_entries.new.out) (plan_of c.plan.result.now) c.args.made c.args.made
-    passed.plan passed.mapping passed.within few passed.lawful (ap plan_of c.plan.ensures.plan)
+    passed.plan passed.mapping passed.within sized few passed.lawful (ap plan_of c.plan.ensures.plan)
     (subst (λ (xs : List Stamped). ToldAfter Failed (told c.args.out.now) (told c.put_entries.new.out) (entries_text c.args.v (plan_of c.plan.result.now) xs)) c.entries-2.ensures c.in-Failed.ensures.told)

@@ -1,8 +1,10 @@
-use Rattle.std.proofs.Common.{◌+◌, ◌≤◌, [], List, length, refl, ap, subst, arith}
+use Rattle.std.proofs.Common.{◌≡◌, ◌+◌, ◌≤◌, true, [], List, length, refl, ap, subst, arith}
+use Rattle.std.specs.List.{list_all}
 use Rattle.rte_text.specs.Sinks.{ToldAfter}
 use Rattle.bus_semantics.specs.declared.entries.Stamped.{Stamped}
 use Rattle.bus_semantics.specs.Plan.{plan_of}
 use Rattle.script_run.specs.declared.script.ScriptRun.TheVariants.{Memory}
+use Rattle.script_run.specs.Sizes.{is_sized_stamped}
 use Rattle.script_run.specs.Standing.{inside}
 use Rattle.script_run.specs.Texts.{entries_text}
 use Rattle.script_run.proofs.Sessions as by
@@ -15,9 +17,10 @@ returns-in-Ran-clause-carries g c = λ made.
     let es = c.run_round.new.n.entries in
     let enough : made + length es ≤ made + length es = omega arith in
     let put = subst (λ (xs : List Stamped). ToldAfter c.put_entries.result (told c.args.out.now) (told c.put_entries.new.out) (entries_text c.args.v (plan_of c.plan.result.now) xs)) c.entries.ensures c.put_entries.ensures.told in
+    let sized = subst (λ (xs : List Stamped). list_all is_sized_stamped xs ≡ true) c.entries.ensures c.put_entries.ensures.sized in
     rw c.came_of.ensures
     (by.entries_carry c.args.v c.args.n.now c.run_round.new.n es c.put_entries.result (told c.args.out.now) (told c.put_entries.new.out) (plan_of c.plan.result.now) made (made + length es)
-    ran.plan ran.mapping (ran.within refl) enough (ran.lawful refl) (ap plan_of c.plan.ensures.plan) put)
+    ran.plan ran.mapping (ran.within refl) sized enough (ran.lawful refl) (ap plan_of c.plan.ensures.plan) put)
 
 pub returns-in-Memory-clause-carries : goal.returns-in-Memory-clause-carries
 returns-in-Memory-clause-carries g c = λ made.

@@ -11,4 +11,4 @@ returns-clause-carries g c =
     rw c.came_of.ensures
     (by.call_carries c.args.v c.args.n.now c.environment-entry.new.self c.environment-entry.result (wanted_of c.args.wish.now) c.put_entry.result
     (told c.args.out.now) (told c.put_entry.new.out) (plan_of c.plan.result.now)
-    made.actor (made.wish 0) made.plan made.mapping made.lawful (ap plan_of c.plan.ensures.plan) c.put_entry.ensures.told)
+    made.actor (made.wish 0) made.plan made.mapping made.lawful (ap plan_of c.plan.ensures.plan) c.put_entry.ensures.sized c.put_entry.ensures.told)
