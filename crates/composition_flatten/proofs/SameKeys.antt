@@ -7,7 +7,7 @@ use Rattle.composition_flatten.specs.declared.wiring.Key.{Key}
 use Rattle.composition_flatten.specs.declared.wiring.Key.TheVariants.{Assembly, Delegation}
 use Rattle.composition_flatten.specs.contracts.wiring.KeyPartialEq.TheImpl.{eq-value}
 use Rattle.composition_flatten.specs.Keys.{key_of}
-use Rattle.end_crossing.proofs.SameGates.{three, three_from}
+use Rattle.end_search.proofs.SameGates.{three, three_from}
 
 pub same_key : (x y : Key) → (eq-value).it x y ≡ true → x ≡ y
 same_key (Assembly a b c e) (Assembly a2 b2 c2 e2) h =

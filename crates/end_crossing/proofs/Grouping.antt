@@ -6,11 +6,13 @@ use Rattle.description_types.specs.declared.description.Description.{Description
 use Rattle.end_crossing.specs.declared.crossings.Crossing.{Crossing}
 use Rattle.composition_tables.specs.declared.links.Link.{Link}
 use Rattle.end_crossing.specs.declared.matched.Matched.{Matched}
+use Rattle.end_search.specs.declared.seek.Wanted.TheVariants.{Anything}
 use Rattle.composition_tables.specs.declared.tree.PortEnd.{PortEnd}
 use Rattle.flat_descriptions.specs.Growing.{AnyOf, Grown}
 use Rattle.end_crossing.specs.PortLinks.{link_of, IsPairLink, IsCrossLink}
-use Rattle.end_crossing.specs.Crossings.{same_gate, same_pair, HasPairs, IsAdding, IsBetween, IsCrossingLink, IsMatched}
+use Rattle.end_crossing.specs.Crossings.{same_pair, HasPairs, IsAdding, IsBetween, IsCrossingLink, IsMatched}
 use Rattle.end_search.specs.Matching.{AreListed, AreMatches}
+use Rattle.end_search.specs.Near.{same_gate, AreNear}
 use Rattle.flat_descriptions.specs.Members.{Among}
 use Rattle.end_search.specs.Tables.{AreGroups}
 use Rattle.composition_tables.proofs.Growth.{grown_same}
@@ -40,11 +42,12 @@ module _ (d : Description) (m : Matched) (before : List Link) (adding : IsAdding
     crossed = λ k a x h. adding.crossed k (subst (λ s. Among k s.keys) crossed a) x h;
   }
 
-  noted_matched : (n : Matched) → n.interfaces ≡ m.interfaces → n.kept ≡ m.kept → n.sides ≡ m.sides → IsMatched d n
-  noted_matched n listed kept sides = record {
+  noted_matched : (n : Matched) → n.interfaces ≡ m.interfaces → n.kept ≡ m.kept → n.sides ≡ m.sides → n.near ≡ m.near → IsMatched d n
+  noted_matched n listed kept sides near = record {
     listed = subst (λ l. AreListed d l.items) (sym listed) adding.matched.listed;
     kept = λ k pairs is. adding.matched.kept k pairs (ap (λ l. get same_pair l k) (sym kept) ∙ is);
     sides = λ g s is. adding.matched.sides g s (ap (λ l. get same_gate l g) (sym sides) ∙ is);
+    near = subst (AreNear d Anything) (sym near) adding.matched.near;
   }
 
   pub done_before : (p r : PortEnd) → Among (p, r) m.done.keys → Grown (IsPairLink d p r) before before false
@@ -55,10 +58,10 @@ module _ (d : Description) (m : Matched) (before : List Link) (adding : IsAdding
     past = λ full. absurd (true≢false (sym full));
   }
 
-  pub done_now : (p r : PortEnd) (n : Matched) → n.interfaces ≡ m.interfaces → n.kept ≡ m.kept → n.sides ≡ m.sides → n.crossed ≡ m.crossed
+  pub done_now : (p r : PortEnd) (n : Matched) → n.interfaces ≡ m.interfaces → n.kept ≡ m.kept → n.sides ≡ m.sides → n.near ≡ m.near → n.crossed ≡ m.crossed
       → ((k : PortEnd × PortEnd) → Among k n.done.keys ↔ (Among k m.done.keys ⊎ (k ≡ (p, r)))) → ((x : Link) → IsPairLink d p r x → Among x before) → IsAdding d n before
-  done_now p r n listed kept sides crossed noted all = record {
-    matched = noted_matched n listed kept sides;
+  done_now p r n listed kept sides near crossed noted all = record {
+    matched = noted_matched n listed kept sides near;
     done = λ k a x h. ⊎_elim (λ o. adding.done k o x h) (λ (e : k ≡ (p, r)). all x (subst (λ (l : PortEnd × PortEnd). IsPairLink d l.0 l.1 x) e h)) ((noted k).0 a);
     crossed = λ k a x h. adding.crossed k (subst (λ s. Among k s.keys) crossed a) x h;
   }
@@ -71,10 +74,10 @@ module _ (d : Description) (m : Matched) (before : List Link) (adding : IsAdding
     past = λ full. absurd (true≢false (sym full));
   }
 
-  pub crossed_now : (c : Crossing) (n : Matched) → n.interfaces ≡ m.interfaces → n.kept ≡ m.kept → n.sides ≡ m.sides → n.done ≡ m.done
+  pub crossed_now : (c : Crossing) (n : Matched) → n.interfaces ≡ m.interfaces → n.kept ≡ m.kept → n.sides ≡ m.sides → n.near ≡ m.near → n.done ≡ m.done
       → ((k : Crossing) → Among k n.crossed.keys ↔ (Among k m.crossed.keys ⊎ (k ≡ c))) → ((x : Link) → IsCrossingLink d c x → Among x before) → IsAdding d n before
-  crossed_now c n listed kept sides done noted all = record {
-    matched = noted_matched n listed kept sides;
+  crossed_now c n listed kept sides near done noted all = record {
+    matched = noted_matched n listed kept sides near;
     done = λ k a x h. adding.done k (subst (λ s. Among k s.keys) done a) x h;
     crossed = λ k a x h. ⊎_elim (λ o. adding.crossed k o x h) (λ (e : k ≡ c). all x (subst (λ l. IsCrossingLink d l x) e h)) ((noted k).0 a);
   }

@@ -6,9 +6,9 @@ use Rattle.composition_tables.specs.contracts.tree.PortEndPartialEq.TheImpl as p
 use Rattle.end_crossing.specs.declared.crossings.Crossing.{Crossing}
 use Rattle.end_crossing.specs.declared.crossings.Crossing.TheVariants.{Gates, Row, Column}
 use Rattle.composition_tables.specs.declared.tree.PortEnd.{PortEnd}
-use Rattle.end_crossing.specs.Crossings.{same_gate}
+use Rattle.end_search.specs.Near.{same_gate}
 use Rattle.end_search.proofs.SameEnds.{same_end, itself_end}
-use Rattle.end_crossing.proofs.SameGates.{gate_is, itself_gate}
+use Rattle.end_search.proofs.SameGates.{gate_is, itself_gate}
 
 abbrev same_port : PortEnd → PortEnd → Bool
 same_port a b = (port_end.eq-value).it a b

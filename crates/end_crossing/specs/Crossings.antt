@@ -3,12 +3,12 @@ use Rattle.std.specs.Prelude.{◌≡◌, ◌⊎◌, ◌&&◌, ℕ, List, Bool, n
 use Rattle.std.specs.Global.{Global}
 use Rattle.description_types.specs.declared.description.Description.{Description}
 use Rattle.indexmap.specs.IndexMap.{IndexMap, get}
-use Rattle.end_search.specs.contracts.gates.GatePartialEq.TheImpl.{eq-value}
 use Rattle.end_crossing.specs.declared.crossings.Crossing.{Crossing}
 use Rattle.end_crossing.specs.declared.crossings.Crossing.TheVariants.{Gates, Row, Column}
 use Rattle.end_search.specs.declared.gates.Gate.{Gate}
 use Rattle.composition_tables.specs.declared.links.Link.{Link}
 use Rattle.end_crossing.specs.declared.matched.Matched.{Matched}
+use Rattle.end_search.specs.declared.seek.Wanted.TheVariants.{Anything}
 use Rattle.end_search.specs.declared.sides.Side.{Side}
 use Rattle.composition_tables.specs.declared.tree.PortEnd.{PortEnd}
 use Rattle.end_search.specs.Gates.{gate_ends}
@@ -17,19 +17,18 @@ use Rattle.end_crossing.specs.PortLinks.{IsPairLink, IsCrossLink}
 use Rattle.flat_descriptions.specs.Members.{Among}
 use Rattle.composition_tables.specs.Multi.{under}
 use Rattle.end_search.specs.Matching.{AreListed, AreMatches}
+use Rattle.end_search.specs.Near.{same_gate, AreNear}
 use Rattle.end_search.specs.Sides.{AreOf, IsSide}
 
 abbrev pub same_pair : ℕ × ℕ → ℕ × ℕ → Bool
 same_pair a b = nat_eq a.0 b.0 && nat_eq a.1 b.1
-
-abbrev pub same_gate : Gate → Gate → Bool
-same_gate a b = (eq-value).it a b
 
 -- what is kept of pairs of interfaces and of gates is right
 pub record IsMatched (d : Description) (m : Matched) : Type 0 where
   pub listed : AreListed d m.interfaces.items
   pub kept : (k : ℕ × ℕ) (pairs : Vec (ℕ × ℕ) Global) → get same_pair m.kept k ≡ Some pairs → AreMatches d k.0 k.1 pairs.items
   pub sides : (g : Gate) (s : Side) → get same_gate m.sides g ≡ Some s → IsSide d g s
+  pub near : AreNear d Anything m.near
 
 -- wherever items of two of these ports are joined, their interfaces are one of the pairs
 abbrev pub HasPairs : Description → List PortEnd → List PortEnd → List (ℕ × ℕ) → Type 0

@@ -21,6 +21,7 @@ use description_types::Description;
 use end_search::gates::Gate;
 use end_search::interfaces::Listed;
 use end_search::matches::{interfaces_of, matches};
+use end_search::near::{Near, nothing_near};
 use end_search::sides::{Side, shared, side_of, weight};
 use indexmap::{IndexMap, IndexSet};
 use rte_text::Memory;
@@ -36,6 +37,8 @@ pub struct Matched<'a> {
     pub sides: IndexMap<Gate, Side<'a>>,
     /// How many interfaces and ends the sides have.
     pub weight: usize,
+    /// The ends below ports, for further gates.
+    pub near: Near,
     /// The pairs of ports whose links were added.
     pub done: IndexSet<(PortEnd, PortEnd)>,
     /// The crossings whose links were added.
@@ -91,6 +94,7 @@ impl<'a> Matched<'a> {
             kept: IndexMap::new(alloc),
             sides: IndexMap::new(alloc),
             weight: 0,
+            near: nothing_near(alloc),
             done: IndexSet::new(alloc),
             crossed: IndexSet::new(alloc),
         })
@@ -142,6 +146,7 @@ impl<'a> Matched<'a> {
         ensures listed { self.new.interfaces ≡ self.old.interfaces }
         ensures kept { self.new.kept ≡ self.old.kept }
         ensures sides { self.new.sides ≡ self.old.sides }
+        ensures near { self.new.near ≡ self.old.near }
         ensures crossed { self.new.crossed ≡ self.old.crossed }
         ensures done { OnOk result ((k : PortEnd × PortEnd) → Among k self.new.done.keys ↔ (Among k self.old.done.keys ⊎ (k ≡ (provided, required)))) }
     {
@@ -169,6 +174,7 @@ impl<'a> Matched<'a> {
         ensures listed { self.new.interfaces ≡ self.old.interfaces }
         ensures kept { self.new.kept ≡ self.old.kept }
         ensures sides { self.new.sides ≡ self.old.sides }
+        ensures near { self.new.near ≡ self.old.near }
         ensures done { self.new.done ≡ self.old.done }
         ensures crossed { OnOk result ((k : Crossing) → Among k self.new.crossed.keys ↔ (Among k self.old.crossed.keys ⊎ (k ≡ crossing))) }
     {
@@ -192,7 +198,8 @@ impl<'a> Matched<'a> {
                 Ok(side)
             }
             None => {
-                let side = side_of(alloc, tree, gate, self.interfaces.as_slice())?;
+                let interfaces = self.interfaces.as_slice();
+                let side = side_of(alloc, tree, gate, interfaces, &mut self.near)?;
                 Ok(side)
             }
         }

@@ -1,7 +1,9 @@
 pub mod Gating
 pub mod Keying
 pub mod Lookups
+pub mod Nearing
 pub mod SameEnds
+pub mod SameGates
 pub mod SameNames
 pub mod Seeking
 pub mod Wishing

@@ -47,6 +47,10 @@ sought_then P Q before between after is_cut s t = record {
   has = λ f x pq. ⊎_elim (λ p. t.stays x (s.has refl x p)) (λ q. t.has f x q) pq;
 }
 
+pub sought_single : {X : Type 0} (Q : X → PortEnd → Type 0) (p : X) (before after : List PortEnd) (is_cut : Bool) → Sought (AnyOf Q (p ∷ [])) before after is_cut → Sought (Q p) before after is_cut
+sought_single Q p before after is_cut s = sought_same (AnyOf Q (p ∷ [])) (Q p) before after is_cut
+    (λ x a. ⊎_elim (λ e. subst (λ m. Q m x) e a.2) (λ no. absurd no) a.1) (λ x q. (p, inl refl, q)) s
+
 within_all : {X : Type 0} (xs : List X) (i : ℕ) (x : X) → Among x (take i xs) → Among x xs
 within_all xs i x h = subst (Among x) (take-append-drop i xs) (left x (take i xs) (drop i xs) h)
 
@@ -141,6 +145,11 @@ module _ (d : Description) where
     sought_inside ports before after is_cut s = sought_same (AnyOf (IsEnd d w n t start) ports) (AnyOf (IsInnerEnd d w n c q) ports) before after is_cut
         (λ x a. (a.0, a.1, (subst (Among x) (inside a.0) a.2.0, a.2.1))) (λ x a. (a.0, a.1, (subst (Among x) (sym (inside a.0)) a.2.0, a.2.1))) s
 
+    -- what is found below one port of a prototype
+    pub sought_inner : (p : ℕ) (before after : List PortEnd) (is_cut : Bool) → Sought (IsEnd d w n t start p) before after is_cut → Sought (IsInnerEnd d w n c q p) before after is_cut
+    sought_inner p before after is_cut s = sought_same (IsEnd d w n t start p) (IsInnerEnd d w n c q p) before after is_cut
+        (λ x a. (subst (Among x) (inside p) a.0, a.1)) (λ x a. (subst (Among x) (sym (inside p)) a.0, a.1)) s
+
   module _ (w : Wanted) (n c q held : ℕ) (typed : type_in d (Composition c) q ≡ Some (Composition held)) (ports : List ℕ) where
     pub sought_dead : (list : List PortEnd) (is_cut : Bool) (levels : List (Vec ℕ Global)) (count : ℕ) → IsCounted d levels → n ≤ 8 → count ≡ count_in levels n held → count ≡ 0 → Sought (AnyOf (IsInnerEnd d w n c q) ports) list list is_cut
     sought_dead list is_cut levels count is within made none = sought_none (AnyOf (IsInnerEnd d w n c q) ports) list is_cut
@@ -174,6 +183,14 @@ module _ (d : Description) where
       let i = unflat (inner_ends d n (ends d n) c 0) (inner_ports d c a.0) x a.2.0 in
       let p = (are.are i.0.prototype i.0.port).1 (flat (inner_ports d c) a.0 ports i.0 a.1 i.1) in
       (i.0.prototype, subst (Among i.0.prototype) (sym same) (are.listed i.0.prototype i.0.port p), (i.0.port, p, (i.2, a.2.1)))) s)
+
+  -- what is found below a port of a composition, inner port by inner port
+  pub sought_ports : (w : Wanted) (n depth c port : ℕ) (slice : List InnerPort) (before after : List PortEnd) (is_cut : Bool) → suc n ≡ depth → slice ≡ inner_ports d c port
+      → Sought (AnyOf (λ (inner : InnerPort). IsInnerEnd d w n c inner.prototype inner.port) slice) before after is_cut → Sought (IsEnd d w depth (Composition c) 0 port) before after is_cut
+  sought_ports w n depth c port slice before after is_cut deep same s = subst (λ m. Sought (IsEnd d w m (Composition c) 0 port) before after is_cut) deep
+      (sought_same (AnyOf (λ (inner : InnerPort). IsInnerEnd d w n c inner.prototype inner.port) slice) (IsEnd d w (suc n) (Composition c) 0 port) before after is_cut
+      (λ x a. (flat (inner_ends d n (ends d n) c 0) a.0 (inner_ports d c port) x (subst (Among a.0) same a.1) a.2.0, a.2.1))
+      (λ x e. let i = unflat (inner_ends d n (ends d n) c 0) (inner_ports d c port) x e.0 in (i.0, subst (Among i.0) (sym same) i.1, (i.2, e.1))) s)
 
 -- what was found of one port
 pub found_of : (w : Wanted) (P : PortEnd → Type 0) (all : List PortEnd) (found : Found) (before : List PortEnd) → before ≡ [] → ((x : PortEnd) → P x → Among x all) → ((x : PortEnd) → Among x all → IsWanted w x.interface → P x)

@@ -9,6 +9,7 @@ pub mod groups;
 pub mod interfaces;
 pub mod matches;
 pub mod names;
+pub mod near;
 mod partners;
 pub mod seek;
 pub mod sides;

@@ -79,7 +79,7 @@ fn note_wanted(wish: &Wish, found: &mut IndexSet<PortEnd>, end: PortEnd) -> Resu
 }
 
 /// Adds a port of an instance.
-fn note_port(
+pub fn note_port(
     tree: &Tree,
     component: u32,
     first: u32,
@@ -148,7 +148,7 @@ fn note_moved(
 }
 
 /// Adds these ends, with instances numbered from another first one on.
-fn note_all_moved(
+pub fn note_all_moved(
     first: u32,
     ends: &[PortEnd],
     limit: usize,

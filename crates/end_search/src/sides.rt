@@ -1,21 +1,25 @@
 //! What is below gates: ends and their interfaces, and which of these share an item.
 
-ghost use Rattle.std.specs.Prelude.{◌≡◌, IfOk};
-ghost use Rattle.end_search.specs.Gates.{IsShallow};
+ghost use Rattle.std.specs.Prelude.{◌≡◌, ℕ, IfOk, OnOk};
+ghost use Rattle.composition_tables.specs.declared.tree.PortEnd.{PortEnd};
+ghost use Rattle.flat_descriptions.specs.Members.{Among};
+ghost use Rattle.end_search.specs.Gates.{gate_ends, IsShallow};
+ghost use Rattle.end_search.specs.Near.{AreNear};
+ghost use Rattle.end_search.specs.Wishes.{AreFound};
 ghost use Rattle.end_search.specs.Matching.{AreListed};
 ghost use Rattle.end_search.specs.Sides.{IsSide};
 ghost use Rattle.end_search.specs.Sharing.{IsIndexed, AreShared};
 ghost use Rattle.composition_tables.specs.Trees.{IsTree};
 
 use crate::below::interfaces_below;
-use crate::gates::{Gate, ends_at};
+use crate::gates::Gate;
 use crate::groups::{Groups, groups_of};
 use crate::interfaces::Listed;
 use crate::matches::turned;
+use crate::near::{Near, ends_near};
 use crate::partners::{Index, index_of, partners};
-use crate::seek::{Wanted, Wish};
-use composition_tables::links::LINK_LIMIT;
-use composition_tables::tree::Tree;
+use crate::seek::{Found, Wanted};
+use composition_tables::tree::{PortEnd, Tree};
 use description_types::Description;
 use indexmap::IndexSet;
 use rte_text::Memory;
@@ -43,26 +47,64 @@ pub fn weight(side: &Side) -> usize {
     side.interfaces.len().saturating_add(side.count)
 }
 
+fn note_interface(interface: u32, interfaces: &mut IndexSet<u32>) -> Result<(), Memory>
+    ensures stays { OnOk result ((i : ℕ) → Among i interfaces.old.keys → Among i interfaces.new.keys) }
+    ensures has { OnOk result (Among interface interfaces.new.keys) }
+{
+    interfaces.insert(interface)?;
+    Ok(())
+}
+
+/// The interfaces of ends, each once.
+fn interfaces_of(alloc: Global, ends: &[PortEnd]) -> Result<IndexSet<u32>, Memory>
+    ensures { IfOk result (λ interfaces. (x : PortEnd) → Among x ends.now → Among x.interface interfaces.keys) }
+{
+    let mut interfaces = IndexSet::new(alloc);
+    for end in ends {
+        note_interface(end.interface, &mut interfaces)?;
+    }
+    Ok(interfaces)
+}
+
+/// The interfaces of the ends below a gate. Where not all ends were found, delegations are followed once more, whatever the
+/// ends.
+fn interfaces_at(
+    alloc: Global,
+    tree: &Tree,
+    gate: Gate,
+    found: &Found,
+) -> Result<IndexSet<u32>, Memory>
+    requires is_tree { IsTree tree.now }
+    requires found { AreFound Wanted.Anything (gate_ends tree.now.d.now gate) found.now }
+    ensures { IfOk result (λ interfaces. (x : PortEnd) → Among x (gate_ends tree.now.d.now gate) → Among x.interface interfaces.keys) }
+{
+    if found.is_cut {
+        let interfaces = interfaces_below(alloc, tree, gate)?;
+        return Ok(interfaces);
+    }
+    let interfaces = interfaces_of(alloc, found.ends.as_slice())?;
+    Ok(interfaces)
+}
+
 /// What is below a gate.
 pub fn side_of<'a>(
     alloc: Global,
     tree: &Tree,
     gate: Gate,
     listed: &[Listed<'a>],
+    near: &mut Near,
 ) -> Result<Side<'a>, Memory>
     requires is_tree { IsTree tree.now }
     requires shallow { IsShallow gate }
     requires listed { AreListed tree.now.d.now listed.now }
-    ensures { IfOk result (λ side. IsSide tree.now.d.now gate side) }
+    requires near { AreNear tree.now.d.now Wanted.Anything near.old }
+    ensures near { OnOk result (AreNear tree.now.d.now Wanted.Anything near.new) }
+    ensures side { IfOk result (λ side. IsSide tree.now.d.now gate side) }
 {
-    let interfaces = interfaces_below(alloc, tree, gate)?;
-    let index = index_of(alloc, tree.d, listed, interfaces.as_slice())?;
-    let wish = Wish {
-        wanted: Wanted::Anything,
-        limit: LINK_LIMIT,
-    };
-    let found = ends_at(alloc, tree, gate, &wish)?;
+    let found = ends_near(alloc, tree, gate, near)?;
     let groups = groups_of(alloc, found.ends.as_slice())?;
+    let interfaces = interfaces_at(alloc, tree, gate, &found)?;
+    let index = index_of(alloc, tree.d, listed, interfaces.as_slice())?;
     Ok(Side {
         interfaces,
         index,

@@ -20,7 +20,7 @@ returns-clause-matched c =
     let adding = adding_more c.args.d.now c.args.matched.now c.args.links.now.keys c.requires c.find.new.self _ c.add_items.new.links.keys c.in_ok-add_items.field-0
     c.in_ok-find.ensures.matched c.in_ok-find.ensures.done c.in_ok-find.ensures.crossed c.in_ok-add_items.ensures in
     let grown = pair_links c.args.d.now c.args.provided c.args.required c.kept.result.now _ c.in_ok-find.ensures.kept c.kept.ensures c.args.links.now.keys c.add_items.new.links.keys c.in_ok-add_items.field-0 c.in_ok-add_items.ensures in
-    done_now c.args.d.now c.find.new.self c.add_items.new.links.keys adding c.args.provided c.args.required c.note_done.new.self c.note_done.ensures.listed c.note_done.ensures.kept c.note_done.ensures.sides c.note_done.ensures.crossed c.in_ok-note_done.ensures.done
+    done_now c.args.d.now c.find.new.self c.add_items.new.links.keys adding c.args.provided c.args.required c.note_done.new.self c.note_done.ensures.listed c.note_done.ensures.kept c.note_done.ensures.sides c.note_done.ensures.near c.note_done.ensures.crossed c.in_ok-note_done.ensures.done
     (λ x h. grown.has c.if-branch.false x h)
 
 pub returns-clause-grown : goal.returns-clause-grown

@@ -16,7 +16,7 @@ returns-then-branch-clause-grown c = subst (Grown (AnyOf (λ (p : PortEnd). IsPa
 
 pub returns-clause-matched : goal.returns-clause-matched
 returns-clause-matched c = crossed_now c.args.d.now c.add_providers.new.matched c.add_providers.new.links.keys c.in_ok-add_providers.ensures.matched (Column c.args.provided c.args.interface c.args.end) c.note_crossed.new.self
-    c.note_crossed.ensures.listed c.note_crossed.ensures.kept c.note_crossed.ensures.sides c.note_crossed.ensures.done c.in_ok-note_crossed.ensures.crossed
+    c.note_crossed.ensures.listed c.note_crossed.ensures.kept c.note_crossed.ensures.sides c.note_crossed.ensures.near c.note_crossed.ensures.done c.in_ok-note_crossed.ensures.crossed
     (column_there c.args.d.now c.args.provided c.args.interface c.args.first.now c.requires.first c.add_providers.new.links.keys c.args.end (λ x h. c.in_ok-add_providers.ensures.grown.has c.if-branch.false x h))
 
 pub returns-clause-grown : goal.returns-clause-grown

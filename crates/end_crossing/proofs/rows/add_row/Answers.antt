@@ -15,7 +15,7 @@ returns-then-branch-clause-grown c = subst (Grown (AnyOf (IsPairLink c.args.d.no
 
 pub returns-clause-matched : goal.returns-clause-matched
 returns-clause-matched c = crossed_now c.args.d.now c.add_ends.new.matched c.add_ends.new.links.keys c.in_ok-add_ends.ensures.matched (Row c.args.end c.args.required c.args.interface) c.note_crossed.new.self
-    c.note_crossed.ensures.listed c.note_crossed.ensures.kept c.note_crossed.ensures.sides c.note_crossed.ensures.done c.in_ok-note_crossed.ensures.crossed
+    c.note_crossed.ensures.listed c.note_crossed.ensures.kept c.note_crossed.ensures.sides c.note_crossed.ensures.near c.note_crossed.ensures.done c.in_ok-note_crossed.ensures.crossed
     (row_there c.args.d.now c.args.required c.args.interface c.args.second.now c.requires.second c.add_ends.new.links.keys c.args.end (λ x h. c.in_ok-add_ends.ensures.grown.has c.if-branch.false x h))
 
 pub returns-clause-grown : goal.returns-clause-grown

@@ -78,7 +78,7 @@ cross_once-returns-then-is_crossed-clause-grown t c = crossed_before c.args.tree
 
 pub cross_once-returns-clause-matched : goal.cross_once-returns-clause-matched
 cross_once-returns-clause-matched t c = crossed_now c.args.tree.now.d.now c.cross_split.new.matched c.cross_split.new.links.keys c.in_ok-cross_split.ensures.matched (Gates c.args.provided c.args.required) c.note_crossed.new.self
-    c.note_crossed.ensures.listed c.note_crossed.ensures.kept c.note_crossed.ensures.sides c.note_crossed.ensures.done c.in_ok-note_crossed.ensures.crossed (λ x h. c.in_ok-cross_split.ensures.grown.has c.if-branch.false x h)
+    c.note_crossed.ensures.listed c.note_crossed.ensures.kept c.note_crossed.ensures.sides c.note_crossed.ensures.near c.note_crossed.ensures.done c.in_ok-note_crossed.ensures.crossed (λ x h. c.in_ok-cross_split.ensures.grown.has c.if-branch.false x h)
 
 pub cross_once-returns-then-branch-clause-grown : goal.cross_once-returns-then-branch-clause-grown
 cross_once-returns-then-branch-clause-grown t c = subst (Grown (IsCrossLink c.args.tree.now.d.now (gate_ends c.args.tree.now.d.now c.args.provided) (gate_ends c.args.tree.now.d.now c.args.required)) c.args.links.now.keys c.cross_split.new.links.keys) c.if-branch.true c.in_ok-cross_split.ensures.grown

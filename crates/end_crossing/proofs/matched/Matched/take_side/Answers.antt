@@ -7,6 +7,7 @@ returns-in-Some-clause-matched c = record {
   listed = c.requires.matched.listed;
   kept = c.requires.matched.kept;
   sides = sides_less c.args.tree.now.d.now c.args.self.now.sides c.swap_remove.new.self c.args.gate c.requires.matched.sides c.swap_remove.ensures.updates;
+  near = c.requires.matched.near;
 }
 
 pub returns-in-Some-clause-side : goal.returns-in-Some-clause-side
@@ -17,4 +18,5 @@ returns-in_ok-side-in-None-clause-matched c = record {
   listed = c.requires.matched.listed;
   kept = c.requires.matched.kept;
   sides = sides_less c.args.tree.now.d.now c.args.self.now.sides c.swap_remove.new.self c.args.gate c.requires.matched.sides c.swap_remove.ensures.updates;
+  near = c.in_ok-side-in-None.ensures.near;
 }
