@@ -10,7 +10,7 @@ use crate::prototypes::prototypes_of;
 use crate::reach::declared_composition;
 use description_types::{Description, Prototype};
 use rte_text::Memory;
-use std::alloc::{AllocError, Global};
+use std::alloc::Global;
 
 fn rank(ranks: &[u32], composition: u32) -> u32
     ensures { result ≡ slice_index ranks.now composition }
@@ -104,14 +104,16 @@ fn held_list(alloc: Global, d: &Description, prototypes: &[Prototype]) -> Result
     Ok(list)
 }
 
-/// For each composition those that hold it.
+/// For each composition those that hold it. Those past what a `u32` can number are left out: ranks are checked before use.
 fn turned(alloc: Global, lists: &[Vec<u32>]) -> Result<Vec<Vec<u32>>, Memory> {
     let mut holders = Vec::new(alloc);
     for _ in lists {
         holders.push(Vec::new(alloc))?;
     }
     for (position, list) in lists.iter().enumerate() {
-        let holder = u32::try_from(position).map_err(|_| AllocError)?;
+        let Ok(holder) = u32::try_from(position) else {
+            break;
+        };
         add_holder(list.as_slice(), holder, &mut holders)?;
     }
     Ok(holders)
@@ -141,7 +143,7 @@ fn is_new(seen: &mut Vec<bool>, composition: u32) -> bool {
 /// The compositions in the order in which a search, which goes from each to those that it holds, leaves them for the last
 /// time.
 fn left_order(alloc: Global, held: &[Vec<u32>]) -> Result<Vec<u32>, Memory> {
-    let count = u32::try_from(held.len()).map_err(|_| AllocError)?;
+    let count = u32::try_from(held.len()).unwrap_or(u32::MAX);
     let mut seen = vec![in alloc; false; held.len()]?;
     let mut order = Vec::new(alloc);
     for composition in 0..count {
