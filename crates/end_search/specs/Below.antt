@@ -1,5 +1,5 @@
 -- A search for the interfaces of the ports below a port, from composition to composition and not from place to place.
-use Rattle.std.specs.Prelude.{◌≡◌, ℕ, Some, ◌⊎◌}
+use Rattle.std.specs.Prelude.{◌≡◌, ◌≤◌, ◌<◌, ℕ, List, ◌++◌, length, get_or, Some}
 use Rattle.description_types.specs.declared.description.Description.{Description}
 use Rattle.description_types.specs.declared.description.InnerPort.{InnerPort}
 use Rattle.description_types.specs.declared.description.PrototypeType.{PrototypeType}
@@ -10,16 +10,10 @@ use Rattle.composition_tables.specs.Ends.{inner_ports}
 use Rattle.flat_descriptions.specs.Members.{Among}
 use Rattle.flat_descriptions.specs.Paths.{type_in}
 
--- nothing that a search has seen or found is lost
+-- nothing that a search has seen or found is lost, and what it sees comes last
 pub record Stays (before after : Search) : Type 0 where
-  pub seen : (k : ℕ × ℕ) → Among k before.seen.keys → Among k after.seen.keys
+  pub seen : (more : List (ℕ × ℕ)) × (after.seen.keys ≡ before.seen.keys ++ more)
   pub found : (i : ℕ) → Among i before.found.keys → Among i after.found.keys
-
--- what it sees waits
-pub record Goes (before after : Search) : Type 0 where
-  pub stays : Stays before after
-  pub new : (k : ℕ × ℕ) → Among k after.seen.keys → Among k before.seen.keys ⊎ Among k after.waiting.items
-  pub waiting : (k : ℕ × ℕ) → Among k before.waiting.items → Among k after.waiting.items
 
 -- the interface of the port is found, or the port is seen
 abbrev pub IsCovered : Description → Search → PrototypeType → ℕ → Type 0
@@ -33,9 +27,9 @@ IsInnerCovered d s c inner = (t : PrototypeType) → type_in d (Composition c) i
 abbrev pub IsFollowed : Description → Search → ℕ × ℕ → Type 0
 IsFollowed d s k = (inner : InnerPort) → Among inner (inner_ports d k.0 k.1) → IsInnerCovered d s k.0 inner
 
--- what is seen waits or is followed
-abbrev pub IsSearching : Description → Search → Type 0
-IsSearching d s = (k : ℕ × ℕ) → Among k s.seen.keys → Among k s.waiting.items ⊎ IsFollowed d s k
+-- so many of those that are seen are followed
+abbrev pub IsSearching : Description → Search → ℕ → Type 0
+IsSearching d s position = (position ≤ length s.seen.keys) × ((i : ℕ) → i < position → IsFollowed d s (get_or s.seen.keys i (0, 0)))
 
 -- all that is seen is followed
 abbrev pub IsDone : Description → Search → Type 0

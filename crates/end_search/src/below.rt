@@ -1,8 +1,8 @@
 //! The interfaces of the ports below a gate.
 
-ghost use Rattle.std.specs.Prelude.{◌≡◌, ℕ, false, IfOk, OnOk};
+ghost use Rattle.std.specs.Prelude.{◌≡◌, ◌<◌, ℕ, length, get_or, IfOk, OnOk};
 ghost use Rattle.composition_tables.specs.declared.tree.PortEnd.{PortEnd};
-ghost use Rattle.end_search.specs.Below.{Stays, Goes, IsCovered, IsInnerCovered, IsFollowed, IsSearching, IsDone};
+ghost use Rattle.end_search.specs.Below.{Stays, IsCovered, IsInnerCovered, IsFollowed, IsDone};
 ghost use Rattle.composition_tables.specs.Ends.{ends};
 ghost use Rattle.end_search.specs.Gates.{gate_ends};
 ghost use Rattle.flat_descriptions.specs.Members.{Among};
@@ -15,21 +15,19 @@ use composition_tables::tree::Tree;
 use description_types::{Description, InnerPort, PrototypeType};
 use indexmap::IndexSet;
 use rte_text::Memory;
-use std::alloc::{AllocError, Global};
+use std::alloc::Global;
 
 /// What a search has come to. A port of a composition is seen once, in however many places the composition stands.
 #[derive(Drop)]
 pub struct Search {
-    /// The compositions and their ports that were seen.
+    /// The compositions and their ports that were seen, in the order in which their delegations are followed.
     seen: IndexSet<(u32, u32)>,
-    /// Those whose delegations are still to be followed.
-    waiting: Vec<(u32, u32)>,
     /// The interfaces of the ports of components.
     found: IndexSet<u32>,
 }
 
 fn note_interface(search: &mut Search, interface: u32) -> Result<(), Memory>
-    ensures goes { OnOk result (Goes search.old search.new) }
+    ensures stays { OnOk result (Stays search.old search.new) }
     ensures found { OnOk result (Among interface search.new.found.keys) }
 {
     search.found.insert(interface)?;
@@ -37,12 +35,10 @@ fn note_interface(search: &mut Search, interface: u32) -> Result<(), Memory>
 }
 
 fn note_port(search: &mut Search, composition: u32, port: u32) -> Result<(), Memory>
-    ensures goes { OnOk result (Goes search.old search.new) }
+    ensures stays { OnOk result (Stays search.old search.new) }
     ensures seen { OnOk result (Among (composition, port) search.new.seen.keys) }
 {
-    if search.seen.insert((composition, port))? {
-        search.waiting.push((composition, port))?;
-    }
+    search.seen.insert((composition, port))?;
     Ok(())
 }
 
@@ -53,7 +49,7 @@ fn cover(
     port: u32,
     search: &mut Search,
 ) -> Result<(), Memory>
-    ensures goes { OnOk result (Goes search.old search.new) }
+    ensures stays { OnOk result (Stays search.old search.new) }
     ensures covered { OnOk result (IsCovered d.now search.new of_type port) }
 {
     match of_type {
@@ -76,7 +72,7 @@ fn cover_inner(
     inner: InnerPort,
     search: &mut Search,
 ) -> Result<(), Memory>
-    ensures goes { OnOk result (Goes search.old search.new) }
+    ensures stays { OnOk result (Stays search.old search.new) }
     ensures covered { OnOk result (IsInnerCovered d.now search.new composition inner) }
 {
     match type_in(d, composition, inner.prototype) {
@@ -91,7 +87,7 @@ fn cover_inner(
 /// Follows the delegations of a port of a composition.
 fn follow_port(tree: &Tree, node: (u32, u32), search: &mut Search) -> Result<(), Memory>
     requires { IsTree tree.now }
-    ensures goes { OnOk result (Goes search.old search.new) }
+    ensures stays { OnOk result (Stays search.old search.new) }
     ensures followed { OnOk result (IsFollowed tree.now.d.now search.new node) }
 {
     for inner in inner_ports(tree, node.0, node.1) {
@@ -100,37 +96,27 @@ fn follow_port(tree: &Tree, node: (u32, u32), search: &mut Search) -> Result<(),
     Ok(())
 }
 
-/// Follows one of the ports that wait. The answer is whether one waited.
-fn follow_next(tree: &Tree, search: &mut Search) -> Result<bool, Memory>
-    requires is_tree { IsTree tree.now }
-    requires searching { IsSearching tree.now.d.now search.old }
-    ensures stays { OnOk result (Stays search.old search.new) }
-    ensures searching { OnOk result (IsSearching tree.now.d.now search.new) }
-    ensures done { IfOk result (λ is_more. is_more ≡ false → IsDone tree.now.d.now search.new) }
+/// The port that was seen at a position.
+fn seen_at(search: &Search, position: usize) -> (u32, u32)
+    requires { position < length search.now.seen.keys }
+    ensures { result ≡ get_or search.now.seen.keys position (0, 0) }
 {
-    match search.waiting.pop() {
-        Some(node) => {
-            follow_port(tree, node, search)?;
-            Ok(true)
-        }
-        None => Ok(false),
-    }
+    search.seen.as_slice()[position]
 }
 
-/// Follows all ports that wait. More steps than can be counted count as want of memory.
-#[tactic(auto, using(crate::proofs::Seeking::stays_on, crate::proofs::Seeking::stays_same))]
+/// Follows the delegations of all ports that are seen, one after the other, and of those that are seen on the way.
 fn follow_all(tree: &Tree, search: &mut Search) -> Result<(), Memory>
-    requires is_tree { IsTree tree.now }
-    requires searching { IsSearching tree.now.d.now search.old }
+    requires { IsTree tree.now }
     ensures stays { OnOk result (Stays search.old search.new) }
     ensures done { OnOk result (IsDone tree.now.d.now search.new) }
 {
-    for _ in 0..u64::MAX {
-        if !follow_next(tree, search)? {
-            return Ok(());
-        }
+    let mut position = 0;
+    while position < search.seen.len() {
+        let node = seen_at(search, position);
+        follow_port(tree, node, search)?;
+        position += 1;
     }
-    Err(AllocError)
+    Ok(())
 }
 
 fn begun(
@@ -139,12 +125,10 @@ fn begun(
     of_type: PrototypeType,
     port: u32,
 ) -> Result<Search, Memory>
-    ensures searching { IfOk result (IsSearching d.now) }
-    ensures covered { IfOk result (λ search. IsCovered d.now search of_type port) }
+    ensures { IfOk result (λ search. IsCovered d.now search of_type port) }
 {
     let mut search = Search {
         seen: IndexSet::new(alloc),
-        waiting: Vec::new(alloc),
         found: IndexSet::new(alloc),
     };
     cover(d, of_type, port, &mut search)?;
