@@ -1,12 +1,10 @@
 -- Equal gates are the same, and what is kept of them.
-use Rattle.std.proofs.Common.{◌≡◌, true, ℕ, ◌&&◌, refl, sym, true≢false, eqb, List, [], map, Bool, false, cond, ap, Option, Some, None, ◌∷◌, inl, inr, subst, ◌∙◌}
-use Rattle.std.proofs.lemmas.Bool.{eqb-true, eq-eqb, and_parts, and_from}
+use Rattle.std.proofs.Common.{◌≡◌, true, ℕ, refl, sym, List, [], map, Bool, false, cond, ap, Option, Some, None, ◌∷◌, inl, inr, subst, ◌∙◌}
 use Rattle.std.specs.HashMap.{HashMap, Updates, UpdatesBy, get}
 use Rattle.description_types.specs.declared.description.Description.{Description}
 use Rattle.interface_types.specs.declared.interface.InterfaceKind.{InterfaceKind}
 use Rattle.interface_types.specs.declared.interface.InterfaceKind.TheVariants.{SenderReceiver, ClientServer, ModeSwitch}
 use Rattle.end_search.specs.declared.gates.Gate.{Gate}
-use Rattle.end_search.specs.declared.gates.Gate.TheVariants.{Outer, Component, Composition}
 use Rattle.end_search.specs.declared.sides.Side.{Side}
 use Rattle.flat_descriptions.specs.Items.{element_names, operation_names, interface_at, ItemsJoin}
 use Rattle.end_search.specs.Near.{same_gate}
