@@ -1,5 +1,5 @@
 -- An entry that touches no object: an end, or an answer at a point that is not joined.
-use Rattle.std.proofs.Common.{◌≡◌, inl, inr, ℕ, zero, ℤ, Bool, true, false, ◌&&◌, ◌||◌, not, refl, sym, ◌∙◌, ap, subst, List, [], ◌∷◌, Option, Some, None}
+use Rattle.std.proofs.Common.{◌≡◌, ℕ, zero, ℤ, Bool, true, false, ◌&&◌, ◌||◌, not, refl, sym, ◌∙◌, ap, subst, List, [], ◌∷◌, Option, Some, None}
 use Rattle.std.specs.Prelude.{◌==◌, ◌+◌, length, nat_le, nat_lt, unwrap_or, option_map}
 use Rattle.std.specs.Option.{option_map_or}
 use Rattle.std.specs.List.{slice_get}
@@ -39,7 +39,7 @@ use Rattle.port_objects.specs.declared.object.Object.{Object}
 use Rattle.port_objects.specs.Freed.{is_free, IsFree}
 use Rattle.port_objects.specs.Objects.{kept_of}
 use Rattle.port_objects.specs.Standing.{Stands}
-use Rattle.trace_objects.specs.Standing.{IsTried, IsMadeAlone, ObjectsStand}
+use Rattle.trace_objects.specs.Standing.{IsTried, IsOther, ObjectsStand}
 use Rattle.trace_objects.proofs.Tried.{Facts, IsAsked, wished, plain, wish_runs}
 use Rattle.trace_objects.proofs.Parted.{parted}
 
@@ -76,15 +76,15 @@ outside p (to_take_result q) may_want none = refl
 outside p w may_want none = absurd (false≢true may_want)
 
 -- a machine has its object
-machine_has : (p : Plan) (n : ℕ) (w : Wanted) → wish_fits p (Machine n) w ≡ true → object_of p (Machine n) w ≡ None → ⊥
+pub machine_has : (p : Plan) (n : ℕ) (w : Wanted) → wish_fits p (Machine n) w ≡ true → object_of p (Machine n) w ≡ None → ⊥
 machine_has p n to_move_on may_want none = absurd (cc none)
 machine_has p n w may_want none = false≢true (and_parts (nat_lt n (length p.machines)) false may_want).1
 
 -- a start touches no object only where its event returns at a point without a server
-record IsUnjoined (p : Plan) (e : ℕ) : Type 0 where
-  point : ℕ
-  kind : kind_of p e ≡ Returns point
-  unjoined : server_of p point ≡ None
+pub record IsUnjoined (p : Plan) (e : ℕ) : Type 0 where
+  pub point : ℕ
+  pub kind : kind_of p e ≡ Returns point
+  pub unjoined : server_of p point ≡ None
 
 no_server : (p : Plan) (o : Option ℕ) → server_object p o ≡ None → o ≡ None
 no_server p None is = refl
@@ -96,7 +96,7 @@ module _ (p : Plan) (m : Mapping) (sound : IsSound p m) where
       let whole = at_place (event_sound p) p.events e v (and_parts (every_from 0 (event_sound p) p.events) (nat_le (length p.events) 16384) sound.events).0 there in
       (and_parts (kind_sound p e v.runnable (instance_of p v.runnable) v.kind) _ (and_parts (nat_lt v.runnable (length p.runnables)) _ whole).1).0
 
-  returned_alone : (e : ℕ) → object_of_kind p (kind_of p e) ≡ None → IsUnjoined p e
+  pub returned_alone : (e : ℕ) → object_of_kind p (kind_of p e) ≡ None → IsUnjoined p e
   returned_alone e none = by_event (slice_get p.events e) refl
     where
       by_kind : (v : EventPlan) (k : EventKind) → kind_of p e ≡ k → object_of_kind p k ≡ None → kind_sound p e v.runnable (instance_of p v.runnable) k ≡ true → IsUnjoined p e
@@ -168,7 +168,7 @@ module _ (p : Plan) (m : Mapping) (h : History) (e : Entry) (event : Option ℕ)
     stand_then objects stand i o is = subst (Stands p i (kept_of o)) (sym (parted p h e i false (ap (λ v. same_number v (Some i)) (f.touch ∙ none)))) (stand i o is)
 
     -- what is not answered at once never comes
-    unfree : is_free w ≡ false → IsAsked p h event e.actor e.deed → Answers p (noted h) (note h e) → ⊥
+    pub unfree : is_free w ≡ false → IsAsked p h event e.actor e.deed → Answers p (noted h) (note h e) → ⊥
     unfree bound (wished k who next free needs) answers =
         let g = laws.goes k (wish_runs p k h w next) in
         let same : g.wish ≡ w = same_Some _ _ (sym g.next ∙ next) in
@@ -194,7 +194,7 @@ module _ (p : Plan) (m : Mapping) (h : History) (e : Entry) (event : Option ℕ)
             let due : is_due p e.actor s.event (noted h) ≡ true = (subst (λ d. Answers p (noted h) (record { entry = record { actor = e.actor; deed = d }; event = (note h e).event })) s.is answers).due in
             false≢true (sym (laws.unjoined e.actor s.event u.point u.kind u.unjoined) ∙ due)
 
-    pub unanswered : IsAsked p h event e.actor e.deed → IsMadeAlone w e false → Answers p (noted h) (note h e) → ⊥
-    unanswered asked (inl bound) answers = unfree bound asked answers
-    unanswered asked (inr other) answers =
+    -- another deed is answered
+    pub others : IsOther w e → Answers p (noted h) (note h e) → ⊥
+    others other answers =
         other.other (sym (laws.only e.actor w other.deed (noted h) (note h e) f.fit none other.answer other.free refl (ap (λ o. wanted_by (unwrap_or o 0) e.deed) (sym tried.by)) answers))

@@ -2,4 +2,11 @@ mod Tried
 mod Parted
 mod Alone
 mod Compared
+mod Reached
+mod Spoken
+mod Started
+mod Broken
 mod TriedEntries
+mod Stuck
+mod Mapped
+mod Pausing

@@ -26,7 +26,7 @@ use Rattle.trace_objects.specs.Standing.{IsTried}
 
 -- ---- deeds and wishes
 
-free_same : (d : Deed) (by other : ℕ) → needs_event d ≡ false → wanted_by by d ≡ wanted_by other d
+pub free_same : (d : Deed) (by other : ℕ) → needs_event d ≡ false → wanted_by by d ≡ wanted_by other d
 free_same (deed.Admit admitted) by other free = absurd (false≢true (sym free))
 free_same deed.End by other free = absurd (false≢true (sym free))
 free_same d by other free = refl

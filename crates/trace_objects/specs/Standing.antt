@@ -1,16 +1,16 @@
 -- Objects that stand for a history, and an entry of a trace that is tried on them. Histories stand the newest first.
-use Rattle.std.specs.Prelude.{◌≡◌, ℕ, List, ◌∷◌, Bool, true, false, ◌⊎◌, Option, Some, slice_get}
+use Rattle.std.specs.Prelude.{◌≡◌, ℕ, List, ◌∷◌, true, false, Option, Some, slice_get}
 use Rattle.bus_semantics.specs.declared.entries.Deed.{Deed}
 use Rattle.bus_semantics.specs.declared.entries.Entry.{Entry}
 use Rattle.bus_semantics.specs.declared.script.Mapping.{Mapping}
 use Rattle.bus_semantics.specs.Plan.{Plan}
 use Rattle.bus_semantics.specs.Wanted.{Wanted}
-use Rattle.bus_semantics.specs.History.{History, Noted, Past, note, noted}
+use Rattle.bus_semantics.specs.History.{History, Noted, Past, note}
 use Rattle.bus_semantics.specs.Objects.{entries_of}
 use Rattle.bus_semantics.specs.Fitting.{fits}
 use Rattle.bus_semantics.specs.Actor.{follows_program}
-use Rattle.bus_semantics.specs.Legal.{Answers, IsLegal}
-use Rattle.bus_semantics.specs.Asked.{MayCome}
+use Rattle.bus_semantics.specs.Legal.{IsLegal, broken_clause}
+use Rattle.bus_semantics.specs.Asked.{noted_for, MayCome, NoneMayCome}
 use Rattle.bus_semantics.specs.Sound.{IsSound}
 use Rattle.port_objects.specs.declared.object.Object.{Object}
 use Rattle.port_objects.specs.Kept.{Kept}
@@ -18,6 +18,9 @@ use Rattle.port_objects.specs.Coming.{IsTheOne}
 use Rattle.port_objects.specs.Freed.{is_free, IsFree}
 use Rattle.port_objects.specs.Objects.{kept_of}
 use Rattle.port_objects.specs.Standing.{Stands}
+use Rattle.trace_objects.specs.declared.came.Came.{Came}
+use Rattle.trace_objects.specs.declared.came.Came.TheVariants.{Itself, Another, Nothing}
+use Rattle.trace_objects.specs.Clauses.{broken_by}
 
 -- each object stands for its entries of the history
 abbrev pub ObjectsStand : Plan → History → List Object → Type 0
@@ -39,17 +42,29 @@ pub record CanTry (p : Plan) (objects : List Object) (e : Entry) (event : Option
   pub tried : IsTried p mapping history e event
   pub stand : ObjectsStand p history objects
 
--- whether it is what the bus answers; if so, the objects stand for the history and it
-abbrev pub Tries : Plan → History → (objects : List Object) → Entry → Bool → Type 0
-Tries p h objects e true = Answers p (noted h) (note h e) × ObjectsStand p (e ∷ h) objects
-Tries p h objects e false = Answers p (noted h) (note h e) → ⊥
+-- the clause that it breaks goes by what may come of its wish; if it comes itself, the objects stand for the history and it
+pub record Tries (p : Plan) (h : History) (objects : List Object) (e : Entry) (came : Came) : Type 0 where
+  pub broken : broken_clause p h e ≡ broken_by e came
+  pub made : came ≡ Itself → ObjectsStand p (e ∷ h) objects
 
 -- ---- on its object, and without one
 
--- whether it is the one entry of the wish that may come after these
-abbrev pub IsMadeOn : Plan → Wanted → (after : Kept) → Past → Entry → Bool → Type 0
-IsMadeOn p w after l e true = IsTheOne p e.actor w after l e
-IsMadeOn p w after l e false = (n : Noted) → MayCome p e.actor w l n → n.entry ≡ e → ⊥
+abbrev pub IsCompared : (made : Entry) → Entry → Came → Type 0
+IsCompared made e Itself = made ≡ e
+IsCompared made e Another = made ≡ e → ⊥
+IsCompared made e Nothing = ⊥
+
+-- another entry of the wish may come after these, and so it may not
+pub record IsAnother (p : Plan) (w : Wanted) (l : Past) (e : Entry) : Type 0 where
+  pub entry : Entry
+  pub comes : MayCome p e.actor w l (noted_for w entry)
+  pub other : (n : Noted) → MayCome p e.actor w l n → n.entry ≡ e → ⊥
+
+-- the one entry of the wish that may come after these
+abbrev pub IsMadeOn : Plan → Wanted → (after : Kept) → Past → Entry → Came → Type 0
+IsMadeOn p w after l e Itself = IsTheOne p e.actor w after l e
+IsMadeOn p w after l e Another = IsAnother p w l e
+IsMadeOn p w after l e Nothing = NoneMayCome p e.actor w l
 
 -- another deed is what is answered to the wish
 pub record IsOther (w : Wanted) (e : Entry) : Type 0 where
@@ -58,7 +73,8 @@ pub record IsOther (w : Wanted) (e : Entry) : Type 0 where
   pub answer : IsFree w deed
   pub other : record { actor = e.actor; deed = deed } ≡ e → ⊥
 
--- whether it is what is answered to a wish that touches no object
-abbrev pub IsMadeAlone : Wanted → Entry → Bool → Type 0
-IsMadeAlone w e true = (is_free w ≡ true) × IsFree w e.deed
-IsMadeAlone w e false = (is_free w ≡ false) ⊎ IsOther w e
+-- what is answered to a wish that touches no object
+abbrev pub IsMadeAlone : Wanted → Entry → Came → Type 0
+IsMadeAlone w e Itself = (is_free w ≡ true) × IsFree w e.deed
+IsMadeAlone w e Another = IsOther w e
+IsMadeAlone w e Nothing = is_free w ≡ false

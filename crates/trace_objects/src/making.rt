@@ -1,6 +1,6 @@
 //! An entry of a trace, made on its object.
 
-ghost use Rattle.std.specs.Prelude.{◌≡◌, true, Some};
+ghost use Rattle.std.specs.Prelude.{◌≡◌, ◌∷◌, true, None, Some};
 ghost use Rattle.bus_semantics.specs.declared.script.Mapping.{Mapping};
 ghost use Rattle.bus_semantics.specs.Plan.{plan_of};
 ghost use Rattle.bus_semantics.specs.SoundPlan.{groups_fit};
@@ -8,25 +8,29 @@ ghost use Rattle.bus_semantics.specs.Wanted.{wanted_of};
 ghost use Rattle.bus_semantics.specs.History.{History, Past};
 ghost use Rattle.bus_semantics.specs.Fitting.{wish_fits};
 ghost use Rattle.bus_semantics.specs.Objects.{object_of, touched};
+ghost use Rattle.bus_semantics.specs.Legal.{broken_clause};
 ghost use Rattle.bus_semantics.specs.Asked.{asks_its_own};
 ghost use Rattle.port_objects.specs.Coming.{MayAsk};
 ghost use Rattle.port_objects.specs.Objects.{ArePlans, IsOfPlan, kept_of};
-ghost use Rattle.trace_objects.specs.Standing.{CanTry, IsMadeAlone, IsMadeOn, IsTried, ObjectsStand, Tries};
+ghost use Rattle.trace_objects.specs.Standing.{CanTry, IsCompared, IsMadeAlone, IsMadeOn, IsTried, ObjectsStand, Tries};
 
+use crate::came::Came;
+use crate::clauses::broken_by;
 use activation_laws::what_touches_nothing;
+use bus_laws::answers_look_at_one_object;
 use bus_semantics::{BusPlan, Entry, Wish, wish_of};
 use history_laws::{
-    hearers_have_asked, legal_histories_part_into_objects, running_activations_go_on,
-    unjoined_points_return_nothing, what_comes_may_follow,
+    calls_come, hearers_have_asked, legal_histories_part_into_objects, running_activations_go_on,
+    unjoined_points_return_nothing, what_comes_may_follow, wishes_match,
 };
 use port_objects::{
     Acted, Object, act, free_deed, free_deeds_are_legal, object_of, sound_plans_have_objects,
 };
 use same_entries::same_entry;
 
-/// Makes the entry on the object of its wish, and answers whether it was the one that may come. If not, what the object keeps then is
-/// of no use.
-fn make_on(p: &BusPlan, object: &mut Object, entry: &Entry, wish: &Wish) -> bool
+/// Makes the entry on the object of its wish, and answers what may come of that wish. If not the entry itself, what the object
+/// keeps then is of no use.
+fn make_on(p: &BusPlan, object: &mut Object, entry: &Entry, wish: &Wish) -> Came
     requires groups { groups_fit (plan_of p.now) ≡ true }
     requires touching { object_of (plan_of p.now) entry.now.actor (wanted_of wish.now) ≡ Some (touched (plan_of p.now) entry.now.actor (wanted_of wish.now)) }
     requires fits { wish_fits (plan_of p.now) entry.now.actor (wanted_of wish.now) ≡ true }
@@ -37,35 +41,44 @@ fn make_on(p: &BusPlan, object: &mut Object, entry: &Entry, wish: &Wish) -> bool
         IsMadeOn (plan_of p.now) (wanted_of wish.now) (kept_of object.new) l entry.now result }
 {
     match act(p, object, &entry.actor, wish) {
-        Acted::Done(made) => same_entry(&made, entry),
-        Acted::NotYet(_) => false,
+        Acted::Done(made) => compare(&made, entry),
+        Acted::NotYet(_) => Came::Nothing,
     }
 }
 
-/// Whether the entry is what is answered to a wish that touches no object.
-fn is_made_alone(entry: &Entry, wish: &Wish) -> bool
+/// What may come of a wish of which this is made.
+fn compare(made: &Entry, entry: &Entry) -> Came
+    ensures { IsCompared made.now entry.now result }
+{
+    if same_entry(made, entry) {
+        Came::Itself
+    } else {
+        Came::Another
+    }
+}
+
+/// What is answered to a wish that touches no object.
+fn make_alone(entry: &Entry, wish: &Wish) -> Came
     ensures { IsMadeAlone (wanted_of wish.now) entry.now result }
 {
     match free_deed(wish) {
-        Some(deed) => same_entry(
+        Some(deed) => compare(
             &Entry {
                 actor: entry.actor,
                 deed,
             },
             entry,
         ),
-        None => false,
+        None => Came::Nothing,
     }
 }
 
-/// Makes an entry on the object that it touches, if it touches one, and answers whether it is what the bus answers after the entries
-/// for which the objects stand. Then they stand for these and it; if not, what they keep then is of no use. The entry fits, and its
-/// actor's program asks for it; `event` is the one that started the activation, for an admission and an end. It takes no memory.
-pub fn make(p: &BusPlan, objects: &mut Vec<Object>, entry: &Entry, event: Option<u32>) -> bool
+/// Makes an entry on the object that it touches, if it touches one, and answers what may come of its wish.
+fn try_entry(p: &BusPlan, objects: &mut Vec<Object>, entry: &Entry, event: Option<u32>) -> Came
     requires planned { ArePlans (plan_of p.now) objects.old.items }
     requires tried { CanTry (plan_of p.now) objects.old.items entry.now event }
     ensures planned { ArePlans (plan_of p.now) objects.new.items }
-    ensures made { (m : Mapping) (h : History) → IsTried (plan_of p.now) m h entry.now event → ObjectsStand (plan_of p.now) h objects.old.items →
+    ensures tried { (m : Mapping) (h : History) → IsTried (plan_of p.now) m h entry.now event → ObjectsStand (plan_of p.now) h objects.old.items →
         Tries (plan_of p.now) h objects.new.items entry.now result }
 {
     sound_plans_have_objects();
@@ -76,9 +89,28 @@ pub fn make(p: &BusPlan, objects: &mut Vec<Object>, entry: &Entry, event: Option
     unjoined_points_return_nothing();
     hearers_have_asked();
     what_touches_nothing();
+    calls_come();
+    wishes_match();
+    answers_look_at_one_object();
     let wish = wish_of(entry, event);
     match object_of(p, &entry.actor, &wish) {
         Some(object) => make_on(p, &mut objects[object as usize], entry, &wish),
-        None => is_made_alone(entry, &wish),
+        None => make_alone(entry, &wish),
     }
+}
+
+/// Makes an entry on the object that it touches, if it touches one, and answers the clause that it breaks, by the number that `check`
+/// prints. None: it is what the bus answers after the entries for which the objects stand, and then they stand for these and it. If it
+/// breaks one, what the objects keep then is of no use. The entry fits, and its actor's program asks for it; `event` is the one that
+/// started the activation, for an admission and an end. It takes no memory.
+pub fn make(p: &BusPlan, objects: &mut Vec<Object>, entry: &Entry, event: Option<u32>) -> Option<u8>
+    requires planned { ArePlans (plan_of p.now) objects.old.items }
+    requires tried { CanTry (plan_of p.now) objects.old.items entry.now event }
+    ensures planned { ArePlans (plan_of p.now) objects.new.items }
+    ensures broken { (m : Mapping) (h : History) → IsTried (plan_of p.now) m h entry.now event → ObjectsStand (plan_of p.now) h objects.old.items →
+        result ≡ broken_clause (plan_of p.now) h entry.now }
+    ensures made { (m : Mapping) (h : History) → IsTried (plan_of p.now) m h entry.now event → ObjectsStand (plan_of p.now) h objects.old.items →
+        result ≡ None → ObjectsStand (plan_of p.now) (entry.now ∷ h) objects.new.items }
+{
+    broken_by(entry, try_entry(p, objects, entry, event))
 }

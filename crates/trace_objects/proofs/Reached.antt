@@ -1,0 +1,55 @@
+-- The object that a wish touches, among the objects of a plan.
+use Rattle.std.proofs.Common.{◌≡◌, ℕ, suc, ◌<◌, ◌+◌, true, sym, ◌∙◌, ap, subst, arith, List, length, set, get_or, Some}
+use Rattle.std.specs.Prelude.{◌==◌, IfSome, unwrap_or}
+use Rattle.std.specs.Cmp.{unsigned_Decides}
+use Rattle.std.specs.List.{slice_get}
+use Rattle.std.proofs.lemmas.Bool.{and_parts}
+use Rattle.std.proofs.lemmas.Option.{slice_get-get_or}
+use Rattle.bus_semantics.specs.declared.entries.Actor.{Actor}
+use Rattle.bus_semantics.specs.declared.script.Mapping.{Mapping}
+use Rattle.bus_semantics.specs.Plan.{Plan}
+use Rattle.bus_semantics.specs.Wanted.{Wanted}
+use Rattle.bus_semantics.specs.History.{History}
+use Rattle.bus_semantics.specs.Objects.{clock, object_of, touched, entries_of, IsObject}
+use Rattle.bus_semantics.specs.Fitting.{wish_fits}
+use Rattle.bus_semantics.specs.Asked.{asks_its_own}
+use Rattle.bus_semantics.specs.Sound.{IsSound}
+use Rattle.port_objects.specs.declared.object.Object.{Object}
+use Rattle.port_objects.specs.Coming.{MayAsk}
+use Rattle.port_objects.specs.Objects.{kept_of, IsOfPlan, ArePlans}
+use Rattle.port_objects.specs.Plans.{HasObjects}
+use Rattle.port_objects.specs.Standing.{Stands}
+use Rattle.trace_objects.specs.Standing.{ObjectsStand}
+use Rattle.trace_objects.proofs.Parted.{plans_then}
+
+module _ (p : Plan) (a : Actor) (w : Wanted) (objects : List Object) (object : ℕ) (touching : Some object ≡ object_of p a w) (plans : ArePlans p objects) where
+  pub there : HasObjects p → IfSome (object_of p a w) (IsObject p) → object < length objects
+  there has known =
+      let below : object < p.objects = subst (λ o. IfSome o (IsObject p)) (sym touching) known in
+      let counted : p.objects ≡ clock p + 1 = (unsigned_Decides p.objects (clock p + 1)).0 (and_parts (p.objects == clock p + 1) _ has.counted).0 in
+      let count : length objects ≡ suc (clock p) = plans.count in
+      omega arith
+
+  pub at : touched p a w ≡ object
+  at = ap (λ o. unwrap_or o 0) (sym touching)
+
+  pub touches_one : object_of p a w ≡ Some (touched p a w)
+  touches_one = sym touching ∙ ap (λ n. Some n) (sym at)
+
+  pub found : (old : Object) → object < length objects → old ≡ get_or objects object old → slice_get objects object ≡ Some old
+  found old within value = slice_get-get_or objects object old within ∙ ap (λ y. Some y) (sym value)
+
+  module _ (old : Object) (is : slice_get objects object ≡ Some old) where
+    pub planned : IsOfPlan p (touched p a w) old
+    planned = subst (λ n. IsOfPlan p n old) (sym at) (plans.each object old is)
+
+    pub may_ask : (m : Mapping) (h : History) → IsSound p m → wish_fits p a w ≡ true → asks_its_own p a w ≡ true → ObjectsStand p h objects → MayAsk p m a w (kept_of old) (entries_of p h object)
+    may_ask m h sound fits own stand = record {
+      sound = sound;
+      fits = fits;
+      own = own;
+      stands = subst (λ n. Stands p n (kept_of old) (entries_of p h object)) (sym at) (stand object old is);
+    }
+
+  pub plans_after : (new : Object) → IsOfPlan p (touched p a w) new → ArePlans p (set objects object new)
+  plans_after new is = plans_then p objects object new plans (subst (λ n. IsOfPlan p n new) at is)

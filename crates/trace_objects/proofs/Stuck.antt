@@ -1,0 +1,40 @@
+-- Lists of tries of which none may follow.
+use Rattle.std.proofs.Common.{◌≡◌, ℕ, zero, suc, ◌+◌, ◌<◌, ◌==◌, Bool, true, false, refl, sym, ◌∙◌, subst, arith, List, [], ◌∷◌, ◌++◌, map, Some}
+use Rattle.std.proofs.lemmas.Bool.{eq-eqb, eqb-true, false≢true}
+use Rattle.std.proofs.lemmas.Option.{same_Some}
+use Rattle.std.specs.List.{slice_get}
+use Rattle.bus_semantics.specs.Plan.{Plan, positions}
+use Rattle.bus_semantics.specs.History.{History}
+use Rattle.bus_semantics.specs.Rest.{Try, gathered, IsStuck, AllStuck}
+
+module _ (p : Plan) (h : History) where
+  pub both : (ts us : List Try) → AllStuck p h ts → AllStuck p h us → AllStuck p h (ts ++ us)
+  both [] us first last = last
+  both (t ∷ ts) us first last = (first.0, both ts us first.1 last)
+
+  pub each : {X : Type 0} (f : X → List Try) (xs : List X) → ((i : ℕ) (x : X) → slice_get xs i ≡ Some x → AllStuck p h (f x)) → AllStuck p h (gathered f xs)
+  each f [] stuck = tt
+  each f (x ∷ xs) stuck = both (f x) (gathered f xs) (stuck 0 x refl) (each f xs (λ i y found. stuck (suc i) y found))
+
+  -- one more
+  and_one : (f : ℕ → Try) (xs : List ℕ) (n : ℕ) → AllStuck p h (map f xs) → IsStuck p h (f n) → AllStuck p h (map f (xs ++ n ∷ []))
+  and_one f [] n all last = (last, tt)
+  and_one f (x ∷ xs) n all last = (all.0, and_one f xs n all.1 last)
+
+  pub below : (f : ℕ → Try) (n : ℕ) → ((i : ℕ) → i < n → IsStuck p h (f i)) → AllStuck p h (map f (positions n))
+  below f zero stuck = tt
+  below f (suc n) stuck = and_one f (positions n) n (below f n (λ i less. stuck i (omega (arith, less)))) (stuck n (omega arith))
+
+-- ---- what holds of the numbers and the items before a place, and there
+
+pub upto : (P : ℕ → Type 0) (k : ℕ) → ((n : ℕ) → n < k → P n) → P k → (n : ℕ) → n < k + 1 → P n
+upto P k before here n less = of_test (n == k) refl
+  where
+    of_test : (b : Bool) → (n == k) ≡ b → P n
+    of_test true is = subst P (sym (eqb-true n k is)) here
+    of_test false is = let other : n ≡ k → ⊥ = λ same. false≢true (sym is ∙ eq-eqb n k same) in before n (omega (arith, other, less))
+
+pub upto_item : {X : Type 0} (P : X → Type 0) (xs : List X) (k : ℕ) (x : X) → slice_get xs k ≡ Some x → ((i : ℕ) (y : X) → i < k → slice_get xs i ≡ Some y → P y) → P x
+    → (i : ℕ) (y : X) → i < k + 1 → slice_get xs i ≡ Some y → P y
+upto_item P xs k x found before here i y less at =
+    upto (λ n. (z : _) → slice_get xs n ≡ Some z → P z) k (λ n small z is. before n z small is) (λ z is. subst P (same_Some x z (sym found ∙ is)) here) i less y at

@@ -1,0 +1,28 @@
+use Rattle.std.proofs.Common.{◌≡◌, sym, Some}
+use Rattle.bus_semantics.specs.Plan.{plan_of, runnable_of_event}
+use Rattle.bus_laws.proofs.Thinning.{option_test}
+use Rattle.bus_semantics.specs.Rest.{plain_key}
+use Rattle.trace_objects.proofs.Pausing.{key_of, start_fits, start_begins, started}
+use Rattle.trace_objects.proofs.resting.start_comes.Goals as goal
+
+pub comes-requires-clause-fits : goal.comes-requires-clause-fits
+comes-requires-clause-fits c =
+    let p = plan_of c.args.p.now in
+    let r = c.in-Some.runnable in
+    let own : runnable_of_event p c.args.event ≡ Some r = sym c.in-Some.ensures in
+    start_fits p c.args.event (plain_key r) (key_of p c.args.event r c.requires.plain own) own
+
+pub comes-requires-clause-own : goal.comes-requires-clause-own
+comes-requires-clause-own c =
+    let p = plan_of c.args.p.now in
+    let r = c.in-Some.runnable in
+    let own : runnable_of_event p c.args.event ≡ Some r = sym c.in-Some.ensures in
+    option_test (runnable_of_event p c.args.event) (Some r) own
+
+pub returns-clause-starts : goal.returns-clause-starts
+returns-clause-starts c = λ m h paused.
+    let p = plan_of c.args.p.now in
+    let r = c.in-Some.runnable in
+    let own : runnable_of_event p c.args.event ≡ Some r = sym c.in-Some.ensures in
+    started p h c.args.event r own c.comes.result
+    (c.comes.ensures.comes m h paused.sound paused.legal paused.stand (start_begins p m h c.args.objects.now.items paused (λ k running. c.running_activations_go_on.ensures p m h k paused.sound paused.legal running) c.args.event r own))
