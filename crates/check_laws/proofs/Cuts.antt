@@ -14,7 +14,7 @@ use Rattle.trace_reading.specs.Reads.{ItemsHaveOneLine, LinesHaveOneReading}
 
 -- ---- lines
 
-abbrev unbroken : Letters → Bool
+abbrev pub unbroken : Letters → Bool
 unbroken t = list_all (λ c. not (c == 10)) t
 
 heads : (x y : ℕ) (xs ys : Letters) → x ∷ xs ≡ y ∷ ys → x ≡ y
@@ -26,7 +26,7 @@ tails x y xs ys e = cc
 no_newline : (c : ℕ) (t : Letters) → unbroken (c ∷ t) ≡ true → c ≡ 10 → ⊥
 no_newline c t h e = false≢true (subst (λ n. not (n == 10) ≡ true) e (and_parts (not (c == 10)) (unbroken t) h).0)
 
-cut : (t u a b : Letters) → unbroken t ≡ true → unbroken u ≡ true → t ++ (10 ∷ a) ≡ u ++ (10 ∷ b) → (t ≡ u) × (a ≡ b)
+pub cut : (t u a b : Letters) → unbroken t ≡ true → unbroken u ≡ true → t ++ (10 ∷ a) ≡ u ++ (10 ∷ b) → (t ≡ u) × (a ≡ b)
 cut [] [] a b h k e = (refl, tails 10 10 a b e)
 cut [] (c ∷ u) a b h k e = absurd (no_newline c u k (sym (heads 10 c a (u ++ (10 ∷ b)) e)))
 cut (c ∷ t) [] a b h k e = absurd (no_newline c t h (heads c 10 (t ++ (10 ∷ a)) b e))

@@ -1,4 +1,4 @@
-mod Clauses
+pub mod Clauses
 mod Accepted
-mod Cuts
+pub mod Cuts
 mod Reached

@@ -1,1 +1,7 @@
 mod FirstNewlines
+mod Taking
+mod Making
+mod LineCuts
+mod Judging
+mod Reaching
+mod Verdicts

@@ -1,6 +1,12 @@
-//! The check of a given trace. So far: its lines, and its header.
+//! The check of a given trace against a bus and a script.
 #![tactic(auto)]
 
+mod bus_state;
+mod check;
 mod lines;
+mod rules;
+mod script;
+mod trace;
 
-pub use lines::{first_line, version_of};
+pub use check_definitions::Checked;
+pub use trace::check_trace;

@@ -1,0 +1,54 @@
+-- A bus along a trace, and the history for which what is kept of it stands. Histories stand the newest first.
+use Rattle.std.specs.Prelude.{◌≡◌, ℕ, ◌∷◌, Bool, true, false, Option, None}
+use Rattle.bus_semantics.specs.declared.script.Mapping.{Mapping}
+use Rattle.bus_semantics.specs.declared.entries.Entry.{Entry}
+use Rattle.bus_semantics.specs.Plan.{Plan, plan_of}
+use Rattle.bus_semantics.specs.History.{History}
+use Rattle.bus_semantics.specs.Actor.{follows_program}
+use Rattle.bus_semantics.specs.Legal.{IsLegal, broken_clause}
+use Rattle.bus_semantics.specs.Rest.{IsIdle}
+use Rattle.bus_semantics.specs.Sound.{IsSound}
+use Rattle.port_objects.specs.Objects.{ArePlans}
+use Rattle.program_steps.specs.Wants.{planned}
+use Rattle.trace_objects.specs.Standing.{ObjectsStand}
+use Rattle.trace_walks.specs.Standing.{WalksStand}
+use Rattle.trace_check.specs.declared.rules.Rules.{Rules}
+use Rattle.trace_check.specs.declared.bus_state.BusState.{BusState}
+
+-- the plan of the bus
+abbrev pub plan_in : Rules → Plan
+plan_in r = plan_of r.plan.now
+
+-- the bus is sound, and the programs are its own
+pub record AreSound (r : Rules) : Type 0 where
+  pub sound : IsSound (plan_in r) r.mapping.now
+  pub programs : planned r.programs.now ≡ plan_in r
+
+-- the objects are the plan's, and stand for the history with the activations
+pub record StateStands (p : Plan) (h : History) (b : BusState) : Type 0 where
+  pub planned : ArePlans p b.objects.items
+  pub objects : ObjectsStand p h b.objects.items
+  pub walks : WalksStand p h b.walks
+
+-- for some legal history
+pub record IsAlong (p : Plan) (b : BusState) : Type 0 where
+  pub history : History
+  pub legal : IsLegal p history
+  pub stands : StateStands p history b
+
+-- for some legal history, after which the program of the entry's actor asks for the entry
+pub record IsAsked (p : Plan) (b : BusState) (e : Entry) : Type 0 where
+  pub history : History
+  pub legal : IsLegal p history
+  pub stands : StateStands p history b
+  pub program : follows_program p history e.actor e.deed ≡ true
+
+-- the least clause that the entry breaks; if none, the state stands for the history and the entry
+pub record Makes (p : Plan) (h : History) (e : Entry) (new : BusState) (broken : Option ℕ) : Type 0 where
+  pub clause : broken ≡ broken_clause p h e
+  pub stands : broken ≡ None → StateStands p (e ∷ h) new
+
+-- true: the word `idle` holds, and the state stands as before. False: it does not hold
+abbrev pub Idles : Plan → Mapping → History → (new : BusState) → Bool → Type 0
+Idles p m h new true = IsIdle p m h × StateStands p h new
+Idles p m h new false = IsIdle p m h → ⊥

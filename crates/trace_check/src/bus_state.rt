@@ -1,0 +1,94 @@
+//! A bus along a trace.
+
+ghost use Rattle.std.specs.Prelude.{IfOk, [], ◌≡◌, true};
+ghost use Rattle.bus_semantics.specs.Actor.{follows_program};
+ghost use Rattle.bus_semantics.specs.Fitting.{fits};
+ghost use Rattle.bus_semantics.specs.History.{History};
+ghost use Rattle.bus_semantics.specs.Legal.{IsLegal};
+ghost use Rattle.trace_check.specs.Along.{AreSound, Idles, IsAlong, IsAsked, Makes, StateStands, plan_in};
+
+use crate::rules::Rules;
+use bus_semantics::Entry;
+use port_objects::{Object, make_objects, sound_plans_have_objects};
+use rte_text::Memory;
+use std::alloc::Global;
+use trace_objects::{make, may_rest};
+use trace_walks::Walks;
+
+/// What is kept of a bus along a trace: its objects, and its activations.
+#[derive(Drop)]
+pub(crate) struct BusState<'a, 'p> {
+    objects: Vec<Object>,
+    walks: Walks<'a, 'p>,
+}
+
+impl<'a, 'p> BusState<'a, 'p> {
+    /// The bus before a trace. An error says that there was no memory.
+    pub(crate) fn new(alloc: Global, rules: &Rules<'a, 'p>) -> Result<BusState<'a, 'p>, Memory>
+        requires sound { AreSound rules.now }
+        ensures { IfOk result (λ state. StateStands (plan_in rules.now) [] state) }
+    {
+        sound_plans_have_objects();
+        let objects = make_objects(alloc, rules.plan)?;
+        let walks = Walks::new(alloc, rules.plan)?;
+        Ok(BusState { objects, walks })
+    }
+
+    /// Makes the entry, if it may follow the history for which the state stands; if not, the answer is the number of the least clause that
+    /// it breaks, and the state is of no use then. The entry fits. An error says that there was no memory.
+    pub(crate) fn make(
+        &mut self,
+        alloc: Global,
+        rules: &Rules<'a, 'p>,
+        entry: &Entry,
+    ) -> Result<Option<u8>, Memory>
+        requires sound { AreSound rules.now }
+        requires along { IsAlong (plan_in rules.now) self.old }
+        requires fits { fits (plan_in rules.now) entry.now ≡ true }
+        ensures { IfOk result (λ broken. (h : History) → IsLegal (plan_in rules.now) h → StateStands (plan_in rules.now) h self.old →
+            Makes (plan_in rules.now) h entry.now self.new broken) }
+    {
+        if !self.walks.follows(rules.plan, entry) {
+            return Ok(Some(6));
+        }
+        self.answer(alloc, rules, entry)
+    }
+
+    /// Makes an entry for which its actor's program asks.
+    fn answer(
+        &mut self,
+        alloc: Global,
+        rules: &Rules<'a, 'p>,
+        entry: &Entry,
+    ) -> Result<Option<u8>, Memory>
+        requires sound { AreSound rules.now }
+        requires asked { IsAsked (plan_in rules.now) self.old entry.now }
+        requires fits { fits (plan_in rules.now) entry.now ≡ true }
+        ensures { IfOk result (λ broken. (h : History) → IsLegal (plan_in rules.now) h → StateStands (plan_in rules.now) h self.old →
+            follows_program (plan_in rules.now) h entry.now.actor entry.now.deed ≡ true →
+            Makes (plan_in rules.now) h entry.now self.new broken) }
+    {
+        let event = self.walks.event_for(rules.plan, entry);
+        match make(rules.plan, &mut self.objects, entry, event) {
+            Some(clause) => Ok(Some(clause)),
+            None => {
+                self.walks.note(alloc, rules.programs, rules.plan, entry)?;
+                Ok(None)
+            }
+        }
+    }
+
+    /// Whether the word `idle` holds after the history for which the state stands: no activation runs, and the bus is at rest. If not, the
+    /// state is of no use then.
+    pub(crate) fn is_idle(&mut self, rules: &Rules<'a, 'p>) -> bool
+        requires sound { AreSound rules.now }
+        requires along { IsAlong (plan_in rules.now) self.old }
+        ensures { (h : History) → IsLegal (plan_in rules.now) h → StateStands (plan_in rules.now) h self.old →
+            Idles (plan_in rules.now) rules.now.mapping.now h self.new result }
+    {
+        if !self.walks.none_runs() {
+            return false;
+        }
+        may_rest(rules.plan, rules.mapping, &mut self.objects)
+    }
+}

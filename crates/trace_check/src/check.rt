@@ -1,0 +1,170 @@
+//! The check of a trace, item by item.
+
+ghost use Rattle.std.specs.Prelude.{◌≡◌, ◌==◌, ◌&&◌, [], ℕ, if◌then◌else◌, suc, min, true, IfOk, IsTrue, ◌↔◌};
+ghost use Rattle.bus_semantics.specs.History.{is_environment};
+ghost use Rattle.bus_semantics.specs.Reading.{item_fits};
+ghost use Rattle.bus_semantics.specs.Run.{IsSessionOf, Session, idle, made, run_begins, run_closes, unsettled};
+ghost use Rattle.trace_check.specs.Along.{AreSound, plan_in};
+ghost use Rattle.trace_check.specs.Checking.{CanJudge, Judges, JudgesRead, ReadFits, Stands, most_made};
+
+use crate::bus_state::BusState;
+use crate::rules::Rules;
+use crate::script::{takes_entry, takes_run};
+use bus_semantics::{Actor, Entry};
+use rte_text::Memory;
+use script_orders::Orders;
+use std::alloc::Global;
+use trace_reading::LineRead;
+
+/// So many entries of a run line are counted.
+const MOST_MADE: u32 = 100_000;
+
+/// What an item of a trace comes to.
+#[derive(Clone, Copy)]
+pub(crate) enum Judged {
+    /// It may come next.
+    Accepted,
+    /// It is no item.
+    Bad,
+    /// It may not come next, and this is the number of the least clause that it breaks.
+    Refused(u8),
+}
+
+/// What is kept along a trace.
+#[derive(Drop)]
+pub(crate) struct Check<'a, 'p> {
+    state: BusState<'a, 'p>,
+    /// What the script has still to ask for.
+    orders: Orders<'p>,
+    /// Whether a run line is open.
+    inside: bool,
+    /// How many entries runnables and machines made since its mark, up to `MOST_MADE`.
+    made: u32,
+}
+
+/// The count after an entry of this actor.
+fn counted(made: u32, actor: &Actor) -> u32
+    ensures { (n : ℕ) → made ≡ min n most_made → result ≡ min (if is_environment actor.now then n else suc n) most_made }
+{
+    match actor {
+        Actor::Env => made,
+        _ => { if made < MOST_MADE { made + 1 } else { made } }
+    }
+}
+
+impl<'a, 'p> Check<'a, 'p> {
+    /// The check before a trace. An error says that there was no memory.
+    pub(crate) fn new(alloc: Global, rules: &Rules<'a, 'p>) -> Result<Check<'a, 'p>, Memory>
+        requires sound { AreSound rules.now }
+        ensures { IfOk result (λ check. Stands rules.now [] check) }
+    {
+        let state = BusState::new(alloc, rules)?;
+        Ok(Check {
+            state,
+            orders: Orders::new(rules.script),
+            inside: false,
+            made: 0,
+        })
+    }
+
+    /// Judges an entry.
+    fn judge_entry(
+        &mut self,
+        alloc: Global,
+        rules: &Rules<'a, 'p>,
+        entry: &Entry,
+    ) -> Result<Judged, Memory>
+        requires sound { AreSound rules.now }
+        requires can { CanJudge rules.now self.old }
+        requires fits { item_fits (plan_in rules.now) (made entry.now) ≡ true }
+        ensures { IfOk result (λ judged. (s : Session) → Stands rules.now s self.old → Judges rules.now s (made entry.now) self.new judged) }
+    {
+        if !takes_entry(&mut self.orders, self.inside, entry) {
+            return Ok(Judged::Refused(16));
+        }
+        match self.state.make(alloc, rules, entry)? {
+            Some(clause) => Ok(Judged::Refused(clause)),
+            None => {
+                self.made = counted(self.made, &entry.actor);
+                Ok(Judged::Accepted)
+            }
+        }
+    }
+
+    /// Judges a run mark.
+    fn judge_run(&mut self, rules: &Rules<'a, 'p>) -> Judged
+        ensures { (s : Session) → Stands rules.now s self.old → Judges rules.now s run_begins self.new result }
+    {
+        if !takes_run(&mut self.orders, self.inside) {
+            return Judged::Refused(16);
+        }
+        self.inside = true;
+        self.made = 0;
+        Judged::Accepted
+    }
+
+    /// Judges the word `idle`.
+    fn judge_idle(&mut self, rules: &Rules<'a, 'p>) -> Judged
+        requires sound { AreSound rules.now }
+        requires can { CanJudge rules.now self.old }
+        ensures { (s : Session) → Stands rules.now s self.old → Judges rules.now s (run_closes idle) self.new result }
+    {
+        if !self.inside {
+            return Judged::Refused(15);
+        }
+        if !self.state.is_idle(rules) {
+            return Judged::Refused(15);
+        }
+        self.inside = false;
+        self.made = 0;
+        Judged::Accepted
+    }
+
+    /// Whether a run line is open in which the entries that are counted were made.
+    fn is_unsettled(&self) -> bool
+        ensures { result ≡ (self.now.inside && (self.now.made == most_made)) }
+    {
+        self.inside && self.made == MOST_MADE
+    }
+
+    /// Judges the word `unsettled`.
+    fn judge_unsettled(&mut self, rules: &Rules<'a, 'p>) -> Judged
+        ensures { (s : Session) → Stands rules.now s self.old → Judges rules.now s (run_closes unsettled) self.new result }
+    {
+        if !self.is_unsettled() {
+            return Judged::Refused(15);
+        }
+        self.inside = false;
+        self.made = 0;
+        Judged::Accepted
+    }
+
+    /// Judges what a line is read as, after the session for which the check stands. If it is accepted, the check stands for the session and
+    /// it; if not, the check is of no use then. An error says that there was no memory.
+    pub(crate) fn judge(
+        &mut self,
+        alloc: Global,
+        rules: &Rules<'a, 'p>,
+        read: &LineRead,
+    ) -> Result<Judged, Memory>
+        requires sound { AreSound rules.now }
+        requires can { CanJudge rules.now self.old }
+        requires fits { ReadFits (plan_in rules.now) read.now }
+        ensures { IfOk result (λ judged. (s : Session) → Stands rules.now s self.old → JudgesRead rules.now s read.now self.new judged) }
+    {
+        match read {
+            LineRead::Entry(entry) => self.judge_entry(alloc, rules, entry),
+            LineRead::Run => Ok(self.judge_run(rules)),
+            LineRead::Idle => Ok(self.judge_idle(rules)),
+            LineRead::Unsettled => Ok(self.judge_unsettled(rules)),
+            LineRead::BadLine => Ok(Judged::Bad),
+        }
+    }
+
+    /// Whether the session for which the check stands is a whole one of the script: no run line is open, and nothing is left of the script.
+    pub(crate) fn is_whole(&self, rules: &Rules<'a, 'p>) -> bool
+        ensures { (s : Session) → Stands rules.now s self.now → IsTrue result ↔ IsSessionOf rules.now.script.now.lines s }
+    {
+        !self.inside && self.orders.is_over()
+    }
+}

@@ -1,0 +1,13 @@
+//! What a trace is checked against.
+
+use bus_semantics::{BusPlan, Mapping, Script};
+use program_steps::Programs;
+
+/// What a trace is checked against: a sound bus with its programs, and a script.
+#[derive(Drop)]
+pub(crate) struct Rules<'a, 'p> {
+    pub plan: &'p BusPlan,
+    pub mapping: &'p Mapping,
+    pub script: &'p Script,
+    pub programs: &'a Programs<'p>,
+}

@@ -1,0 +1,128 @@
+//! The check of a given trace, line by line.
+
+ghost use Rattle.std.specs.Prelude.{◌≡◌, ◌↔◌, ◌++◌, IfOk, []};
+ghost use Rattle.bus_semantics.specs.Plan.{plan_of};
+ghost use Rattle.bus_semantics.specs.Sound.{IsSound};
+ghost use Rattle.bus_semantics.specs.Spelling.{Letters, header};
+ghost use Rattle.check_definitions.specs.declared.checked.Checked.TheVariants.{Legal};
+ghost use Rattle.check_definitions.specs.Verdicts.{IsLegalTrace, IsVerdict};
+ghost use Rattle.trace_check.specs.Along.{AreSound};
+ghost use Rattle.trace_check.specs.Lines.{Reaches, VerdictOf};
+
+use crate::check::{Check, Judged};
+use crate::lines::{first_line, version_of};
+use crate::rules::Rules;
+use bus_semantics::{BusPlan, Mapping, Script, Version};
+use check_definitions::Checked;
+use check_laws::traces_have_one_verdict;
+use program_steps::Programs;
+use rte_text::Memory;
+use std::alloc::Global;
+use trace_reading::{Reader, items_have_one_line, sound_plans_are_readable};
+
+/// What the end of a trace comes to, which is this line.
+fn end(rules: &Rules<'_, '_>, check: &Check<'_, '_>, line: u64) -> Checked
+    ensures { (v : Version) (trace : Letters) → Reaches v rules.now trace check.now [] line → VerdictOf rules.now trace result }
+{
+    if check.is_whole(rules) {
+        Checked::Legal
+    } else {
+        Checked::Illegal { line, clause: 16 }
+    }
+}
+
+/// Checks the lines of a trace behind its header.
+fn check_lines<'a, 'p>(
+    alloc: Global,
+    rules: &Rules<'a, 'p>,
+    reader: &Reader<'p>,
+    version: Version,
+    text: &[u8],
+) -> Result<Checked, Memory>
+    requires sound { AreSound rules.now }
+    requires of_plan { reader.now.plan.now ≡ rules.now.plan.now }
+    ensures { IfOk result (λ checked. (trace : Letters) → trace ≡ header version ++ text.now → VerdictOf rules.now trace checked) }
+{
+    items_have_one_line();
+    let mut check = Check::new(alloc, rules)?;
+    let mut left = text;
+    let mut line: u64 = 2;
+    'lines: while !left.is_empty() {
+        let (first, more) = first_line(left);
+        match check.judge(alloc, rules, &reader.read(version, first))? {
+            Judged::Accepted => {
+                left = more;
+                line += 1;
+            }
+            Judged::Bad => return Ok(Checked::BadLine(line)),
+            Judged::Refused(clause) => return Ok(Checked::Illegal { line, clause }),
+        }
+    }
+    Ok(end(rules, &check, line))
+}
+
+/// Checks a trace behind its header.
+fn check_begun(
+    alloc: Global,
+    p: &BusPlan,
+    m: &Mapping,
+    script: &Script,
+    version: Version,
+    text: &[u8],
+) -> Result<Checked, Memory>
+    requires sound { IsSound (plan_of p.now) m.now }
+    ensures { IfOk result (λ checked. (trace : Letters) → trace ≡ header version ++ text.now →
+        IsVerdict (plan_of p.now) m.now script.now.lines trace checked) }
+{
+    sound_plans_are_readable();
+    let reader = Reader::new(alloc, p)?;
+    let programs = Programs::new(alloc, p, m)?;
+    let rules = Rules {
+        plan: p,
+        mapping: m,
+        script,
+        programs: &programs,
+    };
+    check_lines(alloc, &rules, &reader, version, text)
+}
+
+/// Checks the bytes of a trace.
+fn check_bytes(
+    alloc: Global,
+    p: &BusPlan,
+    m: &Mapping,
+    script: &Script,
+    trace: &[u8],
+) -> Result<Checked, Memory>
+    requires sound { IsSound (plan_of p.now) m.now }
+    ensures { IfOk result (IsVerdict (plan_of p.now) m.now script.now.lines trace.now) }
+{
+    if trace.is_empty() {
+        return Ok(Checked::Illegal {
+            line: 1,
+            clause: 16,
+        });
+    }
+    let (first, text) = first_line(trace);
+    match version_of(first) {
+        Some(version) => check_begun(alloc, p, m, script, version, text),
+        None => Ok(Checked::BadLine(1)),
+    }
+}
+
+/// Checks a trace against a sound bus and a script: whether it is the text of a whole legal run of the script, and if not, which line is
+/// the first that does not go on so, and why. An error says that there was no memory.
+pub fn check_trace(
+    alloc: Global,
+    p: &BusPlan,
+    m: &Mapping,
+    script: &Script,
+    trace: &[u8],
+) -> Result<Checked, Memory>
+    requires sound { IsSound (plan_of p.now) m.now }
+    ensures verdict { IfOk result (IsVerdict (plan_of p.now) m.now script.now.lines trace.now) }
+    ensures legal { IfOk result (λ checked. checked ≡ Legal ↔ IsLegalTrace (plan_of p.now) m.now script.now.lines trace.now) }
+{
+    traces_have_one_verdict();
+    check_bytes(alloc, p, m, script, trace)
+}
