@@ -373,6 +373,23 @@ def disabled(size):
     return whole, "tick 1\nrun\n" * 100
 
 
+# ---- the environment
+
+
+def outer(size):
+    """So many lines at outer ports, a write and a read by turns, and then one run line."""
+    program = [["read", "i", "v", ["x"], "s"], ["write", "o", "v", ["x"], "s"]]
+    passing = runnable("Pass", [["read", "i", "v"], ["write", "o", "v"]], program)
+    part = component("C", [port("R", "i"), port("P", "o")], [passing], [received("D", "Pass", "i")])
+    held = [{"shortName": "c", "type": "C"}]
+    whole = described([part], held, [], 1, [{"shortName": "T", "core": 0}], [mapped("c", "D", "T", 0)])
+    whole["compositions"][0]["ports"] = [port("R", "u"), port("P", "w")]
+    whole["compositions"][0]["connectors"] = [
+        {"kind": "DelegationSwConnector", "inner": ["c", inner], "outer": outer_port} for inner, outer_port in [("i", "u"), ("o", "w")]
+    ]
+    return whole, "".join(f"write u.v {n % 1000}\nread w.v\n" for n in range(size // 2)) + "run\n"
+
+
 # ---- all at once
 
 
@@ -411,6 +428,7 @@ CASES = {
     switches: 500,
     machines: 125,
     disabled: 500,
+    outer: 40000,
     everything: 4,
 }
 
