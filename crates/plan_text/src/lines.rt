@@ -1,8 +1,9 @@
 //! Single lines.
 
-ghost use Rattle.std.specs.Prelude.{◌≡◌, ◌++◌, IfOk, codes};
+ghost use Rattle.std.specs.Prelude.{◌≡◌, ◌++◌, IfOk, OnOk, codes};
 ghost use Rattle.bus_semantics.specs.Plan.{instance_of, plan_of};
-ghost use Rattle.plan_text.specs.Lines.{component_text, direct_line, end_text, event_line, instance_line, join_line, machine_line, owned_text, owner_text, task_line};
+ghost use Rattle.plan_definitions.specs.Ports.{item_text};
+ghost use Rattle.plan_text.specs.Lines.{component_text, direct_line, event_line, instance_line, join_line, machine_line, owned_text, owner_text, task_line};
 
 use bus_semantics::{BusPlan, EventPlan, MachinePlan};
 use description_types::{Description, MappedEvent, Task};
@@ -24,21 +25,37 @@ fn owner_text(f: &Flat, owner: Option<u32>) -> &[u8]
     }
 }
 
-/// INSTANCE.NAME, or env.NAME.
-fn owned_text(alloc: Global, f: &Flat, owner: Option<u32>, name: &[u8]) -> Result<Vec<u8>, Memory>
-    ensures { IfOk result (λ text. text.items ≡ owned_text f.now owner name.now) }
+/// Appends INSTANCE.NAME, or env.NAME.
+fn add_owned(f: &Flat, owner: Option<u32>, name: &[u8], line: &mut Vec<u8>) -> Result<(), Memory>
+    ensures { OnOk result (line.new.items ≡ line.old.items ++ owned_text f.now owner name.now) }
 {
-    let mut text = Vec::from_slice(alloc, owner_text(f, owner))?;
-    text.push(b'.')?;
-    text.extend_from_slice(name)?;
-    Ok(text)
+    line.extend_from_slice(owner_text(f, owner))?;
+    line.push(b'.')?;
+    line.extend_from_slice(name)
 }
 
-fn end_text(alloc: Global, d: &Description, f: &Flat, end: End) -> Result<Vec<u8>, Memory>
-    ensures { IfOk result (λ text. text.items ≡ end_text d.now f.now end) }
+/// How many bytes INSTANCE.NAME has, as far as a `usize` counts.
+fn owned_len(f: &Flat, owner: Option<u32>, name: &[u8]) -> usize {
+    owner_text(f, owner)
+        .len()
+        .saturating_add(name.len())
+        .saturating_add(1)
+}
+
+fn item_of(alloc: Global, d: &Description, f: &Flat, end: End) -> Result<Text, Memory>
+    ensures { IfOk result (λ text. text ≡ item_text d.now f.now end.instance end.port end.element) }
 {
-    let name = item_text(alloc, d, f, end.instance, end.port, end.element)?;
-    owned_text(alloc, f, end.instance, name.bytes())
+    item_text(alloc, d, f, end.instance, end.port, end.element)
+}
+
+/// A line that so begins, with room for so many more bytes and a few marks: it is not moved while it grows.
+fn line_for(alloc: Global, beginning: &[u8], more: usize) -> Result<Vec<u8>, Memory>
+    ensures { IfOk result (λ line. line.items ≡ beginning.now) }
+{
+    let room = beginning.len().saturating_add(more).saturating_add(3);
+    let mut line = Vec::with_capacity(alloc, room)?;
+    line.extend_from_slice(beginning)?;
+    Ok(line)
 }
 
 fn component_text(d: &Description, component: u32) -> &[u8]
@@ -66,12 +83,14 @@ pub fn instance_line(alloc: Global, d: &Description, x: &Instance) -> Result<Tex
 pub fn join_line(alloc: Global, d: &Description, f: &Flat, join: Join) -> Result<Text, Memory>
     ensures { IfOk result (λ line. line ≡ join_line d.now f.now join) }
 {
-    let provided = end_text(alloc, d, f, join.provided)?;
-    let required = end_text(alloc, d, f, join.required)?;
-    let mut line = Vec::from_slice(alloc, b"join ")?;
-    line.extend_from_slice(provided.as_slice())?;
+    let provided = item_of(alloc, d, f, join.provided)?;
+    let required = item_of(alloc, d, f, join.required)?;
+    let first = owned_len(f, join.provided.instance, provided.bytes());
+    let second = owned_len(f, join.required.instance, required.bytes());
+    let mut line = line_for(alloc, b"join ", first.saturating_add(second))?;
+    add_owned(f, join.provided.instance, provided.bytes(), &mut line)?;
     line.push(b' ')?;
-    line.extend_from_slice(required.as_slice())?;
+    add_owned(f, join.required.instance, required.bytes(), &mut line)?;
     line.push(b'\n')?;
     Ok(Text::of(line))
 }
@@ -86,9 +105,8 @@ fn owned_line(
 ) -> Result<Text, Memory>
     ensures { IfOk result (λ line. line ≡ word.now ++ owned_text f.now owner name.now ++ codes "\n") }
 {
-    let owned = owned_text(alloc, f, owner, name)?;
-    let mut line = Vec::from_slice(alloc, word)?;
-    line.extend_from_slice(owned.as_slice())?;
+    let mut line = line_for(alloc, word, owned_len(f, owner, name))?;
+    add_owned(f, owner, name, &mut line)?;
     line.push(b'\n')?;
     Ok(Text::of(line))
 }
