@@ -32,8 +32,7 @@ fn size_refusal(alloc: Global) -> Refused
 fn check_size(alloc: Global, plan: &BusPlan) -> Result<(), Refused>
     ensures { Says (of_size (seen plan.now)) result }
 {
-    let large = is_too_large(plan)?;
-    if large {
+    if is_too_large(plan) {
         return Err(size_refusal(alloc));
     }
     Ok(())

@@ -1,13 +1,11 @@
 //! How large a plan is.
 
-ghost use Rattle.std.specs.Prelude.{◌≡◌, ◌+◌, ◌||◌, IfOk, nat_lt, sum_by};
+ghost use Rattle.std.specs.Prelude.{◌≡◌, ◌<◌, ◌^◌, ◌||◌, nat_lt, sum_by};
 ghost use Rattle.plan_definitions.specs.Elements.{elem_seen};
 ghost use Rattle.plan_definitions.specs.Planned.{seen};
 ghost use Rattle.plan_definitions.specs.PlanRules.{is_queued, is_too_large, queue_lengths, received, requested};
 
 use bus_semantics::{BusPlan, ElemKind, ElemPlan, MachinePlan, ServerPlan};
-use rte_text::Memory;
-use std::alloc::AllocError;
 
 /// How many objects a plan may have.
 pub const OBJECTS: u32 = 16_384;
@@ -16,7 +14,7 @@ pub const OBJECTS: u32 = 16_384;
 pub const EVENTS: usize = 16_384;
 
 /// How long all queues may be together.
-const QUEUES: u64 = 65_536;
+const QUEUES: u128 = 65_536;
 
 fn is_queued(kind: ElemKind) -> bool
     ensures { result ≡ is_queued kind }
@@ -38,71 +36,65 @@ fn received(element: &ElemPlan) -> u32
     }
 }
 
-fn sum_of(sum: u64, more: u64) -> Result<u64, Memory>
-    ensures { IfOk result (λ whole. whole ≡ sum + more) }
-{
-    sum.checked_add(more).ok_or(AllocError)
-}
-
-fn all_received(elements: &[ElemPlan]) -> Result<u64, Memory>
-    ensures { IfOk result (λ sum. sum ≡ sum_by (λ e. received (elem_seen e)) elements.now) }
+fn all_received(elements: &[ElemPlan]) -> u128
+    ensures sum { result ≡ sum_by (λ e. received (elem_seen e)) elements.now }
+    ensures small { result < 2 ^ 96 }
 {
     let mut sum = 0;
     for element in elements {
-        sum = sum_of(sum, u64::from(received(element)))?;
+        sum += u128::from(received(element));
     }
-    Ok(sum)
+    sum
 }
 
-fn all_requested(servers: &[ServerPlan]) -> Result<u64, Memory>
-    ensures { IfOk result (λ sum. sum ≡ sum_by requested servers.now) }
+fn requested(server: &ServerPlan) -> u32
+    ensures { result ≡ requested server.now }
+{
+    server.queue.unwrap_or(0)
+}
+
+fn all_requested(servers: &[ServerPlan]) -> u128
+    ensures sum { result ≡ sum_by requested servers.now }
+    ensures small { result < 2 ^ 96 }
 {
     let mut sum = 0;
     for server in servers {
-        sum = sum_of(sum, u64::from(server.queue.unwrap_or(0)))?;
+        sum += u128::from(requested(server));
     }
-    Ok(sum)
+    sum
 }
 
-fn all_switches(machines: &[MachinePlan]) -> Result<u64, Memory>
-    ensures { IfOk result (λ sum. sum ≡ sum_by (λ m. m.queue) machines.now) }
+fn all_switches(machines: &[MachinePlan]) -> u128
+    ensures sum { result ≡ sum_by (λ m. m.queue) machines.now }
+    ensures small { result < 2 ^ 96 }
 {
     let mut sum = 0;
     for machine in machines {
-        sum = sum_of(sum, u64::from(machine.queue))?;
+        sum += u128::from(machine.queue);
     }
-    Ok(sum)
+    sum
 }
 
-fn services_lengths(plan: &BusPlan) -> Result<u64, Memory>
-    ensures { IfOk result (λ sum. sum ≡ sum_by requested plan.now.servers + sum_by (λ m. m.queue) plan.now.machines) }
+/// How long all queues of a plan are together. No lists of lengths of 32 bits add up to more than this holds.
+fn queue_lengths(plan: &BusPlan) -> u128
+    ensures { result ≡ queue_lengths (seen plan.now) }
 {
-    let requested = all_requested(plan.servers.items())?;
-    let switches = all_switches(plan.machines.items())?;
-    sum_of(requested, switches)
+    let received = all_received(plan.elements.items());
+    let requested = all_requested(plan.servers.items());
+    let switches = all_switches(plan.machines.items());
+    received + (requested + switches)
 }
 
-fn queue_lengths(plan: &BusPlan) -> Result<u64, Memory>
-    ensures { IfOk result (λ sum. sum ≡ queue_lengths (seen plan.now)) }
-{
-    let received = all_received(plan.elements.items())?;
-    let services = services_lengths(plan)?;
-    let sum = sum_of(received, services)?;
-    Ok(sum)
-}
-
-fn is_beyond(objects: u32, events: usize, lengths: u64) -> bool
+fn is_beyond(objects: u32, events: usize, lengths: u128) -> bool
     ensures { result ≡ ((nat_lt 16384 objects || nat_lt 16384 events) || nat_lt 65536 lengths) }
 {
     objects > OBJECTS || events > EVENTS || lengths > QUEUES
 }
 
-/// Whether a plan has more than 16,384 objects or events, or its queues are together longer than 65,536. The only error is want of
-/// memory, also for lengths whose sum does not fit 64 bits.
-pub fn is_too_large(plan: &BusPlan) -> Result<bool, Memory>
-    ensures { IfOk result (λ answer. answer ≡ is_too_large (seen plan.now)) }
+/// Whether a plan has more than 16,384 objects or events, or its queues are together longer than 65,536.
+pub fn is_too_large(plan: &BusPlan) -> bool
+    ensures { result ≡ is_too_large (seen plan.now) }
 {
-    let lengths = queue_lengths(plan)?;
-    let answer = is_beyond(plan.objects, plan.events.len(), lengths);
-    Ok(answer)
+    let lengths = queue_lengths(plan);
+    is_beyond(plan.objects, plan.events.len(), lengths)
 }

@@ -1,8 +1,11 @@
-use Rattle.std.proofs.Common.{◌≡◌, map, take}
+use Rattle.std.proofs.Common.{◌≡◌, ◌≤◌, ◌*◌, take}
 use Rattle.std.specs.List.{sum_by}
 use Rattle.plan_definitions.specs.Elements.{elem_seen}
 use Rattle.plan_definitions.specs.PlanRules.{received}
 use Rattle.event_mapping.proofs.size.all_received.Given as goal
 
 abbrev pub invariant-loop-element : goal.invariant-loop-element
-invariant-loop-element l = l.sum ≡ sum_by (λ e. received (elem_seen e)) (take l.element-index l.elements)
+invariant-loop-element l = record {
+  sum : l.sum ≡ sum_by (λ e. received (elem_seen e)) (take l.element-index l.elements);
+  small : l.sum ≤ 4294967295 * l.element-index;
+}

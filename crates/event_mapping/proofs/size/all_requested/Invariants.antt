@@ -1,7 +1,10 @@
-use Rattle.std.proofs.Common.{◌≡◌, take}
+use Rattle.std.proofs.Common.{◌≡◌, ◌≤◌, ◌*◌, take}
 use Rattle.std.specs.List.{sum_by}
 use Rattle.plan_definitions.specs.PlanRules.{requested}
 use Rattle.event_mapping.proofs.size.all_requested.Given as goal
 
 abbrev pub invariant-loop-server : goal.invariant-loop-server
-invariant-loop-server l = l.sum ≡ sum_by requested (take l.server-index l.servers)
+invariant-loop-server l = record {
+  sum : l.sum ≡ sum_by requested (take l.server-index l.servers);
+  small : l.sum ≤ 4294967295 * l.server-index;
+}
