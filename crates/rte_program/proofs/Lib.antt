@@ -4,3 +4,4 @@ pub mod Judging
 pub mod Ran
 pub mod Words
 pub mod Complete
+mod LegalTraces

@@ -17,6 +17,7 @@ pub ran : AreRuns → (p : Plan) (m : Mapping) (script : List Line) (n : NodeSta
 ran are p m script n before after r = record {
   session = r.session;
   bytes = r.bytes;
+  fit = r.fit;
   run = record { session = r.of_script; legal = are p m r.session r.legal };
   quiet = r.quiet;
   spelled = r.spelled;

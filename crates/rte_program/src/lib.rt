@@ -2,6 +2,7 @@
 #![tactic(auto)]
 
 mod command;
+mod laws;
 mod plan;
 mod prepare;
 mod quiet;
@@ -13,6 +14,7 @@ mod status;
 mod stop;
 mod top;
 
+pub use laws::runs_are_legal_traces;
 pub use quiet::rte_quiet;
 pub use run::WRITTEN_VERSION;
 pub use status::Status;
