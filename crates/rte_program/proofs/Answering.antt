@@ -36,7 +36,7 @@ refused_by words files b a before after answer stop.Memory put.Done stopped e to
 refused_by words files b a before after answer why put.Failed stopped e told is = absurd cc
 
 -- what is said, where something is said
-said_by : (before after : Option (List ℕ)) (f g : ℕ) (answer : Status) (why : Stop) → Says why answer before after f g → IsSaid why answer before after f g ⊎ IsUnsaid answer before after f g
+pub said_by : (before after : Option (List ℕ)) (f g : ℕ) (answer : Status) (why : Stop) → Says why answer before after f g → IsSaid why answer before after f g ⊎ IsUnsaid answer before after f g
 said_by before after f g answer (stop.Refused refusal) says = says
 said_by before after f g answer stop.Memory says = inr says
 said_by before after f g answer stop.Words says = inl says
@@ -59,7 +59,7 @@ script_by words files b a before after answer line cause put.Done named e told i
 script_by words files b a before after answer line cause put.Failed named e told is = let other : status.NotWritten ≡ status.Script = sym e ∙ is in absurd cc
 
 -- the status of another stop
-other_answer : (answer wanted : Status) (p : Put) (other : Status) → (other ≡ wanted → ⊥) → (status.NotWritten ≡ wanted → ⊥) → answer ≡ answer_after p other → answer ≡ wanted → ⊥
+pub other_answer : (answer wanted : Status) (p : Put) (other : Status) → (other ≡ wanted → ⊥) → (status.NotWritten ≡ wanted → ⊥) → answer ≡ answer_after p other → answer ≡ wanted → ⊥
 other_answer answer wanted put.Done other none never e is = none (sym e ∙ is)
 other_answer answer wanted put.Failed other none never e is = never (sym e ∙ is)
 
@@ -74,7 +74,7 @@ script_said words files b a before after f g answer stop.Memory stopped says is 
 
 -- ---- a text that was cut, and want of memory
 
-written : (why : Stop) → stop_status why ≡ status.NotWritten → ⊥
+pub written : (why : Stop) → stop_status why ≡ status.NotWritten → ⊥
 written stop.Words e = cc
 written (stop.NotRead word) e = cc
 written (stop.Refused refusal) e = cc
@@ -121,7 +121,7 @@ status_by : (answer : Status) (why : Stop) (p : Put) (f g : ℕ) → answer ≡ 
 status_by answer why put.Done f g e faults none = e
 status_by answer why put.Failed f g e faults none = absurd (none faults)
 
-said : (before after : Option (List ℕ)) (f g : ℕ) (answer : Status) (why : Stop) → Says why answer before after f g → ¬ Rose f g → AnswersOrMemory answer (stop_status why)
+pub said : (before after : Option (List ℕ)) (f g : ℕ) (answer : Status) (why : Stop) → Says why answer before after f g → ¬ Rose f g → AnswersOrMemory answer (stop_status why)
 said before after f g answer why says none = by (said_by before after f g answer why says)
   where
     by : IsSaid why answer before after f g ⊎ IsUnsaid answer before after f g → AnswersOrMemory answer (stop_status why)
@@ -167,7 +167,7 @@ unread_said words files b a m n before after f g answer stop.Memory stopped firs
 
 -- ---- the files that are held are those that were read
 
-held_once : (files : ToldFiles) (name bytes read : List ℕ) → IsHeld files name bytes → HeldWhereTold files name read → read ≡ bytes
+pub held_once : (files : ToldFiles) (name bytes read : List ℕ) → IsHeld files name bytes → HeldWhereTold files name read → read ≡ bytes
 held_once files name bytes read held was = let now : held.held name ≡ Some read = subst (λ f. HeldWhereTold f name read) held.told was in
     let same : Some read ≡ Some bytes = sym now ∙ held.bytes_are in cc
 
@@ -175,7 +175,7 @@ not_long : (files : ToldFiles) (name bytes : List ℕ) → IsHeld files name byt
 not_long files name bytes held long = let here = subst (λ f. LongWhereTold f name) held.told long in
     let above : FILE_LIMIT < length bytes = subst (λ (o : Option (List ℕ)). IsSomeAnd o (λ read. FILE_LIMIT < length read)) held.bytes_are here in omega (arith, held.within_limit)
 
-readable : (files : ToldFiles) (name bytes : List ℕ) (b a : ShelfCounts) → IsHeld files name bytes → ¬ Rose b.faults a.faults → IsUnread files name b a → ⊥
+pub readable : (files : ToldFiles) (name bytes : List ℕ) (b a : ShelfCounts) → IsHeld files name bytes → ¬ Rose b.faults a.faults → IsUnread files name b a → ⊥
 readable files name bytes b a held quiet (inl rose) = quiet rose
 readable files name bytes b a held quiet (inr long) = not_long files name bytes held long.1
 
@@ -344,7 +344,7 @@ run_is_no_plan words files d (inr soak) held = soak_apart_plan soak.1.text held.
 
 pub runs_are_forms : (words : Texts) → AskForRun words ⊎ AskForSoak words → IsForm words
 runs_are_forms words (inl run) = inl run
-runs_are_forms words (inr soak) = inr (inr soak)
+runs_are_forms words (inr soak) = inr (inr (inl soak))
 
 -- what is no soak is a run
 pub then_run : (words : Texts) → AskForRun words ⊎ AskForSoak words → (AskForSoak words → ⊥) → AskForRun words

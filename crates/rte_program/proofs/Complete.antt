@@ -78,7 +78,7 @@ module _ (words : Texts) (files : ToldFiles) (before after : Option (List ℕ)) 
   bad_named d s line cause held named = let n = named.names in let same = same_files words files d s named.description_bytes named.script_bytes held n in
       subst (λ t. HaveBadLine d t line cause) same.1 (subst (λ t. HaveBadLine t named.script_bytes line cause) same.0 named.bad)
 
-  bad_once : PlansAreOne → (d s : List ℕ) (n k m l : ℕ) → HaveBadLine d s n k → HaveBadLine d s m l → (n ≡ m) × (k ≡ l)
+  pub bad_once : PlansAreOne → (d s : List ℕ) (n k m l : ℕ) → HaveBadLine d s n k → HaveBadLine d s m l → (n ≡ m) × (k ≡ l)
   bad_once one d s n k m l a b =
       some_pair_parts n m k l (sym a.bad ∙ (ap (λ p. first_bad p [] (lines_of s)) ((one d a.found b.found a.described b.described).plan) ∙ b.bad))
 

@@ -134,7 +134,7 @@ bad_within p before (t ∷ ts) n cause e = by (cause_of p before t) e (λ later.
     by None later more = omega (arith, more later, length-append before (t ∷ []))
     by (Some k) now more = omega (arith, number_of (length before + 1, k) (n, cause) now)
 
-short_by : (d s : List ℕ) → length s ≤ FILE_LIMIT → (why : Stop) → IsJudged d s why → IsShort why
+pub short_by : (d s : List ℕ) → length s ≤ FILE_LIMIT → (why : Stop) → IsJudged d s why → IsShort why
 short_by d s fits (stop.Script line cause) judged = omega (arith, bad_within (plan_of judged.found.plan) [] (lines_of s) line cause judged.bad, lines_fit s, fits)
 short_by d s fits (stop.Refused refusal) judged = tt
 short_by d s fits stop.Memory judged = tt

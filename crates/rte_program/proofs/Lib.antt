@@ -5,3 +5,6 @@ pub mod Ran
 pub mod Words
 pub mod Complete
 mod LegalTraces
+mod Checks
+mod Scripts
+mod Apart

@@ -37,10 +37,6 @@ pub record PrintsPlan (words : Texts) (files : ToldFiles) (before after : Option
 abbrev pub RunsWhatIsAsked : Texts → ToldFiles → Option (List ℕ) → Option (List ℕ) → Type 0
 RunsWhatIsAsked words files before after = RunsWhatIsNamed words files before after ⊎ SoaksWhatIsAsked words before after
 
--- what the words ask for was done
-abbrev pub DoesWhatIsNamed : Texts → ToldFiles → Option (List ℕ) → Option (List ℕ) → Type 0
-DoesWhatIsNamed words files before after = RunsWhatIsAsked words files before after ⊎ PrintsPlan words files before after
-
 -- the rule that is broken and its place
 pub record RefusesWhatIsNamed (words : Texts) (files : ToldFiles) (before after : Option (List ℕ)) : Type 0 where
   pub refusal : Refusal

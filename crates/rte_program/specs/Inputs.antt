@@ -50,8 +50,15 @@ pub record AsksForSoak (words : Texts) (n : ℕ) : Type 0 where
 abbrev pub AskForSoak : Texts → Type 0
 AskForSoak words = (n : ℕ) × AsksForSoak words n
 
+-- the words `check C T S`
+abbrev pub check_words : (description : List ℕ) → (trace : List ℕ) → (script : List ℕ) → Texts
+check_words description trace script = codes "check" ∷ description ∷ trace ∷ script ∷ []
+
+abbrev pub AskForCheck : Texts → Type 0
+AskForCheck words = (description : List ℕ) × (trace : List ℕ) × (script : List ℕ) × (words ≡ check_words description trace script)
+
 abbrev pub IsForm : Texts → Type 0
-IsForm words = AskForRun words ⊎ (AskForPlan words ⊎ AskForSoak words)
+IsForm words = AskForRun words ⊎ (AskForPlan words ⊎ (AskForSoak words ⊎ AskForCheck words))
 
 abbrev pub IsNoForm : Texts → Type 0
 IsNoForm words = ¬ IsForm words

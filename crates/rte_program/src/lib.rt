@@ -1,6 +1,7 @@
 //! What the program does: the top call, which carries out a command over any files and any output.
 #![tactic(auto)]
 
+mod check;
 mod command;
 mod laws;
 mod plan;

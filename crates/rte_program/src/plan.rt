@@ -4,7 +4,7 @@ ghost use Rattle.std.specs.Prelude.{◌≡◌, ◌≢◌, ◌⊎◌, map, string
 ghost use Rattle.rte_text.specs.Counts.{Rose};
 ghost use Rattle.rte_text.specs.Sinks.{AppendsPrefixWhereTold, AppendsWhereTold};
 ghost use Rattle.plan_text.specs.Lines.{plan_text};
-ghost use Rattle.rte_program.specs.Inputs.{counts_of, plan_words, AskForPlan, AskForRun, AskForSoak, IsNumbered, IsStopped, NamesPlanned};
+ghost use Rattle.rte_program.specs.Inputs.{counts_of, plan_words, AskForCheck, AskForPlan, AskForRun, AskForSoak, IsNumbered, IsStopped, NamesPlanned};
 ghost use Rattle.rte_program.specs.Stops.{IsShort};
 
 use crate::prepare::{fetch_word, plan_bytes};
@@ -39,6 +39,7 @@ pub fn read_plan<S: Shelf>(
 ) -> Result<PlannedDescription, Stop>
     requires no_run { ¬ AskForRun (map string_bytes words.now) }
     requires no_soak { ¬ AskForSoak (map string_bytes words.now) }
+    requires no_check { ¬ AskForCheck (map string_bytes words.now) }
     ensures files_stay { S.files shelf.new ≡ S.files shelf.old }
     ensures ready { IfOk result (NamesPlanned (map string_bytes words.now) (S.files shelf.old)) }
     ensures counts { OnOk result ((S.faults shelf.new ≡ S.faults shelf.old) × (S.long_files shelf.new ≡ S.long_files shelf.old)) }

@@ -5,11 +5,16 @@ ghost use Rattle.rte_text.specs.Counts.{Rose};
 ghost use Rattle.rte_text.specs.declared.refusal.Refusal.{Refusal};
 ghost use Rattle.rte_text.specs.declared.refusal.Refused.TheVariants.{Rule};
 ghost use Rattle.bus_semantics.specs.declared.script.Line.{Line};
+ghost use Rattle.bus_semantics.specs.Plan.{plan_of};
+ghost use Rattle.check_definitions.specs.declared.checked.Checked.{Checked};
+ghost use Rattle.check_definitions.specs.Verdicts.{IsVerdict};
 ghost use Rattle.description_stages.specs.declared.planning.PlannedDescription.{PlannedDescription};
 ghost use Rattle.description_stages.specs.Plans.{IsPlanRefusalOf, IsPlannedOf};
 ghost use Rattle.rte_program.specs.Inputs.{counts_of, AreInputs, AsksForSoak, HaveBadLine, IsNoForm};
-ghost use Rattle.rte_program.specs.Answers.{DoesWhatIsNamed, RefusesWhatIsAsked, RefusesWords, RefusesScript, SaysUnread, CutsWhatIsPut, EndsForMemory, AreHeld, IsOneHeld, NoFault, AnswersOrMemory, PrintsPlanOrMemory, RefusesLineOrMemory, RefusesOrMemory, RunsOrMemory};
+ghost use Rattle.rte_program.specs.Answers.{RefusesWords, SaysUnread, EndsForMemory, AreHeld, IsOneHeld, NoFault, AnswersOrMemory, PrintsPlanOrMemory, RefusesLineOrMemory, RefusesOrMemory, RunsOrMemory};
+ghost use Rattle.rte_program.specs.Checking.{AreThreeHeld, RefusesTrace, SaysVerdictOrMemory};
 ghost use Rattle.rte_program.specs.Soaking.{SoakKeepsRules};
+ghost use Rattle.rte_program.specs.Topmost.{CutsAnything, DoesWhatIsNamed, RefusesDescription, RefusesAnyScript};
 
 use crate::command::run_command;
 use crate::quiet::rte_quiet;
@@ -25,7 +30,10 @@ use std::thread::Threads;
 /// description C and puts its plan. `soak N`, with N from 1 to 64, makes a description of N pairs of a producer and a consumer, which all
 /// call one server, and a script that ticks and runs twenty times; it runs this script and puts the numbers of the run alone.
 ///
-/// Refusals come in this order: the words, the files in the order of the words, the description, by rules 1 to 30, the script.
+/// `check C T S` reads the description C, the trace T and the script S, and puts the verdict on the trace: `legal`, or the first line that
+/// is refused, with the clause that it breaks.
+///
+/// Refusals come in this order: the words, the files in the order of the words, the description, by rules 1 to 30, the script, the trace.
 /// Every description that breaks none of the thirty is run. Before the run nothing is put but a refusal's text. Each line is
 /// one put, but for the numbers of `soak N`, which are one put in all.
 pub fn rte_top<R: Threads + Wait + Sync, S: Shelf, K: Sink, G: Gate>(
@@ -42,20 +50,20 @@ pub fn rte_top<R: Threads + Wait + Sync, S: Shelf, K: Sink, G: Gate>(
 
     // What each other answer says.
     ensures refused { result ≡ Status.Refused
-        → RefusesWhatIsAsked (map string_bytes words.now) (S.files shelf.old) (K.told out.old) (K.told out.new) }
+        → RefusesDescription (map string_bytes words.now) (S.files shelf.old) (K.told out.old) (K.told out.new) }
     ensures words { result ≡ Status.Words → RefusesWords (map string_bytes words.now) (K.told out.old) (K.told out.new) }
     ensures script { result ≡ Status.Script
-        → RefusesScript (map string_bytes words.now) (S.files shelf.old) (K.told out.old) (K.told out.new) }
+        → RefusesAnyScript (map string_bytes words.now) (S.files shelf.old) (K.told out.old) (K.told out.new) }
     ensures not_read { result ≡ Status.NotRead
         → SaysUnread (map string_bytes words.now) (S.files shelf.old) (counts_of (S.faults shelf.old) (S.long_files shelf.old))
         (counts_of (S.faults shelf.new) (S.long_files shelf.new)) (S.fetches shelf.old) (S.fetches shelf.new) (K.told out.old) (K.told out.new) }
     ensures not_written { result ≡ Status.NotWritten → Rose (K.faults out.old) (K.faults out.new) }
     ensures cut { result ≡ Status.NotWritten
-        → CutsWhatIsPut (map string_bytes words.now) (S.files shelf.old) (counts_of (S.faults shelf.old) (S.long_files shelf.old))
+        → CutsAnything (map string_bytes words.now) (S.files shelf.old) (counts_of (S.faults shelf.old) (S.long_files shelf.old))
         (counts_of (S.faults shelf.new) (S.long_files shelf.new)) (K.told out.old) (K.told out.new) }
     ensures memory { result ≡ Status.Memory
         → EndsForMemory (map string_bytes words.now) (S.files shelf.old) (K.told out.old) (K.told out.new) }
-    ensures no_trace { result ≢ Status.Trace }
+    ensures trace { result ≡ Status.Trace → RefusesTrace (map string_bytes words.now) (S.files shelf.old) (K.told out.old) (K.told out.new) }
 
     // Faults have their answers.
     ensures no_write_fault { result ≢ Status.NotWritten → K.faults out.new ≡ K.faults out.old }
@@ -80,6 +88,17 @@ pub fn rte_top<R: Threads + Wait + Sync, S: Shelf, K: Sink, G: Gate>(
     ensures plan_complete { (d : List ℕ) (found : PlannedDescription) → IsOneHeld (map string_bytes words.now) (S.files shelf.old) d
         → IsPlannedOf d found → NoFault (S.faults shelf.old) (S.faults shelf.new) (K.faults out.old) (K.faults out.new)
         → PrintsPlanOrMemory found result (K.told out.old) (K.told out.new) }
+    ensures check_refused { (d t s : List ℕ) (refusal : Refusal) → AreThreeHeld (map string_bytes words.now) (S.files shelf.old) d t s
+        → IsPlanRefusalOf d (Rule refusal) → NoFault (S.faults shelf.old) (S.faults shelf.new) (K.faults out.old) (K.faults out.new)
+        → RefusesOrMemory refusal result (K.told out.old) (K.told out.new) }
+    ensures check_script { (d t s : List ℕ) (line cause : ℕ) → AreThreeHeld (map string_bytes words.now) (S.files shelf.old) d t s
+        → HaveBadLine d s line cause → NoFault (S.faults shelf.old) (S.faults shelf.new) (K.faults out.old) (K.faults out.new)
+        → RefusesLineOrMemory line cause result (K.told out.old) (K.told out.new) }
+    ensures check_complete { (d t s : List ℕ) (found : PlannedDescription) (script : List Line) (verdict : Checked)
+        → AreThreeHeld (map string_bytes words.now) (S.files shelf.old) d t s → AreInputs d s found script
+        → IsVerdict (plan_of found.plan) found.mapping script t verdict
+        → NoFault (S.faults shelf.old) (S.faults shelf.new) (K.faults out.old) (K.faults out.new)
+        → SaysVerdictOrMemory verdict result (K.told out.old) (K.told out.new) }
     ensures soak_complete { (n : ℕ) → AsksForSoak (map string_bytes words.now) n → SoakKeepsRules n
         → ¬ Rose (K.faults out.old) (K.faults out.new) → AnswersOrMemory result Status.Done }
 {

@@ -1,5 +1,6 @@
 use Rattle.std.proofs.Common.{inl, inr}
 use Rattle.rte_program.proofs.Answering as by
+use Rattle.rte_program.proofs.Apart as apart
 use Rattle.rte_program.proofs.Complete.{breaks_none, has_no_plan, is_no_script, is_script, only_named, only_run, plan_prints, plan_refuses, run_prints, run_refuses, run_refuses_line}
 use Rattle.rte_program.proofs.top.rte_top.Goals as goal
 
@@ -10,16 +11,16 @@ pub returns-in-Some-clause-done : goal.returns-in-Some-clause-done
 returns-in-Some-clause-done g c = λ is. inr (c.in-Some.ensures.done is)
 
 pub returns-in-Some-clause-refused : goal.returns-in-Some-clause-refused
-returns-in-Some-clause-refused g c = λ is. inl (c.in-Some.ensures.refused is)
+returns-in-Some-clause-refused g c = λ is. apart.only_asked _ _ _ _ (c.in-Some.ensures.refused is)
 
 pub returns-in-Some-clause-soak_complete : goal.returns-in-Some-clause-soak_complete
 returns-in-Some-clause-soak_complete g c = λ n asked keeps quiet. by.is_no_soak c.rte_quiet.result c.in-Some.status _ n c.rte_quiet.ensures.other c.in-Some.is asked
 
 pub returns-in-Some-clause-script : goal.returns-in-Some-clause-script
-returns-in-Some-clause-script g c = λ is. absurd (c.in-Some.ensures.no_script is)
+returns-in-Some-clause-script g c = λ is. inr (c.in-Some.ensures.script is)
 
 pub returns-in-Some-clause-cut : goal.returns-in-Some-clause-cut
-returns-in-Some-clause-cut g c = λ is. inl (c.in-Some.ensures.cut is)
+returns-in-Some-clause-cut g c = λ is. apart.any_cut _ _ _ _ _ _ (c.in-Some.ensures.cut is)
 
 pub returns-in-Some-clause-memory : goal.returns-in-Some-clause-memory
 returns-in-Some-clause-memory g c = λ is. inl (c.in-Some.ensures.memory is)
@@ -40,13 +41,13 @@ pub returns-in-None-clause-done : goal.returns-in-None-clause-done
 returns-in-None-clause-done g c = λ is. inl (rw (← c.in-None.ensures.unread, ← c.in-None.ensures.unwritten) (c.run_command.ensures.done is))
 
 pub returns-in-None-clause-refused : goal.returns-in-None-clause-refused
-returns-in-None-clause-refused g c = rw (← c.in-None.ensures.unread, ← c.in-None.ensures.unwritten) c.run_command.ensures.refused
+returns-in-None-clause-refused g c = λ is. inl (rw (← c.in-None.ensures.unread, ← c.in-None.ensures.unwritten) (c.run_command.ensures.refused is))
 
 pub returns-in-None-clause-words : goal.returns-in-None-clause-words
 returns-in-None-clause-words g c = λ is. absurd (c.run_command.ensures.no_words is)
 
 pub returns-in-None-clause-script : goal.returns-in-None-clause-script
-returns-in-None-clause-script g c = rw (← c.in-None.ensures.unread, ← c.in-None.ensures.unwritten) c.run_command.ensures.script
+returns-in-None-clause-script g c = λ is. inl (rw (← c.in-None.ensures.unread, ← c.in-None.ensures.unwritten) (c.run_command.ensures.script is))
 
 pub returns-in-None-clause-not_read : goal.returns-in-None-clause-not_read
 returns-in-None-clause-not_read g c = rw (← c.in-None.ensures.unread, ← c.in-None.ensures.unwritten) c.run_command.ensures.not_read
@@ -55,7 +56,7 @@ pub returns-in-None-clause-not_written : goal.returns-in-None-clause-not_written
 returns-in-None-clause-not_written g c = rw (← c.in-None.ensures.unwritten) c.run_command.ensures.not_written
 
 pub returns-in-None-clause-cut : goal.returns-in-None-clause-cut
-returns-in-None-clause-cut g c = rw (← c.in-None.ensures.unread, ← c.in-None.ensures.unwritten) c.run_command.ensures.cut
+returns-in-None-clause-cut g c = λ is. inl (rw (← c.in-None.ensures.unread, ← c.in-None.ensures.unwritten) (c.run_command.ensures.cut is))
 
 pub returns-in-None-clause-memory : goal.returns-in-None-clause-memory
 returns-in-None-clause-memory g c = rw (← c.in-None.ensures.unread, ← c.in-None.ensures.unwritten) c.run_command.ensures.memory
@@ -95,10 +96,22 @@ returns-in-None-clause-plan_complete g c = λ d found held is quiet. absurd (by.
 
 pub returns-in-Some-clause-plan_refused : goal.returns-in-Some-clause-plan_refused
 returns-in-Some-clause-plan_refused g c = λ d refusal held is quiet.
-    plan_refuses _ _ _ _ c.refusals_are_one.ensures d refusal c.in-Some.status held is c.in-Some.ensures.refused
+    plan_refuses _ _ _ _ c.refusals_are_one.ensures d refusal c.in-Some.status held is (λ e. apart.only_refused _ _ _ _ d held (c.in-Some.ensures.refused e))
     (c.in-Some.ensures.always_refused d held (has_no_plan c.no_refused_description_has_a_plan.ensures d refusal is) quiet)
 
 pub returns-in-Some-clause-plan_complete : goal.returns-in-Some-clause-plan_complete
 returns-in-Some-clause-plan_complete g c = λ d found held is quiet.
-    plan_prints _ _ _ _ c.plans_are_one.ensures d found c.in-Some.status held is c.in-Some.ensures.done
+    plan_prints _ _ _ _ c.plans_are_one.ensures d found c.in-Some.status held is (λ e. apart.only_printed _ _ _ _ d held (c.in-Some.ensures.done e))
     (c.in-Some.ensures.complete d held (breaks_none c.no_refused_description_has_a_plan.ensures d found is) quiet)
+
+pub returns-in-None-clause-check_refused : goal.returns-in-None-clause-check_refused
+returns-in-None-clause-check_refused g c = λ d t s refusal held is quiet. absurd (apart.run_is_no_check _ _ d t s (c.rte_quiet.ensures.other.0 c.in-None.is) held)
+
+pub returns-in-None-clause-check_script : goal.returns-in-None-clause-check_script
+returns-in-None-clause-check_script g c = λ d t s line cause held is quiet. absurd (apart.run_is_no_check _ _ d t s (c.rte_quiet.ensures.other.0 c.in-None.is) held)
+
+pub returns-in-None-clause-check_complete : goal.returns-in-None-clause-check_complete
+returns-in-None-clause-check_complete g c = λ d t s found script verdict held inputs is quiet. absurd (apart.run_is_no_check _ _ d t s (c.rte_quiet.ensures.other.0 c.in-None.is) held)
+
+pub returns-in-None-clause-trace : goal.returns-in-None-clause-trace
+returns-in-None-clause-trace g c = λ is. absurd (c.run_command.ensures.no_trace is)
