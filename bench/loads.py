@@ -439,7 +439,7 @@ def measured(words, trace, peak):
     clock = shutil.which("time")
     before = [clock, "--quiet", "--format=%M", f"--output={peak}"] if clock else []
     with open(trace, "wb") as told:
-        child = subprocess.Popen([*before, TOP / "rte", "run", *words], stdout=told)
+        child = subprocess.Popen([*before, TOP / "rte", *words], stdout=told)
         _, status, used = os.wait4(child.pid, 0)
     kibibytes = peak.read_text().split()[-1] if clock else None
     return os.waitstatus_to_exitcode(status), used.ru_utime + used.ru_stime, int(kibibytes) / 1024 if kibibytes else None
@@ -452,7 +452,7 @@ def run(case, size):
         words = [folder / "description.json", folder / "script.txt"]
         words[0].write_text(json.dumps(description, separators=(",", ":")))
         words[1].write_text(script)
-        status, seconds, peak = measured(words, folder / "trace.txt", folder / "peak.txt")
+        status, seconds, peak = measured(["run", *words], folder / "trace.txt", folder / "peak.txt")
         told = (folder / "trace.txt").read_bytes()
     if status != 0:
         sys.exit(f"{case.__name__} {size} ended with {status}: {told[:200]!r}")

@@ -46,6 +46,11 @@ explain_passes_through() {
     done
 }
 
+# Each case of the corpus has its verdict.
+corpus_is_judged() {
+    tools/corpus.py "$RTE" check
+}
+
 # So has the plan of each example that shows one.
 plans_are_as_shown() {
     local shown
@@ -93,6 +98,7 @@ try "diagram.py on the examples" diagrams_are_drawn
 if [ -n "${RTE:-}" ]; then
     try "explain.py on the examples" explain_passes_through
     try "plans of the examples" plans_are_as_shown
+    try "the corpus" corpus_is_judged
 else
     echo "tools: explain.py and plans on the examples: skipped, since the program is not built"
 fi

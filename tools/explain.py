@@ -2,14 +2,14 @@
 """Runs the program and explains its refusal.
 
     tools/explain.py DESCRIPTION SCRIPT
-    tools/explain.py --trace TRACE --said FILE DESCRIPTION SCRIPT
+    tools/explain.py --trace TRACE DESCRIPTION SCRIPT
 
 What the program prints is printed unchanged. Where it refuses, the line that it names follows with a caret, the rule or
 cause and its mend, as docs/FORMAT.md has them, and what else can be said.
 
 The status is the program's. With --said the program is not run: what it printed is read from a file, and the status is
-the one that belongs to it. With --trace too, it is the verdict on a trace, such as `illegal 14 D6` or `bad line 20`: the line
-of the trace follows, with what the bus would have answered there.
+the one that belongs to it. With --trace the program checks a trace: the line of a verdict such as `illegal 14 D6` or
+`bad line 20` follows, with what the bus would have answered there.
 """
 
 from __future__ import annotations
@@ -39,11 +39,8 @@ def arguments() -> argparse.Namespace:
         help="the program to run; otherwise the variable RTE names it, or it is ./rte of the repository",
     )
     parser.add_argument("--said", metavar="FILE", help="a file with what the program printed; - is standard input")
-    parser.add_argument("--trace", metavar="TRACE", default="", help="the trace on which FILE has the verdict")
-    words = parser.parse_args()
-    if words.trace and words.said is None:
-        parser.error("--trace needs --said")
-    return words
+    parser.add_argument("--trace", metavar="TRACE", default="", help="check this trace, in place of running the script")
+    return parser.parse_args()
 
 
 def pass_through(printed: IO[bytes]) -> Refusal | None:
@@ -55,9 +52,9 @@ def pass_through(printed: IO[bytes]) -> Refusal | None:
     return read_refusal(first.decode("utf-8", errors="replace").rstrip("\n"))
 
 
-def run(program: str, description: str, script: str) -> tuple[Refusal | None, int]:
+def run(words: list[str]) -> tuple[Refusal | None, int]:
     """Runs the program; gives its refusal and its status."""
-    with subprocess.Popen([program, "run", description, script], stdout=subprocess.PIPE) as process:
+    with subprocess.Popen(words, stdout=subprocess.PIPE) as process:
         refusal = pass_through(process.stdout) if process.stdout else None
     return refusal, process.returncode
 
@@ -76,7 +73,9 @@ def main() -> int:
     words = arguments()
     try:
         if words.said is None:
-            refusal, status = run(words.program, words.description, words.script)
+            files = [words.description, words.script]
+            command = ["check", files[0], words.trace, files[1]] if words.trace else ["run", *files]
+            refusal, status = run([words.program, *command])
         else:
             refusal, status = read_said(words.said)
         if refusal and refusal.status == status:
