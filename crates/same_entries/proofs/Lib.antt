@@ -1,3 +1,2 @@
 mod Same
-mod Wholes
 pub mod SameWishes

@@ -1,1 +1,1 @@
-pub mod Flats
+pub mod Sames

@@ -1,96 +1,114 @@
 //! Deeds.
 
-ghost use Rattle.std.specs.Prelude.{◌≡◌, IsTrue, ◌↔◌};
-ghost use Rattle.same_entries.specs.Flats.{flat_deed, flat_step};
+ghost use Rattle.std.specs.Prelude.{◌≡◌, None, Some, MatchOption};
+ghost use Rattle.same_entries.specs.Sames.{answer, same_answer, same_answered, same_deed, same_step};
 
-use crate::flat::{Flat, same_flat};
+use crate::entries::same_number;
 use bus_semantics::Deed;
 use rte_value::{Code, Step, Value};
 
-/// What names so little.
-fn flat(kind: u8, number: u32, code: Code, value: Option<Value>) -> Flat
-    ensures { result ≡ record { kind = kind; number = number; other = None; code = code; value = value } }
+/// Whether both phases are the same.
+fn same_step(one: Step, other: Step) -> bool
+    ensures { result ≡ same_step one other }
 {
-    Flat {
-        kind,
-        number,
-        other: None,
-        code,
-        value,
+    match (one, other) {
+        (Step::Close(a), Step::Close(b)) => a == b,
+        (Step::Exit, Step::Exit)
+        | (Step::Transition, Step::Transition)
+        | (Step::Entry, Step::Entry)
+        | (Step::Stable, Step::Stable) => true,
+        _ => false,
     }
 }
 
-/// A phase, laid out flat.
-fn flat_step(step: Step) -> Flat
-    ensures { result ≡ flat_step step }
-{
-    match step {
-        Step::Close(mode) => flat(20, mode, 0, None),
-        Step::Exit => flat(21, 0, 0, None),
-        Step::Transition => flat(22, 0, 0, None),
-        Step::Entry => flat(23, 0, 0, None),
-        Step::Stable => flat(24, 0, 0, None),
-    }
-}
-
-/// A deed, laid out flat.
-fn flat_deed(deed: &Deed) -> Flat
-    ensures { result ≡ flat_deed deed.now }
+/// The code and the value of a deed that carries both.
+fn answer(deed: &Deed) -> Option<(Code, &Value)>
+    ensures { MatchOption result (answer deed.now ≡ None) (λ found. answer deed.now ≡ Some (found.0, found.1.now)) }
 {
     match deed {
-        Deed::Tick => flat(0, 0, 0, None),
-        Deed::Start {
-            event,
-            point,
-            value,
-        } => Flat {
-            kind: 1,
-            number: *event,
-            other: *point,
-            code: 0,
-            value: Some(*value),
-        },
-        Deed::Admit { yes } => flat(if *yes { 3 } else { 2 }, 0, 0, None),
-        Deed::Fetch { elem, value } => flat(4, *elem, 0, Some(*value)),
-        Deed::Write { elem, value } => flat(5, *elem, 0, Some(*value)),
-        Deed::Read { elem, code, value } => flat(6, *elem, *code, Some(*value)),
-        Deed::Invalidate { elem } => flat(7, *elem, 0, None),
-        Deed::IsUpdated { elem, yes } => flat(if *yes { 9 } else { 8 }, *elem, 0, None),
-        Deed::Send { elem, value, code } => flat(10, *elem, *code, Some(*value)),
-        Deed::Receive { elem, code, value } => flat(11, *elem, *code, Some(*value)),
-        Deed::Ask { point, value, code } => flat(12, *point, *code, Some(*value)),
-        Deed::Answer { point, code, value } => flat(13, *point, *code, Some(*value)),
-        Deed::TakeResult { point, code, value } => flat(14, *point, *code, Some(*value)),
-        Deed::Return { code, value } => flat(15, 0, *code, Some(*value)),
-        Deed::Enter { area } => flat(16, *area, 0, None),
-        Deed::Leave { area } => flat(17, *area, 0, None),
-        Deed::Switch {
-            machine,
-            mode,
-            code,
-        } => Flat {
-            kind: 18,
-            number: *machine,
-            other: Some(*mode),
-            code: *code,
-            value: None,
-        },
-        Deed::Mode { port, mode } => Flat {
-            kind: 19,
-            number: *port,
-            other: Some(*mode),
-            code: 0,
-            value: None,
-        },
-        Deed::Phase(step) => flat_step(*step),
-        Deed::Publish { elem, value } => flat(25, *elem, 0, Some(*value)),
-        Deed::End => flat(26, 0, 0, None),
+        Deed::Read { code, value, .. }
+        | Deed::Send { code, value, .. }
+        | Deed::Receive { code, value, .. }
+        | Deed::Ask { code, value, .. }
+        | Deed::Answer { code, value, .. }
+        | Deed::TakeResult { code, value, .. }
+        | Deed::Return { code, value } => Some((*code, value)),
+        _ => None,
+    }
+}
+
+/// Whether both deeds carry the same code and the same value.
+fn same_answer(one: &Deed, other: &Deed) -> bool
+    ensures { result ≡ same_answer (answer one.now) (answer other.now) }
+{
+    match (answer(one), answer(other)) {
+        (Some((c, v)), Some((d, w))) => c == d && *v == *w,
+        _ => false,
+    }
+}
+
+/// Whether both deeds are the same, of starts and of those that carry a code and a value.
+fn same_answered(one: &Deed, other: &Deed) -> bool
+    ensures { result ≡ same_answered one.now other.now }
+{
+    match (one, other) {
+        (
+            Deed::Start {
+                event: a,
+                point: q,
+                value: v,
+            },
+            Deed::Start {
+                event: b,
+                point: r,
+                value: w,
+            },
+        ) => *a == *b && same_number(*q, *r) && *v == *w,
+        (Deed::Read { elem: a, .. }, Deed::Read { elem: b, .. })
+        | (Deed::Send { elem: a, .. }, Deed::Send { elem: b, .. })
+        | (Deed::Receive { elem: a, .. }, Deed::Receive { elem: b, .. })
+        | (Deed::Ask { point: a, .. }, Deed::Ask { point: b, .. })
+        | (Deed::Answer { point: a, .. }, Deed::Answer { point: b, .. })
+        | (Deed::TakeResult { point: a, .. }, Deed::TakeResult { point: b, .. }) => {
+            *a == *b && same_answer(one, other)
+        }
+        (Deed::Return { .. }, Deed::Return { .. }) => same_answer(one, other),
+        _ => false,
     }
 }
 
 /// Whether both deeds are the same.
 pub(crate) fn same_deed(one: &Deed, other: &Deed) -> bool
-    ensures { IsTrue result ↔ (one.now ≡ other.now) }
+    ensures { result ≡ same_deed one.now other.now }
 {
-    same_flat(&flat_deed(one), &flat_deed(other))
+    match (one, other) {
+        (Deed::Tick, Deed::Tick) | (Deed::End, Deed::End) => true,
+        (Deed::Admit { yes: y }, Deed::Admit { yes: z }) => *y == *z,
+        (Deed::Fetch { elem: a, value: v }, Deed::Fetch { elem: b, value: w })
+        | (Deed::Write { elem: a, value: v }, Deed::Write { elem: b, value: w })
+        | (Deed::Publish { elem: a, value: v }, Deed::Publish { elem: b, value: w }) => {
+            *a == *b && *v == *w
+        }
+        (Deed::Invalidate { elem: a }, Deed::Invalidate { elem: b })
+        | (Deed::Enter { area: a }, Deed::Enter { area: b })
+        | (Deed::Leave { area: a }, Deed::Leave { area: b }) => *a == *b,
+        (Deed::IsUpdated { elem: a, yes: y }, Deed::IsUpdated { elem: b, yes: z }) => {
+            *a == *b && *y == *z
+        }
+        (
+            Deed::Switch {
+                machine: a,
+                mode: m,
+                code: c,
+            },
+            Deed::Switch {
+                machine: b,
+                mode: n,
+                code: d,
+            },
+        ) => *a == *b && *m == *n && *c == *d,
+        (Deed::Mode { port: a, mode: m }, Deed::Mode { port: b, mode: n }) => *a == *b && *m == *n,
+        (Deed::Phase(a), Deed::Phase(b)) => same_step(*a, *b),
+        _ => same_answered(one, other),
+    }
 }

@@ -1,11 +1,22 @@
 //! Entries.
 
 ghost use Rattle.std.specs.Prelude.{◌≡◌, IsTrue, ◌↔◌};
-ghost use Rattle.same_entries.specs.Flats.{same_maker};
+ghost use Rattle.rte_value.specs.Values.{same_number};
+ghost use Rattle.same_entries.specs.Sames.{same_maker};
 
 use crate::deeds::same_deed;
-use crate::flat::same_number;
 use bus_semantics::{Actor, Entry};
+
+/// Whether both are the same number, or both none.
+pub(crate) fn same_number(one: Option<u32>, other: Option<u32>) -> bool
+    ensures { result ≡ same_number one other }
+{
+    match (one, other) {
+        (None, None) => true,
+        (Some(one), Some(other)) => one == other,
+        _ => false,
+    }
+}
 
 /// Whether both actors are the same.
 fn same_maker(one: Actor, other: Actor) -> bool
