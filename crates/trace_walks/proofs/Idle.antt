@@ -1,9 +1,9 @@
--- No walk goes exactly where no activation runs.
-use Rattle.std.proofs.Common.{◌≡◌, ℕ, ◌<◌, inl, inr, Bool, true, false, ◌&&◌, not, refl, sym, ◌∙◌, ap, subst, length, Option, Some, None}
-use Rattle.std.specs.List.{slice_get, list_all}
-use Rattle.std.proofs.lemmas.Bool.{and_from, and_parts}
+-- No flag is set exactly where no activation runs.
+use Rattle.std.proofs.Common.{◌≡◌, ℕ, zero, suc, ◌<◌, inl, inr, Bool, true, false, ◌&&◌, not, refl, sym, ◌∙◌, ap, subst, arith, List, [], ◌∷◌, length, get_or, is_some, Option, Some, None}
+use Rattle.std.specs.List.{list_all}
+use Rattle.std.specs.Option.{option_map_or}
+use Rattle.std.proofs.lemmas.Bool.{and_from, and_parts, false≢true}
 use Rattle.std.proofs.lemmas.List.Folds.{list_all-append, list_all-map}
-use Rattle.std.proofs.lemmas.Option.{slice_get_within}
 use Rattle.rte_value.specs.declared.kinds.ActKey.{ActKey}
 use Rattle.bus_semantics.specs.declared.script.Mapping.{Mapping}
 use Rattle.bus_semantics.specs.Plan.{Plan, positions}
@@ -11,31 +11,53 @@ use Rattle.bus_semantics.specs.History.{History, runs}
 use Rattle.bus_semantics.specs.Actor.{direct_key}
 use Rattle.bus_semantics.specs.Rest.{plain_key, plain_keys, direct_keys, option_list, none_runs}
 use Rattle.bus_semantics.specs.Sound.{IsSound}
-use Rattle.history_laws.proofs.Lists.{there_is}
-use Rattle.no_stall.proofs.Lists.{Among, among_at, place_of, all_from, all_at, all_positions, gathered_from, among_gathered, among_positions}
-use Rattle.no_stall.proofs.Keys.{direct_is, direct_fits, joined_point}
-use Rattle.trace_walks.specs.declared.walk.Walk.{Walk}
-use Rattle.trace_walks.specs.declared.walks.Walks.{Walks}
-use Rattle.trace_walks.specs.Walking.{WalkStands, goes}
-use Rattle.trace_walks.specs.Standing.{WalksStand}
-use Rattle.trace_walks.proofs.Following.{runs_is}
+use Rattle.no_stall.proofs.Lists.{Among, all_from, all_at, all_positions, gathered_from, among_gathered, among_positions}
+use Rattle.no_stall.proofs.Keys.{direct_is, joined_point}
+use Rattle.place_set.specs.Places.{IsNext}
+use Rattle.trace_walks.specs.declared.runners.Runners.{Runners}
+use Rattle.trace_walks.specs.Runners.{RunnersStand, point_runs}
 
-abbrev pub idle : Walk → Bool
-idle w = not (goes w)
+-- ---- flags
 
-both_ways : (a b : Bool) → (a ≡ true → b ≡ true) → (b ≡ true → a ≡ true) → a ≡ b
-both_ways true b to from = sym (to refl)
-both_ways false true to from = from refl
-both_ways false false to from = refl
+all_clear : (flags : List Bool) → ((i : ℕ) → i < length flags → get_or flags i false ≡ false) → list_all not flags ≡ true
+all_clear [] each = refl
+all_clear (b ∷ flags) each = and_from (not b) (list_all not flags) (ap not (each zero (omega arith))) (all_clear flags (λ i less. each (suc i) (omega (arith, less))))
 
-module _ (p : Plan) (m : Mapping) (sound : IsSound p m) (h : History) (ws : Walks) (stands : WalksStand p h ws) where
+clear_at : (flags : List Bool) (i : ℕ) → list_all not flags ≡ true → get_or flags i false ≡ false
+clear_at [] i all = refl
+clear_at (b ∷ flags) zero all = by_flag b (and_parts (not b) (list_all not flags) all).0
+  where
+    by_flag : (b : Bool) → not b ≡ true → b ≡ false
+    by_flag true n = absurd (false≢true n)
+    by_flag false n = refl
+clear_at (b ∷ flags) (suc i) all = clear_at flags i (and_parts (not b) (list_all not flags) all).1
+
+-- no place is found exactly where none is set
+pub empty_is : (flags : List Bool) (next : Option ℕ) → IsNext flags 0 (length flags) next → (empty : Bool) → is_some next ≡ not empty → empty ≡ list_all not flags
+empty_is flags None none true is = sym (all_clear flags (λ i less. none i (omega arith) less))
+empty_is flags None none false is = absurd (false≢true is)
+empty_is flags (Some at) first true is = absurd (false≢true (sym is))
+empty_is flags (Some at) first false is = sym (by_all (list_all not flags) refl)
+  where
+    by_all : (b : Bool) → list_all not flags ≡ b → b ≡ false
+    by_all true all = absurd (false≢true (sym (clear_at flags at all) ∙ first.chosen))
+    by_all false all = refl
+
+same_truth : (a b : Bool) → (a ≡ true → b ≡ true) → (b ≡ true → a ≡ true) → a ≡ b
+same_truth true b to from = sym (to refl)
+same_truth false true to from = from refl
+same_truth false false to from = refl
+
+-- ---- keys
+
+module _ (p : Plan) (m : Mapping) (sound : IsSound p m) (h : History) (rs : Runners) (stands : RunnersStand p h rs) where
   abbrev rests : ActKey → Bool
   rests k = not (runs k h)
 
-  idle_is : (k : ActKey) (w : Walk) → WalkStands p k h w → idle w ≡ rests k
-  idle_is k w of = ap not (runs_is p k h w of)
+  unless : (b : Bool) → not b ≡ true → b ≡ false
+  unless true n = absurd (false≢true n)
+  unless false n = refl
 
-  -- the plain keys, and those of points, that are among the keys
   plain_rests : (r : ℕ) → r < length p.runnables → list_all rests (plain_keys p) ≡ true → rests (plain_key r) ≡ true
   plain_rests r less all = all_at (λ n. rests (plain_key n)) r (positions (length p.runnables)) (sym (list_all-map rests plain_key (positions (length p.runnables))) ∙ all) (among_positions r (length p.runnables) less)
 
@@ -53,61 +75,39 @@ module _ (p : Plan) (m : Mapping) (sound : IsSound p m) (h : History) (ws : Walk
       by_key (Some j) is (inl same) = ap (λ x. Some x) same
       by_key (Some j) is (inr never) = absurd never
 
-  -- ---- where no walk goes, no key runs
-
-  plain_from : list_all idle ws.plain.items ≡ true → list_all rests (plain_keys p) ≡ true
-  plain_from all = list_all-map rests plain_key (positions (length p.runnables)) ∙ all_positions (λ r. rests (plain_key r)) (length p.runnables) each
+  plain_is : list_all not rs.plain ≡ list_all rests (plain_keys p)
+  plain_is = same_truth (list_all not rs.plain) (list_all rests (plain_keys p)) to from
     where
-      each : (r : ℕ) → r < length p.runnables → rests (plain_key r) ≡ true
-      each r less =
-          let w = there_is ws.plain.items r (subst (λ n. r < n) (sym stands.runnables) less) in
-          sym (idle_is (plain_key r) w.0 (stands.plain r w.0 w.1)) ∙ all_at idle w.0 ws.plain.items all (among_at ws.plain.items r w.0 w.1)
+      to : list_all not rs.plain ≡ true → list_all rests (plain_keys p) ≡ true
+      to clear = list_all-map rests plain_key (positions (length p.runnables))
+          ∙ all_positions (λ r. rests (plain_key r)) (length p.runnables) (λ r less. ap not (sym (stands.plain r less) ∙ clear_at rs.plain r clear))
 
-  direct_from : list_all idle ws.direct.items ≡ true → list_all rests (direct_keys p) ≡ true
-  direct_from all = all_from rests (direct_keys p) each
-    where
-      each : (k : ActKey) → Among k (direct_keys p) → rests k ≡ true
-      each k there =
-          let source = gathered_from (λ n. option_list (direct_key p n)) k (positions (length p.points)) there in
-          let of = direct_is p m sound source.item k (listed_key source.item k source.gives) in
-          let less : source.item < length p.points = joined_point p m sound source.item of.server of.joined in
-          let w = there_is ws.direct.items source.item (subst (λ n. source.item < n) (sym stands.points) less) in
-          let stood = stands.direct k source.item w.0 (sym (ap (λ (x : ActKey). x.point) of.is)) (direct_fits p m sound source.item k of) w.1 in
-          sym (idle_is k w.0 stood) ∙ all_at idle w.0 ws.direct.items all (among_at ws.direct.items source.item w.0 w.1)
-
-  -- ---- where no key runs, no walk goes
-
-  plain_to : list_all rests (plain_keys p) ≡ true → list_all idle ws.plain.items ≡ true
-  plain_to all = all_from idle ws.plain.items each
-    where
-      each : (w : Walk) → Among w ws.plain.items → idle w ≡ true
-      each w there =
-          let at = place_of w ws.plain.items there in
-          let less : at.0 < length p.runnables = subst (λ n. at.0 < n) stands.runnables (slice_get_within ws.plain.items at.0 w at.1) in
-          idle_is (plain_key at.0) w (stands.plain at.0 w at.1) ∙ plain_rests at.0 less all
-
-  direct_to : list_all rests (direct_keys p) ≡ true → list_all idle ws.direct.items ≡ true
-  direct_to all = all_from idle ws.direct.items each
-    where
-      each : (w : Walk) → Among w ws.direct.items → idle w ≡ true
-      each w there = let at = place_of w ws.direct.items there in by_key at.0 at.1 (direct_key p at.0) refl
+      from : list_all rests (plain_keys p) ≡ true → list_all not rs.plain ≡ true
+      from all = all_clear rs.plain each
         where
-          by_key : (q : ℕ) → slice_get ws.direct.items q ≡ Some w → (o : Option ActKey) → direct_key p q ≡ o → idle w ≡ true
-          by_key q is None key = let none = stands.idle q w key is in rw none refl
-          by_key q is (Some k) key =
-              let of = direct_is p m sound q k key in
-              idle_is k w (stands.direct k q w (sym (ap (λ (x : ActKey). x.point) of.is)) (direct_fits p m sound q k of) is) ∙ direct_rests q k key all
+          each : (r : ℕ) → r < length rs.plain → get_or rs.plain r false ≡ false
+          each r less = let within : r < length p.runnables = subst (λ n. r < n) stands.runnables less in
+              stands.plain r within ∙ unless (runs (plain_key r) h) (plain_rests r within all)
 
-  pub none_goes : (list_all idle ws.plain.items && list_all idle ws.direct.items) ≡ none_runs p h
-  none_goes = both_ways _ _ from to
+  direct_are : list_all not rs.direct ≡ list_all rests (direct_keys p)
+  direct_are = same_truth (list_all not rs.direct) (list_all rests (direct_keys p)) to from
     where
-      parted : none_runs p h ≡ (list_all rests (plain_keys p) && list_all rests (direct_keys p))
-      parted = list_all-append rests (plain_keys p) (direct_keys p)
+      to : list_all not rs.direct ≡ true → list_all rests (direct_keys p) ≡ true
+      to clear = all_from rests (direct_keys p) each
+        where
+          each : (k : ActKey) → Among k (direct_keys p) → rests k ≡ true
+          each k there =
+              let source = gathered_from (λ n. option_list (direct_key p n)) k (positions (length p.points)) there in
+              let key = listed_key source.item k source.gives in
+              let flag : point_runs p h source.item ≡ false = sym (stands.direct source.item) ∙ clear_at rs.direct source.item clear in
+              ap not (sym (ap (λ (o : Option ActKey). option_map_or (λ j. runs j h) o false) key) ∙ flag)
 
-      from : (list_all idle ws.plain.items && list_all idle ws.direct.items) ≡ true → none_runs p h ≡ true
-      from all = let parts = and_parts (list_all idle ws.plain.items) (list_all idle ws.direct.items) all in
-          parted ∙ and_from (list_all rests (plain_keys p)) (list_all rests (direct_keys p)) (plain_from parts.0) (direct_from parts.1)
+      from : list_all rests (direct_keys p) ≡ true → list_all not rs.direct ≡ true
+      from all = all_clear rs.direct (λ q less. stands.direct q ∙ by_key q (direct_key p q) refl)
+        where
+          by_key : (q : ℕ) (o : Option ActKey) → direct_key p q ≡ o → option_map_or (λ k. runs k h) o false ≡ false
+          by_key q None key = refl
+          by_key q (Some k) key = unless (runs k h) (direct_rests q k key all)
 
-      to : none_runs p h ≡ true → (list_all idle ws.plain.items && list_all idle ws.direct.items) ≡ true
-      to none = let parts = and_parts (list_all rests (plain_keys p)) (list_all rests (direct_keys p)) (sym parted ∙ none) in
-          and_from (list_all idle ws.plain.items) (list_all idle ws.direct.items) (plain_to parts.0) (direct_to parts.1)
+  pub none_set : (list_all not rs.plain && list_all not rs.direct) ≡ none_runs p h
+  none_set = (λ i. plain_is i && direct_are i) ∙ sym (list_all-append rests (plain_keys p) (direct_keys p))

@@ -6,3 +6,4 @@ pub mod Noting
 pub mod Askers
 pub mod Noted
 pub mod Idle
+pub mod Flags

@@ -38,7 +38,7 @@ use Rattle.trace_walks.proofs.Askers.{asker}
 
 -- ---- keys and places
 
-apart_keys : (j k : ActKey) → (j ≡ k → ⊥) → same_key j k ≡ false
+pub apart_keys : (j k : ActKey) → (j ≡ k → ⊥) → same_key j k ≡ false
 apart_keys j k other = by_test (same_key j k) refl
   where
     by_test : (b : Bool) → same_key j k ≡ b → b ≡ false
@@ -59,7 +59,7 @@ same_place : (xs ys : List Walk) → ys ≡ xs → (i : ℕ) (w : Walk) → slic
 same_place xs ys same i w is = ap (λ zs. slice_get zs i) (sym same) ∙ is
 
 -- the key of a point of a direct server
-key_at : (p : Plan) (m : Mapping) (sound : IsSound p m) (j : ActKey) (q : ℕ) → key_fits p j ≡ true → j.point ≡ Some q → direct_key p q ≡ Some j
+pub key_at : (p : Plan) (m : Mapping) (sound : IsSound p m) (j : ActKey) (q : ℕ) → key_fits p j ≡ true → j.point ≡ Some q → direct_key p q ≡ Some j
 key_at p m sound j q fit at = by_shape (shape p m sound j fit)
   where
     by_shape : Shape p m sound j → direct_key p q ≡ Some j

@@ -13,7 +13,7 @@ use same_entries::same_wish;
 use std::alloc::Global;
 
 /// Whether an activation is over with this deed: its End, or an admission that was refused.
-fn is_over(deed: &Deed) -> bool
+pub(crate) fn is_over(deed: &Deed) -> bool
     ensures { result ≡ is_over deed.now }
 {
     match deed {

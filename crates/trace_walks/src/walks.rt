@@ -1,11 +1,9 @@
 //! The activations of all keys.
 
-ghost use Rattle.std.specs.Prelude.{◌≡◌, OnOk, not};
-ghost use Rattle.std.specs.List.{list_all};
+ghost use Rattle.std.specs.Prelude.{◌≡◌, OnOk};
 ghost use Rattle.bus_semantics.specs.Plan.{plan_of};
 ghost use Rattle.bus_semantics.specs.History.{needs_event};
 ghost use Rattle.program_steps.specs.Wants.{planned};
-ghost use Rattle.trace_walks.specs.Walking.{goes};
 ghost use Rattle.trace_walks.specs.Standing.{FreedAt, NotedAt};
 
 use crate::Memory;
@@ -61,20 +59,6 @@ fn free_at<'a, 'p>(walks: &mut Vec<Walk<'a, 'p>>, at: u32)
     }
 }
 
-/// Whether no activation of the key runs.
-fn is_idle(walk: &Walk<'_, '_>) -> bool
-    ensures { result ≡ not (goes walk.now) }
-{
-    !walk.runs()
-}
-
-/// Whether no activation of any of these keys runs.
-fn all_idle(walks: &[Walk<'_, '_>]) -> bool
-    ensures { result ≡ list_all (λ walk. not (goes walk)) walks.now }
-{
-    walks.iter().all(|walk| is_idle(walk))
-}
-
 impl<'a, 'p> Walks<'a, 'p> {
     ghost use Rattle.std.specs.Prelude.{◌≡◌, [], ◌∷◌, ℕ, true, Option, IfOk, OnOk, option_map};
     ghost use Rattle.rte_value.specs.declared.value.Value.{Value};
@@ -84,9 +68,8 @@ impl<'a, 'p> Walks<'a, 'p> {
     ghost use Rattle.rte_value.specs.declared.kinds.ActKey.{ActKey};
     ghost use Rattle.bus_semantics.specs.declared.entries.Actor.TheVariants.{Act};
     ghost use Rattle.bus_semantics.specs.Actor.{follows_program};
-    ghost use Rattle.bus_semantics.specs.Plan.{Plan, plan_of};
+    ghost use Rattle.bus_semantics.specs.Plan.{plan_of};
     ghost use Rattle.bus_semantics.specs.Legal.{IsLegal};
-    ghost use Rattle.bus_semantics.specs.Rest.{none_runs};
     ghost use Rattle.bus_semantics.specs.Sound.{IsSound};
     ghost use Rattle.bus_semantics.specs.declared.script.Mapping.{Mapping};
     ghost use Rattle.program_steps.specs.Wants.{planned};
@@ -257,12 +240,5 @@ impl<'a, 'p> Walks<'a, 'p> {
             },
             _ => None,
         }
-    }
-
-    /// Whether no activation of any key runs.
-    pub fn none_runs(&self) -> bool
-        ensures { (p : Plan) (m : Mapping) (h : History) → IsSound p m → WalksStand p h self.now → result ≡ none_runs p h }
-    {
-        all_idle(&self.plain) && all_idle(&self.direct)
     }
 }
