@@ -13,13 +13,14 @@ use port_objects::{Object, make_objects, sound_plans_have_objects};
 use rte_text::Memory;
 use std::alloc::Global;
 use trace_objects::{make, may_rest};
-use trace_walks::Walks;
+use trace_walks::{Runners, Walks};
 
-/// What is kept of a bus along a trace: its objects, and its activations.
+/// What is kept of a bus along a trace: its objects, its activations, and which of them run.
 #[derive(Drop)]
 pub(crate) struct BusState<'a, 'p> {
     objects: Vec<Object>,
     walks: Walks<'a, 'p>,
+    runners: Runners,
 }
 
 impl<'a, 'p> BusState<'a, 'p> {
@@ -31,7 +32,12 @@ impl<'a, 'p> BusState<'a, 'p> {
         sound_plans_have_objects();
         let objects = make_objects(alloc, rules.plan)?;
         let walks = Walks::new(alloc, rules.plan)?;
-        Ok(BusState { objects, walks })
+        let runners = Runners::new(alloc, rules.plan)?;
+        Ok(BusState {
+            objects,
+            walks,
+            runners,
+        })
     }
 
     /// Makes the entry, if it may follow the history for which the state stands; if not, the answer is the number of the least clause that
@@ -73,6 +79,7 @@ impl<'a, 'p> BusState<'a, 'p> {
             Some(clause) => Ok(Some(clause)),
             None => {
                 self.walks.note(alloc, rules.programs, rules.plan, entry)?;
+                self.runners.note(entry);
                 Ok(None)
             }
         }
@@ -86,7 +93,7 @@ impl<'a, 'p> BusState<'a, 'p> {
         ensures { (h : History) → IsLegal (plan_in rules.now) h → StateStands (plan_in rules.now) h self.old →
             Idles (plan_in rules.now) rules.now.mapping.now h self.new result }
     {
-        if !self.walks.none_runs() {
+        if !self.runners.none_runs() {
             return false;
         }
         may_rest(rules.plan, rules.mapping, &mut self.objects)

@@ -16,6 +16,21 @@ make-requires-clause-tried c =
       stand = a.stands.objects;
     }
 
+pub note-requires-in-None : goal.note-requires-in-None
+note-requires-in-None c =
+    let r = c.args.rules.now in
+    let a = c.requires.asked in
+    record {
+      can = record {
+        plan = plan_in r;
+        mapping = r.mapping.now;
+        history = a.history;
+        sound = c.requires.sound.sound;
+        fits = c.requires.fits;
+        stands = a.stands.runners;
+      };
+    }
+
 pub returns-in-Some : goal.returns-in-Some
 returns-in-Some c = λ h legal stands program.
     let r = c.args.rules.now in
@@ -38,5 +53,6 @@ returns-in_ok-note-in-None c = λ h legal stands program.
         planned = c.make.ensures.planned;
         objects = c.in-None.ensures.made r.mapping.now h asked stands.objects refl;
         walks = c.in_ok-note-in-None.ensures r.mapping.now h c.requires.sound.sound later stands.walks;
+        runners = c.note-in-None.ensures (plan_in r) r.mapping.now h c.requires.sound.sound c.requires.fits stands.runners;
       };
     }

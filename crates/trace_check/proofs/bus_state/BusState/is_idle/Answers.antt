@@ -9,12 +9,12 @@ pub returns-then-not-none_runs : goal.returns-then-not-none_runs
 returns-then-not-none_runs c = λ h legal stands idle.
     let r = c.args.rules.now in
     let some : c.none_runs.result ≡ false = search rules in
-    false≢true (sym some ∙ c.none_runs.ensures (plan_in r) r.mapping.now h c.requires.sound.sound stands.walks ∙ idle.none)
+    false≢true (sym some ∙ c.none_runs.ensures.none (plan_in r) r.mapping.now h c.requires.sound.sound stands.runners ∙ idle.none)
 
 pub returns : goal.returns
 returns c = λ h legal stands.
     let r = c.args.rules.now in
     let none : c.none_runs.result ≡ true = search rules in
-    let quiet : none_runs (plan_in r) h ≡ true = sym (c.none_runs.ensures (plan_in r) r.mapping.now h c.requires.sound.sound stands.walks) ∙ none in
-    idle_then (plan_in r) r.mapping.now h c.args.self.now _ quiet stands c.may_rest.ensures.planned refl c.may_rest.result c.may_rest.ensures.same
+    let quiet : none_runs (plan_in r) h ≡ true = sym (c.none_runs.ensures.none (plan_in r) r.mapping.now h c.requires.sound.sound stands.runners) ∙ none in
+    idle_then (plan_in r) r.mapping.now h c.args.self.now _ quiet stands c.may_rest.ensures.planned refl c.none_runs.ensures.same c.may_rest.result c.may_rest.ensures.same
     (c.may_rest.ensures.rest h legal quiet stands.objects)
