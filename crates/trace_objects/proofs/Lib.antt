@@ -10,3 +10,6 @@ mod TriedEntries
 mod Stuck
 mod Mapped
 mod Pausing
+mod Sets
+mod Noting
+mod Quiet

@@ -1,9 +1,10 @@
--- Each event of a task starts a runnable by its plain key.
-use Rattle.std.proofs.Common.{◌≡◌, ℕ, suc, ◌≤◌, ◌==◌, inl, inr, Bool, true, false, ◌&&◌, if◌then◌else◌, refl, sym, ◌∙◌, ap, subst, arith, List, [], ◌∷◌, length, Option, Some, None}
+-- Each event of a task is mapped, and starts a runnable by its plain key.
+use Rattle.std.proofs.Common.{◌≡◌, ℕ, suc, ◌<◌, ◌≤◌, ◌==◌, inl, inr, Bool, true, false, ◌&&◌, if◌then◌else◌, refl, sym, ap, subst, arith, List, [], ◌∷◌, length, Option, Some, None}
 use Rattle.std.specs.Prelude.{is_none, is_some, nat_le, nat_lt}
 use Rattle.std.specs.List.{list_all, slice_get}
 use Rattle.std.specs.Option.{option_map_or}
 use Rattle.std.proofs.lemmas.Bool.{and_parts, eq-eqb, eqb-true, ltb-true}
+use Rattle.bus_semantics.specs.declared.plan.EventKind.{EventKind}
 use Rattle.bus_semantics.specs.declared.plan.EventKind.TheVariants.{Invoked}
 use Rattle.bus_semantics.specs.declared.plan.EventPlan.{EventPlan}
 use Rattle.bus_semantics.specs.declared.script.Mapping.{Mapping}
@@ -18,9 +19,9 @@ use Rattle.bus_semantics.specs.Rest.{plain_key}
 use Rattle.bus_laws.proofs.OneEvent.{kind_at}
 use Rattle.bus_laws.proofs.Thinning.{every_at}
 use Rattle.history_laws.proofs.Lists.{there_is}
-use Rattle.no_stall.proofs.Lists.{Among, among_at, among_gathered, all_at, all_from}
+use Rattle.no_stall.proofs.Lists.{Among, among_at, among_gathered, all_at}
 use Rattle.no_stall.proofs.Keys.{own_fits}
-use Rattle.trace_objects.specs.Resting.{has_plain_key}
+use Rattle.trace_objects.specs.Unrest.{is_mapped}
 
 -- what stands in a list is counted there
 counted : (e : ℕ) (xs : List ℕ) → Among e xs → 1 ≤ count (λ d. d == e) xs
@@ -35,6 +36,13 @@ counted e (x ∷ xs) (inr rest) = by_test (x == e) (counted e xs rest)
     by_test : (b : Bool) → 1 ≤ count (λ d. d == e) xs → 1 ≤ (if b then suc (count (λ d. d == e) xs) else count (λ d. d == e) xs)
     by_test true some = omega arith
     by_test false some = some
+
+-- an event with its runnable, which is in a task
+pub record MappedEvent (p : Plan) (e : ℕ) : Type 0 where
+  pub within : e < length p.events
+  pub runnable : ℕ
+  pub own : runnable_of_event p e ≡ Some runnable
+  pub once : is_mapped p e ≡ true
 
 module _ (p : Plan) (m : Mapping) (sound : IsSound p m) where
   abbrev of_task : Task → Bool
@@ -57,27 +65,39 @@ module _ (p : Plan) (m : Mapping) (sound : IsSound p m) where
       let fifth = and_parts (every_from 0 of_event p.events) (list_all (λ r. nat_le (length (tasks_of p m r)) 1) (positions (length p.runnables))) fourth.1 in
       record { tasks = third.0; events = fifth.0 }
 
+  at_most_once : (k : EventKind) → 1 ≤ times_mapped p k → (times_mapped p k == 1) ≡ true
+  at_most_once (Invoked s) some = by_queue (queue_of p s) some
+    where
+      by_queue : (o : Option ℕ) → 1 ≤ (if is_some o then 1 else 0) → ((if is_some o then 1 else 0) == 1) ≡ true
+      by_queue None some = absurd (omega arith)
+      by_queue (Some most) some = refl
+  at_most_once k some = refl
+
   -- a server whose event is mapped has a queue
-  queued : (s : ℕ) → 1 ≤ times_mapped p (Invoked s) → is_none (queue_of p s) ≡ false
+  queued : (s : ℕ) → (times_mapped p (Invoked s) == 1) ≡ true → is_none (queue_of p s) ≡ false
   queued s once = by_queue (queue_of p s) once
     where
-      by_queue : (o : Option ℕ) → 1 ≤ (if is_some o then 1 else 0) → is_none o ≡ false
-      by_queue None once = absurd (omega arith)
+      by_queue : (o : Option ℕ) → ((if is_some o then 1 else 0) == 1) ≡ true → is_none o ≡ false
+      by_queue None once = absurd (cc once)
       by_queue (Some most) once = refl
 
-  plain : (i : ℕ) (t : Task) → slice_get m.tasks i ≡ Some t → (e : ℕ) → Among e t.events → has_plain_key p e ≡ true
-  plain i t found e among =
+  -- each event of a task is mapped
+  pub mapped_event : (i : ℕ) (t : Task) → slice_get m.tasks i ≡ Some t → (e : ℕ) → Among e t.events → MappedEvent p e
+  mapped_event i t found e among =
       let here = among_at m.tasks i t found in
       let fits = and_parts (is_name t.name) (list_all (λ e. nat_lt e (length p.events)) t.events) (and_parts (nat_lt t.core m.cores) _ (all_at of_task t m.tasks tests.tasks here)).1 in
       let less = ltb-true e (length p.events) (all_at (λ e. nat_lt e (length p.events)) e t.events fits.1 among) in
       let v = there_is p.events e less in
       let times = eqb-true (count (λ d. d == e) (mapped_events m)) (times_mapped p v.0.kind) (every_at of_event 0 p.events tests.events e e v.0 (omega arith) v.1) in
       let some = counted e (mapped_events m) (among_gathered (λ (u : Task). u.events) t e m.tasks here among) in
-      let once : 1 ≤ times_mapped p v.0.kind = omega (arith, times, some) in
       let kind = kind_at p e v.0 v.1 in
-      let runs : runnable_of_event p e ≡ Some v.0.runnable = ap (λ (o : Option EventPlan). option_map_or (λ (w : EventPlan). Some w.runnable) o None) v.1 in
-      let key = own_fits p m sound e v.0.runnable runs (λ s is. queued s (subst (λ k. 1 ≤ times_mapped p k) (sym kind ∙ is) once)) in
-      ap (λ (o : Option ℕ). option_map_or (λ r. key_fits p (plain_key r)) o false) runs ∙ key
+      record {
+        within = less;
+        runnable = v.0.runnable;
+        own = ap (λ (o : Option EventPlan). option_map_or (λ (w : EventPlan). Some w.runnable) o None) v.1;
+        once = subst (λ k. (times_mapped p k == 1) ≡ true) (sym kind) (at_most_once v.0.kind (omega (arith, times, some)));
+      }
 
-  pub plain_events : (i : ℕ) (t : Task) → slice_get m.tasks i ≡ Some t → list_all (has_plain_key p) t.events ≡ true
-  plain_events i t found = all_from (has_plain_key p) t.events (λ e among. plain i t found e among)
+  -- the runnable of an event that is mapped serves no direct calls
+  pub own_key : (e r : ℕ) → is_mapped p e ≡ true → runnable_of_event p e ≡ Some r → key_fits p (plain_key r) ≡ true
+  own_key e r once own = own_fits p m sound e r own (λ s is. queued s (subst (λ k. (times_mapped p k == 1) ≡ true) is once))

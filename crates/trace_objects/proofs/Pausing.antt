@@ -2,7 +2,6 @@
 use Rattle.std.proofs.Common.{◌≡◌, ℕ, Bool, true, false, ◌&&◌, not, if◌then◌else◌, refl, sym, ◌∙◌, ap, subst, List, [], ◌∷◌, ◌++◌, map, length, Option, Some, None}
 use Rattle.std.specs.Prelude.{is_none, nat_lt, option_and_then, unwrap_or}
 use Rattle.std.specs.List.{list_any}
-use Rattle.std.specs.Option.{option_map_or}
 use Rattle.std.proofs.lemmas.Bool.{and_parts, and_from, eq-eqb, false≢true, lt-ltb}
 use Rattle.std.proofs.lemmas.Option.{slice_get_within}
 use Rattle.rte_value.specs.declared.kinds.ActKey.{ActKey}
@@ -35,7 +34,7 @@ use Rattle.no_stall.proofs.Lists.{all_at}
 use Rattle.no_stall.proofs.Keys.{key_among}
 use Rattle.no_stall.proofs.Starting.{resting_asked}
 use Rattle.port_objects.specs.declared.object.Object.{Object}
-use Rattle.trace_objects.specs.Resting.{begins, Begins, Comes, has_plain_key, IsPaused, Pauses, Rests, Starts, starts_of}
+use Rattle.trace_objects.specs.Resting.{begins, Begins, Comes, IsPaused, Starts, starts_of}
 use Rattle.trace_objects.proofs.Alone.{returned_alone, machine_has}
 use Rattle.trace_objects.proofs.Broken.{due_by}
 use Rattle.trace_objects.proofs.Parted.{parted}
@@ -181,13 +180,6 @@ start_fits p e k fit own =
     and_from (nat_lt e (length p.events)) _ (lt-ltb e (length p.events) (slice_get_within p.events e v.item v.found)) (rw own home) in
     and_from (key_fits p k) (event_fits p (instance_of p k.runnable) e) fit fits
 
-pub key_of : (p : Plan) (e r : ℕ) → has_plain_key p e ≡ true → runnable_of_event p e ≡ Some r → key_fits p (plain_key r) ≡ true
-key_of p e r has own = ap (λ o. option_map_or (λ s. key_fits p (plain_key s)) o false) (sym own) ∙ has
-
 pub started : (p : Plan) (h : History) (e r : ℕ) → runnable_of_event p e ≡ Some r → (b : Bool) → Comes p h (Act (plain_key r), to_start e) b → Starts p h e b
 started p h e r own true comes = record { runnable = r; own = own; comes = comes }
 started p h e r own false stuck = subst (λ o. AllStuck p h (map (λ s. (Act (plain_key s), to_start e)) (option_list o))) (sym own) (stuck, tt)
-
-pub rested : (p : Plan) (m : Mapping) (h : History) → (AllStuck p h (gathered (starts_of p) m.tasks) → IsAtRest p m h) → (b : Bool) → Pauses p m h (gathered (starts_of p) m.tasks) b → Rests p m h b
-rested p m h rests true stuck = rests stuck
-rested p m h rests false awake = awake

@@ -1,7 +1,5 @@
 -- Lists of tries of which none may follow.
-use Rattle.std.proofs.Common.{◌≡◌, ℕ, zero, suc, ◌+◌, ◌<◌, ◌==◌, Bool, true, false, refl, sym, ◌∙◌, subst, arith, List, [], ◌∷◌, ◌++◌, map, Some}
-use Rattle.std.proofs.lemmas.Bool.{eq-eqb, eqb-true, false≢true}
-use Rattle.std.proofs.lemmas.Option.{same_Some}
+use Rattle.std.proofs.Common.{◌≡◌, ℕ, zero, suc, ◌<◌, refl, arith, List, [], ◌∷◌, ◌++◌, map, Some}
 use Rattle.std.specs.List.{slice_get}
 use Rattle.bus_semantics.specs.Plan.{Plan, positions}
 use Rattle.bus_semantics.specs.History.{History}
@@ -24,17 +22,3 @@ module _ (p : Plan) (h : History) where
   pub below : (f : ℕ → Try) (n : ℕ) → ((i : ℕ) → i < n → IsStuck p h (f i)) → AllStuck p h (map f (positions n))
   below f zero stuck = tt
   below f (suc n) stuck = and_one f (positions n) n (below f n (λ i less. stuck i (omega (arith, less)))) (stuck n (omega arith))
-
--- ---- what holds of the numbers and the items before a place, and there
-
-pub upto : (P : ℕ → Type 0) (k : ℕ) → ((n : ℕ) → n < k → P n) → P k → (n : ℕ) → n < k + 1 → P n
-upto P k before here n less = of_test (n == k) refl
-  where
-    of_test : (b : Bool) → (n == k) ≡ b → P n
-    of_test true is = subst P (sym (eqb-true n k is)) here
-    of_test false is = let other : n ≡ k → ⊥ = λ same. false≢true (sym is ∙ eq-eqb n k same) in before n (omega (arith, other, less))
-
-pub upto_item : {X : Type 0} (P : X → Type 0) (xs : List X) (k : ℕ) (x : X) → slice_get xs k ≡ Some x → ((i : ℕ) (y : X) → i < k → slice_get xs i ≡ Some y → P y) → P x
-    → (i : ℕ) (y : X) → i < k + 1 → slice_get xs i ≡ Some y → P y
-upto_item P xs k x found before here i y less at =
-    upto (λ n. (z : _) → slice_get xs n ≡ Some z → P z) k (λ n small z is. before n z small is) (λ z is. subst P (same_Some x z (sym found ∙ is)) here) i less y at

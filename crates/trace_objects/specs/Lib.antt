@@ -1,3 +1,4 @@
 pub mod Standing
 pub mod Clauses
 pub mod Resting
+pub mod Unrest

@@ -1,6 +1,5 @@
 -- Rest where no activation runs, on objects that stand for a history. Histories stand the newest first.
 use Rattle.std.specs.Prelude.{◌≡◌, ℕ, List, Bool, true, false, Some}
-use Rattle.std.specs.Option.{option_map_or}
 use Rattle.bus_semantics.specs.declared.script.Mapping.{Mapping}
 use Rattle.bus_semantics.specs.declared.script.Task.{Task}
 use Rattle.bus_semantics.specs.declared.entries.Actor.{Actor}
@@ -9,7 +8,6 @@ use Rattle.bus_semantics.specs.declared.entries.Deed.{Deed}
 use Rattle.bus_semantics.specs.Plan.{Plan, runnable_of_event}
 use Rattle.bus_semantics.specs.Wanted.{Wanted, to_start, to_move_on, wanted_by}
 use Rattle.bus_semantics.specs.History.{History}
-use Rattle.bus_semantics.specs.Owners.{key_fits}
 use Rattle.bus_semantics.specs.Actor.{follows_program}
 use Rattle.bus_semantics.specs.Legal.{IsLegal}
 use Rattle.bus_semantics.specs.Sound.{IsSound}
@@ -47,10 +45,6 @@ abbrev pub Comes : Plan → History → Try → Bool → Type 0
 Comes p h t true = IsStuck p h t → ⊥
 Comes p h t false = IsStuck p h t
 
--- the event starts a runnable by its plain key: it serves no direct calls
-abbrev pub has_plain_key : Plan → (event : ℕ) → Bool
-has_plain_key p e = option_map_or (λ r. key_fits p (plain_key r)) (runnable_of_event p e) false
-
 -- the start by the event of a task may follow
 pub record StartComes (p : Plan) (h : History) (event : ℕ) : Type 0 where
   pub runnable : ℕ
@@ -62,11 +56,6 @@ Starts p h e true = StartComes p h e
 Starts p h e false = AllStuck p h (start_try p e)
 
 -- ---- several
-
--- nothing of these may follow; else it is not at rest
-abbrev pub Pauses : Plan → Mapping → History → List Try → Bool → Type 0
-Pauses p m h ts true = AllStuck p h ts
-Pauses p m h ts false = IsAtRest p m h → ⊥
 
 -- the start by each event of a task
 abbrev pub starts_of : Plan → Task → List Try

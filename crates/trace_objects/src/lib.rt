@@ -5,7 +5,9 @@ mod came;
 mod clauses;
 mod making;
 mod resting;
+mod unrest;
 
 pub use clauses::one_clause_speaks;
 pub use making::make;
 pub use resting::may_rest;
+pub use unrest::Unrest;

@@ -1,10 +1,10 @@
-use Rattle.std.proofs.Common.{arith}
+use Rattle.std.proofs.Common.{arith, sym}
 use Rattle.bus_semantics.specs.Plan.{plan_of}
 use Rattle.bus_semantics.specs.Wanted.{wanted_of}
 use Rattle.bus_semantics.specs.History.{noted}
 use Rattle.trace_objects.proofs.Alone.{FreeLaws, returned_alone}
 use Rattle.trace_objects.proofs.Broken.{StartLaws}
-use Rattle.trace_objects.proofs.Reached.{there, found, planned, may_ask, plans_after}
+use Rattle.trace_objects.proofs.Reached.{there, at, found, planned, may_ask, plans_after}
 use Rattle.trace_objects.proofs.TriedEntries.{facts_at, tried_on, tried_alone}
 use Rattle.trace_objects.proofs.making.try_entry.Goals as goal
 
@@ -54,6 +54,21 @@ make_on-requires-clause-planned c =
     let f = facts_at p e c.args.event w c.wish_of-wish.ensures c.running_activations_go_on.ensures c.what_comes_may_follow.ensures.wish c.what_comes_may_follow.ensures.entry can.mapping can.history can.tried in
     let within = there p e.actor w c.args.objects.now.items c.in-Some.object c.in-Some.ensures c.requires.planned (c.sound_plans_have_objects.ensures.asked p can.mapping can.tried.sound) (c.sound_plans_have_objects.ensures.touched p can.mapping e.actor w can.tried.sound f.fit) in
     planned p e.actor w c.args.objects.now.items c.in-Some.object c.in-Some.ensures c.requires.planned c.index_mut.result.now (found p e.actor w c.args.objects.now.items c.in-Some.object c.in-Some.ensures c.requires.planned c.index_mut.result.now within c.index_mut.ensures.value)
+
+pub make_on-requires-clause-number : goal.make_on-requires-clause-number
+make_on-requires-clause-number c =
+    sym (at (plan_of c.args.p.now) c.args.entry.now.actor (wanted_of c.wish_of-wish.result) c.args.objects.now.items c.in-Some.object c.in-Some.ensures c.requires.planned)
+
+pub returns-in-Some-clause-among : goal.returns-in-Some-clause-among
+returns-in-Some-clause-among c =
+    let p = plan_of c.args.p.now in
+    let e = c.args.entry.now in
+    let w = wanted_of c.wish_of-wish.result in
+    let can = c.requires.tried in
+    let f = facts_at p e c.args.event w c.wish_of-wish.ensures c.running_activations_go_on.ensures c.what_comes_may_follow.ensures.wish c.what_comes_may_follow.ensures.entry can.mapping can.history can.tried in
+    let within = there p e.actor w c.args.objects.now.items c.in-Some.object c.in-Some.ensures c.requires.planned (c.sound_plans_have_objects.ensures.asked p can.mapping can.tried.sound) (c.sound_plans_have_objects.ensures.touched p can.mapping e.actor w can.tried.sound f.fit) in
+    c.make_on.ensures.among c.args.objects.now.items
+    (found p e.actor w c.args.objects.now.items c.in-Some.object c.in-Some.ensures c.requires.planned c.index_mut.result.now within c.index_mut.ensures.value) c.requires.among
 
 pub returns-in-Some-clause-planned : goal.returns-in-Some-clause-planned
 returns-in-Some-clause-planned c =

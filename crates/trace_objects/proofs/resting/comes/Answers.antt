@@ -3,6 +3,7 @@ use Rattle.bus_semantics.specs.Plan.{plan_of}
 use Rattle.bus_semantics.specs.Wanted.{wanted_of}
 use Rattle.bus_semantics.specs.Objects.{entries_of}
 use Rattle.bus_semantics.specs.Asked.{noted_for, MayCome}
+use Rattle.trace_objects.proofs.Noting.{held_back}
 use Rattle.trace_objects.proofs.Pausing.{may_follow, stuck_there, stuck_alone}
 use Rattle.trace_objects.proofs.Reached.{there, at, found, planned, may_ask, plans_after}
 use Rattle.trace_objects.proofs.resting.comes.Goals as goal
@@ -28,6 +29,17 @@ act-requires-clause-planned c =
     (c.sound_plans_have_objects.ensures.touched p sound.0 a w sound.1 c.requires.fits) in
     planned p a w c.args.objects.now.items c.in-Some.object c.in-Some.ensures c.requires.planned c.index_mut.result.now
     (found p a w c.args.objects.now.items c.in-Some.object c.in-Some.ensures c.requires.planned c.index_mut.result.now within c.index_mut.ensures.value)
+
+pub returns-in-NotYet-clause-held : goal.returns-in-NotYet-clause-held
+returns-in-NotYet-clause-held c = λ no i o touch is.
+    let p = plan_of c.args.p.now in
+    let a = c.args.who.now in
+    let w = wanted_of c.args.wish.now in
+    let objects = c.args.objects.now.items in
+    let sound = c.requires.sound in
+    let within = there p a w objects c.in-Some.object c.in-Some.ensures c.requires.planned (c.sound_plans_have_objects.ensures.asked p sound.0 sound.1) (c.sound_plans_have_objects.ensures.touched p sound.0 a w sound.1 c.requires.fits) in
+    let there_it = found p a w objects c.in-Some.object c.in-Some.ensures c.requires.planned c.index_mut.result.now within c.index_mut.ensures.value in
+    held_back p a w objects c.in-Some.object c.index_mut.result.now c.act.new.object c.in-NotYet.field-0 there_it c.in-Some.ensures c.in-NotYet.ensures.lead i o touch is
 
 pub returns-in-Done-clause-planned : goal.returns-in-Done-clause-planned
 returns-in-Done-clause-planned c =

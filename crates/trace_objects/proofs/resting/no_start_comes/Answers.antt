@@ -1,43 +1,39 @@
-use Rattle.std.proofs.Common.{◌≡◌, arith, get_or, sym, ◌∙◌, ap, subst, length, Some}
-use Rattle.std.specs.List.{slice_get}
-use Rattle.std.proofs.lemmas.Option.{slice_get_within, slice_get-get_or}
+use Rattle.std.proofs.Common.{◌≡◌, ◌+◌, true, false, refl, sym, ◌∙◌, ap, subst, length, set}
+use Rattle.std.proofs.lemmas.List.{length-set}
 use Rattle.bus_semantics.specs.Plan.{plan_of}
-use Rattle.bus_semantics.specs.Rest.{start_try, AllStuck}
-use Rattle.no_stall.proofs.Lists.{among_at}
-use Rattle.no_stall.proofs.Tried.{start_stuck}
+use Rattle.place_set.specs.Places.{NoneBetween}
 use Rattle.trace_objects.specs.Resting.{IsPaused}
-use Rattle.trace_objects.proofs.Pausing.{all_free}
-use Rattle.trace_objects.proofs.Stuck.{each, upto_item}
+use Rattle.trace_objects.specs.Unrest.{is_mapped, StartHeld, StartsAmong}
+use Rattle.trace_objects.proofs.Sets.{without, none_on, none_more}
 use Rattle.trace_objects.proofs.resting.no_start_comes.Goals as goal
 
-pub returns-then-start_comes-clause-pauses : goal.returns-then-start_comes-clause-pauses
-returns-then-start_comes-clause-pauses c = λ m h place paused found rest.
-    let p = plan_of c.args.p.now in
-    let es = c.items-event-items.result.now in
-    let i = c.loop-event.event-index in
-    let now = subst (IsPaused p m h) (sym c.loop-event.invariant.same) paused in
-    let one = c.if-start_comes.ensures.starts m h now in
-    let free = all_free p m h c.args.objects.now.items paused (λ k running. c.running_activations_go_on.ensures p m h k paused.sound paused.legal running) c.args.task.now in
-    one.comes (start_stuck p m h rest c.args.task.now (get_or es i 0) one.runnable (among_at m.tasks place c.args.task.now found)
-    (among_at c.args.task.now.events i (get_or es i 0) (subst (λ xs. slice_get xs i ≡ Some (get_or es i 0)) c.items-event-items.ensures (slice_get-get_or es i 0 c.loop-event-test.true))) free one.own)
+pub returns-then-mapped_start_comes-clause-awake : goal.returns-then-mapped_start_comes-clause-awake
+returns-then-mapped_start_comes-clause-awake c = λ no m h paused.
+    c.if-mapped_start_comes.ensures.awake refl m h (subst (IsPaused (plan_of c.args.p.now) m h) (sym c.loop-event.invariant.same) paused)
 
 pub loop-event-preserved : goal.loop-event-preserved
 loop-event-preserved c =
     let p = plan_of c.args.p.now in
-    let es = c.items-event-items.result.now in
-    let i = c.loop-event.event-index in
+    let loop = c.loop-event.invariant in
+    let old = c.args.objects.now.items in
+    let row = c.loop-event.events in
+    let at = c.in-Some.event in
+    let first = c.in-Some.ensures.next in
+    let no = c.if-mapped_start_comes.false in
+    let taken : c.remove.new.self ≡ set row at false = c.remove.ensures ∙ ap (λ xs. set xs at false) c.in-Some.ensures.same in
+    let held : is_mapped p at ≡ true → StartHeld p old at = λ mapped. subst (λ xs. StartHeld p xs at) loop.same (c.mapped_start_comes.ensures.held no mapped) in
     record {
-      planned = c.start_comes.ensures.planned;
-      same = c.start_comes.ensures.same c.if-start_comes.false ∙ c.loop-event.invariant.same;
-      stuck = λ m h paused.
-          upto_item (λ e. AllStuck p h (start_try p e)) c.args.task.now.events i (get_or es i 0)
-          (subst (λ xs. slice_get xs i ≡ Some (get_or es i 0)) c.items-event-items.ensures (slice_get-get_or es i 0 c.loop-event-test.true)) (c.loop-event.invariant.stuck m h paused)
-          (c.if-start_comes.ensures.starts m h (subst (IsPaused p m h) (sym c.loop-event.invariant.same) paused));
+      planned = c.mapped_start_comes.ensures.planned;
+      same = c.mapped_start_comes.ensures.same no ∙ loop.same;
+      among = subst (StartsAmong p old) (sym taken) (record {
+        count = length-set row at false ∙ loop.among.count;
+        others = without (λ e. is_mapped p e ≡ true → StartHeld p old e) row at held loop.among.others;
+      });
+      none = subst (λ xs. NoneBetween xs 0 (at + 1)) (sym taken) (none_more row at first.within (none_on row c.loop-event.from at loop.none first.none));
     }
 
-pub returns-clause-pauses : goal.returns-clause-pauses
-returns-clause-pauses c = λ m h place paused found.
-    let p = plan_of c.args.p.now in
-    let events = c.args.task.now.events in
-    let long = ap length c.items-event-items.ensures in
-    each p h (start_try p) events (λ i e at. let less = slice_get_within events i e at in c.loop-event.invariant.stuck m h paused i e (omega (arith, less, long, c.loop-event-test.false)) at)
+pub returns-clause-none : goal.returns-clause-none
+returns-clause-none c = λ yes.
+    let loop = c.loop-event.invariant in
+    let row = c.loop-event.events in
+    subst (λ xs. NoneBetween xs 0 (length xs)) (sym c.in_default.ensures.same) (none_on row c.loop-event.from (length row) loop.none c.in_default.ensures.next)

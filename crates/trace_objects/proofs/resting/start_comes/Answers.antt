@@ -1,8 +1,9 @@
-use Rattle.std.proofs.Common.{◌≡◌, sym, Some}
+use Rattle.std.proofs.Common.{◌≡◌, sym, refl, Some}
 use Rattle.bus_semantics.specs.Plan.{plan_of, runnable_of_event}
 use Rattle.bus_laws.proofs.Thinning.{option_test}
 use Rattle.bus_semantics.specs.Rest.{plain_key}
-use Rattle.trace_objects.proofs.Pausing.{key_of, start_fits, start_begins, started}
+use Rattle.trace_objects.proofs.Mapped.{own_key}
+use Rattle.trace_objects.proofs.Pausing.{start_fits, start_begins, started}
 use Rattle.trace_objects.proofs.resting.start_comes.Goals as goal
 
 pub comes-requires-clause-fits : goal.comes-requires-clause-fits
@@ -10,7 +11,8 @@ comes-requires-clause-fits c =
     let p = plan_of c.args.p.now in
     let r = c.in-Some.runnable in
     let own : runnable_of_event p c.args.event ≡ Some r = sym c.in-Some.ensures in
-    start_fits p c.args.event (plain_key r) (key_of p c.args.event r c.requires.plain own) own
+    let sound = c.requires.sound in
+    start_fits p c.args.event (plain_key r) (own_key p sound.0 sound.1 c.args.event r c.requires.mapped own) own
 
 pub comes-requires-clause-own : goal.comes-requires-clause-own
 comes-requires-clause-own c =
@@ -18,6 +20,9 @@ comes-requires-clause-own c =
     let r = c.in-Some.runnable in
     let own : runnable_of_event p c.args.event ≡ Some r = sym c.in-Some.ensures in
     option_test (runnable_of_event p c.args.event) (Some r) own
+
+pub returns-clause-held : goal.returns-clause-held
+returns-clause-held c = λ no i o touch is. (c.comes.ensures.held no i o touch is).flag c.in-Some.runnable c.args.event refl refl
 
 pub returns-clause-starts : goal.returns-clause-starts
 returns-clause-starts c = λ m h paused.
