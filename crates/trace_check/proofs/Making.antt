@@ -22,6 +22,7 @@ use Rattle.port_objects.specs.declared.object.Object.{Object}
 use Rattle.port_objects.specs.Objects.{ArePlans}
 use Rattle.trace_objects.specs.Resting.{Rests}
 use Rattle.trace_objects.specs.Standing.{IsTried, ObjectsStand}
+use Rattle.trace_objects.specs.Unrest.{AreAmong}
 use Rattle.trace_walks.specs.Runners.{RunnersStand}
 use Rattle.trace_walks.specs.Standing.{WalksStand}
 use Rattle.trace_check.specs.declared.bus_state.BusState.{BusState}
@@ -71,14 +72,15 @@ made_some p h e new clause is = record { clause = is; stands = λ none. absurd c
 -- ---- rest
 
 pub idle_then : (p : Plan) (m : Mapping) (h : History) (old new : BusState) → none_runs p h ≡ true → StateStands p h old → ArePlans p new.objects.items → new.walks ≡ old.walks → new.runners ≡ old.runners
-    → (b : Bool) → (b ≡ true → new.objects.items ≡ old.objects.items) → Rests p m h b → Idles p m h new b
-idle_then p m h old new none stands planned walks runners true same rest = (
+    → (b : Bool) → (b ≡ true → new.objects.items ≡ old.objects.items) → (b ≡ true → AreAmong p new.objects.items new.unrest) → Rests p m h b → Idles p m h new b
+idle_then p m h old new none stands planned walks runners true same among rest = (
   record { rest = rest; none = none },
   record {
     planned = planned;
     objects = subst (λ (os : List Object). ObjectsStand p h os) (sym (same refl)) stands.objects;
+    unrest = among refl;
     walks = subst (WalksStand p h) (sym walks) stands.walks;
     runners = subst (RunnersStand p h) (sym runners) stands.runners;
   },
 )
-idle_then p m h old new none stands planned walks runners false same rest = λ idle. rest idle.rest
+idle_then p m h old new none stands planned walks runners false same among rest = λ idle. rest idle.rest

@@ -11,6 +11,7 @@ use Rattle.bus_semantics.specs.Sound.{IsSound}
 use Rattle.port_objects.specs.Objects.{ArePlans}
 use Rattle.program_steps.specs.Wants.{planned}
 use Rattle.trace_objects.specs.Standing.{ObjectsStand}
+use Rattle.trace_objects.specs.Unrest.{AreAmong}
 use Rattle.trace_walks.specs.Runners.{RunnersStand}
 use Rattle.trace_walks.specs.Standing.{WalksStand}
 use Rattle.trace_check.specs.declared.rules.Rules.{Rules}
@@ -25,10 +26,12 @@ pub record AreSound (r : Rules) : Type 0 where
   pub sound : IsSound (plan_in r) r.mapping.now
   pub programs : planned r.programs.now ≡ plan_in r
 
--- the objects are the plan's, and stand for the history with the activations and those that run
+-- the objects are the plan's, and stand for the history with the activations and those that run; and what may come on the objects of its
+-- own is known
 pub record StateStands (p : Plan) (h : History) (b : BusState) : Type 0 where
   pub planned : ArePlans p b.objects.items
   pub objects : ObjectsStand p h b.objects.items
+  pub unrest : AreAmong p b.objects.items b.unrest
   pub walks : WalksStand p h b.walks
   pub runners : RunnersStand p h b.runners
 

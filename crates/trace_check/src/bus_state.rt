@@ -12,13 +12,14 @@ use bus_semantics::Entry;
 use port_objects::{Object, make_objects, sound_plans_have_objects};
 use rte_text::Memory;
 use std::alloc::Global;
-use trace_objects::{make, may_rest};
+use trace_objects::{Unrest, make, may_rest};
 use trace_walks::{Runners, Walks};
 
-/// What is kept of a bus along a trace: its objects, its activations, and which of them run.
+/// What is kept of a bus along a trace: its objects, what may come on them of its own, its activations, and which of them run.
 #[derive(Drop)]
 pub(crate) struct BusState<'a, 'p> {
     objects: Vec<Object>,
+    unrest: Unrest,
     walks: Walks<'a, 'p>,
     runners: Runners,
 }
@@ -31,10 +32,12 @@ impl<'a, 'p> BusState<'a, 'p> {
     {
         sound_plans_have_objects();
         let objects = make_objects(alloc, rules.plan)?;
+        let unrest = Unrest::new(alloc, rules.plan)?;
         let walks = Walks::new(alloc, rules.plan)?;
         let runners = Runners::new(alloc, rules.plan)?;
         Ok(BusState {
             objects,
+            unrest,
             walks,
             runners,
         })
@@ -75,7 +78,13 @@ impl<'a, 'p> BusState<'a, 'p> {
             Makes (plan_in rules.now) h entry.now self.new broken) }
     {
         let event = self.walks.event_for(rules.plan, entry);
-        match make(rules.plan, &mut self.objects, entry, event) {
+        match make(
+            rules.plan,
+            &mut self.objects,
+            &mut self.unrest,
+            entry,
+            event,
+        ) {
             Some(clause) => Ok(Some(clause)),
             None => {
                 self.walks.note(alloc, rules.programs, rules.plan, entry)?;
@@ -96,6 +105,6 @@ impl<'a, 'p> BusState<'a, 'p> {
         if !self.runners.none_runs() {
             return false;
         }
-        may_rest(rules.plan, rules.mapping, &mut self.objects)
+        may_rest(rules.plan, &mut self.objects, &mut self.unrest)
     }
 }

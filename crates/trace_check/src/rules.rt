@@ -7,6 +7,7 @@ use program_steps::Programs;
 #[derive(Drop)]
 pub(crate) struct Rules<'a, 'p> {
     pub plan: &'p BusPlan,
+    /// With it the bus is sound.
     pub mapping: &'p Mapping,
     pub script: &'p Script,
     pub programs: &'a Programs<'p>,

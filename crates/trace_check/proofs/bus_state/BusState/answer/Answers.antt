@@ -52,6 +52,7 @@ returns-in_ok-note-in-None c = λ h legal stands program.
       stands = λ none. record {
         planned = c.make.ensures.planned;
         objects = c.in-None.ensures.made r.mapping.now h asked stands.objects refl;
+        unrest = c.make.ensures.among;
         walks = c.in_ok-note-in-None.ensures r.mapping.now h c.requires.sound.sound later stands.walks;
         runners = c.note-in-None.ensures (plan_in r) r.mapping.now h c.requires.sound.sound c.requires.fits stands.runners;
       };
