@@ -6,10 +6,10 @@ ghost use Rattle.bus_semantics.specs.Actor.{accepted_point, direct_key};
 ghost use Rattle.bus_semantics.specs.Plan.{plan_of};
 
 use crate::Memory;
-use bus_semantics::{BusPlan, Deed, Entry, wish_of};
+use bus_semantics::{BusPlan, Deed, Entry};
 use program_steps::{Programs, Steps};
 use rte_value::{ActKey, Value};
-use same_entries::same_wish;
+use same_entries::is_wish_of;
 use std::alloc::Global;
 
 /// Whether an activation is over with this deed: its End, or an admission that was refused.
@@ -131,7 +131,7 @@ impl<'a, 'p> Walk<'a, 'p> {
     {
         match &self.running {
             Some(running) => match running.steps.next_call() {
-                Some(next) => same_wish(&wish_of(entry, Some(running.event)), &next),
+                Some(next) => is_wish_of(entry, Some(running.event), &next),
                 None => false,
             },
             None => false,
