@@ -44,33 +44,33 @@ fn without_last(line: &[u8]) -> &[u8]
     }
 }
 
-/// Whether the line is the entry's.
-fn is_line_of(p: &BusPlan, v: Version, e: &Entry, line: &[u8]) -> bool
+/// Whether the line is the entry's. `out` is for its text.
+fn is_line_of(p: &BusPlan, v: Version, e: &Entry, line: &[u8], out: &mut LineBuf) -> bool
     requires { IsReadable (plan_of p.now) }
     ensures { result ≡ bytes_eq (entry_text v (plan_of p.now) e.now) line.now }
 {
-    let mut out = LineBuf::new();
-    write_entry(p, e, v, &mut out);
+    out.clear();
+    write_entry(p, e, v, out);
     out.bytes() == line
 }
 
-/// Whether the entry fits the plan and has this line.
-fn is_read_as(p: &BusPlan, v: Version, e: &Entry, line: &[u8]) -> bool
+/// Whether the entry fits the plan and has this line. `out` is for its text.
+fn is_read_as(p: &BusPlan, v: Version, e: &Entry, line: &[u8], out: &mut LineBuf) -> bool
     requires { IsReadable (plan_of p.now) }
     ensures { result ≡ (item_fits (plan_of p.now) (made e.now) && bytes_eq (entry_text v (plan_of p.now) e.now) line.now) }
 {
     actor_is_sized(e.actor);
-    fits(p, e) && is_sized(&e.deed) && is_line_of(p, v, e, line)
+    fits(p, e) && is_sized(&e.deed) && is_line_of(p, v, e, line, out)
 }
 
-/// The entry whose line it is, if there is one.
-fn read_made(names: &Names, v: Version, line: &[u8]) -> Option<Entry>
+/// The entry whose line it is, if there is one. `out` is for its text.
+fn read_made(names: &Names, v: Version, line: &[u8], out: &mut LineBuf) -> Option<Entry>
     requires { IsReadable (plan_of names.now.plan.now) }
     ensures { ReadsEntry v (plan_of names.now.plan.now) line.now result }
 {
     match guess(names, v, without_last(line)) {
         Some(e) => {
-            if is_read_as(names.plan, v, &e, line) {
+            if is_read_as(names.plan, v, &e, line, out) {
                 Some(e)
             } else {
                 None
@@ -80,8 +80,8 @@ fn read_made(names: &Names, v: Version, line: &[u8]) -> Option<Entry>
     }
 }
 
-/// What the line is read as.
-fn read_by(names: &Names, v: Version, line: &[u8]) -> LineRead
+/// What the line is read as. `out` is for the text of an entry.
+fn read_by(names: &Names, v: Version, line: &[u8], out: &mut LineBuf) -> LineRead
     requires { IsReadable (plan_of names.now.plan.now) }
     ensures { Reads v (plan_of names.now.plan.now) line.now result }
 {
@@ -94,7 +94,7 @@ fn read_by(names: &Names, v: Version, line: &[u8]) -> LineRead
     if line == unsettled_line() {
         return LineRead::Unsettled;
     }
-    match read_made(names, v, line) {
+    match read_made(names, v, line, out) {
         Some(e) => LineRead::Entry(e),
         None => LineRead::BadLine,
     }
@@ -114,6 +114,7 @@ pub fn read_entry(p: &BusPlan, v: Version, line: &[u8]) -> LineRead
         },
         v,
         line,
+        &mut LineBuf::new(),
     )
 }
 
@@ -143,6 +144,26 @@ impl<'p> Reader<'p> {
     pub fn read(&self, v: Version, line: &[u8]) -> LineRead
         ensures reads { Reads v (plan_of self.now.plan.now) line.now result }
     {
+        self.read_expecting(v, line, None, &mut LineBuf::new())
+    }
+
+    /// Reads a line of a trace of the version, given with its newline, as `read` does. The expected entry is a guess, and may be any: where
+    /// the line is its line, no names are looked up. `out` holds the texts that are compared, and what stands in it before and
+    /// after means nothing. It takes no memory.
+    pub fn read_expecting(
+        &self,
+        v: Version,
+        line: &[u8],
+        expected: Option<&Entry>,
+        out: &mut LineBuf,
+    ) -> LineRead
+        ensures reads { Reads v (plan_of self.now.plan.now) line.now result }
+    {
+        if let Some(e) = expected {
+            if is_read_as(self.plan, v, e, line, out) {
+                return LineRead::Entry(*e);
+            }
+        }
         read_by(
             &Names {
                 plan: self.plan,
@@ -150,6 +171,7 @@ impl<'p> Reader<'p> {
             },
             v,
             line,
+            out,
         )
     }
 }
