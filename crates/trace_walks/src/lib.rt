@@ -1,6 +1,7 @@
 //! Activations gone through along a trace: what each key wants next, by its program and the answers before.
 #![tactic(auto)]
 
+mod expecting;
 mod runners;
 mod walk;
 mod walks;

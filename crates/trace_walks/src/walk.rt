@@ -6,7 +6,7 @@ ghost use Rattle.bus_semantics.specs.Actor.{accepted_point, direct_key};
 ghost use Rattle.bus_semantics.specs.Plan.{plan_of};
 
 use crate::Memory;
-use bus_semantics::{BusPlan, Deed, Entry};
+use bus_semantics::{BusPlan, Deed, Entry, Wish};
 use program_steps::{Programs, Steps};
 use rte_value::{ActKey, Value};
 use same_entries::is_wish_of;
@@ -121,6 +121,14 @@ impl<'a, 'p> Walk<'a, 'p> {
     {
         match &self.running {
             Some(running) => Some(running.event),
+            None => None,
+        }
+    }
+
+    /// The call that the running activation makes next. It is used for a guess alone.
+    pub(crate) fn next_call(&self) -> Option<Wish> {
+        match &self.running {
+            Some(running) => running.steps.next_call(),
             None => None,
         }
     }

@@ -85,7 +85,7 @@ impl<'a, 'p> Walks<'a, 'p> {
     }
 
     /// The walk of a key.
-    fn walk(&self, key: ActKey) -> Option<&Walk<'a, 'p>>
+    pub(crate) fn walk(&self, key: ActKey) -> Option<&Walk<'a, 'p>>
         ensures { option_map (λ walk. walk.now) result ≡ walk_of self.now key }
     {
         match key.point {
