@@ -8,9 +8,10 @@ ghost use Rattle.bus_semantics.specs.Legal.{IsLegal};
 ghost use Rattle.trace_check.specs.Along.{AreSound, Idles, IsAlong, IsAsked, Makes, StateStands, plan_in};
 
 use crate::rules::Rules;
-use bus_semantics::Entry;
+use bus_semantics::{Deed, Entry};
 use port_objects::{Object, make_objects, sound_plans_have_objects};
 use rte_text::Memory;
+use rte_value::ActKey;
 use std::alloc::Global;
 use trace_objects::{Unrest, make, may_rest};
 use trace_walks::{Runners, Walks};
@@ -92,6 +93,11 @@ impl<'a, 'p> BusState<'a, 'p> {
                 Ok(None)
             }
         }
+    }
+
+    /// A guess at what the key does next, after the last deed of the trace, or where it starts by this event.
+    pub(crate) fn expected(&self, key: ActKey, last: &Deed, event: Option<u32>) -> Option<Deed> {
+        self.walks.expected(key, last, event)
     }
 
     /// Whether the word `idle` holds after the history for which the state stands: no activation runs, and the bus is at rest. If not, the

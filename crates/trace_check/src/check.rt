@@ -10,8 +10,9 @@ ghost use Rattle.trace_check.specs.Checking.{CanJudge, Judges, JudgesRead, ReadF
 use crate::bus_state::BusState;
 use crate::rules::Rules;
 use crate::script::{takes_entry, takes_run};
-use bus_semantics::{Actor, Entry};
+use bus_semantics::{Actor, Deed, Entry};
 use rte_text::Memory;
+use rte_value::ActKey;
 use script_orders::Orders;
 use std::alloc::Global;
 use trace_reading::LineRead;
@@ -159,6 +160,11 @@ impl<'a, 'p> Check<'a, 'p> {
             LineRead::Unsettled => Ok(self.judge_unsettled(rules)),
             LineRead::BadLine => Ok(Judged::Bad),
         }
+    }
+
+    /// A guess at what the key does next, after the last deed of the trace, or where it starts by this event. Any line may come, whatever the guess.
+    pub(crate) fn expected(&self, key: ActKey, last: &Deed, event: Option<u32>) -> Option<Deed> {
+        self.state.expected(key, last, event)
     }
 
     /// Whether the session for which the check stands is a whole one of the script: no run line is open, and nothing is left of the script.

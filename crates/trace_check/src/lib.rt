@@ -3,6 +3,7 @@
 
 mod bus_state;
 mod check;
+mod expecting;
 mod lines;
 mod rules;
 mod script;

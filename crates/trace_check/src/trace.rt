@@ -10,13 +10,14 @@ ghost use Rattle.trace_check.specs.Along.{AreSound};
 ghost use Rattle.trace_check.specs.Lines.{Reaches, VerdictOf};
 
 use crate::check::{Check, Judged};
+use crate::expecting::Guesses;
 use crate::lines::{first_line, version_of};
 use crate::rules::Rules;
 use bus_semantics::{BusPlan, Mapping, Script, Version};
 use check_definitions::Checked;
 use check_laws::traces_have_one_verdict;
 use program_steps::Programs;
-use rte_text::Memory;
+use rte_text::{LineBuf, Memory};
 use std::alloc::Global;
 use trace_reading::{Reader, items_have_one_line, sound_plans_are_readable};
 
@@ -47,12 +48,17 @@ fn check_lines<'a, 'p>(
     let mut check = Check::new(alloc, rules)?;
     let mut left = text;
     let mut line: u64 = 2;
+    let mut guesses = Guesses::new(alloc, rules.plan)?;
+    let mut out = LineBuf::new();
     'lines: while !left.is_empty() {
         let (first, more) = first_line(left);
-        match check.judge(alloc, rules, &reader.read(version, first))? {
+        let expected = guesses.expected(&check, first);
+        let read = reader.read_expecting(version, first, expected.as_ref(), &mut out);
+        match check.judge(alloc, rules, &read)? {
             Judged::Accepted => {
                 left = more;
                 line += 1;
+                guesses.note(first, &read);
             }
             Judged::Bad => return Ok(Checked::BadLine(line)),
             Judged::Refused(clause) => return Ok(Checked::Illegal { line, clause }),

@@ -30,13 +30,13 @@ lines-preserved c =
     let more = c.first_line.result.1.now in
     let some = some_left c.lines.left.now (sym c.is_empty.ensures ∙ c.lines-test.true) in
     let less = shorter first more c.lines.left.now c.first_line.ensures.line c.first_line.ensures.whole some in
-    let reads = subst (λ (b : BusPlan). Reads v (plan_of b) first c.read.result) c.requires.of_plan c.read.ensures.reads in
+    let reads = subst (λ (b : BusPlan). Reads v (plan_of b) first c.read_expecting-read.result) c.requires.of_plan c.read_expecting-read.ensures.reads in
     record {
       few = omega (arith, less, c.lines.invariant.few);
       reached = λ trace is.
           let reached = c.lines.invariant.reached trace is in
-          let judges = subst (JudgesRead r reached.session c.read.result c.judge.new.self) c.in-Accepted.is (c.in_ok-judge.ensures reached.session reached.stands) in
-          accepted v r trace c.lines.check c.lines.left.now c.lines.line reached first more c.first_line.ensures.whole c.read.result c.judge.new.self reads judges;
+          let judges = subst (JudgesRead r reached.session c.read_expecting-read.result c.judge.new.self) c.in-Accepted.is (c.in_ok-judge.ensures reached.session reached.stands) in
+          accepted v r trace c.lines.check c.lines.left.now c.lines.line reached first more c.first_line.ensures.whole c.read_expecting-read.result c.judge.new.self reads judges;
     }
 
 pub returns-in-Bad : goal.returns-in-Bad
@@ -46,11 +46,11 @@ returns-in-Bad c = λ trace is.
     let first = c.first_line.result.0.now in
     let more = c.first_line.result.1.now in
     let some = some_left c.lines.left.now (sym c.is_empty.ensures ∙ c.lines-test.true) in
-    let reads = subst (λ (b : BusPlan). Reads v (plan_of b) first c.read.result) c.requires.of_plan c.read.ensures.reads in
+    let reads = subst (λ (b : BusPlan). Reads v (plan_of b) first c.read_expecting-read.result) c.requires.of_plan c.read_expecting-read.ensures.reads in
     let reached = c.lines.invariant.reached trace is in
-    let judges = subst (JudgesRead r reached.session c.read.result c.judge.new.self) c.in-Bad.is (c.in_ok-judge.ensures reached.session reached.stands) in
+    let judges = subst (JudgesRead r reached.session c.read_expecting-read.result c.judge.new.self) c.in-Bad.is (c.in_ok-judge.ensures reached.session reached.stands) in
     bad v r trace c.lines.check c.lines.left.now c.lines.line reached first more c.first_line.ensures.whole
-    (c.items_have_one_line.ensures (plan_in r) r.mapping.now c.requires.sound.sound) c.first_line.ensures.line some c.read.result c.judge.new.self reads judges
+    (c.items_have_one_line.ensures (plan_in r) r.mapping.now c.requires.sound.sound) c.first_line.ensures.line some c.read_expecting-read.result c.judge.new.self reads judges
 
 pub returns-in-Refused : goal.returns-in-Refused
 returns-in-Refused c = λ trace is.
@@ -58,10 +58,10 @@ returns-in-Refused c = λ trace is.
     let r = c.args.rules.now in
     let first = c.first_line.result.0.now in
     let more = c.first_line.result.1.now in
-    let reads = subst (λ (b : BusPlan). Reads v (plan_of b) first c.read.result) c.requires.of_plan c.read.ensures.reads in
+    let reads = subst (λ (b : BusPlan). Reads v (plan_of b) first c.read_expecting-read.result) c.requires.of_plan c.read_expecting-read.ensures.reads in
     let reached = c.lines.invariant.reached trace is in
-    let judges = subst (JudgesRead r reached.session c.read.result c.judge.new.self) c.in-Refused.is (c.in_ok-judge.ensures reached.session reached.stands) in
-    refused v r trace c.lines.check c.lines.left.now c.lines.line reached first more c.first_line.ensures.whole c.read.result c.judge.new.self c.in-Refused.clause reads judges
+    let judges = subst (JudgesRead r reached.session c.read_expecting-read.result c.judge.new.self) c.in-Refused.is (c.in_ok-judge.ensures reached.session reached.stands) in
+    refused v r trace c.lines.check c.lines.left.now c.lines.line reached first more c.first_line.ensures.whole c.read_expecting-read.result c.judge.new.self c.in-Refused.clause reads judges
 
 pub returns : goal.returns
 returns c = λ trace is.
