@@ -63,6 +63,7 @@ this holds in whatever order the cores took their turns|core_runtime/gives_entri
 status 0 comes only then|rte_program/done_after_a_failed_fetch rte_program/done_after_a_failed_put
 each other status comes only if its cause is there|rte_program/always_words rte_program/always_refused rte_program/always_script rte_program/always_not_read rte_program/always_not_written rte_program/always_trace
 the least broken rule is named|compatibility/names_a_later_rule description_stages/maps_before_the_joins_are_checked
+a trace is called legal exactly if it is the text of such a run, else its first line that is not, with the clause|trace_check/check_accepts_a_foreign_call trace_check/refuses_for_a_lower_clause trace_check/takes_an_open_end trace_check/closes_outside_a_run_line trace_reading/accepts_another_line
 END
 }
 
