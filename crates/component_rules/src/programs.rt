@@ -11,14 +11,14 @@ use runnable_lang::{ProgramRefused, check_program};
 use std::alloc::{AllocError, Global};
 
 /// A runnable and the path to a statement of its program.
-type InProgram = (usize, Seq<u32>);
+type InProgram = (usize, Seq<usize>);
 
 fn program_refusal(
     alloc: Global,
     types: &TypeTable,
     component: &Component,
     runnable: &Runnable,
-) -> Result<Option<(u16, Seq<u32>)>, Memory>
+) -> Result<Option<(u16, Seq<usize>)>, Memory>
     ensures { IfOk result (λ refused. refused ≡ program_refusal types.now component.now runnable.now) }
 {
     let signature = signature_of(alloc, types, component, runnable.accesses.items())?;
@@ -44,7 +44,7 @@ fn path_refused(
     types: &TypeTable,
     component: &Component,
     runnable: &Runnable,
-) -> Result<Option<Seq<u32>>, Memory>
+) -> Result<Option<Seq<usize>>, Memory>
     ensures { IfOk result (λ path. path ≡ option_and_then (path_of wanted) (program_refusal types.now component.now runnable.now)) }
 {
     match program_refusal(alloc, types, component, runnable)? {

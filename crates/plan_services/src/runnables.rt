@@ -19,8 +19,8 @@ use component_rules::signature_of;
 use description_types::{Component, Runnable};
 use flat_descriptions::Instance;
 use plan_numbers::{Pair, Source, Table, position};
-use program_copy::copy_program;
 use rte_text::{Memory, Text};
+use runnable_lang::copy_program;
 use std::alloc::Global;
 
 fn server_of(

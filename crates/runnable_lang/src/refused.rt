@@ -20,7 +20,7 @@ pub enum ProgramRefused {
         /// another statement, the path of that statement stands before it, and then the position of
         /// the body as it is written: 2 and 3 in an `if`, 2 in a `repeat` and in an area. The path of
         /// the whole program is empty.
-        path: Seq<u32>,
+        path: Seq<usize>,
     },
     /// There was no memory for the path.
     Memory,

@@ -39,16 +39,13 @@ fn inside(around: Option<u32>, area: u32) -> Option<u32>
     }
 }
 
-/// A path, one level further out. A position beyond 32 bits counts as no memory.
-fn under(position: usize, found: Option<Vec<u32>>) -> Result<Option<Vec<u32>>, AllocError>
+/// A path, one level further out.
+fn under(position: usize, found: Option<Vec<usize>>) -> Result<Option<Vec<usize>>, AllocError>
     ensures { Finds (under_path position (items_of found)) result }
 {
     match found {
         None => Ok(None),
         Some(mut path) => {
-            let Ok(position) = u32::try_from(position) else {
-                return Err(AllocError);
-            };
             path.insert(0, position)?;
             Ok(Some(path))
         }
@@ -74,7 +71,7 @@ impl Walk<'_> {
 
     /// The path, within the statement, of the first that breaks the rule.
     #[cycle(walk)]
-    fn in_stmt(&self, around: Option<u32>, stmt: &Stmt) -> Result<Option<Vec<u32>>, AllocError>
+    fn in_stmt(&self, around: Option<u32>, stmt: &Stmt) -> Result<Option<Vec<usize>>, AllocError>
         ensures { Finds (first (failing_in (test_of self.now.rule self.now.table.now.accesses.now) around (stmt_tree stmt.now))) result }
     {
         if self.fails(around, stmt) {
@@ -100,7 +97,7 @@ impl Walk<'_> {
         around: Option<u32>,
         part: usize,
         body: &[Stmt],
-    ) -> Result<Option<Vec<u32>>, AllocError>
+    ) -> Result<Option<Vec<usize>>, AllocError>
         ensures { Finds (under_path part (first (failing_among (test_of self.now.rule self.now.table.now.accesses.now) around 0 (body_tree body.now)))) result }
     {
         let found = self.in_body(around, body)?;
@@ -114,7 +111,7 @@ impl Walk<'_> {
         &self,
         around: Option<u32>,
         body: &[Stmt],
-    ) -> Result<Option<Vec<u32>>, AllocError>
+    ) -> Result<Option<Vec<usize>>, AllocError>
         ensures { Finds (first (failing_among (test_of self.now.rule self.now.table.now.accesses.now) around 0 (body_tree body.now))) result }
     {
         for (position, stmt) in body.iter().enumerate() {

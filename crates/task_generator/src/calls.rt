@@ -17,8 +17,7 @@ use crate::Memory;
 use crate::code::put_call;
 use crate::copies::copy_numbers;
 use crate::generator::Generator;
-use program_copy::copy_expr;
-use runnable_lang::{AccessKind, Expr, Stmt};
+use runnable_lang::{AccessKind, Expr, Stmt, copy_expr};
 use task_machine::{Given, GivenWord, Instr, Request, Taken};
 
 impl Generator<'_, '_> {

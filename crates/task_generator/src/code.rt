@@ -6,8 +6,7 @@ ghost use Rattle.task_machine.specs.Instructions.{Instruction, instruction_of, u
 ghost use Rattle.task_generator.specs.Code.{choosing_code, looping_code};
 
 use crate::Memory;
-use program_copy::copy_expr;
-use runnable_lang::Expr;
+use runnable_lang::{Expr, copy_expr};
 use std::alloc::Global;
 use task_machine::{Instr, Request, Taken};
 

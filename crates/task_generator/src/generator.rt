@@ -12,8 +12,7 @@ use crate::Memory;
 use crate::accesses::Accesses;
 use crate::code::{end_choice, end_loop, hold, put, put_call};
 use crate::nothing::loop_does_nothing;
-use program_copy::copy_expr;
-use runnable_lang::{AccessKind, Stmt};
+use runnable_lang::{AccessKind, Stmt, copy_expr};
 use std::alloc::Global;
 use task_machine::{Instr, Request, Taken};
 

@@ -2,11 +2,11 @@
 
 ghost use Rattle.std.specs.Prelude.{◌≡◌, IfOk, pos};
 ghost use Rattle.runnable_lang.specs.Trees.{constant, expr_tree, exprs, stmt_tree, sets, writes, reads, invalidates, asks_updated, sends, receives, writes_late, reads_early, writes_variable, reads_variable, writes_variable_late, reads_variable_early, calls, calls_and_goes_on, takes_result, switches, asks_mode};
-ghost use Rattle.program_copy.specs.Plain.{plain};
+ghost use Rattle.runnable_lang.specs.Plain.{plain};
 
-use crate::expressions::{copy_expr, copy_exprs};
+use crate::copies::expressions::{copy_expr, copy_exprs};
+use crate::stmt::{Expr, Stmt};
 use rte_text::Memory;
-use runnable_lang::{Expr, Stmt};
 use std::alloc::Global;
 
 fn copy_set(alloc: Global, var: u32, value: &Expr) -> Result<Stmt, Memory>

@@ -3,8 +3,8 @@
 ghost use Rattle.std.specs.Prelude.{◌≡◌, IfOk};
 ghost use Rattle.runnable_lang.specs.Trees.{combined, expr_tree, exprs};
 
+use crate::stmt::{Expr, Op};
 use rte_text::Memory;
-use runnable_lang::{Expr, Op};
 use std::alloc::Global;
 
 fn combine(alloc: Global, op: Op, first: Expr, second: Expr) -> Result<Expr, Memory>

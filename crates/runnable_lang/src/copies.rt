@@ -1,5 +1,4 @@
 //! Copies of programs and of expressions.
-#![tactic(auto)]
 
 mod expressions;
 mod plain;

@@ -3,10 +3,11 @@
 ghost use Rattle.std.specs.Prelude.{◌≡◌, IfOk};
 ghost use Rattle.runnable_lang.specs.Trees.{body_tree, chooses, expr_tree, in_area, program_tree, repeats, stmt_tree};
 
-use crate::expressions::copy_expr;
-use crate::plain::copy_plain;
+use crate::copies::expressions::copy_expr;
+use crate::copies::plain::copy_plain;
+use crate::program::Program;
+use crate::stmt::{Expr, Stmt};
 use rte_text::Memory;
-use runnable_lang::{Expr, Program, Stmt};
 use std::alloc::Global;
 
 fn choice(alloc: Global, cond: &Expr, yes: Vec<Stmt>, no: Vec<Stmt>) -> Result<Stmt, Memory>
