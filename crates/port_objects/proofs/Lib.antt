@@ -8,3 +8,4 @@ mod Sounds
 mod Freeing
 mod Closed
 mod Hearing
+mod Written

@@ -1,5 +1,7 @@
 -- What a bench answers, and what it tells of it: the objects where it has them all to itself, and its own work where it keeps an account.
 use Rattle.std.specs.Prelude.{◌≡◌, ◌≤◌, ℕ, suc, ◌+◌, List, [], ◌∷◌, ◌++◌, set, slice_get, true, Option, Some, None, unwrap_or}
+use Rattle.std.specs.List.{last_or}
+use Rattle.std.specs.Option.{option_map_or}
 use Rattle.bus_semantics.specs.declared.entries.Actor.{Actor}
 use Rattle.bus_semantics.specs.declared.entries.Entry.{Entry}
 use Rattle.bus_semantics.specs.declared.entries.Stamped.{Stamped}
@@ -15,6 +17,8 @@ use Rattle.object_kinds.specs.declared.acted.Acted.{Acted}
 use Rattle.object_kinds.specs.declared.acted.Acted.TheVariants as acted
 use Rattle.port_objects.specs.declared.bench.Benched.{Benched}
 use Rattle.port_objects.specs.declared.bench.Benched.TheVariants.{Done, NotYet, Contended}
+use Rattle.port_objects.specs.declared.bench.Answered.{Answered}
+use Rattle.port_objects.specs.declared.bench.Answered.TheVariants as answered
 use Rattle.port_objects.specs.Answers.{IsMade, IsHeld}
 
 -- ---- what may be asked
@@ -135,6 +139,29 @@ pub record IsStamped (old new : Told) (s : Stamped) : Type 0 where
   pub next : StampAfter old.next new.next (Some s)
   pub objects : new.objects ≡ old.objects
   pub work : IsFurther old.work new.work (s ∷ []) 0 0
+
+-- ---- entries that a bench writes down itself, at the end of a list
+
+-- the entry that was written down last
+abbrev pub written_last : List Stamped → Option Stamped
+written_last made = last_or None made
+
+-- the answer of a bench, with the entry that it wrote down in this list; where `IsWritten` holds, `Made` is `Done` of an entry
+abbrev pub benched : Answered → (made : List Stamped) → Benched
+benched answered.Made made = option_map_or Done (written_last made) Contended
+benched (answered.NotYet shown) made = NotYet shown
+benched answered.Contended made = Contended
+
+-- one entry was written down behind the others, or none
+abbrev pub IsWritten : (before after : List Stamped) → Answered → Type 0
+IsWritten before after answered.Made = (s : Stamped) × (after ≡ before ++ s ∷ [])
+IsWritten before after r = after ≡ before
+
+-- this entry, which touches no object, was stamped and written down behind the others
+pub record IsStampedInto (old new : Told) (before after : List Stamped) (e : Entry) : Type 0 where
+  pub stamp : ℕ
+  pub written : after ≡ before ++ stamped_alone stamp e ∷ []
+  pub stamped : IsStamped old new (stamped_alone stamp e)
 
 -- ---- a plain bench
 

@@ -14,9 +14,10 @@ mod plain_bench;
 mod threads;
 mod touching;
 mod waking;
+mod writing;
 
 pub use acting::act;
-pub use bench::{Bench, Benched};
+pub use bench::{Answered, Bench, Benched};
 pub use bus_semantics::object_of;
 pub use closing::{areas_are_closed_alike, only_a_leave_opens};
 pub use freed::free_deed;
@@ -33,6 +34,7 @@ pub use waking::{
     answers_go_by_flags, heard, held_starts_lead_nowhere, may_start, other_entries_wake_nothing,
     woken,
 };
+pub use writing::{last_entries_are_last, last_written};
 
 /// There was no memory for what a call makes.
 pub type Memory = std::alloc::AllocError;

@@ -1,6 +1,7 @@
 //! A bench of one thread.
 
-ghost use Rattle.std.specs.Prelude.{◌≡◌, ◌<◌, ◌-◌, suc};
+ghost use Rattle.std.specs.Prelude.{◌≡◌, ◌<◌, ◌-◌, ◌++◌, suc, [], ◌∷◌, length};
+ghost use Rattle.std.specs.Vec.{vec_capacity};
 ghost use Rattle.bus_semantics.specs.Plan.{plan_of};
 ghost use Rattle.bus_semantics.specs.Wanted.{wanted_of};
 ghost use Rattle.bus_semantics.specs.Asked.{event_of};
@@ -8,9 +9,9 @@ ghost use Rattle.port_objects.specs.Objects.{ArePlans};
 ghost use Rattle.port_objects.specs.Plans.{HasObjects};
 
 use crate::among::act_among;
-use crate::bench::{Bench, Benched};
+use crate::bench::{Answered, Bench, Benched};
 use crate::object::Object;
-use bus_semantics::{Actor, BusPlan, Entry, Stamped, Wish};
+use bus_semantics::{Actor, BusPlan, Deed, Entry, Stamped, Wish};
 use object_kinds::Acted;
 use std::marker::Model;
 
@@ -74,20 +75,32 @@ impl<'a> PlainBench<'a> {
         self.objects
     }
 
-    /// The stamped entry with the next stamp.
-    fn stamped(&mut self, entry: Entry, event: Option<u32>) -> Stamped
+    /// Takes the next stamp.
+    fn take_stamp(&mut self) -> u64
         requires { 0 < self.old.room }
-        ensures stamped { result ≡ record { stamp = self.old.next; entry = entry; event = event } }
+        ensures stamp { result ≡ self.old.next }
         ensures bench { self.new ≡ record { plan = self.old.plan; objects = self.old.objects; room = self.old.room - 1; next = suc self.old.next } }
     {
         let stamp = self.next;
         self.next += 1;
         self.room -= 1;
-        Stamped {
+        stamp
+    }
+
+    /// Writes the entry down with the next stamp.
+    fn write(&mut self, entry: &Entry, event: Option<u32>, made: &mut Vec<Stamped>)
+        requires room { 0 < self.old.room }
+        requires space { length made.old.items < vec_capacity made.old }
+        ensures capacity { vec_capacity made.new ≡ vec_capacity made.old }
+        ensures written { made.new.items ≡ made.old.items ++ record { stamp = self.old.next; entry = entry.now; event = event } ∷ [] }
+        ensures bench { self.new ≡ record { plan = self.old.plan; objects = self.old.objects; room = self.old.room - 1; next = suc self.old.next } }
+    {
+        let stamp = self.take_stamp();
+        made.push_reserved(Stamped {
             stamp,
-            entry,
+            entry: *entry,
             event,
-        }
+        });
     }
 }
 
@@ -115,12 +128,45 @@ impl<'a> Bench for PlainBench<'a> {
 
     fn act(&mut self, object: u32, who: &Actor, wish: &Wish) -> Benched {
         match act_among(self.plan, &mut self.objects, object, who, wish) {
-            Acted::Done(entry) => Benched::Done(self.stamped(entry, event_of(wish))),
+            Acted::Done(entry) => Benched::Done(Stamped {
+                stamp: self.take_stamp(),
+                entry,
+                event: event_of(wish),
+            }),
             Acted::NotYet(shown) => Benched::NotYet(shown),
         }
     }
 
     fn stamp(&mut self, entry: &Entry) -> u64 {
-        self.stamped(*entry, None).stamp
+        let _entry = entry;
+        self.take_stamp()
+    }
+
+    fn act_into(
+        &mut self,
+        object: u32,
+        who: &Actor,
+        wish: &Wish,
+        made: &mut Vec<Stamped>,
+    ) -> Answered {
+        match act_among(self.plan, &mut self.objects, object, who, wish) {
+            Acted::Done(ref entry) => {
+                self.write(entry, event_of(wish), made);
+                Answered::Made
+            }
+            Acted::NotYet(shown) => Answered::NotYet(shown),
+        }
+    }
+
+    fn stamp_into(&mut self, who: &Actor, deed: &Deed, made: &mut Vec<Stamped>) {
+        let stamp = self.take_stamp();
+        made.push_reserved(Stamped {
+            stamp,
+            entry: Entry {
+                actor: *who,
+                deed: *deed,
+            },
+            event: None,
+        });
     }
 }

@@ -1,6 +1,6 @@
 //! What passes between threads.
 
-use crate::{Acted, Benched, Object, Shown};
+use crate::{Acted, Answered, Benched, Object, Shown};
 
 /// Is called only where values of the type may be moved to and shared with other threads.
 fn passes<T: Send + Sync>() {}
@@ -11,4 +11,5 @@ fn show_what_passes() {
     passes::<Shown>();
     passes::<Acted>();
     passes::<Benched>();
+    passes::<Answered>();
 }
