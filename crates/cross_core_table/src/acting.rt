@@ -7,9 +7,9 @@ ghost use Rattle.bus_semantics.specs.SoundPlan.{groups_fit};
 ghost use Rattle.bus_semantics.specs.Wanted.{wanted_of};
 ghost use Rattle.bus_semantics.specs.Asked.{event_of};
 ghost use Rattle.bus_semantics.specs.Objects.{touched_by};
-ghost use Rattle.port_objects.specs.Benches.{IsAsked, stamped_alone};
+ghost use Rattle.port_objects.specs.Benches.{IsAsked, stamped_alone, benched, IsWritten};
 ghost use Rattle.cross_core_table.specs.Logs.{plan_in};
-ghost use Rattle.cross_core_table.specs.Plays.{making, letting_go};
+ghost use Rattle.cross_core_table.specs.Plays.{making, letting_go, as_stamped};
 ghost use Rattle.cross_core_table.specs.Places.{KnowsAfter, IsToKeep};
 ghost use Rattle.cross_core_table.specs.Seats.{IsSeatAt, view_of};
 
@@ -17,9 +17,9 @@ use crate::seats::CoreSeat;
 use crate::steps::{Top, act_on, look, stamp_off, stamp_on, try_lock, unlock};
 use bus_semantics::{Actor, BusPlan, Entry, Stamped, Wish};
 use object_kinds::Acted;
-use port_objects::Benched;
+use port_objects::{Answered, last_entries_are_last};
 
-/// Makes the entry of a wish on the object of this number, if no other core holds it and one may come. It tries once.
+/// Makes the entry of a wish on the object of this number, if no other core holds it and one may come, and keeps it. It tries once.
 pub(crate) fn act_at(
     top: &Top,
     p: &BusPlan,
@@ -27,7 +27,7 @@ pub(crate) fn act_at(
     object: u32,
     who: &Actor,
     wish: &Wish,
-) -> Benched
+) -> Answered
     requires seat { IsSeatAt top.now.table_id top.now.key seat.old.core seat.old }
     requires plan { plan_of p.now ≡ plan_in top.now.key }
     requires groups { groups_fit (plan_of p.now) ≡ true }
@@ -36,30 +36,27 @@ pub(crate) fn act_at(
     requires asked { IsAsked (plan_of p.now) object who.now (wanted_of wish.now) }
     requires room { length (view_of seat.old).made < top.now.key.room }
     ensures seat { IsSeatAt top.now.table_id top.now.key seat.old.core seat.new }
-    ensures knows { KnowsAfter top.now.key seat.old.core object who.now (wanted_of wish.now) (view_of seat.old) (view_of seat.new) result }
+    ensures written { IsWritten seat.old.made.items seat.new.made.items result }
+    ensures knows { KnowsAfter top.now.key seat.old.core object who.now (wanted_of wish.now) (view_of seat.old) (view_of seat.new) (benched result seat.new.made.items) }
 {
+    last_entries_are_last();
     if try_lock(top, &mut seat.place, seat.core, object) != 0 {
-        return Benched::Contended;
+        return Answered::Contended;
     }
     match act_on(top, &mut seat.place, p, object, who, wish) {
-        Acted::Done(entry) => {
-            Benched::Done(keep_entry(top, seat, object, &entry, event_of(wish)))
+        Acted::Done(ref entry) => {
+            keep_entry(top, seat, object, entry, event_of(wish));
+            Answered::Made
         }
         Acted::NotYet(shown) => {
             look(top, &mut seat.place, object);
-            Benched::NotYet(shown)
+            Answered::NotYet(shown)
         }
     }
 }
 
-/// Stamps the entry that was made on the object in hand, gives the object back, and keeps the entry.
-fn keep_entry(
-    top: &Top,
-    seat: &mut CoreSeat,
-    object: u32,
-    entry: &Entry,
-    event: Option<u32>,
-) -> Stamped
+/// Stamps the entry that was made on the object in hand, gives the object back, and keeps the entry. It answers the stamp.
+fn keep_entry(top: &Top, seat: &mut CoreSeat, object: u32, entry: &Entry, event: Option<u32>) -> u64
     requires table { seat.old.place.table_id ≡ top.now.table_id }
     requires words { top.now.table_id.words ≡ suc top.now.table_id.slots }
     requires within { object < top.now.table_id.slots }
@@ -69,20 +66,18 @@ fn keep_entry(
     requires space { vec_len seat.old.made < vec_capacity seat.old.made }
     ensures table { seat.new.place.table_id ≡ seat.old.place.table_id }
     ensures core { seat.new.core ≡ seat.old.core }
-    ensures seat { seat.new.place.me ≡ (making (letting_go seat.old.place.me.0) result, []) }
-    ensures made { seat.new.made.items ≡ seat.old.made.items ++ result ∷ [] }
+    ensures seat { seat.new.place.me ≡ (making (letting_go seat.old.place.me.0) (as_stamped result entry.now event), []) }
+    ensures made { seat.new.made.items ≡ seat.old.made.items ++ as_stamped result entry.now event ∷ [] }
     ensures capacity { vec_capacity seat.new.made ≡ vec_capacity seat.old.made }
-    ensures entry { (result.entry ≡ entry.now) × (result.event ≡ event) }
 {
     let stamp = stamp_on(top, &mut seat.place, object, entry, event);
     unlock(top, &mut seat.place, object);
-    let stamped = Stamped {
+    seat.made.push_reserved(Stamped {
         stamp,
         entry: *entry,
         event,
-    };
-    seat.made.push_reserved(stamped);
-    stamped
+    });
+    stamp
 }
 
 /// The event that a wish names for its entry: of an Admit or End.

@@ -1,9 +1,9 @@
 //! A seat at its bench.
 
-ghost use Rattle.std.specs.Prelude.{◌≡◌, ◌<◌, length};
+ghost use Rattle.std.specs.Prelude.{◌≡◌, ◌<◌, length, Some};
 ghost use Rattle.bus_semantics.specs.Plan.{plan_of};
 ghost use Rattle.bus_semantics.specs.Wanted.{wanted_of};
-ghost use Rattle.port_objects.specs.Benches.{IsAsked};
+ghost use Rattle.port_objects.specs.Benches.{IsAsked, written_last, benched, IsWritten};
 ghost use Rattle.cross_core_table.specs.Logs.{plan_in};
 ghost use Rattle.cross_core_table.specs.Places.{KnowsAfter};
 ghost use Rattle.cross_core_table.specs.Seats.{IsSeatOf, view_of, core_of};
@@ -11,8 +11,8 @@ ghost use Rattle.cross_core_table.specs.Seats.{IsSeatOf, view_of, core_of};
 use crate::acting::{act_at, stamp_at};
 use crate::round::Round;
 use crate::seats::CoreSeat;
-use bus_semantics::{Actor, BusPlan, Entry, Wish};
-use port_objects::{Bench, Benched};
+use bus_semantics::{Actor, BusPlan, Entry, Stamped, Wish};
+use port_objects::{Answered, Bench, Benched, last_entries_are_last, last_written};
 use std::marker::Model;
 
 /// A seat of a round, as the bench of its core's turns. It borrows the round and the plan. Contracts see the round, the core, and
@@ -80,6 +80,22 @@ impl<'a> SeatBench<'a> {
         ensures core { self.new.core ≡ self.old.core }
         ensures knows { KnowsAfter self.old.round.opening self.old.core object who.now (wanted_of wish.now) self.old.view self.new.view result }
     {
+        match self.act_in_place(object, who, wish) {
+            Answered::Made => Benched::Done(*self.last_made()),
+            Answered::NotYet(shown) => Benched::NotYet(shown),
+            Answered::Contended => Benched::Contended,
+        }
+    }
+
+    /// As `act_once`, and leaves the entry where the seat keeps it.
+    fn act_in_place(&mut self, object: u32, who: &Actor, wish: &Wish) -> Answered
+        requires room { length self.old.view.made < self.old.round.opening.room }
+        requires asked { IsAsked (plan_in self.old.round.opening) object who.now (wanted_of wish.now) }
+        ensures round { self.new.round ≡ self.old.round }
+        ensures core { self.new.core ≡ self.old.core }
+        ensures written { IsWritten self.old.view.made self.new.view.made result }
+        ensures knows { KnowsAfter self.old.round.opening self.old.core object who.now (wanted_of wish.now) self.old.view self.new.view (benched result self.new.view.made) }
+    {
         act_at(
             self.round.top(),
             self.plan,
@@ -88,6 +104,14 @@ impl<'a> SeatBench<'a> {
             who,
             wish,
         )
+    }
+
+    /// The entry that it made last.
+    fn last_made(&self) -> &Stamped
+        requires { 0 < length self.now.view.made }
+        ensures { written_last self.now.view.made ≡ Some result.now }
+    {
+        last_written(self.seat.made.as_slice())
     }
 }
 
@@ -109,5 +133,20 @@ impl<'a> Bench for SeatBench<'a> {
 
     fn stamp(&mut self, entry: &Entry) -> u64 {
         stamp_at(self.round.top(), &mut self.seat, entry)
+    }
+
+    fn act_into(
+        &mut self,
+        object: u32,
+        who: &Actor,
+        wish: &Wish,
+        made: &mut Vec<Stamped>,
+    ) -> Answered {
+        last_entries_are_last();
+        let answered = self.act_in_place(object, who, wish);
+        if let Answered::Made = answered {
+            made.push_reserved(*self.last_made());
+        }
+        answered
     }
 }
