@@ -14,7 +14,7 @@ use Rattle.task_machine.specs.Standing.{Standing}
 use Rattle.task_machine.specs.Frames.{asks, Stands, code_of}
 use Rattle.task_machine.specs.Machine.{wanted_at}
 use Rattle.task_generator.specs.Promise.{AsksAsPlanned}
-use Rattle.task_slots.specs.declared.look.Look.{Look}
+use Rattle.task_slots.specs.Look.{Look}
 use Rattle.task_slots.specs.declared.slot.Call.{Call}
 use Rattle.task_slots.specs.Slots.{home_by, starts_at, is_key_of, asked_by, next_tries}
 use Rattle.task_slots.specs.Ready.{IsBegun, IsRunning, IsCalled}

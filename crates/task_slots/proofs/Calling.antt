@@ -13,7 +13,7 @@ use Rattle.bus_semantics.specs.Rest.{Try}
 use Rattle.bus_semantics.specs.Sound.{IsSound}
 use Rattle.bus_laws.proofs.Thinning.{option_test}
 use Rattle.port_objects.specs.Benches.{Told}
-use Rattle.task_slots.specs.declared.look.Look.{Look}
+use Rattle.task_slots.specs.Look.{Look}
 use Rattle.task_slots.specs.declared.slot.Call.{Call}
 use Rattle.task_slots.specs.Ready.{IsCalled}
 use Rattle.task_slots.specs.Looking.{IsFree, IsTried, looks_at, Looked}

@@ -12,8 +12,7 @@ use Rattle.bus_semantics.specs.Objects.{object_of}
 use Rattle.bus_semantics.specs.Rest.{Try, gathered}
 use Rattle.port_objects.specs.declared.object.Object.{Object}
 use Rattle.port_objects.specs.Benches.{Work, Further, IsFurther, StampAfter, Told}
-use Rattle.task_slots.specs.declared.look.Look.{Look}
-use Rattle.task_slots.specs.declared.look.Look.TheVariants.{Made, Nothing, Contended}
+use Rattle.task_slots.specs.Look.{Look, Made, Nothing, Contended}
 use Rattle.task_slots.specs.Looking.{AllHeld, FirstMade, ToldLooked, ObjectsLooked, RoomLooked, WorkLooked, made_in, is_touched, LostLooked, Looked}
 
 -- ---- a bench's work

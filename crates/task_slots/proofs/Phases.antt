@@ -11,8 +11,7 @@ use Rattle.bus_semantics.specs.Objects.{object_of, IsObject}
 use Rattle.bus_semantics.specs.Fitting.{wish_fits}
 use Rattle.task_machine.specs.declared.instr.TaskSet.{TaskSet}
 use Rattle.task_slots.specs.declared.slot.Slot.TheVariants as slot
-use Rattle.task_slots.specs.declared.look.Look.{Look}
-use Rattle.task_slots.specs.declared.look.Look.TheVariants.{Made, Nothing, Contended}
+use Rattle.task_slots.specs.Look.{Look, Made, Nothing, Contended}
 use Rattle.task_slots.specs.Looking.{IsTried, EntryOf}
 use Rattle.task_slots.specs.Stepping.{SlotLooked}
 use Rattle.task_slots.proofs.Steps.{phase_step}

@@ -18,8 +18,7 @@ use Rattle.bus_semantics.specs.Sound.{IsSound}
 use Rattle.bus_semantics.specs.Rest.{plain_key, option_list, gathered, start_try}
 use Rattle.bus_laws.proofs.Thinning.{option_test}
 use Rattle.port_objects.specs.Benches.{Told}
-use Rattle.task_slots.specs.declared.look.Look.{Look}
-use Rattle.task_slots.specs.declared.look.Look.TheVariants.{Made, Nothing, Contended}
+use Rattle.task_slots.specs.Look.{Look, Made, Nothing, Contended}
 use Rattle.task_slots.specs.Slots.{waits}
 use Rattle.task_slots.specs.Looking.{IsTried, IsFree, looks_at, EntryOf, StartBy, Looked}
 use Rattle.task_slots.proofs.Looks.{looked_on, looked_as, made_more, lost_more, gathered_on, gathered_one, count_on}

@@ -16,7 +16,7 @@ use Rattle.port_objects.specs.declared.object.Object.{Object}
 use Rattle.port_objects.specs.declared.bench.Benched.TheVariants.{Done, NotYet, Contended}
 use Rattle.port_objects.specs.Freed as freed
 use Rattle.port_objects.specs.Benches.{IsFurther, IsStampedFor, ObjectsAfter, Told, IsAsked, IsActed, IsStamped, stamped_alone}
-use Rattle.task_slots.specs.declared.look.Look.TheVariants as look
+use Rattle.task_slots.specs.Look as look
 use Rattle.task_slots.specs.Looking.{IsFree, IsTried, looks_at, event_for, IsAlone, IsEntryOf, IsHeldAt, MadeAt, ObjectsLooked, Looked}
 use Rattle.task_slots.proofs.Looks.{work_same, next_still}
 

@@ -9,8 +9,7 @@ use Rattle.bus_semantics.specs.Rest.{Try, gathered, start_try}
 use Rattle.port_objects.specs.declared.object.Object.{Object}
 use Rattle.port_objects.specs.Benches.{Work, IsFurther, StampAfter, Told}
 use Rattle.place_set.specs.Places.{NoneBetween}
-use Rattle.task_slots.specs.declared.look.Look.{Look}
-use Rattle.task_slots.specs.declared.look.Look.TheVariants.{Made, Nothing, Contended}
+use Rattle.task_slots.specs.Look.{Look, Made, Nothing, Contended}
 use Rattle.task_slots.specs.Looking.{AllHeld, ObjectsLooked, WorkLooked, Looked}
 use Rattle.task_slots.specs.Waiting.{EventsHeld}
 use Rattle.task_slots.proofs.Looks.{next_same, next_still, all_on}

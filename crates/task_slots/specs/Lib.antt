@@ -1,6 +1,7 @@
 pub mod Direct
 pub mod Slots
 pub mod Made
+pub mod Look
 pub mod Ready
 pub mod Standing
 pub mod Looking

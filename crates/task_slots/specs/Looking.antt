@@ -20,8 +20,7 @@ use Rattle.port_objects.specs.Leading.{lead}
 use Rattle.port_objects.specs.Waking.{may_start_in}
 use Rattle.port_objects.specs.Freed.{is_free, IsUnconnected}
 use Rattle.port_objects.specs.Benches.{Work, IsFurther, StampAfter, MadeOn, Told}
-use Rattle.task_slots.specs.declared.look.Look.{Look}
-use Rattle.task_slots.specs.declared.look.Look.TheVariants.{Made, Nothing, Contended}
+use Rattle.task_slots.specs.Look.{Look, Made, Nothing, Contended}
 
 -- ---- what may be tried
 

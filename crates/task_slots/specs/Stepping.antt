@@ -19,8 +19,8 @@ use Rattle.task_slots.specs.declared.slot.Slot.TheVariants as slot
 use Rattle.task_slots.specs.declared.slot.TaskSlot.{TaskSlot}
 use Rattle.task_slots.specs.declared.slot.Call.{Call}
 use Rattle.task_slots.specs.declared.slot.Activity.TheVariants.{Runs, Serves}
-use Rattle.task_slots.specs.declared.look.Look.{Look}
-use Rattle.task_slots.specs.declared.look.Look.TheVariants as look
+use Rattle.task_slots.specs.Look.{Look}
+use Rattle.task_slots.specs.Look as look
 use Rattle.task_slots.specs.Direct.{after_deed, after_inside}
 use Rattle.task_slots.specs.Slots.{is_key_of, table_of}
 use Rattle.task_slots.specs.Ready.{IsReadySlot}

@@ -1,6 +1,7 @@
 //! The activation that goes on in a task.
 
-ghost use Rattle.std.specs.Prelude.{◌≡◌, ◌<◌};
+ghost use Rattle.std.specs.Prelude.{◌≡◌, ◌<◌, length};
+ghost use Rattle.std.specs.Vec.{vec_capacity};
 ghost use Rattle.bus_semantics.specs.declared.script.Mapping.{Mapping};
 ghost use Rattle.bus_semantics.specs.Plan.{plan_of};
 ghost use Rattle.bus_semantics.specs.Sound.{IsSound};
@@ -9,15 +10,16 @@ ghost use Rattle.task_slots.specs.declared.slot.Slot.TheVariants as slots;
 ghost use Rattle.task_slots.specs.declared.slot.Activity.TheVariants.{Runs};
 ghost use Rattle.task_slots.specs.Slots.{task_tries, task_looks};
 ghost use Rattle.task_slots.specs.Ready.{IsReadyTask};
+ghost use Rattle.task_slots.specs.Look.{IsWrittenLook, look_of};
 ghost use Rattle.task_slots.specs.Looking.{Looked};
 ghost use Rattle.task_slots.specs.Stepping.{Heard, SlotLooked};
 
 use crate::asking::what_is_asked_may_be_tried;
 use crate::direct::after_deed;
-use crate::look::Look;
+use crate::look::{Looks, last};
 use crate::slot::TaskSlot;
 use crate::trying::try_wish;
-use bus_semantics::{Actor, BusPlan, Deed};
+use bus_semantics::{Actor, BusPlan, Deed, Stamped};
 use port_objects::{Bench, free_deeds_are_legal};
 use rte_value::ActKey;
 use task_machine::{Next, TaskSet};
@@ -37,8 +39,10 @@ pub(crate) fn go_on<B: Bench>(
     key: ActKey,
     slot: &mut TaskSlot,
     bench: &mut B,
-) -> Look
+    made: &mut Vec<Stamped>,
+) -> Looks
     requires room { 0 < (B.told bench.old).room }
+    requires space { length made.old.items < vec_capacity made.old }
     requires plan { B.plan bench.old ≡ plan_of p.now }
     requires bodies { AsksAsPlanned (plan_of p.now) t.now }
     requires sound { (m : Mapping) × IsSound (plan_of p.now) m }
@@ -46,21 +50,23 @@ pub(crate) fn go_on<B: Bench>(
     requires runs { slot.old.activity ≡ Runs key }
     ensures home { B.home bench.new ≡ B.home bench.old }
     ensures plan { B.plan bench.new ≡ B.plan bench.old }
+    ensures capacity { vec_capacity made.new ≡ vec_capacity made.old }
+    ensures written { IsWrittenLook made.old.items made.new.items result }
     ensures looked { Looked (plan_of p.now) (task_tries (plan_of p.now) t.now slot.old) (task_looks (plan_of p.now) slot.old)
-        (B.told bench.old) (B.told bench.new) result }
-    ensures slot { SlotLooked (plan_of p.now) t.now (slots.Task slot.old) (slots.Task slot.new) result }
+        (B.told bench.old) (B.told bench.new) (look_of result made.new.items) }
+    ensures slot { SlotLooked (plan_of p.now) t.now (slots.Task slot.old) (slots.Task slot.new) (look_of result made.new.items) }
 {
     what_is_asked_may_be_tried();
     free_deeds_are_legal();
     match slot.frame.next_call(t) {
         Next::Over => unreachable!(),
-        Next::Call(wish) => match try_wish(p, &Actor::Act(key), &wish, bench) {
-            Look::Made(stamped) => {
-                hear(p, t, key, slot, &stamped.entry.deed);
-                Look::Made(stamped)
+        Next::Call(wish) => match try_wish(p, &Actor::Act(key), &wish, bench, made) {
+            Looks::Made => {
+                hear(p, t, key, slot, &last(made).entry.deed);
+                Looks::Made
             }
-            Look::Nothing => Look::Nothing,
-            Look::Contended(object) => Look::Contended(object),
+            Looks::Nothing => Looks::Nothing,
+            Looks::Contended(object) => Looks::Contended(object),
         },
     }
 }

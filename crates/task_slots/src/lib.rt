@@ -16,7 +16,7 @@ mod starting_awake;
 mod trying;
 mod waiting;
 
-pub use look::Look;
+pub use look::Looks;
 pub use looking::look_at;
 pub use looking_awake::look_at_awake;
 pub use slot::{Activity, Call, Slot, TaskSlot};

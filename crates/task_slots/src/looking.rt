@@ -1,6 +1,7 @@
 //! A look at a slot.
 
-ghost use Rattle.std.specs.Prelude.{◌≡◌, ◌<◌};
+ghost use Rattle.std.specs.Prelude.{◌≡◌, ◌<◌, length};
+ghost use Rattle.std.specs.Vec.{vec_capacity};
 ghost use Rattle.bus_semantics.specs.declared.script.Mapping.{Mapping};
 ghost use Rattle.bus_semantics.specs.Plan.{plan_of};
 ghost use Rattle.bus_semantics.specs.Sound.{IsSound};
@@ -8,16 +9,17 @@ ghost use Rattle.task_generator.specs.Promise.{AsksAsPlanned};
 ghost use Rattle.task_slots.specs.declared.slot.Slot.TheVariants as slots;
 ghost use Rattle.task_slots.specs.Slots.{task_tries, task_looks, slot_tries, looks};
 ghost use Rattle.task_slots.specs.Ready.{IsReadyTask, IsReadySlot};
+ghost use Rattle.task_slots.specs.Look.{IsWrittenLook, look_of};
 ghost use Rattle.task_slots.specs.Looking.{Looked};
 ghost use Rattle.task_slots.specs.Stepping.{SlotLooked};
 
 use crate::going::go_on;
 use crate::inside::{go_on_inside, start_inside};
-use crate::look::Look;
+use crate::look::Looks;
 use crate::phasing::move_on;
 use crate::slot::{Activity, Slot, TaskSlot};
 use crate::starting::start_due;
-use bus_semantics::BusPlan;
+use bus_semantics::{BusPlan, Stamped};
 use port_objects::Bench;
 use task_machine::TaskSet;
 
@@ -27,45 +29,59 @@ pub(crate) fn look_at_task<B: Bench>(
     t: &TaskSet,
     slot: &mut TaskSlot,
     bench: &mut B,
-) -> Look
+    made: &mut Vec<Stamped>,
+) -> Looks
     requires room { 0 < (B.told bench.old).room }
+    requires space { length made.old.items < vec_capacity made.old }
     requires plan { B.plan bench.old ≡ plan_of p.now }
     requires bodies { AsksAsPlanned (plan_of p.now) t.now }
     requires sound { (m : Mapping) × IsSound (plan_of p.now) m }
     requires ready { IsReadyTask (plan_of p.now) t.now slot.old }
     ensures home { B.home bench.new ≡ B.home bench.old }
     ensures plan { B.plan bench.new ≡ B.plan bench.old }
+    ensures capacity { vec_capacity made.new ≡ vec_capacity made.old }
+    ensures written { IsWrittenLook made.old.items made.new.items result }
     ensures looked { Looked (plan_of p.now) (task_tries (plan_of p.now) t.now slot.old) (task_looks (plan_of p.now) slot.old)
-        (B.told bench.old) (B.told bench.new) result }
-    ensures slot { SlotLooked (plan_of p.now) t.now (slots.Task slot.old) (slots.Task slot.new) result }
+        (B.told bench.old) (B.told bench.new) (look_of result made.new.items) }
+    ensures slot { SlotLooked (plan_of p.now) t.now (slots.Task slot.old) (slots.Task slot.new) (look_of result made.new.items) }
 {
     match slot.activity {
-        Activity::Free => start_due(p, t, slot, bench),
-        Activity::Runs(key) => go_on(p, t, key, slot, bench),
-        Activity::Calls(call) => start_inside(p, t, call, slot, bench),
-        Activity::Serves(call) => go_on_inside(p, t, call, slot, bench),
+        Activity::Free => start_due(p, t, slot, bench, made),
+        Activity::Runs(key) => go_on(p, t, key, slot, bench, made),
+        Activity::Calls(call) => start_inside(p, t, call, slot, bench, made),
+        Activity::Serves(call) => go_on_inside(p, t, call, slot, bench, made),
     }
 }
 
-/// Tries what a slot may do over a bench, and makes the first entry that may come. It takes no memory.
+/// Tries what a slot may do over a bench, and makes the first entry that may come. It is written down once, at the end of `made`,
+/// which has room for one more. It takes no memory.
 ///
 /// In a task with an activation that activation's next call is tried; after its accepted ask at a direct point the start of the
 /// direct activation, then that one's calls, up to its end (SWS_RTE: Rte_Call); a free task tries its events in order of position
 /// (SWS_RTE: runnable activation); and a mode machine its next phase. One look is made for each that touches an object.
-pub fn look_at<B: Bench>(p: &BusPlan, t: &TaskSet, slot: &mut Slot, bench: &mut B) -> Look
+pub fn look_at<B: Bench>(
+    p: &BusPlan,
+    t: &TaskSet,
+    slot: &mut Slot,
+    bench: &mut B,
+    made: &mut Vec<Stamped>,
+) -> Looks
     requires room { 0 < (B.told bench.old).room }
+    requires space { length made.old.items < vec_capacity made.old }
     requires plan { B.plan bench.old ≡ plan_of p.now }
     requires bodies { AsksAsPlanned (plan_of p.now) t.now }
     requires sound { (m : Mapping) × IsSound (plan_of p.now) m }
     requires ready { IsReadySlot (plan_of p.now) t.now slot.old }
     ensures home { B.home bench.new ≡ B.home bench.old }
     ensures plan { B.plan bench.new ≡ B.plan bench.old }
+    ensures capacity { vec_capacity made.new ≡ vec_capacity made.old }
+    ensures written { IsWrittenLook made.old.items made.new.items result }
     ensures looked { Looked (plan_of p.now) (slot_tries (plan_of p.now) t.now slot.old) (looks (plan_of p.now) slot.old)
-        (B.told bench.old) (B.told bench.new) result }
-    ensures slot { SlotLooked (plan_of p.now) t.now slot.old slot.new result }
+        (B.told bench.old) (B.told bench.new) (look_of result made.new.items) }
+    ensures slot { SlotLooked (plan_of p.now) t.now slot.old slot.new (look_of result made.new.items) }
 {
     match slot {
-        Slot::Task(task) => look_at_task(p, t, task, bench),
-        Slot::Machine(number) => move_on(p, *number, bench),
+        Slot::Task(task) => look_at_task(p, t, task, bench, made),
+        Slot::Machine(number) => move_on(p, *number, bench, made),
     }
 }

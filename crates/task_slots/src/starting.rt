@@ -2,6 +2,7 @@
 
 ghost use Rattle.std.specs.Prelude.{◌≡◌, ◌<◌, ◌∷◌, [], true, length, nat_lt, if◌then◌else◌, Some};
 ghost use Rattle.std.specs.List.{list_all};
+ghost use Rattle.std.specs.Vec.{vec_capacity};
 ghost use Rattle.rte_value.specs.declared.kinds.ActKey.{ActKey};
 ghost use Rattle.bus_semantics.specs.declared.entries.Actor.TheVariants.{Act};
 ghost use Rattle.bus_semantics.specs.declared.script.Mapping.{Mapping};
@@ -15,13 +16,14 @@ ghost use Rattle.task_slots.specs.declared.slot.Activity.TheVariants.{Free};
 ghost use Rattle.task_slots.specs.Slots.{waits, task_tries, task_looks};
 ghost use Rattle.task_slots.specs.Ready.{may_be_mapped, IsReadyTask};
 ghost use Rattle.task_slots.specs.Stepping.{BegunBy, SlotLooked};
+ghost use Rattle.task_slots.specs.Look.{IsWrittenLook, look_of};
 ghost use Rattle.task_slots.specs.Looking.{StartBy, Looked};
 
 use crate::asking::what_is_asked_may_be_tried;
-use crate::look::Look;
+use crate::look::{Looks, last};
 use crate::slot::{Activity, TaskSlot};
 use crate::trying::try_wish;
-use bus_semantics::{Actor, BusPlan, Entry, Wish};
+use bus_semantics::{Actor, BusPlan, Entry, Stamped, Wish};
 use port_objects::{Bench, sound_plans_have_objects};
 use rte_value::ActKey;
 use task_machine::TaskSet;
@@ -35,45 +37,61 @@ fn runnable_of(p: &BusPlan, event: u32) -> u32
 }
 
 /// An event tries to start its runnable. One whose start touches no object costs no look.
-pub(crate) fn try_event<B: Bench>(p: &BusPlan, event: u32, bench: &mut B) -> Look
+pub(crate) fn try_event<B: Bench>(
+    p: &BusPlan,
+    event: u32,
+    bench: &mut B,
+    made: &mut Vec<Stamped>,
+) -> Looks
     requires room { 0 < (B.told bench.old).room }
+    requires space { length made.old.items < vec_capacity made.old }
     requires plan { B.plan bench.old ≡ plan_of p.now }
     requires sound { (m : Mapping) × IsSound (plan_of p.now) m }
     requires there { may_be_mapped (plan_of p.now) event ≡ true }
     ensures home { B.home bench.new ≡ B.home bench.old }
     ensures plan { B.plan bench.new ≡ B.plan bench.old }
-    ensures start { StartBy (plan_of p.now) (event ∷ []) result }
+    ensures capacity { vec_capacity made.new ≡ vec_capacity made.old }
+    ensures written { IsWrittenLook made.old.items made.new.items result }
+    ensures start { StartBy (plan_of p.now) (event ∷ []) (look_of result made.new.items) }
     ensures looked { Looked (plan_of p.now) (start_try (plan_of p.now) event) (if waits (plan_of p.now) event then 1 else 0)
-        (B.told bench.old) (B.told bench.new) result }
+        (B.told bench.old) (B.told bench.new) (look_of result made.new.items) }
 {
     sound_plans_have_objects();
     let key = ActKey {
         runnable: runnable_of(p, event),
         point: None,
     };
-    try_wish(p, &Actor::Act(key), &Wish::Start { event }, bench)
+    try_wish(p, &Actor::Act(key), &Wish::Start { event }, bench, made)
 }
 
 /// The first of these events that may start its runnable does so.
-fn start_first<B: Bench>(p: &BusPlan, events: &[u32], bench: &mut B) -> Look
+fn start_first<B: Bench>(
+    p: &BusPlan,
+    events: &[u32],
+    bench: &mut B,
+    made: &mut Vec<Stamped>,
+) -> Looks
     requires room { 0 < (B.told bench.old).room }
+    requires space { length made.old.items < vec_capacity made.old }
     requires plan { B.plan bench.old ≡ plan_of p.now }
     requires sound { (m : Mapping) × IsSound (plan_of p.now) m }
     requires there { list_all (may_be_mapped (plan_of p.now)) events.now ≡ true }
     ensures home { B.home bench.new ≡ B.home bench.old }
     ensures plan { B.plan bench.new ≡ B.plan bench.old }
-    ensures start { StartBy (plan_of p.now) events.now result }
+    ensures capacity { vec_capacity made.new ≡ vec_capacity made.old }
+    ensures written { IsWrittenLook made.old.items made.new.items result }
+    ensures start { StartBy (plan_of p.now) events.now (look_of result made.new.items) }
     ensures looked { Looked (plan_of p.now) (gathered (start_try (plan_of p.now)) events.now) (count (waits (plan_of p.now)) events.now)
-        (B.told bench.old) (B.told bench.new) result }
+        (B.told bench.old) (B.told bench.new) (look_of result made.new.items) }
 {
     for event in events {
-        match try_event(p, *event, bench) {
-            Look::Made(stamped) => return Look::Made(stamped),
-            Look::Nothing => {}
-            Look::Contended(object) => return Look::Contended(object),
+        match try_event(p, *event, bench, made) {
+            Looks::Made => return Looks::Made,
+            Looks::Nothing => {}
+            Looks::Contended(object) => return Looks::Contended(object),
         }
     }
-    Look::Nothing
+    Looks::Nothing
 }
 
 /// The activation that an entry starts begins in the task.
@@ -93,25 +111,29 @@ pub(crate) fn start_due<B: Bench>(
     t: &TaskSet,
     slot: &mut TaskSlot,
     bench: &mut B,
-) -> Look
+    made: &mut Vec<Stamped>,
+) -> Looks
     requires room { 0 < (B.told bench.old).room }
+    requires space { length made.old.items < vec_capacity made.old }
     requires plan { B.plan bench.old ≡ plan_of p.now }
     requires sound { (m : Mapping) × IsSound (plan_of p.now) m }
     requires ready { IsReadyTask (plan_of p.now) t.now slot.old }
     requires free { slot.old.activity ≡ Free }
     ensures home { B.home bench.new ≡ B.home bench.old }
     ensures plan { B.plan bench.new ≡ B.plan bench.old }
+    ensures capacity { vec_capacity made.new ≡ vec_capacity made.old }
+    ensures written { IsWrittenLook made.old.items made.new.items result }
     ensures looked { Looked (plan_of p.now) (task_tries (plan_of p.now) t.now slot.old) (task_looks (plan_of p.now) slot.old)
-        (B.told bench.old) (B.told bench.new) result }
-    ensures slot { SlotLooked (plan_of p.now) t.now (slots.Task slot.old) (slots.Task slot.new) result }
+        (B.told bench.old) (B.told bench.new) (look_of result made.new.items) }
+    ensures slot { SlotLooked (plan_of p.now) t.now (slots.Task slot.old) (slots.Task slot.new) (look_of result made.new.items) }
 {
     what_is_asked_may_be_tried();
-    match start_first(p, slot.events.as_slice(), bench) {
-        Look::Made(stamped) => {
-            begin(t, slot, &stamped.entry);
-            Look::Made(stamped)
+    match start_first(p, slot.events.as_slice(), bench, made) {
+        Looks::Made => {
+            begin(t, slot, &last(made).entry);
+            Looks::Made
         }
-        Look::Nothing => Look::Nothing,
-        Look::Contended(object) => Look::Contended(object),
+        Looks::Nothing => Looks::Nothing,
+        Looks::Contended(object) => Looks::Contended(object),
     }
 }

@@ -2,6 +2,7 @@
 
 ghost use Rattle.std.specs.Prelude.{◌≡◌, ◌<◌, length, true, None};
 ghost use Rattle.std.specs.List.{list_all};
+ghost use Rattle.std.specs.Vec.{vec_capacity};
 ghost use Rattle.bus_semantics.specs.declared.script.Mapping.{Mapping};
 ghost use Rattle.bus_semantics.specs.Plan.{plan_of};
 ghost use Rattle.bus_semantics.specs.History.{count};
@@ -11,46 +12,55 @@ ghost use Rattle.task_slots.specs.declared.slot.Slot.TheVariants as slots;
 ghost use Rattle.task_slots.specs.declared.slot.Activity.TheVariants.{Free};
 ghost use Rattle.task_slots.specs.Slots.{waits, task_tries, task_looks};
 ghost use Rattle.task_slots.specs.Ready.{may_be_mapped, IsReadyTask};
+ghost use Rattle.task_slots.specs.Look.{IsWrittenLook, look_of};
 ghost use Rattle.task_slots.specs.Looking.{StartBy, Looked};
 ghost use Rattle.task_slots.specs.Stepping.{SlotLooked};
 ghost use Rattle.task_slots.specs.Waiting.{EventsHeld};
 
 use crate::asking::what_is_asked_may_be_tried;
-use crate::look::Look;
+use crate::look::{Looks, last};
 use crate::slot::TaskSlot;
 use crate::starting::{begin, try_event};
-use bus_semantics::BusPlan;
+use bus_semantics::{BusPlan, Stamped};
 use place_set::PlaceSet;
 use port_objects::Bench;
 use task_machine::TaskSet;
 
 /// The first of the events that are awake that may start its runnable does so. Those before it fall asleep.
-fn start_first<B: Bench>(p: &BusPlan, events: &[u32], row: &mut PlaceSet, bench: &mut B) -> Look
+fn start_first<B: Bench>(
+    p: &BusPlan,
+    events: &[u32],
+    row: &mut PlaceSet,
+    bench: &mut B,
+    made: &mut Vec<Stamped>,
+) -> Looks
     requires room { 0 < (B.told bench.old).room }
+    requires space { length made.old.items < vec_capacity made.old }
     requires plan { B.plan bench.old ≡ plan_of p.now }
     requires sound { (m : Mapping) × IsSound (plan_of p.now) m }
     requires there { list_all (may_be_mapped (plan_of p.now)) events.now ≡ true }
     requires width { length row.old ≡ length events.now }
     requires held { EventsHeld (plan_of p.now) (B.told bench.old).objects events.now row.old }
-    requires work { (B.told bench.old).work ≡ None }
     ensures home { B.home bench.new ≡ B.home bench.old }
     ensures plan { B.plan bench.new ≡ B.plan bench.old }
-    ensures start { StartBy (plan_of p.now) events.now result }
-    ensures looked { Looked (plan_of p.now) (gathered (start_try (plan_of p.now)) events.now) (count (waits (plan_of p.now)) events.now)
-        (B.told bench.old) (B.told bench.new) result }
+    ensures capacity { vec_capacity made.new ≡ vec_capacity made.old }
+    ensures written { IsWrittenLook made.old.items made.new.items result }
+    ensures start { StartBy (plan_of p.now) events.now (look_of result made.new.items) }
+    ensures looked { Looked (plan_of p.now) (gathered (start_try (plan_of p.now)) events.now) 0
+        (B.told bench.old) (B.told bench.new) (look_of result made.new.items) }
     ensures width { length row.new ≡ length events.now }
     ensures held { EventsHeld (plan_of p.now) (B.told bench.old).objects events.now row.new }
 {
     let mut from = 0;
     while let Some(at) = row.next(from) {
-        match try_event(p, events[at], bench) {
-            Look::Made(stamped) => return Look::Made(stamped),
-            Look::Nothing => row.remove(at),
-            Look::Contended(object) => return Look::Contended(object),
+        match try_event(p, events[at], bench, made) {
+            Looks::Made => return Looks::Made,
+            Looks::Nothing => row.remove(at),
+            Looks::Contended(object) => return Looks::Contended(object),
         }
         from = at + 1;
     }
-    Look::Nothing
+    Looks::Nothing
 }
 
 /// A free task starts the first of its events that are awake, in order of position, that may.
@@ -60,30 +70,33 @@ pub(crate) fn start_due<B: Bench>(
     slot: &mut TaskSlot,
     row: &mut PlaceSet,
     bench: &mut B,
-) -> Look
+    made: &mut Vec<Stamped>,
+) -> Looks
     requires room { 0 < (B.told bench.old).room }
+    requires space { length made.old.items < vec_capacity made.old }
     requires plan { B.plan bench.old ≡ plan_of p.now }
     requires sound { (m : Mapping) × IsSound (plan_of p.now) m }
     requires ready { IsReadyTask (plan_of p.now) t.now slot.old }
     requires free { slot.old.activity ≡ Free }
     requires width { length row.old ≡ length slot.old.events.items }
     requires held { EventsHeld (plan_of p.now) (B.told bench.old).objects slot.old.events.items row.old }
-    requires work { (B.told bench.old).work ≡ None }
     ensures home { B.home bench.new ≡ B.home bench.old }
     ensures plan { B.plan bench.new ≡ B.plan bench.old }
-    ensures looked { Looked (plan_of p.now) (task_tries (plan_of p.now) t.now slot.old) (task_looks (plan_of p.now) slot.old)
-        (B.told bench.old) (B.told bench.new) result }
-    ensures slot { SlotLooked (plan_of p.now) t.now (slots.Task slot.old) (slots.Task slot.new) result }
+    ensures capacity { vec_capacity made.new ≡ vec_capacity made.old }
+    ensures written { IsWrittenLook made.old.items made.new.items result }
+    ensures looked { Looked (plan_of p.now) (task_tries (plan_of p.now) t.now slot.old) 0
+        (B.told bench.old) (B.told bench.new) (look_of result made.new.items) }
+    ensures slot { SlotLooked (plan_of p.now) t.now (slots.Task slot.old) (slots.Task slot.new) (look_of result made.new.items) }
     ensures width { length row.new ≡ length slot.old.events.items }
     ensures held { EventsHeld (plan_of p.now) (B.told bench.old).objects slot.old.events.items row.new }
 {
     what_is_asked_may_be_tried();
-    match start_first(p, slot.events.as_slice(), row, bench) {
-        Look::Made(stamped) => {
-            begin(t, slot, &stamped.entry);
-            Look::Made(stamped)
+    match start_first(p, slot.events.as_slice(), row, bench, made) {
+        Looks::Made => {
+            begin(t, slot, &last(made).entry);
+            Looks::Made
         }
-        Look::Nothing => Look::Nothing,
-        Look::Contended(object) => Look::Contended(object),
+        Looks::Nothing => Looks::Nothing,
+        Looks::Contended(object) => Looks::Contended(object),
     }
 }

@@ -1,6 +1,6 @@
 use Rattle.std.proofs.Common.{◌∙◌}
 use Rattle.bus_semantics.specs.Plan.{plan_of}
-use Rattle.task_slots.specs.declared.look.Look.TheVariants.{Nothing}
+use Rattle.task_slots.specs.Look.{Nothing}
 use Rattle.task_slots.proofs.Starts.{event_on, event_made, event_lost}
 use Rattle.task_slots.proofs.starting.start_first.Goals as goal
 

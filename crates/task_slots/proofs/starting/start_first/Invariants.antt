@@ -2,7 +2,7 @@ use Rattle.std.proofs.Common.{◌≡◌, take}
 use Rattle.bus_semantics.specs.Plan.{plan_of}
 use Rattle.bus_semantics.specs.History.{count}
 use Rattle.bus_semantics.specs.Rest.{gathered, start_try}
-use Rattle.task_slots.specs.declared.look.Look.TheVariants.{Nothing}
+use Rattle.task_slots.specs.Look.{Nothing}
 use Rattle.task_slots.specs.Slots.{waits}
 use Rattle.task_slots.specs.Looking.{Looked}
 use Rattle.task_slots.proofs.starting.start_first.Given as goal
