@@ -1,8 +1,7 @@
 -- The entry of a start: it fits, and an activation has begun.
-use Rattle.std.proofs.Common.{◌≡◌, ◌⊎◌, inl, ℕ, ℤ, Bool, true, false, ◌&&◌, refl, sym, ◌∙◌, ap, subst, List, [], ◌∷◌, Option, Some, None}
-use Rattle.std.specs.Prelude.{unwrap_or}
+use Rattle.std.proofs.Common.{◌≡◌, ◌⊎◌, inl, ℕ, ℤ, true, refl, sym, ◌∙◌, ap, subst, List, [], Option, Some, None}
 use Rattle.std.specs.List.{slice_get}
-use Rattle.std.proofs.lemmas.Bool.{and_from, and_parts, false≢true}
+use Rattle.std.proofs.lemmas.Bool.{and_from, false≢true}
 use Rattle.std.proofs.lemmas.Option.{same_Some}
 use Rattle.rte_value.specs.declared.kinds.ActKey.{ActKey}
 use Rattle.rte_value.specs.Values.{words_of}
@@ -12,14 +11,13 @@ use Rattle.bus_semantics.specs.declared.entries.Stamped.{Stamped}
 use Rattle.bus_semantics.specs.declared.script.Mapping.{Mapping}
 use Rattle.bus_semantics.specs.Plan.{Plan, Runnable, runnable_of_event}
 use Rattle.bus_semantics.specs.Wanted.{Wanted, to_start}
-use Rattle.bus_semantics.specs.History.{History, note, noted, runs}
+use Rattle.bus_semantics.specs.History.{History, note, noted}
 use Rattle.bus_semantics.specs.Objects.{object_of, touched_by}
 use Rattle.bus_semantics.specs.Owners.{key_fits}
 use Rattle.bus_semantics.specs.Fitting.{wish_fits, answer_fits, fits}
 use Rattle.bus_semantics.specs.Legal.{Answers}
 use Rattle.bus_semantics.specs.Locality.{is_proper}
 use Rattle.bus_semantics.specs.Sound.{IsSound}
-use Rattle.bus_semantics.specs.Asked.{event_of}
 use Rattle.bus_laws.proofs.Thinning.{option_test}
 use Rattle.task_machine.specs.declared.instr.TaskSet.{TaskSet}
 use Rattle.task_machine.specs.Standing.{Standing}

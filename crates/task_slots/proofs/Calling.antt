@@ -1,7 +1,6 @@
 -- The start of a direct activation may be tried, and touches its server.
 use Rattle.std.proofs.Common.{◌≡◌, ℕ, sym, ◌∙◌, ap, subst, refl, List, [], ◌∷◌, true, Option, Some, None}
 use Rattle.std.specs.Prelude.{IfSome}
-use Rattle.rte_value.specs.declared.kinds.ActKey.{ActKey}
 use Rattle.bus_semantics.specs.declared.entries.Actor.{Actor}
 use Rattle.bus_semantics.specs.declared.entries.Actor.TheVariants.{Act}
 use Rattle.bus_semantics.specs.declared.script.Mapping.{Mapping}

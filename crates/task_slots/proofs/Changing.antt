@@ -1,7 +1,7 @@
 -- A task that stands for a history stands for a further entry too, by what the entry is to it.
-use Rattle.std.proofs.Common.{◌≡◌, ℕ, Bool, true, false, ◌&&◌, ◌||◌, not, if◌then◌else◌, refl, sym, ◌∙◌, ap, subst, List, [], ◌∷◌, Option, Some, None}
+use Rattle.std.proofs.Common.{◌≡◌, ℕ, Bool, true, false, ◌&&◌, ◌||◌, refl, sym, ◌∙◌, ap, subst, List, [], ◌∷◌, Option, Some, None}
 use Rattle.std.specs.Prelude.{option_and_then, option_map}
-use Rattle.std.proofs.lemmas.Bool.{and_right, false≢true, or_from, or_left, or_right}
+use Rattle.std.proofs.lemmas.Bool.{and_right, false≢true, or_right}
 use Rattle.rte_value.specs.declared.value.Value.{Value}
 use Rattle.rte_value.specs.declared.kinds.ActKey.{ActKey}
 use Rattle.rte_value.specs.Values.{same_key}
@@ -10,8 +10,8 @@ use Rattle.bus_semantics.specs.declared.entries.Deed.TheVariants as deed
 use Rattle.bus_semantics.specs.declared.entries.Entry.{Entry}
 use Rattle.bus_semantics.specs.Plan.{Plan}
 use Rattle.bus_semantics.specs.History.{History, is_over, is_end, is_of, runs}
-use Rattle.bus_semantics.specs.Actor.{direct_key, accepted_point, asked_last, ended_since}
-use Rattle.history_laws.proofs.Keys.{begins, itself, runs_mine, runs_other}
+use Rattle.bus_semantics.specs.Actor.{direct_key, accepted_point}
+use Rattle.history_laws.proofs.Keys.{begins, runs_other}
 use Rattle.task_machine.specs.declared.instr.TaskSet.{TaskSet}
 use Rattle.task_machine.specs.Standing.{Standing}
 use Rattle.task_machine.specs.Frames.{Stands}
@@ -19,9 +19,9 @@ use Rattle.task_slots.specs.declared.slot.Call.{Call}
 use Rattle.task_slots.specs.declared.slot.Activity.{Activity}
 use Rattle.task_slots.specs.declared.slot.Activity.TheVariants.{Free, Runs, Calls, Serves}
 use Rattle.task_slots.specs.Direct.{call_at, call_in}
-use Rattle.task_slots.specs.Slots.{is_key_of, is_running}
+use Rattle.task_slots.specs.Slots.{is_key_of}
 use Rattle.task_slots.specs.Ready.{IsRunning, IsCalled, IsActive}
-use Rattle.task_slots.specs.Standing.{StandsFor, GoesOn, IsHeldBack, Works, ActivityStands, TaskStands}
+use Rattle.task_slots.specs.Standing.{StandsFor, IsHeldBack, ActivityStands, TaskStands}
 use Rattle.task_slots.specs.Stepping.{Fed}
 use Rattle.task_slots.proofs.Basics.{same_keys, key_same}
 use Rattle.task_slots.proofs.Facts.{CallIs, call_is}

@@ -1,9 +1,9 @@
 -- Facts of a sound plan: which starts touch no object, the plain keys of a task's events, and direct keys.
-use Rattle.std.proofs.Common.{◌≡◌, ℕ, zero, suc, ◌<◌, Bool, true, false, ◌&&◌, not, ◌==◌, if◌then◌else◌, refl, sym, ◌∙◌, ap, subst, arith, List, [], ◌∷◌, length, Option, Some, None}
-use Rattle.std.specs.Prelude.{nat_lt, nat_le, is_some, is_none, option_map}
-use Rattle.std.specs.List.{list_all, slice_get}
+use Rattle.std.proofs.Common.{◌≡◌, ℕ, zero, suc, ◌<◌, true, false, ◌&&◌, not, ◌==◌, if◌then◌else◌, refl, sym, ◌∙◌, ap, subst, arith, List, [], ◌∷◌, length, Option, Some, None}
+use Rattle.std.specs.Prelude.{nat_lt, nat_le, is_some, option_map}
+use Rattle.std.specs.List.{slice_get}
 use Rattle.std.specs.Option.{option_map_or}
-use Rattle.std.proofs.lemmas.Bool.{and_from, and_parts, eq-eqb, eqb-true, ltb-true, false≢true}
+use Rattle.std.proofs.lemmas.Bool.{and_from, and_parts, eqb-true, ltb-true, false≢true}
 use Rattle.std.proofs.lemmas.Bool.Decides.{nat_tests}
 use Rattle.std.proofs.lemmas.Option.{same_Some}
 use Rattle.rte_value.specs.declared.kinds.ActKey.{ActKey}
@@ -27,7 +27,7 @@ use Rattle.bus_semantics.specs.SoundEvents.{kind_sound, event_sound, server_serv
 use Rattle.bus_semantics.specs.Sound.{IsSound, times_mapped}
 use Rattle.bus_laws.proofs.Thinning.{option_test}
 use Rattle.bus_laws.proofs.OneEvent.{kind_at, serves_invoked}
-use Rattle.activation_laws.specs.LookUps.{Sought, sought, looked, at_place}
+use Rattle.activation_laws.specs.LookUps.{sought, looked, at_place}
 use Rattle.history_laws.proofs.Lists.{there_is}
 use Rattle.history_laws.proofs.OneKey.{server_runs, server_home}
 use Rattle.task_slots.specs.declared.slot.Call.{Call}

@@ -1,20 +1,19 @@
 -- What a further entry changes: who runs and is held back, the current activation of a key, and what a frame stands for.
-use Rattle.std.proofs.Common.{◌≡◌, ℕ, Bool, true, false, ◌&&◌, ◌||◌, not, if◌then◌else◌, refl, sym, ◌∙◌, ap, subst, List, [], ◌∷◌, ◌++◌, Option, Some, None}
+use Rattle.std.proofs.Common.{◌≡◌, ℕ, Bool, true, false, ◌&&◌, not, if◌then◌else◌, refl, sym, ◌∙◌, ap, [], ◌∷◌, ◌++◌, Option, Some, None}
 use Rattle.std.specs.Prelude.{option_and_then, unwrap_or}
 use Rattle.std.proofs.lemmas.Bool.{and_from, eq-eqb, false≢true, or_right}
 use Rattle.std.specs.Option.{option_or}
 use Rattle.rte_value.specs.declared.value.Value.{Value}
 use Rattle.rte_value.specs.declared.kinds.ActKey.{ActKey}
 use Rattle.rte_value.specs.Values.{words_of, same_words, same_number}
-use Rattle.bus_semantics.specs.declared.entries.Actor.{Actor}
-use Rattle.bus_semantics.specs.declared.entries.Actor.TheVariants.{Env, Machine, Act}
+use Rattle.bus_semantics.specs.declared.entries.Actor.TheVariants.{Act}
 use Rattle.bus_semantics.specs.declared.entries.Deed.{Deed}
 use Rattle.bus_semantics.specs.declared.entries.Deed.TheVariants as deed
 use Rattle.bus_semantics.specs.declared.entries.Entry.{Entry}
 use Rattle.bus_semantics.specs.Plan.{Plan, runnable_of_event}
 use Rattle.bus_semantics.specs.Wanted.{Wanted, to_tick, to_start, to_admit, to_fetch, to_write, to_read, to_invalidate, to_see_updated, to_send, to_receive, to_ask, to_hear, to_take_result, to_return, to_enter, to_leave, to_switch, to_see_mode, to_move_on, to_publish, to_end, wanted_by, same_wanted}
-use Rattle.bus_semantics.specs.History.{History, is_environment, is_over, is_end, is_of, made_by, event_started, needs_event, runs, last_started}
-use Rattle.bus_semantics.specs.Actor.{Activation, with_deed, activation_of, next_wish, direct_key, accepted_point, last_deed, asked_last, ended_since, is_held_back, caller_has_asked, may_start, is_this, is_wanted_next, starts_or_goes_on, follows_program}
+use Rattle.bus_semantics.specs.History.{History, is_over, is_end, is_of, event_started, needs_event, runs, last_started}
+use Rattle.bus_semantics.specs.Actor.{Activation, with_deed, activation_of, next_wish, direct_key, accepted_point, asked_last, ended_since, is_held_back, caller_has_asked, may_start, is_this, is_wanted_next, starts_or_goes_on, follows_program}
 use Rattle.bus_semantics.specs.Asked.{is_start, event_of}
 use Rattle.bus_semantics.specs.Locality.{starts_its_own}
 use Rattle.bus_laws.proofs.Thinning.{option_test}

@@ -1,6 +1,7 @@
 pub mod Basics
 pub mod Until
-pub mod Looks
+pub mod Onward
+pub mod Written
 pub mod Tries
 pub mod Facts
 pub mod Histories

@@ -1,6 +1,6 @@
 -- The start of a free task: each of its events may be tried, and looks at them one after the other.
 use Rattle.std.proofs.Common.{◌≡◌, ℕ, ◌+◌, ◌<◌, take, drop, get_or, true, false, ◌||◌, if◌then◌else◌, refl, sym, ◌∙◌, ap, subst, List, [], ◌∷◌, ◌++◌, length, map, Option, Some, None}
-use Rattle.std.specs.Prelude.{nat_lt, is_some, IfSome}
+use Rattle.std.specs.Prelude.{is_some, IfSome}
 use Rattle.std.proofs.lemmas.List.{take_more, take-append-drop}
 use Rattle.std.proofs.lemmas.Bool.{eq-eqb}
 use Rattle.std.proofs.lemmas.Option.{same_Some}
@@ -21,7 +21,7 @@ use Rattle.port_objects.specs.Benches.{Told}
 use Rattle.task_slots.specs.Look.{Look, Made, Nothing, Contended}
 use Rattle.task_slots.specs.Slots.{waits}
 use Rattle.task_slots.specs.Looking.{IsTried, IsFree, looks_at, EntryOf, StartBy, Looked}
-use Rattle.task_slots.proofs.Looks.{looked_on, looked_as, made_more, lost_more, gathered_on, gathered_one, count_on}
+use Rattle.task_slots.proofs.Onward.{looked_on, looked_as, made_more, lost_more, gathered_on, gathered_one, count_on}
 use Rattle.task_slots.specs.Ready.{may_be_mapped}
 use Rattle.task_slots.proofs.Facts.{event_known, started, key_is, start_fits}
 
@@ -66,26 +66,30 @@ module _ (p : Plan) (event n : ℕ) (starts : runnable_of_event p event ≡ Some
 -- ---- one event after the other
 
 module _ (p : Plan) (xs : List ℕ) (i : ℕ) (within : i < length xs) where
+  event_tried : (m n k : ℕ) (a b c : Told) (l : Look) → m + n ≡ k → Looked p (gathered (start_try p) (take i xs)) m a b Nothing → Looked p (start_try p (get_or xs i 0)) n b c l
+      → Looked p (gathered (start_try p) (take (i + 1) xs)) k a c l
+  event_tried m n k a b c l counted before now =
+      let tries : gathered (start_try p) (take i xs) ++ start_try p (get_or xs i 0) ≡ gathered (start_try p) (take (i + 1) xs) =
+      sym (ap (gathered (start_try p)) (take_more xs i 0 within) ∙ gathered_one (start_try p) (take i xs) (get_or xs i 0)) in
+      looked_as p _ _ _ _ a c l tries counted (looked_on p _ _ m n a b c l before now)
+
   pub event_on : (a b c : Told) (l : Look) → Looked p (gathered (start_try p) (take i xs)) (count (waits p) (take i xs)) a b Nothing
       → Looked p (start_try p (get_or xs i 0)) (if waits p (get_or xs i 0) then 1 else 0) b c l
       → Looked p (gathered (start_try p) (take (i + 1) xs)) (count (waits p) (take (i + 1) xs)) a c l
   event_on a b c l before now =
       let e = get_or xs i 0 in
-      let tries : gathered (start_try p) (take i xs) ++ start_try p e ≡ gathered (start_try p) (take (i + 1) xs) =
-      sym (ap (gathered (start_try p)) (take_more xs i 0 within) ∙ gathered_one (start_try p) (take i xs) e) in
       let counted : count (waits p) (take i xs) + (if waits p e then 1 else 0) ≡ count (waits p) (take (i + 1) xs) =
       sym (ap (count (waits p)) (take_more xs i 0 within) ∙ count_on (waits p) (take i xs) (e ∷ [])) in
-      looked_as p _ _ _ _ a c l tries counted (looked_on p _ _ _ _ a b c l before now)
+      event_tried _ _ _ a b c l counted before now
 
   whole : gathered (start_try p) (take (i + 1) xs) ++ gathered (start_try p) (drop (i + 1) xs) ≡ gathered (start_try p) xs
   whole = sym (gathered_on (start_try p) (take (i + 1) xs) (drop (i + 1) xs)) ∙ ap (gathered (start_try p)) (take-append-drop (i + 1) xs)
 
-  pub event_made : (a b c : Told) (s : Stamped) → Looked p (gathered (start_try p) (take i xs)) (count (waits p) (take i xs)) a b Nothing
-      → Looked p (start_try p (get_or xs i 0)) (if waits p (get_or xs i 0) then 1 else 0) b c (Made s)
-      → Looked p (gathered (start_try p) xs) (count (waits p) xs) a c (Made s)
-  event_made a b c s before now = looked_as p _ _ (count (waits p) xs) _ a c (Made s) whole refl (made_more p _ _ _ _ a c s (event_on a b c (Made s) before now))
+  -- where an entry was made, or another core holds the object, it does not matter how many looks are counted
+  pub event_made : (m n k : ℕ) (a b c : Told) (s : Stamped) → Looked p (gathered (start_try p) (take i xs)) m a b Nothing → Looked p (start_try p (get_or xs i 0)) n b c (Made s)
+      → Looked p (gathered (start_try p) xs) k a c (Made s)
+  event_made m n k a b c s before now = looked_as p _ _ k _ a c (Made s) whole refl (made_more p _ _ _ _ a c s (event_tried m n _ a b c (Made s) refl before now))
 
-  pub event_lost : (a b c : Told) (object : ℕ) → Looked p (gathered (start_try p) (take i xs)) (count (waits p) (take i xs)) a b Nothing
-      → Looked p (start_try p (get_or xs i 0)) (if waits p (get_or xs i 0) then 1 else 0) b c (Contended object)
-      → Looked p (gathered (start_try p) xs) (count (waits p) xs) a c (Contended object)
-  event_lost a b c object before now = looked_as p _ _ (count (waits p) xs) _ a c (Contended object) whole refl (lost_more p _ _ _ _ a c object (event_on a b c (Contended object) before now))
+  pub event_lost : (m n k : ℕ) (a b c : Told) (object : ℕ) → Looked p (gathered (start_try p) (take i xs)) m a b Nothing → Looked p (start_try p (get_or xs i 0)) n b c (Contended object)
+      → Looked p (gathered (start_try p) xs) k a c (Contended object)
+  event_lost m n k a b c object before now = looked_as p _ _ k _ a c (Contended object) whole refl (lost_more p _ _ _ _ a c object (event_tried m n _ a b c (Contended object) refl before now))

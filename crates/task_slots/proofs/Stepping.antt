@@ -1,5 +1,5 @@
 -- An answer to what an activation asks: its entry fits and follows its program, and the activation goes on in its frame.
-use Rattle.std.proofs.Common.{◌≡◌, ◌⊎◌, inl, inr, ℕ, zero, suc, Bool, true, false, ◌&&◌, if◌then◌else◌, refl, sym, ◌∙◌, ap, subst, List, [], ◌∷◌, ◌++◌, Option, Some, None}
+use Rattle.std.proofs.Common.{◌≡◌, ◌⊎◌, inl, inr, ℕ, zero, suc, Bool, true, false, ◌&&◌, if◌then◌else◌, refl, sym, ◌∙◌, ap, subst, [], ◌∷◌, ◌++◌, Option, Some, None}
 use Rattle.std.specs.Prelude.{is_none, is_some, option_and_then, unwrap_or}
 use Rattle.std.proofs.lemmas.Bool.{and_from, false≢true}
 use Rattle.rte_value.specs.declared.kinds.ActKey.{ActKey}
@@ -16,10 +16,9 @@ use Rattle.bus_semantics.specs.Wanted.{Wanted, wanted_by}
 use Rattle.bus_semantics.specs.History.{History, Past, last_started, runs, is_over, needs_event, started_before, note, noted}
 use Rattle.bus_semantics.specs.Objects.{server_object, object_of, touched_by}
 use Rattle.bus_semantics.specs.Fitting.{wish_fits, answer_fits, activation_fits, fits}
-use Rattle.bus_semantics.specs.Owners.{key_fits}
 use Rattle.bus_semantics.specs.Legal.{Answers, admission_allows}
 use Rattle.bus_semantics.specs.Locality.{is_proper, starts_its_own}
-use Rattle.bus_semantics.specs.Actor.{Activation, activation_of, wanted_in, next_wish, is_held_back, follows_program}
+use Rattle.bus_semantics.specs.Actor.{activation_of, wanted_in, next_wish, is_held_back, follows_program}
 use Rattle.bus_semantics.specs.Activations.{next_of_activity}
 use Rattle.bus_semantics.specs.Asked.{is_start, event_of}
 use Rattle.activation_laws.specs.LookUps.{looked}

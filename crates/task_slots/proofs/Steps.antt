@@ -1,12 +1,11 @@
 -- The steps of slots: a start, an answer to the activation that goes on, a direct start, an answer to the direct activation, a phase.
-use Rattle.std.proofs.Common.{◌≡◌, ◌⊎◌, inl, ℕ, ℤ, suc, zero, ◌+◌, ◌<◌, Bool, true, false, ◌&&◌, ◌||◌, ◌==◌, if◌then◌else◌, refl, sym, ◌∙◌, ap, subst, List, [], ◌∷◌, ◌++◌, length, Option, Some, None}
+use Rattle.std.proofs.Common.{◌≡◌, inl, ℕ, ℤ, suc, zero, ◌+◌, ◌<◌, Bool, true, false, ◌&&◌, ◌||◌, ◌==◌, if◌then◌else◌, refl, sym, ◌∙◌, ap, subst, List, [], ◌∷◌, ◌++◌, length, Option, Some, None}
 use Rattle.std.specs.Prelude.{nat_lt, is_none, unwrap_or}
 use Rattle.std.specs.List.{list_all, list_any, slice_get}
 use Rattle.std.proofs.lemmas.Bool.{and_from, and_parts, eq-eqb, eqb-true, false≢true, or_left, or_right}
 use Rattle.std.proofs.lemmas.Option.{same_Some}
 use Rattle.rte_value.specs.declared.kinds.ActKey.{ActKey}
 use Rattle.rte_value.specs.Values.{words_of, same_key, same_number}
-use Rattle.bus_semantics.specs.declared.entries.Actor.{Actor}
 use Rattle.bus_semantics.specs.declared.entries.Actor.TheVariants.{Machine, Act}
 use Rattle.bus_semantics.specs.declared.entries.Deed.{Deed}
 use Rattle.bus_semantics.specs.declared.entries.Deed.TheVariants as deed
@@ -15,13 +14,13 @@ use Rattle.bus_semantics.specs.declared.entries.Stamped.{Stamped}
 use Rattle.bus_semantics.specs.declared.script.Mapping.{Mapping}
 use Rattle.bus_semantics.specs.Plan.{Plan, Runnable, caller_of, runnable_of_event}
 use Rattle.bus_semantics.specs.Wanted.{Wanted, to_start, to_move_on, to_end, wanted_by}
-use Rattle.bus_semantics.specs.History.{History, Past, needs_event, started_before, is_over, is_end, note, noted, runs}
+use Rattle.bus_semantics.specs.History.{History, Past, needs_event, started_before, is_over, is_end, note, runs}
 use Rattle.bus_semantics.specs.Objects.{first_machine, object_of, touched_by}
-use Rattle.bus_semantics.specs.Owners.{key_fits, own_point, serves_directly}
+use Rattle.bus_semantics.specs.Owners.{key_fits, own_point}
 use Rattle.bus_semantics.specs.Fitting.{wish_fits, answer_fits, activation_fits, fits}
-use Rattle.bus_semantics.specs.Actor.{direct_key, accepted_point, asked_last, caller_has_asked, is_held_back, follows_program}
+use Rattle.bus_semantics.specs.Actor.{direct_key, accepted_point, asked_last, caller_has_asked, follows_program}
 use Rattle.bus_semantics.specs.Legal.{Answers}
-use Rattle.bus_semantics.specs.Locality.{is_proper, starts_its_own}
+use Rattle.bus_semantics.specs.Locality.{is_proper}
 use Rattle.bus_semantics.specs.Rest.{plain_key}
 use Rattle.bus_semantics.specs.Sound.{IsSound}
 use Rattle.bus_semantics.specs.Asked.{is_start, event_of}
@@ -41,15 +40,15 @@ use Rattle.task_slots.specs.declared.slot.Activity.TheVariants.{Free, Runs, Call
 use Rattle.task_slots.specs.Direct.{call_at, call_in, going_on, after_deed, after_inside}
 use Rattle.task_slots.specs.Slots.{starts, is_key_of, of_task}
 use Rattle.task_slots.specs.Ready.{may_be_mapped, is_answered, IsAsking, IsBegun, IsRunning, IsCalled, IsServing, IsActive, IsReadyTask}
-use Rattle.task_slots.specs.Standing.{ActivityStands, TaskStands, TaskSlotStands}
+use Rattle.task_slots.specs.Standing.{TaskStands, TaskSlotStands}
 use Rattle.task_slots.specs.Looking.{event_for, IsEntryOf, IsTried, IsStartBy}
-use Rattle.task_slots.specs.Stepping.{HasRoomOf, Fed, BegunBy, ServedBy, Heard, HeardInside, noting_of, IsApart, StepFollows, SlotStep}
+use Rattle.task_slots.specs.Stepping.{HasRoomOf, BegunBy, ServedBy, Heard, HeardInside, StepFollows, SlotStep}
 use Rattle.task_slots.proofs.Basics.{same_keys, key_same}
 use Rattle.task_slots.proofs.Until.{still_made}
-use Rattle.task_slots.proofs.Facts.{DirectAt, direct_at, CallIs, call_is, directly, direct_fits, direct_starts}
-use Rattle.task_slots.proofs.Histories.{entry_by, free_same, bound_event, idle_free, unasked_free, start_follows}
+use Rattle.task_slots.proofs.Facts.{direct_at, CallIs, call_is, direct_fits, direct_starts}
+use Rattle.task_slots.proofs.Histories.{entry_by, bound_event, idle_free, unasked_free, start_follows}
 use Rattle.task_slots.proofs.Begun.{direct_own, direct_apart}
-use Rattle.task_slots.proofs.Changing.{CalledAt, called_at, start_stands, over_stands, answer_stands, call_stands, serve_stands, inside_stands, return_stands}
+use Rattle.task_slots.proofs.Changing.{called_at, start_stands, over_stands, answer_stands, call_stands, serve_stands, inside_stands, return_stands}
 use Rattle.task_slots.proofs.Stepping as answer
 use Rattle.task_slots.proofs.Starts.{key_of_event}
 use Rattle.task_slots.proofs.Beginning as begun

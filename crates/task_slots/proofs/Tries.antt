@@ -13,12 +13,16 @@ use Rattle.bus_semantics.specs.Objects.{object_of, touched_by, IsObject}
 use Rattle.bus_semantics.specs.Fitting.{answer_fits}
 use Rattle.bus_semantics.specs.Asked.{is_start, event_of}
 use Rattle.port_objects.specs.declared.object.Object.{Object}
+use Rattle.port_objects.specs.declared.bench.Answered.TheVariants as answered
 use Rattle.port_objects.specs.declared.bench.Benched.TheVariants.{Done, NotYet, Contended}
 use Rattle.port_objects.specs.Freed as freed
-use Rattle.port_objects.specs.Benches.{IsFurther, IsStampedFor, ObjectsAfter, Told, IsAsked, IsActed, IsStamped, stamped_alone}
+use Rattle.port_objects.specs.Benches.{IsFurther, IsStampedFor, ObjectsAfter, Told, IsAsked, IsActed, IsStamped, stamped_alone, benched, written_last}
+use Rattle.task_slots.specs.declared.look.Looks.TheVariants as looks
 use Rattle.task_slots.specs.Look as look
-use Rattle.task_slots.specs.Looking.{IsFree, IsTried, looks_at, event_for, IsAlone, IsEntryOf, IsHeldAt, MadeAt, ObjectsLooked, Looked}
-use Rattle.task_slots.proofs.Looks.{work_same, next_still}
+use Rattle.task_slots.specs.Look.{look_of}
+use Rattle.task_slots.specs.Looking.{IsFree, IsTried, looks_at, event_for, IsAlone, IsEntryOf, EntryOf, IsHeldAt, MadeAt, ObjectsLooked, Looked}
+use Rattle.task_slots.proofs.Onward.{work_same, next_still}
+use Rattle.task_slots.proofs.Written.{look_as, benched_as}
 
 -- ---- a wish on an object
 
@@ -31,7 +35,7 @@ asked_on p q a w object same touching tried = subst (λ q. IsAsked q object a w)
 })
 
 module _ (p : Plan) (a : Actor) (w : Wanted) (object : ℕ) (touching : object_of p a w ≡ Some object) where
-  pub entry_of : (s : Stamped) → IsStampedFor p a w s → IsEntryOf p a w s
+  entry_of : (s : Stamped) → IsStampedFor p a w s → IsEntryOf p a w s
   entry_of s is = record {
     actor = is.actor;
     wish = is.wish;
@@ -55,7 +59,7 @@ module _ (p : Plan) (a : Actor) (w : Wanted) (object : ℕ) (touching : object_o
     made = subst (MadeAt p objects new (a, w) s.entry) (sym touching) after;
   }
 
-  pub done_looked : (s : Stamped) (old new : Told) → IsActed p object a w old new (Done s) → Looked p ((a, w) ∷ []) (looks_at (object_of p a w) w) old new (look.Made s)
+  done_looked : (s : Stamped) (old new : Told) → IsActed p object a w old new (Done s) → Looked p ((a, w) ∷ []) (looks_at (object_of p a w) w) old new (look.Made s)
   done_looked s old new acted = record {
     room = acted.room;
     next = acted.next;
@@ -63,6 +67,17 @@ module _ (p : Plan) (a : Actor) (w : Wanted) (object : ℕ) (touching : object_o
     work = acted.work;
     lost = tt;
   }
+
+  -- and this one is the last that was written down
+  module _ (made : List Stamped) (s : Stamped) (last : written_last made ≡ Some s) (old new : Told) (acted : IsActed p object a w old new (benched answered.Made made)) where
+    done : IsActed p object a w old new (Done s)
+    done = subst (IsActed p object a w old new) (benched_as made s last) acted
+
+    pub made_entry : EntryOf p a w (look_of looks.Made made)
+    made_entry = subst (EntryOf p a w) (sym (look_as made s last)) (entry_of s done.entry)
+
+    pub made_looked : Looked p ((a, w) ∷ []) (looks_at (object_of p a w) w) old new (look_of looks.Made made)
+    made_looked = subst (Looked p ((a, w) ∷ []) (looks_at (object_of p a w) w) old new) (sym (look_as made s last)) (done_looked s old new done)
 
   held_objects : (shown : _) → (old new : Option (List Object)) → ObjectsAfter p object a w old new (NotYet shown) → ObjectsLooked p ((a, w) ∷ []) old new look.Nothing
   held_objects shown None new after = after
@@ -110,7 +125,7 @@ module _ (p : Plan) (a : Actor) (w : Wanted) (touching : object_of p a w ≡ Non
       of_deed (deed.TakeResult q code value) free wish = ap (object_of p a) wish ∙ touching
       of_deed d free wish = absurd (false≢true free)
 
-  pub free_entry : (stamp : ℕ) (d : Deed) → freed.is_free w ≡ true → freed.IsFree w d → IsEntryOf p a w (stamped_alone stamp (record { actor = a; deed = d }))
+  free_entry : (stamp : ℕ) (d : Deed) → freed.is_free w ≡ true → freed.IsFree w d → IsEntryOf p a w (stamped_alone stamp (record { actor = a; deed = d }))
   free_entry stamp d free is = record {
     actor = refl;
     wish = is.wish;
@@ -132,7 +147,7 @@ module _ (p : Plan) (a : Actor) (w : Wanted) (touching : object_of p a w ≡ Non
     made = subst (MadeAt p objects new (a, w) (record { actor = a; deed = d })) (sym touching) same;
   }
 
-  pub free_looked : (stamp : ℕ) (d : Deed) (old new : Told) → freed.is_free w ≡ true → freed.IsFree w d → IsStamped old new (stamped_alone stamp (record { actor = a; deed = d }))
+  free_looked : (stamp : ℕ) (d : Deed) (old new : Told) → freed.is_free w ≡ true → freed.IsFree w d → IsStamped old new (stamped_alone stamp (record { actor = a; deed = d }))
       → Looked p ((a, w) ∷ []) (looks_at None w) old new (look.Made (stamped_alone stamp (record { actor = a; deed = d })))
   free_looked stamp d old new free is stamped = record {
     room = stamped.room;
@@ -141,6 +156,14 @@ module _ (p : Plan) (a : Actor) (w : Wanted) (touching : object_of p a w ≡ Non
     work = stamped.work;
     lost = tt;
   }
+
+  -- and this one is the last that was written down
+  module _ (made : List Stamped) (stamp : ℕ) (d : Deed) (last : written_last made ≡ Some (stamped_alone stamp (record { actor = a; deed = d }))) (free : freed.is_free w ≡ true) (is : freed.IsFree w d) where
+    pub alone_entry : EntryOf p a w (look_of looks.Made made)
+    alone_entry = subst (EntryOf p a w) (sym (look_as made _ last)) (free_entry stamp d free is)
+
+    pub alone_made : (old new : Told) → IsStamped old new (stamped_alone stamp (record { actor = a; deed = d })) → Looked p ((a, w) ∷ []) (looks_at None w) old new (look_of looks.Made made)
+    alone_made old new stamped = subst (Looked p ((a, w) ∷ []) (looks_at None w) old new) (sym (look_as made _ last)) (free_looked stamp d old new free is stamped)
 
   -- a start that touches nothing is held without a look
   pub alone_start : IsFree (object_of p a w) w → freed.is_free w ≡ false → is_start w ≡ true

@@ -1,5 +1,5 @@
--- Looks of which nothing came, over a bench that does not tell its work: it tells the same after them.
-use Rattle.std.proofs.Common.{◌≡◌, ◌≢◌, ℕ, suc, ◌+◌, ◌-◌, ◌<◌, ◌≤◌, Bool, false, refl, sym, ◌∙◌, ap, subst, arith, List, [], ◌∷◌, length, take, drop, set, get_or, length-drop, length-take, inl, inr, Option, Some, None}
+-- Looks of which nothing came and which are not counted: a bench tells the same after them, and no count of its work falls.
+use Rattle.std.proofs.Common.{◌≡◌, ◌≢◌, ℕ, suc, ◌+◌, ◌<◌, Bool, false, refl, sym, ◌∙◌, ap, subst, arith, List, [], ◌∷◌, length, take, drop, set, get_or, length-drop, length-take, inl, inr, Option, Some, None}
 use Rattle.std.specs.List.{slice_get}
 use Rattle.std.proofs.lemmas.Bool.{cases_lt}
 use Rattle.std.proofs.lemmas.List.{get_or-take, get_or-drop, get_or-set_other, get_or-set_same}
@@ -12,7 +12,7 @@ use Rattle.place_set.specs.Places.{NoneBetween}
 use Rattle.task_slots.specs.Look.{Look, Made, Nothing, Contended}
 use Rattle.task_slots.specs.Looking.{AllHeld, ObjectsLooked, WorkLooked, Looked}
 use Rattle.task_slots.specs.Waiting.{EventsHeld}
-use Rattle.task_slots.proofs.Looks.{next_same, next_still, all_on}
+use Rattle.task_slots.proofs.Onward.{work_same, work_on, work_uncounted, next_same, next_still, all_on}
 use Rattle.task_slots.proofs.Placed.{Placed, here, there, placed}
 
 -- ---- where a bench tells its objects
@@ -34,44 +34,35 @@ held_more p (Some objects) events row at e found held before = λ j d event slee
         subst (λ x. AllHeld p objects (start_try p x)) (sym own) held
     of_place j d event (there other sleeps) = before j d event sleeps
 
--- ---- a bench that does not tell its work
+-- ---- a bench that made nothing
 
 pub record Unchanged (a b : Told) : Type 0 where
   pub room : b.room ≡ a.room
   pub next : b.next ≡ a.next
   pub objects : b.objects ≡ a.objects
-  pub idle : a.work ≡ None
-  pub idle_still : b.work ≡ None
+  pub work : IsFurther a.work b.work [] 0 0
 
--- it goes on not telling it
-pub untold : (n : ℕ) (w v : Option Work) (l : Look) → w ≡ None → WorkLooked n w v l → v ≡ None
-untold n w v (Made s) none looked = subst (λ o. WorkLooked n o v (Made s)) none looked
-untold n w v Nothing none looked = subst (λ o. WorkLooked n o v Nothing) none looked
-untold n w v (Contended object) none looked = subst (λ o. WorkLooked n o v (Contended object)) none looked
-
-pub unchanged_none : (a : Told) → a.work ≡ None → Unchanged a a
-unchanged_none a idle = record { room = refl; next = refl; objects = refl; idle = idle; idle_still = idle }
+pub unchanged_none : (a : Told) → Unchanged a a
+unchanged_none a = record { room = refl; next = refl; objects = refl; work = work_same a.work }
 
 pub unchanged_on : (a b c : Told) → Unchanged a b → Unchanged b c → Unchanged a c
 unchanged_on a b c first last = record {
   room = last.room ∙ first.room;
   next = last.next ∙ first.next;
   objects = last.objects ∙ first.objects;
-  idle = first.idle;
-  idle_still = last.idle_still;
+  work = work_on a.work b.work c.work [] [] 0 0 0 0 first.work last.work;
 }
 
 same_objects : (p : Plan) (ts : List Try) (a b : Option (List Object)) → ObjectsLooked p ts a b Nothing → b ≡ a
 same_objects p ts None b looked = looked
 same_objects p ts (Some objects) b looked = looked.1
 
-pub unchanged_by : (p : Plan) (ts : List Try) (n : ℕ) (a b : Told) → a.work ≡ None → Looked p ts n a b Nothing → Unchanged a b
-unchanged_by p ts n a b idle looked = record {
+pub unchanged_by : (p : Plan) (ts : List Try) (n : ℕ) (a b : Told) → Looked p ts n a b Nothing → Unchanged a b
+unchanged_by p ts n a b looked = record {
   room = looked.room;
   next = next_same a.next b.next looked.next;
   objects = same_objects p ts a.objects b.objects looked.objects;
-  idle = idle;
-  idle_still = untold n a.work b.work Nothing idle looked.work;
+  work = work_uncounted n a.work b.work Nothing looked.work;
 }
 
 objects_held : (p : Plan) (ts : List Try) (a b : Option (List Object)) → ObjectsLooked p ts a b Nothing → TriesHeld p a ts
@@ -86,18 +77,24 @@ objects_looked : (p : Plan) (ts : List Try) (a b : Option (List Object)) → b �
 objects_looked p ts None b same held = same
 objects_looked p ts (Some objects) b same held = (held, same)
 
-work_looked : (n : ℕ) (a b : Option Work) → a ≡ None → b ≡ None → IsFurther a b [] n 0
-work_looked n a b none still = subst (λ o. IsFurther o b [] n 0) (sym none) still
-
--- tries that are held are as if they were looked at
-pub looked_at : (p : Plan) (ts : List Try) (n : ℕ) (a b : Told) → Unchanged a b → TriesHeld p a.objects ts → Looked p ts n a b Nothing
-looked_at p ts n a b same held = record {
+-- tries that are held are as if they were looked at, except that no look is counted
+pub looked_at : (p : Plan) (ts : List Try) (a b : Told) → Unchanged a b → TriesHeld p a.objects ts → Looked p ts 0 a b Nothing
+looked_at p ts a b same held = record {
   room = same.room;
   next = subst (λ o. StampAfter a.next o None) (sym same.next) (next_still a.next);
   objects = objects_looked p ts a.objects b.objects same.objects held;
-  work = work_looked n a.work b.work same.idle same.idle_still;
+  work = same.work;
   lost = tt;
 }
+
+-- a bench that does not tell its work tells no count of looks
+untold : (m n : ℕ) (a b : Option Work) (l : Look) → a ≡ None → WorkLooked m a b l → WorkLooked n a b l
+untold m n a b (Made s) none looked = looked
+untold m n a b Nothing none looked = subst (λ o. IsFurther o b [] n 0) (sym none) (subst (λ o. IsFurther o b [] m 0) none looked)
+untold m n a b (Contended object) none looked = looked
+
+pub looked_again : (p : Plan) (ts : List Try) (m n : ℕ) (a b : Told) (l : Look) → a.work ≡ None → Looked p ts m a b l → Looked p ts n a b l
+looked_again p ts m n a b l none looked = record { room = looked.room; next = looked.next; objects = looked.objects; work = untold m n a.work b.work l none looked.work; lost = looked.lost }
 
 -- ---- tries of each item of a list
 

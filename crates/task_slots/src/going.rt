@@ -16,11 +16,11 @@ ghost use Rattle.task_slots.specs.Stepping.{Heard, SlotLooked};
 
 use crate::asking::what_is_asked_may_be_tried;
 use crate::direct::after_deed;
-use crate::look::{Looks, last};
+use crate::look::Looks;
 use crate::slot::TaskSlot;
 use crate::trying::try_wish;
 use bus_semantics::{Actor, BusPlan, Deed, Stamped};
-use port_objects::{Bench, free_deeds_are_legal};
+use port_objects::{Bench, free_deeds_are_legal, last_written};
 use rte_value::ActKey;
 use task_machine::{Next, TaskSet};
 
@@ -62,7 +62,7 @@ pub(crate) fn go_on<B: Bench>(
         Next::Over => unreachable!(),
         Next::Call(wish) => match try_wish(p, &Actor::Act(key), &wish, bench, made) {
             Looks::Made => {
-                hear(p, t, key, slot, &last(made).entry.deed);
+                hear(p, t, key, slot, &last_written(made).entry.deed);
                 Looks::Made
             }
             Looks::Nothing => Looks::Nothing,

@@ -17,11 +17,11 @@ ghost use Rattle.task_slots.specs.Stepping.{ServedBy, HeardInside, SlotLooked};
 
 use crate::asking::what_is_asked_may_be_tried;
 use crate::direct::after_inside;
-use crate::look::{Looks, last};
+use crate::look::Looks;
 use crate::slot::{Activity, Call, TaskSlot};
 use crate::trying::try_wish;
 use bus_semantics::{Actor, BusPlan, Deed, Stamped, Wish};
-use port_objects::{Bench, free_deeds_are_legal, sound_plans_have_objects};
+use port_objects::{Bench, free_deeds_are_legal, last_written, sound_plans_have_objects};
 use task_machine::{Next, TaskSet};
 
 /// The direct activation that is called begins with its start.
@@ -69,7 +69,7 @@ pub(crate) fn start_inside<B: Bench>(
     let who = Actor::Act(call.direct);
     match try_wish(p, &who, &Wish::Start { event: call.event }, bench, made) {
         Looks::Made => {
-            serve(t, call, slot, &last(made).entry.deed);
+            serve(t, call, slot, &last_written(made).entry.deed);
             Looks::Made
         }
         Looks::Nothing => Looks::Nothing,
@@ -107,7 +107,7 @@ pub(crate) fn go_on_inside<B: Bench>(
         Next::Over => unreachable!(),
         Next::Call(wish) => match try_wish(p, &Actor::Act(call.direct), &wish, bench, made) {
             Looks::Made => {
-                hear_inside(t, call, slot, &last(made).entry.deed);
+                hear_inside(t, call, slot, &last_written(made).entry.deed);
                 Looks::Made
             }
             Looks::Nothing => Looks::Nothing,

@@ -1,10 +1,5 @@
 //! What comes of a look.
 
-ghost use Rattle.std.specs.Prelude.{◌≡◌, ◌<◌, length, Some};
-ghost use Rattle.port_objects.specs.Benches.{written_last};
-
-use bus_semantics::Stamped;
-
 /// What comes of a look at a wish, or at the wishes of a slot.
 #[derive(Clone, Copy)]
 pub enum Looks {
@@ -14,12 +9,4 @@ pub enum Looks {
     Nothing,
     /// Another core holds the object.
     Contended(u32),
-}
-
-/// The entry that was written down last.
-pub(crate) fn last(made: &[Stamped]) -> &Stamped
-    requires { 0 < length made.now }
-    ensures { written_last made.now ≡ Some result.now }
-{
-    &made[made.len() - 1]
 }

@@ -1,13 +1,13 @@
 //! A look at a slot of whose events some sleep.
 
-ghost use Rattle.std.specs.Prelude.{◌≡◌, ◌<◌, length, None};
+ghost use Rattle.std.specs.Prelude.{◌≡◌, ◌<◌, length};
 ghost use Rattle.std.specs.Vec.{vec_capacity};
 ghost use Rattle.bus_semantics.specs.declared.script.Mapping.{Mapping};
 ghost use Rattle.bus_semantics.specs.Plan.{plan_of};
 ghost use Rattle.bus_semantics.specs.Sound.{IsSound};
 ghost use Rattle.task_generator.specs.Promise.{AsksAsPlanned};
 ghost use Rattle.task_slots.specs.declared.slot.Slot.TheVariants as slots;
-ghost use Rattle.task_slots.specs.Slots.{task_tries, task_looks, slot_tries, looks, events_of_slot};
+ghost use Rattle.task_slots.specs.Slots.{task_tries, slot_tries, events_of_slot};
 ghost use Rattle.task_slots.specs.Ready.{IsReadyTask, IsReadySlot};
 ghost use Rattle.task_slots.specs.Look.{IsWrittenLook, look_of};
 ghost use Rattle.task_slots.specs.Looking.{Looked};

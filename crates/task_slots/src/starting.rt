@@ -20,11 +20,11 @@ ghost use Rattle.task_slots.specs.Look.{IsWrittenLook, look_of};
 ghost use Rattle.task_slots.specs.Looking.{StartBy, Looked};
 
 use crate::asking::what_is_asked_may_be_tried;
-use crate::look::{Looks, last};
+use crate::look::Looks;
 use crate::slot::{Activity, TaskSlot};
 use crate::trying::try_wish;
 use bus_semantics::{Actor, BusPlan, Entry, Stamped, Wish};
-use port_objects::{Bench, sound_plans_have_objects};
+use port_objects::{Bench, last_entries_are_last, last_written, sound_plans_have_objects};
 use rte_value::ActKey;
 use task_machine::TaskSet;
 
@@ -84,6 +84,7 @@ fn start_first<B: Bench>(
     ensures looked { Looked (plan_of p.now) (gathered (start_try (plan_of p.now)) events.now) (count (waits (plan_of p.now)) events.now)
         (B.told bench.old) (B.told bench.new) (look_of result made.new.items) }
 {
+    last_entries_are_last();
     for event in events {
         match try_event(p, *event, bench, made) {
             Looks::Made => return Looks::Made,
@@ -130,7 +131,7 @@ pub(crate) fn start_due<B: Bench>(
     what_is_asked_may_be_tried();
     match start_first(p, slot.events.as_slice(), bench, made) {
         Looks::Made => {
-            begin(t, slot, &last(made).entry);
+            begin(t, slot, &last_written(made).entry);
             Looks::Made
         }
         Looks::Nothing => Looks::Nothing,

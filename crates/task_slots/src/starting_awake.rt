@@ -1,16 +1,15 @@
 //! The start of a free task by one of its events that are awake.
 
-ghost use Rattle.std.specs.Prelude.{◌≡◌, ◌<◌, length, true, None};
+ghost use Rattle.std.specs.Prelude.{◌≡◌, ◌<◌, length, true};
 ghost use Rattle.std.specs.List.{list_all};
 ghost use Rattle.std.specs.Vec.{vec_capacity};
 ghost use Rattle.bus_semantics.specs.declared.script.Mapping.{Mapping};
 ghost use Rattle.bus_semantics.specs.Plan.{plan_of};
-ghost use Rattle.bus_semantics.specs.History.{count};
 ghost use Rattle.bus_semantics.specs.Rest.{gathered, start_try};
 ghost use Rattle.bus_semantics.specs.Sound.{IsSound};
 ghost use Rattle.task_slots.specs.declared.slot.Slot.TheVariants as slots;
 ghost use Rattle.task_slots.specs.declared.slot.Activity.TheVariants.{Free};
-ghost use Rattle.task_slots.specs.Slots.{waits, task_tries, task_looks};
+ghost use Rattle.task_slots.specs.Slots.{task_tries};
 ghost use Rattle.task_slots.specs.Ready.{may_be_mapped, IsReadyTask};
 ghost use Rattle.task_slots.specs.Look.{IsWrittenLook, look_of};
 ghost use Rattle.task_slots.specs.Looking.{StartBy, Looked};
@@ -18,12 +17,12 @@ ghost use Rattle.task_slots.specs.Stepping.{SlotLooked};
 ghost use Rattle.task_slots.specs.Waiting.{EventsHeld};
 
 use crate::asking::what_is_asked_may_be_tried;
-use crate::look::{Looks, last};
+use crate::look::Looks;
 use crate::slot::TaskSlot;
 use crate::starting::{begin, try_event};
 use bus_semantics::{BusPlan, Stamped};
 use place_set::PlaceSet;
-use port_objects::Bench;
+use port_objects::{Bench, last_entries_are_last, last_written};
 use task_machine::TaskSet;
 
 /// The first of the events that are awake that may start its runnable does so. Those before it fall asleep.
@@ -51,6 +50,7 @@ fn start_first<B: Bench>(
     ensures width { length row.new ≡ length events.now }
     ensures held { EventsHeld (plan_of p.now) (B.told bench.old).objects events.now row.new }
 {
+    last_entries_are_last();
     let mut from = 0;
     while let Some(at) = row.next(from) {
         match try_event(p, events[at], bench, made) {
@@ -93,7 +93,7 @@ pub(crate) fn start_due<B: Bench>(
     what_is_asked_may_be_tried();
     match start_first(p, slot.events.as_slice(), row, bench, made) {
         Looks::Made => {
-            begin(t, slot, &last(made).entry);
+            begin(t, slot, &last_written(made).entry);
             Looks::Made
         }
         Looks::Nothing => Looks::Nothing,

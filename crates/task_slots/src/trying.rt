@@ -10,7 +10,7 @@ ghost use Rattle.task_slots.specs.Looking.{IsTried, EntryOf, Looked, looks_at};
 
 use crate::look::Looks;
 use bus_semantics::{Actor, BusPlan, Stamped, Wish};
-use port_objects::{Answered, Bench, free_deed, object_of};
+use port_objects::{Answered, Bench, free_deed, last_entries_are_last, object_of};
 
 /// Makes the entry of a wish that touches no object, by a stamp. A start without an object may never come, so the bench is not
 /// asked for it.
@@ -26,6 +26,7 @@ fn answer_alone<B: Bench>(who: &Actor, wish: &Wish, bench: &mut B, made: &mut Ve
     ensures entry { EntryOf (B.plan bench.old) who.now (wanted_of wish.now) (look_of result made.new.items) }
     ensures looked { Looked (B.plan bench.old) ((who.now, wanted_of wish.now) ∷ []) (looks_at None (wanted_of wish.now)) (B.told bench.old) (B.told bench.new) (look_of result made.new.items) }
 {
+    last_entries_are_last();
     match free_deed(wish) {
         Some(deed) => {
             bench.stamp_into(who, &deed, made);
@@ -55,6 +56,7 @@ pub(crate) fn try_wish<B: Bench>(
     ensures looked { Looked (plan_of p.now) ((who.now, wanted_of wish.now) ∷ []) (looks_at (object_of (plan_of p.now) who.now (wanted_of wish.now)) (wanted_of wish.now))
         (B.told bench.old) (B.told bench.new) (look_of result made.new.items) }
 {
+    last_entries_are_last();
     match object_of(p, who, wish) {
         Some(object) => match bench.act_into(object, who, wish, made) {
             Answered::Made => Looks::Made,

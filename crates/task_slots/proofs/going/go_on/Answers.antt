@@ -1,15 +1,19 @@
-use Rattle.std.proofs.Common.{◌≡◌, false, sym, ◌∙◌, ap, subst, refl, Some}
+use Rattle.std.proofs.Common.{◌≡◌, false, sym, ◌∙◌, ap, subst, Some, ◌<◌, length}
 use Rattle.std.proofs.lemmas.Option.{same_Some}
 use Rattle.rte_value.specs.Values.{words_of}
 use Rattle.bus_semantics.specs.declared.entries.Actor.TheVariants.{Act}
 use Rattle.bus_semantics.specs.declared.entries.Deed.TheVariants as deed
 use Rattle.bus_semantics.specs.Plan.{plan_of}
-use Rattle.bus_semantics.specs.Wanted.{Wanted, wanted_of}
+use Rattle.bus_semantics.specs.Wanted.{wanted_of}
 use Rattle.bus_semantics.specs.Objects.{object_of}
 use Rattle.bus_semantics.specs.Asked.{is_start}
+use Rattle.port_objects.specs.Benches.{written_last}
 use Rattle.task_slots.specs.Ready.{IsRunning, IsActive}
 use Rattle.task_slots.specs.Slots.{tries_of, looks_of}
-use Rattle.task_slots.specs.Looking.{IsTried, IsEntryOf}
+use Rattle.task_slots.specs.declared.slot.Slot.TheVariants as slots
+use Rattle.task_slots.specs.Looking.{IsTried, IsEntryOf, EntryOf}
+use Rattle.task_slots.specs.Stepping.{SlotLooked}
+use Rattle.task_slots.proofs.Written.{look_as, some_written}
 use Rattle.task_slots.proofs.Wishes.{once}
 use Rattle.task_slots.proofs.Begun.{asks_is, asked_is, looked_next}
 use Rattle.task_slots.proofs.Steps.{heard_step}
@@ -91,9 +95,15 @@ returns-in-Made-clause-slot g c =
     let is : b.wish ≡ wanted_of c.in-Call.wish = sym (same_Some _ _ (some ∙ asks_is p c.args.t.now c.requires.bodies s.frame k b)) in
     let asked = c.what_is_asked_may_be_tried.ensures in
     let tried = asked.tried p m k b.runnable b.event (words_of b.value) b.answers b.wish sound b.fits b.asks in
-    heard_step p m sound c.args.t.now s c.hear.new.slot c.requires.ready c.in-Made.stamped c.requires.bodies k c.requires.runs c.hear.ensures
-    (subst (λ w. IsEntryOf p (Act k) w c.in-Made.stamped) (sym is) c.in-Made.ensures.entry) tried
+    let e = c.last_written.result.now in
+    let look = look_as c.try_wish.new.made.items e (sym (ap written_last c.deref.ensures.value) ∙ c.last_written.ensures) in
+    subst (SlotLooked p c.args.t.now (slots.Task s) (slots.Task c.hear.new.slot)) (sym look)
+    (heard_step p m sound c.args.t.now s c.hear.new.slot c.requires.ready e c.requires.bodies k c.requires.runs c.hear.ensures
+    (subst (λ w. IsEntryOf p (Act k) w e) (sym is) (subst (EntryOf p (Act k) (wanted_of c.in-Call.wish)) look c.in-Made.ensures.entry)) tried
     (asked.begun p m k b.runnable b.event (words_of b.value) b.answers b.wish sound b.fits b.asks)
     (λ o named. asked.own p m k b.runnable b.event o (words_of b.value) b.answers b.wish sound b.fits b.asks named)
     (λ d asks over answer. asked.further p m k b.runnable b.event (words_of b.value) b.answers d sound b.fits asks over answer)
-    (λ d h none free is_free. c.free_deeds_are_legal.ensures.answers p m (Act k) b.wish d h sound tried.fits none free is_free)
+    (λ d h none free is_free. c.free_deeds_are_legal.ensures.answers p m (Act k) b.wish d h sound tried.fits none free is_free))
+
+pub last_written-requires : goal.last_written-requires
+last_written-requires g c = subst (λ xs. 0 < length xs) (sym c.deref.ensures.value) (some_written c.args.made.now.items c.try_wish.new.made.items c.in-Made.ensures.written)

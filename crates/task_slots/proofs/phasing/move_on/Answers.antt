@@ -1,12 +1,6 @@
-use Rattle.std.proofs.Common.{◌≡◌, ◌<◌, true, false, ◌&&◌, arith, refl, length}
-use Rattle.std.specs.Prelude.{nat_lt}
-use Rattle.std.proofs.lemmas.Bool.{and_from}
-use Rattle.std.proofs.lemmas.Bool.Decides.{nat_tests}
-use Rattle.bus_semantics.specs.declared.entries.Actor.TheVariants.{Machine}
 use Rattle.bus_semantics.specs.Plan.{plan_of}
-use Rattle.bus_semantics.specs.Wanted.{to_move_on}
-use Rattle.bus_semantics.specs.Fitting.{wish_fits}
-use Rattle.task_slots.proofs.Phases.{phase_fits, phase_tried, phase_looks}
+use Rattle.task_slots.specs.Look.{look_of}
+use Rattle.task_slots.proofs.Phases.{phase_tried, phase_looks}
 use Rattle.task_slots.proofs.phasing.move_on.Goals as goal
 
 pub try_wish-requires-clause-tried : goal.try_wish-requires-clause-tried
@@ -15,4 +9,4 @@ try_wish-requires-clause-tried g c =
     phase_tried p c.args.number c.requires.there (λ a w fit. c.sound_plans_have_objects.ensures.touched p c.requires.sound.0 a w c.requires.sound.1 fit)
 
 pub returns-clause-slot : goal.returns-clause-slot
-returns-clause-slot g c = λ t. phase_looks (plan_of c.args.p.now) t c.args.number c.requires.there c.try_wish.result c.try_wish.ensures.entry
+returns-clause-slot g c = λ t. phase_looks (plan_of c.args.p.now) t c.args.number c.requires.there (look_of c.try_wish.result c.try_wish.new.made.items) c.try_wish.ensures.entry

@@ -1,6 +1,7 @@
 use Rattle.std.proofs.lemmas.Bool.{and_parts}
 use Rattle.std.proofs.Common.{length, nat_lt}
 use Rattle.bus_semantics.specs.Plan.{plan_of}
+use Rattle.task_slots.specs.Look.{look_of}
 use Rattle.task_slots.proofs.Starts.{start_tried, start_by, start_looked}
 use Rattle.task_slots.proofs.starting.try_event.Goals as goal
 
@@ -15,7 +16,7 @@ try_wish-requires-clause-tried g c =
     (λ a w fit. c.sound_plans_have_objects.ensures.touched p m a w c.requires.sound.1 fit)
 
 pub returns-clause-start : goal.returns-clause-start
-returns-clause-start g c = start_by (plan_of c.args.p.now) c.args.event c.runnable_of.result c.runnable_of.ensures c.try_wish.result c.try_wish.ensures.entry
+returns-clause-start g c = start_by (plan_of c.args.p.now) c.args.event c.runnable_of.result c.runnable_of.ensures (look_of c.try_wish.result c.try_wish.new.made.items) c.try_wish.ensures.entry
 
 pub returns-clause-looked : goal.returns-clause-looked
-returns-clause-looked g c = start_looked (plan_of c.args.p.now) c.args.event c.runnable_of.result c.runnable_of.ensures _ _ c.try_wish.result c.try_wish.ensures.looked
+returns-clause-looked g c = start_looked (plan_of c.args.p.now) c.args.event c.runnable_of.result c.runnable_of.ensures _ _ (look_of c.try_wish.result c.try_wish.new.made.items) c.try_wish.ensures.looked

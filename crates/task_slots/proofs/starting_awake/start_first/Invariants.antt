@@ -1,4 +1,5 @@
 use Rattle.std.proofs.Common.{◌≡◌, ◌-◌, length}
+use Rattle.std.specs.Vec.{vec_capacity}
 use Rattle.bus_semantics.specs.Plan.{plan_of}
 use Rattle.place_set.specs.Places.{NoneBetween}
 use Rattle.task_slots.specs.Waiting.{EventsHeld}
@@ -9,6 +10,8 @@ abbrev pub invariant-loop-at : goal.invariant-loop-at
 invariant-loop-at g l = record {
   home : g.B.Bench.home l.bench ≡ g.B.Bench.home l.initial.bench;
   plan : g.B.Bench.plan l.bench ≡ g.B.Bench.plan l.initial.bench;
+  capacity : vec_capacity l.made ≡ vec_capacity l.initial.made;
+  written : l.made.items ≡ l.initial.made.items;
   width : length l.row ≡ length l.events;
   held : EventsHeld (plan_of l.p) (g.B.Bench.told l.initial.bench).objects l.events l.row;
   asleep : NoneBetween l.row 0 l.from;

@@ -45,6 +45,12 @@ work_less (Some a) b s m n i j less fewer w = record {
   contended = let x = w.contended in omega arith;
 }
 
+-- looks that are not counted
+pub work_uncounted : (n : ℕ) (a b : Option Work) (l : Look) → WorkLooked n a b l → WorkLooked 0 a b l
+work_uncounted n a b (Made s) work = work
+work_uncounted n a b Nothing work = work_less a b [] n 0 0 0 (omega arith) (omega arith) work
+work_uncounted n a b (Contended object) work = work
+
 work_looked : (m n : ℕ) (a b c : Option Work) (l : Look) → IsFurther a b [] m 0 → WorkLooked n b c l → WorkLooked (m + n) a c l
 work_looked m n a b c (Made s) first last = work_less a c (s ∷ []) (m + 0) 0 (0 + 0) 0 (omega arith) (omega arith) (work_on a b c [] (s ∷ []) m 0 0 0 first last)
 work_looked m n a b c Nothing first last = work_on a b c [] [] m n 0 0 first last
@@ -136,6 +142,10 @@ module _ (p : Plan) where
 
   pub looked_as : (ts us : List Try) (m n : ℕ) (a b : Told) (l : Look) → ts ≡ us → m ≡ n → Looked p ts m a b l → Looked p us n a b l
   looked_as ts us m n a b l same count looked = subst (λ k. Looked p us k a b l) count (subst (λ x. Looked p x m a b l) same looked)
+
+  -- looks that are not counted
+  pub looked_uncounted : (ts : List Try) (n : ℕ) (a b : Told) (l : Look) → Looked p ts n a b l → Looked p ts 0 a b l
+  looked_uncounted ts n a b l looked = record { room = looked.room; next = looked.next; objects = looked.objects; work = work_uncounted n a.work b.work l looked.work; lost = looked.lost }
 
   -- tries after the entry do not matter
   told_more : (ts us : List Try) (objects : List Object) (c : Option (List Object)) (s : Stamped) → FirstMade p ts objects c s → FirstMade p (ts ++ us) objects c s
