@@ -13,3 +13,4 @@ pub mod Waiters
 pub mod Awakes
 pub mod Left
 pub mod Settling
+pub mod AllAwake

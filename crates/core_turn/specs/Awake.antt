@@ -192,3 +192,18 @@ woken_at a (Some place) = with_slots a (set a.slots place true) (set a.waiting p
 pub record FirstWakes (object : ℕ) (old new : AwakeState) (which : Option ℕ) : Type 0 where
   pub first : FirstIs old object which
   pub changed : new ≡ woken_at old which
+
+-- ---- all wakes
+
+abbrev pub AllAre : Bool → List Bool → Type 0
+AllAre b flags = (i : ℕ) (x : Bool) → slice_get flags i ≡ Some x → x ≡ b
+
+-- the slot at a place is awake with all its events, and does not wait; nothing else has changed
+pub record WakesSlot (place : ℕ) (old new : AwakeState) : Type 0 where
+  pub slots : new.slots ≡ set old.slots place true
+  pub waiting : new.waiting ≡ set old.waiting place false
+  pub row : List Bool
+  pub events : new.events ≡ set old.events place row
+  pub width : length row ≡ length (slice_index_or old.events place [])
+  pub all : AllAre true row
+  pub areas : new.areas ≡ old.areas

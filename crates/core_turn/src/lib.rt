@@ -9,6 +9,7 @@ mod laws;
 mod looking;
 mod making;
 mod passed;
+mod rousing;
 mod tasks;
 mod threads;
 mod turning;
