@@ -57,7 +57,7 @@ the run has the script's calls and run lines, all of them, in order|script_readi
 each entry is one that may come after those before it|data_objects/starts_what_is_not_pending area_objects/enters_a_held_area area_objects/leaves_for_another task_slots/appends_what_was_not_made
 an entry of an activation is the next call of its program, given the answers before|task_slots/forgets_the_answer task_slots/caller_goes_on_too_early task_machine/hears_a_refused_call task_generator/jumps_one_short
 each answer is what the bus gives from the earlier entries|data_objects/keeps_another_value data_objects/answers_invalid_where_it_is_valid queued_ports/overwrites_oldest server_objects/crosses_results mode_machine/enters_before_exits_end
-this holds in whatever order the cores took their turns|core_runtime/gives_entries_in_another_order core_runtime/keeps_no_entry
+this holds in whatever order the cores took their turns|core_runtime/gives_entries_in_another_order core_runtime/keeps_no_entry core_lanes/counts_no_entry cross_core_table/stamps_under_a_foreign_lock cross_core_table/skips_a_stamp
 `idle` holds only if nothing may step any more|task_slots/starts_nothing core_runtime/wakes_nobody_after_a_write core_runtime/wakes_no_caller core_runtime/begins_at_the_second_core script_run/closes_before_the_serial_pass
 `unsettled` holds only after 100,000 entries of runnables|script_run/gives_up_at_99_999
 status 0 comes only then|rte_program/done_after_a_failed_fetch rte_program/done_after_a_failed_put

@@ -1,6 +1,5 @@
 -- Entries that follow one another, and cores whose trace is cleared.
 use Rattle.std.proofs.Common.{◌≡◌, ℕ, refl, sym, ◌∙◌, ap, subst, List, [], ◌∷◌, ◌++◌, set, Some}
-use Rattle.std.specs.Prelude.{map}
 use Rattle.std.specs.List.{slice_get}
 use Rattle.bus_semantics.specs.declared.entries.Stamped.{Stamped}
 use Rattle.bus_semantics.specs.declared.script.Mapping.{Mapping}
@@ -8,14 +7,15 @@ use Rattle.bus_semantics.specs.Plan.{Plan}
 use Rattle.bus_semantics.specs.History.{History}
 use Rattle.port_objects.specs.declared.object.Object.{Object}
 use Rattle.task_machine.specs.declared.instr.TaskSet.{TaskSet}
-use Rattle.core_turn.specs.Cores.{CoreState, tables_of_core}
-use Rattle.task_slots.specs.Slots.{table_of}
+use Rattle.core_turn.specs.Cores.{CoreState}
 use Rattle.core_turn.specs.Lawful.{IsLawful}
 use Rattle.core_turn.specs.Ready.{IsReady}
 use Rattle.core_turn.specs.Standing.{CoreStands}
 use Rattle.core_runtime.specs.After.{after}
 use Rattle.core_runtime.specs.Turns.{GoesOn}
-use Rattle.core_runtime.proofs.Places.{Placed, here, there, placed, set_here, set_there}
+use Rattle.round_merging.specs.Taking.{IsSameCore}
+use Rattle.round_merging.proofs.Turns.{same_ready, same_stands}
+use Rattle.round_merging.proofs.Places.{Placed, here, there, placed, set_here, set_there}
 
 pub after_on : (xs ys : List Stamped) (h : History) → after (xs ++ ys) h ≡ after ys (after xs h)
 after_on [] ys h = refl
@@ -24,23 +24,9 @@ after_on (x ∷ xs) ys h = after_on xs ys (x.entry ∷ h)
 pub goes_then : (p : Plan) (m : Mapping) (t : TaskSet) (a b c : List CoreState) (x y z : List Object) (xs ys : List Stamped) → GoesOn p m t a b x y xs → GoesOn p m t b c y z ys → GoesOn p m t a c x z (xs ++ ys)
 goes_then p m t a b c x y z xs ys first second = λ h lawful. subst (IsLawful p m t c z) (sym (after_on xs ys h)) (second (after xs h) (first h lawful))
 
--- ---- the same core, whatever its trace
+-- ---- a core that is the same but for its trace
 
-pub record SameCore (c k : CoreState) : Type 0 where
-  pub number : k.number ≡ c.number
-  pub slots : k.slots ≡ c.slots
-
-module _ (p : Plan) (m : Mapping) (t : TaskSet) (c k : CoreState) (same : SameCore c k) where
-  pub same_ready : IsReady p m t c → IsReady p m t k
-  same_ready ready = record {
-    sound = ready.sound;
-    has = ap (map table_of) same.slots ∙ ready.has ∙ ap (tables_of_core p m) (sym same.number);
-    each = λ i s found. ready.each i s (subst (λ xs. slice_get xs i ≡ Some s) same.slots found);
-  }
-
-  pub same_stands : (h : History) → CoreStands p t h c → CoreStands p t h k
-  same_stands h stands = λ i s found. stands i s (subst (λ xs. slice_get xs i ≡ Some s) same.slots found)
-
+module _ (p : Plan) (m : Mapping) (t : TaskSet) (c k : CoreState) (same : IsSameCore c k) where
   module _ (cores : List CoreState) (at : ℕ) (old : CoreState) (is : slice_get cores at ≡ Some old) (objects : List Object) (h : History) (lawful : IsLawful p m t (set cores at c) objects h) where
     found_here : slice_get (set cores at c) at ≡ Some c
     found_here = set_here cores at old c is
@@ -50,11 +36,11 @@ module _ (p : Plan) (m : Mapping) (t : TaskSet) (c k : CoreState) (same : SameCo
     number_of j x (there other found) = lawful.number j x (set_there cores at j x c other found)
 
     ready_of : (j : ℕ) (x : CoreState) → Placed CoreState cores at k j x → IsReady p m t x
-    ready_of j x (here place is_it) = subst (IsReady p m t) (sym is_it) (same_ready (lawful.ready at c found_here))
+    ready_of j x (here place is_it) = subst (IsReady p m t) (sym is_it) (same_ready p t c k same m (lawful.ready at c found_here))
     ready_of j x (there other found) = lawful.ready j x (set_there cores at j x c other found)
 
     stands_of : (j : ℕ) (x : CoreState) → Placed CoreState cores at k j x → CoreStands p t h x
-    stands_of j x (here place is_it) = subst (CoreStands p t h) (sym is_it) (same_stands h (lawful.stands at c found_here))
+    stands_of j x (here place is_it) = subst (CoreStands p t h) (sym is_it) (same_stands p t c k same h (lawful.stands at c found_here))
     stands_of j x (there other found) = lawful.stands j x (set_there cores at j x c other found)
 
     pub same_lawful : IsLawful p m t (set cores at k) objects h

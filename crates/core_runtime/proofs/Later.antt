@@ -13,7 +13,7 @@ use Rattle.port_objects.specs.declared.object.Object.{Object}
 use Rattle.port_objects.specs.Benches.{Plain}
 use Rattle.task_machine.specs.declared.instr.TaskSet.{TaskSet}
 use Rattle.core_turn.specs.Cores.{CoreState}
-use Rattle.core_runtime.specs.Nodes.{HasRoom}
+use Rattle.core_lanes.specs.Rooms.{HasRoom}
 use Rattle.core_runtime.specs.Rounds.{RoundState, IsRound, IsLater, Rested, IsTurn}
 use Rattle.core_turn.specs.Ready.{IsReady}
 use Rattle.core_runtime.specs.Turns.{AreReady, NothingOf, NothingMayCome, IsStep, Made}

@@ -1,10 +1,8 @@
-pub mod Places
 pub mod Going
 pub mod Stepping
 pub mod Turning
 pub mod NewNodes
 pub mod Ending
-pub mod Staying
 pub mod SameNodes
 pub mod Outside
 pub mod Watched
@@ -18,3 +16,4 @@ pub mod Turned
 pub mod Later
 pub mod Rounded
 pub mod Known
+pub mod Together

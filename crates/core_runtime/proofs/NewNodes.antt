@@ -10,7 +10,8 @@ use Rattle.task_machine.specs.declared.instr.TaskSet.{TaskSet}
 use Rattle.core_turn.specs.Cores.{CoreState}
 use Rattle.core_turn.specs.Lawful.{IsLawful}
 use Rattle.bus_semantics.specs.Sound.{IsSound}
-use Rattle.core_runtime.specs.Nodes.{AreNewCores, IsNewCore, HaveRoom}
+use Rattle.core_lanes.specs.Rooms.{HaveRoom}
+use Rattle.core_runtime.specs.Nodes.{AreNewCores, IsNewCore}
 
 pub data Last (X : Type 0) (xs : List X) (y : X) (i : ℕ) (x : X) : Type 0 where
   earlier : slice_get xs i ≡ Some x → Last X xs y i x

@@ -1,6 +1,12 @@
 -- The same node, but for its room.
-use Rattle.std.proofs.Common.{◌≡◌, sym, subst}
+use Rattle.std.proofs.Common.{◌≡◌, ◌⊎◌, inl, inr, sym, subst, List, length}
+use Rattle.bus_semantics.specs.declared.entries.Stamped.{Stamped}
+use Rattle.bus_semantics.specs.declared.plan.BusPlan.{BusPlan}
+use Rattle.bus_semantics.specs.declared.script.Mapping.{Mapping}
 use Rattle.bus_semantics.specs.History.{History}
+use Rattle.bus_semantics.specs.Plan.{plan_of}
+use Rattle.bus_semantics.specs.Rest.{IsIdle}
+use Rattle.core_runtime.specs.After.{after}
 use Rattle.core_runtime.specs.Nodes.{NodeState, IsLawfulNode, IsSameNode}
 
 -- all but the room of the one
@@ -18,5 +24,15 @@ same_but a b same = λ i. record {
   spare = a.spare;
 }
 
-pub same_is_lawful : (a b n : NodeState) (h : History) → IsSameNode a b → n ≡ b → IsLawfulNode a h → IsLawfulNode n h
-same_is_lawful a b n h same is lawful = subst (λ (x : NodeState). IsLawfulNode x h) (sym is) (subst (λ (x : NodeState). IsLawfulNode x h) (same_but a b same) lawful)
+pub same_is_lawful : (a b : NodeState) (h : History) → IsSameNode a b → IsLawfulNode a h → IsLawfulNode b h
+same_is_lawful a b h same lawful = subst (λ (x : NodeState). IsLawfulNode x h) (same_but a b same) lawful
+
+-- after a round of one core
+abbrev pub IsFullOrIdle : NodeState → List Stamped → Type 0
+IsFullOrIdle n entries = (length entries ≡ 1024) ⊎ ((h : History) → IsLawfulNode n h → IsIdle (plan_of n.plan) n.mapping (after entries h))
+
+pub same_end : (a b : NodeState) (entries : List Stamped) → IsSameNode a b → IsFullOrIdle b entries → IsFullOrIdle a entries
+same_end a b entries same (inl full) = inl full
+same_end a b entries same (inr idle) = inr (λ h lawful.
+    subst (λ (p : BusPlan). IsIdle (plan_of p) a.mapping (after entries h)) same.plan
+    (subst (λ (m : Mapping). IsIdle (plan_of b.plan) m (after entries h)) same.mapping (idle h (same_is_lawful a b h same lawful))))

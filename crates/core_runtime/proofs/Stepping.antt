@@ -1,25 +1,23 @@
 -- A turn over a plain bench, and then the core's trace cleared.
-use Rattle.std.proofs.Common.{◌≡◌, ℕ, refl, ◌∙◌, ap, ◌-◌, length, List, [], ◌∷◌, ◌++◌, set, Option, Some, None, true}
+use Rattle.std.proofs.Common.{◌≡◌, ℕ, refl, ◌∙◌, ap, ◌-◌, length, List, [], ◌∷◌, ◌++◌, set, Option, Some, None}
 use Rattle.std.proofs.lemmas.Option.{same_Some}
-use Rattle.std.specs.Prelude.{not}
 use Rattle.std.specs.List.{slice_get}
 use Rattle.bus_semantics.specs.declared.entries.Stamped.{Stamped}
-use Rattle.bus_semantics.specs.declared.entries.Actor.{Actor}
 use Rattle.bus_semantics.specs.declared.script.Mapping.{Mapping}
 use Rattle.bus_semantics.specs.Plan.{Plan}
-use Rattle.bus_semantics.specs.History.{History, is_environment}
+use Rattle.bus_semantics.specs.History.{History}
 use Rattle.port_objects.specs.Benches.{Plain}
 use Rattle.task_machine.specs.declared.instr.TaskSet.{TaskSet}
-use Rattle.task_slots.specs.declared.slot.Slot.{Slot}
-use Rattle.task_slots.specs.declared.slot.Slot.TheVariants as of
-use Rattle.task_slots.specs.Stepping.{IsOwn}
 use Rattle.core_turn.specs.Cores.{CoreState}
 use Rattle.core_turn.specs.Lawful.{IsLawful}
 use Rattle.port_objects.specs.Benches.{Told}
 use Rattle.core_turn.specs.Ready.{IsReady}
 use Rattle.core_turn.specs.Turning.{Steps, NothingComes}
 use Rattle.core_runtime.specs.Turns.{Makes, Rests}
-use Rattle.core_runtime.proofs.Going.{SameCore, same_ready, same_lawful}
+use Rattle.round_merging.specs.Taking.{IsSameCore}
+use Rattle.round_merging.proofs.Parts.{own_within}
+use Rattle.round_merging.proofs.Turns.{same_ready}
+use Rattle.core_runtime.proofs.Going.{same_lawful}
 
 -- what a plain bench tells
 abbrev pub told_by : Plain → Told
@@ -29,18 +27,13 @@ told_by b = record { room = b.room; next = Some b.next; objects = Some b.objects
 pub last_is : (xs old : List Stamped) (s : Stamped) (o : Option Stamped) → old ≡ [] → xs ≡ old ++ s ∷ [] → o ≡ slice_get xs (length xs - 1) → o ≡ Some s
 last_is xs old s o none is last = last ∙ ap (λ ys. slice_get ys (length ys - 1)) (is ∙ ap (λ ys. ys ++ s ∷ []) none)
 
--- an actor of a slot is not the environment
-own_within : (p : Plan) (slot : Slot) (a : Actor) → IsOwn p slot a → not (is_environment a) ≡ true
-own_within p (of.Task s) a own = ap (λ x. not (is_environment x)) own.is
-own_within p (of.Machine n) a own = ap (λ x. not (is_environment x)) own
-
 module _ (p : Plan) (t : TaskSet) (old : CoreState) (before now : Plain) (entries : List Stamped) where
   -- the law of turns, at these
   abbrev pub KeepsLaw : (turned : CoreState) → Stamped → Type 0
   KeepsLaw turned s = (m : Mapping) (cores : List CoreState) (i : ℕ) (h : History) → IsLawful p m t cores before.objects h → slice_get cores i ≡ Some old → IsReady p m t turned
       → IsLawful p m t (set cores i turned) now.objects (s.entry ∷ h)
 
-  pub makes : (turned new : CoreState) (s : Stamped) (all : List Stamped) → Steps p t old turned (told_by before) (told_by now) s → SameCore turned new → all ≡ entries ++ s ∷ []
+  pub makes : (turned new : CoreState) (s : Stamped) (all : List Stamped) → Steps p t old turned (told_by before) (told_by now) s → IsSameCore turned new → all ≡ entries ++ s ∷ []
       → ((m : Mapping) → IsReady p m t old → IsReady p m t turned) → KeepsLaw turned s → Makes p t old new before now entries all
   makes turned new s all steps same added ready law = record {
     made = s;
@@ -49,7 +42,7 @@ module _ (p : Plan) (t : TaskSet) (old : CoreState) (before now : Plain) (entrie
     stamp = steps.next.0;
     next = same_Some _ _ steps.next.1;
     room = steps.bench_room;
-    ready = λ m is. same_ready p m t turned new same (ready m is);
+    ready = λ m is. same_ready p t turned new same m (ready m is);
     goes = λ m cores i found is h lawful. same_lawful p m t turned new same cores i old found now.objects (s.entry ∷ h) (law m cores i h lawful found (ready m is));
   }
 

@@ -16,10 +16,10 @@ use Rattle.task_machine.specs.declared.instr.TaskSet.{TaskSet}
 use Rattle.core_turn.specs.Cores.{CoreState}
 use Rattle.core_turn.specs.Ready.{IsReady}
 use Rattle.core_runtime.specs.After.{is_within, are_within}
-use Rattle.core_runtime.specs.Nodes.{HasRoom, HaveRoom}
+use Rattle.core_lanes.specs.Rooms.{HasRoom, HaveRoom}
 use Rattle.core_runtime.specs.Turns.{GoesOn, AreReady, Makes, Rests, IsStep, Made}
 use Rattle.core_runtime.proofs.Going.{goes_then}
-use Rattle.core_runtime.proofs.Places.{Placed, here, there, placed}
+use Rattle.round_merging.proofs.Places.{Placed, here, there, placed}
 
 -- ---- lists
 

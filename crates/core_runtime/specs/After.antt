@@ -1,17 +1,2 @@
--- A history and entries that follow it.
-use Rattle.std.specs.Prelude.{List, [], ◌∷◌, Bool, not}
-use Rattle.std.specs.List.{list_all}
-use Rattle.bus_semantics.specs.declared.entries.Stamped.{Stamped}
-use Rattle.bus_semantics.specs.History.{History, is_environment}
-
--- the history and then these entries, of which the oldest comes first
-abbrev pub after : List Stamped → History → History
-after [] h = h
-after (s ∷ more) h = after more (s.entry ∷ h)
-
--- runnables and machines made them all
-abbrev pub is_within : Stamped → Bool
-is_within s = not (is_environment s.entry.actor)
-
-abbrev pub are_within : List Stamped → Bool
-are_within entries = list_all is_within entries
+-- A history and entries that follow it, as the law of rounds on threads has them.
+pub use Rattle.round_merging.specs.After.{after, is_within, are_within}

@@ -2,5 +2,4 @@ pub mod After
 pub mod Nodes
 pub mod Turns
 pub mod Rounds
-pub mod Stays
 pub mod Watching

@@ -1,5 +1,5 @@
 -- What a node keeps.
-use Rattle.std.specs.Prelude.{◌≡◌, ◌<◌, ℕ, List, [], length, Some, slice_get}
+use Rattle.std.specs.Prelude.{◌≡◌, ℕ, List, [], length, Some, slice_get}
 use Rattle.bus_semantics.specs.declared.plan.BusPlan.{BusPlan}
 use Rattle.bus_semantics.specs.declared.entries.Stamped.{Stamped}
 use Rattle.bus_semantics.specs.declared.script.Mapping.{Mapping}
@@ -15,6 +15,7 @@ use Rattle.core_turn.specs.Lawful.{IsLawful}
 use Rattle.bus_semantics.specs.Sound.{IsSound}
 use Rattle.core_turn.specs.Ready.{IsReady}
 use Rattle.core_turn.specs.Standing.{CoreStands}
+use Rattle.core_lanes.specs.Rooms.{HasRoom, HaveRoom}
 
 -- its plan, mapping and bodies, its cores by number, its objects by number, the entries of the last round or serial pass, and for how
 -- many it has room
@@ -30,14 +31,6 @@ pub record NodeState : Type 0 where
 -- the node is lawful for a history: this is legal, each object stands for its part of it, and the cores' tasks for what runs
 abbrev pub IsLawfulNode : NodeState → History → Type 0
 IsLawfulNode n h = IsLawful (plan_of n.plan) n.mapping n.bodies n.cores n.objects h
-
--- a core has room for an entry, and its trace is empty
-pub record HasRoom (c : CoreState) : Type 0 where
-  pub trace : c.trace ≡ []
-  pub room : 0 < c.room
-
-abbrev pub HaveRoom : List CoreState → Type 0
-HaveRoom cores = (i : ℕ) (c : CoreState) → slice_get cores i ≡ Some c → HasRoom c
 
 -- The plan is sound with the mapping, the bodies ask what it wants, each of the mapping's cores is there with room for an entry, and
 -- all is lawful for some history.

@@ -9,7 +9,7 @@ use Rattle.port_objects.specs.Benches.{Plain}
 use Rattle.task_machine.specs.declared.instr.TaskSet.{TaskSet}
 use Rattle.task_generator.specs.Promise.{AsksAsPlanned}
 use Rattle.core_turn.specs.Cores.{CoreState}
-use Rattle.core_runtime.specs.Nodes.{HaveRoom}
+use Rattle.core_lanes.specs.Rooms.{HaveRoom}
 use Rattle.core_runtime.specs.Turns.{AreReady, NothingOf, Made}
 
 -- the plan and the bodies, the cores by number, the objects by number, the entries so far, how many more it may make, and for how many

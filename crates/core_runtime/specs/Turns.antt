@@ -14,7 +14,7 @@ use Rattle.port_objects.specs.Benches.{Told}
 use Rattle.core_turn.specs.Ready.{IsReady}
 use Rattle.core_turn.specs.Turning.{NothingComes}
 use Rattle.core_runtime.specs.After.{after, is_within, are_within}
-use Rattle.core_runtime.specs.Nodes.{HaveRoom}
+use Rattle.core_lanes.specs.Rooms.{HaveRoom}
 
 -- The cores and the objects after further entries: for each history for which they were lawful they are lawful for it and these
 -- entries.

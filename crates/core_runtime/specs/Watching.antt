@@ -119,6 +119,17 @@ pub record IsWatch (p : Plan) (t : TaskSet) (objects : List Object) (touched : O
 abbrev pub AllWatched : List CoreState → List AwakeState → Type 0
 AllWatched cores awake = (p : Plan) (t : TaskSet) (objects : List Object) → AreWatched p t objects cores awake × AreWaiting p t objects None cores awake
 
+-- ---- all awake after a round of several cores
+
+-- made for these cores
+pub record AreShaped (cores : List CoreState) (awake : List AwakeState) : Type 0 where
+  pub count : length awake ≡ length cores
+  pub each : (i : ℕ) (c : CoreState) (a : AwakeState) → slice_get cores i ≡ Some c → slice_get awake i ≡ Some a → Fits c.slots c.first a
+
+-- each core has the tasks that it had
+abbrev pub HaveSameTasks : (old new : List CoreState) → Type 0
+HaveSameTasks old new = owners_of new ≡ owners_of old
+
 -- ---- waking
 
 -- the event at a place of a slot is awake, and the slot

@@ -1,20 +1,19 @@
-//! The node: a plan with its mapping, its cores and its objects, run by one thread.
+//! The node: a plan with its mapping, its cores and its objects. Rounds of several cores run each core in a thread of its own.
 #![tactic(auto)]
 
 mod alone;
 mod callers;
 mod environment;
-mod lap;
 mod live;
 mod machines;
 mod making;
+mod many;
 mod node;
 mod pass;
 mod round;
 mod round_state;
 mod seats;
 mod starters;
-mod stay;
 mod step;
 mod waiting;
 mod waking;

@@ -2,12 +2,12 @@
 
 ghost use Rattle.std.specs.Prelude.{◌≡◌, ◌<◌, ◌^◌, ℕ, List, None, Some, IfOk, length, slice_get};
 ghost use Rattle.bus_semantics.specs.declared.script.Mapping.{Mapping};
-ghost use Rattle.bus_semantics.specs.Plan.{plan_of};
+ghost use Rattle.bus_semantics.specs.Plan.{Plan, plan_of};
 ghost use Rattle.port_objects.specs.declared.object.Object.{Object};
 ghost use Rattle.task_machine.specs.declared.instr.TaskSet.{TaskSet};
 ghost use Rattle.core_turn.specs.Cores.{CoreState};
 ghost use Rattle.core_runtime.specs.Turns.{AreReady};
-ghost use Rattle.core_runtime.specs.Watching.{IsWatch, AllWatched};
+ghost use Rattle.core_runtime.specs.Watching.{IsWatch, AllWatched, AreShaped, HaveSameTasks};
 
 use crate::Memory;
 use crate::seats::{Seat, seats_of};
@@ -36,6 +36,16 @@ fn awake_of(alloc: Global, cores: &[Core]) -> Result<Vec<Awake>, Memory>
     Ok(awake)
 }
 
+/// All that these cores have is awake. It was made for cores with the same tasks.
+fn rouse_all(awake: &mut Vec<Awake>, cores: &[Core])
+    requires { (before : List CoreState) × AreShaped before awake.old.items × HaveSameTasks before cores.now }
+    ensures { AllWatched cores.now awake.new.items }
+{
+    for number in 0..awake.len() {
+        awake[number].wake_all(&cores[number]);
+    }
+}
+
 impl Watch {
     /// Over these cores, each at its number, all is awake. The only error is that there is no memory; no other call takes any.
     pub fn new(alloc: Global, p: &BusPlan, cores: &[Core]) -> Result<Watch, Memory>
@@ -52,5 +62,14 @@ impl Watch {
             seats,
             starters,
         })
+    }
+
+    /// What the cores did was not watched: all is awake. They have the tasks that they had. It takes no memory.
+    pub fn wake_all(&mut self, cores: &[Core])
+        requires { (p : Plan) × (t : TaskSet) × (objects : List Object) × (before : List CoreState) × IsWatch p t objects None before self.old × HaveSameTasks before cores.now }
+        ensures { (p : Plan) (t : TaskSet) (objects later : List Object) (before : List CoreState) →
+            IsWatch p t objects None before self.old → HaveSameTasks before cores.now → IsWatch p t later None cores.now self.new }
+    {
+        rouse_all(&mut self.awake, cores);
     }
 }
