@@ -27,7 +27,7 @@ use Rattle.task_slots.specs.declared.slot.Slot.TheVariants as of
 use Rattle.task_slots.specs.Slots.{Table, of_task, of_machine, table_of, listed_in, events_of_slot, starts, home_of, starts_at, is_key_of}
 use Rattle.task_slots.specs.Stepping.{IsOwn}
 use Rattle.task_slots.proofs.Basics.{key_same}
-use Rattle.task_slots.proofs.Looks.{gathered_on, count_on}
+use Rattle.task_slots.proofs.Onward.{gathered_on, count_on}
 use Rattle.task_slots.proofs.Facts.{started, event_known}
 use Rattle.core_turn.specs.Cores.{CoreState, tasks_of_core, task_tables, machine_tables, tables_of_core, HasSlots}
 

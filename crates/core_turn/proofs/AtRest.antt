@@ -21,7 +21,7 @@ use Rattle.history_laws.specs.Callers.{CallerWaits}
 use Rattle.history_laws.specs.Running.{GoesOn}
 use Rattle.history_laws.proofs.Keys.{wish_runs}
 use Rattle.task_slots.specs.Slots.{starts_at}
-use Rattle.task_slots.proofs.Looks.{gathered_on}
+use Rattle.task_slots.proofs.Onward.{gathered_on}
 use Rattle.core_turn.specs.Cores.{tasks_of_core}
 use Rattle.core_turn.specs.Resting.{calls_of, calls_by, calls_at, direct_calls, tries_of_task, machines_of, CoreRests}
 use Rattle.core_turn.proofs.Places.{IsAmong, deeper, passing, mapped_from, in_kept}

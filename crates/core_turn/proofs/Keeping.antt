@@ -44,7 +44,7 @@ use Rattle.task_slots.proofs.Changing.{other_stands}
 use Rattle.core_turn.specs.Cores.{CoreState}
 use Rattle.core_turn.specs.Ready.{IsReady}
 use Rattle.core_turn.specs.Standing.{CoreStands}
-use Rattle.core_turn.specs.Turning.{FirstInOrder, OrderTold, Steps, NoneTold, NothingComes}
+use Rattle.core_turn.specs.Turning.{FirstInOrder, OrderTold, StepsApart, NoneTold, NothingComes}
 use Rattle.core_turn.specs.Lawful.{IsLawful}
 use Rattle.core_turn.proofs.Apart.{cores_apart, other_entry}
 
@@ -133,7 +133,7 @@ stands_beside p m t g one other at slot e ready beside differ at_slot own stands
 -- ---- a turn
 
 module _ (p : Plan) (m : Mapping) (t : TaskSet) (cores : List CoreState) (i : ℕ) (old new : CoreState) (objects after : List Object) (before now : Told) (s : Stamped) (h : History)
-    (lawful : IsLawful p m t cores objects h) (is : slice_get cores i ≡ Some old) (ready : IsReady p m t new) (steps : Steps p t old new before now s)
+    (lawful : IsLawful p m t cores objects h) (is : slice_get cores i ≡ Some old) (ready : IsReady p m t new) (steps : StepsApart p t old new before now s)
     (goes_on : (k : ActKey) → runs k h ≡ true → GoesOn p h k)
     (made_one : (a : Actor) (w : Wanted) (x y : Object) (l : Past) (e : Entry) → object_of p a w ≡ Some (touched p a w) → MayAsk p m a w (kept_of x) l → IsMade p (touched p a w) a w x y e → IsTheOne p a w (kept_of y) l e)
     (wish_follow : (k : ActKey) (w : Wanted) (n : Noted) → next_wish p h k ≡ Some w → is_held_back p h k ≡ false → MayCome p (Act k) w (entries_of p h (touched p (Act k) w)) n → MayFollow p h n.entry)

@@ -27,7 +27,7 @@ use Rattle.core_turn.specs.Ready.{IsReady}
 use Rattle.core_turn.specs.Standing.{CoreStands}
 use Rattle.activation_laws.specs.LookUps.{all_at}
 use Rattle.history_laws.proofs.Lists as lists
-use Rattle.task_slots.proofs.Looks.{count_on}
+use Rattle.task_slots.proofs.Onward.{count_on}
 use Rattle.core_turn.proofs.Apart.{tasks_fit, some_counts}
 use Rattle.core_turn.proofs.Places.{kept_from, mapped_from, all_from}
 use Rattle.core_turn.proofs.Mapped.{listed_mapped}

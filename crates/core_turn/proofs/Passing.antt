@@ -9,14 +9,13 @@ use Rattle.bus_semantics.specs.Rest.{gathered}
 use Rattle.port_objects.specs.Benches.{Told}
 use Rattle.task_machine.specs.declared.instr.TaskSet.{TaskSet}
 use Rattle.task_slots.specs.declared.slot.Slot.{Slot}
-use Rattle.task_slots.specs.declared.look.Look.{Look}
-use Rattle.task_slots.specs.declared.look.Look.TheVariants.{Made, Nothing, Contended}
+use Rattle.task_slots.specs.Look.{Look, Made, Nothing, Contended}
 use Rattle.task_slots.specs.Slots.{slot_tries, looks}
 use Rattle.core_turn.specs.Cores.{slots_between, looks_in}
 use Rattle.task_slots.specs.Looking.{Looked}
 use Rattle.task_slots.specs.Stepping.{SlotStep}
 use Rattle.core_turn.specs.Turning.{PassMade}
-use Rattle.task_slots.proofs.Looks.{looked_on, looked_as, looked_none, lost_more, gathered_on, gathered_one}
+use Rattle.task_slots.proofs.Onward.{looked_on, looked_as, looked_uncounted, looked_none, lost_more, gathered_on, gathered_one}
 
 pub looks_on : (p : Plan) (xs ys : List Slot) → looks_in p (xs ++ ys) ≡ looks_in p xs + looks_in p ys
 looks_on p [] ys = omega arith
@@ -43,21 +42,28 @@ module _ (p : Plan) (t : TaskSet) (slots : List Slot) (from at : ℕ) (s : Slot)
       let here : get_or (drop from slots) (at - from) s ≡ s = get_or-drop from slots (at - from) s ∙ ap (λ n. get_or slots n s) place ∙ sym is in
       ap (λ n. take n (drop from slots)) count ∙ take_more (drop from slots) (at - from) s inside ∙ ap (λ x. take (at - from) (drop from slots) ++ x ∷ []) here
 
+  looks_more : looks_in p (slots_between from at slots) + looks p s ≡ looks_in p (slots_between from (at + 1) slots)
+  looks_more =
+      let one : looks_in p (s ∷ []) ≡ looks p s = omega arith in
+      sym (ap (looks_in p) between_more ∙ looks_on p (slots_between from at slots) (s ∷ []) ∙ ap (λ n. looks_in p (slots_between from at slots) + n) one)
+
+  more_passed : (m n : ℕ) (a b c : Told) (l : Look) → Looked p (gathered (slot_tries p t) (slots_between from at slots)) m a b Nothing → Looked p (slot_tries p t s) n b c l
+      → Looked p (gathered (slot_tries p t) (slots_between from (at + 1) slots)) (m + n) a c l
+  more_passed m n a b c l before now =
+      let tries : gathered (slot_tries p t) (slots_between from at slots) ++ slot_tries p t s ≡ gathered (slot_tries p t) (slots_between from (at + 1) slots) =
+      sym (ap (gathered (slot_tries p t)) between_more ∙ gathered_one (slot_tries p t) (slots_between from at slots) s) in
+      looked_as p _ _ (m + n) _ a c l tries refl (looked_on p _ _ m n a b c l before now)
+
+  -- each look of it is counted
   pub pass_on : (a b c : Told) (l : Look) → Looked p (gathered (slot_tries p t) (slots_between from at slots)) (looks_in p (slots_between from at slots)) a b Nothing
       → Looked p (slot_tries p t s) (looks p s) b c l
       → Looked p (gathered (slot_tries p t) (slots_between from (at + 1) slots)) (looks_in p (slots_between from (at + 1) slots)) a c l
-  pass_on a b c l before now =
-      let tries : gathered (slot_tries p t) (slots_between from at slots) ++ slot_tries p t s ≡ gathered (slot_tries p t) (slots_between from (at + 1) slots) =
-      sym (ap (gathered (slot_tries p t)) between_more ∙ gathered_one (slot_tries p t) (slots_between from at slots) s) in
-      let one : looks_in p (s ∷ []) ≡ looks p s = omega arith in
-      let count : looks_in p (slots_between from at slots) + looks p s ≡ looks_in p (slots_between from (at + 1) slots) =
-      sym (ap (looks_in p) between_more ∙ looks_on p (slots_between from at slots) (s ∷ []) ∙ ap (λ n. looks_in p (slots_between from at slots) + n) one) in
-      looked_as p _ _ _ _ a c l tries count (looked_on p _ _ _ _ a b c l before now)
+  pass_on a b c l before now = subst (λ n. Looked p (gathered (slot_tries p t) (slots_between from (at + 1) slots)) n a c l) looks_more (more_passed _ _ a b c l before now)
 
   -- up to a slot whose object another core holds
-  pub pass_lost : (to : ℕ) (a b c : Told) (object : ℕ) → at < to → Looked p (gathered (slot_tries p t) (slots_between from at slots)) (looks_in p (slots_between from at slots)) a b Nothing
-      → Looked p (slot_tries p t s) (looks p s) b c (Contended object) → Looked p (gathered (slot_tries p t) (slots_between from to slots)) 0 a c (Contended object)
-  pass_lost to a b c object less before now =
+  pub pass_lost : (to m n : ℕ) (a b c : Told) (object : ℕ) → at < to → Looked p (gathered (slot_tries p t) (slots_between from at slots)) m a b Nothing
+      → Looked p (slot_tries p t s) n b c (Contended object) → Looked p (gathered (slot_tries p t) (slots_between from to slots)) 0 a c (Contended object)
+  pass_lost to m n a b c object less before now =
       let more = at + 1 - from in
       let short : more ≤ to - from = omega arith in
       let rest = drop more (slots_between from to slots) in
@@ -65,13 +71,13 @@ module _ (p : Plan) (t : TaskSet) (slots : List Slot) (from at : ℕ) (s : Slot)
       ap (λ x. x ++ rest) (sym (take-take more (to - from) (drop from slots) short)) ∙ take-append-drop more (slots_between from to slots) in
       let tries : gathered (slot_tries p t) (slots_between from (at + 1) slots) ++ gathered (slot_tries p t) rest ≡ gathered (slot_tries p t) (slots_between from to slots) =
       sym (gathered_on (slot_tries p t) (slots_between from (at + 1) slots) rest) ∙ ap (gathered (slot_tries p t)) parts in
-      looked_as p _ _ 0 _ a c (Contended object) tries refl (lost_more p _ _ _ _ a c object (pass_on a b c (Contended object) before now))
+      looked_as p _ _ 0 _ a c (Contended object) tries refl (lost_more p _ _ _ _ a c object (more_passed m n a b c (Contended object) before now))
 
-  pub pass_made : (new : List Slot) (stepped : Slot) (a b c : Told) (e : Stamped) → new ≡ set slots at stepped → SlotStep p t s stepped e
-      → Looked p (gathered (slot_tries p t) (slots_between from at slots)) (looks_in p (slots_between from at slots)) a b Nothing
-      → Looked p (slot_tries p t s) (looks p s) b c (Made e)
+  pub pass_made : (new : List Slot) (stepped : Slot) (m n : ℕ) (a b c : Told) (e : Stamped) → new ≡ set slots at stepped → SlotStep p t s stepped e
+      → Looked p (gathered (slot_tries p t) (slots_between from at slots)) m a b Nothing
+      → Looked p (slot_tries p t s) n b c (Made e)
       → PassMade p t slots new from at a c e
-  pass_made new stepped a b c e changed step before now = record {
+  pass_made new stepped m n a b c e changed step before now = record {
     slot = s;
     stepped = stepped;
     behind = behind;
@@ -79,6 +85,6 @@ module _ (p : Plan) (t : TaskSet) (slots : List Slot) (from at : ℕ) (s : Slot)
     slots = changed;
     step = step;
     middle = b;
-    passed = before;
-    looked = now;
+    passed = looked_uncounted p _ m a b Nothing before;
+    looked = looked_uncounted p _ n b c (Made e) now;
   }

@@ -5,7 +5,7 @@ use Rattle.std.specs.List.{list_any, list_all, slice_get}
 use Rattle.std.proofs.lemmas.Bool.{and_from, false≢true}
 use Rattle.bus_semantics.specs.History.{count}
 use Rattle.bus_semantics.specs.Rest.{gathered}
-use Rattle.task_slots.proofs.Looks.{count_on}
+use Rattle.task_slots.proofs.Onward.{count_on}
 
 -- an item of a list
 pub record IsAmong {X : Type 0} (xs : List X) (x : X) : Type 0 where

@@ -1,8 +1,7 @@
 -- Looks at the slots of a core that are awake, one after the other.
-use Rattle.std.proofs.Common.{◌≡◌, ℕ, suc, ◌+◌, ◌-◌, ◌<◌, ◌≤◌, drop, Bool, true, false, refl, sym, ◌∙◌, ap, subst, arith, List, [], ◌∷◌, ◌++◌, length, get_or, set, inl, inr, Option, Some, None}
+use Rattle.std.proofs.Common.{◌≡◌, ℕ, suc, ◌+◌, ◌-◌, ◌<◌, ◌≤◌, drop, Bool, true, false, refl, sym, ◌∙◌, ap, subst, arith, List, length, get_or, set, inl, inr, Option, Some, None}
 use Rattle.std.specs.List.{slice_get}
 use Rattle.std.proofs.lemmas.Bool.{cases_lt}
-use Rattle.std.proofs.lemmas.List.{append_cancel_left}
 use Rattle.std.proofs.lemmas.Option.{slice_get-get_or, slice_get_read, slice_get_within}
 use Rattle.bus_semantics.specs.declared.entries.Stamped.{Stamped}
 use Rattle.bus_semantics.specs.Plan.{Plan}
@@ -11,7 +10,7 @@ use Rattle.port_objects.specs.declared.object.Object.{Object}
 use Rattle.place_set.specs.Places.{NoneBetween}
 use Rattle.task_machine.specs.declared.instr.TaskSet.{TaskSet}
 use Rattle.task_slots.specs.declared.slot.Slot.{Slot}
-use Rattle.task_slots.specs.declared.look.Look.TheVariants.{Made}
+use Rattle.task_slots.specs.Look.{Made}
 use Rattle.task_slots.specs.Slots.{slot_tries, events_of_slot}
 use Rattle.task_slots.specs.Looking.{ObjectsLooked}
 use Rattle.bus_semantics.specs.Rest.{gathered}
@@ -66,18 +65,15 @@ begins_at a place = record { slots = a.slots; events = a.events; waiting = a.wai
 pub fits_begins : (slots : List Slot) (first next : ℕ) (a : AwakeState) (place : ℕ) → place ≡ next → Fits slots first a → Fits slots next (begins_at a place)
 fits_begins slots first next a place same fits = record { count = fits.count; rows = fits.rows; widths = fits.widths; waiting = fits.waiting; areas = fits.areas; begins = same }
 
--- after the step of a slot, whose entry is the last of the trace
-pub held_turned : (p : Plan) (t : TaskSet) (o : Option (List Object)) (slots slots' : List Slot) (at place : ℕ) (a a' : AwakeState) (e s : Stamped) (trace : List Stamped) → slots' ≡ slots → suc at ≡ place → a' ≡ a → trace ++ e ∷ [] ≡ trace ++ s ∷ []
-    → HeldTold p t o (touched_by p (noting_of e)) slots (suc at) a → HeldTold p t o (touched_by p (noting_of s)) slots' place (begins_at a' place)
-held_turned p t None slots slots' at place a a' e s trace same_slots same_place same_a last held = tt
-held_turned p t (Some objects) slots slots' at place a a' e s trace same_slots same_place same_a last held =
-    let ends : e ∷ [] ≡ s ∷ [] = append_cancel_left trace (e ∷ []) (s ∷ []) last in
-    let same : e ≡ s = cc in
-    let here : AreHeld p t objects (touched_by p (noting_of e)) slots (suc at) a' = subst (AreHeld p t objects (touched_by p (noting_of e)) slots (suc at)) (sym same_a) held in
-    let there : AreHeld p t objects (touched_by p (noting_of e)) slots (suc at) (begins_at a' place) = record { starts = record { events = here.starts.events; slots = here.starts.slots }; waiters = here.waiters } in
-    subst (λ x. AreHeld p t objects (touched_by p (noting_of x)) slots' place (begins_at a' place)) same
-    (subst (λ n. AreHeld p t objects (touched_by p (noting_of e)) slots' n (begins_at a' place)) same_place
-    (subst (λ ys. AreHeld p t objects (touched_by p (noting_of e)) ys (suc at) (begins_at a' place)) (sym same_slots) there))
+-- after the step of a slot
+pub held_turned : (p : Plan) (t : TaskSet) (o : Option (List Object)) (touched : Option ℕ) (slots slots' : List Slot) (at place : ℕ) (a a' : AwakeState) → slots' ≡ slots → suc at ≡ place → a' ≡ a
+    → HeldTold p t o touched slots (suc at) a → HeldTold p t o touched slots' place (begins_at a' place)
+held_turned p t None touched slots slots' at place a a' same_slots same_place same_a held = tt
+held_turned p t (Some objects) touched slots slots' at place a a' same_slots same_place same_a held =
+    let here : AreHeld p t objects touched slots (suc at) a' = subst (AreHeld p t objects touched slots (suc at)) (sym same_a) held in
+    let begun : AreHeld p t objects touched slots (suc at) (begins_at a' place) = record { starts = record { events = here.starts.events; slots = here.starts.slots }; waiters = here.waiters } in
+    subst (λ n. AreHeld p t objects touched slots' n (begins_at a' place)) same_place
+    (subst (λ ys. AreHeld p t objects touched ys (suc at) (begins_at a' place)) (sym same_slots) begun)
 
 -- ---- the slot that is looked at
 

@@ -1,7 +1,7 @@
 -- A core after the step of one of its slots.
 use Rattle.std.proofs.Common.{◌≡◌, ◌≢◌, ℕ, zero, suc, ◌+◌, ◌-◌, ◌<◌, true, false, if◌then◌else◌, refl, sym, ◌∙◌, ap, subst, arith, List, [], ◌∷◌, ◌++◌, length, take, drop, set, map, add_comm, length-drop, Option, Some, None}
 use Rattle.std.specs.List.{slice_get}
-use Rattle.std.proofs.lemmas.List.{take-append-drop, length-set}
+use Rattle.std.proofs.lemmas.List.{take-append-drop, length-set, length_push}
 use Rattle.std.proofs.Math.Seq.{take-length}
 use Rattle.std.proofs.lemmas.Option.{slice_get_within}
 use Rattle.std.proofs.lemmas.Bool.{le-leb, lt-leb}
@@ -12,12 +12,12 @@ use Rattle.bus_semantics.specs.Plan.{Plan}
 use Rattle.bus_semantics.specs.History.{History}
 use Rattle.bus_semantics.specs.Rest.{Try, gathered}
 use Rattle.port_objects.specs.declared.object.Object.{Object}
-use Rattle.port_objects.specs.Benches.{IsFurther, Told}
+use Rattle.port_objects.specs.Benches.{Told}
 use Rattle.task_machine.specs.declared.instr.TaskSet.{TaskSet}
 use Rattle.task_slots.specs.declared.slot.Slot.{Slot}
-use Rattle.task_slots.specs.declared.look.Look.TheVariants.{Made, Nothing, Contended}
+use Rattle.task_slots.specs.Look.{Made, Nothing, Contended}
 use Rattle.task_slots.specs.declared.slot.Slot.TheVariants as of
-use Rattle.task_slots.specs.Slots.{is_key_of, table_of, slot_tries, looks, events_of_slot}
+use Rattle.task_slots.specs.Slots.{is_key_of, table_of, slot_tries, events_of_slot}
 use Rattle.core_turn.specs.Cores.{CoreState, tables_of_core, slots_between, slots_before, looks_in}
 use Rattle.task_slots.specs.Ready.{IsReadySlot}
 use Rattle.core_turn.specs.Ready.{IsReady}
@@ -25,8 +25,8 @@ use Rattle.task_slots.specs.Standing.{SlotStands}
 use Rattle.core_turn.specs.Standing.{CoreStands}
 use Rattle.task_slots.specs.Looking.{AllHeld, ObjectsLooked, is_touched, Looked}
 use Rattle.task_slots.specs.Stepping.{SlotStep}
-use Rattle.core_turn.specs.Turning.{PassMade, OrderTold, Steps, NothingComes, NoneTold, IsContended, NeverTold}
-use Rattle.task_slots.proofs.Looks.{looked_on, looked_as, touched_first, touched_last, gathered_on, all_on}
+use Rattle.core_turn.specs.Turning.{PassMade, OrderTold, StepsApart, NothingFound, NothingComes, NoneTold, IsContended, NeverTold}
+use Rattle.task_slots.proofs.Onward.{looked_on, looked_as, looked_uncounted, touched_first, touched_last, gathered_on, all_on}
 use Rattle.core_turn.proofs.Passing.{looks_on}
 use Rattle.task_slots.proofs.Placed.{Placed, here, there, placed}
 use Rattle.task_slots.proofs.Changing.{other_stands}
@@ -77,11 +77,11 @@ order_told p t c at slot (Some objects) b d s xs is passed now = record {
 
 -- a core whose slot stepped after others were passed
 steps_of : (p : Plan) (m : Mapping) (t : TaskSet) (old new : CoreState) (ready : IsReady p m t old) (at : ℕ) (slot stepped : Slot) (s : Stamped) (a b d : Told) (xs : List Slot)
-    → slice_get old.slots at ≡ Some slot → new.slots ≡ set old.slots at stepped → new.number ≡ old.number → new.first ≡ suc at → new.trace ≡ old.trace ++ s ∷ [] → old.room ≡ suc new.room
+    → slice_get old.slots at ≡ Some slot → new.slots ≡ set old.slots at stepped → new.number ≡ old.number → new.first ≡ suc at
     → SlotStep p t slot stepped s → xs ≡ slots_before old.first at old.slots
-    → Looked p (gathered (slot_tries p t) xs) (looks_in p xs) a b Nothing → Looked p (slot_tries p t slot) (looks p slot) b d (Made s)
-    → Steps p t old new a d s
-steps_of p m t old new ready at slot stepped s a b d xs is slots number first trace room step order passed now =
+    → Looked p (gathered (slot_tries p t) xs) 0 a b Nothing → Looked p (slot_tries p t slot) 0 b d (Made s)
+    → StepsApart p t old new a d s
+steps_of p m t old new ready at slot stepped s a b d xs is slots number first step order passed now =
     let whole = looked_on p _ _ _ _ a b d (Made s) passed now in
     record {
       at = at;
@@ -91,8 +91,6 @@ steps_of p m t old new ready at slot stepped s a b d xs is slots number first tr
       slots = slots;
       first = first;
       number = number;
-      trace = trace;
-      room = room;
       step = step;
       stands = stands_on p m t old new ready at slot stepped s is slots number step;
       bench_room = whole.room;
@@ -104,27 +102,25 @@ steps_of p m t old new ready at slot stepped s a b d xs is slots number first tr
 -- ---- the first pass, from the first slot on
 
 module _ (p : Plan) (m : Mapping) (t : TaskSet) (old new : CoreState) (ready : IsReady p m t old) (s : Stamped) (at : ℕ)
-    (number : new.number ≡ old.number) (first : new.first ≡ suc at) (trace : new.trace ≡ old.trace ++ s ∷ []) (room : old.room ≡ suc new.room) where
-  pub back_steps : (a d : Told) → PassMade p t old.slots new.slots old.first at a d s → Steps p t old new a d s
+    (number : new.number ≡ old.number) (first : new.first ≡ suc at) where
+  pub back_steps : (a d : Told) → PassMade p t old.slots new.slots old.first at a d s → StepsApart p t old new a d s
   back_steps a d pass =
       let order : slots_between old.first at old.slots ≡ slots_before old.first at old.slots =
       ap (λ b. if b then slots_between old.first at old.slots else drop old.first old.slots ++ take at old.slots) (sym (le-leb old.first at pass.behind)) in
-      steps_of p m t old new ready at pass.slot pass.stepped s a pass.middle d (slots_between old.first at old.slots) pass.there pass.slots number first trace room pass.step order pass.passed pass.looked
+      steps_of p m t old new ready at pass.slot pass.stepped s a pass.middle d (slots_between old.first at old.slots) pass.there pass.slots number first pass.step order pass.passed pass.looked
 
   -- the second pass, up to the first slot
-  pub front_steps : (a c d : Told) → at < old.first → Looked p (gathered (slot_tries p t) (drop old.first old.slots)) (looks_in p (drop old.first old.slots)) a c Nothing
-      → PassMade p t old.slots new.slots 0 at c d s → Steps p t old new a d s
-  front_steps a c d before back pass =
+  pub front_steps : (a c d : Told) (n : ℕ) → at < old.first → Looked p (gathered (slot_tries p t) (drop old.first old.slots)) n a c Nothing
+      → PassMade p t old.slots new.slots 0 at c d s → StepsApart p t old new a d s
+  front_steps a c d n before back pass =
       let none : at - 0 ≡ at = omega arith in
       let order : drop old.first old.slots ++ slots_between 0 at old.slots ≡ slots_before old.first at old.slots =
       ap (λ n. drop old.first old.slots ++ take n old.slots) none
       ∙ ap (λ b. if b then slots_between old.first at old.slots else drop old.first old.slots ++ take at old.slots) (sym (lt-leb old.first at before)) in
       let tries : gathered (slot_tries p t) (drop old.first old.slots) ++ gathered (slot_tries p t) (slots_between 0 at old.slots) ≡ gathered (slot_tries p t) (drop old.first old.slots ++ slots_between 0 at old.slots) =
       sym (gathered_on (slot_tries p t) (drop old.first old.slots) (slots_between 0 at old.slots)) in
-      let count : looks_in p (drop old.first old.slots) + looks_in p (slots_between 0 at old.slots) ≡ looks_in p (drop old.first old.slots ++ slots_between 0 at old.slots) =
-      sym (looks_on p (drop old.first old.slots) (slots_between 0 at old.slots)) in
-      let passed = looked_as p _ _ _ _ a pass.middle Nothing tries count (looked_on p _ _ _ _ a c pass.middle Nothing back pass.passed) in
-      steps_of p m t old new ready at pass.slot pass.stepped s a pass.middle d (drop old.first old.slots ++ slots_between 0 at old.slots) pass.there pass.slots number first trace room pass.step order passed pass.looked
+      let passed = looked_as p _ _ 0 0 a pass.middle Nothing tries refl (looked_on p _ _ 0 0 a c pass.middle Nothing (looked_uncounted p _ n a c Nothing back) pass.passed) in
+      steps_of p m t old new ready at pass.slot pass.stepped s a pass.middle d (drop old.first old.slots ++ slots_between 0 at old.slots) pass.there pass.slots number first pass.step order passed pass.looked
 
 -- ---- nothing steps
 
@@ -141,24 +137,34 @@ swapped p ts us (Some objects) d looked = let parts = all_parts p objects ts us 
     all_parts p objects [] us all = (tt, all)
     all_parts p objects (x ∷ ts) us all = let rest = all_parts p objects ts us all.1 in ((all.0, rest.0), rest.1)
 
-pub nothing_comes : (p : Plan) (t : TaskSet) (c new : CoreState) (a b d : Told) → new ≡ c
-    → Looked p (gathered (slot_tries p t) (drop c.first c.slots)) (looks_in p (drop c.first c.slots)) a b Nothing
-    → Looked p (gathered (slot_tries p t) (take c.first c.slots)) (looks_in p (take c.first c.slots)) b d Nothing
-    → NothingComes p t c new a d
-nothing_comes p t c new a b d same back front =
-    let whole = looked_on p _ _ _ _ a b d Nothing back front in
-    let count : looks_in p (drop c.first c.slots) + looks_in p (take c.first c.slots) ≡ looks_in p c.slots =
-    add_comm (looks_in p (drop c.first c.slots)) (looks_in p (take c.first c.slots)) ∙ sym (looks_on p (take c.first c.slots) (drop c.first c.slots)) ∙ ap (looks_in p) (take-append-drop c.first c.slots) in
+looks_in_all : (p : Plan) (c : CoreState) → looks_in p (drop c.first c.slots) + looks_in p (take c.first c.slots) ≡ looks_in p c.slots
+looks_in_all p c =
+    add_comm (looks_in p (drop c.first c.slots)) (looks_in p (take c.first c.slots)) ∙ sym (looks_on p (take c.first c.slots) (drop c.first c.slots)) ∙ ap (looks_in p) (take-append-drop c.first c.slots)
+
+pub nothing_found : (p : Plan) (t : TaskSet) (c new : CoreState) (m n : ℕ) (a b d : Told) → new ≡ c
+    → Looked p (gathered (slot_tries p t) (drop c.first c.slots)) m a b Nothing
+    → Looked p (gathered (slot_tries p t) (take c.first c.slots)) n b d Nothing
+    → NothingFound p t (m + n) c new a d
+nothing_found p t c new m n a b d same back front =
+    let whole = looked_on p _ _ m n a b d Nothing back front in
     let tries : gathered (slot_tries p t) (take c.first c.slots) ++ gathered (slot_tries p t) (drop c.first c.slots) ≡ gathered (slot_tries p t) c.slots =
     sym (gathered_on (slot_tries p t) (take c.first c.slots) (drop c.first c.slots)) ∙ ap (gathered (slot_tries p t)) (take-append-drop c.first c.slots) in
     record {
       same = same;
       room = whole.room;
       next = whole.next;
-      work = subst (λ n. IsFurther a.work d.work [] n 0) count whole.work;
+      work = whole.work;
       objects = none_told p t c a.objects d.objects (subst (λ ts. ObjectsLooked p ts a.objects d.objects Nothing) tries
           (swapped p (gathered (slot_tries p t) (drop c.first c.slots)) (gathered (slot_tries p t) (take c.first c.slots)) a.objects d.objects whole.objects));
     }
+
+-- each look that this took was counted
+pub nothing_comes : (p : Plan) (t : TaskSet) (c new : CoreState) (m n : ℕ) (a b d : Told) → new ≡ c → m ≡ looks_in p (drop c.first c.slots) → n ≡ looks_in p (take c.first c.slots)
+    → Looked p (gathered (slot_tries p t) (drop c.first c.slots)) m a b Nothing
+    → Looked p (gathered (slot_tries p t) (take c.first c.slots)) n b d Nothing
+    → NothingComes p t c new a d
+nothing_comes p t c new m n a b d same behind before back front =
+    subst (λ k. NothingFound p t k c new a d) ((λ i. behind i + before i) ∙ looks_in_all p c) (nothing_found p t c new m n a b d same back front)
 
 -- ---- contended
 
@@ -213,13 +219,19 @@ module _ (p : Plan) (t : TaskSet) (c : CoreState) (xs : List Slot) (first : ℕ)
   before : slots_between 0 first xs ≡ take c.first c.slots
   before = let none : first - 0 ≡ first = omega arith in ap (λ n. take n xs) none ∙ (λ i. take (begun i) (same i))
 
-  pub behind_all : (count : ℕ) → count ≡ length xs → Looked p (gathered (slot_tries p t) (slots_between first count xs)) (looks_in p (slots_between first count xs)) a b Nothing
-      → Looked p (gathered (slot_tries p t) (drop c.first c.slots)) (looks_in p (drop c.first c.slots)) a b Nothing
-  behind_all count whole looked = subst (λ ys. Looked p (gathered (slot_tries p t) ys) (looks_in p ys) a b Nothing) (behind count whole) looked
+  pub behind_all : (n count : ℕ) → count ≡ length xs → Looked p (gathered (slot_tries p t) (slots_between first count xs)) n a b Nothing
+      → Looked p (gathered (slot_tries p t) (drop c.first c.slots)) n a b Nothing
+  behind_all n count whole looked = subst (λ ys. Looked p (gathered (slot_tries p t) ys) n a b Nothing) (behind count whole) looked
 
-  pub before_all : Looked p (gathered (slot_tries p t) (slots_between 0 first xs)) (looks_in p (slots_between 0 first xs)) a b Nothing
-      → Looked p (gathered (slot_tries p t) (take c.first c.slots)) (looks_in p (take c.first c.slots)) a b Nothing
-  before_all looked = subst (λ ys. Looked p (gathered (slot_tries p t) ys) (looks_in p ys) a b Nothing) before looked
+  pub before_all : (n : ℕ) → Looked p (gathered (slot_tries p t) (slots_between 0 first xs)) n a b Nothing
+      → Looked p (gathered (slot_tries p t) (take c.first c.slots)) n a b Nothing
+  before_all n looked = subst (λ ys. Looked p (gathered (slot_tries p t) ys) n a b Nothing) before looked
+
+  pub behind_looks : (count : ℕ) → count ≡ length xs → looks_in p (slots_between first count xs) ≡ looks_in p (drop c.first c.slots)
+  behind_looks count whole = ap (looks_in p) (behind count whole)
+
+  pub before_looks : looks_in p (slots_between 0 first xs) ≡ looks_in p (take c.first c.slots)
+  before_looks = ap (looks_in p) before
 
   pub behind_lost : (object count : ℕ) → count ≡ length xs → Looked p (gathered (slot_tries p t) (slots_between first count xs)) 0 a b (Contended object)
       → Looked p (gathered (slot_tries p t) (drop c.first c.slots)) 0 a b (Contended object)
@@ -228,3 +240,16 @@ module _ (p : Plan) (t : TaskSet) (c : CoreState) (xs : List Slot) (first : ℕ)
   pub before_lost : (object : ℕ) → Looked p (gathered (slot_tries p t) (slots_between 0 first xs)) 0 a b (Contended object)
       → Looked p (gathered (slot_tries p t) (take c.first c.slots)) 0 a b (Contended object)
   before_lost object looked = subst (λ ys. Looked p (gathered (slot_tries p t) ys) 0 a b (Contended object)) before looked
+
+-- ---- the core as it is after its passes
+
+-- a list has taken one more
+pub room_taken : (cap cap' : ℕ) (xs ys : List Stamped) (s : Stamped) → 0 < cap - length xs → cap' ≡ cap → ys ≡ xs ++ s ∷ [] → cap - length xs ≡ suc (cap' - length ys)
+room_taken cap cap' xs ys s some same is = let more : length ys ≡ length xs + 1 = ap length is ∙ length_push xs s in omega arith
+
+abbrev core_with : (number first cap : ℕ) → List Slot → List Stamped → CoreState
+core_with number first cap slots trace = record { number = number; slots = slots; first = first; trace = trace; room = cap - length trace }
+
+-- the slots are the same, and so is the trace
+pub same_core : (number first cap cap' : ℕ) (slots slots' : List Slot) (trace trace' : List Stamped) → slots' ≡ slots → trace' ≡ trace → cap' ≡ cap → core_with number first cap' slots' trace' ≡ core_with number first cap slots trace
+same_core number first cap cap' slots slots' trace trace' same kept wide i = core_with number first (wide i) (same i) (kept i)

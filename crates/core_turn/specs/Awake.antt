@@ -117,16 +117,16 @@ HeldTold p t None touched slots first a = Unit {0}
 HeldTold p t (Some objects) touched slots first a = AreHeld p t objects touched slots first a
 
 -- after a turn: by the objects as they were before it. If it made an entry, those that wait at the area which it touched are to be told
-abbrev pub HeldTurned : Plan → TaskSet → Option (List Object) → (old new : CoreState) → AwakeState → Turned → Type 0
-HeldTurned p t o old new a Stepped = (s : Stamped) → new.trace ≡ old.trace ++ s ∷ [] → HeldTold p t o (touched_by p (noting_of s)) new.slots a.first a
-HeldTurned p t o old new a NothingNow = HeldTold p t o None new.slots a.first a
-HeldTurned p t o old new a (Contended object) = HeldTold p t o None new.slots a.first a
+abbrev pub HeldTurned : Plan → TaskSet → Option (List Object) → CoreState → AwakeState → (xs ys : List Stamped) → Turned → Type 0
+HeldTurned p t o new a xs ys Stepped = (s : Stamped) → ys ≡ xs ++ s ∷ [] → HeldTold p t o (touched_by p (noting_of s)) new.slots a.first a
+HeldTurned p t o new a xs ys NothingNow = HeldTold p t o None new.slots a.first a
+HeldTurned p t o new a xs ys (Contended object) = HeldTold p t o None new.slots a.first a
 
 -- so after looks at slots, the next of which begin at this one
-abbrev pub HeldPassed : Plan → TaskSet → Option (List Object) → List Slot → (to : ℕ) → AwakeState → Passed → Type 0
-HeldPassed p t o slots to a (pass.Made at s) = HeldTold p t o (touched_by p (noting_of s)) slots (suc at) a
-HeldPassed p t o slots to a pass.Nothing = HeldTold p t o None slots to a
-HeldPassed p t o slots to a (pass.Contended object) = HeldTold p t o None slots to a
+abbrev pub HeldPassed : Plan → TaskSet → Option (List Object) → List Slot → (to : ℕ) → AwakeState → (xs ys : List Stamped) → Passed → Type 0
+HeldPassed p t o slots to a xs ys (pass.Made at) = (s : Stamped) → ys ≡ xs ++ s ∷ [] → HeldTold p t o (touched_by p (noting_of s)) slots (suc at) a
+HeldPassed p t o slots to a xs ys pass.Nothing = HeldTold p t o None slots to a
+HeldPassed p t o slots to a xs ys (pass.Contended object) = HeldTold p t o None slots to a
 
 -- ---- a slot falls asleep
 

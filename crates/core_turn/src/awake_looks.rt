@@ -1,6 +1,7 @@
 //! Looks at the slots and events of a core that are awake.
 
 ghost use Rattle.std.specs.Prelude.{◌≡◌, ◌<◌, ◌≤◌, ℕ, length, Some, None, slice_get};
+ghost use Rattle.std.specs.Vec.{vec_capacity};
 ghost use Rattle.bus_semantics.specs.declared.script.Mapping.{Mapping};
 ghost use Rattle.bus_semantics.specs.Plan.{plan_of};
 ghost use Rattle.bus_semantics.specs.Sound.{IsSound};
@@ -13,10 +14,10 @@ ghost use Rattle.core_turn.specs.Awake.{Fits, HeldTold, HeldPassed, IsSettled};
 
 use crate::awake::Awake;
 use crate::passed::Passed;
-use bus_semantics::BusPlan;
-use port_objects::{Bench, areas_are_closed_alike};
+use bus_semantics::{BusPlan, Stamped};
+use port_objects::{Bench, areas_are_closed_alike, last_entries_are_last};
 use task_machine::TaskSet;
-use task_slots::{Look, Slot, area_tried, is_free, look_at_awake, point_tried};
+use task_slots::{Looks, Slot, area_tried, is_free, look_at_awake, point_tried};
 
 /// A slot of which nothing may come falls asleep, if nothing runs in it (a free task, a machine between two phases) or its
 /// activation waits at an area or for an answer. What other activations wait for wakes no slot.
@@ -40,8 +41,9 @@ fn settle(p: &BusPlan, t: &TaskSet, slot: &Slot, place: usize, a: &mut Awake)
     }
 }
 
-/// Looks at the slots that are awake from one place up to another, until one of them steps. The order of slots, by which
-/// those that wait at areas may sleep, begins at the first of these places before it, and behind the last one after it.
+/// Looks at the slots that are awake from one place up to another, until one of them steps. Its entry goes to the end of the list,
+/// which has room for it. The order of slots, by which those that wait at areas may sleep, begins at the first of these places
+/// before it, and behind the last one after it.
 pub(crate) fn look_through<B: Bench>(
     p: &BusPlan,
     t: &TaskSet,
@@ -50,6 +52,7 @@ pub(crate) fn look_through<B: Bench>(
     from: usize,
     to: usize,
     bench: &mut B,
+    made: &mut Vec<Stamped>,
 ) -> Passed
     requires room { 0 < (B.told bench.old).room }
     requires plan { B.plan bench.old ≡ plan_of p.now }
@@ -58,26 +61,32 @@ pub(crate) fn look_through<B: Bench>(
     requires ready { (i : ℕ) (s : Slot) → slice_get slots.old.items i ≡ Some s → IsReadySlot (plan_of p.now) t.now s }
     requires order { from ≤ to }
     requires within { to ≤ length slots.old.items }
+    requires space { length made.old.items < vec_capacity made.old }
     requires fits { Fits slots.old.items a.old.first a.old }
     requires held { HeldTold (plan_of p.now) t.now (B.told bench.old).objects None slots.old.items from a.old }
-    requires work { (B.told bench.old).work ≡ None }
     ensures home { B.home bench.new ≡ B.home bench.old }
     ensures plan { B.plan bench.new ≡ B.plan bench.old }
-    ensures pass { IsPass (plan_of p.now) t.now slots.old.items slots.new.items from to
-        (B.told bench.old) (B.told bench.new) result }
+    ensures capacity { vec_capacity made.new ≡ vec_capacity made.old }
+    ensures pass { IsPass (plan_of p.now) t.now 0 slots.old.items slots.new.items from to
+        (B.told bench.old) (B.told bench.new) made.old.items made.new.items result }
     ensures fits { Fits slots.new.items a.old.first a.new }
-    ensures held { HeldPassed (plan_of p.now) t.now (B.told bench.old).objects slots.new.items to a.new result }
+    ensures held { HeldPassed (plan_of p.now) t.now (B.told bench.old).objects slots.new.items to a.new made.old.items made.new.items result }
 {
     areas_are_closed_alike();
+    last_entries_are_last();
+    // Each second pass of a core with one slot.
+    if from == to {
+        return Passed::Nothing;
+    }
     let mut behind = from;
     while let Some(at) = a.slots.next(behind) {
         if at >= to {
             return Passed::Nothing;
         }
-        match look_at_awake(p, t, &mut slots[at], &mut a.events[at], bench) {
-            Look::Made(stamped) => return Passed::Made(at, stamped),
-            Look::Nothing => settle(p, t, &slots[at], at, a),
-            Look::Contended(object) => return Passed::Contended(object),
+        match look_at_awake(p, t, &mut slots[at], &mut a.events[at], bench, made) {
+            Looks::Made => return Passed::Made(at),
+            Looks::Nothing => settle(p, t, &slots[at], at, a),
+            Looks::Contended(object) => return Passed::Contended(object),
         }
         behind = at + 1;
     }

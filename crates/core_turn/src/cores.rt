@@ -1,6 +1,6 @@
 //! A core.
 
-ghost use Rattle.std.specs.Prelude.{◌≡◌, ◌+◌, ◌^◌, ◌<◌, ◌≤◌, suc, [], ◌∷◌, ◌++◌, length, IfOk, OnOk, min};
+ghost use Rattle.std.specs.Prelude.{◌≡◌, ◌+◌, ◌^◌, ◌<◌, ◌≤◌, suc, [], length, IfOk, OnOk, min};
 ghost use Rattle.std.specs.Vec.{vec_capacity};
 ghost use Rattle.bus_semantics.specs.Plan.{Plan, plan_of};
 ghost use Rattle.bus_semantics.specs.Sound.{IsSound};
@@ -104,18 +104,16 @@ impl Core {
 }
 
 impl Core {
-    /// The slot at this place has made this entry: it is the last of the trace, and the next turn begins behind it.
-    pub(crate) fn note(&mut self, at: usize, stamped: Stamped)
-        requires room { 0 < self.old.room }
-        requires within { at < length self.old.slots }
+    /// The slot at this place has made an entry: the next turn begins behind it.
+    pub(crate) fn note(&mut self, at: usize)
+        requires { at < length self.old.slots }
         ensures first { self.new.first ≡ suc at }
-        ensures trace { self.new.trace ≡ self.old.trace ++ stamped ∷ [] }
-        ensures room { self.old.room ≡ suc self.new.room }
+        ensures trace { self.new.trace ≡ self.old.trace }
+        ensures room { self.new.room ≡ self.old.room }
         ensures number { self.new.number ≡ self.old.number }
         ensures slots { self.new.slots ≡ self.old.slots }
     {
         let _slots = self.slots.len();
         self.first = at + 1;
-        self.trace.push_reserved(stamped);
     }
 }

@@ -21,7 +21,7 @@ ghost use Rattle.core_turn.specs.Cores.{CoreState};
 ghost use Rattle.core_turn.specs.Ready.{IsReady};
 ghost use Rattle.core_turn.specs.Standing.{CoreStands};
 ghost use Rattle.port_objects.specs.Benches.{Told};
-ghost use Rattle.core_turn.specs.Turning.{Steps, NothingComes};
+ghost use Rattle.core_turn.specs.Turning.{StepsApart, NothingComes};
 ghost use Rattle.core_turn.specs.Lawful.{IsLawful};
 ghost use Rattle.bus_semantics.specs.Sound.{IsSound};
 ghost use Rattle.core_turn.specs.Resting.{CoreRests};
@@ -32,14 +32,14 @@ use history_laws::{
 };
 use port_objects::{answers_are_what_may_come, leads_miss_nothing, only_a_leave_opens};
 
-/// For every history for which cores and objects are lawful, the entry of a turn over a bench that tells these objects
-/// keeps it legal, and the cores, with this one as it is after the turn, and the objects are lawful for the longer
-/// history. After a turn without an entry they are lawful for the same one. So it is for each core in each such state,
-/// hence for every order of the cores' turns.
+/// For every history for which cores and objects are lawful, the entry of a turn over a bench that tells these objects,
+/// wherever it is written down, keeps it legal, and the cores, with this one as it is after the turn, and the objects are
+/// lawful for the longer history. After a turn without an entry they are lawful for the same one. So it is for each core
+/// in each such state, hence for every order of the cores' turns.
 pub fn turns_keep_the_law()
     ensures stepped { (p : Plan) (m : Mapping) (t : TaskSet) (cores : List CoreState) (i : ℕ) (old new : CoreState) (objects after : List Object) (before now : Told) (s : Stamped) (h : History) →
         IsLawful p m t cores objects h → slice_get cores i ≡ Some old → IsReady p m t new →
-        before.objects ≡ Some objects → now.objects ≡ Some after → Steps p t old new before now s →
+        before.objects ≡ Some objects → now.objects ≡ Some after → StepsApart p t old new before now s →
         IsLawful p m t (set cores i new) after (s.entry ∷ h) }
     ensures still { (p : Plan) (m : Mapping) (t : TaskSet) (cores : List CoreState) (i : ℕ) (old new : CoreState) (objects after : List Object) (before now : Told) (h : History) →
         IsLawful p m t cores objects h → slice_get cores i ≡ Some old →

@@ -1,12 +1,10 @@
 //! What comes of looks at slots.
 
-use bus_semantics::Stamped;
-
 /// What comes of looks at slots, one after the other.
 #[derive(Drop)]
 pub enum Passed {
-    /// The slot at this place made this entry.
-    Made(usize, Stamped),
+    /// The slot at this place made an entry.
+    Made(usize),
     /// Nothing of any of them may come now.
     Nothing,
     /// Another core holds the object.

@@ -46,15 +46,15 @@ pub fn turn<B: Bench>(p: &BusPlan, t: &TaskSet, c: &mut Core, b: &mut B) -> Turn
 {
     let first = c.first;
     let count = c.slots.len();
-    match look_through(p, t, &mut c.slots, first, count, b) {
-        Passed::Made(at, stamped) => {
-            c.note(at, stamped);
+    match look_through(p, t, &mut c.slots, first, count, b, &mut c.trace) {
+        Passed::Made(at) => {
+            c.note(at);
             Turned::Stepped
         }
         Passed::Contended(object) => Turned::Contended(object),
-        Passed::Nothing => match look_through(p, t, &mut c.slots, 0, first, b) {
-            Passed::Made(at, stamped) => {
-                c.note(at, stamped);
+        Passed::Nothing => match look_through(p, t, &mut c.slots, 0, first, b, &mut c.trace) {
+            Passed::Made(at) => {
+                c.note(at);
                 Turned::Stepped
             }
             Passed::Contended(object) => Turned::Contended(object),

@@ -1,23 +1,43 @@
-use Rattle.std.proofs.Common.{◌≡◌, ◌<◌, ◌≤◌, suc, ◌+◌, length, get_or, set, sym, ◌∙◌, ap, subst, arith, inl, inr, Some, None}
+use Rattle.std.proofs.Common.{◌≡◌, ◌<◌, ◌≤◌, suc, ◌+◌, [], ◌∷◌, ◌++◌, length, get_or, set, refl, sym, ◌∙◌, ap, subst, arith, inl, inr, Some, None}
 use Rattle.std.specs.List.{slice_get}
 use Rattle.std.proofs.lemmas.Bool.{cases_lt}
 use Rattle.std.proofs.lemmas.List.{get_or-set_same}
 use Rattle.bus_semantics.specs.Plan.{plan_of}
 use Rattle.bus_semantics.specs.Objects.{touched_by}
+use Rattle.bus_semantics.specs.Rest.{gathered}
 use Rattle.place_set.specs.Places.{NoneBetween, IsFirst}
 use Rattle.task_slots.specs.declared.slot.Slot.{Slot}
-use Rattle.task_slots.specs.declared.look.Look.TheVariants.{Made}
+use Rattle.task_slots.specs.Look.{Made, Nothing}
 use Rattle.task_slots.specs.Slots.{listed_in, slot_tries, events_of_slot}
 use Rattle.task_slots.specs.Ready.{IsReadySlot}
-use Rattle.task_slots.specs.Looking.{ObjectsLooked}
+use Rattle.task_slots.specs.Looking.{Looked, ObjectsLooked}
 use Rattle.core_turn.specs.Awake.{AwakeState, Fits, HeldTold, IsSettled}
 use Rattle.task_slots.specs.Waiting.{is_free, EventsHeld}
-use Rattle.task_slots.specs.Stepping.{noting_of}
-use Rattle.core_turn.proofs.Passing.{set_same, pass_made, pass_lost}
+use Rattle.task_slots.specs.Stepping.{noting_of, SlotLooked, SlotStep}
+use Rattle.task_slots.proofs.Onward.{looked_uncounted}
+use Rattle.task_slots.proofs.Written.{look_is}
+use Rattle.core_turn.specs.Cores.{slots_between}
+use Rattle.core_turn.proofs.Passing.{none_passed, set_same, pass_made, pass_lost}
 use Rattle.task_slots.proofs.Unchanged.{TriesHeld, unchanged_on, unchanged_by, held_by, looked_at}
 use Rattle.core_turn.proofs.Awakes.{events_held, with_rows}
 use Rattle.core_turn.proofs.Settling.{between_held, passed_on, held_onward, slot_within, slot_found, row_found, fits_made, held_made, fits_nothing, held_nothing}
 use Rattle.core_turn.proofs.awake_looks.look_through.Goals as goal
+
+pub returns-then-from-to-clause-pass : goal.returns-then-from-to-clause-pass
+returns-then-from-to-clause-pass g c =
+    let p = plan_of c.args.p.now in
+    let t = c.args.t.now in
+    let xs = c.args.slots.now.items in
+    let a = g.B.Bench.told c.args.bench.now in
+    record {
+      same = refl;
+      none = refl;
+      looked = subst (λ n. Looked p (gathered (slot_tries p t) (slots_between c.args.from n xs)) 0 a a Nothing) c.if-from-to.true (looked_uncounted p _ _ a a Nothing (none_passed p t xs c.args.from a));
+    }
+
+pub returns-then-from-to-clause-held : goal.returns-then-from-to-clause-held
+returns-then-from-to-clause-held g c =
+    subst (λ n. HeldTold (plan_of c.args.p.now) c.args.t.now (g.B.Bench.told c.args.bench.now).objects None c.args.slots.now.items n c.args.a.now) c.if-from-to.true c.requires.held
 
 pub returns-then-at-to-clause-pass : goal.returns-then-at-to-clause-pass
 returns-then-at-to-clause-pass g c =
@@ -33,10 +53,12 @@ returns-then-at-to-clause-pass g c =
     let fits : Fits xs first a = subst (Fits xs first) same loop.fits in
     let held : HeldTold p t o None xs behind a = subst (HeldTold p t o None xs behind) same loop.held in
     let at = c.in-Some.at in
-    let next : IsFirst a.slots behind (length a.slots) at = subst (λ f. IsFirst f behind (length f) at) (sym c.in-Some.ensures.same) c.in-Some.ensures.next in (
-      loop.slots,
-      looked_at p _ _ _ _ loop.same (between_held p t o xs c.args.from c.args.to (passed_on p t o xs a first fits c.args.from behind held loop.passed at c.args.to c.if-at-to.true next.none)),
-    )
+    let next : IsFirst a.slots behind (length a.slots) at = subst (λ f. IsFirst f behind (length f) at) (sym c.in-Some.ensures.same) c.in-Some.ensures.next in
+    record {
+      same = loop.slots;
+      none = loop.none;
+      looked = looked_at p _ _ _ loop.same (between_held p t o xs c.args.from c.args.to (passed_on p t o xs a first fits c.args.from behind held loop.passed at c.args.to c.if-at-to.true next.none));
+    }
 
 pub returns-then-at-to-clause-held : goal.returns-then-at-to-clause-held
 returns-then-at-to-clause-held g c =
@@ -71,10 +93,12 @@ returns-clause-pass g c =
     let held : HeldTold p t o None xs behind a = subst (HeldTold p t o None xs behind) same loop.held in
     let none : NoneBetween a.slots behind (length a.slots) = subst (λ f. NoneBetween f behind (length f)) (sym c.in_default.ensures.same) c.in_default.ensures.next in
     let count = fits.count in
-    let less : c.args.to ≤ length a.slots = omega (arith, c.requires.within) in (
-      loop.slots,
-      looked_at p _ _ _ _ loop.same (between_held p t o xs c.args.from c.args.to (passed_on p t o xs a first fits c.args.from behind held loop.passed (length a.slots) c.args.to less none)),
-    )
+    let less : c.args.to ≤ length a.slots = omega (arith, c.requires.within) in
+    record {
+      same = loop.slots;
+      none = loop.none;
+      looked = looked_at p _ _ _ loop.same (between_held p t o xs c.args.from c.args.to (passed_on p t o xs a first fits c.args.from behind held loop.passed (length a.slots) c.args.to less none));
+    }
 
 pub returns-clause-held : goal.returns-clause-held
 returns-clause-held g c =
@@ -155,6 +179,11 @@ look_at_awake-requires-clause-held g c =
     subst (λ b. EventsHeld p b (events_of_slot s) c.index_mut-in-Some.result.now) (sym loop.same.objects)
     (events_held p t o xs behind a at s c.index_mut-in-Some.result.now found (row_found xs a first fits at next.within _ c.index_mut-in-Some.ensures.value) held)
 
+pub look_at_awake-requires-clause-space : goal.look_at_awake-requires-clause-space
+look_at_awake-requires-clause-space g c =
+    let count : length c.loop-at.made.items ≡ length c.args.made.now.items = ap length c.loop-at.invariant.none in
+    omega (arith, c.requires.space, c.loop-at.invariant.capacity)
+
 pub returns-in-Made-clause-pass : goal.returns-in-Made-clause-pass
 returns-in-Made-clause-pass g c =
     let p = plan_of c.args.p.now in
@@ -177,10 +206,17 @@ returns-in-Made-clause-pass g c =
     let after = next.behind in
     let behind_it : c.args.from ≤ at = omega arith in
     let within : at < length xs = slot_within xs a first fits at next.within in
-    let passed = between_held p t o xs c.args.from at (passed_on p t o xs a first fits c.args.from behind held loop.passed at at (omega arith) next.none) in (
-      c.if-at-to.false,
-      pass_made p t xs c.args.from at s behind_it within is _ c.look_at_awake.new.slot _ _ _ c.in-Made.stamped (ap (λ ys. set ys at c.look_at_awake.new.slot) loop.slots) c.in-Made.ensures.slot (looked_at p _ _ _ _ loop.same passed) c.in-Made.ensures.looked,
-    )
+    let passed = between_held p t o xs c.args.from at (passed_on p t o xs a first fits c.args.from behind held loop.passed at at (omega arith) next.none) in
+    let e = c.in-Made.ensures.written.0 in
+    let written = look_is c.last_entries_are_last.ensures c.loop-at.made.items c.look_at_awake.new.made.items c.in-Made.ensures.written in
+    record {
+      within = c.if-at-to.false;
+      entry = e;
+      written = c.in-Made.ensures.written.1 ∙ ap (λ ys. ys ++ e ∷ []) loop.none;
+      made = pass_made p t xs c.args.from at s behind_it within is _ c.look_at_awake.new.slot _ _ _ _ _ e (ap (λ ys. set ys at c.look_at_awake.new.slot) loop.slots)
+          (subst (SlotLooked p t s c.look_at_awake.new.slot) written c.in-Made.ensures.slot) (looked_at p _ _ _ loop.same passed)
+          (subst (Looked p (slot_tries p t s) 0 (g.B.Bench.told c.loop-at.bench) (g.B.Bench.told c.look_at_awake.new.bench)) written c.in-Made.ensures.looked);
+    }
 
 pub returns-in-Made-clause-fits : goal.returns-in-Made-clause-fits
 returns-in-Made-clause-fits g c =
@@ -200,11 +236,13 @@ returns-in-Made-clause-fits g c =
     let s = c.index_mut.result.now in
     let is : s ≡ get_or xs at s = c.index_mut.ensures.value ∙ ap (λ ys. get_or ys at s) loop.slots in
     let found : slice_get xs at ≡ Some s = slot_found xs a first fits at next.within s is in
+    let step : SlotStep p t s c.look_at_awake.new.slot c.in-Made.ensures.written.0 =
+    subst (SlotLooked p t s c.look_at_awake.new.slot) (look_is c.last_entries_are_last.ensures c.loop-at.made.items c.look_at_awake.new.made.items c.in-Made.ensures.written) c.in-Made.ensures.slot in
     subst (λ ys. Fits (set ys at c.look_at_awake.new.slot) first (with_rows a (set a.events at c.look_at_awake.new.row))) (sym loop.slots)
-    (fits_made xs a first fits at next.within s c.look_at_awake.new.slot c.look_at_awake.new.row is c.in-Made.ensures.width (ap listed_in c.in-Made.ensures.slot.table))
+    (fits_made xs a first fits at next.within s c.look_at_awake.new.slot c.look_at_awake.new.row is c.in-Made.ensures.width (ap listed_in step.table))
 
 pub returns-in-Made-clause-held : goal.returns-in-Made-clause-held
-returns-in-Made-clause-held g c =
+returns-in-Made-clause-held g c = λ e last.
     let p = plan_of c.args.p.now in
     let t = c.args.t.now in
     let o = (g.B.Bench.told c.args.bench.now).objects in
@@ -222,9 +260,13 @@ returns-in-Made-clause-held g c =
     let is : s ≡ get_or xs at s = c.index_mut.ensures.value ∙ ap (λ ys. get_or ys at s) loop.slots in
     let found : slice_get xs at ≡ Some s = slot_found xs a first fits at next.within s is in
     let asleep = subst (λ b. EventsHeld p b (events_of_slot s) c.look_at_awake.new.row) loop.same.objects c.in-Made.ensures.held in
-    let looked = subst (λ b. ObjectsLooked p (slot_tries p t s) b (g.B.Bench.told c.look_at_awake.new.bench).objects (Made c.in-Made.stamped)) loop.same.objects c.in-Made.ensures.looked.objects in
-    subst (λ ys. HeldTold p t o (touched_by p (noting_of c.in-Made.stamped)) (set ys at c.look_at_awake.new.slot) (suc at) (with_rows a (set a.events at c.look_at_awake.new.row))) (sym loop.slots)
-    (held_made xs a first fits at next.within p t o behind next.behind next.none next.chosen held s c.look_at_awake.new.slot c.look_at_awake.new.row c.in-Made.stamped (g.B.Bench.told c.look_at_awake.new.bench).objects is asleep (ap listed_in c.in-Made.ensures.slot.table) looked)
+    let written = look_is c.last_entries_are_last.ensures c.loop-at.made.items c.look_at_awake.new.made.items (e, last ∙ ap (λ ys. ys ++ e ∷ []) (sym loop.none)) in
+    let step : SlotStep p t s c.look_at_awake.new.slot e = subst (SlotLooked p t s c.look_at_awake.new.slot) written c.in-Made.ensures.slot in
+    let now : Looked p (slot_tries p t s) 0 (g.B.Bench.told c.loop-at.bench) (g.B.Bench.told c.look_at_awake.new.bench) (Made e) =
+    subst (Looked p (slot_tries p t s) 0 (g.B.Bench.told c.loop-at.bench) (g.B.Bench.told c.look_at_awake.new.bench)) written c.in-Made.ensures.looked in
+    let looked = subst (λ b. ObjectsLooked p (slot_tries p t s) b (g.B.Bench.told c.look_at_awake.new.bench).objects (Made e)) loop.same.objects now.objects in
+    subst (λ ys. HeldTold p t o (touched_by p (noting_of e)) (set ys at c.look_at_awake.new.slot) (suc at) (with_rows a (set a.events at c.look_at_awake.new.row))) (sym loop.slots)
+    (held_made xs a first fits at next.within p t o behind next.behind next.none next.chosen held s c.look_at_awake.new.slot c.look_at_awake.new.row e (g.B.Bench.told c.look_at_awake.new.bench).objects is asleep (ap listed_in step.table) looked)
 
 pub returns-in-Contended-clause-pass : goal.returns-in-Contended-clause-pass
 returns-in-Contended-clause-pass g c =
@@ -248,10 +290,12 @@ returns-in-Contended-clause-pass g c =
     let after = next.behind in
     let behind_it : c.args.from ≤ at = omega arith in
     let within : at < length xs = slot_within xs a first fits at next.within in
-    let passed = between_held p t o xs c.args.from at (passed_on p t o xs a first fits c.args.from behind held loop.passed at at (omega arith) next.none) in (
-      ap (λ ys. set ys at c.look_at_awake.new.slot) loop.slots ∙ ap (set xs at) c.in-Contended.ensures.slot ∙ set_same xs at s is,
-      pass_lost p t xs c.args.from at s behind_it within is c.args.to _ _ _ c.in-Contended.object c.if-at-to.false (looked_at p _ _ _ _ loop.same passed) c.in-Contended.ensures.looked,
-    )
+    let passed = between_held p t o xs c.args.from at (passed_on p t o xs a first fits c.args.from behind held loop.passed at at (omega arith) next.none) in
+    record {
+      same = ap (λ ys. set ys at c.look_at_awake.new.slot) loop.slots ∙ ap (set xs at) c.in-Contended.ensures.slot ∙ set_same xs at s is;
+      none = c.in-Contended.ensures.written ∙ loop.none;
+      looked = pass_lost p t xs c.args.from at s behind_it within is c.args.to _ _ _ _ _ c.in-Contended.object c.if-at-to.false (looked_at p _ _ _ loop.same passed) c.in-Contended.ensures.looked;
+    }
 
 pub returns-in-Contended-clause-fits : goal.returns-in-Contended-clause-fits
 returns-in-Contended-clause-fits g c =
@@ -330,6 +374,8 @@ loop-at-preserved g c =
       slots = ap (λ ys. set ys at c.look_at_awake.new.slot) loop.slots ∙ ap (set xs at) c.in-Nothing.ensures.slot ∙ set_same xs at s is;
       home = c.in-Nothing.ensures.home ∙ loop.home;
       plan = c.in-Nothing.ensures.plan ∙ loop.plan;
+      none = c.in-Nothing.ensures.written ∙ loop.none;
+      capacity = c.in-Nothing.ensures.capacity ∙ loop.capacity;
       fits = fits_nothing xs a first fits at next.within p t c.settle.new.a s c.look_at_awake.new.row is c.in-Nothing.ensures.width settled;
       held = subst (λ n. HeldTold p t o None xs n c.settle.new.a) more
           (held_nothing xs a first fits at next.within p t o behind next.behind next.none next.chosen held
@@ -344,5 +390,5 @@ loop-at-preserved g c =
             let own_one : x ≡ s = cc in
             subst (λ y. TriesHeld p o (slot_tries p t y)) (sym own_one) tries
       ];
-      same = unchanged_on _ _ _ loop.same (unchanged_by p _ _ _ _ loop.same.idle_still c.in-Nothing.ensures.looked);
+      same = unchanged_on _ _ _ loop.same (unchanged_by p _ _ _ _ c.in-Nothing.ensures.looked);
     }

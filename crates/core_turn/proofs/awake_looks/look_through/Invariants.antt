@@ -1,5 +1,6 @@
 use Rattle.std.proofs.Common.{◌≡◌, ℕ, ◌-◌, ◌<◌, ◌≤◌, length, Some, None}
 use Rattle.std.specs.List.{slice_get}
+use Rattle.std.specs.Vec.{vec_capacity}
 use Rattle.bus_semantics.specs.Plan.{plan_of}
 use Rattle.task_slots.specs.declared.slot.Slot.{Slot}
 use Rattle.task_slots.specs.Slots.{slot_tries}
@@ -12,6 +13,8 @@ invariant-loop-at g l = record {
   slots : l.slots.items ≡ l.initial.slots.items;
   home : g.B.Bench.home l.bench ≡ g.B.Bench.home l.initial.bench;
   plan : g.B.Bench.plan l.bench ≡ g.B.Bench.plan l.initial.bench;
+  none : l.made.items ≡ l.initial.made.items;
+  capacity : vec_capacity l.made ≡ vec_capacity l.initial.made;
   fits : Fits l.initial.slots.items l.initial.a.first l.a;
   held : HeldTold (plan_of l.p) l.t (g.B.Bench.told l.initial.bench).objects None l.initial.slots.items l.behind l.a;
   begun : l.from ≤ l.behind;

@@ -1,7 +1,8 @@
 use Rattle.std.proofs.Common.{◌≡◌}
+use Rattle.std.specs.Vec.{vec_capacity}
 use Rattle.bus_semantics.specs.Plan.{plan_of}
 use Rattle.bus_semantics.specs.Rest.{gathered}
-use Rattle.task_slots.specs.declared.look.Look.TheVariants.{Nothing}
+use Rattle.task_slots.specs.Look.{Nothing}
 use Rattle.task_slots.specs.Slots.{slot_tries}
 use Rattle.core_turn.specs.Cores.{slots_between, looks_in}
 use Rattle.task_slots.specs.Looking.{Looked}
@@ -12,6 +13,8 @@ invariant-loop-at g l = record {
   slots : l.slots.items ≡ l.initial.slots.items;
   home : g.B.Bench.home l.bench ≡ g.B.Bench.home l.initial.bench;
   plan : g.B.Bench.plan l.bench ≡ g.B.Bench.plan l.initial.bench;
+  none : l.made.items ≡ l.initial.made.items;
+  capacity : vec_capacity l.made ≡ vec_capacity l.initial.made;
   looked : Looked (plan_of l.p) (gathered (slot_tries (plan_of l.p) l.t) (slots_between l.from l.at l.initial.slots.items)) (looks_in (plan_of l.p) (slots_between l.from l.at l.initial.slots.items))
       (g.B.Bench.told l.initial.bench)
       (g.B.Bench.told l.bench) Nothing;
