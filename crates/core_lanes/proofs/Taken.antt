@@ -9,7 +9,7 @@ use Rattle.port_objects.specs.Benches.{Work, IsFurther}
 use Rattle.task_machine.specs.declared.instr.TaskSet.{TaskSet}
 use Rattle.core_turn.specs.Cores.{CoreState}
 use Rattle.core_turn.specs.Ready.{IsReady}
-use Rattle.core_turn.specs.Turning.{Steps, NothingComes, IsContended}
+use Rattle.core_turn.specs.Turning.{StepsApart, Steps, NothingFound, IsContended}
 use Rattle.cross_core_table.specs.OpenRounds.{Sitting, told_of}
 use Rattle.round_merging.specs.Taking.{IsSameCore, TakesTurns}
 use Rattle.round_merging.proofs.Turns.{turn_taken, taken_on}
@@ -21,7 +21,7 @@ made_since : (before after : Sitting) (added : List Stamped) (held lost : ℕ) �
 made_since before after added held lost further = ap (λ (w : Work). w.made) (same_Some _ _ further.told) ∙ further.made
 
 module _ (p : Plan) (t : TaskSet) (old turned : CoreState) (before after : Sitting) where
-  pub stepped_taken : (new : CoreState) (s : Stamped) → ((m : Mapping) → IsReady p m t old → IsReady p m t turned) → Steps p t old turned (told_of before) (told_of after) s → IsSameCore turned new → IsLonger p t old new before.view.made after.view.made
+  pub stepped_taken : (new : CoreState) (s : Stamped) → ((m : Mapping) → IsReady p m t old → IsReady p m t turned) → StepsApart p t old turned (told_of before) (told_of after) s → IsSameCore turned new → IsLonger p t old new before.view.made after.view.made
   stepped_taken new s ready steps same = record {
     made = s;
     stepped = turned;
@@ -30,8 +30,8 @@ module _ (p : Plan) (t : TaskSet) (old turned : CoreState) (before after : Sitti
     same = same;
   }
 
-  pub none_taken : NothingComes p t old turned (told_of before) (told_of after) → (turned ≡ old) × (after.view.made ≡ before.view.made)
-  none_taken nothing = (nothing.same, made_since before after [] _ 0 nothing.work ∙ append-nil before.view.made)
+  pub none_taken : (looks : ℕ) → NothingFound p t looks old turned (told_of before) (told_of after) → (turned ≡ old) × (after.view.made ≡ before.view.made)
+  none_taken looks nothing = (nothing.same, made_since before after [] looks 0 nothing.work ∙ append-nil before.view.made)
 
   pub lost_taken : (object : ℕ) → IsContended p t old turned (told_of before) (told_of after) object → (turned ≡ old) × (after.view.made ≡ before.view.made)
   lost_taken object lost = (lost.same, made_since before after [] 0 1 lost.work ∙ append-nil before.view.made)

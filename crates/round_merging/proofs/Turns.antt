@@ -12,7 +12,7 @@ use Rattle.task_slots.specs.Slots.{table_of}
 use Rattle.core_turn.specs.Cores.{CoreState, tables_of_core}
 use Rattle.core_turn.specs.Ready.{IsReady}
 use Rattle.core_turn.specs.Standing.{CoreStands}
-use Rattle.core_turn.specs.Turning.{Steps}
+use Rattle.core_turn.specs.Turning.{StepsApart}
 use Rattle.round_merging.specs.Taking.{IsSameCore, TakesTurn, TakesTurns}
 
 -- ---- the same core
@@ -30,8 +30,8 @@ module _ (p : Plan) (t : TaskSet) (c k : CoreState) (same : IsSameCore c k) wher
 
 -- ---- a turn
 
--- what a turn over any bench made
-pub turn_taken : (p : Plan) (t : TaskSet) (old new : CoreState) (before after : Told) (s : Stamped) → ((m : Mapping) → IsReady p m t old → IsReady p m t new) → Steps p t old new before after s → TakesTurn p t old new s
+-- what a turn over any bench made, wherever its entry is written down
+pub turn_taken : (p : Plan) (t : TaskSet) (old new : CoreState) (before after : Told) (s : Stamped) → ((m : Mapping) → IsReady p m t old → IsReady p m t new) → StepsApart p t old new before after s → TakesTurn p t old new s
 turn_taken p t old new before after s ready steps = record {
   at = steps.at;
   slot = steps.slot;

@@ -16,13 +16,13 @@ returns-in-Stepped-clause-room c =
 pub returns-in-Stepped-clause-taken : goal.returns-in-Stepped-clause-taken
 returns-in-Stepped-clause-taken c =
     let turned = c.in-Stepped.ensures.turned in
-    stepped_taken (plan_of c.args.p.now) c.args.t.now c.args.core.now c.turn.new.c c.args.bench.now c.turn.new.b c.clear.new.self turned.0 c.in-Stepped.ensures.ready turned.1 (record { number = c.clear.ensures.number; slots = c.clear.ensures.slots })
+    stepped_taken (plan_of c.args.p.now) c.args.t.now c.args.core.now c.turn.new.c c.args.bench.now c.turn.new.b c.clear.new.self turned.0 c.in-Stepped.ensures.ready turned.1.apart (record { number = c.clear.ensures.number; slots = c.clear.ensures.slots })
 
 pub returns-in-NothingNow-clause-room : goal.returns-in-NothingNow-clause-room
 returns-in-NothingNow-clause-room c = subst HasRoom (sym c.in-NothingNow.ensures.turned.same) c.requires.room
 
 pub returns-in-NothingNow-clause-taken : goal.returns-in-NothingNow-clause-taken
-returns-in-NothingNow-clause-taken c = none_taken (plan_of c.args.p.now) c.args.t.now c.args.core.now c.turn.new.c c.args.bench.now c.turn.new.b c.in-NothingNow.ensures.turned
+returns-in-NothingNow-clause-taken c = none_taken (plan_of c.args.p.now) c.args.t.now c.args.core.now c.turn.new.c c.args.bench.now c.turn.new.b _ c.in-NothingNow.ensures.turned
 
 pub returns-in-Contended-clause-room : goal.returns-in-Contended-clause-room
 returns-in-Contended-clause-room c = subst HasRoom (sym c.in-Contended.ensures.turned.same) c.requires.room
