@@ -24,7 +24,7 @@ use Rattle.core_turn.specs.Cores.{CoreState}
 use Rattle.task_slots.specs.Slots.{Table, table_of, listed_in, events_of_slot}
 use Rattle.task_slots.specs.Looking.{MadeAt, event_for}
 use Rattle.core_turn.specs.Awake.{AwakeState, Fits, StartsHeld, WaitersHeld}
-use Rattle.core_turn.specs.Turning.{Steps}
+use Rattle.core_turn.specs.Turning.{StepsApart}
 use Rattle.core_runtime.specs.declared.seats.Seat.{Seat}
 use Rattle.core_runtime.specs.Watching.{tables_of, owners_of, AreBehind, AreSeated, IsWatched, AreWatched, AreWaiting, Touches, IsAfter}
 use Rattle.round_merging.proofs.Places.{Placed, here, there, placed}
@@ -117,7 +117,7 @@ made_apart p a w e actor wish is = of_deed e.deed wish
     of_deed d same = (λ i. object_of p (actor i) (same i)) ∙ is
 
 -- what a step does to the objects
-pub after_step : (p : Plan) (t : TaskSet) (old new : CoreState) (before now : Plain) (s : Stamped) → Steps p t old new (told_by before) (told_by now) s → IsAfter p before.objects now.objects (record { entry = s.entry; event = s.event })
+pub after_step : (p : Plan) (t : TaskSet) (old new : CoreState) (before now : Plain) (s : Stamped) → StepsApart p t old new (told_by before) (told_by now) s → IsAfter p before.objects now.objects (record { entry = s.entry; event = s.event })
 after_step p t old new before now s steps = of_object (object_of p tried.0 tried.1) refl steps.order.made.entry.event steps.order.made.made
   where
     tried : Try

@@ -6,7 +6,7 @@ ghost use Rattle.core_runtime.specs.Rounds.{IsLater, IsTurn};
 use crate::round_state::Round;
 use crate::waking::wake_after;
 use core_turn::{Turned, turn_of_awake, turns_keep_the_law, waiters_sleep_on};
-use port_objects::sound_plans_have_objects;
+use port_objects::{last_entries_are_last, last_written, sound_plans_have_objects};
 
 impl<'a> Round<'a> {
     /// The core of a number makes a turn. Its entry, if it makes one, goes to the end of the entries and wakes what may start by it,
@@ -20,21 +20,26 @@ impl<'a> Round<'a> {
         turns_keep_the_law();
         waiters_sleep_on();
         sound_plans_have_objects();
+        last_entries_are_last();
         let core = &mut self.cores[number];
         let awake = &mut self.watch.awake[number];
-        match turn_of_awake(self.plan, self.bodies, core, awake, &mut self.bench) {
+        match turn_of_awake(
+            self.plan,
+            self.bodies,
+            core,
+            awake,
+            &mut self.bench,
+            &mut self.entries,
+        ) {
             Turned::Stepped => {
-                if let Some(made) = core.trace().last() {
-                    self.entries.push_reserved(*made);
-                    wake_after(
-                        self.plan,
-                        &made.entry,
-                        made.event,
-                        self.bench.objects(),
-                        &mut self.watch,
-                    );
-                }
-                core.clear();
+                let made = last_written(self.entries.as_slice());
+                wake_after(
+                    self.plan,
+                    &made.entry,
+                    made.event,
+                    self.bench.objects(),
+                    &mut self.watch,
+                );
                 true
             }
             Turned::NothingNow => false,
