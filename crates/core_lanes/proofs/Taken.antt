@@ -1,11 +1,11 @@
 -- A turn at a seat's bench.
-use Rattle.std.proofs.Common.{◌≡◌, ◌+◌, ℕ, Bool, true, false, if◌then◌else◌, refl, sym, ◌∙◌, ap, subst, arith, List, [], ◌∷◌, ◌++◌, length, append-nil}
+use Rattle.std.proofs.Common.{◌≡◌, ◌+◌, ℕ, Bool, true, false, if◌then◌else◌, refl, sym, ◌∙◌, ap, subst, arith, List, [], ◌∷◌, ◌++◌, length, append-nil, Some}
 use Rattle.std.proofs.lemmas.List.{length_push}
 use Rattle.std.proofs.lemmas.Option.{same_Some}
 use Rattle.bus_semantics.specs.declared.entries.Stamped.{Stamped}
 use Rattle.bus_semantics.specs.declared.script.Mapping.{Mapping}
 use Rattle.bus_semantics.specs.Plan.{Plan}
-use Rattle.port_objects.specs.Benches.{Work, IsFurther}
+use Rattle.port_objects.specs.Benches.{Work, IsFurther, written_last}
 use Rattle.task_machine.specs.declared.instr.TaskSet.{TaskSet}
 use Rattle.core_turn.specs.Cores.{CoreState}
 use Rattle.core_turn.specs.Ready.{IsReady}
@@ -53,3 +53,7 @@ count_on p t old new before after false none = ap length none.1
 -- a core that has made nothing
 pub no_turns : (p : Plan) (t : TaskSet) (core : CoreState) (made : List Stamped) → made ≡ [] → TakesTurns p t core made core
 no_turns p t core made none = subst (λ part. TakesTurns p t core part core) (sym none) (record { number = refl; slots = refl })
+
+-- the entry that was written down last
+pub last_is : ((before : List Stamped) (s : Stamped) → written_last (before ++ s ∷ []) ≡ Some s) → (xs old : List Stamped) (s made : Stamped) → xs ≡ old ++ s ∷ [] → written_last xs ≡ Some made → made ≡ s
+last_is law xs old s made is last = same_Some _ _ (sym last ∙ ap written_last is ∙ law old s)

@@ -4,12 +4,19 @@ ghost use Rattle.std.specs.Prelude.{◌≡◌, ◌≤◌, ◌<◌, ◌++◌, [],
 ghost use Rattle.std.specs.Vec.{vec_capacity};
 ghost use Rattle.core_lanes.specs.Lanes.{lanes_of, core_in, with_seat, seats_in};
 
+use crate::guided::Guided;
 use crate::lanes::Lane;
 use core_turn::Core;
 use cross_core_table::CoreSeat;
+use std::alloc::Global;
 
-/// A lane for each core, with the seat at the core's place.
-pub(crate) fn seat_all(cores: Vec<Core>, seats: Vec<CoreSeat>, lanes: Vec<Lane>) -> Vec<Lane>
+/// A lane for each core, with the seat at the core's place. Where there is no memory for what guides a core, nothing guides it.
+pub(crate) fn seat_all(
+    alloc: Global,
+    cores: Vec<Core>,
+    seats: Vec<CoreSeat>,
+    lanes: Vec<Lane>,
+) -> Vec<Lane>
     requires empty { lanes.items ≡ [] }
     requires space { length cores.items ≤ vec_capacity lanes }
     ensures { result.items ≡ lanes_of cores.items seats.items }
@@ -18,6 +25,7 @@ pub(crate) fn seat_all(cores: Vec<Core>, seats: Vec<CoreSeat>, lanes: Vec<Lane>)
     let mut seats = seats.into_iter();
     for core in cores {
         let seat = seats.next();
+        let core = Guided::of(alloc, core);
         lanes.push_reserved(Lane { core, seat });
     }
     lanes
@@ -44,7 +52,7 @@ pub(crate) fn part_all(lanes: Vec<Lane>, cores: &mut Vec<Core>, seats: &mut Vec<
 {
     for lane in lanes {
         let Lane { core, seat } = lane;
-        cores.push_reserved(core);
+        cores.push_reserved(core.into_core());
         keep(seats, seat);
     }
 }

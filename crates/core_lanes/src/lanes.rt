@@ -7,10 +7,11 @@ ghost use Rattle.task_generator.specs.Promise.{AsksAsPlanned};
 ghost use Rattle.cross_core_table.specs.Logs.{plan_in};
 ghost use Rattle.core_lanes.specs.Lanes.{IsSeated, AreSeated, HasGone, HaveGone};
 
+use crate::guesses::Guesses;
+use crate::guided::Guided;
 use crate::threads::is_shared;
 use crate::turns::make_turns;
 use bus_semantics::BusPlan;
-use core_turn::Core;
 use cross_core_table::{CoreSeat, Round};
 use rte_text::Gate;
 use std::thread;
@@ -20,14 +21,22 @@ use task_machine::TaskSet;
 /// A core with its seat in a round. It is worked on by one thread.
 #[derive(Drop)]
 pub(crate) struct Lane {
-    pub core: Core,
+    pub core: Guided,
     /// None only while the core is at its bench.
     pub seat: Option<CoreSeat>,
 }
 
 impl Lane {
     /// The core sits down at its bench, makes its turns, and leaves with its seat.
-    fn go<G: Gate>(&mut self, p: &BusPlan, t: &TaskSet, round: &Round, number: usize, gate: &G)
+    fn go<G: Gate>(
+        &mut self,
+        p: &BusPlan,
+        t: &TaskSet,
+        round: &Round,
+        guesses: &Guesses,
+        number: usize,
+        gate: &G,
+    )
         requires plan { plan_in round.now.opening ≡ plan_of p.now }
         requires limit { round.now.opening.room ≡ 1024 }
         requires bodies { AsksAsPlanned (plan_of p.now) t.now }
@@ -39,7 +48,15 @@ impl Lane {
             return;
         };
         let mut bench = round.bench(p, seat);
-        make_turns(p, t, &mut self.core, &mut bench, number as u32, gate);
+        make_turns(
+            p,
+            t,
+            &mut self.core,
+            &mut bench,
+            guesses,
+            number as u32,
+            gate,
+        );
         self.seat = Some(bench.leave());
     }
 }
@@ -50,6 +67,7 @@ pub(crate) fn go_all<R: Threads + Sync, G: Gate>(
     p: &BusPlan,
     t: &TaskSet,
     round: &Round,
+    guesses: &Guesses,
     lanes: &mut [Lane],
     gate: &G,
 )
@@ -61,6 +79,7 @@ pub(crate) fn go_all<R: Threads + Sync, G: Gate>(
     ensures { HaveGone (plan_of p.now) t.now round.now lanes.old lanes.new }
 {
     is_shared::<Round>();
+    is_shared::<Guesses>();
     let count = lanes.len();
     thread::for_each_mut(
         rt,
@@ -74,7 +93,7 @@ pub(crate) fn go_all<R: Threads + Sync, G: Gate>(
             requires seated { IsSeated (plan_of p.now) t.now round.now number lane.old }
             ensures { HasGone (plan_of p.entry.now) t.entry.now round.entry.now number lane.old lane.new }
         {
-            lane.go(p, t, round, number, gate);
+            lane.go(p, t, round, guesses, number, gate);
         },
     );
 }

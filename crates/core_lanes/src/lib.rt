@@ -2,10 +2,13 @@
 #![tactic(auto)]
 
 mod benching;
+mod guesses;
+mod guided;
 mod lanes;
 mod stay;
 mod threads;
 mod together;
 mod turns;
 
+pub use guesses::{Guesses, Spot};
 pub use together::{Changing, Together, run_together};

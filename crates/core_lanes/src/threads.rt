@@ -2,6 +2,7 @@
 
 ghost use Rattle.std.specs.Thread.{IsSync};
 
+use crate::guesses::Guesses;
 use crate::lanes::Lane;
 use bus_semantics::BusPlan;
 use cross_core_table::Round;
@@ -21,4 +22,5 @@ fn show_what_passes() {
     is_shared::<BusPlan>();
     is_shared::<TaskSet>();
     is_shared::<Round>();
+    is_shared::<Guesses>();
 }

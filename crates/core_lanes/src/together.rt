@@ -11,6 +11,7 @@ ghost use Rattle.core_lanes.specs.Rooms.{HaveRoom};
 ghost use Rattle.core_lanes.specs.Together.{AllReady, HasPlaces, HasBegun, HasRun, RunTogether};
 
 use crate::benching::{part_all, seat_all};
+use crate::guesses::Guesses;
 use crate::lanes::{Lane, go_all};
 use bus_semantics::{BusPlan, Stamped};
 use core_turn::Core;
@@ -72,13 +73,14 @@ fn take_places(alloc: Global, count: usize) -> Result<Places, AllocError>
 
 /// Cores, 1 to 8 and each at its number, make turns at the same time over the objects of a plan: each in a thread of its own, by its
 /// seat of a round, until it leaves, after 1,024 entries of its own or 64 turns in a row without one. A core passes the gate before
-/// each turn. All memory is taken before the first turn.
+/// each turn. All memory is taken before the first turn. `guesses` tells where a core looks first.
 pub fn run_together<R: Threads + Sync, G: Gate>(
     rt: &R,
     alloc: Global,
     p: &BusPlan,
     t: &TaskSet,
     changing: Changing,
+    guesses: &Guesses,
     gate: &G,
 ) -> Together
     requires count { (1 ≤ length changing.cores.items) × (length changing.cores.items ≤ 8) }
@@ -102,19 +104,21 @@ pub fn run_together<R: Threads + Sync, G: Gate>(
                 cores,
                 places,
             };
-            let (changing, entries) = run_begun(rt, p, t, begun, gate);
+            let (changing, entries) = run_begun(rt, alloc, p, t, begun, guesses, gate);
             Together::Ran(changing, entries)
         }
         Opened::Memory(objects) => Together::Memory(Changing { cores, objects }),
     }
 }
 
-/// The cores of a round that is open make their turns, and the round is closed. It takes no memory.
+/// The cores of a round that is open make their turns, and the round is closed. What guides the cores takes memory, before their first turns and only if there is some.
 fn run_begun<R: Threads + Sync, G: Gate>(
     rt: &R,
+    alloc: Global,
     p: &BusPlan,
     t: &TaskSet,
     begun: Begun,
+    guesses: &Guesses,
     gate: &G,
 ) -> (Changing, Vec<Stamped>)
     requires count { (1 ≤ length begun.cores.items) × (length begun.cores.items ≤ 8) }
@@ -136,8 +140,8 @@ fn run_begun<R: Threads + Sync, G: Gate>(
         cores: mut back,
         seats: mut returned,
     } = places;
-    let mut lanes = seat_all(cores, seats, lanes);
-    go_all(rt, p, t, &round, lanes.as_mut_slice(), gate);
+    let mut lanes = seat_all(alloc, cores, seats, lanes);
+    go_all(rt, p, t, &round, guesses, lanes.as_mut_slice(), gate);
     part_all(lanes, &mut back, &mut returned);
     let closed = round.close(returned);
     let changing = Changing {

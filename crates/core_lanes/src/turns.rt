@@ -10,6 +10,8 @@ ghost use Rattle.round_merging.specs.Taking.{TakesTurns};
 ghost use Rattle.core_lanes.specs.Rooms.{HasRoom};
 ghost use Rattle.core_lanes.specs.Benching.{IsTaken};
 
+use crate::guesses::Guesses;
+use crate::guided::Guided;
 use crate::stay::Stay;
 use bus_semantics::BusPlan;
 use core_turn::{Core, Turned, turn};
@@ -22,7 +24,7 @@ const MOST_TURNS: u32 = 1024 * 64;
 
 /// A core makes a turn at its bench, and the answer is whether it made an entry. A turn that found its object held by another core
 /// made none. The trace is empty again then, since the seat keeps the entry.
-fn turn_once(p: &BusPlan, t: &TaskSet, core: &mut Core, bench: &mut SeatBench) -> bool
+pub(crate) fn turn_once(p: &BusPlan, t: &TaskSet, core: &mut Core, bench: &mut SeatBench) -> bool
     requires plan { plan_in bench.old.round.opening ≡ plan_of p.now }
     requires bodies { AsksAsPlanned (plan_of p.now) t.now }
     requires ready { (m : Mapping) × IsReady (plan_of p.now) m t.now core.old }
@@ -49,8 +51,9 @@ fn turn_once(p: &BusPlan, t: &TaskSet, core: &mut Core, bench: &mut SeatBench) -
 pub(crate) fn make_turns<G: Gate>(
     p: &BusPlan,
     t: &TaskSet,
-    core: &mut Core,
+    core: &mut Guided,
     bench: &mut SeatBench,
+    guesses: &Guesses,
     number: u32,
     gate: &G,
 )
@@ -71,7 +74,7 @@ pub(crate) fn make_turns<G: Gate>(
             return;
         }
         gate.pass(number);
-        let made = turn_once(p, t, core, bench);
+        let made = core.turn(p, t, bench, guesses, number);
         stay.note(made);
     }
 }

@@ -116,3 +116,10 @@ all_awake_held p t objects touched slots first n begins a b all below is = subst
       let less : i < length slots = subst (λ n. i < n) below.waiting (slice_get_within a.waiting i true waits) in
       absurd (false≢true (sym (below.none i true (omega arith) waits)));
 })
+
+-- the next turn begins elsewhere, on a core with the same tasks
+pub followed : (slots old : List Slot) (first begins next : ℕ) (a : AwakeState) → Fits old first a → map table_of slots ≡ map table_of old → next ≡ begins
+    → Fits slots begins (record { slots = a.slots; events = a.events; waiting = a.waiting; areas = a.areas; first = next })
+followed slots old first begins next a fits same is =
+    let below = begun slots old first a fits same in
+    record { count = below.count; rows = below.rows; widths = below.widths; waiting = below.waiting; areas = below.areas; begins = is }

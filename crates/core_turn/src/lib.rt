@@ -5,6 +5,7 @@ mod awake;
 mod awake_looks;
 mod awake_turn;
 mod cores;
+mod guessing;
 mod laws;
 mod looking;
 mod making;

@@ -29,7 +29,7 @@ loop-lane-preserved c =
     record {
       all = append_assoc at.yielded (x ∷ []) rest ∙ given;
       left = let short = ap (λ (l : List Lane). length l) steps in omega arith;
-      cores = c.push_reserved.ensures.items ∙ (ap (λ (cs : List CoreState). cs ++ x.core ∷ []) at.invariant.cores ∙ sym (map-append core_in at.yielded (x ∷ [])));
+      cores = c.push_reserved.ensures.items ∙ ap (λ (k : CoreState). at.cores.items ++ k ∷ []) c.into_core.ensures ∙ (ap (λ (cs : List CoreState). cs ++ x.core ∷ []) at.invariant.cores ∙ sym (map-append core_in at.yielded (x ∷ [])));
       seats = c.keep.ensures.items ∙ (ap (λ (ss : List CoreSeat). ss ++ with_seat x.seat []) at.invariant.seats ∙ sym (seats_more at.yielded x));
       cores_space = c.push_reserved.ensures.capacity ∙ at.invariant.cores_space;
       seats_space = c.keep.ensures.capacity ∙ at.invariant.seats_space;

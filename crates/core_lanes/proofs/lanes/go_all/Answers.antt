@@ -15,7 +15,10 @@ for_each_mut-requires-sync-F g c κs lives = record {
         ((λ q. tt), bodies_shared.shared x.1.now x.1.ref_ptr.0 x.1.ref_ptr.1 κs.1.1.1.1.1.1.1.0),
         (
           ((λ q. tt), c.is_shared.ensures.shared x.2.now x.2.ref_ptr.0 x.2.ref_ptr.1 κs.1.1.1.1.1.1.1.1.0),
-          (((λ q. tt), c.type_bounds.sync-G.shared x.3.now x.3.ref_ptr.0 x.3.ref_ptr.1 κs.1.1.1.1.1.1.1.1.1.0), tt),
+          (
+            ((λ q. tt), c.is_shared-2.ensures.shared x.3.now x.3.ref_ptr.0 x.3.ref_ptr.1 κs.1.1.1.1.1.1.1.1.1.0),
+            (((λ q. tt), c.type_bounds.sync-G.shared x.4.now x.4.ref_ptr.0 x.4.ref_ptr.1 κs.1.1.1.1.1.1.1.1.1.1.0), tt),
+          ),
         ),
       ),
     ),

@@ -1,0 +1,168 @@
+//! Cores that look first where an entry may have started something.
+
+ghost use Rattle.std.specs.Prelude.{◌≡◌, ◌<◌, IfOk, length};
+ghost use Rattle.bus_semantics.specs.declared.script.Mapping.{Mapping};
+ghost use Rattle.bus_semantics.specs.Plan.{plan_of};
+ghost use Rattle.task_generator.specs.Promise.{AsksAsPlanned};
+ghost use Rattle.core_turn.specs.Ready.{IsReady};
+ghost use Rattle.cross_core_table.specs.Logs.{plan_in};
+ghost use Rattle.core_lanes.specs.Rooms.{HasRoom};
+ghost use Rattle.core_lanes.specs.Benching.{IsTaken};
+ghost use Rattle.core_lanes.specs.Guiding.{IsGuide};
+
+use crate::guesses::Guesses;
+use crate::turns::turn_once;
+use bus_semantics::{BusPlan, Stamped};
+use core_turn::{Awake, Core, Turned, turn_of_awake};
+use cross_core_table::SeatBench;
+use port_objects::{last_entries_are_last, last_written, sound_plans_have_objects};
+use std::alloc::{AllocError, Global};
+use std::marker::Model;
+use task_machine::TaskSet;
+
+/// What of a core may step, as far as it is known, and a list with room for the entry of a turn.
+#[derive(Drop)]
+pub(crate) struct Guide {
+    pub awake: Awake,
+    pub made: Vec<Stamped>,
+}
+
+/// A core and what guides it. Without memory nothing does, and each of its turns looks at all.
+#[derive(Drop)]
+pub(crate) struct Guided {
+    core: Core,
+    guide: Option<Guide>,
+}
+
+impl Model for Guided {
+    ghost use Rattle.std.specs.Prelude.{IfSome};
+    ghost use Rattle.core_turn.specs.Cores.{CoreState};
+    ghost use Rattle.core_lanes.specs.Guiding.{IsGuide};
+
+    ghost Value = { CoreState };
+
+    ghost view = { λ g. g.core };
+
+    ghost invariant = { λ g. IfSome g.guide (IsGuide g.core) };
+}
+
+/// A guide by which all of a core is awake.
+fn guide_of(alloc: Global, core: &Core) -> Result<Guide, AllocError>
+    ensures { IfOk result (IsGuide core.now) }
+{
+    let awake = Awake::all(alloc, core)?;
+    let made = Vec::with_capacity(alloc, 1)?;
+    Ok(Guide { awake, made })
+}
+
+/// A turn of a core over what is awake of it. The answer is whether it made an entry.
+fn turn_by_guide(
+    p: &BusPlan,
+    t: &TaskSet,
+    core: &mut Core,
+    guide: &mut Guide,
+    bench: &mut SeatBench,
+    guesses: &Guesses,
+    number: u32,
+) -> bool
+    requires plan { plan_in bench.old.round.opening ≡ plan_of p.now }
+    requires bodies { AsksAsPlanned (plan_of p.now) t.now }
+    requires ready { (m : Mapping) × IsReady (plan_of p.now) m t.now core.old }
+    requires room { HasRoom core.old }
+    requires bench_room { length bench.old.view.made < bench.old.round.opening.room }
+    requires guide { IsGuide core.old guide.old }
+    ensures round { bench.new.round ≡ bench.old.round }
+    ensures number { bench.new.core ≡ bench.old.core }
+    ensures ready { (m : Mapping) → IsReady (plan_of p.now) m t.now core.old → IsReady (plan_of p.now) m t.now core.new }
+    ensures room { HasRoom core.new }
+    ensures taken { IsTaken (plan_of p.now) t.now core.old core.new bench.old.view.made bench.new.view.made result }
+    ensures guide { IsGuide core.new guide.new }
+{
+    last_entries_are_last();
+    sound_plans_have_objects();
+    match turn_of_awake(p, t, core, &mut guide.awake, bench, &mut guide.made) {
+        Turned::Stepped => {
+            let made = last_written(guide.made.as_slice());
+            guesses.wake_after(p, number, core, made, &mut guide.awake);
+            guide.made.clear();
+            true
+        }
+        Turned::NothingNow => false,
+        Turned::Contended(_) => false,
+    }
+}
+
+/// A turn of a core over all of it, of which the guide is told.
+fn turn_past_guide(
+    p: &BusPlan,
+    t: &TaskSet,
+    core: &mut Core,
+    guide: &mut Guide,
+    bench: &mut SeatBench,
+) -> bool
+    requires plan { plan_in bench.old.round.opening ≡ plan_of p.now }
+    requires bodies { AsksAsPlanned (plan_of p.now) t.now }
+    requires ready { (m : Mapping) × IsReady (plan_of p.now) m t.now core.old }
+    requires room { HasRoom core.old }
+    requires bench_room { length bench.old.view.made < bench.old.round.opening.room }
+    requires guide { IsGuide core.old guide.old }
+    ensures round { bench.new.round ≡ bench.old.round }
+    ensures number { bench.new.core ≡ bench.old.core }
+    ensures ready { (m : Mapping) → IsReady (plan_of p.now) m t.now core.old → IsReady (plan_of p.now) m t.now core.new }
+    ensures room { HasRoom core.new }
+    ensures taken { IsTaken (plan_of p.now) t.now core.old core.new bench.old.view.made bench.new.view.made result }
+    ensures guide { IsGuide core.new guide.new }
+{
+    let made = turn_once(p, t, core, bench);
+    if made {
+        guide.awake.follow(core);
+    }
+    made
+}
+
+impl Guided {
+    /// A core of which all is awake.
+    pub(crate) fn of(alloc: Global, core: Core) -> Guided
+        ensures { result ≡ core }
+    {
+        let guide = guide_of(alloc, &core).ok();
+        Guided { core, guide }
+    }
+
+    /// The core.
+    pub(crate) fn into_core(self) -> Core
+        ensures { result ≡ self }
+    {
+        self.core
+    }
+
+    /// The core makes a turn at its bench, first over what is awake, and if it finds nothing there, over all. The answer is whether it made
+    /// an entry. A turn that found its object held by another core made none. The core's trace is empty, since the seat keeps the entry.
+    pub(crate) fn turn(
+        &mut self,
+        p: &BusPlan,
+        t: &TaskSet,
+        bench: &mut SeatBench,
+        guesses: &Guesses,
+        number: u32,
+    ) -> bool
+        requires plan { plan_in bench.old.round.opening ≡ plan_of p.now }
+        requires bodies { AsksAsPlanned (plan_of p.now) t.now }
+        requires ready { (m : Mapping) × IsReady (plan_of p.now) m t.now self.old }
+        requires room { HasRoom self.old }
+        requires bench_room { length bench.old.view.made < bench.old.round.opening.room }
+        ensures round { bench.new.round ≡ bench.old.round }
+        ensures number { bench.new.core ≡ bench.old.core }
+        ensures ready { (m : Mapping) → IsReady (plan_of p.now) m t.now self.old → IsReady (plan_of p.now) m t.now self.new }
+        ensures room { HasRoom self.new }
+        ensures taken { IsTaken (plan_of p.now) t.now self.old self.new bench.old.view.made bench.new.view.made result }
+    {
+        match &mut self.guide {
+            Some(guide) => {
+                turn_by_guide(p, t, &mut self.core, guide, bench, guesses, number)
+                    || turn_past_guide(p, t, &mut self.core, guide, bench)
+            }
+            None => turn_once(p, t, &mut self.core, bench),
+        }
+    }
+}
