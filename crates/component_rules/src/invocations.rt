@@ -11,18 +11,21 @@ use description_types::{Component, Event, EventKind, Port, PortKind};
 use interface_types::{InterfaceKind, TypeTable};
 use plan_definitions::Spot;
 use rte_text::Memory;
-use std::alloc::{AllocError, Global};
+use std::alloc::Global;
 
-fn note(found: &mut Vec<(u32, u32)>, kind: EventKind) -> Result<(), Memory>
+/// The positions of a port and of an operation of it.
+type Operation = (usize, usize);
+
+fn note(found: &mut Vec<Operation>, kind: EventKind) -> Result<(), Memory>
     ensures { OnOk result (found.new.items ≡ found.old.items ++ operation_of kind) }
 {
     if let EventKind::OperationInvoked { port, operation } = kind {
-        found.push((port, operation))?;
+        found.push((port as usize, operation as usize))?;
     }
     Ok(())
 }
 
-fn invoked(alloc: Global, events: &[Event]) -> Result<Vec<(u32, u32)>, Memory>
+fn invoked(alloc: Global, events: &[Event]) -> Result<Vec<Operation>, Memory>
     ensures { IfOk result (λ found. found.items ≡ invoked events.now) }
 {
     let mut found = Vec::new(alloc);
@@ -54,14 +57,8 @@ fn operations_at(types: &TypeTable, port: &Port) -> usize
     }
 }
 
-fn position(number: usize) -> Result<u32, Memory>
-    ensures { IfOk result (λ position. position ≡ number) }
-{
-    u32::try_from(number).map_err(|_| AllocError)
-}
-
 #[tactic(auto, using(crate::proofs::Firsts::each_more, crate::proofs::Firsts::each_fails))]
-fn have_one_event(tally: &Tally<(u32, u32)>, port: u32, operations: u32) -> bool
+fn have_one_event(tally: &Tally<Operation>, port: usize, operations: usize) -> bool
     ensures { result ≡ each_number (λ n. count (same_operation (port, n)) tally.now.keys.items == 1) 0 operations }
 {
     for operation in 0..operations {
@@ -75,38 +72,31 @@ fn have_one_event(tally: &Tally<(u32, u32)>, port: u32, operations: u32) -> bool
 fn is_served(
     types: &TypeTable,
     events: &[Event],
-    tally: &Tally<(u32, u32)>,
+    tally: &Tally<Operation>,
     number: usize,
     port: &Port,
-) -> Result<bool, Memory>
+) -> bool
     requires { tally.now.keys.items ≡ invoked events.now }
-    ensures { IfOk result (λ answer. answer ≡ is_served types.now events.now number port.now) }
+    ensures { result ≡ is_served types.now events.now number port.now }
 {
     match port.kind {
-        PortKind::Provided => {
-            let operations = position(operations_at(types, port))?;
-            Ok(have_one_event(tally, position(number)?, operations))
-        }
-        PortKind::Required => Ok(true),
+        PortKind::Provided => have_one_event(tally, number, operations_at(types, port)),
+        PortKind::Required => true,
     }
 }
 
 #[tactic(auto, using(crate::proofs::Firsts::first_more, crate::proofs::Firsts::first_here, crate::proofs::Firsts::first_none))]
-fn unserved(
-    types: &TypeTable,
-    component: &Component,
-    tally: &Tally<(u32, u32)>,
-) -> Result<Option<Spot>, Memory>
+fn unserved(types: &TypeTable, component: &Component, tally: &Tally<Operation>) -> Option<Spot>
     requires { tally.now.keys.items ≡ invoked component.now.behavior.events }
-    ensures { IfOk result (λ spot. spot ≡ unserved types.now component.now) }
+    ensures { result ≡ unserved types.now component.now }
 {
     let events = component.behavior.events.items();
     for (number, port) in component.ports.items().iter().enumerate() {
-        if !is_served(types, events, tally, number, port)? {
-            return Ok(Some(Spot::Port(number)));
+        if !is_served(types, events, tally, number, port) {
+            return Some(Spot::Port(number));
         }
     }
-    Ok(None)
+    None
 }
 
 fn is_alone(events: &[Event], tally: &Tally<u32>, event: &Event) -> bool
@@ -148,7 +138,7 @@ fn first_unserved(
     ensures { IfOk result (λ spot. spot ≡ unserved types.now component.now) }
 {
     let tally = Tally::new(alloc, invoked(alloc, component.behavior.events.items())?)?;
-    unserved(types, component, &tally)
+    Ok(unserved(types, component, &tally))
 }
 
 /// The first port of a component with an operation that does not have exactly one OperationInvokedEvent, or else the first

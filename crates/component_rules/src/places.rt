@@ -63,12 +63,12 @@ pub fn spot_text(alloc: Global, component: usize, spot: Spot) -> Result<Text, Me
     Ok(Text::of(text))
 }
 
-fn put_path(text: &mut Vec<u8>, path: &[u32]) -> Result<(), Memory>
+fn put_path(text: &mut Vec<u8>, path: &[usize]) -> Result<(), Memory>
     ensures { OnOk result (text.new.items ≡ text.old.items ++ path_text path.now) }
 {
     for position in path {
         text.extend_from_slice("/".as_bytes())?;
-        put_number(text, *position as usize)?;
+        put_number(text, *position)?;
     }
     Ok(())
 }
@@ -78,7 +78,7 @@ pub fn program_text(
     alloc: Global,
     component: usize,
     runnable: usize,
-    path: &[u32],
+    path: &[usize],
 ) -> Result<Text, Memory>
     ensures { IfOk result (λ text. text ≡ program_text component runnable path.now) }
 {
