@@ -72,10 +72,10 @@ fn check_rule(
     requires flat { search.now.f.now ≡ f.now }
     ensures { Tells (of_items rule d.now f.now) result }
 {
-    match search.first_broken(rule)? {
+    match search.first_broken(rule) {
         None => Ok(()),
-        Some(end) => {
-            let place = end_text(alloc, d, f, end)?;
+        Some(item) => {
+            let place = end_text(alloc, d, f, &item)?;
             refused(number_of(rule), place)
         }
     }

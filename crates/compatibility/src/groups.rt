@@ -7,7 +7,7 @@ ghost use Rattle.plan_definitions.specs.JoinGroups.{IsManyToMany};
 ghost use Rattle.plan_definitions.specs.Joins.{is_crowded, is_many_to_many};
 ghost use Rattle.compatibility.specs.Partners.{key_of, same_key, Key};
 
-use crate::partners::{Degrees, Key, key_of};
+use crate::partners::{Degrees, Key, key_of_end};
 use flat_descriptions::{End, Join};
 use indexmap::IndexSet;
 use rte_text::Memory;
@@ -17,7 +17,7 @@ fn mark(marked: &mut IndexSet<Key>, end: End, is_marked: bool) -> Result<(), Mem
     ensures { OnOk result ((q : Key) → contains same_key marked.new q ≡ ((is_marked && same_key (key_of end) q) || contains same_key marked.old q)) }
 {
     if is_marked {
-        marked.insert(key_of(end))?;
+        marked.insert(key_of_end(end))?;
     }
     Ok(())
 }
@@ -44,7 +44,7 @@ impl Crowded<'_> {
     fn has(&self, provided: End) -> bool
         ensures { result ≡ is_crowded self.now.joins.now provided }
     {
-        self.ends.contains(&key_of(provided))
+        self.ends.contains(&key_of_end(provided))
     }
 }
 

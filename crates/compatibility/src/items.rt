@@ -11,21 +11,16 @@ ghost use Rattle.compatibility.specs.Partners.{key_of, same_key};
 ghost use Rattle.plan_definitions.specs.JoinedItems.{breaks, first_broken, first_item, in_instances, in_port, in_ports, looked_at, needs_provider, requires_at};
 
 use crate::groups::many_to_many;
+use crate::item::Item;
 use crate::partners::{Degrees, Key, key_of};
 use crate::ports::ports_of;
 use description_types::{Description, Port, PortKind, PrototypeType};
-use flat_descriptions::{End, Flat, Instance};
+use flat_descriptions::{Flat, Instance};
 use indexmap::IndexSet;
 use interface_types::InterfaceKind;
 use plan_definitions::JoinRule;
 use rte_text::Memory;
-use std::alloc::{AllocError, Global};
-
-fn position(number: usize) -> Result<u32, Memory>
-    ensures { IfOk result (λ position. position ≡ number) }
-{
-    u32::try_from(number).map_err(|_| AllocError)
-}
+use std::alloc::Global;
 
 fn looked_at(rule: JoinRule, kind: &InterfaceKind) -> usize
     ensures { result ≡ looked_at rule kind.now }
@@ -38,16 +33,16 @@ fn looked_at(rule: JoinRule, kind: &InterfaceKind) -> usize
     }
 }
 
-fn needs_provider(kind: &InterfaceKind, end: End) -> bool
-    ensures { result ≡ needs_provider kind.now end }
+fn needs_provider(kind: &InterfaceKind, item: &Item) -> bool
+    ensures { result ≡ needs_provider kind.now item.now }
 {
     match kind {
-        InterfaceKind::ModeSwitch(_) => end.instance.is_some(),
+        InterfaceKind::ModeSwitch(_) => item.instance().is_some(),
         _ => false,
     }
 }
 
-fn requires_at(instance: Option<u32>, kind: PortKind) -> bool
+fn requires_at(instance: Option<usize>, kind: PortKind) -> bool
     ensures { result ≡ requires_at instance kind }
 {
     match kind {
@@ -83,15 +78,15 @@ impl Search<'_> {
         })
     }
 
-    fn breaks(&self, rule: JoinRule, kind: &InterfaceKind, end: End) -> bool
-        ensures { result ≡ breaks rule self.now.f.now.joins kind.now end }
+    fn breaks(&self, rule: JoinRule, kind: &InterfaceKind, item: &Item) -> bool
+        ensures { result ≡ breaks rule self.now.f.now.joins kind.now item.now }
     {
         match rule {
             JoinRule::Services => {
-                self.degrees.has_several_providers(end)
-                    || (needs_provider(kind, end) && self.degrees.has_no_provider(end))
+                self.degrees.has_several_providers(item)
+                    || (needs_provider(kind, item) && self.degrees.has_no_provider(item))
             }
-            JoinRule::Groups => self.crowded.contains(&key_of(end)),
+            JoinRule::Groups => self.crowded.contains(&key_of(item)),
         }
     }
 
@@ -108,14 +103,14 @@ impl Search<'_> {
     fn first_item(
         &self,
         rule: JoinRule,
-        instance: Option<u32>,
-        port: u32,
+        instance: Option<usize>,
+        port: usize,
         kind: &InterfaceKind,
-    ) -> Result<Option<End>, Memory>
-        ensures { IfOk result (λ end. end ≡ first_item rule self.now.f.now.joins instance port kind.now) }
+    ) -> Option<Item>
+        ensures { result ≡ first_item rule self.now.f.now.joins instance port kind.now }
     {
         if self.is_kept(rule) {
-            return Ok(None);
+            return None;
         }
         self.first_item_of(rule, instance, port, kind)
     }
@@ -124,105 +119,90 @@ impl Search<'_> {
     fn first_item_of(
         &self,
         rule: JoinRule,
-        instance: Option<u32>,
-        port: u32,
+        instance: Option<usize>,
+        port: usize,
         kind: &InterfaceKind,
-    ) -> Result<Option<End>, Memory>
-        ensures { IfOk result (λ end. end ≡ first_item rule self.now.f.now.joins instance port kind.now) }
+    ) -> Option<Item>
+        ensures { result ≡ first_item rule self.now.f.now.joins instance port kind.now }
     {
-        let count = position(looked_at(rule, kind))?;
-        for element in 0..count {
-            let end = End {
-                instance,
-                port,
-                element,
-            };
-            if self.breaks(rule, kind, end) {
-                return Ok(Some(end));
+        for element in 0..looked_at(rule, kind) {
+            let item = Item::new(instance, port, element);
+            if self.breaks(rule, kind, &item) {
+                return Some(item);
             }
         }
-        Ok(None)
+        None
     }
 
     fn in_port(
         &self,
         rule: JoinRule,
-        instance: Option<u32>,
+        instance: Option<usize>,
         number: usize,
         port: &Port,
-    ) -> Result<Option<End>, Memory>
-        ensures { IfOk result (λ end. end ≡ in_port rule self.now.d.now self.now.f.now instance number port.now) }
+    ) -> Option<Item>
+        ensures { result ≡ in_port rule self.now.d.now self.now.f.now instance number port.now }
     {
         let interfaces = self.d.types.interfaces.items();
         match interfaces.get(port.interface as usize) {
-            Some(interface) => self.first_item(rule, instance, position(number)?, &interface.kind),
-            None => Ok(None),
+            Some(interface) => self.first_item(rule, instance, number, &interface.kind),
+            None => None,
         }
     }
 
     fn in_requiring_port(
         &self,
         rule: JoinRule,
-        instance: Option<u32>,
+        instance: Option<usize>,
         number: usize,
         port: &Port,
-    ) -> Result<Option<End>, Memory>
-        ensures { IfOk result (λ end. end ≡ (if requires_at instance port.now.kind then in_port rule self.now.d.now self.now.f.now instance number port.now else None)) }
+    ) -> Option<Item>
+        ensures { result ≡ (if requires_at instance port.now.kind then in_port rule self.now.d.now self.now.f.now instance number port.now else None) }
     {
         if requires_at(instance, port.kind) {
             self.in_port(rule, instance, number, port)
         } else {
-            Ok(None)
+            None
         }
     }
 
     #[tactic(auto, using(crate::proofs::Firsts::first_more, crate::proofs::Firsts::first_here, crate::proofs::Firsts::first_none))]
-    fn in_ports(
-        &self,
-        rule: JoinRule,
-        instance: Option<u32>,
-        ports: &[Port],
-    ) -> Result<Option<End>, Memory>
-        ensures { IfOk result (λ end. end ≡ in_ports rule self.now.d.now self.now.f.now instance ports.now) }
+    fn in_ports(&self, rule: JoinRule, instance: Option<usize>, ports: &[Port]) -> Option<Item>
+        ensures { result ≡ in_ports rule self.now.d.now self.now.f.now instance ports.now }
     {
         for (number, port) in ports.iter().enumerate() {
-            if let Some(end) = self.in_requiring_port(rule, instance, number, port)? {
-                return Ok(Some(end));
+            if let Some(item) = self.in_requiring_port(rule, instance, number, port) {
+                return Some(item);
             }
         }
-        Ok(None)
+        None
     }
 
-    fn in_instance(
-        &self,
-        rule: JoinRule,
-        number: usize,
-        instance: &Instance,
-    ) -> Result<Option<End>, Memory>
-        ensures { IfOk result (λ end. end ≡ in_ports rule self.now.d.now self.now.f.now (Some number) (ports_of self.now.d.now (of_type.Component instance.now.component))) }
+    fn in_instance(&self, rule: JoinRule, number: usize, instance: &Instance) -> Option<Item>
+        ensures { result ≡ in_ports rule self.now.d.now self.now.f.now (Some number) (ports_of self.now.d.now (of_type.Component instance.now.component)) }
     {
         let ports = ports_of(self.d, PrototypeType::Component(instance.component));
-        self.in_ports(rule, Some(position(number)?), ports)
+        self.in_ports(rule, Some(number), ports)
     }
 
     #[tactic(auto, using(crate::proofs::Firsts::first_more, crate::proofs::Firsts::first_here, crate::proofs::Firsts::first_none))]
-    fn in_instances(&self, rule: JoinRule) -> Result<Option<End>, Memory>
-        ensures { IfOk result (λ end. end ≡ in_instances rule self.now.d.now self.now.f.now) }
+    fn in_instances(&self, rule: JoinRule) -> Option<Item>
+        ensures { result ≡ in_instances rule self.now.d.now self.now.f.now }
     {
         for (number, instance) in self.f.instances.items().iter().enumerate() {
-            if let Some(end) = self.in_instance(rule, number, instance)? {
-                return Ok(Some(end));
+            if let Some(item) = self.in_instance(rule, number, instance) {
+                return Some(item);
             }
         }
-        Ok(None)
+        None
     }
 
     /// The first required item that breaks the rule.
-    pub fn first_broken(&self, rule: JoinRule) -> Result<Option<End>, Memory>
-        ensures { IfOk result (λ end. end ≡ first_broken rule self.now.d.now self.now.f.now) }
+    pub fn first_broken(&self, rule: JoinRule) -> Option<Item>
+        ensures { result ≡ first_broken rule self.now.d.now self.now.f.now }
     {
-        match self.in_instances(rule)? {
-            Some(end) => Ok(Some(end)),
+        match self.in_instances(rule) {
+            Some(item) => Some(item),
             None => {
                 let root = PrototypeType::Composition(self.d.root);
                 self.in_ports(rule, None, ports_of(self.d, root))

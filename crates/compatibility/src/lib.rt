@@ -6,6 +6,7 @@ mod connectors;
 mod elements;
 mod groups;
 mod hints;
+mod item;
 mod items;
 mod judge;
 mod laws;

@@ -6,6 +6,7 @@ ghost use Rattle.plan_definitions.specs.Joins.{are_several, crowds, is_none, pro
 ghost use Rattle.compatibility.specs.declared.partners.Side.TheVariants as side;
 ghost use Rattle.compatibility.specs.Partners.{AreKept, key_of, other, own, same_key, with_one};
 
+use crate::item::Item;
 use flat_descriptions::{End, Join};
 use indexmap::IndexMap;
 use rte_text::Memory;
@@ -45,26 +46,34 @@ pub struct Partners {
     several: bool,
 }
 
-/// An end as a key of a map.
-pub type Key = (Option<u32>, u32, u32);
+/// An item as a key of a map.
+pub type Key = (Option<usize>, usize, usize);
+
+/// The key of an item.
+pub fn key_of(item: &Item) -> Key
+    ensures { result ≡ key_of item.now }
+{
+    (item.instance(), item.port(), item.element())
+}
 
 /// The key of an end.
-pub fn key_of(end: End) -> Key
+pub fn key_of_end(end: End) -> Key
     ensures { result ≡ key_of end }
 {
-    (end.instance, end.port, end.element)
+    let item = Item::of(end);
+    key_of(&item)
 }
 
 fn same_end(a: End, b: End) -> bool
     ensures { result ≡ same_end a b }
 {
-    key_of(a) == key_of(b)
+    key_of_end(a) == key_of_end(b)
 }
 
-fn kept_of(map: &IndexMap<Key, Partners>, end: End) -> Option<Partners>
-    ensures { result ≡ get same_key map.now (key_of end) }
+fn kept_of(map: &IndexMap<Key, Partners>, item: &Item) -> Option<Partners>
+    ensures { result ≡ get same_key map.now (key_of item.now) }
 {
-    map.get(&key_of(end)).copied()
+    map.get(&key_of(item)).copied()
 }
 
 fn with_one(kept: Option<Partners>, partner: End) -> Partners
@@ -85,8 +94,9 @@ fn with_one(kept: Option<Partners>, partner: End) -> Partners
 fn note(map: &mut IndexMap<Key, Partners>, end: End, partner: End) -> Result<(), Memory>
     ensures { OnOk result (Updates same_key map.old map.new (key_of end) (Some (with_one (get same_key map.old (key_of end)) partner))) }
 {
-    let kept = with_one(kept_of(map, end), partner);
-    map.insert(key_of(end), kept)?;
+    let item = Item::of(end);
+    let kept = with_one(kept_of(map, &item), partner);
+    map.insert(key_of(&item), kept)?;
     Ok(())
 }
 
@@ -125,8 +135,8 @@ impl Degrees<'_> {
     }
 
     /// Whether two provided ends or more are joined with a required one.
-    pub fn has_several_providers(&self, required: End) -> bool
-        ensures { result ≡ are_several (providers self.now.joins.now required) }
+    pub fn has_several_providers(&self, required: &Item) -> bool
+        ensures { result ≡ are_several (providers self.now.joins.now required.now) }
     {
         match kept_of(&self.of_required, required) {
             None => false,
@@ -135,15 +145,15 @@ impl Degrees<'_> {
     }
 
     /// Whether no provided end is joined with a required one.
-    pub fn has_no_provider(&self, required: End) -> bool
-        ensures { result ≡ is_none (providers self.now.joins.now required) }
+    pub fn has_no_provider(&self, required: &Item) -> bool
+        ensures { result ≡ is_none (providers self.now.joins.now required.now) }
     {
         kept_of(&self.of_required, required).is_none()
     }
 
     /// Whether two required ends or more are joined with a provided one.
-    pub fn has_several_requirers(&self, provided: End) -> bool
-        ensures { result ≡ are_several (requirers self.now.joins.now provided) }
+    pub fn has_several_requirers(&self, provided: &Item) -> bool
+        ensures { result ≡ are_several (requirers self.now.joins.now provided.now) }
     {
         match kept_of(&self.of_provided, provided) {
             None => false,
@@ -155,6 +165,8 @@ impl Degrees<'_> {
     pub fn crowds(&self, join: &Join) -> bool
         ensures { result ≡ crowds self.now.joins.now join.now }
     {
-        self.has_several_requirers(join.provided) && self.has_several_providers(join.required)
+        let provided = Item::of(join.provided);
+        let required = Item::of(join.required);
+        self.has_several_requirers(&provided) && self.has_several_providers(&required)
     }
 }
