@@ -2,11 +2,19 @@
 """Times whole runs of the program on descriptions and scripts that it makes.
 
     loads.py [CASE [SIZE]]
+    loads.py cores [CASE [SIZE]]
 
 Without a case each one is run at its size and at twice that. The functions below that take one number are the cases, and
-their first lines say what each is. The program is `./rte` at the top of the repository. For each run one line is printed:
-the case, its size, the lines of the trace, the seconds of the processor, the lines in one of these, and the peak of memory in
-MiB, which only GNU `time` can tell: where it is missing, that column is left out.
+their first lines say what each is. For each run one line is printed: the case, its size, the lines of the trace, the seconds of
+the processor, the lines in one of these, and the peak of memory in MiB, which only GNU `time` can tell: where it is missing, that
+column is left out.
+
+With `cores` the cases are the functions that take a number of cores and a size, and each one is run on 1, 2 and 4 cores: the same
+components and the same script, mapped otherwise. Printed are the case, the cores, the lines of the trace, the seconds by the clock
+(the least of five runs, without the reading of the description: what an empty script takes), the seconds of all processors in that
+run, the lines in one second by the clock, and these for 1 of the run on one core, which is one thread.
+
+The program is `./rte` at the top of the repository, or the one that the variable RTE names: the program itself starts sooner.
 """
 
 import json
@@ -16,10 +24,12 @@ import shutil
 import subprocess
 import sys
 import tempfile
+import time
 
 import make_description
 
 TOP = pathlib.Path(__file__).resolve().parent.parent
+PROGRAM = os.environ.get("RTE") or TOP / "rte"
 
 
 def port(kind, name):
@@ -406,6 +416,57 @@ def everything(size):
     return whole, "tick 10\nrun\n" * 10
 
 
+# ---- on several cores
+
+PAIRS = 4
+
+
+def paired(components, cores, shift, connected, events, script):
+    """Four pairs of these two components: the first of a pair on a core, the second on the core that is so many further."""
+    held = [{"shortName": f"{letter}{n}", "type": part["shortName"]} for n in range(PAIRS) for letter, part in zip("ab", components)]
+    tasks = [{"shortName": f"{letter}{n}", "core": (n + at) % cores} for n in range(PAIRS) for letter, at in (("A", 0), ("B", shift))]
+    joined = [connected(n) for n in range(PAIRS)]
+    placed = [mapped(f"{letter.lower()}{n}", event, f"{letter}{n}", 0) for n in range(PAIRS) for letter, event in zip("AB", events)]
+    return described(components, held, joined, cores, tasks, placed), script
+
+
+def chattering(cores, size, shift):
+    joined = lambda n: assembly([f"a{n}", "o"], [f"b{n}", "i"])
+    return paired([writer(size, 1), reader(size)], cores, shift, joined, "ED", "tick 1\nrun\n" * 250)
+
+
+def chatter_within(cores, size):
+    """Four writers and their readers, each pair on one core: one writes so many times, and the other reads as often."""
+    return chattering(cores, size, 0)
+
+
+def chatter_across(cores, size):
+    """As `chatter_within`, but the reader of each writer is on the next core."""
+    return chattering(cores, size, 1)
+
+
+def calls_between(cores, size):
+    """Four clients, each of which calls its own server on the next core so many times and waits for each answer."""
+    joined = lambda n: assembly([f"b{n}", "s"], [f"a{n}", "c"])
+    whole, script = paired([client(size), server(1)], cores, 1, joined, "EO", "tick 1\nrun\n" * 250)
+    whole["interfaces"].append(CALLS)
+    return whole, script
+
+
+def instances_on(cores, size):
+    """So many instances in pairs of a writer and its reader on the next core, one task a core, for 250 run lines."""
+    pairs = size // 2
+    held = [{"shortName": f"{letter}{n}", "type": letter.upper()} for letter in "wr" for n in range(pairs)]
+    joined = [assembly([f"w{n}", "o"], [f"r{n}", "i"]) for n in range(pairs)]
+    tasks = [{"shortName": f"T{n}", "core": n} for n in range(cores)]
+    events = [mapped(f"w{n}", "E", f"T{n % cores}", n) for n in range(pairs)]
+    events += [mapped(f"r{n}", "D", f"T{(n + 1) % cores}", pairs + n) for n in range(pairs)]
+    return described([writer(1, 1), reader(1)], held, joined, cores, tasks, events), "tick 1\nrun\n" * 250
+
+
+ON_CORES = {chatter_within: 500, chatter_across: 500, calls_between: 100, instances_on: 1000}
+
+
 CASES = {
     chatter: 250,
     fan: 500,
@@ -439,7 +500,7 @@ def measured(words, trace, peak):
     clock = shutil.which("time")
     before = [clock, "--quiet", "--format=%M", f"--output={peak}"] if clock else []
     with open(trace, "wb") as told:
-        child = subprocess.Popen([*before, TOP / "rte", *words], stdout=told)
+        child = subprocess.Popen([*before, PROGRAM, *words], stdout=told)
         _, status, used = os.wait4(child.pid, 0)
     kibibytes = peak.read_text().split()[-1] if clock else None
     return os.waitstatus_to_exitcode(status), used.ru_utime + used.ru_stime, int(kibibytes) / 1024 if kibibytes else None
@@ -461,7 +522,48 @@ def run(case, size):
     print(f"{case.__name__:12} {size:6} {lines:9} {seconds:8.2f} s {lines / seconds:12.0f} a second{memory}")
 
 
+def timed(folder, description, script, times):
+    """The least seconds by the clock of so many runs, the seconds of the processors in that run, and the lines of the trace."""
+    words = [folder / "description.json", folder / "script.txt"]
+    words[0].write_text(json.dumps(description, separators=(",", ":")))
+    words[1].write_text(script)
+    least = None
+    for _ in range(times):
+        begun = time.monotonic()
+        with open(folder / "trace.txt", "wb") as told:
+            child = subprocess.Popen([PROGRAM, "run", *words], stdout=told)
+            _, status, used = os.wait4(child.pid, 0)
+        seconds = time.monotonic() - begun
+        if status != 0:
+            sys.exit(f"the program ended with {os.waitstatus_to_exitcode(status)}: {(folder / 'trace.txt').read_bytes()[:200]!r}")
+        least = min(least or (seconds, 0), (seconds, used.ru_utime + used.ru_stime))
+    return *least, (folder / "trace.txt").read_bytes().count(b"\n")
+
+
+def run_on_cores(case, size):
+    """The case on 1, 2 and 4 cores."""
+    alone = None
+    for cores in (1, 2, 4):
+        description, script = case(cores, size)
+        with tempfile.TemporaryDirectory() as name:
+            reading, read, _ = timed(pathlib.Path(name), description, "", 5)
+            seconds, processors, lines = timed(pathlib.Path(name), description, script, 5)
+        rate = lines / (seconds - reading)
+        alone = alone or rate
+        print(
+            f"{case.__name__:15} {cores} cores {lines:9} {seconds - reading:8.3f} s {processors - read:8.3f} s of processors"
+            f" {rate:12.0f} a second {rate / alone:6.2f}",
+            flush=True,
+        )
+
+
 def main():
+    if sys.argv[1:2] == ["cores"]:
+        wanted = sys.argv[2:3] or [case.__name__ for case in ON_CORES]
+        for case, size in ON_CORES.items():
+            if case.__name__ in wanted:
+                run_on_cores(case, int(sys.argv[3]) if len(sys.argv) > 3 else size)
+        return
     if len(sys.argv) > 1:
         case = {c.__name__: c for c in CASES}[sys.argv[1]]
         run(case, int(sys.argv[2]) if len(sys.argv) > 2 else CASES[case])
