@@ -37,12 +37,21 @@ try() {
     fi
 }
 
-# The output has to be that of the example, unchanged.
+# Whether a trace is that of an example. The cores of a node take their turns in any order: then it is a legal one.
+is_of_example() {
+    if grep -q '"cores":1[,}]' "$1/description.json"; then
+        cmp -- "$2" "$1/expected.txt"
+    else
+        [ "$("$RTE" check "$1/description.json" "$2" "$1/script.txt" | tee /dev/stderr)" = legal ]
+    fi
+}
+
+# What the program prints has to come through unchanged.
 explain_passes_through() {
     local example
     for example in examples/*/; do
         tools/explain.py "$example/description.json" "$example/script.txt" >"$held/trace" || return 1
-        cmp -- "$held/trace" "$example/expected.txt" || return 1
+        is_of_example "$example" "$held/trace" || return 1
     done
 }
 

@@ -29,6 +29,10 @@ def description_of(folder: Path) -> Description:
     return described(json.loads(text_of(folder / "description.json")))
 
 
+def cores_of(folder: Path) -> int:
+    return json.loads(text_of(folder / "description.json"))["mapping"]["cores"]
+
+
 def trace_of(folder: Path) -> Trace:
     return read_trace(text_of(folder / "expected.txt").splitlines())
 

@@ -9,39 +9,19 @@ use crate::fault::Fault;
 use crate::notation::{HashSign, expanded};
 use crate::readings::{read_back, readings};
 use crate::row::Row;
-use crate::summary::{comparison, ends, last_with};
+use crate::runs::{Answer, Case, DESCRIPTION, SCRIPT, plan, run, run_and_check_often, words_of};
+use crate::summary::{comparison, ends, last_with, times_with};
 use bus_semantics::Version;
 use description_stages::{PlannedDescription, plan_description};
 use rte_program::{Status, rte_top};
-use rte_text::{Fetched, FileShelf, MemoryShelf, MemorySink, OpenGate, Refused, Shelf, StdSink};
-use std::alloc::{AllocError, Global};
+use rte_text::{Fetched, FileShelf, OpenGate, Refused, Shelf, StdSink};
+use std::alloc::AllocError;
 use std::rt::Files;
 use std::sync::Wait;
 use std::thread::Threads;
 use trace_reading::sound_plans_are_readable;
 
-/// How many bytes may be told in memory: 16 MiB.
-const ROOM: u64 = 16_777_216;
-
-const DESCRIPTION: &str = "description.json";
-
-const SCRIPT: &str = "script.txt";
-
 const EXPECTED: &str = "expected.txt";
-
-/// What a row shows, and the status of its command.
-#[derive(Drop)]
-pub struct Answer {
-    pub text: Vec<u8>,
-    pub status: Status,
-}
-
-/// The words between the blanks of a text.
-fn words_of(alloc: Global, text: &str) -> Result<Vec<String>, AllocError> {
-    text.split_ascii_whitespace()
-        .map(|word| String::from_str(alloc, word))
-        .try_collect(alloc)
-}
 
 /// The bytes of a folder's file.
 fn file<R: Files + AllocGlobal + Clone + Drop>(
@@ -71,32 +51,52 @@ fn run_words<R: Files + Print + AllocGlobal + Clone + Drop + Threads + Wait + Sy
     Ok(Answer { text, status })
 }
 
-/// Carries out the words over the description and the script in memory, and shows all that is told.
-fn tell<R: AllocGlobal + Threads + Wait + Sync>(
-    rt: &R,
-    words: &str,
-    description: Vec<u8>,
-    script: Vec<u8>,
-) -> Result<Answer, Fault> {
-    let alloc = rt.alloc();
-    let words = words_of(alloc, words)?;
-    let description = (String::from_str(alloc, DESCRIPTION)?, description);
-    let script = (String::from_str(alloc, SCRIPT)?, script);
-    let files = Vec::from_array(alloc, [description, script])?;
-    let mut shelf = MemoryShelf::new(files, Vec::new(alloc));
-    let mut out = MemorySink::new(alloc, ROOM, Vec::new(alloc))?;
-    let status = rte_top(rt, alloc, words.as_slice(), &mut shelf, &mut out, &OpenGate);
-    let text = Vec::from_slice(alloc, out.told())?;
-    Ok(Answer { text, status })
+/// The folder's description and script.
+fn own<R: Files + AllocGlobal + Clone + Drop>(rt: &R, folder: &str) -> Result<Case, Fault> {
+    let description = file(rt, folder, DESCRIPTION)?;
+    let script = file(rt, folder, SCRIPT)?;
+    Ok(Case {
+        description,
+        script,
+    })
 }
 
-/// Runs the script on the description in memory, and shows all that is told.
-fn run<R: AllocGlobal + Threads + Wait + Sync>(
+/// The folder's description, edited, and its script.
+fn changed<R: Files + AllocGlobal + Clone + Drop>(
     rt: &R,
-    description: Vec<u8>,
-    script: Vec<u8>,
-) -> Result<Answer, Fault> {
-    tell(rt, "run description.json script.txt", description, script)
+    folder: &str,
+    edits: &str,
+) -> Result<Case, Fault> {
+    let case = own(rt, folder)?;
+    let description = edited(rt.alloc(), case.description, edits)?;
+    Ok(Case {
+        description,
+        script: case.script,
+    })
+}
+
+/// The folder's description, and a script of this text.
+fn scripted<R: Files + AllocGlobal + Clone + Drop>(
+    rt: &R,
+    folder: &str,
+    text: &str,
+) -> Result<Case, Fault> {
+    let description = file(rt, folder, DESCRIPTION)?;
+    let script = expanded(rt.alloc(), text, HashSign::Number)?;
+    Ok(Case {
+        description,
+        script,
+    })
+}
+
+/// The description and the script that a row runs.
+fn case_of<R: Files + AllocGlobal + Clone + Drop>(rt: &R, row: &str) -> Result<Case, Fault> {
+    match Row::read(row) {
+        Some(Row::Expect(folder)) => own(rt, folder),
+        Some(Row::Change { folder, edits }) => changed(rt, folder, edits),
+        Some(Row::Script { folder, text }) => scripted(rt, folder, text),
+        _ => Err(Fault::NoRow),
+    }
 }
 
 /// The plan of a folder's description, which rules 1 to 30 accept.
@@ -149,27 +149,19 @@ pub fn carry_out<R: Files + Print + AllocGlobal + Clone + Drop + Threads + Wait 
     match row {
         Row::Words(words) => run_words(rt, words),
         Row::Expect(folder) => {
-            let description = file(rt, folder, DESCRIPTION)?;
-            let told = run(rt, description, file(rt, folder, SCRIPT)?)?;
+            let told = run(rt, &own(rt, folder)?)?;
             let expected = file(rt, folder, EXPECTED)?;
             let text = comparison(alloc, told.text.as_slice(), expected.as_slice())?;
             Ok(Answer { text, ..told })
         }
-        Row::Change { folder, edits } => {
-            let description = edited(alloc, file(rt, folder, DESCRIPTION)?, edits)?;
-            run(rt, description, file(rt, folder, SCRIPT)?)
-        }
+        Row::Change { folder, edits } => run(rt, &changed(rt, folder, edits)?),
         Row::Plan { folder, edits } => {
             let description = edited(alloc, file(rt, folder, DESCRIPTION)?, edits)?;
-            tell(rt, "plan description.json", description, Vec::new(alloc))
+            plan(rt, description.as_slice())
         }
-        Row::Script { folder, text } => {
-            let script = expanded(alloc, text, HashSign::Number)?;
-            run(rt, file(rt, folder, DESCRIPTION)?, script)
-        }
+        Row::Script { folder, text } => run(rt, &scripted(rt, folder, text)?),
         Row::Count { folder, text } => {
-            let script = expanded(alloc, text, HashSign::Number)?;
-            let told = run(rt, file(rt, folder, DESCRIPTION)?, script)?;
+            let told = run(rt, &scripted(rt, folder, text)?)?;
             let text = ends(alloc, told.text.as_slice())?;
             Ok(Answer { text, ..told })
         }
@@ -178,14 +170,30 @@ pub fn carry_out<R: Files + Print + AllocGlobal + Clone + Drop + Threads + Wait 
             piece,
             text,
         } => {
-            let script = expanded(alloc, text, HashSign::Number)?;
-            let told = run(rt, file(rt, folder, DESCRIPTION)?, script)?;
+            let told = run(rt, &scripted(rt, folder, text)?)?;
             let text = last_with(alloc, told.text.as_slice(), piece.as_bytes())?;
             Ok(Answer { text, ..told })
         }
+        Row::Times {
+            folder,
+            piece,
+            text,
+        } => {
+            let told = run(rt, &scripted(rt, folder, text)?)?;
+            let text = times_with(alloc, told.text.as_slice(), piece.as_bytes())?;
+            Ok(Answer { text, ..told })
+        }
+        Row::Legal { times, row } => run_and_check_often(rt, &case_of(rt, row)?, times),
         Row::Text(text) => {
             let description = expanded(alloc, text, HashSign::Number)?;
-            run(rt, description, Vec::new(alloc))
+            let script = Vec::new(alloc);
+            run(
+                rt,
+                &Case {
+                    description,
+                    script,
+                },
+            )
         }
         Row::Lines {
             folder,

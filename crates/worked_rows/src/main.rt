@@ -7,14 +7,17 @@
 mod carry;
 mod edit;
 mod fault;
+mod holds;
 mod notation;
 mod readings;
 mod row;
+mod runs;
 mod summary;
 
-use carry::{Answer, carry_out};
+use carry::carry_out;
 use fault::Fault;
 use row::Row;
+use runs::Answer;
 use std::io::{self, BufRead, BufReader, Write};
 use std::rt::Files;
 use std::sync::Wait;

@@ -3,6 +3,10 @@
 use bus_semantics::Version;
 
 /// A row of the table, as it is written. A folder has the files `description.json` and `script.txt`.
+///
+/// The cores of a node take their turns in any order. So if two of them may have something to do at once, `expect`, `change`, `script`,
+/// `count` and `last` would show one order of many: `legal` and `times` show what each order has.
+#[derive(Drop)]
 pub enum Row<'a> {
     /// `words W W ..` carries out these words over the real files and standard output.
     Words(&'a str),
@@ -34,6 +38,19 @@ pub enum Row<'a> {
         folder: &'a str,
         piece: &'a str,
         text: &'a str,
+    },
+    /// `times FOLDER PIECE ;; TEXT` has this text for the script, and shows in how many of the lines that are told the piece stands.
+    Times {
+        folder: &'a str,
+        piece: &'a str,
+        text: &'a str,
+    },
+    /// `legal N ROW` runs the description and the script of this row N times, and at least once, and shows what `check` says of the traces.
+    /// From the second run on the cores are held at random. The row is one of `expect`, `change` and `script`. If a run ends with another
+    /// status than 0 or its trace is refused, that is shown, and no more runs are made.
+    Legal {
+        times: u32,
+        row: &'a str,
     },
     /// `text TEXT` has this text for the description, and an empty script.
     Text(&'a str),
@@ -87,6 +104,19 @@ impl<'a> Row<'a> {
                     piece,
                     text,
                 })
+            }
+            "times" => {
+                let (piece, text) = text.split_once(" ;; ")?;
+                Some(Row::Times {
+                    folder,
+                    piece,
+                    text,
+                })
+            }
+            "legal" => {
+                let (times, row) = split_word(rest);
+                let times = times.parse().ok()?;
+                Some(Row::Legal { times, row })
             }
             "text" => Some(Row::Text(rest)),
             "lines" => {

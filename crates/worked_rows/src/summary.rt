@@ -51,6 +51,17 @@ pub fn last_with(alloc: Global, told: &[u8], piece: &[u8]) -> Result<Vec<u8>, Al
     Ok(text)
 }
 
+/// In how many lines the piece stands.
+pub fn times_with(alloc: Global, told: &[u8], piece: &[u8]) -> Result<Vec<u8>, AllocError> {
+    let mut count: u64 = 0;
+    for line in told.split(|byte| *byte == b'\n') {
+        if after(line, piece).is_some() {
+            count = count.saturating_add(1);
+        }
+    }
+    Vec::from_slice(alloc, format!(in alloc; "{count} times\n")?.as_bytes())
+}
+
 /// The lines of a text; after its last newline comes an empty one.
 fn lines_of(alloc: Global, text: &[u8]) -> Result<Vec<&[u8]>, AllocError> {
     text.split(|byte| *byte == b'\n').collect(alloc)
