@@ -22,10 +22,15 @@ use Rattle.composition_tables.specs.Counts.{IsCounted, count_in}
 use Rattle.composition_tables.specs.Ends.{ends, own_end, inner_ends, inner_ports, number_from, offset}
 use Rattle.flat_descriptions.specs.Paths.{type_in}
 use Rattle.composition_tables.specs.Inner.{port_of, AreInner}
-use Rattle.end_search.specs.Wishes.{end_from, AreFound, IsBelowPrototype, IsWanted, IsEnd, IsInnerEnd, IsKnown, Sought}
+use Rattle.end_search.specs.Wishes.{end_from, AreFound, IsBelowPrototype, IsCutBelow, IsWanted, IsEnd, IsInnerEnd, IsKnown, Sought}
 use Rattle.composition_tables.proofs.Following.{dead_spot, inner_is}
 use Rattle.composition_tables.proofs.Members.{left, at, flat, unflat}
 use Rattle.composition_tables.proofs.Stepping.{one_more}
+
+-- one of two searches is cut short
+pub cut_either : (limit : ℕ) (first second either : Bool) → either ≡ (first || second) → IsCutBelow limit first → IsCutBelow limit second → IsCutBelow limit either
+cut_either limit true second either is f s = λ _. f refl
+cut_either limit false second either is f s = λ e. s (sym is ∙ e)
 
 pub sought_one : (before after : List PortEnd) (end : PortEnd) (is_cut : Bool) → ((y : PortEnd) → Among y after ↔ (Among y before ⊎ (y ≡ end))) → Sought (λ x. x ≡ end) before after is_cut
 sought_one before after end is_cut more = record { sound = λ x h. (more x).0 h; stays = λ x h. (more x).1 (inl h); has = λ _ x h. (more x).1 (inr h) }

@@ -1,5 +1,5 @@
 -- Searches for the ends below ports, from composition to composition.
-use Rattle.std.specs.Prelude.{◌≡◌, ℕ, List, [], Bool, false, nat_eq, ◌⊎◌}
+use Rattle.std.specs.Prelude.{◌≡◌, ◌<◌, ℕ, List, [], Bool, true, false, nat_eq, ◌⊎◌}
 use Rattle.description_types.specs.declared.description.Description.{Description}
 use Rattle.description_types.specs.declared.description.PrototypeType.{PrototypeType}
 use Rattle.description_types.specs.declared.description.PrototypeType.TheVariants.{Composition}
@@ -43,6 +43,10 @@ pub record Sought (P : PortEnd → Type 0) (before after : List PortEnd) (is_cut
   pub sound : (x : PortEnd) → Among x after → Among x before ⊎ P x
   pub stays : (x : PortEnd) → Among x before → Among x after
   pub has : is_cut ≡ false → (x : PortEnd) → P x → Among x after
+
+-- A search is cut short past its limit alone, so with the greatest limit never: a number of ends is below 2^64.
+abbrev pub IsCutBelow : (limit : ℕ) → (is_cut : Bool) → Type 0
+IsCutBelow limit is_cut = is_cut ≡ true → limit < 18446744073709551615
 
 -- the ends below some ports of a composition are known
 abbrev pub IsKnown : Description → Wanted → Known → Type 0

@@ -1,10 +1,10 @@
 //! Ports from which delegations are followed.
 
-ghost use Rattle.std.specs.Prelude.{◌≡◌, ◌≤◌, ◌↔◌, [], ◌∷◌, IfOk, IfSome, Some};
+ghost use Rattle.std.specs.Prelude.{◌≡◌, ◌≤◌, ◌↔◌, [], ◌∷◌, false, IfOk, IfSome, Some};
 ghost use Rattle.std.specs.Option.{option_map_or};
 ghost use Rattle.end_search.specs.declared.seek.Wanted.{Wanted};
 ghost use Rattle.composition_tables.specs.Ends.{ends, inner_ends};
-ghost use Rattle.end_search.specs.Wishes.{AreFound};
+ghost use Rattle.end_search.specs.Wishes.{AreFound, IsCutBelow};
 ghost use Rattle.end_search.specs.Gates.{gate_ends, IsShallow, outer_ends};
 ghost use Rattle.composition_tables.specs.Trees.{IsTree};
 ghost use Rattle.description_types.specs.declared.description.Description.{Description};
@@ -113,11 +113,12 @@ pub fn narrowed(tree: &Tree, gate: Gate) -> Gate
     last
 }
 
-/// The ends at or below a gate that are wished for, each once.
+/// The ends at or below a gate that are wished for, each once. With the limit `usize::MAX` no search is cut short.
 pub fn ends_at(alloc: Global, tree: &Tree, gate: Gate, wish: &Wish) -> Result<Found, Memory>
     requires is_tree { IsTree tree.now }
     requires shallow { IsShallow gate }
-    ensures { IfOk result (AreFound wish.now.wanted (gate_ends tree.now.d.now gate)) }
+    ensures found { IfOk result (AreFound wish.now.wanted (gate_ends tree.now.d.now gate)) }
+    ensures cut { IfOk result (λ found. IsCutBelow wish.now.limit found.is_cut) }
 {
     match gate {
         Gate::Outer(port, interface) => {
@@ -136,7 +137,8 @@ pub fn ends_at(alloc: Global, tree: &Tree, gate: Gate, wish: &Wish) -> Result<Fo
 }
 
 fn one_end(alloc: Global, port: u32, interface: u32) -> Result<Found, Memory>
-    ensures { IfOk result (λ found. (w : Wanted) → AreFound w (outer_ends (Some interface) port) found) }
+    ensures found { IfOk result (λ found. (w : Wanted) → AreFound w (outer_ends (Some interface) port) found) }
+    ensures whole { IfOk result (λ found. found.is_cut ≡ false) }
 {
     let mut ends = IndexSet::new(alloc);
     let owner = Owner::Environment;

@@ -1,12 +1,12 @@
 //! The search for the ends below a port, from composition to composition.
 
-ghost use Rattle.std.specs.Prelude.{◌≡◌, ◌≤◌, ◌↔◌, ◌||◌, [], ◌∷◌, true, IfOk, OnOk, IsTrue};
+ghost use Rattle.std.specs.Prelude.{◌≡◌, ◌≤◌, ◌↔◌, ◌||◌, [], ◌∷◌, true, false, IfOk, OnOk, IsTrue};
 ghost use Rattle.description_types.specs.declared.description.Description.{Description};
 ghost use Rattle.end_search.specs.declared.seek.Wanted.{Wanted};
 ghost use Rattle.composition_tables.specs.declared.tree.PortEnd.{PortEnd};
 ghost use Rattle.composition_tables.specs.Ends.{ends};
 ghost use Rattle.flat_descriptions.specs.Growing.{AnyOf};
-ghost use Rattle.end_search.specs.Wishes.{end_from, AreFound, IsWanted, IsBelowPrototype, IsEnd, IsInnerEnd, IsKnown, Sought};
+ghost use Rattle.end_search.specs.Wishes.{end_from, AreFound, IsWanted, IsBelowPrototype, IsCutBelow, IsEnd, IsInnerEnd, IsKnown, Sought};
 ghost use Rattle.composition_tables.specs.Trees.{IsTree};
 
 use composition_tables::connectors::{interface_of, type_in};
@@ -62,14 +62,16 @@ fn is_wanted(wanted: &Wanted, interface: u32) -> bool
 
 /// Adds an end. The answer is whether there are more of them now than the limit; then the search is cut short.
 fn note_end(found: &mut IndexSet<PortEnd>, end: PortEnd, limit: usize) -> Result<bool, Memory>
-    ensures { IfOk result (Sought (λ x. x ≡ end) found.old.keys found.new.keys) }
+    ensures found { IfOk result (Sought (λ x. x ≡ end) found.old.keys found.new.keys) }
+    ensures cut { IfOk result (IsCutBelow limit) }
 {
     found.insert(end)?;
     Ok(found.len() > limit)
 }
 
 fn note_wanted(wish: &Wish, found: &mut IndexSet<PortEnd>, end: PortEnd) -> Result<bool, Memory>
-    ensures { IfOk result (Sought (λ x. (x ≡ end) × IsWanted wish.now.wanted x.interface) found.old.keys found.new.keys) }
+    ensures found { IfOk result (Sought (λ x. (x ≡ end) × IsWanted wish.now.wanted x.interface) found.old.keys found.new.keys) }
+    ensures cut { IfOk result (IsCutBelow wish.now.limit) }
 {
     if !is_wanted(&wish.wanted, end.interface) {
         return Ok(false);
@@ -87,7 +89,8 @@ pub fn note_port(
     wish: &Wish,
     found: &mut IndexSet<PortEnd>,
 ) -> Result<bool, Memory>
-    ensures { IfOk result (Sought (IsEnd tree.now.d.now wish.now.wanted 0 (PrototypeType.Component component) first port) found.old.keys found.new.keys) }
+    ensures found { IfOk result (Sought (IsEnd tree.now.d.now wish.now.wanted 0 (PrototypeType.Component component) first port) found.old.keys found.new.keys) }
+    ensures cut { IfOk result (IsCutBelow wish.now.limit) }
 {
     match interface_of(tree.d, PrototypeType::Component(component), port) {
         Some(interface) => {
@@ -115,7 +118,8 @@ fn note_ports(
     wish: &Wish,
     found: &mut IndexSet<PortEnd>,
 ) -> Result<bool, Memory>
-    ensures { IfOk result (Sought (AnyOf (IsEnd tree.now.d.now wish.now.wanted 0 (PrototypeType.Component component) first) ports.now) found.old.keys found.new.keys) }
+    ensures found { IfOk result (Sought (AnyOf (IsEnd tree.now.d.now wish.now.wanted 0 (PrototypeType.Component component) first) ports.now) found.old.keys found.new.keys) }
+    ensures cut { IfOk result (IsCutBelow wish.now.limit) }
 {
     for port in ports {
         if note_port(tree, component, first, *port, wish, found)? {
@@ -141,7 +145,8 @@ fn note_moved(
     limit: usize,
     found: &mut IndexSet<PortEnd>,
 ) -> Result<bool, Memory>
-    ensures { IfOk result (Sought (λ x. x ≡ end_from first end) found.old.keys found.new.keys) }
+    ensures found { IfOk result (Sought (λ x. x ≡ end_from first end) found.old.keys found.new.keys) }
+    ensures cut { IfOk result (IsCutBelow limit) }
 {
     let is_cut = note_end(found, end_from(first, end), limit)?;
     Ok(is_cut)
@@ -154,7 +159,8 @@ pub fn note_all_moved(
     limit: usize,
     found: &mut IndexSet<PortEnd>,
 ) -> Result<bool, Memory>
-    ensures { IfOk result (Sought (AnyOf (λ (y : PortEnd) x. x ≡ end_from first y) ends.now) found.old.keys found.new.keys) }
+    ensures found { IfOk result (Sought (AnyOf (λ (y : PortEnd) x. x ≡ end_from first y) ends.now) found.old.keys found.new.keys) }
+    ensures cut { IfOk result (IsCutBelow limit) }
 {
     for end in ends {
         if note_moved(first, *end, limit, found)? {
@@ -165,7 +171,8 @@ pub fn note_all_moved(
 }
 
 fn nothing_known(alloc: Global) -> Known
-    ensures { (d : Description) (w : Wanted) → IsKnown d w result }
+    ensures known { (d : Description) (w : Wanted) → IsKnown d w result }
+    ensures whole { result.is_cut ≡ false }
 {
     Known {
         depth: 0,
@@ -214,7 +221,9 @@ fn seek_known(
     requires is_tree { IsTree tree.now }
     requires within { depth ≤ 8 }
     requires known { IsKnown tree.now.d.now wish.now.wanted known.old }
+    requires cut { IsCutBelow wish.now.limit known.old.is_cut }
     ensures known { OnOk result (IsKnown tree.now.d.now wish.now.wanted known.new) }
+    ensures cut { OnOk result (IsCutBelow wish.now.limit known.new.is_cut) }
     ensures depth { OnOk result (known.new.depth ≡ depth) }
     ensures composition { OnOk result (known.new.composition ≡ composition) }
     ensures ports { OnOk result (known.new.ports.items ≡ ports.now) }
@@ -250,8 +259,11 @@ fn seek_inner(
     requires is_tree { IsTree tree.now }
     requires within { depth ≤ 8 }
     requires known { IsKnown tree.now.d.now wish.now.wanted known.old }
+    requires cut { IsCutBelow wish.now.limit known.old.is_cut }
     ensures known { OnOk result (IsKnown tree.now.d.now wish.now.wanted known.new) }
+    ensures cut { OnOk result (IsCutBelow wish.now.limit known.new.is_cut) }
     ensures found { IfOk result (Sought (AnyOf (IsInnerEnd tree.now.d.now wish.now.wanted depth composition prototype) ports.now) found.old.keys found.new.keys) }
+    ensures answer { IfOk result (IsCutBelow wish.now.limit) }
 {
     match type_in(tree.d, composition, prototype) {
         Some(PrototypeType::Component(component)) => {
@@ -285,7 +297,8 @@ fn seek_prototypes(
 ) -> Result<bool, Memory>
     requires is_tree { IsTree tree.now }
     requires within { depth ≤ 8 }
-    ensures { IfOk result (Sought (AnyOf (IsBelowPrototype tree.now.d.now wish.now.wanted depth composition inner.now) inner.now.prototypes.keys) found.old.keys found.new.keys) }
+    ensures found { IfOk result (Sought (AnyOf (IsBelowPrototype tree.now.d.now wish.now.wanted depth composition inner.now) inner.now.prototypes.keys) found.old.keys found.new.keys) }
+    ensures cut { IfOk result (IsCutBelow wish.now.limit) }
 {
     let mut known = nothing_known(alloc);
     for prototype in inner.prototypes.as_slice() {
@@ -321,7 +334,8 @@ fn seek(
 ) -> Result<bool, Memory>
     requires is_tree { IsTree tree.now }
     requires within { depth ≤ 8 }
-    ensures { IfOk result (Sought (AnyOf (IsEnd tree.now.d.now wish.now.wanted depth (PrototypeType.Composition composition) 0) ports.now) found.old.keys found.new.keys) }
+    ensures found { IfOk result (Sought (AnyOf (IsEnd tree.now.d.now wish.now.wanted depth (PrototypeType.Composition composition) 0) ports.now) found.old.keys found.new.keys) }
+    ensures cut { IfOk result (IsCutBelow wish.now.limit) }
 {
     if depth == 0 {
         return Ok(false);
@@ -340,7 +354,8 @@ pub fn ends_of_instance(
     port: u32,
     wish: &Wish,
 ) -> Result<Found, Memory>
-    ensures { IfOk result (AreFound wish.now.wanted (ends tree.now.d.now 0 (PrototypeType.Component component) first port)) }
+    ensures found { IfOk result (AreFound wish.now.wanted (ends tree.now.d.now 0 (PrototypeType.Component component) first port)) }
+    ensures cut { IfOk result (λ found. IsCutBelow wish.now.limit found.is_cut) }
 {
     let mut ends = IndexSet::new(alloc);
     let is_cut = note_port(tree, component, first, port, wish, &mut ends)?;
@@ -367,7 +382,8 @@ pub fn ends_below(
 ) -> Result<Found, Memory>
     requires is_tree { IsTree tree.now }
     requires within { depth ≤ 8 }
-    ensures { IfOk result (AreFound wish.now.wanted (ends tree.now.d.now depth (PrototypeType.Composition composition) first port)) }
+    ensures found { IfOk result (AreFound wish.now.wanted (ends tree.now.d.now depth (PrototypeType.Composition composition) first port)) }
+    ensures cut { IfOk result (λ found. IsCutBelow wish.now.limit found.is_cut) }
 {
     let ports = one_port(alloc, port)?;
     let mut near = IndexSet::new(alloc);

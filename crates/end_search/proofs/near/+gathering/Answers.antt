@@ -18,7 +18,7 @@ gather_inner-start_of-start-requires-in-Some-Composition-clause-declared t c = t
 
 pub gather_inner-returns-in_ok-is_cut-in-Some-Component-clause-found : goal.gather_inner-returns-in_ok-is_cut-in-Some-Component-clause-found
 gather_inner-returns-in_ok-is_cut-in-Some-Component-clause-found t c = sought_inner c.args.tree.now.d.now c.args.wish.now.wanted c.args.depth c.args.composition c.args.inner.prototype c.start_of-start.result (Component c.in-Some-Component.component)
-    (sym c.type_in.ensures ∙ c.in-Some-Component.is ∙ ap (λ u. Some u) c.in-Some-Component.field-0-is) c.start_of-start.ensures c.args.inner.port c.args.found.now.keys c.note_port.new.found.keys c.in_ok-is_cut-in-Some-Component.is_cut c.in_ok-is_cut-in-Some-Component.ensures
+    (sym c.type_in.ensures ∙ c.in-Some-Component.is ∙ ap (λ u. Some u) c.in-Some-Component.field-0-is) c.start_of-start.ensures c.args.inner.port c.args.found.now.keys c.note_port.new.found.keys c.in_ok-is_cut-in-Some-Component.is_cut c.in_ok-is_cut-in-Some-Component.ensures.found
 
 pub gather_inner-returns-then-count_below-eq0-clause-found : goal.gather_inner-returns-then-count_below-eq0-clause-found
 gather_inner-returns-then-count_below-eq0-clause-found t c = sought_single (IsInnerEnd c.args.tree.now.d.now c.args.wish.now.wanted c.args.depth c.args.composition c.args.inner.prototype) c.args.inner.port c.args.found.now.keys _ _

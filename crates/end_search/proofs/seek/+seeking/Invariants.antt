@@ -1,11 +1,12 @@
 use Rattle.std.proofs.Common.{◌*◌, ◌+◌, take, false}
 use Rattle.flat_descriptions.specs.Growing.{AnyOf}
-use Rattle.end_search.specs.Wishes.{IsBelowPrototype, IsKnown, Sought}
+use Rattle.end_search.specs.Wishes.{IsBelowPrototype, IsCutBelow, IsKnown, Sought}
 use Rattle.end_search.proofs.seek.+seeking.Given as goal
 
 abbrev pub invariant-seek_prototypes-loop-prototype : goal.invariant-seek_prototypes-loop-prototype
 invariant-seek_prototypes-loop-prototype l = record {
   known : IsKnown l.tree.d.now l.wish.wanted l.known;
+  cut : IsCutBelow l.wish.limit l.known.is_cut;
   sought : Sought (AnyOf (IsBelowPrototype l.tree.d.now l.wish.wanted l.depth l.composition l.inner) (take l.prototype-index l.prototype-items)) l.fn.found.keys l.found.keys false;
 }
 
