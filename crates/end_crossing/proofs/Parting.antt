@@ -1,5 +1,5 @@
 -- Links of some of the ports, or of all that matter.
-use Rattle.std.proofs.Common.{◌≡◌, ℕ, List, Bool, true, false, nat_eq, Vec, Option, None, ◌⊎◌, inl, inr, ⊎_elim, true≢false, refl, subst}
+use Rattle.std.proofs.Common.{◌≡◌, ◌<◌, ℕ, List, Bool, true, false, nat_eq, Vec, Option, Some, None, ◌⊎◌, inl, inr, ⊎_elim, true≢false, refl, subst}
 use Rattle.std.specs.Global.{Global}
 use Rattle.std.specs.HashMap.{HashMap, get}
 use Rattle.std.specs.Prelude.{IfNone}
@@ -7,11 +7,18 @@ use Rattle.description_types.specs.declared.description.Description.{Description
 use Rattle.composition_tables.specs.declared.links.Link.{Link}
 use Rattle.composition_tables.specs.declared.tree.PortEnd.{PortEnd}
 use Rattle.flat_descriptions.specs.Growing.{AnyOf, Grown}
+use Rattle.end_search.specs.Wishes.{IsCutBelow}
 use Rattle.end_crossing.specs.PortLinks.{IsCrossLink}
 use Rattle.end_crossing.specs.Crossings.{HasPairs, IsBetween, IsPart}
 use Rattle.flat_descriptions.specs.Members.{Among}
 use Rattle.composition_tables.specs.Multi.{under}
 use Rattle.composition_tables.proofs.Growth.{grown_same, past_weaker}
+
+-- no search of two is cut short where neither has a limit
+pub cut_found : (answer : Option Bool) (limit : ℕ) (first second : Bool) → IsCutBelow limit first → IsCutBelow limit second → IfNone answer ((first ≡ true) ⊎ (second ≡ true))
+    → IfNone answer (limit < 18446744073709551615)
+cut_found None limit first second f s h = ⊎_elim f s h
+cut_found (Some b) limit first second f s h = h
 
 module _ {X : Type 0} where
   pub grown_part : (P Q : X → Type 0) (before after : List X) → ((x : X) → P x → Q x) → Grown P before after true → Grown Q before after true

@@ -1,5 +1,5 @@
 -- What is kept of the joined items of interfaces and of what is below gates, and the links that this adds.
-use Rattle.std.specs.Prelude.{◌≡◌, ◌⊎◌, ◌&&◌, ℕ, List, Bool, nat_eq, Some, Vec}
+use Rattle.std.specs.Prelude.{◌≡◌, ◌⊎◌, ◌&&◌, ℕ, List, Bool, false, nat_eq, Some, Vec}
 use Rattle.std.specs.Global.{Global}
 use Rattle.description_types.specs.declared.description.Description.{Description}
 use Rattle.indexmap.specs.IndexMap.{IndexMap, get}
@@ -8,6 +8,7 @@ use Rattle.end_crossing.specs.declared.crossings.Crossing.TheVariants.{Gates, Ro
 use Rattle.end_search.specs.declared.gates.Gate.{Gate}
 use Rattle.composition_tables.specs.declared.links.Link.{Link}
 use Rattle.end_crossing.specs.declared.matched.Matched.{Matched}
+use Rattle.end_search.specs.declared.seek.Found.{Found}
 use Rattle.end_search.specs.declared.seek.Wanted.TheVariants.{Anything}
 use Rattle.end_search.specs.declared.sides.Side.{Side}
 use Rattle.composition_tables.specs.declared.tree.PortEnd.{PortEnd}
@@ -33,6 +34,16 @@ pub record IsMatched (d : Description) (m : Matched) : Type 0 where
 -- wherever items of two of these ports are joined, their interfaces are one of the pairs
 abbrev pub HasPairs : Description → List PortEnd → List PortEnd → List (ℕ × ℕ) → Type 0
 HasPairs d provided required pairs = (p r : PortEnd) → Among p provided → Among r required → (i j : ℕ) → ItemsJoin (interface_at d p.interface) (interface_at d r.interface) i j → Among (p.interface, r.interface) pairs
+
+-- only ends below a gate were found, and all whose interface is the provided one of a pair unless the search was cut short
+pub record AreFirsts (d : Description) (gate : Gate) (pairs : List (ℕ × ℕ)) (found : Found) : Type 0 where
+  pub sound : (x : PortEnd) → Among x found.ends.keys → Among x (gate_ends d gate)
+  pub whole : found.is_cut ≡ false → (x : PortEnd) → Among x (gate_ends d gate) → (r : ℕ) → Among (x.interface, r) pairs → Among x found.ends.keys
+
+-- the same of the required one
+pub record AreSeconds (d : Description) (gate : Gate) (pairs : List (ℕ × ℕ)) (found : Found) : Type 0 where
+  pub sound : (x : PortEnd) → Among x found.ends.keys → Among x (gate_ends d gate)
+  pub whole : found.is_cut ≡ false → (x : PortEnd) → Among x (gate_ends d gate) → (p : ℕ) → Among (p, x.interface) pairs → Among x found.ends.keys
 
 -- a link of a provided port of the one interface and a required one of the other
 abbrev pub IsBetween : {S T : Type 0} → Description → IndexMap ℕ (Vec PortEnd Global) S → IndexMap ℕ (Vec PortEnd Global) T → ℕ × ℕ → Link → Type 0

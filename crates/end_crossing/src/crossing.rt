@@ -1,11 +1,12 @@
 //! Links of the ports below two gates.
 
-ghost use Rattle.std.specs.Prelude.{◌≡◌, ℕ, IfOk, IfSome, IfNone, OnOk};
+ghost use Rattle.std.specs.Prelude.{◌≡◌, ◌<◌, ◌⊎◌, ℕ, true, IfOk, IfSome, IfNone, OnOk};
 ghost use Rattle.end_search.specs.Gates.{gate_ends, IsShallow};
 ghost use Rattle.flat_descriptions.specs.Growing.{Grown};
 ghost use Rattle.end_crossing.specs.PortLinks.{IsCrossLink};
-ghost use Rattle.end_crossing.specs.Crossings.{HasPairs, IsAdding, IsPart};
-ghost use Rattle.end_search.specs.Sides.{IsSide};
+ghost use Rattle.end_crossing.specs.Crossings.{AreFirsts, AreSeconds, HasPairs, IsAdding, IsPart};
+ghost use Rattle.end_search.specs.Sides.{HasInterface, IsSide};
+ghost use Rattle.end_search.specs.Wishes.{IsCutBelow};
 ghost use Rattle.flat_descriptions.specs.Members.{Among};
 ghost use Rattle.composition_tables.specs.Trees.{IsTree};
 
@@ -15,12 +16,13 @@ use crate::matched::Matched;
 use crate::rows::add_known;
 use composition_tables::links::{LINK_LIMIT, Link};
 use composition_tables::tree::Tree;
+use description_types::Description;
 use end_search::gates::{Gate, ends_at};
-use end_search::seek::{Wanted, Wish};
+use end_search::seek::{Found, Wanted, Wish};
 use end_search::sides::Side;
 use indexmap::IndexSet;
 use rte_text::Memory;
-use std::alloc::{AllocError, Global};
+use std::alloc::Global;
 use std::collections::BTreeSet;
 
 fn note_interface(interface: u32, found: &mut IndexSet<u32>) -> Result<(), Memory>
@@ -53,9 +55,94 @@ fn seconds_of(alloc: Global, pairs: &[(u32, u32)]) -> Result<IndexSet<u32>, Memo
     Ok(found)
 }
 
+/// The ends below a gate whose interfaces are provided ones of pairs, after a search that is cut short past a limit.
+fn firsts_below(
+    alloc: Global,
+    tree: &Tree,
+    gate: Gate,
+    pairs: &[(u32, u32)],
+    limit: usize,
+) -> Result<Found, Memory>
+    requires is_tree { IsTree tree.now }
+    requires shallow { IsShallow gate }
+    ensures found { IfOk result (AreFirsts tree.now.d.now gate pairs.now) }
+    ensures cut { IfOk result (λ found. IsCutBelow limit found.is_cut) }
+{
+    let wish = Wish {
+        wanted: Wanted::Only(firsts_of(alloc, pairs)?),
+        limit,
+    };
+    let found = ends_at(alloc, tree, gate, &wish)?;
+    Ok(found)
+}
+
+/// The ends below a gate whose interfaces are required ones of pairs, after a search that is cut short past a limit.
+fn seconds_below(
+    alloc: Global,
+    tree: &Tree,
+    gate: Gate,
+    pairs: &[(u32, u32)],
+    limit: usize,
+) -> Result<Found, Memory>
+    requires is_tree { IsTree tree.now }
+    requires shallow { IsShallow gate }
+    ensures found { IfOk result (AreSeconds tree.now.d.now gate pairs.now) }
+    ensures cut { IfOk result (λ found. IsCutBelow limit found.is_cut) }
+{
+    let wish = Wish {
+        wanted: Wanted::Only(seconds_of(alloc, pairs)?),
+        limit,
+    };
+    let found = ends_at(alloc, tree, gate, &wish)?;
+    Ok(found)
+}
+
+/// Adds the links of the ports that were found below two gates. The answer is whether there are more links now than the limit
+/// on them; none where a search was cut short, and that is not known yet.
+fn cross_found(
+    alloc: Global,
+    d: &Description,
+    provided: Gate,
+    required: Gate,
+    pairs: &[(u32, u32)],
+    first: &Found,
+    second: &Found,
+    matched: &mut Matched,
+    links: &mut BTreeSet<Link>,
+) -> Result<Option<bool>, Memory>
+    requires first { AreFirsts d.now provided pairs.now first.now }
+    requires second { AreSeconds d.now required pairs.now second.now }
+    requires matched { IsAdding d.now matched.old links.old.keys }
+    requires pairs { HasPairs d.now (gate_ends d.now provided) (gate_ends d.now required) pairs.now }
+    ensures matched { OnOk result (IsAdding d.now matched.new links.new.keys) }
+    ensures grown { IfOk result (λ answer. IfSome answer (Grown (IsCrossLink d.now (gate_ends d.now provided) (gate_ends d.now required)) links.old.keys links.new.keys)) }
+    ensures part { IfOk result (λ answer. IfNone answer (IsPart (IsCrossLink d.now (gate_ends d.now provided) (gate_ends d.now required)) links.old.keys links.new.keys)) }
+    ensures cut { IfOk result (λ answer. IfNone answer ((first.now.is_cut ≡ true) ⊎ (second.now.is_cut ≡ true))) }
+{
+    let is_full = cross(
+        alloc,
+        d,
+        first.ends.as_slice(),
+        second.ends.as_slice(),
+        pairs,
+        matched,
+        links,
+    )?;
+    if is_full {
+        return Ok(Some(true));
+    }
+    if first.is_cut {
+        return Ok(None);
+    }
+    if second.is_cut {
+        return Ok(None);
+    }
+    Ok(Some(false))
+}
+
 /// Adds the links of the ports below two gates, given which pairs of their interfaces share an item, after searches that
 /// are cut short past a limit. The answer is whether there are more links now than the limit on them; none where that is not
-/// known yet.
+/// known yet, which never is with the limit `usize::MAX`.
 fn add_within(
     alloc: Global,
     tree: &Tree,
@@ -74,35 +161,14 @@ fn add_within(
     ensures matched { OnOk result (IsAdding tree.now.d.now matched.new links.new.keys) }
     ensures grown { IfOk result (λ answer. IfSome answer (Grown (IsCrossLink tree.now.d.now (gate_ends tree.now.d.now provided) (gate_ends tree.now.d.now required)) links.old.keys links.new.keys)) }
     ensures part { IfOk result (λ answer. IfNone answer (IsPart (IsCrossLink tree.now.d.now (gate_ends tree.now.d.now provided) (gate_ends tree.now.d.now required)) links.old.keys links.new.keys)) }
+    ensures cut { IfOk result (λ answer. IfNone answer (limit < 18446744073709551615)) }
 {
-    let firsts = firsts_of(alloc, pairs)?;
-    let seconds = seconds_of(alloc, pairs)?;
-    let first_wish = Wish {
-        wanted: Wanted::Only(firsts),
-        limit,
-    };
-    let second_wish = Wish {
-        wanted: Wanted::Only(seconds),
-        limit,
-    };
-    let first = ends_at(alloc, tree, provided, &first_wish)?;
-    let second = ends_at(alloc, tree, required, &second_wish)?;
-    let is_full = cross(
-        alloc,
-        tree.d,
-        first.ends.as_slice(),
-        second.ends.as_slice(),
-        pairs,
-        matched,
-        links,
+    let first = firsts_below(alloc, tree, provided, pairs, limit)?;
+    let second = seconds_below(alloc, tree, required, pairs, limit)?;
+    let answer = cross_found(
+        alloc, tree.d, provided, required, pairs, &first, &second, matched, links,
     )?;
-    if is_full {
-        return Ok(Some(true));
-    }
-    if first.is_cut || second.is_cut {
-        return Ok(None);
-    }
-    Ok(Some(false))
+    Ok(answer)
 }
 
 /// Adds the links of the ports below two gates, given which pairs of their interfaces share an item, however many ports
@@ -135,7 +201,7 @@ fn add_whole(
         links,
     )? {
         Some(is_full) => Ok(is_full),
-        None => Err(AllocError),
+        None => unreachable!(),
     }
 }
 
@@ -208,6 +274,46 @@ fn add_cut(
     Ok(is_full)
 }
 
+/// Finds all ends below the gate of a side whose interfaces are provided ones of pairs. The answer is whether they are at
+/// hand now.
+fn complete_firsts(
+    alloc: Global,
+    tree: &Tree,
+    gate: Gate,
+    pairs: &[(u32, u32)],
+    side: &mut Side,
+) -> Result<bool, Memory>
+    requires is_tree { IsTree tree.now }
+    requires shallow { IsShallow gate }
+    requires side { IsSide tree.now.d.now gate side.old }
+    ensures side { OnOk result (IsSide tree.now.d.now gate side.new) }
+    ensures has { IfOk result (λ answer. answer ≡ true → (k : ℕ × ℕ) → Among k pairs.now → HasInterface side.new k.0) }
+{
+    let firsts = firsts_of(alloc, pairs)?;
+    let has_firsts = complete_all(alloc, tree, gate, firsts.as_slice(), side)?;
+    Ok(has_firsts)
+}
+
+/// Finds all ends below the gate of a side whose interfaces are required ones of pairs. The answer is whether they are at
+/// hand now.
+fn complete_seconds(
+    alloc: Global,
+    tree: &Tree,
+    gate: Gate,
+    pairs: &[(u32, u32)],
+    side: &mut Side,
+) -> Result<bool, Memory>
+    requires is_tree { IsTree tree.now }
+    requires shallow { IsShallow gate }
+    requires side { IsSide tree.now.d.now gate side.old }
+    ensures side { OnOk result (IsSide tree.now.d.now gate side.new) }
+    ensures has { IfOk result (λ answer. answer ≡ true → (k : ℕ × ℕ) → Among k pairs.now → HasInterface side.new k.1) }
+{
+    let seconds = seconds_of(alloc, pairs)?;
+    let has_seconds = complete_all(alloc, tree, gate, seconds.as_slice(), side)?;
+    Ok(has_seconds)
+}
+
 /// Adds the links of the ports below two gates, given which pairs of their interfaces share an item.
 fn add_shared(
     alloc: Global,
@@ -232,10 +338,8 @@ fn add_shared(
     ensures matched { OnOk result (IsAdding tree.now.d.now matched.new links.new.keys) }
     ensures grown { IfOk result (λ is_full. Grown (IsCrossLink tree.now.d.now (gate_ends tree.now.d.now provided) (gate_ends tree.now.d.now required)) links.old.keys links.new.keys is_full) }
 {
-    let firsts = firsts_of(alloc, pairs)?;
-    let seconds = seconds_of(alloc, pairs)?;
-    let has_firsts = complete_all(alloc, tree, provided, firsts.as_slice(), first)?;
-    let has_seconds = complete_all(alloc, tree, required, seconds.as_slice(), second)?;
+    let has_firsts = complete_firsts(alloc, tree, provided, pairs, first)?;
+    let has_seconds = complete_seconds(alloc, tree, required, pairs, second)?;
     if has_firsts && has_seconds {
         let is_full = add_known(
             alloc,
