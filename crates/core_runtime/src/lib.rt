@@ -4,6 +4,7 @@
 mod alone;
 mod callers;
 mod environment;
+mod guessing;
 mod live;
 mod machines;
 mod making;

@@ -59,7 +59,15 @@ impl Node {
             entries,
         } = live;
         let changing = Changing { cores, objects };
-        match run_together(rt, alloc, &self.plan, &self.bodies, changing, gate) {
+        match run_together(
+            rt,
+            alloc,
+            &self.plan,
+            &self.bodies,
+            changing,
+            &self.guesses,
+            gate,
+        ) {
             Together::Ran(changing, made) => {
                 let Changing { cores, objects } = changing;
                 watch.wake_all(cores.as_slice());

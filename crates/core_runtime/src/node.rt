@@ -7,10 +7,12 @@ ghost use Rattle.task_generator.specs.Promise.{AsksAsPlanned};
 ghost use Rattle.core_runtime.specs.Nodes.{IsLawfulNode};
 
 use crate::Memory;
+use crate::guessing::guesses_of;
 use crate::live::Live;
 use crate::making::cores_of;
 use crate::watch::Watch;
 use bus_semantics::{BusPlan, Mapping, Stamped};
+use core_lanes::Guesses;
 use port_objects::{make_objects, sound_plans_have_objects};
 use std::alloc::Global;
 use std::marker::Model;
@@ -24,6 +26,8 @@ pub struct Node {
     pub(crate) mapping: Mapping,
     pub(crate) bodies: TaskSet,
     pub(crate) live: Live,
+    /// Where its cores look first, if they run at the same time. Nothing that is promised rests on it.
+    pub(crate) guesses: Guesses,
 }
 
 impl Model for Node {
@@ -60,6 +64,7 @@ impl Node {
         let objects = make_objects(alloc, &p)?;
         let cores = cores_of(alloc, &p, &m, &t)?;
         let watch = Watch::new(alloc, &p, cores.as_slice())?;
+        let guesses = guesses_of(alloc, &p, objects.as_slice(), &watch)?;
         Ok(Node {
             plan: p,
             mapping: m,
@@ -70,6 +75,7 @@ impl Node {
                 watch,
                 entries: Vec::new(alloc),
             },
+            guesses,
         })
     }
 
