@@ -5,22 +5,23 @@ ghost use Rattle.bus_semantics.specs.Objects.{touched_by, IsObject};
 ghost use Rattle.bus_semantics.specs.Plan.{plan_of};
 ghost use Rattle.core_turn.specs.Awake.{Fits};
 
-use bus_semantics::{BusPlan, Stamped};
+use bus_semantics::{BusPlan, Deed, Entry, Stamped};
 use core_turn::{Awake, Core};
 use port_objects::touched_object;
 use std::alloc::{AllocError, Global};
 
-/// A place of an event in a task of a core.
+/// A place of an event in a task of a core, or a mode machine of core 0.
 #[derive(Clone, Copy)]
 pub struct Spot {
-    /// The place of the task among those of the core.
+    /// The place of the task or machine among those of the core.
     pub slot: usize,
-    /// The place of the event among those of the task.
-    pub place: usize,
+    /// The place of the event among those of the task; a machine has none.
+    pub place: Option<usize>,
 }
 
-/// For each core, and on it for each object, by number: where the events stand that an entry at the object may start, and those of
-/// callers that wait for its answer (SWS_RTE: runnable activation). A guess: it spares a core looks, and no entry rests on it.
+/// For each core, and on it for each object, by number: where the events stand that an entry at the object may start, those of callers that
+/// wait for its answer (SWS_RTE: runnable activation), and the mode machine that it is (SWS_RTE: mode switch procedure). A guess: it
+/// spares a core looks, and no entry rests on it.
 #[derive(Drop)]
 pub struct Guesses {
     cores: Vec<Vec<Vec<Spot>>>,
@@ -33,6 +34,31 @@ fn no_spots(alloc: Global, objects: usize) -> Result<Vec<Vec<Spot>>, AllocError>
         lists.push(Vec::new(alloc))?;
     }
     Ok(lists)
+}
+
+/// Wakes what stands at a spot of the core, if there is such a spot.
+fn wake_spot(core: &Core, spot: Spot, awake: &mut Awake)
+    requires { Fits core.now.slots core.now.first awake.old }
+    ensures { Fits core.now.slots core.now.first awake.new }
+{
+    match spot.place {
+        Some(place) => awake.wake_at(core, spot.slot, place),
+        None => {
+            if spot.slot < core.slots() {
+                awake.rouse(spot.slot);
+            }
+        }
+    }
+}
+
+/// Wakes the first that waits at the area which is this object, if the entry left it (SWS_RTE: Rte_Exit).
+fn wake_waiter(core: &Core, entry: &Entry, object: u32, awake: &mut Awake)
+    requires { Fits core.now.slots core.now.first awake.old }
+    ensures { Fits core.now.slots core.now.first awake.new }
+{
+    if let Deed::Leave { .. } = &entry.deed {
+        awake.wake_first(object);
+    }
 }
 
 impl Guesses {
@@ -80,8 +106,9 @@ impl Guesses {
         ensures { Fits core.now.slots core.now.first awake.new }
     {
         if let Some(object) = touched_object(p, &made.entry, made.event) {
+            wake_waiter(core, &made.entry, object, awake);
             for spot in self.spots(number, object) {
-                awake.wake_at(core, spot.slot, spot.place);
+                wake_spot(core, *spot, awake);
             }
         }
     }

@@ -5,6 +5,7 @@ use crate::seats::Seat;
 use crate::watch::Watch;
 use bus_semantics::{BusPlan, PointPlan};
 use core_lanes::{Guesses, Spot};
+use core_turn::Core;
 use port_objects::{Object, woken};
 use std::alloc::Global;
 
@@ -13,7 +14,7 @@ fn add_event(guesses: &mut Guesses, object: usize, seats: &[Seat]) -> Result<(),
     for seat in seats {
         let spot = Spot {
             slot: seat.slot,
-            place: seat.place,
+            place: Some(seat.place),
         };
         guesses.add(seat.core, object, spot)?;
     }
@@ -64,12 +65,30 @@ fn add_callers(guesses: &mut Guesses, p: &BusPlan, w: &Watch) -> Result<(), Memo
     Ok(())
 }
 
-/// For each core and object the places of the events that an entry at the object may start, and of the callers that may hear of it; none
-/// for a single core, whose turns are watched. The only error is that there is no memory.
+/// Adds to the object of each mode machine its place behind the tasks of core 0, which has so many slots (SWS_RTE: mode switch
+/// procedure).
+fn add_machines(guesses: &mut Guesses, p: &BusPlan, slots: usize) -> Result<(), Memory> {
+    let machines = p.machines.len();
+    // The objects of machines stand behind those of groups, servers and areas.
+    let before = p.groups.len().saturating_add(p.servers.len());
+    let first = before.saturating_add(p.areas.len());
+    for machine in 0..machines {
+        let spot = Spot {
+            slot: slots.saturating_sub(machines).saturating_add(machine),
+            place: None,
+        };
+        guesses.add(0, first.saturating_add(machine), spot)?;
+    }
+    Ok(())
+}
+
+/// For each core and object the places of the events that an entry at the object may start, of the callers that may hear of it, and of the
+/// mode machine that it is; none for a single core, whose turns are watched. The only error is that there is no memory.
 pub(crate) fn guesses_of(
     alloc: Global,
     p: &BusPlan,
     objects: &[Object],
+    cores: &[Core],
     w: &Watch,
 ) -> Result<Guesses, Memory> {
     if w.awake.len() == 1 {
@@ -80,5 +99,8 @@ pub(crate) fn guesses_of(
         add_events(&mut guesses, number, w.seats.as_slice(), woken(object))?;
     }
     add_callers(&mut guesses, p, w)?;
+    if let Some(first) = cores.first() {
+        add_machines(&mut guesses, p, first.slots())?;
+    }
     Ok(guesses)
 }
