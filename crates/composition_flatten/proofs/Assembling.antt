@@ -1,21 +1,17 @@
 -- The links that assemblies make.
-use Rattle.std.proofs.Common.{◌≡◌, ℕ, List, [], length, Bool, true, false, sym, subst, ap, arith}
-use Rattle.std.proofs.lemmas.Option.{slice_get_past}
+use Rattle.std.proofs.Common.{◌≡◌, ℕ, List, Bool, true, sym, subst}
 use Rattle.description_types.specs.declared.description.Connector.{Connector}
 use Rattle.description_types.specs.declared.description.Connector.TheVariants.{Assembly}
 use Rattle.description_types.specs.declared.description.Description.{Description}
 use Rattle.description_types.specs.declared.description.InnerPort.{InnerPort}
 use Rattle.composition_tables.specs.declared.links.Link.{Link}
 use Rattle.composition_tables.specs.declared.tree.Owner.TheVariants.{Instance}
-use Rattle.flat_descriptions.specs.Connectors.{lets_join, connectors_of}
+use Rattle.flat_descriptions.specs.Connectors.{lets_join}
 use Rattle.composition_tables.specs.Ends.{ends, inner_ends}
 use Rattle.end_crossing.specs.PortLinks.{IsCrossLink}
-use Rattle.composition_flatten.specs.Links.{IsAssemblyLink, IsOwnLink}
+use Rattle.composition_flatten.specs.Links.{IsAssemblyLink}
 use Rattle.flat_descriptions.specs.Growing.{Grown}
-use Rattle.flat_descriptions.specs.Members.{Among}
-use Rattle.composition_tables.proofs.Growth.{grown_same, grown_none}
-use Rattle.std.specs.Option.{option_map_or}
-use Rattle.description_types.specs.declared.description.Composition.{Composition}
+use Rattle.composition_tables.proofs.Growth.{grown_same}
 
 pub assembly_same : (d : Description) (n c : ℕ) (x : Connector) (p r : InnerPort) (before after : List Link) (is_full : Bool) → x ≡ Assembly p r → lets_join d c (Assembly p r) ≡ true
     → Grown (IsCrossLink d (inner_ends d n (ends d n) c 0 p) (inner_ends d n (ends d n) c 0 r)) before after is_full → Grown (IsAssemblyLink d n c x) before after is_full
@@ -26,10 +22,3 @@ assembly_same d n c x p r before after is_full is lets g = subst (λ y. Grown (I
 -- a link past the end of a list
 abbrev pub no_link : Link
 no_link = record { provided = record { owner = Instance 0; port = 0; element = 0 }; required = record { owner = Instance 0; port = 0; element = 0 } }
-
--- past the last composition there is no connector
-pub no_links : (d : Description) (c : ℕ) (links : List Link) → c ≡ length d.compositions → links ≡ [] → Grown (IsOwnLink d 0 c) [] links false
-no_links d c links is empty = subst (λ l. Grown (IsOwnLink d 0 c) [] l false) (sym empty) (grown_none (IsOwnLink d 0 c) [] (λ x a. subst (Among a.0) none a.1))
-  where
-    none : connectors_of d c ≡ []
-    none = ap (λ o. option_map_or (λ (x : Composition). x.connectors) o []) (slice_get_past d.compositions c (omega (arith, is)))

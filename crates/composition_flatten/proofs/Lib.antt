@@ -9,3 +9,4 @@ pub mod Placing
 pub mod SameKeys
 pub mod Standing
 pub mod Wholes
+pub mod Outers

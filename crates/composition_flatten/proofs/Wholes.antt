@@ -1,9 +1,6 @@
 -- The links of compositions where they stand, and those of the environment.
-use Rattle.std.proofs.Common.{◌≡◌, ℕ, zero, suc, ◌+◌, ◌-◌, ◌*◌, ◌^◌, ◌<◌, ◌≤◌, min, List, [], ◌∷◌, length, map, slice_get, Bool, true, false, Option, Some, None, option_map, ◌⊎◌, inl, inr, ⊎_elim, ◌↔◌, refl, sym, ap, subst, ◌∙◌, arith, true≢false}
-use Rattle.std.proofs.lemmas.Bool.{cases_lt}
+use Rattle.std.proofs.Common.{◌≡◌, ℕ, zero, suc, ◌+◌, ◌-◌, ◌*◌, ◌^◌, ◌<◌, ◌≤◌, min, List, [], ◌∷◌, map, slice_get, Bool, true, false, Option, Some, None, ◌⊎◌, inl, inr, ⊎_elim, ◌↔◌, refl, sym, ap, subst, ◌∙◌, arith, true≢false}
 use Rattle.std.proofs.lemmas.List.{length-map}
-use Rattle.std.proofs.lemmas.Option.{slice_get_within}
-use Rattle.description_types.specs.declared.component.Port.{Port}
 use Rattle.description_types.specs.declared.component.PortKind.{PortKind}
 use Rattle.description_types.specs.declared.component.PortKind.TheVariants.{Provided, Required}
 use Rattle.description_types.specs.declared.description.Connector.{Connector}
@@ -18,7 +15,7 @@ use Rattle.composition_tables.specs.declared.tree.Owner.{Owner}
 use Rattle.composition_tables.specs.declared.tree.Owner.TheVariants.{Instance}
 use Rattle.composition_tables.specs.declared.tree.PortEnd.{PortEnd}
 use Rattle.composition_flatten.specs.declared.whole.Own.{Own}
-use Rattle.flat_descriptions.specs.Connectors.{ports_of, interface_of, kind_of}
+use Rattle.flat_descriptions.specs.Connectors.{interface_of, kind_of}
 use Rattle.composition_tables.specs.Ends.{ends, own_end, inner_ends, inner_ports, number_from, offset}
 use Rattle.flat_descriptions.specs.Growing.{AnyOf, Grown}
 use Rattle.composition_flatten.specs.Links.{IsAssemblyLink, IsOwnLink, IsNodeLink, IsOwn, IsOuterLink, IsLink, outer_link, link_from}
@@ -29,7 +26,7 @@ use Rattle.flat_descriptions.specs.Members.{Among, AllApart}
 use Rattle.composition_tables.proofs.Following.{inner_cases}
 use Rattle.composition_tables.proofs.Growth.{grown_same, grown_none, grown_then, grown_stop}
 use Rattle.end_crossing.proofs.SamePorts.{cross_same}
-use Rattle.composition_tables.proofs.Members.{unflat}
+use Rattle.composition_tables.proofs.Members.{past_end, place, unflat}
 
 -- how high numbers go
 abbrev IsLow : ℕ → Owner → Type 0
@@ -150,41 +147,6 @@ module _ (d : Description) where
   outer_none port x none h = kind_none (kind_of d (Composition d.root) port) port (ends d 8 (Composition d.root) 0 port) x
       (subst (λ o. outer_link (kind_of d (Composition d.root) port) d (outer_ends o port) (ends d 8 (Composition d.root) 0 port) x) none h)
 
-  -- only a port of the root has links
-  outer_within : (port : ℕ) (x : Link) → IsOuterLink d port x → port < length (ports_of d (Composition d.root))
-  outer_within port x h = by (slice_get (ports_of d (Composition d.root)) port) refl
-    where
-      by : (o : Option Port) → slice_get (ports_of d (Composition d.root)) port ≡ o → port < length (ports_of d (Composition d.root))
-      by (Some p) some = slice_get_within (ports_of d (Composition d.root)) port p some
-      by None none = absurd (subst (λ o. outer_link (option_map (λ (p : Port). p.kind) o) d (outer_ends (interface_of d (Composition d.root) port) port) (ends d 8 (Composition d.root) 0 port) x) none h)
-
-  pub outer_all : (count port : ℕ) (before after : List Link) → count ≡ length (ports_of d (Composition d.root)) → count ≤ port
-      → Grown (λ x. (k : ℕ) × (k < port) × IsOuterLink d k x) before after false → Grown (λ x. (k : ℕ) × IsOuterLink d k x) before after false
-  outer_all count port before after counted past g =
-      grown_same (λ x. (k : ℕ) × (k < port) × IsOuterLink d k x) (λ x. (k : ℕ) × IsOuterLink d k x) before after false
-      (λ x a. (a.0, a.2)) (λ x a. (a.0, (let within = outer_within a.0 x a.1 in omega arith), a.1)) g
-
--- numbers one after the other
-module _ {Y : Type 0} (Q : ℕ → Y → Type 0) where
-  pub numbers_begin : (list : List Y) → Grown (λ y. (k : ℕ) × (k < 0) × Q k y) list list false
-  numbers_begin list = grown_none (λ y. (k : ℕ) × (k < 0) × Q k y) list (λ y a. omega (arith, a.1))
-
-  pub numbers_more : (i : ℕ) (before between after : List Y) (is_full : Bool) → Grown (λ y. (k : ℕ) × (k < i) × Q k y) before between false → Grown (Q i) between after is_full → is_full ≡ false
-      → Grown (λ y. (k : ℕ) × (k < i + 1) × Q k y) before after false
-  numbers_more i before between after is_full g one room =
-      grown_same (λ y. ((k : ℕ) × (k < i) × Q k y) ⊎ Q i y) (λ y. (k : ℕ) × (k < i + 1) × Q k y) before after false
-      (λ y s. ⊎_elim (λ a. (a.0, omega (arith, a.1), a.2)) (λ q. (i, omega arith, q)) s)
-      (λ y a. ⊎_elim (λ l. inl (a.0, l, a.2)) (λ (l : i ≤ a.0). let e : a.0 ≡ i = omega (arith, a.1) in inr (subst (λ k. Q k y) e a.2)) (cases_lt a.0 i))
-      (grown_then (λ y. (k : ℕ) × (k < i) × Q k y) (Q i) before between after false g (subst (Grown (Q i) between after) room one))
-
-  pub numbers_full : (i : ℕ) (before between after : List Y) (is_full : Bool) → Grown (λ y. (k : ℕ) × (k < i) × Q k y) before between false → Grown (Q i) between after is_full → is_full ≡ true
-      → Grown (λ y. (k : ℕ) × Q k y) before after true
-  numbers_full i before between after is_full g one full =
-      grown_same (λ y. (((k : ℕ) × (k < i) × Q k y) ⊎ Q i y) ⊎ ((k : ℕ) × Q k y)) (λ y. (k : ℕ) × Q k y) before after true
-      (λ y s. ⊎_elim (λ t. ⊎_elim (λ a. (a.0, a.2)) (λ q. (i, q)) t) (λ a. a) s) (λ y a. inr a)
-      (grown_stop (λ y. ((k : ℕ) × (k < i) × Q k y) ⊎ Q i y) (λ y. (k : ℕ) × Q k y) before after
-      (grown_then (λ y. (k : ℕ) × (k < i) × Q k y) (Q i) before between after true g (subst (Grown (Q i) between after) full one)))
-
 -- how deep and how high the compositions stand
 pub node_bounds : (d : Description) (n c first : ℕ) (x : Node) → IsNode d n c first x → (x.depth ≤ n) × (x.first ≤ first + n * 1025)
 node_bounds d zero c first x h = absurd h
@@ -197,6 +159,10 @@ pub nodes_within : (d : Description) (nodes slice : List Node) → slice ≡ nod
 nodes_within d nodes slice same are x h =
     let r = node_bounds d 8 d.root 0 x ((are x).0 (subst (Among x) same h)) in
     (r.0, (let bound = r.1 in omega arith))
+
+-- no composition makes no links
+pub no_nodes : (d : Description) (nodes : List Node) (links : List Link) → slice_get nodes 0 ≡ None → Grown (AnyOf (IsNodeLink d) nodes) links links false
+no_nodes d nodes links none = grown_none (AnyOf (IsNodeLink d) nodes) links (λ x a. let p = place a.0 nodes a.1 in omega (arith, p.1, past_end nodes 0 none))
 
 pub links_full : (d : Description) (nodes slice : List Node) (before after : List Link) (is_full : Bool) → slice ≡ nodes → ((x : Node) → Among x nodes ↔ IsNode d 8 d.root 0 x)
     → Grown (AnyOf (IsNodeLink d) slice) before after is_full → is_full ≡ true → Grown (IsLink d) before after true

@@ -14,7 +14,7 @@ use itoa::Buffer;
 use rte_text::{Memory, Refusal, Refused, Seq, Text};
 use std::alloc::Global;
 
-fn composition_place(alloc: Global, composition: u32) -> Result<String, Memory>
+fn composition_place(alloc: Global, composition: usize) -> Result<String, Memory>
     ensures { IfOk result (λ place. string_bytes place ≡ composition_place composition) }
 {
     let mut place = String::from_str(alloc, "/compositions/")?;
@@ -22,7 +22,7 @@ fn composition_place(alloc: Global, composition: u32) -> Result<String, Memory>
     Ok(place)
 }
 
-fn connector_place(alloc: Global, composition: u32, connector: usize) -> Result<String, Memory>
+fn connector_place(alloc: Global, composition: usize, connector: usize) -> Result<String, Memory>
     ensures { IfOk result (λ place. string_bytes place ≡ connector_place (composition, connector)) }
 {
     let mut place = composition_place(alloc, composition)?;

@@ -38,7 +38,7 @@ pub struct Within {
 fn names_env(d: &Description) -> bool
     ensures { result ≡ names_env d.now }
 {
-    prototypes_of(d, d.root).iter().any(|prototype| prototype.short_name.bytes()
+    prototypes_of(d, d.root as usize).iter().any(|prototype| prototype.short_name.bytes()
         == "env".as_bytes())
 }
 

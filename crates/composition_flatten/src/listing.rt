@@ -44,7 +44,7 @@ fn list_below(
     if depth == 0 {
         return Ok(());
     }
-    for prototype in prototypes_of(d, composition) {
+    for prototype in prototypes_of(d, composition as usize) {
         list_prototype(alloc, d, levels, depth - 1, prototype, prefix, listed)?;
     }
     Ok(())

@@ -71,7 +71,7 @@ fn add_assembly(
             provider,
             requester,
         } => {
-            if !lets_join(tree.d, composition, connector) {
+            if !lets_join(tree.d, composition as usize, connector) {
                 return Ok(false);
             }
             let is_full = add_crossing(
@@ -105,7 +105,7 @@ pub fn add_own(
     ensures matched { OnOk result (IsAdding tree.now.d.now matched.new links.new.keys) }
     ensures grown { IfOk result (λ is_full. Grown (IsOwnLink tree.now.d.now depth composition) links.old.keys links.new.keys is_full) }
 {
-    for connector in connectors_of(tree.d, composition) {
+    for connector in connectors_of(tree.d, composition as usize) {
         if add_assembly(alloc, tree, depth, composition, *connector, matched, links)? {
             return Ok(true);
         }

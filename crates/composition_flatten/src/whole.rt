@@ -1,7 +1,8 @@
 //! All links of a description.
 
-ghost use Rattle.std.specs.Prelude.{◌≡◌, ◌≤◌, ◌<◌, ◌^◌, [], ◌∷◌, ℕ, IfOk, OnOk, Some, length};
-ghost use Rattle.flat_descriptions.specs.Connectors.{ports_of};
+ghost use Rattle.std.specs.Prelude.{◌≡◌, ◌≤◌, ◌^◌, [], ℕ, IfOk, OnOk, Some, nat_eq, slice_get};
+ghost use Rattle.std.specs.List.{flat_map};
+ghost use Rattle.indexmap.specs.IndexSet.{insert_all};
 ghost use Rattle.composition_tables.specs.declared.links.Link.{Link};
 ghost use Rattle.composition_tables.specs.declared.nodes.Node.{Node};
 ghost use Rattle.composition_tables.specs.Ends.{ends};
@@ -9,23 +10,24 @@ ghost use Rattle.end_search.specs.Gates.{gate_ends, IsShallow};
 ghost use Rattle.flat_descriptions.specs.Members.{Among};
 ghost use Rattle.flat_descriptions.specs.Growing.{AnyOf, Grown};
 ghost use Rattle.composition_flatten.specs.Links.{IsOwn, IsNodeLink, IsOuterLink, IsLink, link_from, item_from, outer_link};
+ghost use Rattle.composition_flatten.specs.Outers.{outers_of};
 ghost use Rattle.composition_tables.specs.Nodes.{IsNode};
 ghost use Rattle.end_crossing.specs.Crossings.{IsAdding, IsMatched};
 ghost use Rattle.composition_tables.specs.Trees.{IsTree};
 
 use crate::own::add_own;
-use composition_tables::connectors::{interface_of, kind_of, ports_of};
-use composition_tables::containing::composition_count;
+use composition_tables::connectors::{connectors_of, interface_of, kind_of};
 use composition_tables::counts::DEPTH_LIMIT;
 use composition_tables::links::{Item, Link, add_link, owner_from};
 use composition_tables::nodes::{Node, nodes_of};
 use composition_tables::tree::Tree;
-use description_types::{PortKind, PrototypeType};
+use description_types::{Connector, PortKind, PrototypeType};
 use end_crossing::matched::Matched;
 use end_crossing::splitting::cross_gates;
 use end_search::gates::{Gate, narrowed};
+use indexmap::IndexSet;
 use rte_text::Memory;
-use std::alloc::{AllocError, Global};
+use std::alloc::Global;
 use std::collections::BTreeSet;
 
 /// The links that a composition's assemblies make, with instances numbered from its first one on. Where there are more
@@ -113,19 +115,6 @@ fn own_of(
     })
 }
 
-/// The links of what is no composition: none.
-fn no_own(alloc: Global, tree: &Tree) -> Result<Own, Memory>
-    ensures { IfOk result (IsOwn tree.now.d.now) }
-{
-    let composition = composition_count(tree.d)?;
-    Ok(Own {
-        depth: 0,
-        composition,
-        links: Vec::new(alloc),
-        is_full: false,
-    })
-}
-
 /// Takes the links of a composition, if they are not the last that were taken.
 fn take_own(
     alloc: Global,
@@ -176,6 +165,37 @@ fn add_node(
     Ok(is_full)
 }
 
+fn first_node(nodes: &[Node]) -> Option<Node>
+    ensures { result ≡ slice_get nodes.now 0 }
+{
+    nodes.first().copied()
+}
+
+/// Adds the links of each of these, where some composition's links were taken last.
+fn add_each_node(
+    alloc: Global,
+    tree: &Tree,
+    nodes: &[Node],
+    last: Own,
+    matched: &mut Matched,
+    links: &mut BTreeSet<Link>,
+) -> Result<bool, Memory>
+    requires is_tree { IsTree tree.now }
+    requires within { (x : Node) → Among x nodes.now → (x.depth ≤ 8) × (x.first ≤ 2 ^ 31) }
+    requires own { IsOwn tree.now.d.now last }
+    requires matched { IsMatched tree.now.d.now matched.old }
+    ensures matched { OnOk result (IsMatched tree.now.d.now matched.new) }
+    ensures grown { IfOk result (λ is_full. Grown (AnyOf (IsNodeLink tree.now.d.now) nodes.now) links.old.keys links.new.keys is_full) }
+{
+    let mut own = last;
+    for node in nodes {
+        if add_node(alloc, tree, *node, &mut own, matched, links)? {
+            return Ok(true);
+        }
+    }
+    Ok(false)
+}
+
 fn add_nodes(
     alloc: Global,
     tree: &Tree,
@@ -189,13 +209,14 @@ fn add_nodes(
     ensures matched { OnOk result (IsMatched tree.now.d.now matched.new) }
     ensures grown { IfOk result (λ is_full. Grown (AnyOf (IsNodeLink tree.now.d.now) nodes.now) links.old.keys links.new.keys is_full) }
 {
-    let mut own = no_own(alloc, tree)?;
-    for node in nodes {
-        if add_node(alloc, tree, *node, &mut own, matched, links)? {
-            return Ok(true);
+    match first_node(nodes) {
+        Some(first) => {
+            let own = own_of(alloc, tree, first.depth, first.composition, matched)?;
+            let is_full = add_each_node(alloc, tree, nodes, own, matched, links)?;
+            Ok(is_full)
         }
+        None => Ok(false),
     }
-    Ok(false)
 }
 
 fn add_by_kind(
@@ -287,14 +308,51 @@ fn add_outer(
     }
 }
 
-fn outer_count(tree: &Tree) -> Result<u32, Memory>
-    ensures { IfOk result (λ count. count ≡ length (ports_of tree.now.d.now (PrototypeType.Composition tree.now.d.now.root))) }
+/// Notes the outer port of a delegation.
+fn note_outer(connector: Connector, ports: &mut IndexSet<u32>) -> Result<(), Memory>
+    ensures { OnOk result (ports.new.keys ≡ insert_all nat_eq ports.old.keys (outers_of connector)) }
 {
-    let root = PrototypeType::Composition(tree.d.root);
-    u32::try_from(ports_of(tree.d, root).len()).map_err(|_| AllocError)
+    match connector {
+        Connector::Assembly { .. } => Ok(()),
+        Connector::Delegation { outer, .. } => {
+            ports.insert(outer)?;
+            Ok(())
+        }
+    }
 }
 
-/// Adds the links of all ports of the root.
+/// The outer ports that connectors delegate, each once.
+fn delegated_ports(alloc: Global, connectors: &[Connector]) -> Result<IndexSet<u32>, Memory>
+    ensures { IfOk result (λ ports. ports.keys ≡ insert_all nat_eq [] (flat_map outers_of connectors.now)) }
+{
+    let mut ports = IndexSet::new(alloc);
+    for connector in connectors {
+        note_outer(*connector, &mut ports)?;
+    }
+    Ok(ports)
+}
+
+/// Adds the links of these ports of the root.
+fn add_each_outer(
+    alloc: Global,
+    tree: &Tree,
+    ports: &[u32],
+    matched: &mut Matched,
+    links: &mut BTreeSet<Link>,
+) -> Result<bool, Memory>
+    requires is_tree { IsTree tree.now }
+    requires matched { IsMatched tree.now.d.now matched.old }
+    ensures { IfOk result (λ is_full. Grown (AnyOf (IsOuterLink tree.now.d.now) ports.now) links.old.keys links.new.keys is_full) }
+{
+    for port in ports {
+        if add_outer(alloc, tree, *port, matched, links)? {
+            return Ok(true);
+        }
+    }
+    Ok(false)
+}
+
+/// Adds the links of all ports of the root. A port has some only where a connector delegates it.
 fn add_outers(
     alloc: Global,
     tree: &Tree,
@@ -305,12 +363,9 @@ fn add_outers(
     requires matched { IsMatched tree.now.d.now matched.old }
     ensures { IfOk result (λ is_full. Grown (λ (x : Link). (port : ℕ) × IsOuterLink tree.now.d.now port x) links.old.keys links.new.keys is_full) }
 {
-    for port in 0..outer_count(tree)? {
-        if add_outer(alloc, tree, port, matched, links)? {
-            return Ok(true);
-        }
-    }
-    Ok(false)
+    let ports = delegated_ports(alloc, connectors_of(tree.d, tree.d.root as usize))?;
+    let is_full = add_each_outer(alloc, tree, ports.as_slice(), matched, links)?;
+    Ok(is_full)
 }
 
 /// Adds all links of a description. The answer is whether there are more of them than the limit; then the rest may be

@@ -8,7 +8,6 @@ ghost use Rattle.composition_flatten.specs.Keys.{key_of};
 ghost use Rattle.flat_descriptions.specs.Firsts.{IsFirst};
 
 use composition_tables::connectors::{connectors_of, lets_join};
-use composition_tables::containing::composition_count;
 use description_types::{Connector, Description};
 use indexmap::IndexSet;
 use rte_text::Memory;
@@ -55,7 +54,7 @@ fn was_noted(noted: &mut IndexSet<Key>, key: Key) -> Result<bool, Memory>
     Ok(!is_new)
 }
 
-fn is_broken(d: &Description, composition: u32, connector: Connector, is_repeated: bool) -> bool
+fn is_broken(d: &Description, composition: usize, connector: Connector, is_repeated: bool) -> bool
     ensures { result ≡ (is_repeated || not (lets_join d.now composition connector)) }
 {
     is_repeated || !lets_join(d, composition, connector)
@@ -65,7 +64,7 @@ fn is_broken(d: &Description, composition: u32, connector: Connector, is_repeate
 fn first_broken_in(
     alloc: Global,
     d: &Description,
-    composition: u32,
+    composition: usize,
 ) -> Result<Option<usize>, Memory>
     ensures { IfOk result (λ first. IsFirst (IsBrokenConnector d.now composition) (length (connectors_of d.now composition)) first) }
 {
@@ -82,11 +81,10 @@ fn first_broken_in(
 }
 
 /// The composition and the number of the first connector that breaks its rule.
-pub fn first_broken(alloc: Global, d: &Description) -> Result<Option<(u32, usize)>, Memory>
+pub fn first_broken(alloc: Global, d: &Description) -> Result<Option<(usize, usize)>, Memory>
     ensures { IfOk result (λ first. IsFirstBroken d.now first) }
 {
-    let count = composition_count(d)?;
-    for composition in 0..count {
+    for composition in 0..d.compositions.len() {
         match first_broken_in(alloc, d, composition)? {
             Some(number) => return Ok(Some((composition, number))),
             None => {}

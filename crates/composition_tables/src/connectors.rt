@@ -1,6 +1,6 @@
 //! Which connectors may join their ports.
 
-ghost use Rattle.std.specs.Prelude.{◌≡◌, ◌<◌, IfOk, length};
+ghost use Rattle.std.specs.Prelude.{◌≡◌, option_map, slice_get};
 ghost use Rattle.flat_descriptions.specs.Connectors.{ports_of, interface_of, kind_of, kind_in, connectors_of, is_provided, is_required, is_one_kind, lets_join};
 ghost use Rattle.flat_descriptions.specs.Paths.{type_in};
 
@@ -16,22 +16,25 @@ pub fn ports_of(d: &Description, of_type: PrototypeType) -> &[Port]
             Some(found) => found.ports.items(),
             None => &[],
         },
-        PrototypeType::Composition(composition) => match d
-            .compositions
-            .items()
-            .get(composition as usize)
-        {
-            Some(found) => found.ports.items(),
-            None => &[],
-        },
+        PrototypeType::Composition(composition) => outer_ports(d, composition as usize),
+    }
+}
+
+/// The outer ports of a composition, none past the last one.
+pub fn outer_ports(d: &Description, composition: usize) -> &[Port]
+    ensures { result.now ≡ ports_of d.now (PrototypeType.Composition composition) }
+{
+    match d.compositions.items().get(composition) {
+        Some(found) => found.ports.items(),
+        None => &[],
     }
 }
 
 /// The connectors of a composition, none past the last one.
-pub fn connectors_of(d: &Description, composition: u32) -> &[Connector]
+pub fn connectors_of(d: &Description, composition: usize) -> &[Connector]
     ensures { result.now ≡ connectors_of d.now composition }
 {
-    match d.compositions.items().get(composition as usize) {
+    match d.compositions.items().get(composition) {
         Some(found) => found.connectors.items(),
         None => &[],
     }
@@ -41,7 +44,14 @@ pub fn connectors_of(d: &Description, composition: u32) -> &[Connector]
 pub fn type_in(d: &Description, composition: u32, prototype: u32) -> Option<PrototypeType>
     ensures { result ≡ type_in d.now (PrototypeType.Composition composition) prototype }
 {
-    match prototypes_of(d, composition).get(prototype as usize) {
+    inner_type(d, composition as usize, prototype as usize)
+}
+
+/// The type of the prototype of a composition at a position.
+pub fn inner_type(d: &Description, composition: usize, prototype: usize) -> Option<PrototypeType>
+    ensures { result ≡ type_in d.now (PrototypeType.Composition composition) prototype }
+{
+    match prototypes_of(d, composition).get(prototype) {
         Some(found) => Some(found.of_type),
         None => None,
     }
@@ -61,16 +71,22 @@ pub fn interface_of(d: &Description, of_type: PrototypeType, port: u32) -> Optio
 pub fn kind_of(d: &Description, of_type: PrototypeType, port: u32) -> Option<PortKind>
     ensures { result ≡ kind_of d.now of_type port }
 {
-    match ports_of(d, of_type).get(port as usize) {
+    kind_among(ports_of(d, of_type), port)
+}
+
+fn kind_among(ports: &[Port], port: u32) -> Option<PortKind>
+    ensures { result ≡ option_map (λ x. x.kind) (slice_get ports.now port) }
+{
+    match ports.get(port as usize) {
         Some(found) => Some(found.kind),
         None => None,
     }
 }
 
-fn kind_in(d: &Description, composition: u32, inner: InnerPort) -> Option<PortKind>
+fn kind_in(d: &Description, composition: usize, inner: InnerPort) -> Option<PortKind>
     ensures { result ≡ kind_in d.now composition inner }
 {
-    match type_in(d, composition, inner.prototype) {
+    match inner_type(d, composition, inner.prototype as usize) {
         Some(of_type) => kind_of(d, of_type, inner.port),
         None => None,
     }
@@ -105,7 +121,7 @@ fn is_one_kind(first: Option<PortKind>, second: Option<PortKind>) -> bool
 }
 
 /// Whether the ports of a connector are such that it may join them.
-pub fn lets_join(d: &Description, composition: u32, connector: Connector) -> bool
+pub fn lets_join(d: &Description, composition: usize, connector: Connector) -> bool
     ensures { result ≡ lets_join d.now composition connector }
 {
     match connector {
@@ -117,7 +133,7 @@ pub fn lets_join(d: &Description, composition: u32, connector: Connector) -> boo
                 && is_required(kind_in(d, composition, requester))
         }
         Connector::Delegation { inner, outer } => {
-            let outside = kind_of(d, PrototypeType::Composition(composition), outer);
+            let outside = kind_among(outer_ports(d, composition), outer);
             is_one_kind(outside, kind_in(d, composition, inner))
         }
     }

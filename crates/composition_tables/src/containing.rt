@@ -13,15 +13,15 @@ use crate::reach::reached;
 use description_types::Description;
 use indexmap::IndexSet;
 use rte_text::Memory;
-use std::alloc::{AllocError, Global};
+use std::alloc::Global;
 
-fn is_held_by_any(d: &Description, holders: &[u32], held: u32) -> bool
+fn is_held_by_any(d: &Description, holders: &[usize], held: usize) -> bool
     ensures { result ≡ list_any (λ h. list_any (λ p. is_composition held p.of_type) (prototypes_of d.now h)) holders.now }
 {
     holders.iter().any(|holder| holds(d, *holder, held))
 }
 
-fn set_of(alloc: Global, composition: u32) -> Result<IndexSet<u32>, Memory>
+fn set_of(alloc: Global, composition: usize) -> Result<IndexSet<usize>, Memory>
     ensures { IfOk result (λ set. set.keys ≡ composition ∷ []) }
 {
     let mut set = IndexSet::new(alloc);
@@ -29,7 +29,7 @@ fn set_of(alloc: Global, composition: u32) -> Result<IndexSet<u32>, Memory>
     Ok(set)
 }
 
-fn contains_itself(alloc: Global, d: &Description, composition: u32) -> Result<bool, Memory>
+fn contains_itself(alloc: Global, d: &Description, composition: usize) -> Result<bool, Memory>
     requires { composition < length d.now.compositions }
     ensures { IfOk result (λ answer. IsTrue answer ↔ ContainsItself d.now composition) }
 {
@@ -45,7 +45,7 @@ fn is_in_itself(
     d: &Description,
     ranks: &[u32],
     are_ranks: bool,
-    composition: u32,
+    composition: usize,
 ) -> Result<bool, Memory>
     requires declared { composition < length d.now.compositions }
     requires ranked { OnTrue are_ranks (IsRanking d.now ranks.now) }
@@ -57,21 +57,13 @@ fn is_in_itself(
     contains_itself(alloc, d, composition)
 }
 
-/// How many compositions there are. More than a `u32` can number count as want of memory.
-pub fn composition_count(d: &Description) -> Result<u32, Memory>
-    ensures { IfOk result (λ count. count ≡ length d.now.compositions) }
-{
-    u32::try_from(d.compositions.len()).map_err(|_| AllocError)
-}
-
 /// The first composition that contains itself, directly or through others.
-pub fn first_in_itself(alloc: Global, d: &Description) -> Result<Option<u32>, Memory>
+pub fn first_in_itself(alloc: Global, d: &Description) -> Result<Option<usize>, Memory>
     ensures { IfOk result (λ first. IsFirst (ContainsItself d.now) (length d.now.compositions) first) }
 {
-    let count = composition_count(d)?;
     let ranks = ranks_of(alloc, d)?;
-    let are_ranks = is_ranking(d, ranks.as_slice(), count);
-    for composition in 0..count {
+    let are_ranks = is_ranking(d, ranks.as_slice());
+    for composition in 0..d.compositions.len() {
         if is_in_itself(alloc, d, ranks.as_slice(), are_ranks, composition)? {
             return Ok(Some(composition));
         }

@@ -1,14 +1,14 @@
 //! Which inner ports each outer port is delegated to.
 
 ghost use Rattle.std.specs.Prelude.{◌≡◌, ◌<◌, ◌==◌, ◌++◌, [], ◌∷◌, ℕ, IfOk, OnOk, length, if◌then◌else◌};
+ghost use Rattle.description_types.specs.declared.description.PrototypeType.TheVariants as of_type;
 ghost use Rattle.flat_descriptions.specs.Connectors.{ports_of};
 ghost use Rattle.composition_tables.specs.Ends.{delegated, inner_ports};
 ghost use Rattle.std.specs.Option.{option_to_list};
 ghost use Rattle.composition_tables.specs.Trees.{ports_at, IsDelegated};
 
-use crate::connectors::{connectors_of, lets_join, ports_of};
-use crate::containing::composition_count;
-use description_types::{Connector, Description, InnerPort, PrototypeType};
+use crate::connectors::{connectors_of, lets_join, outer_ports};
+use description_types::{Connector, Description, InnerPort};
 use rte_text::Memory;
 use std::alloc::Global;
 
@@ -34,11 +34,11 @@ fn add_port(by_port: &mut Vec<Vec<InnerPort>>, outer: u32, inner: InnerPort) -> 
 
 fn add_delegation(
     d: &Description,
-    composition: u32,
+    composition: usize,
     connector: Connector,
     by_port: &mut Vec<Vec<InnerPort>>,
 ) -> Result<(), Memory>
-    requires { length by_port.old.items ≡ length (ports_of d.now (PrototypeType.Composition composition)) }
+    requires { length by_port.old.items ≡ length (ports_of d.now (of_type.Composition composition)) }
     ensures long { length by_port.new.items ≡ length by_port.old.items }
     ensures added { OnOk result ((port : ℕ) → ports_at by_port.new.items port ≡ ports_at by_port.old.items port ++ option_to_list (delegated d.now composition port connector)) }
 {
@@ -54,14 +54,11 @@ fn add_delegation(
 fn delegations_in(
     alloc: Global,
     d: &Description,
-    composition: u32,
+    composition: usize,
 ) -> Result<Vec<Vec<InnerPort>>, Memory>
     ensures { IfOk result (λ by_port. (port : ℕ) → ports_at by_port.items port ≡ inner_ports d.now composition port) }
 {
-    let mut by_port = no_ports(
-        alloc,
-        ports_of(d, PrototypeType::Composition(composition)).len(),
-    )?;
+    let mut by_port = no_ports(alloc, outer_ports(d, composition).len())?;
     for connector in connectors_of(d, composition) {
         add_delegation(d, composition, *connector, &mut by_port)?;
     }
@@ -72,9 +69,8 @@ fn delegations_in(
 pub fn delegations(alloc: Global, d: &Description) -> Result<Vec<Vec<Vec<InnerPort>>>, Memory>
     ensures { IfOk result (λ table. IsDelegated d.now table.items) }
 {
-    let count = composition_count(d)?;
     let mut table = Vec::new(alloc);
-    for composition in 0..count {
+    for composition in 0..d.compositions.len() {
         table.push(delegations_in(alloc, d, composition)?)?;
     }
     Ok(table)

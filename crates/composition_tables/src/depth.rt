@@ -24,7 +24,7 @@ fn is_component(of_type: PrototypeType) -> bool
     }
 }
 
-fn holds_component(d: &Description, composition: u32) -> bool
+fn holds_component(d: &Description, composition: usize) -> bool
     ensures { result ≡ list_any (λ p. is_component p.of_type) (prototypes_of d.now composition) }
 {
     prototypes_of(d, composition)
@@ -32,7 +32,7 @@ fn holds_component(d: &Description, composition: u32) -> bool
         .any(|prototype| is_component(prototype.of_type))
 }
 
-fn any_holds_component(d: &Description, compositions: &[u32]) -> bool
+fn any_holds_component(d: &Description, compositions: &[usize]) -> bool
     ensures { result ≡ list_any (λ c. list_any (λ p. is_component p.of_type) (prototypes_of d.now c)) compositions.now }
 {
     compositions
@@ -40,7 +40,7 @@ fn any_holds_component(d: &Description, compositions: &[u32]) -> bool
         .any(|composition| holds_component(d, *composition))
 }
 
-fn held_by_any(alloc: Global, d: &Description, holders: &[u32]) -> Result<IndexSet<u32>, Memory>
+fn held_by_any(alloc: Global, d: &Description, holders: &[usize]) -> Result<IndexSet<usize>, Memory>
     ensures { IfOk result (λ held. held.keys ≡ insert_all nat_eq [] (flat_map (held_by d.now) holders.now)) }
 {
     let mut held = IndexSet::new(alloc);
@@ -50,24 +50,29 @@ fn held_by_any(alloc: Global, d: &Description, holders: &[u32]) -> Result<IndexS
     Ok(held)
 }
 
-fn next_level(alloc: Global, d: &Description, level: IndexSet<u32>) -> Result<IndexSet<u32>, Memory>
+fn next_level(
+    alloc: Global,
+    d: &Description,
+    level: IndexSet<usize>,
+) -> Result<IndexSet<usize>, Memory>
     ensures { IfOk result (λ next. (n : ℕ) → IsLevel d.now n level.keys → IsLevel d.now (suc n) next.keys) }
 {
     let next = held_by_any(alloc, d, level.as_slice())?;
     Ok(next)
 }
 
-fn top_level(alloc: Global, d: &Description) -> Result<IndexSet<u32>, Memory>
+fn top_level(alloc: Global, d: &Description) -> Result<IndexSet<usize>, Memory>
     ensures { IfOk result (λ level. IsLevel d.now 0 level.keys) }
 {
     let mut level = IndexSet::new(alloc);
-    if (d.root as usize) < d.compositions.len() {
-        level.insert(d.root)?;
+    let root = d.root as usize;
+    if root < d.compositions.len() {
+        level.insert(root)?;
     }
     Ok(level)
 }
 
-fn deepest_level(alloc: Global, d: &Description) -> Result<IndexSet<u32>, Memory>
+fn deepest_level(alloc: Global, d: &Description) -> Result<IndexSet<usize>, Memory>
     ensures { IfOk result (λ level. IsLevel d.now 8 level.keys) }
 {
     let mut level = top_level(alloc, d)?;

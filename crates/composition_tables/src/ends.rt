@@ -45,17 +45,27 @@ fn starts_at(table: &[Vec<Vec<u32>>], depth: usize) -> &[Vec<u32>]
     }
 }
 
-fn start_in(starts: &[Vec<u32>], composition: u32, prototype: u32) -> u32
+fn start_in(starts: &[Vec<u32>], composition: u32, prototype: usize) -> u32
     ensures { result ≡ start_in starts.now composition prototype }
 {
     match starts.get(composition as usize) {
-        Some(list) => list.get(prototype as usize).copied().unwrap_or(0),
+        Some(list) => list.get(prototype).copied().unwrap_or(0),
         None => 0,
     }
 }
 
 /// How many instances stand before those of a prototype, up to the cap.
 pub fn start_of(tree: &Tree, depth: usize, composition: u32, prototype: u32) -> u32
+    requires is_tree { IsTree tree.now }
+    requires within { depth ≤ 8 }
+    requires declared { prototype < length (prototypes_of tree.now.d.now composition) }
+    ensures { result ≡ min (offset tree.now.d.now depth composition prototype) 1025 }
+{
+    start_at(tree, depth, composition, prototype as usize)
+}
+
+/// How many instances stand before those of the prototype at a position, up to the cap.
+pub fn start_at(tree: &Tree, depth: usize, composition: u32, prototype: usize) -> u32
     requires is_tree { IsTree tree.now }
     requires within { depth ≤ 8 }
     requires declared { prototype < length (prototypes_of tree.now.d.now composition) }

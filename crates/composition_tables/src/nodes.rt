@@ -1,20 +1,19 @@
 //! The compositions that stand in a description.
 
-ghost use Rattle.std.specs.Prelude.{◌≡◌, ◌≤◌, ◌<◌, ◌↔◌, ◌⊎◌, OnOk, IfOk, length};
-ghost use Rattle.flat_descriptions.specs.Paths.{prototypes_of};
+ghost use Rattle.std.specs.Prelude.{◌≡◌, ◌≤◌, ◌<◌, ◌↔◌, ◌⊎◌, OnOk, IfOk};
 ghost use Rattle.composition_tables.specs.declared.nodes.Node.{Node};
 ghost use Rattle.composition_tables.specs.Nodes.{IsNode, IsInnerNode};
 ghost use Rattle.flat_descriptions.specs.Members.{Among};
 ghost use Rattle.composition_tables.specs.Trees.{IsTree};
 
-use crate::connectors::type_in;
+use crate::connectors::inner_type;
 use crate::counts::{DEPTH_LIMIT, count_below};
-use crate::ends::{number_from, start_of};
+use crate::ends::{number_from, start_at};
 use crate::prototypes::prototypes_of;
 use crate::tree::Tree;
-use description_types::{Description, PrototypeType};
+use description_types::PrototypeType;
 use rte_text::Memory;
-use std::alloc::{AllocError, Global};
+use std::alloc::Global;
 
 /// A composition where it stands: `first` is the number of the first instance below it, and its prototypes have instances
 /// at most `depth` prototypes deep.
@@ -45,7 +44,7 @@ fn list_nodes(
         composition,
         first,
     })?;
-    for prototype in 0..prototype_count(tree.d, composition)? {
+    for prototype in 0..prototypes_of(tree.d, composition as usize).len() {
         list_node(tree, depth - 1, composition, first, prototype, nodes)?;
     }
     Ok(())
@@ -58,30 +57,24 @@ fn list_node(
     depth: usize,
     composition: u32,
     first: u32,
-    prototype: u32,
+    prototype: usize,
     nodes: &mut Vec<Node>,
 ) -> Result<(), Memory>
     requires is_tree { IsTree tree.now }
     requires within { depth < 8 }
     ensures { OnOk result ((x : Node) → Among x nodes.new.items ↔ (Among x nodes.old.items ⊎ IsInnerNode tree.now.d.now depth composition first prototype x)) }
 {
-    match type_in(tree.d, composition, prototype) {
+    match inner_type(tree.d, composition as usize, prototype) {
         Some(PrototypeType::Composition(held)) => {
             if count_below(tree.levels.as_slice(), depth, held) == 0 {
                 return Ok(());
             }
-            let start = start_of(tree, depth, composition, prototype);
+            let start = start_at(tree, depth, composition, prototype);
             list_nodes(tree, depth, held, number_from(first, start), nodes)?;
             Ok(())
         }
         Some(PrototypeType::Component(_)) | None => Ok(()),
     }
-}
-
-fn prototype_count(d: &Description, composition: u32) -> Result<u32, Memory>
-    ensures { IfOk result (λ count. count ≡ length (prototypes_of d.now composition)) }
-{
-    u32::try_from(prototypes_of(d, composition).len()).map_err(|_| AllocError)
 }
 
 /// The root and all compositions with instances that stand in a description, those of one composition and depth together.

@@ -7,17 +7,17 @@ ghost use Rattle.flat_descriptions.specs.Paths.{prototypes_of, is_composition};
 use description_types::{Description, Prototype, PrototypeType};
 
 /// The prototypes of a composition, none past the last composition.
-pub fn prototypes_of(d: &Description, composition: u32) -> &[Prototype]
+pub fn prototypes_of(d: &Description, composition: usize) -> &[Prototype]
     ensures { result.now ≡ prototypes_of d.now composition }
 {
-    match d.compositions.items().get(composition as usize) {
+    match d.compositions.items().get(composition) {
         Some(found) => found.prototypes.items(),
         None => &[],
     }
 }
 
 /// Whether a composition has a prototype of another one, or of itself.
-pub fn holds(d: &Description, holder: u32, held: u32) -> bool
+pub fn holds(d: &Description, holder: usize, held: usize) -> bool
     ensures { result ≡ list_any (λ p. is_composition held p.of_type) (prototypes_of d.now holder) }
 {
     prototypes_of(d, holder)
@@ -25,11 +25,11 @@ pub fn holds(d: &Description, holder: u32, held: u32) -> bool
         .any(|prototype| is_composition(held, prototype.of_type))
 }
 
-fn is_composition(composition: u32, of_type: PrototypeType) -> bool
+fn is_composition(composition: usize, of_type: PrototypeType) -> bool
     ensures { result ≡ is_composition composition of_type }
 {
     match of_type {
-        PrototypeType::Composition(other) => other == composition,
+        PrototypeType::Composition(other) => other as usize == composition,
         PrototypeType::Component(_) => false,
     }
 }

@@ -12,10 +12,10 @@ use description_types::{Description, Prototype};
 use rte_text::Memory;
 use std::alloc::Global;
 
-fn rank(ranks: &[u32], composition: u32) -> u32
+fn rank(ranks: &[u32], composition: usize) -> u32
     ensures { result ≡ slice_index ranks.now composition }
 {
-    ranks.get(composition as usize).copied().unwrap_or(0)
+    ranks.get(composition).copied().unwrap_or(0)
 }
 
 fn ranks_within(d: &Description, ranks: &[u32], prototype: &Prototype, highest: u32) -> bool
@@ -37,7 +37,7 @@ fn ranks_below(d: &Description, ranks: &[u32], prototype: &Prototype, limit: u32
 }
 
 /// Whether the compositions that a composition holds rank below it.
-pub fn stands_above(d: &Description, ranks: &[u32], composition: u32) -> bool
+pub fn stands_above(d: &Description, ranks: &[u32], composition: usize) -> bool
     ensures { result ≡ list_all (ranks_below d.now ranks.now (slice_index ranks.now composition)) (prototypes_of d.now composition) }
 {
     let limit = rank(ranks, composition);
@@ -46,7 +46,7 @@ pub fn stands_above(d: &Description, ranks: &[u32], composition: u32) -> bool
         .all(|prototype| ranks_below(d, ranks, prototype, limit))
 }
 
-fn holds_none_above(d: &Description, ranks: &[u32], composition: u32) -> bool
+fn holds_none_above(d: &Description, ranks: &[u32], composition: usize) -> bool
     ensures { result ≡ list_all (ranks_within d.now ranks.now (slice_index ranks.now composition)) (prototypes_of d.now composition) }
 {
     let highest = rank(ranks, composition);
@@ -56,11 +56,10 @@ fn holds_none_above(d: &Description, ranks: &[u32], composition: u32) -> bool
 }
 
 /// Whether no composition holds one that ranks above it.
-pub fn is_ranking(d: &Description, ranks: &[u32], count: u32) -> bool
-    requires { count ≡ length d.now.compositions }
+pub fn is_ranking(d: &Description, ranks: &[u32]) -> bool
     ensures { OnTrue result (IsRanking d.now ranks.now) }
 {
-    for composition in 0..count {
+    for composition in 0..d.compositions.len() {
         if !holds_none_above(d, ranks, composition) {
             return false;
         }
@@ -86,7 +85,7 @@ pub fn ranks_of(alloc: Global, d: &Description) -> Result<Vec<u32>, Memory> {
 }
 
 /// For each composition the declared ones that it holds, one for each prototype.
-fn held_lists(alloc: Global, d: &Description) -> Result<Vec<Vec<u32>>, Memory> {
+fn held_lists(alloc: Global, d: &Description) -> Result<Vec<Vec<usize>>, Memory> {
     let mut lists = Vec::new(alloc);
     for composition in d.compositions.items() {
         lists.push(held_list(alloc, d, composition.prototypes.items())?)?;
@@ -94,7 +93,11 @@ fn held_lists(alloc: Global, d: &Description) -> Result<Vec<Vec<u32>>, Memory> {
     Ok(lists)
 }
 
-fn held_list(alloc: Global, d: &Description, prototypes: &[Prototype]) -> Result<Vec<u32>, Memory> {
+fn held_list(
+    alloc: Global,
+    d: &Description,
+    prototypes: &[Prototype],
+) -> Result<Vec<usize>, Memory> {
     let mut list = Vec::new(alloc);
     for prototype in prototypes {
         if let Some(held) = declared_composition(d, prototype) {
@@ -104,24 +107,21 @@ fn held_list(alloc: Global, d: &Description, prototypes: &[Prototype]) -> Result
     Ok(list)
 }
 
-/// For each composition those that hold it. Those past what a `u32` can number are left out: ranks are checked before use.
-fn turned(alloc: Global, lists: &[Vec<u32>]) -> Result<Vec<Vec<u32>>, Memory> {
+/// For each composition those that hold it.
+fn turned(alloc: Global, lists: &[Vec<usize>]) -> Result<Vec<Vec<usize>>, Memory> {
     let mut holders = Vec::new(alloc);
     for _ in lists {
         holders.push(Vec::new(alloc))?;
     }
-    for (position, list) in lists.iter().enumerate() {
-        let Ok(holder) = u32::try_from(position) else {
-            break;
-        };
+    for (holder, list) in lists.iter().enumerate() {
         add_holder(list.as_slice(), holder, &mut holders)?;
     }
     Ok(holders)
 }
 
-fn add_holder(held: &[u32], holder: u32, holders: &mut Vec<Vec<u32>>) -> Result<(), Memory> {
+fn add_holder(held: &[usize], holder: usize, holders: &mut Vec<Vec<usize>>) -> Result<(), Memory> {
     for composition in held {
-        if let Some(list) = holders.get_mut(*composition as usize) {
+        if let Some(list) = holders.get_mut(*composition) {
             list.push(holder)?;
         }
     }
@@ -129,8 +129,8 @@ fn add_holder(held: &[u32], holder: u32, holders: &mut Vec<Vec<u32>>) -> Result<
 }
 
 /// Whether a composition was not seen before; now it is.
-fn is_new(seen: &mut Vec<bool>, composition: u32) -> bool {
-    match seen.get_mut(composition as usize) {
+fn is_new(seen: &mut Vec<bool>, composition: usize) -> bool {
+    match seen.get_mut(composition) {
         Some(mark) => {
             let is_new = !*mark;
             *mark = true;
@@ -142,11 +142,10 @@ fn is_new(seen: &mut Vec<bool>, composition: u32) -> bool {
 
 /// The compositions in the order in which a search, which goes from each to those that it holds, leaves them for the last
 /// time.
-fn left_order(alloc: Global, held: &[Vec<u32>]) -> Result<Vec<u32>, Memory> {
-    let count = u32::try_from(held.len()).unwrap_or(u32::MAX);
+fn left_order(alloc: Global, held: &[Vec<usize>]) -> Result<Vec<usize>, Memory> {
     let mut seen = vec![in alloc; false; held.len()]?;
     let mut order = Vec::new(alloc);
-    for composition in 0..count {
+    for composition in 0..held.len() {
         if is_new(&mut seen, composition) {
             search_from(alloc, held, composition, &mut seen, &mut order)?;
         }
@@ -156,13 +155,13 @@ fn left_order(alloc: Global, held: &[Vec<u32>]) -> Result<Vec<u32>, Memory> {
 
 fn search_from(
     alloc: Global,
-    held: &[Vec<u32>],
-    composition: u32,
+    held: &[Vec<usize>],
+    composition: usize,
     seen: &mut Vec<bool>,
-    order: &mut Vec<u32>,
+    order: &mut Vec<usize>,
 ) -> Result<(), Memory> {
     let mut path = Vec::new(alloc);
-    path.push((composition, 0u32))?;
+    path.push((composition, 0usize))?;
     for _ in 0..u64::MAX {
         match path.pop() {
             Some((last, next)) => go_on(held, last, next, &mut path, seen, order)?,
@@ -172,21 +171,21 @@ fn search_from(
     Ok(())
 }
 
-fn held_at(held: &[Vec<u32>], composition: u32, place: u32) -> Option<u32> {
-    match held.get(composition as usize) {
-        Some(list) => list.get(place as usize).copied(),
+fn held_at(held: &[Vec<usize>], composition: usize, place: usize) -> Option<usize> {
+    match held.get(composition) {
+        Some(list) => list.get(place).copied(),
         None => None,
     }
 }
 
 /// Goes from the last composition of a path to the next one that it holds, or leaves it where there is none.
 fn go_on(
-    held: &[Vec<u32>],
-    last: u32,
-    next: u32,
-    path: &mut Vec<(u32, u32)>,
+    held: &[Vec<usize>],
+    last: usize,
+    next: usize,
+    path: &mut Vec<(usize, usize)>,
     seen: &mut Vec<bool>,
-    order: &mut Vec<u32>,
+    order: &mut Vec<usize>,
 ) -> Result<(), Memory> {
     match held_at(held, last, next) {
         Some(further) => {
@@ -207,8 +206,8 @@ fn go_on(
 /// whether it had none.
 fn give_rank(
     alloc: Global,
-    holders: &[Vec<u32>],
-    composition: u32,
+    holders: &[Vec<usize>],
+    composition: usize,
     rank: u32,
     ranks: &mut Vec<u32>,
 ) -> Result<bool, Memory> {
@@ -221,7 +220,7 @@ fn give_rank(
         let Some(last) = ranked.pop() else {
             break;
         };
-        if let Some(list) = holders.get(last as usize) {
+        if let Some(list) = holders.get(last) {
             rank_all(list.as_slice(), rank, ranks, &mut ranked)?;
         }
     }
@@ -229,10 +228,10 @@ fn give_rank(
 }
 
 fn rank_all(
-    compositions: &[u32],
+    compositions: &[usize],
     rank: u32,
     ranks: &mut Vec<u32>,
-    ranked: &mut Vec<u32>,
+    ranked: &mut Vec<usize>,
 ) -> Result<(), Memory> {
     for composition in compositions {
         if is_ranked_now(ranks, *composition, rank) {
@@ -243,8 +242,8 @@ fn rank_all(
 }
 
 /// Gives a composition this rank, if it has none. The answer is whether it had none.
-fn is_ranked_now(ranks: &mut Vec<u32>, composition: u32, rank: u32) -> bool {
-    match ranks.get_mut(composition as usize) {
+fn is_ranked_now(ranks: &mut Vec<u32>, composition: usize, rank: u32) -> bool {
+    match ranks.get_mut(composition) {
         Some(place) => {
             let is_free = *place == 0;
             if is_free {

@@ -6,4 +6,4 @@ pub loop-composition-preserved : goal.loop-composition-preserved
 loop-composition-preserved c = none_broken_more c.args.d.now c.loop-composition.composition c.in_ok-number.field-0 c.loop-composition.invariant c.in_ok-number.ensures c.in-None.is
 
 pub returns : goal.returns
-returns c = none_broken c.args.d.now c.loop-composition.composition c.loop-composition.invariant (omega (arith, c.in_ok-count.ensures))
+returns c = none_broken c.args.d.now c.loop-composition.composition c.loop-composition.invariant (omega arith)

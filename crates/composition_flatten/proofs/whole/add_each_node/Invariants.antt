@@ -2,7 +2,7 @@ use Rattle.std.proofs.Common.{take, false}
 use Rattle.flat_descriptions.specs.Growing.{AnyOf, Grown}
 use Rattle.composition_flatten.specs.Links.{IsOwn, IsNodeLink}
 use Rattle.end_crossing.specs.Crossings.{IsMatched}
-use Rattle.composition_flatten.proofs.whole.add_nodes.Given as goal
+use Rattle.composition_flatten.proofs.whole.add_each_node.Given as goal
 
 abbrev pub invariant-loop-node : goal.invariant-loop-node
 invariant-loop-node l = record {
