@@ -1,6 +1,6 @@
 -- What the counts tell of a plan.
-use Rattle.std.proofs.Common.{◌≡◌, ℕ, ◌+◌, ◌<◌, ◌≤◌, [], filter, length, Bool, true, false, ◌||◌, nat_le, nat_lt, Option, Some, None, ⊎_elim, refl, sym, ◌∙◌, arith, slice_get}
-use Rattle.std.proofs.lemmas.Bool.{leb-false, leb-true, lt-ltb, ltb-false, ltb-true, or_cases, or_left, or_parts, or_right}
+use Rattle.std.proofs.Common.{◌≡◌, ℕ, ◌+◌, ◌-◌, ◌<◌, ◌≤◌, ◌==◌, [], filter, length, Bool, true, false, ◌||◌, nat_lt, Option, Some, None, ⊎_elim, refl, sym, ◌∙◌, arith, slice_get}
+use Rattle.std.proofs.lemmas.Bool.{eqb-true, lt-ltb, or_cases, or_left, or_parts, or_right}
 use Rattle.std.proofs.lemmas.List.{length-map}
 use Rattle.std.specs.List.{sum_by}
 use Rattle.std.specs.Option.{option_map_or, unwrap_or}
@@ -23,6 +23,7 @@ use Rattle.plan_definitions.specs.Planned.{area_of, areas, areas_at, named_areas
 use Rattle.plan_definitions.specs.PlanRules.{is_too_large, queue_lengths}
 use Rattle.event_mapping.proofs.Alone.{groups_most}
 use Rattle.event_mapping.proofs.Apart.{apart_filter, sites_apart}
+use Rattle.event_mapping.proofs.Spending.{some_left}
 use Rattle.event_mapping.proofs.Totals.{areas_in, by_kind, length_from, sites_counted}
 
 module _ (d : Description) (f : Flat) where
@@ -68,8 +69,9 @@ module _ (d : Description) (f : Flat) where
       = groups_most f.joins (elements_of d f) (apart_filter key_of (λ (s : Site). is_element s.kind) (sites d f) (sites_apart d f)) in
       omega (arith, all_listed, most, elements_listed)
 
-  pub foretold : (answer : Bool) (count items least : ℕ) → answer ≡ (nat_lt 16384 count || nat_le least items) → count ≡ event_count d f → items ≡ item_count d f → least ≡ 16384 + (length f.joins + length f.joins) → IsForetold answer d f
-  foretold true count items least is events_are items_are least_is = ⊎_elim many_events many_objects (or_cases (nat_lt 16384 count) (nat_le least items) (sym is))
+  pub foretold : (answer : Bool) (most left rest : ℕ) → answer ≡ ((left == 0) || (rest == 0)) → left ≡ 16385 - event_count d f → rest ≡ most - item_count d f
+      → most ≡ 16384 + (length f.joins + length f.joins) → IsForetold answer d f
+  foretold true most left rest is events_are items_are most_is = ⊎_elim many_events many_objects (or_cases (left == 0) (rest == 0) (sym is))
     where
       objects_over : Bool
       objects_over = nat_lt 16384 (plan_of d f).objects
@@ -80,13 +82,13 @@ module _ (d : Description) (f : Flat) where
       lengths_over : Bool
       lengths_over = nat_lt 65536 (queue_lengths (plan_of d f))
 
-      many_events : nat_lt 16384 count ≡ true → is_too_large (plan_of d f) ≡ true
-      many_events over = let lt = ltb-true 16384 count over in or_left (objects_over || events_over) lengths_over (or_right objects_over events_over (lt-ltb 16384 (length (events d f)) (omega (arith, lt, events_listed, events_are))))
+      many_events : (left == 0) ≡ true → is_too_large (plan_of d f) ≡ true
+      many_events none = let spent = eqb-true left 0 none in or_left (objects_over || events_over) lengths_over (or_right objects_over events_over (lt-ltb 16384 (length (events d f)) (omega (arith, spent, events_listed, events_are))))
 
-      many_objects : nat_le least items ≡ true → is_too_large (plan_of d f) ≡ true
-      many_objects over = let le = leb-true least items over in or_left (objects_over || events_over) lengths_over (or_left objects_over events_over (lt-ltb 16384 (plan_of d f).objects (omega (arith, le, objects_most, items_are, least_is))))
-  foretold false count items least is events_are items_are least_is =
-      let parts = or_parts (nat_lt 16384 count) (nat_le least items) (sym is) in
-      let few = ltb-false 16384 count parts.0 in
-      let short = leb-false least items parts.1 in
-      (omega (arith, all_listed, short, items_are, least_is), omega (arith, few, events_listed, events_are))
+      many_objects : (rest == 0) ≡ true → is_too_large (plan_of d f) ≡ true
+      many_objects none = let spent = eqb-true rest 0 none in or_left (objects_over || events_over) lengths_over (or_left objects_over events_over (lt-ltb 16384 (plan_of d f).objects (omega (arith, spent, objects_most, items_are, most_is))))
+  foretold false most left rest is events_are items_are most_is =
+      let parts = or_parts (left == 0) (rest == 0) (sym is) in
+      let few = some_left left parts.0 in
+      let short = some_left rest parts.1 in
+      (omega (arith, all_listed, short, items_are, most_is), omega (arith, few, events_listed, events_are))

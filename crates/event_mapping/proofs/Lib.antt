@@ -4,4 +4,6 @@ pub mod Summing
 pub mod Apart
 pub mod Alone
 pub mod Totals
+pub mod Spending
+pub mod Sized
 pub mod Foretelling

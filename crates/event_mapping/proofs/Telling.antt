@@ -1,5 +1,7 @@
 -- What an answer tells, of one check after another.
 use Rattle.std.proofs.Common.{◌≡◌, ℕ, List, Bool, true, false, if◌then◌else◌, ap, Option, Some, None, Result, Ok, Err, OnOk, ◌⊎◌, inl, inr, refl, sym, subst, ◌∙◌}
+use Rattle.description_types.specs.declared.description.Description.{Description}
+use Rattle.flat_descriptions.specs.declared.flat.Flat.{Flat}
 use Rattle.rte_text.specs.declared.refusal.Refused.{Refused}
 use Rattle.rte_text.specs.declared.refusal.Refused.TheVariants.{Rule, Memory}
 use Rattle.plan_definitions.specs.Telling.{Tells as Says}
@@ -51,3 +53,7 @@ size_refused p r large so is says = subst (λ b. Says (by_size b) r) (sym so ∙
 
 pub size_kept : (p : Planned) (large : Bool) → large ≡ false → large ≡ is_too_large p → of_size p ≡ None
 size_kept p large so is = sym (ap by_size (sym so ∙ is))
+
+-- what is told of a description and its flat form is told of the same ones
+pub moved : (P : Description → Flat → Type 0) (d e : Description) (f g : Flat) → d ≡ e → f ≡ g → P d f → P e g
+moved P d e f g same_d same_f told = subst (λ x. P x g) same_d (subst (λ x. P d x) same_f told)

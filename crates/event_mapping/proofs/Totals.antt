@@ -163,10 +163,7 @@ by_kind (x ∷ xs) = by x.kind (by_kind xs)
     by ModePort rest = rest
 
 -- the same by a list of counts
-looked_up : {X : Type 0} (g : X → ℕ) (xs : List X) (n : ℕ) → unwrap_or (slice_get (map g xs) n) 0 ≡ option_map_or g (slice_get xs n) 0
+pub looked_up : {X : Type 0} (g : X → ℕ) (xs : List X) (n : ℕ) → unwrap_or (slice_get (map g xs) n) 0 ≡ option_map_or g (slice_get xs n) 0
 looked_up g [] n = refl
 looked_up g (x ∷ xs) zero = refl
 looked_up g (x ∷ xs) (suc n) = looked_up g xs n
-
-pub instances_counted : (d : Description) (counts : List ℕ) (xs : List Instance) → counts ≡ map (items_in d.types) d.components → sum_by (λ x. unwrap_or (slice_get counts x.component) 0) xs ≡ sum_by (items_of_instance d) xs
-instances_counted d counts xs are = (λ j. sum_by (λ x. unwrap_or (slice_get (are j) x.component) 0) xs) ∙ (λ j. sum_by (λ x. looked_up (items_in d.types) d.components x.component j) xs)

@@ -1,5 +1,5 @@
 -- How much a plan would list, counted before anything is listed.
-use Rattle.std.specs.Prelude.{ℕ, ◌+◌, List, length, sum_by, Bool, true, false, slice_get, Option, Some, None, if◌then◌else◌}
+use Rattle.std.specs.Prelude.{ℕ, ◌+◌, ◌-◌, List, length, sum_by, Bool, true, false, slice_get, Option, Some, None, if◌then◌else◌}
 use Rattle.std.specs.Option.{option_map_or}
 use Rattle.interface_types.specs.declared.interface.TypeTable.{TypeTable}
 use Rattle.description_types.specs.declared.component.Component.{Component}
@@ -42,3 +42,7 @@ item_count d f = sum_by (items_of_instance d) f.instances + items_of_ports d.typ
 
 abbrev pub event_count : Description → Flat → ℕ
 event_count d f = sum_by (events_of_instance d) f.instances
+
+-- as many, but no more than so many
+abbrev pub at_most : {X : Type 0} → ℕ → (X → ℕ) → X → ℕ
+at_most most count x = most - (most - count x)

@@ -1,3 +1,4 @@
 pub mod Pieces
 pub mod Guard
 pub mod Foretold
+pub mod Sized

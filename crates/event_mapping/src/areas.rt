@@ -7,14 +7,9 @@ ghost use Rattle.plan_definitions.specs.Planned.{area_of, areas, areas_at, named
 use bus_semantics::AreaPlan;
 use description_types::Description;
 use flat_descriptions::{Flat, Instance};
+use plan_numbers::position;
 use rte_text::{Memory, Text};
-use std::alloc::{AllocError, Global};
-
-fn position(number: usize) -> Result<u32, Memory>
-    ensures { IfOk result (λ position. position ≡ number) }
-{
-    u32::try_from(number).map_err(|_| AllocError)
-}
+use std::alloc::Global;
 
 fn push_area(
     list: &mut Vec<AreaPlan>,

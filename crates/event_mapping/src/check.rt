@@ -29,13 +29,14 @@ fn size_refusal(alloc: Global) -> Refused
     }
 }
 
-fn check_size(alloc: Global, plan: &BusPlan) -> Result<(), Refused>
-    ensures { Says (of_size (seen plan.now)) result }
+fn sized(alloc: Global, plan: BusPlan) -> Result<BusPlan, Refused>
+    ensures size { Says (of_size (seen plan)) result }
+    ensures plan { IfOk result (λ found. seen found ≡ seen plan) }
 {
-    if is_too_large(plan) {
+    if is_too_large(&plan) {
         return Err(size_refusal(alloc));
     }
-    Ok(())
+    Ok(plan)
 }
 
 fn sized_plan(alloc: Global, d: &Description, f: &Flat, mapped: &[bool]) -> Result<BusPlan, Refused>
@@ -43,10 +44,10 @@ fn sized_plan(alloc: Global, d: &Description, f: &Flat, mapped: &[bool]) -> Resu
     ensures size { Says (of_size (plan_of d.now f.now)) result }
     ensures plan { IfOk result (λ plan. seen plan ≡ plan_of d.now f.now) }
 {
-    let plan = build_plan(alloc, d, f, mapped)?;
-    match check_size(alloc, &plan) {
-        Ok(()) => Ok(plan),
-        Err(refused) => Err(refused),
+    let found = build_plan(alloc, d, f, mapped)?;
+    match found {
+        Some(plan) => sized(alloc, plan),
+        None => Err(size_refusal(alloc)),
     }
 }
 

@@ -1,23 +1,17 @@
 //! Whether a plan is sure to be too large, by counts alone.
 
-ghost use Rattle.std.specs.Prelude.{◌≡◌, ◌+◌, ◌||◌, IfOk, map, nat_le, nat_lt, slice_get, sum_by};
+ghost use Rattle.std.specs.Prelude.{◌≡◌, ◌+◌, ◌-◌, ◌==◌, ◌||◌, IfOk, length, map, slice_get, sum_by};
 ghost use Rattle.std.specs.Option.{unwrap_or};
 ghost use Rattle.plan_definitions.specs.Sites.{count_at, kind_at, provides_at, root_ports};
 ghost use Rattle.event_mapping.specs.Foretold.{IsForetold};
-ghost use Rattle.event_mapping.specs.Guard.{counted_with, event_count, events_of_instance, item_count, items_at, items_in, items_of_instance, items_of_ports};
+ghost use Rattle.event_mapping.specs.Guard.{at_most, counted_with, events_of_instance, item_count, items_at, items_in, items_of_ports};
 
 use crate::size::{EVENTS, OBJECTS};
 use description_types::{Component, Description, Port, PortKind};
-use flat_descriptions::{Flat, Instance};
+use flat_descriptions::{Flat, Instance, Join};
 use interface_types::{InterfaceKind, TypeTable};
 use rte_text::Memory;
-use std::alloc::{AllocError, Global};
-
-fn sum_of(sum: usize, more: usize) -> Result<usize, Memory>
-    ensures { IfOk result (λ whole. whole ≡ sum + more) }
-{
-    sum.checked_add(more).ok_or(AllocError)
-}
+use std::alloc::Global;
 
 /// Whether the owner of a port provides its items: an instance at its P-ports, the environment at the R-ports of the root.
 fn provides_at(owner: Option<u32>, side: PortKind) -> bool
@@ -54,37 +48,41 @@ fn items_at(types: &TypeTable, owner: Option<u32>, port: &Port) -> usize
     }
 }
 
-fn items_of_ports(types: &TypeTable, owner: Option<u32>, ports: &[Port]) -> Result<usize, Memory>
-    ensures { IfOk result (λ sum. sum ≡ items_of_ports types.now owner ports.now) }
+/// What is left of a number after the items of some ports.
+#[tactic(auto, using(crate::proofs::Spending::spent))]
+fn after_ports(left: usize, types: &TypeTable, owner: Option<u32>, ports: &[Port]) -> usize
+    ensures { result ≡ left - items_of_ports types.now owner ports.now }
 {
-    let mut sum = 0;
+    let mut rest = left;
     for port in ports {
-        sum = sum_of(sum, items_at(types, owner, port))?;
+        rest = rest.saturating_sub(items_at(types, owner, port));
     }
-    Ok(sum)
+    rest
 }
 
-fn items_in(types: &TypeTable, component: &Component) -> Result<usize, Memory>
-    ensures { IfOk result (λ sum. sum ≡ items_in types.now component.now) }
+/// What is left of a number after the items of an instance of a component.
+fn after_component(left: usize, types: &TypeTable, component: &Component) -> usize
+    ensures { result ≡ left - items_in types.now component.now }
 {
     let behavior = &component.behavior;
-    let inner = sum_of(behavior.variables.len(), behavior.exclusive_areas.len())?;
-    let outer = items_of_ports(types, Some(0), component.ports.items())?;
-    let sum = sum_of(outer, inner)?;
-    Ok(sum)
+    let outer = after_ports(left, types, Some(0), component.ports.items());
+    let inner = outer.saturating_sub(behavior.variables.len());
+    inner.saturating_sub(behavior.exclusive_areas.len())
 }
 
-/// Once for each component, however many instances it has.
+/// The items of an instance of each component, `most` where there are more. Counted once for each component, however many
+/// instances it has.
 fn items_of_components(
     alloc: Global,
+    most: usize,
     types: &TypeTable,
     components: &[Component],
 ) -> Result<Vec<usize>, Memory>
-    ensures { IfOk result (λ counts. counts.items ≡ map (items_in types.now) components.now) }
+    ensures { IfOk result (λ counts. counts.items ≡ map (at_most most (items_in types.now)) components.now) }
 {
     let mut counts = Vec::new(alloc);
     for component in components {
-        counts.push(items_in(types, component)?)?;
+        counts.push(most - after_component(most, types, component))?;
     }
     Ok(counts)
 }
@@ -98,23 +96,16 @@ fn count_for(counts: &[usize], instance: &Instance) -> usize
     }
 }
 
-fn count_for_all(counts: &[usize], instances: &[Instance]) -> Result<usize, Memory>
-    ensures { IfOk result (λ sum. sum ≡ sum_by (λ x. unwrap_or (slice_get counts.now x.component) 0) instances.now) }
+/// What is left of a number after as many for each instance as its component has.
+#[tactic(auto, using(crate::proofs::Spending::spent))]
+fn after_instances(left: usize, counts: &[usize], instances: &[Instance]) -> usize
+    ensures { result ≡ left - sum_by (λ x. unwrap_or (slice_get counts.now x.component) 0) instances.now }
 {
-    let mut sum = 0;
+    let mut rest = left;
     for instance in instances {
-        sum = sum_of(sum, count_for(counts, instance))?;
+        rest = rest.saturating_sub(count_for(counts, instance));
     }
-    Ok(sum)
-}
-
-#[tactic(auto, using(crate::proofs::Totals::instances_counted))]
-fn items_of_instances(alloc: Global, d: &Description, f: &Flat) -> Result<usize, Memory>
-    ensures { IfOk result (λ sum. sum ≡ sum_by (items_of_instance d.now) f.now.instances) }
-{
-    let counts = items_of_components(alloc, &d.types, d.components.items())?;
-    let sum = count_for_all(counts.as_slice(), f.instances.items())?;
-    Ok(sum)
+    rest
 }
 
 fn root_ports(d: &Description) -> &[Port]
@@ -126,13 +117,14 @@ fn root_ports(d: &Description) -> &[Port]
     }
 }
 
-fn item_count(alloc: Global, d: &Description, f: &Flat) -> Result<usize, Memory>
-    ensures { IfOk result (λ sum. sum ≡ item_count d.now f.now) }
+/// What is left of a number after all items.
+fn after_items(alloc: Global, most: usize, d: &Description, f: &Flat) -> Result<usize, Memory>
+    ensures { IfOk result (λ left. left ≡ most - item_count d.now f.now) }
 {
-    let inner = items_of_instances(alloc, d, f)?;
-    let outer = items_of_ports(&d.types, None, root_ports(d))?;
-    let sum = sum_of(inner, outer)?;
-    Ok(sum)
+    let counts = items_of_components(alloc, most, &d.types, d.components.items())?;
+    let inner = after_instances(most, counts.as_slice(), f.instances.items());
+    let left = after_ports(inner, &d.types, None, root_ports(d));
+    Ok(left)
 }
 
 fn events_of_instance(d: &Description, instance: &Instance) -> usize
@@ -144,42 +136,41 @@ fn events_of_instance(d: &Description, instance: &Instance) -> usize
     }
 }
 
-fn event_count(d: &Description, instances: &[Instance]) -> Result<usize, Memory>
-    ensures { IfOk result (λ sum. sum ≡ sum_by (events_of_instance d.now) instances.now) }
+/// What is left of a number after the events of instances.
+#[tactic(auto, using(crate::proofs::Spending::spent))]
+fn after_events(left: usize, d: &Description, instances: &[Instance]) -> usize
+    ensures { result ≡ left - sum_by (events_of_instance d.now) instances.now }
 {
-    let mut sum = 0;
+    let mut rest = left;
     for instance in instances {
-        sum = sum_of(sum, events_of_instance(d, instance))?;
+        rest = rest.saturating_sub(events_of_instance(d, instance));
     }
-    Ok(sum)
+    rest
 }
 
 /// The least count of items that makes too many objects. Each join names two elements, which may be in a group with others; every
 /// other item is an object, and so is the clock.
-fn least_beyond(joins: usize) -> Result<usize, Memory>
-    ensures { IfOk result (λ least. least ≡ 16384 + (joins + joins)) }
+fn least_beyond(joins: &[Join]) -> usize
+    ensures { result ≡ 16384 + (length joins.now + length joins.now) }
 {
-    let ends = sum_of(joins, joins)?;
-    let least = sum_of(OBJECTS as usize, ends)?;
-    Ok(least)
+    OBJECTS as usize + (joins.len() + joins.len())
 }
 
-fn is_beyond(events: usize, items: usize, least: usize) -> bool
-    ensures { result ≡ (nat_lt 16384 events || nat_le least items) }
+fn is_beyond(events: usize, items: usize) -> bool
+    ensures { result ≡ ((events == 0) || (items == 0)) }
 {
-    events > EVENTS || items >= least
+    events == 0 || items == 0
 }
 
 /// Whether a plan is sure to have more than 16,384 objects or events. It is counted, component by component, before anything is
 /// listed: the plan of which this is false lists no more than 16,384 events, and no more elements, servers, areas and mode machines
-/// than 16,384 and two for each join. The only error is want of memory, also for counts that a `usize` cannot hold.
+/// than 16,384 and two for each join. Counts go down from the least that is too much, so that none is too large for a `usize`.
 #[tactic(auto, using(crate::proofs::Foretelling::foretold))]
 pub fn is_foretold(alloc: Global, d: &Description, f: &Flat) -> Result<bool, Memory>
     ensures { IfOk result (λ answer. IsForetold answer d.now f.now) }
 {
-    let events = event_count(d, f.instances.items())?;
-    let items = item_count(alloc, d, f)?;
-    let least = least_beyond(f.joins.len())?;
-    let answer = is_beyond(events, items, least);
+    let events = after_events(EVENTS + 1, d, f.instances.items());
+    let items = after_items(alloc, least_beyond(f.joins.items()), d, f)?;
+    let answer = is_beyond(events, items);
     Ok(answer)
 }

@@ -1,6 +1,6 @@
 //! How large a plan is.
 
-ghost use Rattle.std.specs.Prelude.{◌≡◌, ◌<◌, ◌^◌, ◌||◌, nat_lt, sum_by};
+ghost use Rattle.std.specs.Prelude.{◌≡◌, ◌-◌, ◌==◌, ◌||◌, nat_lt, sum_by};
 ghost use Rattle.plan_definitions.specs.Elements.{elem_seen};
 ghost use Rattle.plan_definitions.specs.Planned.{seen};
 ghost use Rattle.plan_definitions.specs.PlanRules.{is_queued, is_too_large, queue_lengths, received, requested};
@@ -14,7 +14,7 @@ pub const OBJECTS: u32 = 16_384;
 pub const EVENTS: usize = 16_384;
 
 /// How long all queues may be together.
-const QUEUES: u128 = 65_536;
+const QUEUES: u32 = 65_536;
 
 fn is_queued(kind: ElemKind) -> bool
     ensures { result ≡ is_queued kind }
@@ -36,15 +36,16 @@ fn received(element: &ElemPlan) -> u32
     }
 }
 
-fn all_received(elements: &[ElemPlan]) -> u128
-    ensures sum { result ≡ sum_by (λ e. received (elem_seen e)) elements.now }
-    ensures small { result < 2 ^ 96 }
+/// What is left of a number after the queues of elements.
+#[tactic(auto, using(crate::proofs::Spending::spent))]
+fn after_received(left: u32, elements: &[ElemPlan]) -> u32
+    ensures { result ≡ left - sum_by (λ e. received (elem_seen e)) elements.now }
 {
-    let mut sum = 0;
+    let mut rest = left;
     for element in elements {
-        sum += u128::from(received(element));
+        rest = rest.saturating_sub(received(element));
     }
-    sum
+    rest
 }
 
 fn requested(server: &ServerPlan) -> u32
@@ -53,48 +54,49 @@ fn requested(server: &ServerPlan) -> u32
     server.queue.unwrap_or(0)
 }
 
-fn all_requested(servers: &[ServerPlan]) -> u128
-    ensures sum { result ≡ sum_by requested servers.now }
-    ensures small { result < 2 ^ 96 }
+/// What is left of a number after the queues of servers.
+#[tactic(auto, using(crate::proofs::Spending::spent))]
+fn after_requested(left: u32, servers: &[ServerPlan]) -> u32
+    ensures { result ≡ left - sum_by requested servers.now }
 {
-    let mut sum = 0;
+    let mut rest = left;
     for server in servers {
-        sum += u128::from(requested(server));
+        rest = rest.saturating_sub(requested(server));
     }
-    sum
+    rest
 }
 
-fn all_switches(machines: &[MachinePlan]) -> u128
-    ensures sum { result ≡ sum_by (λ m. m.queue) machines.now }
-    ensures small { result < 2 ^ 96 }
+/// What is left of a number after the queues of machines.
+#[tactic(auto, using(crate::proofs::Spending::spent))]
+fn after_switches(left: u32, machines: &[MachinePlan]) -> u32
+    ensures { result ≡ left - sum_by (λ m. m.queue) machines.now }
 {
-    let mut sum = 0;
+    let mut rest = left;
     for machine in machines {
-        sum += u128::from(machine.queue);
+        rest = rest.saturating_sub(machine.queue);
     }
-    sum
+    rest
 }
 
-/// How long all queues of a plan are together. No lists of lengths of 32 bits add up to more than this holds.
-fn queue_lengths(plan: &BusPlan) -> u128
-    ensures { result ≡ queue_lengths (seen plan.now) }
+/// What is left, after all queues of a plan, of the least length that is too much. It goes down, so that no sum is too large.
+fn after_queues(plan: &BusPlan) -> u32
+    ensures { result ≡ 65537 - queue_lengths (seen plan.now) }
 {
-    let received = all_received(plan.elements.items());
-    let requested = all_requested(plan.servers.items());
-    let switches = all_switches(plan.machines.items());
-    received + (requested + switches)
+    let received = after_received(QUEUES + 1, plan.elements.items());
+    let requested = after_requested(received, plan.servers.items());
+    after_switches(requested, plan.machines.items())
 }
 
-fn is_beyond(objects: u32, events: usize, lengths: u128) -> bool
-    ensures { result ≡ ((nat_lt 16384 objects || nat_lt 16384 events) || nat_lt 65536 lengths) }
+fn is_beyond(objects: u32, events: usize, left: u32) -> bool
+    ensures { result ≡ ((nat_lt 16384 objects || nat_lt 16384 events) || (left == 0)) }
 {
-    objects > OBJECTS || events > EVENTS || lengths > QUEUES
+    objects > OBJECTS || events > EVENTS || left == 0
 }
 
 /// Whether a plan has more than 16,384 objects or events, or its queues are together longer than 65,536.
 pub fn is_too_large(plan: &BusPlan) -> bool
     ensures { result ≡ is_too_large (seen plan.now) }
 {
-    let lengths = queue_lengths(plan);
-    is_beyond(plan.objects, plan.events.len(), lengths)
+    let left = after_queues(plan);
+    is_beyond(plan.objects, plan.events.len(), left)
 }

@@ -1,0 +1,24 @@
+-- A plan with too many objects, or with few.
+use Rattle.std.proofs.Common.{◌≡◌, ℕ, Bool, true, false, cond, ◌||◌, nat_le, nat_lt, length, Option, Some, None, refl, subst, arith}
+use Rattle.std.proofs.lemmas.Bool.{leb-false, lt-ltb, or_left}
+use Rattle.plan_definitions.specs.Planned.{Planned}
+use Rattle.plan_definitions.specs.PlanRules.{is_too_large, queue_lengths}
+use Rattle.event_mapping.specs.Sized.{few_objects}
+
+pub few : (n c : ℕ) → Some c ≡ few_objects n → c ≡ n
+few n c is = by (nat_le n 16384) is
+  where
+    by : (b : Bool) → Some c ≡ cond b (Some n) None → c ≡ n
+    by true is = cc
+    by false is = cc
+
+many : (n : ℕ) → None ≡ few_objects n → nat_lt 16384 n ≡ true
+many n is = by (nat_le n 16384) refl is
+  where
+    by : (b : Bool) → nat_le n 16384 ≡ b → None ≡ cond b (Some n) None → nat_lt 16384 n ≡ true
+    by true h is = cc
+    by false h is = let more = leb-false n 16384 h in lt-ltb 16384 n (omega (arith, more))
+
+pub too_many : (p : Planned) (n : ℕ) → None ≡ few_objects n → n ≡ p.objects → is_too_large p ≡ true
+too_many p n none is = or_left (nat_lt 16384 p.objects || nat_lt 16384 (length p.events)) (nat_lt 65536 (queue_lengths p))
+    (or_left (nat_lt 16384 p.objects) (nat_lt 16384 (length p.events)) (subst (λ m. nat_lt 16384 m ≡ true) is (many n none)))

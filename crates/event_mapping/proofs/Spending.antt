@@ -1,0 +1,63 @@
+-- Counts that go down.
+use Rattle.std.proofs.Common.{◌≡◌, ℕ, zero, suc, ◌+◌, ◌-◌, ◌<◌, ◌==◌, Bool, true, false, nat_lt, List, [], ◌∷◌, length, get_or, map, take, Option, Some, None, unwrap_or, refl, sym, ap, ◌∙◌, arith, slice_get}
+use Rattle.std.proofs.lemmas.Bool.{eqb-true, ltb-false, ltb-true}
+use Rattle.std.proofs.lemmas.List.Sums.{sum_by-cons, sum_by_more}
+use Rattle.std.specs.List.{sum_by}
+use Rattle.std.specs.Option.{option_map_or}
+use Rattle.description_types.specs.declared.component.Component.{Component}
+use Rattle.description_types.specs.declared.description.Description.{Description}
+use Rattle.flat_descriptions.specs.declared.flat.Flat.{Flat}
+use Rattle.flat_descriptions.specs.declared.flat.Instance.{Instance}
+use Rattle.plan_definitions.specs.Sites.{root_ports}
+use Rattle.event_mapping.specs.Guard.{at_most, item_count, items_in, items_of_instance, items_of_ports}
+use Rattle.event_mapping.proofs.Totals.{looked_up}
+
+-- the turn of a loop
+pub spent : {X : Type 0} (f : X → ℕ) (xs : List X) (i : ℕ) (d : X) (whole rest more new : ℕ) → i < length xs → more ≡ f (get_or xs i d) → new ≡ rest - more
+    → rest ≡ whole - sum_by f (take i xs) → new ≡ whole - sum_by f (take (i + 1) xs)
+spent f xs i d whole rest more new within is less so_far = let next = sum_by_more f xs i d within in omega (arith, next, is, less, so_far)
+
+-- as much is left where no count is more than there was
+capped : {X : Type 0} (h g : X → ℕ) (most : ℕ) → ((x : X) → h x ≡ most - (most - g x)) → (xs : List X) → most - sum_by h xs ≡ most - sum_by g xs
+capped h g most each [] = refl
+capped h g most each (x ∷ xs) =
+    let first = sum_by-cons h x xs in
+    let second = sum_by-cons g x xs in
+    let here = each x in
+    let rest = capped h g most each xs in
+    omega (arith, first, second, here, rest)
+
+none_more : (most : ℕ) → 0 ≡ most - (most - 0)
+none_more most = omega arith
+
+module _ (d : Description) (most : ℕ) (counts : List ℕ) (are : counts ≡ map (at_most most (items_in d.types)) d.components) where
+  each : (x : Instance) → unwrap_or (slice_get counts x.component) 0 ≡ most - (most - items_of_instance d x)
+  each x = (λ j. unwrap_or (slice_get (are j) x.component) 0) ∙ looked_up (at_most most (items_in d.types)) d.components x.component ∙ by (slice_get d.components x.component)
+    where
+      by : (o : Option Component) → option_map_or (at_most most (items_in d.types)) o 0 ≡ most - (most - option_map_or (items_in d.types) o 0)
+      by None = none_more most
+      by (Some c) = refl
+
+  pub items_spent : (f : Flat) (inner left : ℕ) → inner ≡ most - sum_by (λ x. unwrap_or (slice_get counts x.component) 0) f.instances → left ≡ inner - items_of_ports d.types None (root_ports d)
+      → left ≡ most - item_count d f
+  items_spent f inner left first second =
+      let same = capped (λ (x : Instance). unwrap_or (slice_get counts x.component) 0) (items_of_instance d) most each f.instances in
+      omega (arith, same, first, second)
+
+-- three sums after one another
+pub three_spent : (whole a b c left rest new : ℕ) → left ≡ whole - a → rest ≡ left - b → new ≡ rest - c → new ≡ whole - (a + (b + c))
+three_spent whole a b c left rest new first second third = omega (arith, first, second, third)
+
+-- nothing is left
+pub some_left : (n : ℕ) → (n == 0) ≡ false → 0 < n
+some_left zero none = cc
+some_left (suc n) none = omega arith
+
+pub all_spent : (left n : ℕ) → left ≡ 65537 - n → (left == 0) ≡ nat_lt 65536 n
+all_spent left n is = by (left == 0) (nat_lt 65536 n) refl refl
+  where
+    by : (s t : Bool) → (left == 0) ≡ s → nat_lt 65536 n ≡ t → s ≡ t
+    by true true h k = refl
+    by false false h k = refl
+    by true false h k = let none = eqb-true left 0 h in let few = ltb-false 65536 n k in absurd (omega (arith, none, few, is))
+    by false true h k = let some = some_left left h in let many = ltb-true 65536 n k in absurd (omega (arith, some, many, is))
