@@ -1,5 +1,5 @@
 -- A plan with too many objects, or with few.
-use Rattle.std.proofs.Common.{◌≡◌, ℕ, Bool, true, false, cond, ◌||◌, nat_le, nat_lt, length, Option, Some, None, refl, subst, arith}
+use Rattle.std.proofs.Common.{◌≡◌, ℕ, Bool, true, false, cond, ◌||◌, nat_le, nat_lt, length, Some, None, refl, subst, arith}
 use Rattle.std.proofs.lemmas.Bool.{leb-false, lt-ltb, or_left}
 use Rattle.plan_definitions.specs.Planned.{Planned}
 use Rattle.plan_definitions.specs.PlanRules.{is_too_large, queue_lengths}

@@ -1,4 +1,4 @@
-use Rattle.std.proofs.Common.{◌≡◌, ◌∙◌, length}
+use Rattle.std.proofs.Common.{◌∙◌, length}
 use Rattle.plan_definitions.specs.Planned.{object_count, plan_of}
 use Rattle.event_mapping.proofs.Sized.{few, too_many}
 use Rattle.event_mapping.proofs.build.plan_over.Goals as goal

@@ -1,4 +1,4 @@
-use Rattle.std.proofs.Common.{◌-◌, ◌∙◌, sym}
+use Rattle.std.proofs.Common.{◌-◌, ◌∙◌}
 use Rattle.std.specs.List.{sum_by}
 use Rattle.plan_definitions.specs.Elements.{elem_seen}
 use Rattle.plan_definitions.specs.PlanRules.{received, requested}
