@@ -13,7 +13,7 @@ use Rattle.plan_definitions.specs.Lists.{from}
 use Rattle.mapping_rules.specs.Groups.{values_at}
 use Rattle.mapping_rules.specs.Listed.{task_of, tasks_at}
 use Rattle.plan_definitions.specs.Mapped.{event_names, mapped_as, named_by, names, is_mapped}
-use Rattle.mapping_rules.specs.Positions.{names_of}
+use Rattle.mapping_rules.specs.Naming.{names_of}
 use Rattle.plan_definitions.specs.MappingRules.{tasks_of_event, tasks_from}
 use Rattle.mapping_rules.proofs.Named.{same_place}
 

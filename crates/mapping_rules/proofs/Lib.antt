@@ -1,6 +1,5 @@
 pub mod Grouping
 pub mod Circles
-pub mod Numbering
 pub mod Sorted
 pub mod Named
 pub mod Events

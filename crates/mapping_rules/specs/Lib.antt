@@ -1,4 +1,4 @@
-pub mod Positions
+pub mod Naming
 pub mod Groups
 pub mod Edges
 pub mod Listed

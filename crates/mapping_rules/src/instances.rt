@@ -11,7 +11,6 @@ ghost use Rattle.plan_definitions.specs.Mapped.{mapped_as};
 ghost use Rattle.plan_definitions.specs.MappingRules.{are_same, badly_mapped_in, is_call, is_mapped_well, keeps_direct, may_be_direct, not_direct_in, spread_in};
 
 use crate::groups::Groups;
-use crate::positions::position;
 use crate::servers::Servers;
 use description_types::{Access, Component, Event, EventKind, Runnable};
 use rte_text::Memory;
@@ -30,16 +29,16 @@ pub enum InstanceRule {
 }
 
 /// An event or a runnable of an instance: the number of the instance, and the position in its component.
-pub type Part = (u32, u32);
+pub type Part = (usize, usize);
 
-fn unless(holds: bool, instance: u32, number: usize) -> Result<Option<Part>, Memory>
-    ensures { IfOk result (λ part. part ≡ unless holds (instance, number)) }
+fn unless(holds: bool, instance: usize, number: usize) -> Option<Part>
+    ensures { result ≡ unless holds (instance, number) }
 {
     if holds {
-        return Ok(None);
+        None
+    } else {
+        Some((instance, number))
     }
-    let number = position(number)?;
-    Ok(Some((instance, number)))
 }
 
 fn is_mapped_well(kind: EventKind, times: usize) -> bool
@@ -54,31 +53,26 @@ fn is_mapped_well(kind: EventKind, times: usize) -> bool
 #[tactic(auto, using(crate::proofs::Events::times_mapped))]
 fn badly_mapped_at(
     servers: &Servers<'_>,
-    instance: u32,
+    instance: usize,
     number: usize,
     kind: EventKind,
-) -> Result<Option<Part>, Memory>
-    ensures { IfOk result (λ part. part ≡ unless (is_mapped_well kind (length (mapped_as servers.now.mapped.names.d.now servers.now.mapped.names.f.now (instance, number)))) (instance, number)) }
+) -> Option<Part>
+    ensures { result ≡ unless (is_mapped_well kind (length (mapped_as servers.now.mapped.names.d.now servers.now.mapped.names.f.now (instance, number)))) (instance, number) }
 {
-    let event = position(number)?;
-    let times = servers.mapped.tasks_of_event((instance, event)).len();
+    let times = servers.mapped.tasks_of_event((instance, number)).len();
     unless(is_mapped_well(kind, times), instance, number)
 }
 
 #[tactic(auto, using(crate::proofs::Firsts::first_more, crate::proofs::Firsts::first_here, crate::proofs::Firsts::first_none))]
-fn badly_mapped_in(
-    servers: &Servers<'_>,
-    instance: u32,
-    component: &Component,
-) -> Result<Option<Part>, Memory>
-    ensures { IfOk result (λ part. part ≡ badly_mapped_in servers.now.mapped.names.d.now servers.now.mapped.names.f.now instance component.now) }
+fn badly_mapped_in(servers: &Servers<'_>, instance: usize, component: &Component) -> Option<Part>
+    ensures { result ≡ badly_mapped_in servers.now.mapped.names.d.now servers.now.mapped.names.f.now instance component.now }
 {
     for (number, event) in component.behavior.events.items().iter().enumerate() {
-        if let Some(part) = badly_mapped_at(servers, instance, number, event.kind)? {
-            return Ok(Some(part));
+        if let Some(part) = badly_mapped_at(servers, instance, number, event.kind) {
+            return Some(part);
         }
     }
-    Ok(None)
+    None
 }
 
 fn is_task(task: u32, other: u32) -> bool
@@ -111,33 +105,28 @@ pub fn are_same(tasks: &[u32]) -> bool
     }
 }
 
-fn spread_at(tasks: &Groups<u32, u32>, instance: u32, number: usize) -> Result<Option<Part>, Memory>
-    ensures { IfOk result (λ part. part ≡ unless (are_same (values_at (nat_eq number) tasks.now.entries.items)) (instance, number)) }
+fn spread_at(tasks: &Groups<usize, u32>, instance: usize, number: usize) -> Option<Part>
+    ensures { result ≡ unless (are_same (values_at (nat_eq number) tasks.now.entries.items)) (instance, number) }
 {
-    let runnable = position(number)?;
-    unless(are_same(tasks.at(runnable)), instance, number)
+    unless(are_same(tasks.at(number)), instance, number)
 }
 
 #[tactic(auto, using(crate::proofs::Firsts::first_more, crate::proofs::Firsts::first_here, crate::proofs::Firsts::first_none))]
-fn spread_among(
-    tasks: &Groups<u32, u32>,
-    instance: u32,
-    runnables: &[Runnable],
-) -> Result<Option<Part>, Memory>
-    ensures { IfOk result (λ part. part ≡ first_of (λ m (r : Runnable). unless (are_same (values_at (nat_eq m) tasks.now.entries.items)) (instance, m)) 0 runnables.now) }
+fn spread_among(tasks: &Groups<usize, u32>, instance: usize, runnables: &[Runnable]) -> Option<Part>
+    ensures { result ≡ first_of (λ m (r : Runnable). unless (are_same (values_at (nat_eq m) tasks.now.entries.items)) (instance, m)) 0 runnables.now }
 {
     for (number, _runnable) in runnables.iter().enumerate() {
-        if let Some(part) = spread_at(tasks, instance, number)? {
-            return Ok(Some(part));
+        if let Some(part) = spread_at(tasks, instance, number) {
+            return Some(part);
         }
     }
-    Ok(None)
+    None
 }
 
 fn spread_in(
     alloc: Global,
     servers: &Servers<'_>,
-    instance: u32,
+    instance: usize,
     component: &Component,
 ) -> Result<Option<Part>, Memory>
     requires { component_of servers.now.mapped.names.d.now servers.now.mapped.names.f.now instance ≡ Some component.now }
@@ -147,7 +136,7 @@ fn spread_in(
     let tasks = servers
         .mapped
         .tasks_of_runnables(alloc, instance, behavior.events.items())?;
-    let part = spread_among(&tasks, instance, behavior.runnables.items())?;
+    let part = spread_among(&tasks, instance, behavior.runnables.items());
     Ok(part)
 }
 
@@ -189,9 +178,9 @@ fn runnable_may_be_direct(component: &Component, runnable: u32) -> bool
 
 fn keeps_direct(
     servers: &Servers<'_>,
-    instance: u32,
+    instance: usize,
     component: &Component,
-    number: u32,
+    number: usize,
     event: &Event,
 ) -> bool
     ensures { result ≡ keeps_direct servers.now.mapped.names.d.now servers.now.mapped.names.f.now instance component.now number event.now }
@@ -208,51 +197,46 @@ fn keeps_direct(
 
 fn not_direct_at(
     servers: &Servers<'_>,
-    instance: u32,
+    instance: usize,
     component: &Component,
     number: usize,
     event: &Event,
-) -> Result<Option<Part>, Memory>
-    ensures { IfOk result (λ part. part ≡ unless (keeps_direct servers.now.mapped.names.d.now servers.now.mapped.names.f.now instance component.now number event.now) (instance, number)) }
+) -> Option<Part>
+    ensures { result ≡ unless (keeps_direct servers.now.mapped.names.d.now servers.now.mapped.names.f.now instance component.now number event.now) (instance, number) }
 {
-    let at = position(number)?;
     unless(
-        keeps_direct(servers, instance, component, at, event),
+        keeps_direct(servers, instance, component, number, event),
         instance,
         number,
     )
 }
 
 #[tactic(auto, using(crate::proofs::Firsts::first_more, crate::proofs::Firsts::first_here, crate::proofs::Firsts::first_none))]
-fn not_direct_in(
-    servers: &Servers<'_>,
-    instance: u32,
-    component: &Component,
-) -> Result<Option<Part>, Memory>
-    ensures { IfOk result (λ part. part ≡ not_direct_in servers.now.mapped.names.d.now servers.now.mapped.names.f.now instance component.now) }
+fn not_direct_in(servers: &Servers<'_>, instance: usize, component: &Component) -> Option<Part>
+    ensures { result ≡ not_direct_in servers.now.mapped.names.d.now servers.now.mapped.names.f.now instance component.now }
 {
     for (number, event) in component.behavior.events.items().iter().enumerate() {
-        if let Some(part) = not_direct_at(servers, instance, component, number, event)? {
-            return Ok(Some(part));
+        if let Some(part) = not_direct_at(servers, instance, component, number, event) {
+            return Some(part);
         }
     }
-    Ok(None)
+    None
 }
 
 fn broken_in(
     alloc: Global,
     servers: &Servers<'_>,
     rule: InstanceRule,
-    instance: u32,
+    instance: usize,
     component: &Component,
 ) -> Result<Option<Part>, Memory>
     requires { component_of servers.now.mapped.names.d.now servers.now.mapped.names.f.now instance ≡ Some component.now }
     ensures { IfOk result (λ part. part ≡ broken_in rule servers.now.mapped.names.d.now servers.now.mapped.names.f.now instance component.now) }
 {
     match rule {
-        InstanceRule::MappedOnce => badly_mapped_in(servers, instance, component),
+        InstanceRule::MappedOnce => Ok(badly_mapped_in(servers, instance, component)),
         InstanceRule::OneTask => spread_in(alloc, servers, instance, component),
-        InstanceRule::Direct => not_direct_in(servers, instance, component),
+        InstanceRule::Direct => Ok(not_direct_in(servers, instance, component)),
     }
 }
 
@@ -260,7 +244,7 @@ fn broken_at(
     alloc: Global,
     servers: &Servers<'_>,
     rule: InstanceRule,
-    instance: u32,
+    instance: usize,
 ) -> Result<Option<Part>, Memory>
     ensures { IfOk result (λ part. part ≡ option_and_then (broken_in rule servers.now.mapped.names.d.now servers.now.mapped.names.f.now instance)
         (component_of servers.now.mapped.names.d.now servers.now.mapped.names.f.now instance)) }
@@ -280,8 +264,7 @@ pub fn first_broken(
 ) -> Result<Option<Part>, Memory>
     ensures { IfOk result (λ part. part ≡ first_broken rule servers.now.mapped.names.d.now servers.now.mapped.names.f.now) }
 {
-    let count = position(servers.mapped.names.f.instances.len())?;
-    for instance in 0..count {
+    for instance in 0..servers.mapped.names.f.instances.len() {
         match broken_at(alloc, servers, rule, instance)? {
             Some(part) => return Ok(Some(part)),
             None => {}

@@ -2,17 +2,16 @@
 
 ghost use Rattle.std.specs.Prelude.{◌≡◌, ◌++◌, IfOk, OnOk, Some, map, is_none, ◌&&◌};
 ghost use Rattle.std.specs.List.{flat_map, list_any};
-ghost use Rattle.plan_definitions.specs.Joined.{provider_of, same_end};
+ghost use Rattle.plan_definitions.specs.Joined.{end_at, provider_of, same_end};
 ghost use Rattle.mapping_rules.specs.Listed.{triple, provided_for, outside_at};
 
-use crate::positions::Positions;
 use flat_descriptions::{End, Flat, Join};
-use plan_numbers::Table;
+use plan_numbers::{Positions, Table};
 use rte_text::Memory;
 use std::alloc::Global;
 
 /// The instance, the port and the item of an end.
-type EndKey = (Option<u32>, u32, u32);
+type EndKey = (Option<usize>, u32, u32);
 
 /// The joins of a description made flat, by their required ends, and by the provided ends that the environment is joined to.
 #[derive(Drop)]
@@ -27,7 +26,11 @@ pub struct Joined<'a> {
 fn triple(end: End) -> EndKey
     ensures { result ≡ triple end }
 {
-    (end.instance, end.port, end.element)
+    let owner = match end.instance {
+        Some(instance) => Some(instance as usize),
+        None => None,
+    };
+    (owner, end.port, end.element)
 }
 
 fn providers_of(alloc: Global, joins: &[Join]) -> Result<Vec<(EndKey, End)>, Memory>
@@ -75,17 +78,17 @@ impl<'a> Joined<'a> {
         })
     }
 
-    /// The first provided end that is joined with a required one.
-    pub fn provider_of(&self, required: End) -> Option<End>
-        ensures { result ≡ provider_of self.now.f.now.joins required }
+    /// The first provided end that is joined with a required one of an instance.
+    pub fn provider_of(&self, instance: usize, port: u32, item: u32) -> Option<End>
+        ensures { result ≡ provider_of self.now.f.now.joins (end_at (Some instance) port item) }
     {
-        self.providers.find(triple(required))
+        self.providers.find((Some(instance), port, item))
     }
 
-    /// Whether the environment is joined to a provided end.
-    pub fn serves_outside(&self, provided: End) -> bool
-        ensures { result ≡ list_any (λ j. same_end provided j.provided && is_none j.required.instance) self.now.f.now.joins }
+    /// Whether the environment is joined to a provided end of an instance.
+    pub fn serves_outside(&self, instance: usize, port: u32, item: u32) -> bool
+        ensures { result ≡ list_any (λ j. same_end (end_at (Some instance) port item) j.provided && is_none j.required.instance) self.now.f.now.joins }
     {
-        self.outside.find(triple(provided)).is_some()
+        self.outside.find((Some(instance), port, item)).is_some()
     }
 }

@@ -9,7 +9,6 @@ mod mapped;
 mod naming;
 mod peeling;
 mod places;
-mod positions;
 mod servers;
 mod sorting;
 mod tasks;

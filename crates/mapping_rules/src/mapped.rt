@@ -10,7 +10,6 @@ ghost use Rattle.plan_definitions.specs.MappingRules.{tasks_of_event, tasks_from
 
 use crate::groups::Groups;
 use crate::naming::Names;
-use crate::positions::position;
 use description_types::{Description, Event, MappedEvent};
 use flat_descriptions::Flat;
 use rte_text::Memory;
@@ -20,12 +19,12 @@ use std::alloc::Global;
 #[derive(Drop)]
 pub struct Mapped<'a> {
     pub names: Names<'a>,
-    tasks: Groups<(u32, u32), u32>,
+    tasks: Groups<(usize, usize), u32>,
     ghost are_tasks: { tasks.entries.items ≡ flat_map (task_of names.d.now names.f.now) names.d.now.mapping.events },
 }
 
 fn push_task<'a>(
-    list: &mut Vec<((u32, u32), u32)>,
+    list: &mut Vec<((usize, usize), u32)>,
     names: &Names<'a>,
     mapped: &'a MappedEvent,
 ) -> Result<(), Memory>
@@ -41,7 +40,7 @@ fn tasks_of<'a>(
     alloc: Global,
     names: &Names<'a>,
     events: &'a [MappedEvent],
-) -> Result<Vec<((u32, u32), u32)>, Memory>
+) -> Result<Vec<((usize, usize), u32)>, Memory>
     ensures { IfOk result (λ list. list.items ≡ flat_map (task_of names.now.d.now names.now.f.now) events.now) }
 {
     let mut list = Vec::new(alloc);
@@ -51,7 +50,7 @@ fn tasks_of<'a>(
     Ok(list)
 }
 
-fn push_tasks(list: &mut Vec<(u32, u32)>, runnable: u32, tasks: &[u32]) -> Result<(), Memory>
+fn push_tasks(list: &mut Vec<(usize, u32)>, runnable: usize, tasks: &[u32]) -> Result<(), Memory>
     ensures { OnOk result (list.new.items ≡ list.old.items ++ map (λ t. (runnable, t)) tasks.now) }
 {
     for task in tasks {
@@ -73,7 +72,7 @@ impl<'a> Mapped<'a> {
     }
 
     /// The tasks that an event of an instance is mapped to, once for each time that it is mapped.
-    pub fn tasks_of_event(&self, event: (u32, u32)) -> &[u32]
+    pub fn tasks_of_event(&self, event: (usize, usize)) -> &[u32]
         ensures { result.now ≡ tasks_of_event self.now.names.d.now self.now.names.f.now event }
     {
         self.tasks.at(event)
@@ -81,7 +80,7 @@ impl<'a> Mapped<'a> {
 
     /// Whether an event of an instance is mapped.
     #[tactic(auto, using(crate::proofs::Events::mapped_where))]
-    pub fn is_mapped(&self, event: (u32, u32)) -> bool
+    pub fn is_mapped(&self, event: (usize, usize)) -> bool
         ensures { result ≡ is_mapped self.now.names.d.now self.now.names.f.now event }
     {
         !self.tasks_of_event(event).is_empty()
@@ -89,24 +88,24 @@ impl<'a> Mapped<'a> {
 
     fn push_event(
         &self,
-        list: &mut Vec<(u32, u32)>,
-        instance: u32,
+        list: &mut Vec<(usize, u32)>,
+        instance: usize,
         number: usize,
         event: &Event,
     ) -> Result<(), Memory>
         ensures { OnOk result (list.new.items ≡ list.old.items ++ tasks_at self.now.names.d.now self.now.names.f.now instance number event.now) }
     {
-        let tasks = self.tasks_of_event((instance, position(number)?));
-        push_tasks(list, event.runnable, tasks)
+        let tasks = self.tasks_of_event((instance, number));
+        push_tasks(list, event.runnable as usize, tasks)
     }
 
     #[tactic(auto, using(crate::proofs::Listing::from_more, crate::proofs::Listing::from_none))]
     fn list_tasks(
         &self,
         alloc: Global,
-        instance: u32,
+        instance: usize,
         events: &[Event],
-    ) -> Result<Vec<(u32, u32)>, Memory>
+    ) -> Result<Vec<(usize, u32)>, Memory>
         ensures { IfOk result (λ list. list.items ≡ from 0 (tasks_at self.now.names.d.now self.now.names.f.now instance) events.now) }
     {
         let mut list = Vec::new(alloc);
@@ -120,9 +119,9 @@ impl<'a> Mapped<'a> {
     pub fn tasks_of_runnables(
         &self,
         alloc: Global,
-        instance: u32,
+        instance: usize,
         events: &[Event],
-    ) -> Result<Groups<u32, u32>, Memory>
+    ) -> Result<Groups<usize, u32>, Memory>
         ensures { IfOk result (λ tasks. (r : ℕ) → values_at (nat_eq r) tasks.entries.items ≡ tasks_from self.now.names.d.now self.now.names.f.now instance r 0 events.now) }
     {
         let list = self.list_tasks(alloc, instance, events)?;

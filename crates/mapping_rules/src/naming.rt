@@ -3,11 +3,11 @@
 ghost use Rattle.std.specs.Prelude.{◌≡◌, IfOk, OnOk, map, option_copied, option_map, slice_get};
 ghost use Rattle.plan_definitions.specs.Parts.{component_of};
 ghost use Rattle.plan_definitions.specs.Mapped.{instance_named, event_named, named_by, event_names};
-ghost use Rattle.mapping_rules.specs.Positions.{names_of};
+ghost use Rattle.mapping_rules.specs.Naming.{names_of};
 
-use crate::positions::Positions;
 use description_types::{Component, Description, Event, MappedEvent};
 use flat_descriptions::{Flat, Instance};
+use plan_numbers::Positions;
 use rte_text::Memory;
 use std::alloc::Global;
 
@@ -72,7 +72,7 @@ fn positions_at<'b, 'a>(
     list.get(number as usize)
 }
 
-fn event_of(instance: u32, event: Option<u32>) -> Option<(u32, u32)>
+fn event_of(instance: usize, event: Option<usize>) -> Option<(usize, usize)>
     ensures { result ≡ option_map (λ m. (instance, m)) event }
 {
     match event {
@@ -98,7 +98,7 @@ impl<'a> Names<'a> {
         })
     }
 
-    fn instance_named(&self, path: &'a [u8]) -> Option<u32>
+    fn instance_named(&self, path: &'a [u8]) -> Option<usize>
         ensures { result ≡ instance_named self.now.f.now path.now }
     {
         self.paths.find(path)
@@ -110,17 +110,17 @@ impl<'a> Names<'a> {
         positions_at(self.events.as_slice(), component)
     }
 
-    fn events_at(&self, instance: u32) -> Option<&Positions<&'a [u8]>>
+    fn events_at(&self, instance: usize) -> Option<&Positions<&'a [u8]>>
         ensures { option_map names_of (option_copied result) ≡ option_map event_names (component_of self.now.d.now self.now.f.now instance) }
     {
-        match self.f.instances.items().get(instance as usize) {
+        match self.f.instances.items().get(instance) {
             Some(found) => self.events_in(found.component),
             None => None,
         }
     }
 
     #[tactic(auto, using(crate::proofs::Events::event_absent))]
-    fn event_named(&self, name: &'a [u8], instance: u32) -> Option<(u32, u32)>
+    fn event_named(&self, name: &'a [u8], instance: usize) -> Option<(usize, usize)>
         ensures { result ≡ event_named self.now.d.now self.now.f.now name.now instance }
     {
         match self.events_at(instance) {
@@ -131,7 +131,7 @@ impl<'a> Names<'a> {
 
     /// The instance and the event of it that a mapped event names, by the number of the instance and the position of the event in
     /// its component. None where it names none.
-    pub fn named_by(&self, mapped: &'a MappedEvent) -> Option<(u32, u32)>
+    pub fn named_by(&self, mapped: &'a MappedEvent) -> Option<(usize, usize)>
         ensures { result ≡ named_by self.now.d.now self.now.f.now mapped.now }
     {
         let instance = self.instance_named(mapped.instance.bytes())?;
@@ -139,10 +139,10 @@ impl<'a> Names<'a> {
     }
 
     /// The component of an instance.
-    pub fn component_of(&self, instance: u32) -> Option<&'a Component>
+    pub fn component_of(&self, instance: usize) -> Option<&'a Component>
         ensures { option_copied result ≡ component_of self.now.d.now self.now.f.now instance }
     {
-        let found = self.f.instances.items().get(instance as usize)?;
+        let found = self.f.instances.items().get(instance)?;
         self.d.components.items().get(found.component as usize)
     }
 }

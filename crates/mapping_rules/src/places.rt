@@ -37,10 +37,10 @@ pub fn mapping_text(alloc: Global) -> Result<Text, Memory>
     Ok(Text::of(text))
 }
 
-fn path_of(f: &Flat, instance: u32) -> &[u8]
+fn path_of(f: &Flat, instance: usize) -> &[u8]
     ensures { result.now ≡ path_of f.now instance }
 {
-    match f.instances.items().get(instance as usize) {
+    match f.instances.items().get(instance) {
         Some(found) => found.path.bytes(),
         None => &[],
     }
@@ -50,7 +50,7 @@ fn event_name<'a>(names: &Names<'a>, event: Part) -> &'a [u8]
     ensures { result.now ≡ option_map_or (λ v. v.short_name) (option_and_then (λ c. slice_get c.behavior.events event.1) (component_of names.now.d.now names.now.f.now event.0)) (codes "") }
 {
     match names.component_of(event.0) {
-        Some(component) => match component.behavior.events.items().get(event.1 as usize) {
+        Some(component) => match component.behavior.events.items().get(event.1) {
             Some(found) => found.short_name.bytes(),
             None => &[],
         },
@@ -62,12 +62,7 @@ fn runnable_name<'a>(names: &Names<'a>, runnable: Part) -> &'a [u8]
     ensures { result.now ≡ option_map_or (λ v. v.short_name) (option_and_then (λ c. slice_get c.behavior.runnables runnable.1) (component_of names.now.d.now names.now.f.now runnable.0)) (codes "") }
 {
     match names.component_of(runnable.0) {
-        Some(component) => match component
-            .behavior
-            .runnables
-            .items()
-            .get(runnable.1 as usize)
-        {
+        Some(component) => match component.behavior.runnables.items().get(runnable.1) {
             Some(found) => found.short_name.bytes(),
             None => &[],
         },

@@ -1,9 +1,9 @@
 //! Servers, and the tasks in which they run.
 
-ghost use Rattle.std.specs.Prelude.{◌≡◌, [], ◌++◌, IfOk, OnOk, map, option_and_then, option_copied, slice_get};
+ghost use Rattle.std.specs.Prelude.{◌≡◌, [], ◌++◌, IfOk, OnOk, Some, map, option_and_then, option_copied, slice_get};
 ghost use Rattle.std.specs.List.{position_from};
 ghost use Rattle.std.specs.Option.{option_map_or};
-ghost use Rattle.plan_definitions.specs.Joined.{provider_of};
+ghost use Rattle.plan_definitions.specs.Joined.{end_at, provider_of};
 ghost use Rattle.plan_definitions.specs.Lists.{from};
 ghost use Rattle.mapping_rules.specs.Listed.{invoked_at, invoked_in};
 ghost use Rattle.plan_definitions.specs.Mapped.{invokes, invocation_of};
@@ -11,7 +11,6 @@ ghost use Rattle.plan_definitions.specs.MappingRules.{serves_outside, task_of_se
 
 use crate::joined::Joined;
 use crate::mapped::Mapped;
-use crate::positions::position;
 use description_types::{Access, Component, Description, Event, EventKind};
 use flat_descriptions::{End, Flat};
 use plan_numbers::Table;
@@ -20,7 +19,7 @@ use runnable_lang::AccessKind;
 use std::alloc::Global;
 
 /// The events of a component by which its operations are invoked, by port and operation.
-type Invocations = Table<(u32, u32), u32>;
+type Invocations = Table<(u32, u32), usize>;
 
 /// Which event serves an operation of an instance, who calls it, and in which task it runs.
 #[derive(Drop)]
@@ -34,20 +33,20 @@ pub struct Servers<'a> {
 }
 
 fn push_invoked(
-    list: &mut Vec<((u32, u32), u32)>,
+    list: &mut Vec<((u32, u32), usize)>,
     number: usize,
     kind: EventKind,
 ) -> Result<(), Memory>
     ensures { OnOk result (list.new.items ≡ list.old.items ++ invoked_at number kind) }
 {
     if let EventKind::OperationInvoked { port, operation } = kind {
-        list.push(((port, operation), position(number)?))?;
+        list.push(((port, operation), number))?;
     }
     Ok(())
 }
 
 #[tactic(auto, using(crate::proofs::Listing::from_more, crate::proofs::Listing::from_none))]
-fn list_invoked(alloc: Global, events: &[Event]) -> Result<Vec<((u32, u32), u32)>, Memory>
+fn list_invoked(alloc: Global, events: &[Event]) -> Result<Vec<((u32, u32), usize)>, Memory>
     ensures { IfOk result (λ list. list.items ≡ from 0 (λ m e. invoked_at m e.kind) events.now) }
 {
     let mut list = Vec::new(alloc);
@@ -97,7 +96,7 @@ impl<'a> Servers<'a> {
         })
     }
 
-    fn invocation_in(&self, component: u32, port: u32, operation: u32) -> Option<u32>
+    fn invocation_in(&self, component: u32, port: u32, operation: u32) -> Option<usize>
         ensures { result ≡ option_and_then (λ c. position_from (λ e. invokes port operation e.kind) 0 c.behavior.events) (slice_get self.now.mapped.names.d.now.components component) }
     {
         match invocations_at(self.invocations.as_slice(), component) {
@@ -107,33 +106,29 @@ impl<'a> Servers<'a> {
     }
 
     /// The first event of an instance by which an operation is invoked, by its position in the component.
-    pub fn invocation_of(&self, instance: u32, port: u32, operation: u32) -> Option<u32>
+    pub fn invocation_of(&self, instance: usize, port: u32, operation: u32) -> Option<usize>
         ensures { result ≡ invocation_of self.now.mapped.names.d.now self.now.mapped.names.f.now instance port operation }
     {
-        match self.mapped.names.f.instances.items().get(instance as usize) {
+        match self.mapped.names.f.instances.items().get(instance) {
             Some(found) => self.invocation_in(found.component, port, operation),
             None => None,
         }
     }
 
-    fn provider_of(&self, required: End) -> Option<End>
-        ensures { result ≡ provider_of self.now.mapped.names.f.now.joins required }
+    fn provider_of(&self, instance: usize, port: u32, item: u32) -> Option<End>
+        ensures { result ≡ provider_of self.now.mapped.names.f.now.joins (end_at (Some instance) port item) }
     {
-        self.joined.provider_of(required)
+        self.joined.provider_of(instance, port, item)
     }
 
     /// Whether an operation that an instance provides is joined to the environment.
-    pub fn serves_outside(&self, instance: u32, port: u32, operation: u32) -> bool
+    pub fn serves_outside(&self, instance: usize, port: u32, operation: u32) -> bool
         ensures { result ≡ serves_outside self.now.mapped.names.f.now instance port operation }
     {
-        self.joined.serves_outside(End {
-            instance: Some(instance),
-            port,
-            element: operation,
-        })
+        self.joined.serves_outside(instance, port, operation)
     }
 
-    fn task_of_server(&self, instance: u32, port: u32, operation: u32) -> &[u32]
+    fn task_of_server(&self, instance: usize, port: u32, operation: u32) -> &[u32]
         ensures { result.now ≡ task_of_server self.now.mapped.names.d.now self.now.mapped.names.f.now instance port operation }
     {
         match self.invocation_of(instance, port, operation) {
@@ -146,30 +141,28 @@ impl<'a> Servers<'a> {
         ensures { result.now ≡ tasks_behind self.now.mapped.names.d.now self.now.mapped.names.f.now provided }
     {
         match provided.instance {
-            Some(instance) => self.task_of_server(instance, provided.port, provided.element),
+            Some(instance) => {
+                self.task_of_server(instance as usize, provided.port, provided.element)
+            },
             None => &[],
         }
     }
 
-    fn tasks_joined(&self, required: End) -> &[u32]
-        ensures { result.now ≡ option_map_or (tasks_behind self.now.mapped.names.d.now self.now.mapped.names.f.now) (provider_of self.now.mapped.names.f.now.joins required) [] }
+    fn tasks_joined(&self, instance: usize, port: u32, item: u32) -> &[u32]
+        ensures { result.now ≡ option_map_or (tasks_behind self.now.mapped.names.d.now self.now.mapped.names.f.now) (provider_of self.now.mapped.names.f.now.joins (end_at (Some instance) port item)) [] }
     {
-        match self.provider_of(required) {
+        match self.provider_of(instance, port, item) {
             Some(provided) => self.tasks_behind(provided),
             None => &[],
         }
     }
 
     /// The tasks that a runnable of an instance waits for by an access: those of the queued server that it calls.
-    pub fn waits_by(&self, instance: u32, access: Access) -> &[u32]
+    pub fn waits_by(&self, instance: usize, access: Access) -> &[u32]
         ensures { result.now ≡ waits_by self.now.mapped.names.d.now self.now.mapped.names.f.now instance access }
     {
         match access.kind {
-            AccessKind::Call => self.tasks_joined(End {
-                instance: Some(instance),
-                port: access.port,
-                element: access.item,
-            }),
+            AccessKind::Call => self.tasks_joined(instance, access.port, access.item),
             _ => &[],
         }
     }

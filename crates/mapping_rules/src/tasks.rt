@@ -2,7 +2,6 @@
 
 ghost use Rattle.std.specs.Prelude.{◌≡◌, [], ◌∷◌, ◌++◌, IfOk, OnOk, map};
 ghost use Rattle.std.specs.List.{flat_map};
-ghost use Rattle.plan_definitions.specs.Keys.{pair_number};
 ghost use Rattle.plan_definitions.specs.Lists.{from};
 ghost use Rattle.plan_definitions.specs.Parts.{events_of};
 ghost use Rattle.plan_definitions.specs.Mapped.{is_mapped};
@@ -12,33 +11,23 @@ ghost use Rattle.plan_definitions.specs.Tasks.{are_mapped, mapping_of};
 use crate::groups::Groups;
 use crate::mapped::Mapped;
 use crate::naming::Names;
-use crate::positions::{Positions, position};
 use crate::sorting::{Placed, sort_by_position};
 use bus_semantics::{Mapping, Task};
 use description_types::{Description, MappedEvent, Task as DeclaredTask};
 use flat_descriptions::Flat;
-use plan_numbers::numbered_events;
+use plan_numbers::{Numbers, Pair, numbered_events};
 use rte_text::{Memory, Seq, Text};
 use std::alloc::Global;
 
 /// The events of instances by their numbers in a plan.
-type Numbers = Positions<(u32, u32)>;
+type Events = Numbers<Pair>;
 
-fn number_of(numbers: &Numbers, event: (u32, u32)) -> u32
-    ensures { result ≡ pair_number numbers.now event }
-{
-    match numbers.find(event) {
-        Some(number) => number,
-        None => 0,
-    }
-}
-
-fn placed_at<'a>(names: &Names<'a>, numbers: &Numbers, mapped: &'a MappedEvent) -> Placed
+fn placed_at<'a>(names: &Names<'a>, numbers: &Events, mapped: &'a MappedEvent) -> Placed
     requires { numbers.now ≡ events_of names.now.d.now names.now.f.now }
     ensures { result ≡ placed_at names.now.d.now names.now.f.now mapped.now }
 {
     match names.named_by(mapped) {
-        Some(event) => (mapped.position, Some(number_of(numbers, event))),
+        Some(event) => (mapped.position, Some(numbers.number(event))),
         None => (mapped.position, None),
     }
 }
@@ -46,15 +35,15 @@ fn placed_at<'a>(names: &Names<'a>, numbers: &Numbers, mapped: &'a MappedEvent) 
 fn list_placed<'a>(
     alloc: Global,
     names: &Names<'a>,
-    numbers: &Numbers,
+    numbers: &Events,
     events: &'a [MappedEvent],
-) -> Result<Vec<(u32, Placed)>, Memory>
+) -> Result<Vec<(usize, Placed)>, Memory>
     requires { numbers.now ≡ events_of names.now.d.now names.now.f.now }
     ensures { IfOk result (λ list. list.items ≡ map (task_entry names.now.d.now names.now.f.now) events.now) }
 {
     let mut list = Vec::new(alloc);
     for mapped in events {
-        list.push((mapped.task, placed_at(names, numbers, mapped)))?;
+        list.push((mapped.task as usize, placed_at(names, numbers, mapped)))?;
     }
     Ok(list)
 }
@@ -90,13 +79,13 @@ fn in_task(alloc: Global, placed: &[Placed]) -> Result<Vec<u32>, Memory>
 fn push_task(
     alloc: Global,
     list: &mut Vec<Task>,
-    groups: &Groups<u32, Placed>,
+    groups: &Groups<usize, Placed>,
     number: usize,
     task: &DeclaredTask,
 ) -> Result<(), Memory>
     ensures { OnOk result (list.new.items ≡ list.old.items ++ task_with groups.now.entries.items number task.now ∷ []) }
 {
-    let events = in_task(alloc, groups.at(position(number)?))?;
+    let events = in_task(alloc, groups.at(number))?;
     let name = Text::new(alloc, task.short_name.bytes())?;
     list.push(Task {
         name,
@@ -109,7 +98,7 @@ fn push_task(
 #[tactic(auto, using(crate::proofs::Listing::from_more, crate::proofs::Listing::from_none))]
 fn list_tasks(
     alloc: Global,
-    groups: &Groups<u32, Placed>,
+    groups: &Groups<usize, Placed>,
     tasks: &[DeclaredTask],
 ) -> Result<Vec<Task>, Memory>
     ensures { IfOk result (λ list. list.items ≡ from 0 (λ t task. task_with groups.now.entries.items t task ∷ []) tasks.now) }
@@ -121,7 +110,7 @@ fn list_tasks(
     Ok(list)
 }
 
-fn tasks_of(alloc: Global, mapped: &Mapped<'_>, numbers: &Numbers) -> Result<Vec<Task>, Memory>
+fn tasks_of(alloc: Global, mapped: &Mapped<'_>, numbers: &Events) -> Result<Vec<Task>, Memory>
     requires { numbers.now ≡ events_of mapped.now.names.d.now mapped.now.names.f.now }
     ensures { IfOk result (λ list. list.items ≡ (mapping_of mapped.now.names.d.now mapped.now.names.f.now).tasks) }
 {
@@ -137,7 +126,7 @@ fn mapping_of(alloc: Global, mapped: &Mapped<'_>) -> Result<Mapping, Memory>
     ensures { IfOk result (λ mapping. mapping ≡ mapping_of mapped.now.names.d.now mapped.now.names.f.now) }
 {
     let pairs = numbered_events(alloc, mapped.names.d, mapped.names.f)?;
-    let numbers = Positions::of(alloc, pairs.as_slice())?;
+    let numbers = Numbers::of(alloc, pairs.as_slice())?;
     let tasks = tasks_of(alloc, mapped, &numbers)?;
     Ok(Mapping {
         cores: mapped.names.d.mapping.cores,
@@ -145,11 +134,7 @@ fn mapping_of(alloc: Global, mapped: &Mapped<'_>) -> Result<Mapping, Memory>
     })
 }
 
-fn list_mapped(
-    alloc: Global,
-    mapped: &Mapped<'_>,
-    events: &[(u32, u32)],
-) -> Result<Vec<bool>, Memory>
+fn list_mapped(alloc: Global, mapped: &Mapped<'_>, events: &[Pair]) -> Result<Vec<bool>, Memory>
     ensures { IfOk result (λ list. list.items ≡ map (is_mapped mapped.now.names.d.now mapped.now.names.f.now) events.now) }
 {
     let mut list = Vec::new(alloc);

@@ -13,7 +13,6 @@ ghost use Rattle.mapping_rules.specs.Waiting.{any_at, has_wait, leads, pairs, wa
 use crate::groups::Groups;
 use crate::instances::{are_same, first_task};
 use crate::peeling::Edge;
-use crate::positions::position;
 use crate::servers::Servers;
 use description_types::{Access, Component, Runnable};
 use indexmap::IndexSet;
@@ -76,7 +75,7 @@ fn add_pairs(edges: &mut IndexSet<Edge>, tasks: &[u32], waits: &[u32]) -> Result
 fn add_of_runnable(
     edges: &mut IndexSet<Edge>,
     servers: &Servers<'_>,
-    instance: u32,
+    instance: usize,
     tasks: &[u32],
     accesses: &[Access],
 ) -> Result<(), Memory>
@@ -92,20 +91,19 @@ fn add_of_runnable(
 fn add_of_number(
     edges: &mut IndexSet<Edge>,
     servers: &Servers<'_>,
-    instance: u32,
-    tasks: &Groups<u32, u32>,
+    instance: usize,
+    tasks: &Groups<usize, u32>,
     number: usize,
     runnable: &Runnable,
 ) -> Result<(), Memory>
     ensures { OnOk result ((e : ℕ × ℕ) → contains same_pair edges.new e ≡ (contains same_pair edges.old e
         || any_at (λ k a. pairs e (values_at (nat_eq number) tasks.now.entries.items) (waits_by servers.now.mapped.names.d.now servers.now.mapped.names.f.now instance a)) 0 runnable.now.accesses)) }
 {
-    let at = position(number)?;
     add_of_runnable(
         edges,
         servers,
         instance,
-        tasks.at(at),
+        tasks.at(number),
         runnable.accesses.items(),
     )
 }
@@ -113,8 +111,8 @@ fn add_of_number(
 fn add_of_runnables(
     edges: &mut IndexSet<Edge>,
     servers: &Servers<'_>,
-    instance: u32,
-    tasks: &Groups<u32, u32>,
+    instance: usize,
+    tasks: &Groups<usize, u32>,
     runnables: &[Runnable],
 ) -> Result<(), Memory>
     ensures { OnOk result ((e : ℕ × ℕ) → contains same_pair edges.new e ≡ (contains same_pair edges.old e
@@ -130,7 +128,7 @@ fn add_of_component(
     alloc: Global,
     edges: &mut IndexSet<Edge>,
     servers: &Servers<'_>,
-    instance: u32,
+    instance: usize,
     component: &Component,
 ) -> Result<(), Memory>
     ensures { OnOk result ((e : ℕ × ℕ) → contains same_pair edges.new e ≡ (contains same_pair edges.old e
@@ -148,7 +146,7 @@ fn add_of_instance(
     alloc: Global,
     edges: &mut IndexSet<Edge>,
     servers: &Servers<'_>,
-    instance: u32,
+    instance: usize,
 ) -> Result<(), Memory>
     ensures { OnOk result ((e : ℕ × ℕ) → contains same_pair edges.new e ≡ (contains same_pair edges.old e
         || option_map_or (waits_in servers.now.mapped.names.d.now servers.now.mapped.names.f.now e instance) (component_of servers.now.mapped.names.d.now servers.now.mapped.names.f.now instance) false)) }
@@ -163,8 +161,7 @@ fn add_all(alloc: Global, edges: &mut IndexSet<Edge>, servers: &Servers<'_>) -> 
     ensures { OnOk result ((e : ℕ × ℕ) → contains same_pair edges.new e ≡ (contains same_pair edges.old e
         || has_wait servers.now.mapped.names.d.now servers.now.mapped.names.f.now e)) }
 {
-    let count = position(servers.mapped.names.f.instances.len())?;
-    for instance in 0..count {
+    for instance in 0..servers.mapped.names.f.instances.len() {
         add_of_instance(alloc, edges, servers, instance)?;
     }
     Ok(())

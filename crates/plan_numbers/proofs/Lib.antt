@@ -1,3 +1,3 @@
 pub mod Listing
-pub mod Numbered
+pub mod Numbering
 pub mod Finding

@@ -1,5 +1,5 @@
 pub mod Tables
-pub mod Numbering
+pub mod Positions
 pub mod Ends
 pub mod ComSpecs
 pub mod Listed

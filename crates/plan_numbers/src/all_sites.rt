@@ -4,18 +4,13 @@ ghost use Rattle.std.specs.Prelude.{◌≡◌, [], ◌∷◌, ◌++◌, IfOk, On
 ghost use Rattle.plan_definitions.specs.Lists.{from};
 ghost use Rattle.plan_definitions.specs.Sites.{site, provides_at, kind_at, count_at, shape_at, sites_with, sites_at, sites_of_ports, variables_of, sites_of_component, sites_of_instance, root_ports, sites};
 
+use crate::numbers::position;
 use description_types::{Component, Description, Port, PortKind};
 use flat_descriptions::{Flat, Instance};
 use interface_types::{InterfaceKind, TypeTable};
 use plan_definitions::{Site, SiteKind};
 use rte_text::Memory;
-use std::alloc::{AllocError, Global};
-
-fn position(number: usize) -> Result<u32, Memory>
-    ensures { IfOk result (λ position. position ≡ number) }
-{
-    u32::try_from(number).map_err(|_| AllocError)
-}
+use std::alloc::Global;
 
 fn provides_at(owner: Option<u32>, side: PortKind) -> bool
     ensures { result ≡ provides_at owner side }

@@ -6,8 +6,8 @@ ghost use Rattle.plan_definitions.specs.Sites.{root_ports};
 ghost use Rattle.plan_numbers.specs.ComSpecs.{AreTables, items_of_ports, named_items};
 ghost use Rattle.plan_definitions.specs.Ports.{com_spec_of, ports_of};
 
-use crate::numbers::Numbers;
 use crate::owners::ports_of;
+use crate::positions::Positions;
 use description_types::{Component, Description, Port};
 use flat_descriptions::Flat;
 use interface_types::ComSpec;
@@ -17,11 +17,11 @@ use std::alloc::Global;
 /// For each port of each component, and each outer port of the root, the items of which it says something, in its order.
 #[derive(Drop)]
 pub struct PortTables {
-    pub components: Seq<Seq<Numbers<u32>>>,
-    pub root: Seq<Numbers<u32>>,
+    pub components: Seq<Seq<Positions<u32>>>,
+    pub root: Seq<Positions<u32>>,
 }
 
-fn named_items(alloc: Global, port: &Port) -> Result<Numbers<u32>, Memory>
+fn named_items(alloc: Global, port: &Port) -> Result<Positions<u32>, Memory>
     ensures { IfOk result (λ items. items ≡ named_items port.now) }
 {
     let items: Vec<u32> = port
@@ -30,10 +30,10 @@ fn named_items(alloc: Global, port: &Port) -> Result<Numbers<u32>, Memory>
         .iter()
         .map(|s| s.element)
         .collect(alloc)?;
-    Numbers::of(alloc, items.as_slice())
+    Positions::of(alloc, items.as_slice())
 }
 
-fn items_of_ports(alloc: Global, ports: &[Port]) -> Result<Seq<Numbers<u32>>, Memory>
+fn items_of_ports(alloc: Global, ports: &[Port]) -> Result<Seq<Positions<u32>>, Memory>
     ensures { IfOk result (λ tables. tables ≡ items_of_ports ports.now) }
 {
     let mut tables = Vec::new(alloc);
@@ -46,7 +46,7 @@ fn items_of_ports(alloc: Global, ports: &[Port]) -> Result<Seq<Numbers<u32>>, Me
 fn items_of_components(
     alloc: Global,
     components: &[Component],
-) -> Result<Seq<Seq<Numbers<u32>>>, Memory>
+) -> Result<Seq<Seq<Positions<u32>>>, Memory>
     ensures { IfOk result (λ tables. tables ≡ map (λ c. items_of_ports c.ports) components.now) }
 {
     let mut tables = Vec::new(alloc);
@@ -71,7 +71,7 @@ fn tables_of<'a>(
     d: &Description,
     f: &Flat,
     owner: Option<u32>,
-) -> &'a [Numbers<u32>]
+) -> &'a [Positions<u32>]
     requires { AreTables d.now tables.now }
     ensures { result.now ≡ items_of_ports (ports_of d.now f.now owner) }
 {
@@ -87,13 +87,13 @@ fn tables_of<'a>(
     }
 }
 
-fn placed(specs: &[ComSpec], position: Option<u32>) -> Option<&ComSpec>
+fn placed(specs: &[ComSpec], position: Option<usize>) -> Option<&ComSpec>
     ensures { option_copied result ≡ option_and_then (slice_get specs.now) position }
 {
-    specs.get(position? as usize)
+    specs.get(position?)
 }
 
-fn spec_named<'a>(specs: &'a [ComSpec], table: &Numbers<u32>, item: u32) -> Option<&'a ComSpec>
+fn spec_named<'a>(specs: &'a [ComSpec], table: &Positions<u32>, item: u32) -> Option<&'a ComSpec>
     requires { table.now ≡ map (λ s. s.element) specs.now }
     ensures { option_copied result ≡ find (λ s. nat_eq s.element item) specs.now }
 {
@@ -104,7 +104,7 @@ fn spec_named<'a>(specs: &'a [ComSpec], table: &Numbers<u32>, item: u32) -> Opti
 #[tactic(auto, using(crate::proofs::Finding::slice_get_map))]
 fn spec_at<'a>(
     ports: &'a [Port],
-    tables: &[Numbers<u32>],
+    tables: &[Positions<u32>],
     port: u32,
     item: u32,
 ) -> Option<&'a ComSpec>

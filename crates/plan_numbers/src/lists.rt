@@ -8,15 +8,12 @@ use crate::all_sites::sites;
 use crate::joined::Joined;
 use crate::kinds::{elements_among, machines_among, mode_ports_among, numbers_of, servers_among};
 use crate::numbers::{Key, Numbers};
-use crate::parts::{numbered_areas, numbered_events, numbered_runnables};
+use crate::parts::{Pair, numbered_areas, numbered_events, numbered_runnables};
 use description_types::Description;
 use flat_descriptions::Flat;
 use plan_definitions::Site;
 use rte_text::Memory;
 use std::alloc::Global;
-
-/// An instance with the position of a runnable, an event or an area in its component.
-pub type Pair = (u32, u32);
 
 /// The sites of a plan by kind, each list in the order of the plan.
 #[derive(Drop)]

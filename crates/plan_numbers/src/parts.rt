@@ -8,13 +8,10 @@ use description_types::{Component, Description};
 use flat_descriptions::{Flat, Instance};
 use plan_definitions::Part;
 use rte_text::Memory;
-use std::alloc::{AllocError, Global};
+use std::alloc::Global;
 
-fn position(number: usize) -> Result<u32, Memory>
-    ensures { IfOk result (λ position. position ≡ number) }
-{
-    u32::try_from(number).map_err(|_| AllocError)
-}
+/// An instance with the position of a runnable, an event or an area in its component.
+pub type Pair = (usize, usize);
 
 fn counted(part: Part, component: &Component) -> usize
     ensures { result ≡ counted part component.now }
@@ -35,7 +32,7 @@ fn counted_at(part: Part, d: &Description, instance: &Instance) -> usize
     }
 }
 
-fn push_pair(list: &mut Vec<(u32, u32)>, instance: u32, number: u32) -> Result<(), Memory>
+fn push_pair(list: &mut Vec<Pair>, instance: usize, number: usize) -> Result<(), Memory>
     ensures { OnOk result (list.new.items ≡ list.old.items ++ (instance, number) ∷ []) }
 {
     list.push((instance, number))?;
@@ -43,7 +40,7 @@ fn push_pair(list: &mut Vec<(u32, u32)>, instance: u32, number: u32) -> Result<(
 }
 
 #[tactic(auto, using(crate::proofs::Listing::none_more))]
-fn push_numbered(list: &mut Vec<(u32, u32)>, instance: u32, count: u32) -> Result<(), Memory>
+fn push_numbered(list: &mut Vec<Pair>, instance: usize, count: usize) -> Result<(), Memory>
     ensures { OnOk result (list.new.items ≡ list.old.items ++ numbered instance count) }
 {
     for number in 0..count {
@@ -53,7 +50,7 @@ fn push_numbered(list: &mut Vec<(u32, u32)>, instance: u32, count: u32) -> Resul
 }
 
 fn push_instance(
-    list: &mut Vec<(u32, u32)>,
+    list: &mut Vec<Pair>,
     part: Part,
     d: &Description,
     number: usize,
@@ -61,8 +58,7 @@ fn push_instance(
 ) -> Result<(), Memory>
     ensures { OnOk result (list.new.items ≡ list.old.items ++ numbered number (counted_at part d.now instance.now)) }
 {
-    let count = position(counted_at(part, d, instance))?;
-    push_numbered(list, position(number)?, count)
+    push_numbered(list, number, counted_at(part, d, instance))
 }
 
 #[tactic(auto, using(crate::proofs::Listing::from_more, crate::proofs::Listing::from_none))]
@@ -71,7 +67,7 @@ fn parts_of(
     part: Part,
     d: &Description,
     instances: &[Instance],
-) -> Result<Vec<(u32, u32)>, Memory>
+) -> Result<Vec<Pair>, Memory>
     ensures { IfOk result (λ list. list.items ≡ from 0 (λ i x. numbered i (counted_at part d.now x)) instances.now) }
 {
     let mut list = Vec::new(alloc);
@@ -82,25 +78,21 @@ fn parts_of(
 }
 
 /// The runnables of all instances in the order of the plan, each by the number of its instance and its position in the component.
-pub fn numbered_runnables(
-    alloc: Global,
-    d: &Description,
-    f: &Flat,
-) -> Result<Vec<(u32, u32)>, Memory>
+pub fn numbered_runnables(alloc: Global, d: &Description, f: &Flat) -> Result<Vec<Pair>, Memory>
     ensures { IfOk result (λ list. list.items ≡ runnables_of d.now f.now) }
 {
     parts_of(alloc, Part::Runnables, d, f.instances.items())
 }
 
 /// The events of all instances, in the same way.
-pub fn numbered_events(alloc: Global, d: &Description, f: &Flat) -> Result<Vec<(u32, u32)>, Memory>
+pub fn numbered_events(alloc: Global, d: &Description, f: &Flat) -> Result<Vec<Pair>, Memory>
     ensures { IfOk result (λ list. list.items ≡ events_of d.now f.now) }
 {
     parts_of(alloc, Part::Events, d, f.instances.items())
 }
 
 /// The exclusive areas of all instances, in the same way.
-pub fn numbered_areas(alloc: Global, d: &Description, f: &Flat) -> Result<Vec<(u32, u32)>, Memory>
+pub fn numbered_areas(alloc: Global, d: &Description, f: &Flat) -> Result<Vec<Pair>, Memory>
     ensures { IfOk result (λ list. list.items ≡ areas_of d.now f.now) }
 {
     parts_of(alloc, Part::Areas, d, f.instances.items())

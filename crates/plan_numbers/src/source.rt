@@ -136,20 +136,24 @@ impl Source<'_> {
     pub fn runnable_number(&self, instance: u32, position: u32) -> u32
         ensures { result ≡ pair_number (runnables_of self.now.d.now self.now.f.now) (instance, position) }
     {
-        self.pairs.runnables.number((instance, position))
+        self.pairs
+            .runnables
+            .number((instance as usize, position as usize))
     }
 
     /// The number of an event of an instance.
-    pub fn event_number(&self, instance: u32, position: u32) -> u32
+    pub fn event_number(&self, instance: u32, position: usize) -> u32
         ensures { result ≡ pair_number (events_of self.now.d.now self.now.f.now) (instance, position) }
     {
-        self.pairs.events.number((instance, position))
+        self.pairs.events.number((instance as usize, position))
     }
 
     /// The number of an exclusive area of an instance.
     pub fn area_number(&self, instance: u32, position: u32) -> u32
         ensures { result ≡ pair_number (areas_of self.now.d.now self.now.f.now) (instance, position) }
     {
-        self.pairs.areas.number((instance, position))
+        self.pairs
+            .areas
+            .number((instance as usize, position as usize))
     }
 }

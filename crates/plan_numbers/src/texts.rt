@@ -54,7 +54,9 @@ fn name_of_item<'a>(
 fn dotted(alloc: Global, first: &[u8], second: &[u8]) -> Result<Text, Memory>
     ensures { IfOk result (λ text. text ≡ (first.now ++ codes ".") ++ second.now) }
 {
-    let mut held = Vec::from_slice(alloc, first)?;
+    let room = first.len().saturating_add(second.len()).saturating_add(1);
+    let mut held = Vec::with_capacity(alloc, room)?;
+    held.extend_from_slice(first)?;
     held.push(b'.')?;
     held.extend_from_slice(second)?;
     Ok(Text::of(held))

@@ -9,15 +9,18 @@ ghost use Rattle.plan_definitions.specs.Invoked.{all_invoked, invoked_by, invoke
 
 use description_types::{Component, Description, Event, EventKind};
 use flat_descriptions::Flat;
-use plan_numbers::{Numbers, Pair, Source};
+use plan_numbers::{Positions, Source};
 use rte_text::{Memory, Seq};
 use std::alloc::Global;
 
-/// The events of a component by the port and operation by which they are invoked, None for other events.
-pub type Invocations = Numbers<Option<Pair>>;
+/// An operation of a component: its port and its position in the port's interface.
+pub type Operation = (u32, u32);
+
+/// The events of a component by the operation by which they are invoked, None for other events.
+pub type Invocations = Positions<Option<Operation>>;
 
 /// The port and the operation by whose call an event comes; None for other events.
-pub fn invoked_by(kind: EventKind) -> Option<Pair>
+pub fn invoked_by(kind: EventKind) -> Option<Operation>
     ensures { result ≡ invoked_by kind }
 {
     match kind {
@@ -26,7 +29,7 @@ pub fn invoked_by(kind: EventKind) -> Option<Pair>
     }
 }
 
-fn invoked_keys(alloc: Global, events: &[Event]) -> Result<Vec<Option<Pair>>, Memory>
+fn invoked_keys(alloc: Global, events: &[Event]) -> Result<Vec<Option<Operation>>, Memory>
     ensures { IfOk result (λ keys. keys.items ≡ map (λ e. invoked_by e.kind) events.now) }
 {
     let mut keys = Vec::new(alloc);
@@ -40,7 +43,7 @@ fn invoked_in(alloc: Global, component: &Component) -> Result<Invocations, Memor
     ensures { IfOk result (λ keys. keys ≡ invoked_in component.now) }
 {
     let keys = invoked_keys(alloc, component.behavior.events.items())?;
-    Numbers::of(alloc, keys.as_slice())
+    Positions::of(alloc, keys.as_slice())
 }
 
 /// Those of each component.
@@ -61,7 +64,7 @@ fn table_at<'a>(f: &Flat, tables: &'a [Invocations], instance: u32) -> Option<&'
     tables.get(found.component as usize)
 }
 
-fn found_in(table: Option<&Invocations>, port: u32, item: u32) -> Option<u32>
+fn found_in(table: Option<&Invocations>, port: u32, item: u32) -> Option<usize>
     ensures { result ≡ option_and_then (position_from (option_eq same_pair (Some (port, item))) 0) (option_copied table.entry) }
 {
     table?.find(Some((port, item)))
@@ -74,7 +77,7 @@ pub fn invocation_of(
     instance: u32,
     port: u32,
     item: u32,
-) -> Option<u32>
+) -> Option<usize>
     requires { tables.now ≡ all_invoked source.now.d.now }
     ensures { result ≡ invocation_of source.now.d.now source.now.f.now instance port item }
 {

@@ -7,12 +7,12 @@ use crate::callings::callings_of;
 use description_types::Description;
 use flat_descriptions::Flat;
 use plan_definitions::Calling;
-use plan_numbers::{EndKey, Numbers, Pair};
+use plan_numbers::{EndKey, Numbers};
 use rte_text::Memory;
 use std::alloc::Global;
 use std::marker::Model;
 
-type CallKey = (Option<Pair>, u32, u32);
+type CallKey = (Option<(u32, u32)>, u32, u32);
 
 fn call_key(calling: Calling) -> CallKey
     ensures { result ≡ call_key calling }

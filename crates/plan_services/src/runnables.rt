@@ -11,6 +11,7 @@ ghost use Rattle.plan_definitions.specs.Started.{runnable_of, runnables as all_r
 ghost use Rattle.plan_definitions.specs.Callings.{callings as all_callings};
 
 use crate::events::component_at;
+use crate::invoked::Operation;
 use crate::listed_callings::Callings;
 use crate::served::served_of;
 use crate::targets::targets_of;
@@ -18,14 +19,14 @@ use bus_semantics::RunnablePlan;
 use component_rules::signature_of;
 use description_types::{Component, Runnable};
 use flat_descriptions::Instance;
-use plan_numbers::{Pair, Source, Table, position};
+use plan_numbers::{Source, Table, position};
 use rte_text::{Memory, Text};
 use runnable_lang::copy_program;
 use std::alloc::Global;
 
 fn server_of(
     source: &Source<'_>,
-    served: &Table<u32, Pair>,
+    served: &Table<u32, Operation>,
     instance: u32,
     runnable: u32,
 ) -> Option<u32>
@@ -40,7 +41,7 @@ fn runnable_of(
     alloc: Global,
     source: &Source<'_>,
     callings: &Callings,
-    served: &Table<u32, Pair>,
+    served: &Table<u32, Operation>,
     instance: u32,
     component: &Component,
     position: u32,
@@ -70,7 +71,7 @@ fn push_runnable(
     alloc: Global,
     source: &Source<'_>,
     callings: &Callings,
-    served: &Table<u32, Pair>,
+    served: &Table<u32, Operation>,
     instance: u32,
     component: &Component,
     number: usize,
@@ -94,7 +95,7 @@ fn push_runnables(
     alloc: Global,
     source: &Source<'_>,
     callings: &Callings,
-    served: &Table<u32, Pair>,
+    served: &Table<u32, Operation>,
     instance: u32,
     component: &Component,
     runnables: &[Runnable],

@@ -4,13 +4,13 @@ ghost use Rattle.std.specs.Prelude.{◌≡◌, ◌++◌, IfOk, OnOk};
 ghost use Rattle.std.specs.List.{flat_map};
 ghost use Rattle.plan_services.specs.Served.{served_entry};
 
-use crate::invoked_by;
+use crate::invoked::{Operation, invoked_by};
 use description_types::Event;
-use plan_numbers::{Pair, Table};
+use plan_numbers::Table;
 use rte_text::Memory;
 use std::alloc::Global;
 
-fn push_entry(list: &mut Vec<(u32, Pair)>, event: &Event) -> Result<(), Memory>
+fn push_entry(list: &mut Vec<(u32, Operation)>, event: &Event) -> Result<(), Memory>
     ensures { OnOk result (list.new.items ≡ list.old.items ++ served_entry event.now) }
 {
     if let Some(served) = invoked_by(event.kind) {
@@ -19,7 +19,7 @@ fn push_entry(list: &mut Vec<(u32, Pair)>, event: &Event) -> Result<(), Memory>
     Ok(())
 }
 
-fn entries_of(alloc: Global, events: &[Event]) -> Result<Vec<(u32, Pair)>, Memory>
+fn entries_of(alloc: Global, events: &[Event]) -> Result<Vec<(u32, Operation)>, Memory>
     ensures { IfOk result (λ list. list.items ≡ flat_map served_entry events.now) }
 {
     let mut list = Vec::new(alloc);
@@ -30,7 +30,7 @@ fn entries_of(alloc: Global, events: &[Event]) -> Result<Vec<(u32, Pair)>, Memor
 }
 
 /// The operations that the runnables of a component serve, by runnable.
-pub fn served_of(alloc: Global, events: &[Event]) -> Result<Table<u32, Pair>, Memory>
+pub fn served_of(alloc: Global, events: &[Event]) -> Result<Table<u32, Operation>, Memory>
     ensures { IfOk result (λ table. table.entries.items ≡ flat_map served_entry events.now) }
 {
     let entries = entries_of(alloc, events)?;

@@ -17,13 +17,13 @@ use plan_numbers::{Source, component_of, item_text};
 use rte_text::Memory;
 use std::alloc::Global;
 
-fn started_by(d: &Description, f: &Flat, instance: u32, event: u32) -> u32
+fn started_by(d: &Description, f: &Flat, instance: u32, event: usize) -> u32
     ensures { result ≡ started_by d.now f.now instance event }
 {
     let Some(component) = component_of(d, f, instance) else {
         return 0;
     };
-    match component.behavior.events.items().get(event as usize) {
+    match component.behavior.events.items().get(event) {
         Some(found) => found.runnable,
         None => 0,
     }
@@ -61,7 +61,7 @@ fn server_at(
     instance: u32,
     port: u32,
     item: u32,
-    position: u32,
+    position: usize,
 ) -> Result<ServerPlan, Memory>
     requires { mapped.now ≡ map (is_mapped source.now.d.now source.now.f.now) (events_of source.now.d.now source.now.f.now) }
     ensures { IfOk result (λ server. server ≡ server_at source.now.d.now source.now.f.now instance port item position) }

@@ -1,6 +1,6 @@
 use Rattle.std.proofs.Common.{◌≡◌, take, map}
 use Rattle.plan_definitions.specs.Mapped.{event_names}
-use Rattle.mapping_rules.specs.Positions.{names_of}
+use Rattle.mapping_rules.specs.Naming.{names_of}
 use Rattle.mapping_rules.proofs.naming.events_of_all.Given as goal
 
 abbrev pub invariant-loop-component : goal.invariant-loop-component

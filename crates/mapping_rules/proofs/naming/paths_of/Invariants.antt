@@ -1,5 +1,5 @@
 use Rattle.std.proofs.Common.{◌≡◌, take, map}
-use Rattle.mapping_rules.specs.Positions.{names_of}
+use Rattle.mapping_rules.specs.Naming.{names_of}
 use Rattle.mapping_rules.proofs.naming.paths_of.Given as goal
 
 abbrev pub invariant-loop-instance : goal.invariant-loop-instance

@@ -1,7 +1,7 @@
 use Rattle.std.proofs.Common.{◌∙◌, ap, option_map, slice_get}
 use Rattle.mapping_rules.proofs.Named.{same_at}
 use Rattle.plan_definitions.specs.Mapped.{event_names}
-use Rattle.mapping_rules.specs.Positions.{names_of}
+use Rattle.mapping_rules.specs.Naming.{names_of}
 use Rattle.mapping_rules.proofs.naming.Names.events_in.Goals as goal
 
 pub returns : goal.returns

@@ -35,3 +35,12 @@ module _ {K : Type 0} (test : K → Bool) where
 pub keys_more : {K : Type 0} (keys : List K) (i : ℕ) (key : K) (old new : List (K × ℕ)) → i < length keys → key ≡ get_or keys i key → new ≡ old ++ (key, i) ∷ []
     → keys_of old ≡ take i keys → keys_of new ≡ take (i + 1) keys
 keys_more keys i key old new within is pushed so_far = ap keys_of pushed ∙ map-append (λ e. e.0) old ((key, i) ∷ []) ∙ (λ j. so_far j ++ is j ∷ []) ∙ sym (take_more keys i key within)
+
+-- a position is one in the list
+pub position_within : {K : Type 0} (test : K → Bool) (n : ℕ) (keys : List K) (p : ℕ) → position_from test n keys ≡ Some p → p < n + length keys
+position_within test n [] p is = cc
+position_within test n (k ∷ keys) p is = by (test k) is (position_within test (n + 1) keys p)
+  where
+    by : (b : Bool) → cond b (Some n) (position_from test (n + 1) keys) ≡ Some p → (position_from test (n + 1) keys ≡ Some p → p < (n + 1) + length keys) → p < n + length (k ∷ keys)
+    by true is rest = let here : n ≡ p = cc in omega arith
+    by false is rest = let further : p < (n + 1) + length keys = rest is in omega arith

@@ -4,22 +4,22 @@ ghost use Rattle.std.specs.Prelude.{◌≡◌, [], ◌∷◌, ◌++◌, IfOk, On
 ghost use Rattle.std.specs.List.{position_from};
 ghost use Rattle.std.specs.Map.{keys_of, lookup};
 
-use plan_numbers::Table;
+use crate::table::Table;
 use rte_text::Memory;
-use std::alloc::{AllocError, Global};
+use std::alloc::Global;
 use std::hash::Hash;
 use std::marker::Model;
 
-/// Keys in order, and where each stands first, found by hash.
+/// Keys in an order, seen as their list, and where each stands first, found by hash.
 #[derive(Drop)]
 pub struct Positions<K: Eq + Hash + Copy> {
-    table: Table<K, u32>,
+    table: Table<K, usize>,
 }
 
 impl<K: Eq + Hash + Copy> Model for Positions<K> {
     ghost use Rattle.std.specs.Prelude.{◌≡◌, List};
     ghost use Rattle.std.specs.Map.{keys_of};
-    ghost use Rattle.mapping_rules.specs.Positions.{IsNumbering};
+    ghost use Rattle.plan_numbers.specs.Positions.{IsNumbering};
 
     ghost Value = { List K };
 
@@ -28,21 +28,14 @@ impl<K: Eq + Hash + Copy> Model for Positions<K> {
     ghost invariant = { λ p. IsNumbering K.eq p.table.entries.items };
 }
 
-/// The number of a position. More than a `u32` can number count as want of memory.
-pub fn position(number: usize) -> Result<u32, Memory>
-    ensures { IfOk result (λ position. position ≡ number) }
-{
-    u32::try_from(number).map_err(|_| AllocError)
-}
-
-fn push_entry<K: Copy>(list: &mut Vec<(K, u32)>, key: K, number: usize) -> Result<(), Memory>
+fn push_entry<K: Copy>(list: &mut Vec<(K, usize)>, key: K, number: usize) -> Result<(), Memory>
     ensures { OnOk result (list.new.items ≡ list.old.items ++ (key, number) ∷ []) }
 {
-    list.push((key, position(number)?))?;
+    list.push((key, number))?;
     Ok(())
 }
 
-fn entries_of<K: Eq + Hash + Copy>(alloc: Global, keys: &[K]) -> Result<Vec<(K, u32)>, Memory>
+fn entries_of<K: Eq + Hash + Copy>(alloc: Global, keys: &[K]) -> Result<Vec<(K, usize)>, Memory>
     ensures keys { IfOk result (λ entries. keys_of entries.items ≡ keys.now) }
     ensures numbers { IfOk result (λ entries. (q : K) → lookup (K.eq q) entries.items ≡ position_from (K.eq q) 0 keys.now) }
 {
@@ -54,7 +47,10 @@ fn entries_of<K: Eq + Hash + Copy>(alloc: Global, keys: &[K]) -> Result<Vec<(K, 
 }
 
 impl<K: Eq + Hash + Copy> Positions<K> {
-    /// The keys with their positions. More than a `u32` can number count as want of memory.
+    ghost use Rattle.std.specs.Prelude.{◌≡◌, IfOk, length};
+    ghost use Rattle.std.specs.List.{position_from};
+
+    /// The keys with their positions.
     pub fn of(alloc: Global, keys: &[K]) -> Result<Positions<K>, Memory>
         ensures { IfOk result (λ positions. positions ≡ keys.now) }
     {
@@ -64,9 +60,16 @@ impl<K: Eq + Hash + Copy> Positions<K> {
     }
 
     /// The first position of a key.
-    pub fn find(&self, key: K) -> Option<u32>
+    pub fn find(&self, key: K) -> Option<usize>
         ensures { result ≡ position_from (K.eq key) 0 self.now }
     {
         self.table.find(key)
+    }
+
+    /// How many keys there are.
+    pub fn len(&self) -> usize
+        ensures { result ≡ length self.now }
+    {
+        self.table.entries.len()
     }
 }

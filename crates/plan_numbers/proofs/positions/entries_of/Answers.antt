@@ -1,5 +1,5 @@
-use Rattle.mapping_rules.proofs.Numbering.{numbers_more, keys_more}
-use Rattle.mapping_rules.proofs.positions.entries_of.Goals as goal
+use Rattle.plan_numbers.proofs.Numbering.{numbers_more, keys_more}
+use Rattle.plan_numbers.proofs.positions.entries_of.Goals as goal
 
 pub loop-number-preserved : goal.loop-number-preserved
 loop-number-preserved g c = record {

@@ -1,0 +1,6 @@
+-- Names that are referred to.
+use Rattle.std.specs.Prelude.{ℕ, List, map}
+use Rattle.std.specs.Borrow.{Bor}
+
+abbrev pub names_of : List (Bor (List ℕ)) → List (List ℕ)
+names_of names = map (λ b. b.now) names
