@@ -52,7 +52,7 @@ const RUN: Case<'static> = Case {
 const TASKS: &[u8] =
     b"{\"compositions\":[{\"shortName\":\"Top\"}],\"root\":\"Top\",\"mapping\":{\"cores\":1,\"tasks\":[{\"shortName\":\"T\",\"core\":0},{\"shortName\":\"U\",\"core\":0}]}}";
 
-/// The same of the plan: two puts, one a line. It takes no script.
+/// The same of the plan: one put. It takes no script.
 const PLAN: Case<'static> = Case {
     words: &["plan", "c"],
     description: Some(TASKS),
@@ -230,15 +230,16 @@ fn ends_where_a_put_fails(rt: HostRuntime) -> Result<(), Fail> {
             script: Some(b"walk"),
             ..unwritten(&[(0, 14)], "script refused")
         },
-        // The lines of a plan.
+        // The text of a plan.
         Case {
-            failing_puts: &[(1, 6)],
+            failing_puts: &[(0, 20)],
             status: Status::NotWritten,
             told: "task T core 0\ntask U",
             ..PLAN
         },
+        // There is no second put.
         Case {
-            failing_puts: &[(2, 0)],
+            failing_puts: &[(1, 0)],
             ..PLAN
         },
     ];

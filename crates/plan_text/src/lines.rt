@@ -1,17 +1,18 @@
-//! Single lines.
+//! Single lines, each appended to a text.
 
-ghost use Rattle.std.specs.Prelude.{◌≡◌, ◌++◌, IfOk, OnOk, codes};
+ghost use Rattle.std.specs.Prelude.{◌≡◌, ◌++◌, [], OnOk};
+ghost use Rattle.std.specs.Option.{option_map_or};
 ghost use Rattle.bus_semantics.specs.Plan.{instance_of, plan_of};
-ghost use Rattle.plan_definitions.specs.Ports.{item_text};
-ghost use Rattle.plan_text.specs.Lines.{component_text, direct_line, event_line, instance_line, join_line, machine_line, owned_text, owner_text, task_line};
+ghost use Rattle.plan_definitions.specs.Ports.{interface_of, item_name, port_name};
+ghost use Rattle.plan_text.specs.Lines.{component_text, direct_line, end_text, event_line, instance_line, join_line, machine_line, owned_text, owner_text, task_line};
 
 use bus_semantics::{BusPlan, EventPlan, MachinePlan};
 use description_types::{Description, MappedEvent, Task};
 use flat_descriptions::{End, Flat, Instance, Join};
+use interface_types::InterfaceKind;
 use itoa::Buffer;
-use plan_numbers::item_text;
-use rte_text::{Memory, Text};
-use std::alloc::Global;
+use plan_numbers::{interface_of, ports_of};
+use rte_text::Memory;
 
 fn owner_text(f: &Flat, owner: Option<u32>) -> &[u8]
     ensures { result.now ≡ owner_text f.now owner }
@@ -26,36 +27,60 @@ fn owner_text(f: &Flat, owner: Option<u32>) -> &[u8]
 }
 
 /// Appends INSTANCE.NAME, or env.NAME.
-fn add_owned(f: &Flat, owner: Option<u32>, name: &[u8], line: &mut Vec<u8>) -> Result<(), Memory>
-    ensures { OnOk result (line.new.items ≡ line.old.items ++ owned_text f.now owner name.now) }
+fn add_owned(f: &Flat, owner: Option<u32>, name: &[u8], text: &mut Vec<u8>) -> Result<(), Memory>
+    ensures { OnOk result (text.new.items ≡ text.old.items ++ owned_text f.now owner name.now) }
 {
-    line.extend_from_slice(owner_text(f, owner))?;
-    line.push(b'.')?;
-    line.extend_from_slice(name)
+    text.extend_from_slice(owner_text(f, owner))?;
+    text.push(b'.')?;
+    text.extend_from_slice(name)
 }
 
-/// How many bytes INSTANCE.NAME has, as far as a `usize` counts.
-fn owned_len(f: &Flat, owner: Option<u32>, name: &[u8]) -> usize {
-    owner_text(f, owner)
-        .len()
-        .saturating_add(name.len())
-        .saturating_add(1)
+fn item_name(kind: &InterfaceKind, item: u32) -> &[u8]
+    ensures { result.now ≡ item_name kind.now item }
+{
+    match kind {
+        InterfaceKind::SenderReceiver(elements) => match elements.items().get(item as usize) {
+            Some(element) => element.short_name.bytes(),
+            None => &[],
+        },
+        InterfaceKind::ClientServer(operations) => match operations.items().get(item as usize) {
+            Some(operation) => operation.short_name.bytes(),
+            None => &[],
+        },
+        InterfaceKind::ModeSwitch(element) => element.short_name.bytes(),
+    }
 }
 
-fn item_of(alloc: Global, d: &Description, f: &Flat, end: End) -> Result<Text, Memory>
-    ensures { IfOk result (λ text. text ≡ item_text d.now f.now end.instance end.port end.element) }
+fn port_name<'a>(d: &'a Description, f: &Flat, owner: Option<u32>, port: u32) -> &'a [u8]
+    ensures { result.now ≡ port_name d.now f.now owner port }
 {
-    item_text(alloc, d, f, end.instance, end.port, end.element)
+    match ports_of(d, f, owner).get(port as usize) {
+        Some(port) => port.short_name.bytes(),
+        None => &[],
+    }
 }
 
-/// A line that so begins, with room for so many more bytes and a few marks: it is not moved while it grows.
-fn line_for(alloc: Global, beginning: &[u8], more: usize) -> Result<Vec<u8>, Memory>
-    ensures { IfOk result (λ line. line.items ≡ beginning.now) }
+fn name_of_item<'a>(d: &'a Description, f: &Flat, end: End) -> &'a [u8]
+    ensures { result.now ≡ option_map_or (λ kind. item_name kind end.element) (interface_of d.now f.now end.instance end.port) [] }
 {
-    let room = beginning.len().saturating_add(more).saturating_add(3);
-    let mut line = Vec::with_capacity(alloc, room)?;
-    line.extend_from_slice(beginning)?;
-    Ok(line)
+    match interface_of(d, f, end.instance, end.port) {
+        Some(kind) => item_name(kind, end.element),
+        None => &[],
+    }
+}
+
+/// Appends INSTANCE.PORT.ITEM, or env.PORT.ITEM.
+fn add_end(d: &Description, f: &Flat, end: End, text: &mut Vec<u8>) -> Result<(), Memory>
+    ensures { OnOk result (text.new.items ≡ text.old.items ++ end_text d.now f.now end) }
+{
+    add_owned(
+        f,
+        end.instance,
+        port_name(d, f, end.instance, end.port),
+        text,
+    )?;
+    text.push(b'.')?;
+    text.extend_from_slice(name_of_item(d, f, end))
 }
 
 fn component_text(d: &Description, component: u32) -> &[u8]
@@ -67,61 +92,38 @@ fn component_text(d: &Description, component: u32) -> &[u8]
     }
 }
 
-/// `instance PATH TYPE`.
-pub fn instance_line(alloc: Global, d: &Description, x: &Instance) -> Result<Text, Memory>
-    ensures { IfOk result (λ line. line ≡ instance_line d.now x.now) }
+/// Appends `instance PATH TYPE`.
+pub fn add_instance(d: &Description, x: &Instance, text: &mut Vec<u8>) -> Result<(), Memory>
+    ensures { OnOk result (text.new.items ≡ text.old.items ++ instance_line d.now x.now) }
 {
-    let mut line = Vec::from_slice(alloc, b"instance ")?;
-    line.extend_from_slice(x.path.bytes())?;
-    line.push(b' ')?;
-    line.extend_from_slice(component_text(d, x.component))?;
-    line.push(b'\n')?;
-    Ok(Text::of(line))
+    text.extend_from_slice(b"instance ")?;
+    text.extend_from_slice(x.path.bytes())?;
+    text.push(b' ')?;
+    text.extend_from_slice(component_text(d, x.component))?;
+    text.push(b'\n')?;
+    Ok(())
 }
 
-/// `join PROVIDED REQUIRED`.
-pub fn join_line(alloc: Global, d: &Description, f: &Flat, join: Join) -> Result<Text, Memory>
-    ensures { IfOk result (λ line. line ≡ join_line d.now f.now join) }
+/// Appends `join PROVIDED REQUIRED`.
+pub fn add_join(d: &Description, f: &Flat, join: Join, text: &mut Vec<u8>) -> Result<(), Memory>
+    ensures { OnOk result (text.new.items ≡ text.old.items ++ join_line d.now f.now join) }
 {
-    let provided = item_of(alloc, d, f, join.provided)?;
-    let required = item_of(alloc, d, f, join.required)?;
-    let first = owned_len(f, join.provided.instance, provided.bytes());
-    let second = owned_len(f, join.required.instance, required.bytes());
-    let mut line = line_for(alloc, b"join ", first.saturating_add(second))?;
-    add_owned(f, join.provided.instance, provided.bytes(), &mut line)?;
-    line.push(b' ')?;
-    add_owned(f, join.required.instance, required.bytes(), &mut line)?;
-    line.push(b'\n')?;
-    Ok(Text::of(line))
+    text.extend_from_slice(b"join ")?;
+    add_end(d, f, join.provided, text)?;
+    text.push(b' ')?;
+    add_end(d, f, join.required, text)?;
+    text.push(b'\n')?;
+    Ok(())
 }
 
-/// `WORD INSTANCE.NAME`. The word ends with its space.
-fn owned_line(
-    alloc: Global,
-    word: &[u8],
-    f: &Flat,
-    owner: Option<u32>,
-    name: &[u8],
-) -> Result<Text, Memory>
-    ensures { IfOk result (λ line. line ≡ word.now ++ owned_text f.now owner name.now ++ codes "\n") }
+/// Appends `machine NAME`.
+pub fn add_machine(f: &Flat, machine: &MachinePlan, text: &mut Vec<u8>) -> Result<(), Memory>
+    ensures { OnOk result (text.new.items ≡ text.old.items ++ machine_line f.now machine.now) }
 {
-    let mut line = line_for(alloc, word, owned_len(f, owner, name))?;
-    add_owned(f, owner, name, &mut line)?;
-    line.push(b'\n')?;
-    Ok(Text::of(line))
-}
-
-/// `machine NAME`.
-pub fn machine_line(alloc: Global, f: &Flat, machine: &MachinePlan) -> Result<Text, Memory>
-    ensures { IfOk result (λ line. line ≡ machine_line f.now machine.now) }
-{
-    owned_line(
-        alloc,
-        b"machine ",
-        f,
-        machine.instance,
-        machine.name.bytes(),
-    )
+    text.extend_from_slice(b"machine ")?;
+    add_owned(f, machine.instance, machine.name.bytes(), text)?;
+    text.push(b'\n')?;
+    Ok(())
 }
 
 /// The instance of a runnable.
@@ -134,43 +136,45 @@ fn instance_of(p: &BusPlan, runnable: u32) -> Option<u32>
     }
 }
 
-/// `direct INSTANCE.EVENT`.
-pub fn direct_line(alloc: Global, f: &Flat, p: &BusPlan, event: &EventPlan) -> Result<Text, Memory>
-    ensures { IfOk result (λ line. line ≡ direct_line f.now p.now event.now) }
+/// Appends `direct INSTANCE.EVENT`.
+pub fn add_direct(
+    f: &Flat,
+    p: &BusPlan,
+    event: &EventPlan,
+    text: &mut Vec<u8>,
+) -> Result<(), Memory>
+    ensures { OnOk result (text.new.items ≡ text.old.items ++ direct_line f.now p.now event.now) }
 {
-    owned_line(
-        alloc,
-        b"direct ",
-        f,
-        instance_of(p, event.runnable),
-        event.name.bytes(),
-    )
+    text.extend_from_slice(b"direct ")?;
+    add_owned(f, instance_of(p, event.runnable), event.name.bytes(), text)?;
+    text.push(b'\n')?;
+    Ok(())
 }
 
-/// `task NAME core N`.
-pub fn task_line(alloc: Global, task: &Task) -> Result<Text, Memory>
-    ensures { IfOk result (λ line. line ≡ task_line task.now) }
+/// Appends `task NAME core N`.
+pub fn add_task(task: &Task, text: &mut Vec<u8>) -> Result<(), Memory>
+    ensures { OnOk result (text.new.items ≡ text.old.items ++ task_line task.now) }
 {
-    let mut line = Vec::from_slice(alloc, b"task ")?;
-    line.extend_from_slice(task.short_name.bytes())?;
-    line.extend_from_slice(b" core ")?;
-    line.extend_from_slice(Buffer::new().format(task.core).as_bytes())?;
-    line.push(b'\n')?;
-    Ok(Text::of(line))
+    text.extend_from_slice(b"task ")?;
+    text.extend_from_slice(task.short_name.bytes())?;
+    text.extend_from_slice(b" core ")?;
+    text.extend_from_slice(Buffer::new().format(task.core).as_bytes())?;
+    text.push(b'\n')?;
+    Ok(())
 }
 
-/// `event INSTANCE.EVENT TASK POSITION`.
-pub fn event_line(alloc: Global, task: &Task, mapped: &MappedEvent) -> Result<Text, Memory>
-    ensures { IfOk result (λ line. line ≡ event_line task.now mapped.now) }
+/// Appends `event INSTANCE.EVENT TASK POSITION`.
+pub fn add_event(task: &Task, mapped: &MappedEvent, text: &mut Vec<u8>) -> Result<(), Memory>
+    ensures { OnOk result (text.new.items ≡ text.old.items ++ event_line task.now mapped.now) }
 {
-    let mut line = Vec::from_slice(alloc, b"event ")?;
-    line.extend_from_slice(mapped.instance.bytes())?;
-    line.push(b'.')?;
-    line.extend_from_slice(mapped.event.bytes())?;
-    line.push(b' ')?;
-    line.extend_from_slice(task.short_name.bytes())?;
-    line.push(b' ')?;
-    line.extend_from_slice(Buffer::new().format(mapped.position).as_bytes())?;
-    line.push(b'\n')?;
-    Ok(Text::of(line))
+    text.extend_from_slice(b"event ")?;
+    text.extend_from_slice(mapped.instance.bytes())?;
+    text.push(b'.')?;
+    text.extend_from_slice(mapped.event.bytes())?;
+    text.push(b' ')?;
+    text.extend_from_slice(task.short_name.bytes())?;
+    text.push(b' ')?;
+    text.extend_from_slice(Buffer::new().format(mapped.position).as_bytes())?;
+    text.push(b'\n')?;
+    Ok(())
 }

@@ -1,82 +1,68 @@
 //! All lines, kind by kind.
 
-ghost use Rattle.std.specs.Prelude.{◌≡◌, ◌<◌, ◌∷◌, ◌++◌, IfOk, OnOk, filter, length, map, nat_eq};
-ghost use Rattle.plan_definitions.specs.Lists.{from};
+ghost use Rattle.std.specs.Prelude.{◌≡◌, ◌<◌, ◌++◌, IfOk, OnOk, length};
+ghost use Rattle.std.specs.List.{flat_map};
 ghost use Rattle.plan_definitions.specs.Tasks.{by_position};
-ghost use Rattle.plan_text.specs.Lines.{direct_events, direct_line, event_line, instance_line, invokes_directly, join_line, machine_line, plan_lines, task_line, task_lines};
+ghost use Rattle.plan_text.specs.Lines.{event_line, instance_line, invokes_directly, join_line, machine_line, plan_text};
 ghost use Rattle.plan_text.specs.Mapped.{listed, seen};
+ghost use Rattle.plan_text.specs.Texts.{direct_text, task_text, tasks_text};
 
-use crate::lines::{direct_line, event_line, instance_line, join_line, machine_line, task_line};
+use crate::lines::{add_direct, add_event, add_instance, add_join, add_machine, add_task};
 use crate::mapped::{in_order, mapped_by_task};
 use bus_semantics::{BusPlan, EventKind, EventPlan, MachinePlan};
 use description_types::{Description, MappedEvent, Task};
-use flat_descriptions::Flat;
-use rte_text::{Memory, Text};
+use flat_descriptions::{Flat, Instance, Join};
+use rte_text::Memory;
 use std::alloc::Global;
 
-fn list_instances(
-    alloc: Global,
-    d: &Description,
-    f: &Flat,
-    lines: &mut Vec<Text>,
-) -> Result<(), Memory>
-    ensures { OnOk result (lines.new.items ≡ lines.old.items ++ map (instance_line d.now) f.now.instances) }
+fn add_instances(d: &Description, instances: &[Instance], text: &mut Vec<u8>) -> Result<(), Memory>
+    ensures { OnOk result (text.new.items ≡ text.old.items ++ flat_map (instance_line d.now) instances.now) }
 {
-    for instance in f.instances.items() {
-        lines.push(instance_line(alloc, d, instance)?)?;
+    for instance in instances {
+        add_instance(d, instance, text)?;
     }
     Ok(())
 }
 
-fn list_joins(alloc: Global, d: &Description, f: &Flat, lines: &mut Vec<Text>) -> Result<(), Memory>
-    ensures { OnOk result (lines.new.items ≡ lines.old.items ++ map (join_line d.now f.now) f.now.joins) }
+fn add_joins(d: &Description, f: &Flat, joins: &[Join], text: &mut Vec<u8>) -> Result<(), Memory>
+    ensures { OnOk result (text.new.items ≡ text.old.items ++ flat_map (join_line d.now f.now) joins.now) }
 {
-    for join in f.joins.items() {
-        lines.push(join_line(alloc, d, f, *join)?)?;
+    for join in joins {
+        add_join(d, f, *join, text)?;
     }
     Ok(())
 }
 
-fn list_machines(
-    alloc: Global,
-    f: &Flat,
-    machines: &[MachinePlan],
-    lines: &mut Vec<Text>,
-) -> Result<(), Memory>
-    ensures { OnOk result (lines.new.items ≡ lines.old.items ++ map (machine_line f.now) machines.now) }
+fn add_machines(f: &Flat, machines: &[MachinePlan], text: &mut Vec<u8>) -> Result<(), Memory>
+    ensures { OnOk result (text.new.items ≡ text.old.items ++ flat_map (machine_line f.now) machines.now) }
 {
     for machine in machines {
-        lines.push(machine_line(alloc, f, machine)?)?;
+        add_machine(f, machine, text)?;
     }
     Ok(())
 }
 
-fn list_events<'a>(
-    alloc: Global,
-    task: &Task,
-    events: &[&'a MappedEvent],
-    lines: &mut Vec<Text>,
-) -> Result<(), Memory>
-    ensures { OnOk result (lines.new.items ≡ lines.old.items ++ map (event_line task.now) (seen events.now)) }
+fn add_events<'a>(task: &Task, events: &[&'a MappedEvent], text: &mut Vec<u8>) -> Result<(), Memory>
+    ensures { OnOk result (text.new.items ≡ text.old.items ++ flat_map (event_line task.now) (seen events.now)) }
 {
     for mapped in events {
-        lines.push(event_line(alloc, task, mapped)?)?;
+        add_event(task, mapped, text)?;
     }
     Ok(())
 }
 
 /// A task with its mapped events, which are put in order here.
-fn list_task<'a>(
+fn add_task_events<'a>(
     alloc: Global,
     task: &Task,
     events: &[&'a MappedEvent],
-    lines: &mut Vec<Text>,
+    text: &mut Vec<u8>,
 ) -> Result<(), Memory>
-    ensures { OnOk result (lines.new.items ≡ lines.old.items ++ (task_line task.now ∷ map (event_line task.now) (by_position (seen events.now)))) }
+    ensures { OnOk result (text.new.items ≡ text.old.items ++ task_text task.now (by_position (seen events.now))) }
 {
-    lines.push(task_line(alloc, task)?)?;
+    add_task(task, text)?;
     let sorted = in_order(alloc, events)?;
-    list_events(alloc, task, sorted.as_slice(), lines)
+    add_events(task, sorted.as_slice(), text)
 }
 
 /// The mapped events of a task.
@@ -88,13 +74,13 @@ fn events_of<'a, 'b>(lists: &'b [Vec<&'a MappedEvent>], task: usize) -> &'b [&'a
 }
 
 #[tactic(auto, using(plan_numbers::proofs::Listing::from_more, plan_numbers::proofs::Listing::from_none))]
-fn list_tasks(alloc: Global, d: &Description, lines: &mut Vec<Text>) -> Result<(), Memory>
-    ensures { OnOk result (lines.new.items ≡ lines.old.items ++ from 0 (task_lines d.now) d.now.mapping.tasks) }
+fn add_tasks(alloc: Global, d: &Description, text: &mut Vec<u8>) -> Result<(), Memory>
+    ensures { OnOk result (text.new.items ≡ text.old.items ++ tasks_text d.now) }
 {
     let tasks = d.mapping.tasks.items();
     let lists = mapped_by_task(alloc, tasks.len(), d.mapping.events.items())?;
     for (number, task) in tasks.iter().enumerate() {
-        list_task(alloc, task, events_of(lists.as_slice(), number), lines)?;
+        add_task_events(alloc, task, events_of(lists.as_slice(), number), text)?;
     }
     Ok(())
 }
@@ -117,31 +103,39 @@ fn invokes_directly(p: &BusPlan, event: &EventPlan) -> bool
     }
 }
 
-fn list_direct(alloc: Global, f: &Flat, p: &BusPlan, lines: &mut Vec<Text>) -> Result<(), Memory>
-    ensures { OnOk result (lines.new.items ≡ lines.old.items ++ map (direct_line f.now p.now) (direct_events p.now)) }
+fn add_if_direct(f: &Flat, p: &BusPlan, event: &EventPlan, text: &mut Vec<u8>) -> Result<(), Memory>
+    ensures { OnOk result (text.new.items ≡ text.old.items ++ direct_text f.now p.now event.now) }
 {
-    for event in p.events.items() {
-        if invokes_directly(p, event) {
-            lines.push(direct_line(alloc, f, p, event)?)?;
-        }
+    if invokes_directly(p, event) {
+        add_direct(f, p, event, text)?;
     }
     Ok(())
 }
 
-/// The lines of a plan. The only error is want of memory.
-pub fn plan_lines(
-    alloc: Global,
-    d: &Description,
+fn add_direct_events(
     f: &Flat,
     p: &BusPlan,
-) -> Result<Vec<Text>, Memory>
-    ensures { IfOk result (λ lines. lines.items ≡ plan_lines d.now f.now p.now) }
+    events: &[EventPlan],
+    text: &mut Vec<u8>,
+) -> Result<(), Memory>
+    ensures { OnOk result (text.new.items ≡ text.old.items ++ flat_map (direct_text f.now p.now) events.now) }
 {
-    let mut lines = Vec::new(alloc);
-    list_instances(alloc, d, f, &mut lines)?;
-    list_joins(alloc, d, f, &mut lines)?;
-    list_machines(alloc, f, p.machines.items(), &mut lines)?;
-    list_tasks(alloc, d, &mut lines)?;
-    list_direct(alloc, f, p, &mut lines)?;
-    Ok(lines)
+    for event in events {
+        add_if_direct(f, p, event, text)?;
+    }
+    Ok(())
+}
+
+/// The text of a plan. The only error is want of memory.
+#[tactic(auto, using(crate::proofs::Texts::whole))]
+pub fn plan_text(alloc: Global, d: &Description, f: &Flat, p: &BusPlan) -> Result<Vec<u8>, Memory>
+    ensures { IfOk result (λ text. text.items ≡ plan_text d.now f.now p.now) }
+{
+    let mut text = Vec::new(alloc);
+    add_instances(d, f.instances.items(), &mut text)?;
+    add_joins(d, f, f.joins.items(), &mut text)?;
+    add_machines(f, p.machines.items(), &mut text)?;
+    add_tasks(alloc, d, &mut text)?;
+    add_direct_events(f, p, p.events.items(), &mut text)?;
+    Ok(text)
 }

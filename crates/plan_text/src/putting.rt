@@ -1,34 +1,19 @@
 //! Putting the text.
 
 ghost use Rattle.std.specs.Prelude.{◌≡◌, IfOk, OnErr};
-ghost use Rattle.std.specs.List.{concat};
 ghost use Rattle.rte_text.specs.Sinks.{SinkFaultsAfter, ToldAfter};
 ghost use Rattle.plan_text.specs.Lines.{plan_text};
 
-use crate::listing::plan_lines;
+use crate::listing::plan_text;
 use bus_semantics::BusPlan;
 use description_types::Description;
 use flat_descriptions::Flat;
-use rte_text::{Memory, Put, Sink, Text};
+use rte_text::{Memory, Put, Sink};
 use std::alloc::Global;
 
-/// Puts the lines, in order, up to the first put that fails.
-fn put_lines<K: Sink>(lines: &[Text], out: &mut K) -> Put
-    ensures told { ToldAfter result (K.told out.old) (K.told out.new) (concat lines.now) }
-    ensures faults { SinkFaultsAfter result (K.faults out.old) (K.faults out.new) }
-{
-    for line in lines {
-        match out.put(line.bytes()) {
-            Put::Done => {}
-            Put::Failed => return Put::Failed,
-        }
-    }
-    Put::Done
-}
-
-/// Puts the text of the plan of a description, made flat, one put a line, up to the first put that fails. The lines come in
-/// this order: the instances, the joins, the mode machines, each task with its mapped events by position, the events of direct
-/// servers. All lines are made before the first is put: the only error is want of memory, and then nothing was put.
+/// Puts the text of the plan of a description, made flat, in one put. Its lines come in this order: the instances, the joins,
+/// the mode machines, each task with its mapped events by position, the events of direct servers. All lines are made before
+/// the put: the only error is want of memory, and then nothing was put.
 pub fn put_plan<K: Sink>(
     alloc: Global,
     d: &Description,
@@ -41,6 +26,6 @@ pub fn put_plan<K: Sink>(
     ensures untold { OnErr result (K.told out.new ≡ K.told out.old) }
     ensures no_fault { OnErr result (K.faults out.new ≡ K.faults out.old) }
 {
-    let lines = plan_lines(alloc, d, f, p)?;
-    Ok(put_lines(lines.as_slice(), out))
+    let text = plan_text(alloc, d, f, p)?;
+    Ok(out.put(text.as_slice()))
 }
