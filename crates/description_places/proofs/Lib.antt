@@ -7,3 +7,5 @@ pub mod Repeated
 pub mod Tables
 pub mod Unbroken
 pub mod Walks
+pub mod Judged
+pub mod Calculating

@@ -13,3 +13,4 @@ pub mod Spots
 pub mod Tables
 pub mod Trails
 pub mod Visits
+pub mod Calculations

@@ -1,10 +1,11 @@
 -- The rules that each value of a description is judged by, and the refusal.
-use Rattle.std.specs.Prelude.{◌≡◌, ℕ, List, [], ◌∷◌, Bool, not, ◌&&◌, Option, Some, None, ◌⊎◌, IsUtf8, codes}
+use Rattle.std.specs.Prelude.{◌≡◌, ℕ, List, [], ◌∷◌, Bool, not, ◌&&◌, ◌||◌, Option, Some, None, ◌⊎◌, IsUtf8, codes}
 use Rattle.serde_json.specs.Data.{Data}
 use Rattle.serde_json.specs.Find.{as_str}
 use Rattle.serde_json.specs.Read.{read}
 use Rattle.rte_text.specs.declared.refusal.Refused.{Refused}
 use Rattle.rte_text.specs.declared.refusal.Refused.TheVariants.{Rule, Memory}
+use Rattle.description_places.specs.declared.kind.Kind.{Kind}
 use Rattle.description_places.specs.declared.kind.Kind.TheVariants.{Description}
 use Rattle.description_places.specs.Declarations.{Declared, declarations, first_repeated}
 use Rattle.description_places.specs.Forms.{form_of}
@@ -19,8 +20,15 @@ abbrev pub breaks_shape : Visit → Bool
 breaks_shape v = not (has_shape v.kind v.value)
 
 -- rule 3: each name has 1 to 32 bytes, a letter, then letters, digits and _
+abbrev pub is_no_name : Kind → Data → Bool
+is_no_name kind d = is_name_form (form_of kind) && not (holds is_name (as_str d))
+
 abbrev pub breaks_names : Visit → Bool
-breaks_names v = is_name_form (form_of v.kind) && not (holds is_name (as_str v.value))
+breaks_names v = is_no_name v.kind v.value
+
+-- rules 2 and 3 together
+abbrev pub breaks_shape_or_names : Visit → Bool
+breaks_shape_or_names v = breaks_shape v || breaks_names v
 
 -- the values of the description d in document order, and what they declare
 abbrev pub visits_of : Data → List Visit

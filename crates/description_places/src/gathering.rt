@@ -3,7 +3,7 @@
 ghost use Rattle.std.specs.Prelude.{◌≡◌, ◌++◌, IfOk, OnOk, map, option_map, string_bytes, Some};
 ghost use Rattle.serde_json.specs.View.{view, items_view, members_view};
 ghost use Rattle.description_places.specs.Around.{named, value_at, owner_of};
-ghost use Rattle.description_places.specs.Declarations.{declared_of, declared_by, declarations, list_of_object, list_of, parts_text, access_name, position_name, name_of, key_of_kind, end_of_object, end_of};
+ghost use Rattle.description_places.specs.Declarations.{declared_of, declared_by, declarations, list_of_object, list_of, parts_text, access_name, position_name, name_of, key_of_kind, end_of};
 ghost use Rattle.description_places.specs.Keys.{key_of};
 ghost use Rattle.description_places.specs.Spots.{inside};
 ghost use Rattle.description_places.specs.Trails.{spot_of};
@@ -11,10 +11,11 @@ ghost use Rattle.description_places.specs.Visits.{visits, visit_at, items_visits
 
 use crate::alternatives::resolved;
 use crate::around::{named, owner_of, place_at, text_around, text_in};
+use crate::calculations::is_calculation;
 use crate::keys::{Field, keys_of};
 use crate::kind::Kind;
 use crate::trail::Trail;
-use crate::walk::part_of;
+use crate::walk::part_kinds;
 use itoa::Buffer;
 use rte_text::Memory;
 use serde_json::{Map, Value};
@@ -175,7 +176,7 @@ fn declare(
 /// Appends what the value that stands here declares, and what is declared in it, in document order. The only error is that
 /// there is no memory for it.
 #[cycle(gather)]
-#[tactic(auto, using(crate::proofs::Gathers::one_declared))]
+#[tactic(auto, using(crate::proofs::Gathers::one_declared, crate::proofs::Calculating::nothing_declared))]
 pub fn gather(
     alloc: Global,
     value: &Value,
@@ -187,6 +188,9 @@ pub fn gather(
         ≡ map declared_of found.old.items ++ declarations (visits (view value.now) kind (spot_of trail.now))) }
 {
     let kind = resolved(kind, value);
+    if is_calculation(kind) {
+        return Ok(());
+    }
     declare(alloc, value, kind, trail, found)?;
     match value {
         Value::Array(parts) => gather_parts(alloc, parts, value, kind, trail, found),
@@ -208,9 +212,10 @@ fn gather_parts(
         ≡ map declared_of found.old.items
         ++ declarations (in_array kind (view owner.now) (spot_of trail.now) (items_visits (items_view parts.now)))) }
 {
+    let kinds = part_kinds(kind);
     for index in 0..parts.len() {
         let inner = Trail::Part(&*trail, &*owner, kind, index);
-        gather(alloc, &parts[index], part_of(kind, index), &inner, found)?;
+        gather(alloc, &parts[index], kinds.at(index), &inner, found)?;
     }
     Ok(())
 }

@@ -12,7 +12,7 @@ use crate::gathering::gather;
 use crate::kind::Kind;
 use crate::references::ReferenceRule;
 use crate::rule::Rule;
-use crate::rules::{NameRule, ShapeRule};
+use crate::rules::{NameRule, ShapeOrNameRule, ShapeRule};
 use crate::trail::Trail;
 use crate::walk::first_fault;
 use rte_text::{Memory, Refusal, Refused, Text};
@@ -39,7 +39,18 @@ pub fn judge(alloc: Global, bytes: &[u8]) -> Result<Value, Refused>
     }
 }
 
+/// Rules 2 and 3 are looked at together, and one after the other only where one of them is broken.
+#[tactic(auto, using(crate::proofs::Judged::refusal_is_of_names))]
 fn refusal_of(alloc: Global, value: &Value) -> Result<Option<Refusal>, Memory>
+    ensures { IfOk result (λ found. option_map {U = ℕ × List ℕ} (λ r. (r.rule, r.place)) found ≡ refusal (view value.now)) }
+{
+    match first_place(alloc, &ShapeOrNameRule, value)? {
+        Some(_) => refusal_in_turn(alloc, value),
+        None => refusal_of_names(alloc, value),
+    }
+}
+
+fn refusal_in_turn(alloc: Global, value: &Value) -> Result<Option<Refusal>, Memory>
     ensures { IfOk result (λ found. option_map {U = ℕ × List ℕ} (λ r. (r.rule, r.place)) found ≡ refusal (view value.now)) }
 {
     if let Some(place) = first_place(alloc, &ShapeRule, value)? {

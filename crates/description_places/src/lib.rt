@@ -31,6 +31,7 @@
 
 mod alternatives;
 mod around;
+mod calculations;
 mod distinct;
 mod form;
 mod gathering;

@@ -10,6 +10,7 @@ ghost use Rattle.description_places.specs.Trails.{spot_of};
 use crate::around::{
     component_around, named, number_around, part_around, place_at, text_around, text_in,
 };
+use crate::calculations::is_calculation;
 use crate::distinct::Declarations;
 use crate::kind::Kind;
 use crate::rule::Rule;
@@ -37,6 +38,11 @@ impl Rule for ReferenceRule<'_> {
     ) -> Result<bool, Memory> {
         let is_found = is_found(alloc, self.declared, value, kind, trail)?;
         Ok(!is_found)
+    }
+
+    #[tactic(auto, using(crate::proofs::Calculating::references_pass))]
+    fn passes(&self, kind: Kind) -> bool {
+        is_calculation(kind)
     }
 }
 

@@ -1,7 +1,8 @@
 //! What a rule over the values of a description is.
 
-ghost use Rattle.std.specs.Prelude.{◌≡◌, Bool, IfOk};
+ghost use Rattle.std.specs.Prelude.{◌≡◌, Bool, true, IfOk};
 ghost use Rattle.serde_json.specs.View.{view};
+ghost use Rattle.description_places.specs.Calculations.{Passes};
 ghost use Rattle.description_places.specs.Trails.{spot_of};
 ghost use Rattle.description_places.specs.Visits.{Visit, visit_at};
 
@@ -25,4 +26,8 @@ pub trait Rule {
         trail: &Trail,
     ) -> Result<bool, Memory>
         ensures { IfOk result (λ answer. answer ≡ breaks self.now (visit_at (spot_of trail.now) kind (view value.now))) };
+
+    /// Whether the walk may pass a value of this kind, with all that it holds: then none of these breaks the rule.
+    fn passes(&self, kind: Kind) -> bool
+        ensures { result ≡ true → Passes (breaks self.now) kind };
 }

@@ -1,6 +1,8 @@
 //! The rules of shape and of names.
 
-ghost use Rattle.description_places.specs.Rules.{breaks_shape, breaks_names};
+ghost use Rattle.std.specs.Prelude.{◌≡◌};
+ghost use Rattle.serde_json.specs.View.{view};
+ghost use Rattle.description_places.specs.Rules.{breaks_shape, breaks_names, breaks_shape_or_names, is_no_name};
 
 use crate::form::{Form, form_of};
 use crate::kind::Kind;
@@ -28,6 +30,23 @@ impl Rule for ShapeRule {
     ) -> Result<bool, Memory> {
         Ok(!has_shape(kind, value))
     }
+
+    fn passes(&self, _kind: Kind) -> bool {
+        false
+    }
+}
+
+/// Whether a value stands where a name should, and is none.
+fn is_no_name(kind: Kind, value: &Value) -> bool
+    ensures { result ≡ is_no_name kind (view value.now) }
+{
+    match form_of(kind) {
+        Form::Name => match value.as_str() {
+            Some(text) => !is_name(text.as_bytes()),
+            None => true,
+        },
+        _ => false,
+    }
 }
 
 /// Rule 3: each name has 1 to 32 bytes, a letter, then letters, digits and `_`.
@@ -44,12 +63,32 @@ impl Rule for NameRule {
         kind: Kind,
         _trail: &Trail,
     ) -> Result<bool, Memory> {
-        match form_of(kind) {
-            Form::Name => match value.as_str() {
-                Some(text) => Ok(!is_name(text.as_bytes())),
-                None => Ok(true),
-            },
-            _ => Ok(false),
-        }
+        Ok(is_no_name(kind, value))
+    }
+
+    fn passes(&self, _kind: Kind) -> bool {
+        false
+    }
+}
+
+/// Rules 2 and 3 together.
+#[derive(Clone, Copy)]
+pub struct ShapeOrNameRule;
+
+impl Rule for ShapeOrNameRule {
+    ghost breaks = { λ _. breaks_shape_or_names };
+
+    fn is_broken(
+        &self,
+        _alloc: Global,
+        value: &Value,
+        kind: Kind,
+        _trail: &Trail,
+    ) -> Result<bool, Memory> {
+        Ok(!has_shape(kind, value) || is_no_name(kind, value))
+    }
+
+    fn passes(&self, _kind: Kind) -> bool {
+        false
     }
 }

@@ -1,11 +1,11 @@
 //! The walk over a description.
 
-ghost use Rattle.std.specs.Prelude.{◌≡◌, IfOk, option_map, string_bytes, length, ◌≤◌};
-ghost use Rattle.serde_json.specs.Data.{array, object};
+ghost use Rattle.std.specs.Prelude.{◌≡◌, ℕ, IfOk, option_map, slice_index_or, string_bytes};
+ghost use Rattle.serde_json.specs.Data.{array};
 ghost use Rattle.serde_json.specs.View.{view, items_view, members_view};
 ghost use Rattle.description_places.specs.Forms.{form_of};
 ghost use Rattle.description_places.specs.Keys.{key_of, keys_of};
-ghost use Rattle.description_places.specs.Spots.{inside, inside_part};
+ghost use Rattle.description_places.specs.Spots.{inside};
 ghost use Rattle.description_places.specs.Trails.{spot_of};
 ghost use Rattle.description_places.specs.Visits.{visits, items_visits, members_visits, in_array, in_object, at_key, part_of, first_broken};
 
@@ -34,6 +34,9 @@ pub fn first_fault<R: Rule>(
         ≡ first_broken (R.breaks rule.now) (visits (view value.now) kind (spot_of trail.now))) }
 {
     let kind = resolved(kind, value);
+    if rule.passes(kind) {
+        return Ok(None);
+    }
     if rule.is_broken(alloc, value, kind, trail)? {
         let place = trail.place(alloc)?;
         return Ok(Some(place));
@@ -57,9 +60,10 @@ fn first_in_parts<R: Rule>(
     ensures { IfOk result (λ found. option_map string_bytes found
         ≡ first_broken (R.breaks rule.now) (in_array kind (view owner.now) (spot_of trail.now) (items_visits (items_view parts.now)))) }
 {
+    let kinds = part_kinds(kind);
     for index in 0..parts.len() {
         let inner = Trail::Part(&*trail, &*owner, kind, index);
-        match first_fault(alloc, rule, &parts[index], part_of(kind, index), &inner)? {
+        match first_fault(alloc, rule, &parts[index], kinds.at(index), &inner)? {
             Some(place) => return Ok(Some(place)),
             None => {}
         }
@@ -110,12 +114,41 @@ fn first_at_key<R: Rule>(
     }
 }
 
-pub(crate) fn part_of(kind: Kind, index: usize) -> Kind
-    ensures { result ≡ part_of (form_of kind) kind index }
+/// The kinds of the parts of an array: those of a row, and one for all other parts.
+#[derive(Clone, Copy)]
+pub(crate) struct PartKinds {
+    row: &'static [Kind],
+    other: Kind,
+}
+
+impl PartKinds {
+    /// The kind of a part.
+    pub(crate) fn at(self, index: usize) -> Kind
+        ensures { result ≡ slice_index_or self.row.now index self.other }
+    {
+        match self.row.get(index) {
+            Some(kind) => *kind,
+            None => self.other,
+        }
+    }
+}
+
+/// The kinds of the parts of an array of this kind.
+pub(crate) fn part_kinds(kind: Kind) -> PartKinds
+    ensures { (i : ℕ) → slice_index_or result.row.now i result.other ≡ part_of (form_of kind) kind i }
 {
     match form_of(kind) {
-        Form::List(part) | Form::Counted(_, _, part) => part,
-        Form::Row => row_of(kind).get(index).copied().unwrap_or(Kind::Anything),
-        _ => Kind::Anything,
+        Form::List(part) | Form::Counted(_, _, part) => PartKinds {
+            row: &[],
+            other: part,
+        },
+        Form::Row => PartKinds {
+            row: row_of(kind),
+            other: Kind::Anything,
+        },
+        _ => PartKinds {
+            row: &[],
+            other: Kind::Anything,
+        },
     }
 }

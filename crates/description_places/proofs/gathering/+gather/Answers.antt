@@ -34,5 +34,5 @@ gather_members-loop-key-preserved t c =
 pub gather_parts-loop-index-preserved : goal.gather_parts-loop-index-preserved
 gather_parts-loop-index-preserved t c =
     part_gathered c.args.parts.now (part_of (form_of c.args.kind) c.args.kind) (inside_part (spot_of c.args.trail.now) c.args.kind (view c.args.owner.now))
-    c.loop-index.index c.index-parts-index.result c.part_of.result _ _ _ _ c.loop-index-test.true c.index-parts-index.is c.part_of.ensures
+    c.loop-index.index c.index-parts-index.result c.at.result _ _ _ _ c.loop-index-test.true c.index-parts-index.is (c.at.ensures ∙ c.part_kinds-kinds.ensures c.loop-index.index)
     (spot_of_part c.args.trail c.args.owner c.args.kind c.loop-index.index) c.loop-index.invariant c.in_ok-gather.ensures

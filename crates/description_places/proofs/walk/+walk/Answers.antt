@@ -37,11 +37,11 @@ first_in_members-loop-key-preserved g t c =
 pub first_in_parts-returns-in-Some : goal.first_in_parts-returns-in-Some
 first_in_parts-returns-in-Some g t c =
     part_broken (g.R.Rule.breaks c.args.rule.now) c.args.parts.now (part_of (form_of c.args.kind) c.args.kind) (inside_part (spot_of c.args.trail.now) c.args.kind (view c.args.owner.now))
-    c.loop-index.index c.index-parts-index.result c.part_of.result _ _ c.in_ok-place.field-0 c.in-Some.place c.loop-index-test.true c.index-parts-index.is c.part_of.ensures
+    c.loop-index.index c.index-parts-index.result c.at.result _ _ c.in_ok-place.field-0 c.in-Some.place c.loop-index-test.true c.index-parts-index.is (c.at.ensures ∙ c.part_kinds-kinds.ensures c.loop-index.index)
     (spot_of_part c.args.trail c.args.owner c.args.kind c.loop-index.index) c.loop-index.invariant c.in_ok-place.ensures c.in-Some.is
 
 pub first_in_parts-loop-index-preserved : goal.first_in_parts-loop-index-preserved
 first_in_parts-loop-index-preserved g t c =
     part_unbroken (g.R.Rule.breaks c.args.rule.now) c.args.parts.now (part_of (form_of c.args.kind) c.args.kind) (inside_part (spot_of c.args.trail.now) c.args.kind (view c.args.owner.now))
-    c.loop-index.index c.index-parts-index.result c.part_of.result _ _ c.in_ok-place.field-0 c.loop-index-test.true c.index-parts-index.is c.part_of.ensures
+    c.loop-index.index c.index-parts-index.result c.at.result _ _ c.in_ok-place.field-0 c.loop-index-test.true c.index-parts-index.is (c.at.ensures ∙ c.part_kinds-kinds.ensures c.loop-index.index)
     (spot_of_part c.args.trail c.args.owner c.args.kind c.loop-index.index) c.loop-index.invariant c.in_ok-place.ensures c.in-None.is
