@@ -1,3 +1,4 @@
+pub mod Filling
+pub mod Leading
 pub mod Listing
 pub mod Spreading
-pub mod Filling

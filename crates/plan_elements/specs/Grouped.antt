@@ -1,13 +1,11 @@
--- The groups of a description, with what finds them.
-use Rattle.std.specs.Prelude.{◌≡◌}
+-- The groups of a description, as they are kept.
+use Rattle.std.specs.Prelude.{◌≡◌, length, map}
 use Rattle.flat_descriptions.specs.declared.flat.Flat.{Flat}
 use Rattle.description_types.specs.declared.description.Description.{Description}
 use Rattle.plan_elements.specs.declared.groups.Groups.{Groups}
 use Rattle.plan_definitions.specs.Elements.{leaders}
-use Rattle.plan_definitions.specs.ElementGroups.{heads}
-use Rattle.plan_elements.specs.Leading.{AreLeaders}
+use Rattle.plan_definitions.specs.ElementGroups.{group_number, heads}
 
 pub record AreGroups (d : Description) (f : Flat) (g : Groups) : Type 0 where
-  pub are_leaders : AreLeaders d f g.leaders
-  pub are_least : g.least.items ≡ leaders d f
-  pub are_heads : g.heads ≡ heads (leaders d f)
+  pub are_numbers : g.numbers.items ≡ map (group_number (leaders d f)) (leaders d f)
+  pub is_count : g.count ≡ length (heads (leaders d f))

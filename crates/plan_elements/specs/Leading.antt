@@ -1,21 +1,18 @@
--- The numbers of ends and of their partners, as they spread over joins.
-use Rattle.std.specs.Prelude.{◌≡◌}
-use Rattle.std.specs.List.{flat_map}
-use Rattle.flat_descriptions.specs.declared.flat.Flat.{Flat}
+-- The least number in the group of each element, as it is found.
+use Rattle.std.specs.Prelude.{◌≡◌, ℕ, List, map}
 use Rattle.description_types.specs.declared.description.Description.{Description}
-use Rattle.plan_definitions.specs.Keys.{keys_of}
+use Rattle.flat_descriptions.specs.declared.flat.Flat.{Flat}
+use Rattle.flat_descriptions.specs.declared.flat.Join.{Join}
+use Rattle.plan_definitions.specs.declared.site.Site.{Site}
+use Rattle.plan_definitions.specs.Keys.{Key, key_of, keys_of, number_in}
 use Rattle.plan_definitions.specs.Things.{elements_of}
-use Rattle.plan_elements.specs.declared.leaders.Leaders.{Leaders}
-use Rattle.plan_elements.specs.declared.spread.Spread.{Spread}
-use Rattle.plan_definitions.specs.ElementGroups.{nearest, own_number}
-use Rattle.plan_elements.specs.Spreads.{edges_of}
+use Rattle.plan_definitions.specs.ElementGroups.{leader_of, own_number}
+use Rattle.plan_elements.specs.Spreads.{number_at}
 
-abbrev pub IsNearest : Description → Flat → Spread → Type 0
-IsNearest d f own = own.entries.items ≡ flat_map (edges_of (own_number (keys_of (elements_of d f)))) f.joins
+-- the numbers of the ends of each join, the provided one first
+abbrev pub pairs_of : List Key → List Join → List (ℕ × ℕ)
+pairs_of keys joins = map (λ j. (own_number keys j.provided, own_number keys j.required)) joins
 
-abbrev pub IsLeading : Description → Flat → Spread → Type 0
-IsLeading d f near = near.entries.items ≡ flat_map (edges_of (nearest f.joins (keys_of (elements_of d f)))) f.joins
-
-pub record AreLeaders (d : Description) (f : Flat) (l : Leaders) : Type 0 where
-  pub own : IsNearest d f l.own
-  pub near : IsLeading d f l.near
+-- at the number of each site the least number in its group
+abbrev pub AreLeading : Description → Flat → List ℕ → Type 0
+AreLeading d f list = (s : Site) → number_at list (number_in (keys_of (elements_of d f)) (key_of s)) ≡ leader_of f.joins (keys_of (elements_of d f)) s

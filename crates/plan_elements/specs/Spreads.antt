@@ -1,34 +1,19 @@
--- The least numbers among ends and their partners, as they are kept.
-use Rattle.std.specs.Prelude.{◌≡◌, ℕ, List, [], ◌∷◌, min, Bool, Option, Some, None, if◌then◌else◌}
+-- Numbers that spread over pairs of positions.
+use Rattle.std.specs.Prelude.{ℕ, List, [], ◌∷◌, ◌++◌, map, min, nat_eq, slice_index_or, if◌then◌else◌}
 use Rattle.std.specs.List.{flat_map}
-use Rattle.indexmap.specs.IndexMap.{IndexMap, get}
-use Rattle.flat_descriptions.specs.declared.flat.End.{End}
-use Rattle.flat_descriptions.specs.declared.flat.Join.{Join}
-use Rattle.plan_numbers.specs.Ends.{EndKey, key_of, same_end_key}
+use Rattle.plan_definitions.specs.ElementGroups.{least}
 
--- each end of a join, with the number of the other
-abbrev pub edges_of : (End → ℕ) → Join → List (EndKey × ℕ)
-edges_of number j = (key_of j.required, number j.provided) ∷ (key_of j.provided, number j.required) ∷ []
+-- the number at a position, and 0 past the last
+abbrev pub number_at : List ℕ → ℕ → ℕ
+number_at list n = slice_index_or list n 0
 
-abbrev pub value_for : EndKey → EndKey × ℕ → List ℕ
-value_for q x = if same_end_key q x.0 then x.1 ∷ [] else []
+-- what stands at n once that at a position was lowered
+abbrev pub lowered_at : ℕ → ℕ → ℕ → ℕ → ℕ
+lowered_at position number n kept = if nat_eq position n then min number kept else kept
 
-abbrev pub values_for : EndKey → List (EndKey × ℕ) → List ℕ
-values_for q entries = flat_map (value_for q) entries
+-- the other positions of the pairs of n
+abbrev pub across_pair : ℕ → ℕ × ℕ → List ℕ
+across_pair n x = (if nat_eq x.1 n then x.0 ∷ [] else []) ++ (if nat_eq x.0 n then x.1 ∷ [] else [])
 
--- the least of a number, if there is one, and of others
-abbrev pub lower : Option ℕ → ℕ → ℕ
-lower None x = x
-lower (Some k) x = min x k
-
-abbrev pub lowered : Option ℕ → List ℕ → Option ℕ
-lowered o [] = o
-lowered o (x ∷ xs) = lowered (Some (lower o x)) xs
-
--- the map has the least of the values of each key
-abbrev pub HasLeasts : {S : Type 0} → List (EndKey × ℕ) → IndexMap EndKey ℕ S → Type 0
-HasLeasts entries map = (q : EndKey) → get same_end_key map q ≡ lowered None (values_for q entries)
-
-abbrev pub least_with : ℕ → Option ℕ → ℕ
-least_with n None = n
-least_with n (Some k) = min n k
+abbrev pub spread_numbers : List (ℕ × ℕ) → (ℕ → ℕ) → ℕ → ℕ
+spread_numbers pairs number n = least (number n) (map number (flat_map (across_pair n) pairs))

@@ -7,7 +7,7 @@ ghost use Rattle.plan_definitions.specs.Ports.{site_name};
 ghost use Rattle.plan_definitions.specs.Elements.{elem_seen, element_of, elements, group_of, is_provided};
 ghost use Rattle.plan_elements.specs.Grouped.{AreGroups};
 
-use crate::groups::{Groups, group_of};
+use crate::groups::Groups;
 use crate::said::{init_of, limits_of, never_received_of, queue_of, words_of};
 use crate::types::{kind_of, type_of};
 use bus_semantics::ElemPlan;
@@ -72,16 +72,15 @@ fn element_of(
 fn elements_at(
     alloc: Global,
     source: &Source<'_>,
-    groups: &Groups,
+    groups: &[u32],
     sites: &[Site],
 ) -> Result<Vec<ElemPlan>, Memory>
-    requires { AreGroups source.now.d.now source.now.f.now groups.now }
+    requires { groups.now ≡ map (group_of source.now.d.now source.now.f.now) sites.now }
     ensures { IfOk result (λ list. map elem_seen list.items ≡ map (λ s. element_of source.now.d.now source.now.f.now (group_of source.now.d.now source.now.f.now s) s) sites.now) }
 {
-    let mut list = Vec::new(alloc);
-    for site in sites {
-        let group = group_of(source, groups, *site);
-        list.push(element_of(alloc, source, group, *site)?)?;
+    let mut list = Vec::with_capacity(alloc, sites.len())?;
+    for number in 0..sites.len() {
+        list.push(element_of(alloc, source, groups[number], sites[number])?)?;
     }
     Ok(list)
 }
@@ -95,5 +94,10 @@ pub fn element_plans(
     requires { AreGroups source.now.d.now source.now.f.now groups.now }
     ensures { IfOk result (λ list. map elem_seen list.items ≡ elements source.now.d.now source.now.f.now) }
 {
-    elements_at(alloc, source, groups, source.lists.elements.as_slice())
+    elements_at(
+        alloc,
+        source,
+        groups.numbers.as_slice(),
+        source.lists.elements.as_slice(),
+    )
 }

@@ -1,68 +1,46 @@
-//! The least values of keys.
+//! Numbers that spread over pairs of elements.
 
-ghost use Rattle.std.specs.Prelude.{◌≡◌, IfOk, OnOk, Some, None, min};
-ghost use Rattle.indexmap.specs.IndexMap.{Updates, get};
-ghost use Rattle.plan_numbers.specs.Ends.{key_of, same_end_key};
-ghost use Rattle.plan_elements.specs.Spreads.{HasLeasts, least_with, lower, lowered, values_for};
+ghost use Rattle.std.specs.Prelude.{◌≡◌, ℕ, IfOk, map};
+ghost use Rattle.plan_elements.specs.Spreads.{across_pair, lowered_at, number_at, spread_numbers};
+ghost use Rattle.plan_definitions.specs.ElementGroups.{least};
 
-use flat_descriptions::End;
-use indexmap::IndexMap;
-use plan_numbers::EndKey;
 use rte_text::Memory;
 use std::alloc::Global;
 
-fn lower(kept: Option<u32>, value: u32) -> u32
-    ensures { result ≡ lower kept value }
+/// The number at a position, and 0 past the last.
+pub fn number_at(list: &[u32], position: u32) -> u32
+    ensures { result ≡ number_at list.now position }
 {
-    match kept {
-        Some(least) => value.min(least),
-        None => value,
+    match list.get(position as usize) {
+        Some(number) => *number,
+        None => 0,
     }
 }
 
-fn note(map: &mut IndexMap<EndKey, u32>, key: EndKey, value: u32) -> Result<(), Memory>
-    ensures { OnOk result (Updates same_end_key map.old map.new key (Some (lower (get same_end_key map.old key) value))) }
+/// Lowers the number at a position to this one, where it is greater.
+fn lower_at(list: &mut Vec<u32>, position: u32, number: u32)
+    ensures { (n : ℕ) → number_at list.new.items n ≡ lowered_at position number n (number_at list.old.items n) }
 {
-    let least = lower(map.get(&key).copied(), value);
-    map.insert(key, least)?;
-    Ok(())
+    if let Some(kept) = list.get_mut(position as usize) {
+        *kept = number.min(*kept);
+    }
 }
 
-fn leasts_of(alloc: Global, entries: &[(EndKey, u32)]) -> Result<IndexMap<EndKey, u32>, Memory>
-    ensures { IfOk result (λ leasts. HasLeasts entries.now leasts) }
+/// Lowers the numbers at both positions of a pair to what stands at the other.
+fn lower_pair(list: &mut Vec<u32>, numbers: &[u32], pair: (u32, u32))
+    ensures { (n : ℕ) → number_at list.new.items n ≡ least (number_at list.old.items n) (map (number_at numbers.now) (across_pair n pair)) }
 {
-    let mut leasts = IndexMap::new(alloc);
-    for entry in entries {
-        note(&mut leasts, entry.0, entry.1)?;
-    }
-    Ok(leasts)
+    lower_at(list, pair.1, number_at(numbers, pair.0));
+    lower_at(list, pair.0, number_at(numbers, pair.1));
 }
 
-/// Ends with numbers, and the least number of each, found by hash.
-#[derive(Drop)]
-pub struct Spread {
-    pub entries: Vec<(EndKey, u32)>,
-    leasts: IndexMap<EndKey, u32>,
-    ghost known: { HasLeasts entries.items leasts },
-}
-
-impl Spread {
-    /// That of these.
-    pub fn of(alloc: Global, entries: Vec<(EndKey, u32)>) -> Result<Spread, Memory>
-        ensures { IfOk result (λ spread. spread.entries.items ≡ entries.items) }
-    {
-        let leasts = leasts_of(alloc, entries.as_slice())?;
-        Ok(Spread { entries, leasts })
+/// At each position the least of the number there and of those at the positions that it is paired with.
+pub fn spread(alloc: Global, pairs: &[(u32, u32)], numbers: &[u32]) -> Result<Vec<u32>, Memory>
+    ensures { IfOk result (λ list. (n : ℕ) → number_at list.items n ≡ spread_numbers pairs.now (number_at numbers.now) n) }
+{
+    let mut list = Vec::from_slice(alloc, numbers)?;
+    for pair in pairs {
+        lower_pair(&mut list, numbers, *pair);
     }
-
-    /// The least of a number and those of an end.
-    pub fn least_with(&self, number: u32, end: End) -> u32
-        ensures { result ≡ least_with number (lowered None (values_for (key_of end) self.now.entries.items)) }
-    {
-        let key = (end.instance, end.port, end.element);
-        match self.leasts.get(&key).copied() {
-            Some(least) => number.min(least),
-            None => number,
-        }
-    }
+    Ok(list)
 }

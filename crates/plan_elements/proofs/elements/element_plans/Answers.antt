@@ -1,0 +1,14 @@
+use Rattle.std.proofs.Common.{map, sym, ap, ◌∙◌}
+use Rattle.plan_definitions.specs.Elements.{group_of, leaders}
+use Rattle.plan_definitions.specs.ElementGroups.{group_number, leader_of}
+use Rattle.plan_definitions.specs.Keys.{keys_of}
+use Rattle.plan_definitions.specs.Things.{elements_of}
+use Rattle.plan_elements.proofs.Leading.{grouped}
+use Rattle.plan_elements.proofs.elements.element_plans.Goals as goal
+
+pub elements_at-requires : goal.elements_at-requires
+elements_at-requires c =
+    let d = c.args.source.now.d.now in
+    let f = c.args.source.now.f.now in
+    c.as_slice.ensures.value ∙ c.requires.are_numbers ∙ grouped (group_number (leaders d f)) (leader_of f.joins (keys_of (elements_of d f))) (elements_of d f)
+    ∙ ap (map (group_of d f)) (sym (c.as_slice-2.ensures.value ∙ c.args.source.now.listed.elements))
