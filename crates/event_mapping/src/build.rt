@@ -78,6 +78,5 @@ pub fn build_plan(
 {
     let source = Source::new(alloc, d, f)?;
     let callings = Callings::of(alloc, source.d, source.f)?;
-    let found = plan_over(alloc, &source, &callings, mapped)?;
-    Ok(found)
+    plan_over(alloc, &source, &callings, mapped)
 }
