@@ -421,12 +421,12 @@ def everything(size):
 PAIRS = 4
 
 
-def paired(components, cores, shift, connected, events, script):
-    """Four pairs of these two components: the first of a pair on a core, the second on the core that is so many further."""
-    held = [{"shortName": f"{letter}{n}", "type": part["shortName"]} for n in range(PAIRS) for letter, part in zip("ab", components)]
-    tasks = [{"shortName": f"{letter}{n}", "core": (n + at) % cores} for n in range(PAIRS) for letter, at in (("A", 0), ("B", shift))]
-    joined = [connected(n) for n in range(PAIRS)]
-    placed = [mapped(f"{letter.lower()}{n}", event, f"{letter}{n}", 0) for n in range(PAIRS) for letter, event in zip("AB", events)]
+def paired(components, cores, shift, connected, events, script, pairs=PAIRS):
+    """So many pairs of these two components: the first of a pair on a core, the second on the core that is so many further."""
+    held = [{"shortName": f"{letter}{n}", "type": part["shortName"]} for n in range(pairs) for letter, part in zip("ab", components)]
+    tasks = [{"shortName": f"{letter}{n}", "core": (n + at) % cores} for n in range(pairs) for letter, at in (("A", 0), ("B", shift))]
+    joined = [connected(n) for n in range(pairs)]
+    placed = [mapped(f"{letter.lower()}{n}", event, f"{letter}{n}", 0) for n in range(pairs) for letter, event in zip("AB", events)]
     return described(components, held, joined, cores, tasks, placed), script
 
 
@@ -443,6 +443,15 @@ def chatter_within(cores, size):
 def chatter_across(cores, size):
     """As `chatter_within`, but the reader of each writer is on the next core."""
     return chattering(cores, size, 1)
+
+
+def computing_within(cores, size):
+    """16 writers and their readers, each pair on one core: 100 writes, and before each of them so many steps of a calculation."""
+    step = ["set", "x", ["add", ["mul", "x", 3], 1]]
+    program = [["repeat", 100, [["repeat", size, [step]], ["write", "o", "v", ["x"], "s"]]]]
+    source = component("W", [port("P", "o")], [runnable("Step", [["write", "o", "v"]], program)], [timing("E", "Step", 1)])
+    joined = lambda n: assembly([f"a{n}", "o"], [f"b{n}", "i"])
+    return paired([source, reader(100)], cores, 0, joined, "ED", "tick 1\nrun\n" * 100, 16)
 
 
 def calls_between(cores, size):
@@ -464,7 +473,7 @@ def instances_on(cores, size):
     return described([writer(1, 1), reader(1)], held, joined, cores, tasks, events), "tick 1\nrun\n" * 250
 
 
-ON_CORES = {chatter_within: 500, chatter_across: 500, calls_between: 100, instances_on: 1000}
+ON_CORES = {computing_within: 200, chatter_within: 500, chatter_across: 500, calls_between: 100, instances_on: 1000}
 
 
 CASES = {
@@ -536,7 +545,8 @@ def timed(folder, description, script, times):
         seconds = time.monotonic() - begun
         if status != 0:
             sys.exit(f"the program ended with {os.waitstatus_to_exitcode(status)}: {(folder / 'trace.txt').read_bytes()[:200]!r}")
-        least = min(least or (seconds, 0), (seconds, used.ru_utime + used.ru_stime))
+        this = (seconds, used.ru_utime + used.ru_stime)
+        least = min(least or this, this)
     return *least, (folder / "trace.txt").read_bytes().count(b"\n")
 
 

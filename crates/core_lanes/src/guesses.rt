@@ -5,7 +5,8 @@ ghost use Rattle.bus_semantics.specs.Objects.{touched_by, IsObject};
 ghost use Rattle.bus_semantics.specs.Plan.{plan_of};
 ghost use Rattle.core_turn.specs.Awake.{Fits};
 
-use bus_semantics::{BusPlan, Deed, Entry, Stamped};
+use crate::news::News;
+use bus_semantics::{BusPlan, Deed, Stamped};
 use core_turn::{Awake, Core};
 use port_objects::touched_object;
 use std::alloc::{AllocError, Global};
@@ -13,27 +14,57 @@ use std::alloc::{AllocError, Global};
 /// A place of an event in a task of a core, or a mode machine of core 0.
 #[derive(Clone, Copy)]
 pub struct Spot {
+    /// The number of the core.
+    pub core: usize,
     /// The place of the task or machine among those of the core.
     pub slot: usize,
     /// The place of the event among those of the task; a machine has none.
     pub place: Option<usize>,
 }
 
-/// For each core, and on it for each object, by number: where the events stand that an entry at the object may start, those of callers that
-/// wait for its answer (SWS_RTE: runnable activation), and the mode machine that it is (SWS_RTE: mode switch procedure). A guess: it
-/// spares a core looks, and no entry rests on it.
+/// What an object may start.
 #[derive(Drop)]
-pub struct Guesses {
-    cores: Vec<Vec<Vec<Spot>>>,
+struct Starts {
+    /// For each core where the events stand that an entry at the object may start, and those of callers that wait for its answer (SWS_RTE:
+    /// runnable activation).
+    spots: Vec<Vec<Spot>>,
+    /// Where the mode machine stands that the object is (SWS_RTE: mode switch procedure).
+    machine: Option<Spot>,
 }
 
-/// An empty list for each of so many objects.
-fn no_spots(alloc: Global, objects: usize) -> Result<Vec<Vec<Spot>>, AllocError> {
-    let mut lists = Vec::new(alloc);
-    for _ in 0..objects {
-        lists.push(Vec::new(alloc))?;
+/// For each object, by number, what an entry at it may start, and for each event where it stands. A guess: it spares a core looks, and no
+/// entry rests on it. Cores that run at the same time tell one another of entries that may start something on another core.
+#[derive(Drop)]
+pub struct Guesses {
+    objects: Vec<Starts>,
+    events: Vec<Option<Spot>>,
+    pub(crate) news: News,
+}
+
+/// No spots for each of so many cores.
+fn no_starts(alloc: Global, cores: usize) -> Result<Starts, AllocError> {
+    let mut spots = Vec::new(alloc);
+    for _core in 0..cores {
+        spots.push(Vec::new(alloc))?;
     }
-    Ok(lists)
+    Ok(Starts {
+        spots,
+        machine: None,
+    })
+}
+
+/// Whether an entry of this deed may start events of any receiver, server, caller or user of modes. Each other entry lets at most one
+/// event start again, that of the activation which it ends.
+fn is_heard(deed: &Deed) -> bool {
+    match deed {
+        Deed::Write { .. }
+        | Deed::Publish { .. }
+        | Deed::Send { .. }
+        | Deed::Ask { .. }
+        | Deed::Return { .. }
+        | Deed::Phase(_) => true,
+        _ => false,
+    }
 }
 
 /// Wakes what stands at a spot of the core, if there is such a spot.
@@ -51,13 +82,47 @@ fn wake_spot(core: &Core, spot: Spot, awake: &mut Awake)
     }
 }
 
-/// Wakes the first that waits at the area which is this object, if the entry left it (SWS_RTE: Rte_Exit).
-fn wake_waiter(core: &Core, entry: &Entry, object: u32, awake: &mut Awake)
+/// Wakes what stands at each of these spots of the core.
+fn wake_spots(core: &Core, spots: &[Spot], awake: &mut Awake)
     requires { Fits core.now.slots core.now.first awake.old }
     ensures { Fits core.now.slots core.now.first awake.new }
 {
-    if let Deed::Leave { .. } = &entry.deed {
-        awake.wake_first(object);
+    for spot in spots {
+        wake_spot(core, *spot, awake);
+    }
+}
+
+/// Wakes what stands at this spot, if it is one of the core of this number.
+fn wake_own(core: &Core, number: u32, spot: Option<Spot>, awake: &mut Awake)
+    requires { Fits core.now.slots core.now.first awake.old }
+    ensures { Fits core.now.slots core.now.first awake.new }
+{
+    if let Some(spot) = spot {
+        if spot.core == number as usize {
+            wake_spot(core, spot, awake);
+        }
+    }
+}
+
+impl Starts {
+    /// The spots on a core.
+    fn on(&self, core: usize) -> &[Spot] {
+        match self.spots.get(core) {
+            Some(spots) => spots.as_slice(),
+            None => &[],
+        }
+    }
+
+    /// Whether an entry of this deed may start something on a core. Who waits at an exclusive area may stand on each.
+    fn may_start(&self, deed: &Deed, core: usize) -> bool {
+        match deed {
+            Deed::Leave { .. } => true,
+            _ if is_heard(deed) => !self.on(core).is_empty(),
+            _ => match self.machine {
+                Some(spot) => spot.core == core,
+                None => false,
+            },
+        }
     }
 }
 
@@ -65,34 +130,51 @@ impl Guesses {
     /// None for so many cores and objects. The only error is that there is no memory.
     pub fn none(alloc: Global, cores: usize, objects: usize) -> Result<Guesses, AllocError> {
         let mut lists = Vec::new(alloc);
-        for _ in 0..cores {
-            lists.push(no_spots(alloc, objects)?)?;
+        for _object in 0..objects {
+            lists.push(no_starts(alloc, cores)?)?;
         }
-        Ok(Guesses { cores: lists })
+        Ok(Guesses {
+            objects: lists,
+            events: Vec::new(alloc),
+            news: News::none(alloc, cores, objects)?,
+        })
     }
 
-    /// Adds a spot of a core to those of an object, if there are such. The only error is that there is no memory.
-    pub fn add(&mut self, core: usize, object: usize, spot: Spot) -> Result<(), AllocError> {
-        if let Some(objects) = self.cores.get_mut(core) {
-            if let Some(spots) = objects.get_mut(object) {
+    /// An entry at the object may start what stands at the spot. The only error is that there is no memory.
+    pub fn add(&mut self, object: usize, spot: Spot) -> Result<(), AllocError> {
+        if let Some(starts) = self.objects.get_mut(object) {
+            if let Some(spots) = starts.spots.get_mut(spot.core) {
                 spots.push(spot)?;
             }
         }
         Ok(())
     }
 
-    /// The spots on a core of an object.
-    fn spots(&self, core: u32, object: u32) -> &[Spot] {
-        match self.cores.get(core as usize) {
-            Some(objects) => match objects.get(object as usize) {
-                Some(spots) => spots.as_slice(),
-                None => &[],
-            },
-            None => &[],
+    /// The object is the mode machine that stands at the spot.
+    pub fn set_machine(&mut self, object: usize, spot: Spot) {
+        if let Some(starts) = self.objects.get_mut(object) {
+            starts.machine = Some(spot);
         }
     }
 
-    /// Wakes what an entry of the core of this number may start on it.
+    /// The next event, in the order of their numbers, stands at the spot, if it stands somewhere. The only error is that there is no memory.
+    pub fn place_event(&mut self, spot: Option<Spot>) -> Result<(), AllocError> {
+        self.events.push(spot)?;
+        Ok(())
+    }
+
+    /// Where the event of this number stands.
+    fn spot_of(&self, event: Option<u32>) -> Option<Spot> {
+        match event {
+            Some(event) => match self.events.get(event as usize) {
+                Some(spot) => *spot,
+                None => None,
+            },
+            None => None,
+        }
+    }
+
+    /// Wakes what an entry of the core of this number may start on it, and tells other cores of it, if it may start something there.
     pub(crate) fn wake_after(
         &self,
         p: &BusPlan,
@@ -105,11 +187,75 @@ impl Guesses {
         requires fits { Fits core.now.slots core.now.first awake.old }
         ensures { Fits core.now.slots core.now.first awake.new }
     {
-        if let Some(object) = touched_object(p, &made.entry, made.event) {
-            wake_waiter(core, &made.entry, object, awake);
-            for spot in self.spots(number, object) {
-                wake_spot(core, *spot, awake);
+        let Some(object) = touched_object(p, &made.entry, made.event) else {
+            return;
+        };
+        let Some(starts) = self.objects.get(object as usize) else {
+            return;
+        };
+        let deed = &made.entry.deed;
+        if let Deed::Leave { .. } = deed {
+            awake.wake_first(object);
+        }
+        if is_heard(deed) {
+            wake_spots(core, starts.on(number as usize), awake);
+        }
+        if let Deed::End = deed {
+            wake_own(core, number, self.spot_of(made.event), awake);
+        }
+        wake_own(core, number, starts.machine, awake);
+        self.tell_others(number, starts, deed, object);
+    }
+
+    /// Tells each core but this one of an entry at an object, if it may start something there.
+    fn tell_others(&self, number: u32, starts: &Starts, deed: &Deed, object: u32) {
+        for core in 0..starts.spots.len() {
+            if core != number as usize && starts.may_start(deed, core) {
+                self.news.tell(core, object);
             }
         }
+    }
+
+    /// Wakes what entries of other cores at an object may start on the core of this number: also who waits first, if it is an area.
+    fn wake_object(&self, number: u32, core: &Core, object: u32, awake: &mut Awake)
+        requires { Fits core.now.slots core.now.first awake.old }
+        ensures { Fits core.now.slots core.now.first awake.new }
+    {
+        awake.wake_first(object);
+        if let Some(starts) = self.objects.get(object as usize) {
+            wake_spots(core, starts.on(number as usize), awake);
+            wake_own(core, number, starts.machine, awake);
+        }
+    }
+
+    /// The same for each object of a word of news, of which this is the first.
+    fn wake_objects(&self, number: u32, core: &Core, objects: u64, first: u32, awake: &mut Awake)
+        requires { Fits core.now.slots core.now.first awake.old }
+        ensures { Fits core.now.slots core.now.first awake.new }
+    {
+        for place in 0..64u32 {
+            if (objects >> place) & 1 == 1 {
+                self.wake_object(number, core, first.saturating_add(place), awake);
+            }
+        }
+    }
+
+    /// Wakes what others told the core of this number of. The answer is whether they told it of something.
+    pub(crate) fn hear(&self, number: u32, core: &Core, awake: &mut Awake) -> bool
+        requires { Fits core.now.slots core.now.first awake.old }
+        ensures { Fits core.now.slots core.now.first awake.new }
+    {
+        if !self.news.take(number) {
+            return false;
+        }
+        let mut first = 0u32;
+        for word in 0..self.news.words(number) {
+            let objects = self.news.objects_in(number, word);
+            if objects != 0 {
+                self.wake_objects(number, core, objects, first, awake);
+            }
+            first = first.saturating_add(64);
+        }
+        true
     }
 }

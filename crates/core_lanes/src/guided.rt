@@ -20,11 +20,16 @@ use std::alloc::{AllocError, Global};
 use std::marker::Model;
 use task_machine::TaskSet;
 
+/// In this turn of a row without an entry, counted from 0, a core looks at all: guesses may leave something out.
+const LOOKS_AT_ALL: u32 = 32;
+
 /// What of a core may step, as far as it is known, and a list with room for the entry of a turn.
 #[derive(Drop)]
 pub(crate) struct Guide {
     pub awake: Awake,
     pub made: Vec<Stamped>,
+    /// Its last turn made no entry, and it has no news.
+    pub idle: bool,
 }
 
 /// A core and what guides it. Without memory nothing does, and each of its turns looks at all.
@@ -52,7 +57,42 @@ fn guide_of(alloc: Global, core: &Core) -> Result<Guide, AllocError>
 {
     let awake = Awake::all(alloc, core)?;
     let made = Vec::with_capacity(alloc, 1)?;
-    Ok(Guide { awake, made })
+    Ok(Guide {
+        awake,
+        made,
+        idle: false,
+    })
+}
+
+/// A core hears of what others did, and wakes what that may start. An idle core waits for it a while, if others are not idle.
+fn hear(core: &Core, guide: &mut Guide, guesses: &Guesses, number: u32)
+    requires { IsGuide core.now guide.old }
+    ensures { IsGuide core.now guide.new }
+{
+    if guide.idle {
+        guesses.news.wait(number);
+    }
+    if guesses.hear(number, core, &mut guide.awake) {
+        // It counts once among those that are not idle: for its news, or since it was not.
+        if !guide.idle {
+            guesses.news.rest();
+        }
+        guide.idle = false;
+    }
+}
+
+/// A core with an entry is not idle, and one without an entry is.
+fn note(guide: &mut Guide, guesses: &Guesses, made: bool)
+    ensures awake { guide.new.awake ≡ guide.old.awake }
+    ensures made { guide.new.made ≡ guide.old.made }
+{
+    if made && guide.idle {
+        guesses.news.stir();
+    }
+    if !made && !guide.idle {
+        guesses.news.rest();
+    }
+    guide.idle = !made;
 }
 
 /// A turn of a core over what is awake of it. The answer is whether it made an entry.
@@ -136,8 +176,18 @@ impl Guided {
         self.core
     }
 
-    /// The core makes a turn at its bench, first over what is awake, and if it finds nothing there, over all. The answer is whether it made
-    /// an entry. A turn that found its object held by another core made none. The core's trace is empty, since the seat keeps the entry.
+    /// The core leaves the round: others count on no entry of it.
+    pub(crate) fn retire(&self, guesses: &Guesses, number: u32) {
+        guesses.news.leave(number);
+        match &self.guide {
+            Some(guide) if guide.idle => {}
+            _ => guesses.news.rest(),
+        }
+    }
+
+    /// The core makes a turn at its bench, after so many turns in a row without an entry: over what is awake, and once in such a row
+    /// over all. The answer is whether it made an entry. A turn that found its object held by another core made none. The core's trace is
+    /// empty, since the seat keeps the entry.
     pub(crate) fn turn(
         &mut self,
         p: &BusPlan,
@@ -145,6 +195,7 @@ impl Guided {
         bench: &mut SeatBench,
         guesses: &Guesses,
         number: u32,
+        quiet: u32,
     ) -> bool
         requires plan { plan_in bench.old.round.opening ≡ plan_of p.now }
         requires bodies { AsksAsPlanned (plan_of p.now) t.now }
@@ -159,8 +210,12 @@ impl Guided {
     {
         match &mut self.guide {
             Some(guide) => {
-                turn_by_guide(p, t, &mut self.core, guide, bench, guesses, number)
-                    || turn_past_guide(p, t, &mut self.core, guide, bench)
+                hear(&self.core, guide, guesses, number);
+                let made = turn_by_guide(p, t, &mut self.core, guide, bench, guesses, number)
+                    || (quiet == LOOKS_AT_ALL
+                        && turn_past_guide(p, t, &mut self.core, guide, bench));
+                note(guide, guesses, made);
+                made
             }
             None => turn_once(p, t, &mut self.core, bench),
         }

@@ -57,6 +57,7 @@ impl Lane {
             number as u32,
             gate,
         );
+        self.core.retire(guesses, number as u32);
         self.seat = Some(bench.leave());
     }
 }
@@ -81,6 +82,7 @@ pub(crate) fn go_all<R: Threads + Sync, G: Gate>(
     is_shared::<Round>();
     is_shared::<Guesses>();
     let count = lanes.len();
+    guesses.news.begin(count);
     thread::for_each_mut(
         rt,
         lanes,

@@ -5,6 +5,7 @@ mod benching;
 mod guesses;
 mod guided;
 mod lanes;
+mod news;
 mod stay;
 mod threads;
 mod together;

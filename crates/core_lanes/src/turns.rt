@@ -74,7 +74,7 @@ pub(crate) fn make_turns<G: Gate>(
             return;
         }
         gate.pass(number);
-        let made = core.turn(p, t, bench, guesses, number);
+        let made = core.turn(p, t, bench, guesses, number, stay.quiet);
         stay.note(made);
     }
 }

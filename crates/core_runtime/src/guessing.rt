@@ -3,20 +3,85 @@
 use crate::Memory;
 use crate::seats::Seat;
 use crate::watch::Watch;
-use bus_semantics::{BusPlan, PointPlan};
+use bus_semantics::{BusPlan, EventKind, PointPlan};
 use core_lanes::{Guesses, Spot};
 use core_turn::Core;
-use port_objects::{Object, woken};
 use std::alloc::Global;
+
+/// The object of a server: those of servers stand behind those of groups.
+fn server_object(p: &BusPlan, server: u32) -> usize {
+    p.groups.len().saturating_add(server as usize)
+}
+
+/// The object of a mode machine: those of machines stand behind those of groups, servers and areas.
+fn machine_object(p: &BusPlan, machine: usize) -> usize {
+    let before = p.groups.len().saturating_add(p.servers.len());
+    let first = before.saturating_add(p.areas.len());
+    first.saturating_add(machine)
+}
+
+/// The object of the server to which the point of this number is joined, if it is joined to one.
+fn called_object(p: &BusPlan, point: u32) -> Option<usize> {
+    match p.points.items().get(point as usize) {
+        Some(point) => match point.server {
+            Some(server) => Some(server_object(p, server)),
+            None => None,
+        },
+        None => None,
+    }
+}
+
+/// The object at which another core may make an entry that starts an event of this kind. A tick comes before a round, and an InitEvent at the
+/// start, so no core tells of them.
+fn starting_object(p: &BusPlan, kind: &EventKind) -> Option<usize> {
+    match kind {
+        EventKind::Timing(_) | EventKind::Init => None,
+        EventKind::DataReceived(element) => match p.elements.items().get(*element as usize) {
+            Some(element) => Some(element.group as usize),
+            None => None,
+        },
+        EventKind::Invoked(server) => Some(server_object(p, *server)),
+        EventKind::Returns(point) => called_object(p, *point),
+        EventKind::ModeSwitch { machine, .. } | EventKind::Ack(machine) => {
+            Some(machine_object(p, *machine as usize))
+        }
+    }
+}
+
+/// The spot of an event.
+fn spot_of(seat: &Seat) -> Spot {
+    Spot {
+        core: seat.core,
+        slot: seat.slot,
+        place: Some(seat.place),
+    }
+}
 
 /// Adds the places of an event to those of an object. The only error, as in what follows, is that there is no memory.
 fn add_event(guesses: &mut Guesses, object: usize, seats: &[Seat]) -> Result<(), Memory> {
     for seat in seats {
-        let spot = Spot {
-            slot: seat.slot,
-            place: Some(seat.place),
-        };
-        guesses.add(seat.core, object, spot)?;
+        guesses.add(object, spot_of(seat))?;
+    }
+    Ok(())
+}
+
+/// Adds the places of each event to those of the object that starts it, and of the machine in whose modes it is disabled.
+fn add_starts(guesses: &mut Guesses, p: &BusPlan, w: &Watch) -> Result<(), Memory> {
+    let events = p.events.items();
+    for number in 0..events.len().min(w.seats.len()) {
+        let event = &events[number];
+        let seats = w.seats[number].as_slice();
+        guesses.place_event(seats.first().map(spot_of))?;
+        if let Some(object) = starting_object(p, &event.kind) {
+            add_event(guesses, object, seats)?;
+        }
+        if let Some(disabling) = &event.disabled {
+            add_event(
+                guesses,
+                machine_object(p, disabling.machine as usize),
+                seats,
+            )?;
+        }
     }
     Ok(())
 }
@@ -49,8 +114,7 @@ fn add_caller(
     let Some(caller) = point.runnable else {
         return Ok(());
     };
-    // The objects of servers stand behind those of groups.
-    let object = p.groups.len().saturating_add(server as usize);
+    let object = server_object(p, server);
     match w.starters.get(caller as usize) {
         Some(events) => add_events(guesses, object, w.seats.as_slice(), events.as_slice()),
         None => Ok(()),
@@ -65,42 +129,35 @@ fn add_callers(guesses: &mut Guesses, p: &BusPlan, w: &Watch) -> Result<(), Memo
     Ok(())
 }
 
-/// Adds to the object of each mode machine its place behind the tasks of core 0, which has so many slots (SWS_RTE: mode switch
-/// procedure).
-fn add_machines(guesses: &mut Guesses, p: &BusPlan, slots: usize) -> Result<(), Memory> {
-    let machines = p.machines.len();
-    // The objects of machines stand behind those of groups, servers and areas.
-    let before = p.groups.len().saturating_add(p.servers.len());
-    let first = before.saturating_add(p.areas.len());
-    for machine in 0..machines {
+/// Tells of each mode machine its place behind the tasks of core 0, which has so many slots (SWS_RTE: mode switch procedure).
+fn set_machines(guesses: &mut Guesses, p: &BusPlan, slots: usize) {
+    let tasks = slots.saturating_sub(p.machines.len());
+    for machine in 0..p.machines.len() {
         let spot = Spot {
-            slot: slots.saturating_sub(machines).saturating_add(machine),
+            core: 0,
+            slot: tasks.saturating_add(machine),
             place: None,
         };
-        guesses.add(0, first.saturating_add(machine), spot)?;
+        guesses.set_machine(machine_object(p, machine), spot);
     }
-    Ok(())
 }
 
-/// For each core and object the places of the events that an entry at the object may start, of the callers that may hear of it, and of the
-/// mode machine that it is; none for a single core, whose turns are watched. The only error is that there is no memory.
+/// For each object the places of the events that an entry at the object may start, of the callers that may hear of it, and of the mode
+/// machine that it is; none for a single core, whose turns are watched. The only error is that there is no memory.
 pub(crate) fn guesses_of(
     alloc: Global,
     p: &BusPlan,
-    objects: &[Object],
     cores: &[Core],
     w: &Watch,
 ) -> Result<Guesses, Memory> {
-    if w.awake.len() == 1 {
+    if cores.len() == 1 {
         return Guesses::none(alloc, 0, 0);
     }
-    let mut guesses = Guesses::none(alloc, w.awake.len(), objects.len())?;
-    for (number, object) in objects.iter().enumerate() {
-        add_events(&mut guesses, number, w.seats.as_slice(), woken(object))?;
-    }
+    let mut guesses = Guesses::none(alloc, cores.len(), p.objects as usize)?;
+    add_starts(&mut guesses, p, w)?;
     add_callers(&mut guesses, p, w)?;
     if let Some(first) = cores.first() {
-        add_machines(&mut guesses, p, first.slots())?;
+        set_machines(&mut guesses, p, first.slots());
     }
     Ok(guesses)
 }

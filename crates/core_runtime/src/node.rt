@@ -64,7 +64,7 @@ impl Node {
         let objects = make_objects(alloc, &p)?;
         let cores = cores_of(alloc, &p, &m, &t)?;
         let watch = Watch::new(alloc, &p, cores.as_slice())?;
-        let guesses = guesses_of(alloc, &p, objects.as_slice(), cores.as_slice(), &watch)?;
+        let guesses = guesses_of(alloc, &p, cores.as_slice(), &watch)?;
         Ok(Node {
             plan: p,
             mapping: m,

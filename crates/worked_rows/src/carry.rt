@@ -9,7 +9,10 @@ use crate::fault::Fault;
 use crate::notation::{HashSign, expanded};
 use crate::readings::{read_back, readings};
 use crate::row::Row;
-use crate::runs::{Answer, Case, DESCRIPTION, SCRIPT, plan, run, run_and_check_often, words_of};
+use crate::runs::{
+    Answer, Case, DESCRIPTION, SCRIPT, plan, run, run_and_check_often, run_and_check_repeated,
+    words_of,
+};
 use crate::summary::{comparison, ends, last_with, times_with};
 use bus_semantics::Version;
 use description_stages::{PlannedDescription, plan_description};
@@ -184,6 +187,9 @@ pub fn carry_out<R: Files + Print + AllocGlobal + Clone + Drop + Threads + Wait 
             Ok(Answer { text, ..told })
         }
         Row::Legal { times, row } => run_and_check_often(rt, &case_of(rt, row)?, times),
+        Row::Held { runs, times, row } => {
+            run_and_check_repeated(rt, case_of(rt, row)?, runs, times)
+        }
         Row::Text(text) => {
             let description = expanded(alloc, text, HashSign::Number)?;
             let script = Vec::new(alloc);

@@ -52,6 +52,13 @@ pub enum Row<'a> {
         times: u32,
         row: &'a str,
     },
+    /// `held N M ROW` runs the description of this row N times, and at least once, each time with its script M times over, and shows what `check`
+    /// says of the traces. The cores are held at random. Each time that the script begins again, the node is as the time before left it.
+    Held {
+        runs: u32,
+        times: u32,
+        row: &'a str,
+    },
     /// `text TEXT` has this text for the description, and an empty script.
     Text(&'a str),
     /// `lines FOLDER VERSION TEXT` shows what each line of the text is read as in a trace of the version, 1 or 2, over the plan of the
@@ -117,6 +124,13 @@ impl<'a> Row<'a> {
                 let (times, row) = split_word(rest);
                 let times = times.parse().ok()?;
                 Some(Row::Legal { times, row })
+            }
+            "held" => {
+                let (runs, rest) = split_word(rest);
+                let runs = runs.parse().ok()?;
+                let (times, row) = split_word(rest);
+                let times = times.parse().ok()?;
+                Some(Row::Held { runs, times, row })
             }
             "text" => Some(Row::Text(rest)),
             "lines" => {

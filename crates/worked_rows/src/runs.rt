@@ -125,19 +125,54 @@ fn run_and_check<R: AllocGlobal + Threads + Wait + Sync, G: Gate>(
     }
 }
 
-/// The same so many times, once at least, up to the first that does not end with status 0. No core is held in the first run, and in each
-/// other one they are held at random.
-pub fn run_and_check_often<R: AllocGlobal + Threads + Wait + Sync>(
+/// After a run with this answer more of them, with cores that are held at random, so that there are so many in all: up to the first that
+/// does not end with status 0.
+fn run_and_check_held<R: AllocGlobal + Threads + Wait + Sync>(
     rt: &R,
     case: &Case,
-    times: u32,
+    answer: Answer,
+    runs: u32,
 ) -> Result<Answer, Fault> {
-    let mut answer = run_and_check(rt, case, &OpenGate)?;
-    for seed in 1..times {
+    let mut answer = answer;
+    for seed in 1..runs {
         if answer.status != Status::Done {
             return Ok(answer);
         }
         answer = run_and_check(rt, case, &RandomHolds::new(seed))?;
     }
     Ok(answer)
+}
+
+/// The same so many times, once at least, up to the first that does not end with status 0. No core is held in the first run, and in each
+/// other one they are held at random.
+pub fn run_and_check_often<R: AllocGlobal + Threads + Wait + Sync>(
+    rt: &R,
+    case: &Case,
+    runs: u32,
+) -> Result<Answer, Fault> {
+    let answer = run_and_check(rt, case, &OpenGate)?;
+    run_and_check_held(rt, case, answer, runs)
+}
+
+/// A script so many times over.
+fn repeated(alloc: Global, script: &[u8], times: u32) -> Result<Vec<u8>, AllocError> {
+    let mut all = Vec::new(alloc);
+    for _time in 0..times {
+        all.extend_from_slice(script)?;
+        all.push(b'\n')?;
+    }
+    Ok(all)
+}
+
+/// As `run_and_check_often`, with the script so many times over in each run, and with cores that are held at random in the first run too.
+pub fn run_and_check_repeated<R: AllocGlobal + Threads + Wait + Sync>(
+    rt: &R,
+    case: Case,
+    runs: u32,
+    times: u32,
+) -> Result<Answer, Fault> {
+    let script = repeated(rt.alloc(), case.script.as_slice(), times)?;
+    let case = Case { script, ..case };
+    let answer = run_and_check(rt, &case, &RandomHolds::new(0))?;
+    run_and_check_held(rt, &case, answer, runs)
 }
