@@ -15,7 +15,7 @@ use crate::guesses::Guesses;
 use crate::lanes::{Lane, go_all};
 use bus_semantics::{BusPlan, Stamped};
 use core_turn::Core;
-use cross_core_table::{CoreSeat, Opened, Round};
+use cross_core_table::{CoreSeat, Opened, Round, Spare};
 use port_objects::Object;
 use round_merging::rounds_on_threads_keep_the_law;
 use rte_text::Gate;
@@ -23,19 +23,21 @@ use std::alloc::{AllocError, Global};
 use std::thread::Threads;
 use task_machine::TaskSet;
 
-/// What turns change: cores and objects, each at its number.
+/// What turns change: cores and objects, each at its number, and the room that one round leaves for the next.
 #[derive(Drop)]
 pub struct Changing {
     pub cores: Vec<Core>,
     pub objects: Vec<Object>,
+    pub spare: Spare,
 }
 
 /// What came of turns of cores at the same time.
 #[derive(Drop)]
 pub enum Together {
-    /// They made their turns. The cores and the objects as they are now, and what was made, in order of stamps.
+    /// They made their turns. The cores and the objects as they are now, and what was made, in order of stamps. Its list is spare
+    /// for the next round once it has been read.
     Ran(Changing, Vec<Stamped>),
-    /// There was no memory, and no core made a turn. These are the cores and the objects, unchanged.
+    /// There was no memory, and no core made a turn. These are the cores and the objects, unchanged. What was spare may be freed.
     Memory(Changing),
 }
 
@@ -91,12 +93,16 @@ pub fn run_together<R: Threads + Sync, G: Gate>(
     requires room { HaveRoom changing.cores.items }
     ensures { RunTogether (plan_of p.now) t.now changing result }
 {
-    let Changing { cores, objects } = changing;
-    let places = match take_places(alloc, cores.len()) {
+    let places = match take_places(alloc, changing.cores.len()) {
         Ok(places) => places,
-        Err(_) => return Together::Memory(Changing { cores, objects }),
+        Err(_) => return Together::Memory(changing),
     };
-    match Round::open(alloc, p, objects, cores.len() as u32, 1024) {
+    let Changing {
+        cores,
+        objects,
+        spare,
+    } = changing;
+    match Round::open(alloc, p, objects, cores.len() as u32, 1024, spare) {
         Opened::Ready(round, seats) => {
             let begun = Begun {
                 round,
@@ -107,7 +113,11 @@ pub fn run_together<R: Threads + Sync, G: Gate>(
             let (changing, entries) = run_begun(rt, alloc, p, t, begun, guesses, gate);
             Together::Ran(changing, entries)
         }
-        Opened::Memory(objects) => Together::Memory(Changing { cores, objects }),
+        Opened::Memory(objects) => Together::Memory(Changing {
+            cores,
+            objects,
+            spare: Spare::none(alloc),
+        }),
     }
 }
 
@@ -147,6 +157,10 @@ fn run_begun<R: Threads + Sync, G: Gate>(
     let changing = Changing {
         cores: back,
         objects: closed.objects,
+        spare: Spare {
+            entries: Vec::new(alloc),
+            rooms: closed.rooms,
+        },
     };
     (changing, closed.entries)
 }

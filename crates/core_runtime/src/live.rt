@@ -3,17 +3,19 @@
 use crate::watch::Watch;
 use bus_semantics::Stamped;
 use core_turn::Core;
+use cross_core_table::Spare;
 use port_objects::Object;
 use std::alloc::Global;
 
-/// What of a node turns change: its cores and its objects, each by number, what of the cores may step, and the entries of the last
-/// round or serial pass.
+/// What of a node turns change: its cores and its objects, each by number, what of the cores may step, the entries of the last round or
+/// serial pass, and the room that the last round of several cores left for the next.
 #[derive(Drop)]
 pub(crate) struct Live {
     pub cores: Vec<Core>,
     pub objects: Vec<Object>,
     pub watch: Watch,
     pub entries: Vec<Stamped>,
+    pub spare: Spare,
 }
 
 impl Live {
@@ -28,6 +30,7 @@ impl Live {
                 starters: Vec::new(alloc),
             },
             entries: Vec::new(alloc),
+            spare: Spare::none(alloc),
         }
     }
 }

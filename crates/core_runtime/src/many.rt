@@ -57,8 +57,13 @@ impl Node {
             objects,
             mut watch,
             entries,
+            spare,
         } = live;
-        let changing = Changing { cores, objects };
+        let changing = Changing {
+            cores,
+            objects,
+            spare,
+        };
         match run_together(
             rt,
             alloc,
@@ -69,23 +74,35 @@ impl Node {
             gate,
         ) {
             Together::Ran(changing, made) => {
-                let Changing { cores, objects } = changing;
-                watch.wake_all(cores.as_slice());
-                self.live = Live {
+                let Changing {
                     cores,
                     objects,
-                    watch,
-                    entries: refilled(entries, made.as_slice()),
-                };
-                Ok(())
-            }
-            Together::Memory(changing) => {
-                let Changing { cores, objects } = changing;
+                    mut spare,
+                } = changing;
+                watch.wake_all(cores.as_slice());
+                let entries = refilled(entries, made.as_slice());
+                spare.entries = made;
                 self.live = Live {
                     cores,
                     objects,
                     watch,
                     entries,
+                    spare,
+                };
+                Ok(())
+            }
+            Together::Memory(changing) => {
+                let Changing {
+                    cores,
+                    objects,
+                    spare,
+                } = changing;
+                self.live = Live {
+                    cores,
+                    objects,
+                    watch,
+                    entries,
+                    spare,
                 };
                 Err(AllocError)
             }

@@ -13,6 +13,7 @@ use crate::making::cores_of;
 use crate::watch::Watch;
 use bus_semantics::{BusPlan, Mapping, Stamped};
 use core_lanes::Guesses;
+use cross_core_table::Spare;
 use port_objects::{make_objects, sound_plans_have_objects};
 use std::alloc::Global;
 use std::marker::Model;
@@ -74,6 +75,7 @@ impl Node {
                 objects,
                 watch,
                 entries: Vec::new(alloc),
+                spare: Spare::none(alloc),
             },
             guesses,
         })

@@ -12,12 +12,13 @@ use crate::live::Live;
 use crate::watch::Watch;
 use bus_semantics::{BusPlan, Stamped};
 use core_turn::Core;
+use cross_core_table::Spare;
 use port_objects::PlainBench;
 use std::marker::Model;
 use task_machine::TaskSet;
 
 /// What the turns of a round or serial pass work on: a node's plan and bodies, its cores with what of them may step, its objects on a
-/// bench with room for so many further entries, and the entries so far.
+/// bench with room for so many further entries, and the entries so far. It keeps the room that the last round of several cores left.
 #[derive(Drop)]
 pub(crate) struct Round<'a> {
     pub plan: &'a BusPlan,
@@ -26,6 +27,7 @@ pub(crate) struct Round<'a> {
     pub watch: Watch,
     pub bench: PlainBench<'a>,
     pub entries: Vec<Stamped>,
+    pub spare: Spare,
 }
 
 impl<'a> Model for Round<'a> {
@@ -64,6 +66,7 @@ impl<'a> Round<'a> {
             watch: live.watch,
             bench: PlainBench::new(plan, live.objects, room),
             entries,
+            spare: live.spare,
         }
     }
 
@@ -81,6 +84,7 @@ impl<'a> Round<'a> {
             objects: self.bench.into_objects(),
             watch: self.watch,
             entries: self.entries,
+            spare: self.spare,
         }
     }
 }

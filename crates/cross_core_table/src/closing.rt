@@ -26,6 +26,8 @@ pub struct Closed {
     pub objects: Vec<Object>,
     /// What all cores made, in order of stamps.
     pub entries: Vec<Stamped>,
+    /// The lists of the cores, whose room a later round may take.
+    pub rooms: Vec<Vec<Stamped>>,
 }
 
 /// Takes in each seat of a round by the first one, and keeps what each core made.
@@ -103,6 +105,7 @@ impl Round {
         Closed {
             objects: take_objects(closed, returned),
             entries,
+            rooms,
         }
     }
 }

@@ -8,26 +8,33 @@ ghost use Rattle.cross_core_table.specs.Opened.{HasSpace, AreRooms, AreGiven};
 use crate::plays::Give;
 use crate::seats::CoreSeat;
 use crate::space::Space;
+use crate::spare::Spare;
 use crate::steps::{Place, Top};
 use bus_semantics::Stamped;
 use port_objects::{Memory, Object};
 use std::alloc::Global;
 
-/// Takes the memory of a round with so many objects and cores, and room for so many entries of each core.
+/// Takes the memory of a round with so many objects and cores, and room for so many entries of each core. Spare room is used
+/// first.
 pub(crate) fn take_space(
     alloc: Global,
     objects: usize,
     cores: u32,
     room: u32,
+    spare: Spare,
 ) -> Result<Space, Memory>
     requires { (objects < 2 ^ 32) × (cores ≤ 8) }
     ensures { IfOk result (HasSpace objects cores room) }
 {
+    let Spare {
+        entries: list,
+        rooms: lists,
+    } = spare;
     let words = Vec::from_elem(alloc, 0u64, objects + 1)?;
     let seats = Vec::with_capacity(alloc, cores as usize)?;
-    let entries = Vec::with_capacity(alloc, cores as usize * room as usize)?;
+    let entries = emptied(list, cores as usize * room as usize)?;
     let returned = Vec::with_capacity(alloc, objects)?;
-    let rooms = take_rooms(alloc, cores, room)?;
+    let rooms = take_rooms(alloc, cores, room, lists)?;
     Ok(Space {
         words,
         rooms,
@@ -37,14 +44,44 @@ pub(crate) fn take_space(
     })
 }
 
-/// Takes room for so many entries of each core.
-fn take_rooms(alloc: Global, cores: u32, room: u32) -> Result<Vec<Vec<Stamped>>, Memory>
+/// This list with nothing in it, and room for so many entries.
+fn emptied(list: Vec<Stamped>, room: usize) -> Result<Vec<Stamped>, Memory>
+    ensures { IfOk result (λ v. (v.items ≡ []) × (room ≤ vec_capacity v)) }
+{
+    let mut list = list;
+    list.clear();
+    list.reserve(room)?;
+    Ok(list)
+}
+
+/// Takes room for so many entries of a core, in the last spare list if there is one.
+fn take_room(
+    alloc: Global,
+    spare: &mut Vec<Vec<Stamped>>,
+    room: u32,
+) -> Result<Vec<Stamped>, Memory>
+    ensures { IfOk result (λ v. (v.items ≡ []) × (room ≤ vec_capacity v)) }
+{
+    match spare.pop() {
+        Some(list) => emptied(list, room as usize),
+        None => Vec::with_capacity(alloc, room as usize),
+    }
+}
+
+/// Takes room for so many entries of each core, in spare lists as far as there are some.
+fn take_rooms(
+    alloc: Global,
+    cores: u32,
+    room: u32,
+    spare: Vec<Vec<Stamped>>,
+) -> Result<Vec<Vec<Stamped>>, Memory>
     ensures rooms { IfOk result (λ v. AreRooms cores room v.items) }
     ensures space { IfOk result (λ v. cores ≤ vec_capacity v) }
 {
+    let mut spare = spare;
     let mut rooms = Vec::with_capacity(alloc, cores as usize)?;
     for _core in 0..cores {
-        let made = Vec::with_capacity(alloc, room as usize)?;
+        let made = take_room(alloc, &mut spare, room)?;
         rooms.push_reserved(made);
     }
     Ok(rooms)

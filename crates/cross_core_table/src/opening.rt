@@ -11,6 +11,7 @@ use crate::giving::{give_seats, take_space};
 use crate::opened::Opened;
 use crate::round::Round;
 use crate::space::Space;
+use crate::spare::Spare;
 use crate::views::Opening;
 use atomic_table::{Refused, Table};
 use bus_semantics::BusPlan;
@@ -20,15 +21,22 @@ use std::snapshot::Snapshot;
 
 impl Round {
     /// Opens a round of 1 to 8 cores over the objects of a plan, each at its number, with room for so many entries of each core. This
-    /// takes all memory of the round.
-    pub fn open(alloc: Global, p: &BusPlan, objects: Vec<Object>, cores: u32, room: u32) -> Opened
+    /// takes all memory of the round, what is spare before any other. If there is no memory, what is spare is freed.
+    pub fn open(
+        alloc: Global,
+        p: &BusPlan,
+        objects: Vec<Object>,
+        cores: u32,
+        room: u32,
+        spare: Spare,
+    ) -> Opened
         requires sound { HasObjects (plan_of p.now) }
         requires planned { ArePlans (plan_of p.now) objects.items }
         requires cores { (1 ≤ cores) × (cores ≤ 8) }
         ensures { Opens (plan_of p.now) objects.items cores room result }
     {
         let _objects = p.objects;
-        match take_space(alloc, objects.len(), cores, room) {
+        match take_space(alloc, objects.len(), cores, room, spare) {
             Ok(space) => open_in(alloc, p, objects, cores, room, space),
             Err(_) => Opened::Memory(objects),
         }

@@ -11,7 +11,7 @@ ghost use Rattle.cross_core_table.specs.Opened.{IsOpened};
 ghost use Rattle.cross_core_table.specs.Seats.{IsSeatOf, view_of};
 
 use bus_semantics::{Actor, BusPlan, Deed, Mapping, Stamped, Wish};
-use cross_core_table::{CoreSeat, Opened, Round, SeatBench};
+use cross_core_table::{CoreSeat, Opened, Round, SeatBench, Spare};
 use description_stages::{PlannedDescription, plan_description};
 use entry_fitting::wish_fits;
 use port_objects::{Benched, make_objects, object_of, sound_plans_have_objects};
@@ -201,7 +201,7 @@ fn run(alloc: Global, p: &BusPlan, m: &Mapping) -> Result<(String, String, Strin
 {
     sound_plans_have_objects();
     let objects = make_objects(alloc, p)?;
-    match Round::open(alloc, p, objects, 2, 4) {
+    match Round::open(alloc, p, objects, 2, 4, Spare::none(alloc)) {
         Opened::Ready(round, seats) => share(alloc, p, m, round, seats),
         Opened::Memory(_) => Err(AllocError),
     }
