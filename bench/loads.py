@@ -446,12 +446,12 @@ def chatter_across(cores, size):
 
 
 def computing_within(cores, size):
-    """16 writers and their readers, each pair on one core: 100 writes, and before each of them so many steps of a calculation."""
-    step = ["set", "x", ["add", ["mul", "x", 3], 1]]
-    program = [["repeat", 100, [["repeat", size, [step]], ["write", "o", "v", ["x"], "s"]]]]
+    """64 writers and their readers, each pair on one core: 10 writes, and before each of them so many times 200 steps of a calculation."""
+    steps = ["repeat", 200, [["set", "x", ["add", ["mul", "x", 3], 1]]]]
+    program = [["repeat", 10, [["repeat", size, [steps]], ["write", "o", "v", ["x"], "s"]]]]
     source = component("W", [port("P", "o")], [runnable("Step", [["write", "o", "v"]], program)], [timing("E", "Step", 1)])
     joined = lambda n: assembly([f"a{n}", "o"], [f"b{n}", "i"])
-    return paired([source, reader(100)], cores, 0, joined, "ED", "tick 1\nrun\n" * 100, 16)
+    return paired([source, reader(10)], cores, 0, joined, "ED", "tick 1\nrun\n" * 25, 64)
 
 
 def calls_between(cores, size):
@@ -473,7 +473,7 @@ def instances_on(cores, size):
     return described([writer(1, 1), reader(1)], held, joined, cores, tasks, events), "tick 1\nrun\n" * 250
 
 
-ON_CORES = {computing_within: 200, chatter_within: 500, chatter_across: 500, calls_between: 100, instances_on: 1000}
+ON_CORES = {computing_within: 10, chatter_within: 500, chatter_across: 500, calls_between: 100, instances_on: 1000}
 
 
 CASES = {
