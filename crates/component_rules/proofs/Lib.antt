@@ -1,3 +1,4 @@
 pub mod Firsts
 pub mod Tallying
 pub mod Passing
+pub mod Modes

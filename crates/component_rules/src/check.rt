@@ -1,10 +1,11 @@
 //! The checks, and what they refuse.
 
-ghost use Rattle.std.specs.Prelude.{◌≡◌, Some, None, IfOk};
+ghost use Rattle.std.specs.Prelude.{◌≡◌, true, Some, None, IfOk};
 ghost use Rattle.plan_definitions.specs.declared.component_rule.ComponentRule.TheVariants as rules;
 ghost use Rattle.plan_definitions.specs.Programs.{refused_program};
 ghost use Rattle.plan_definitions.specs.Telling.{Tells};
 ghost use Rattle.plan_definitions.specs.ComponentRefusals.{number_of, broken_in, first_broken, of_rule, of_program, of_programs, of_events, refusal};
+ghost use Rattle.plan_definitions.specs.WellFormed.{types_fit};
 
 use crate::accesses::misfit;
 use crate::calls::mixed;
@@ -82,6 +83,7 @@ fn check_rule(alloc: Global, rule: ComponentRule, d: &Description) -> Result<(),
 }
 
 fn check_program_rule(alloc: Global, rule: u16, d: &Description) -> Result<(), Refused>
+    requires { types_fit d.now.types ≡ true }
     ensures { Tells (of_program rule d.now) result }
 {
     match refused_program(alloc, Some(rule), d)? {
@@ -94,6 +96,7 @@ fn check_program_rule(alloc: Global, rule: u16, d: &Description) -> Result<(), R
 }
 
 fn check_program_rules(alloc: Global, d: &Description) -> Result<(), Refused>
+    requires { types_fit d.now.types ≡ true }
     ensures { Tells (of_programs d.now) result }
 {
     check_program_rule(alloc, 17, d)?;
@@ -105,6 +108,7 @@ fn check_program_rules(alloc: Global, d: &Description) -> Result<(), Refused>
 /// The rules of programs one by one only where one of them is broken, since each looks at all programs.
 #[tactic(auto, using(crate::proofs::Passing::programs_pass))]
 fn check_programs(alloc: Global, d: &Description) -> Result<(), Refused>
+    requires { types_fit d.now.types ≡ true }
     ensures { Tells (of_programs d.now) result }
 {
     match refused_program(alloc, None, d)? {
@@ -129,10 +133,11 @@ fn check_events(alloc: Global, d: &Description) -> Result<(), Refused>
 /// AsynchronousServerCallReturnsEvents are of such operations (23, at the access or the event); modes disable only TimingEvents,
 /// InitEvents, DataReceivedEvents and AsynchronousServerCallReturnsEvents, and are of the group of an R-port (24, at the event).
 /// An error of `ComponentRule` names the least of these that is broken and its first place in the order of the document: within a
-/// component ports come before accesses, and these before events.
+/// component ports come before accesses, and these before events. The types of the description fit, as they do once it is read.
 ///
 /// An error of `Memory` may come at any time.
 pub fn check_components(alloc: Global, d: &Description) -> Result<(), Refused>
+    requires { types_fit d.now.types ≡ true }
     ensures { Tells (refusal d.now) result }
 {
     check_rule(alloc, ComponentRule::Accesses, d)?;

@@ -1,7 +1,8 @@
 //! Whether the programs of runnables may run.
 
-ghost use Rattle.std.specs.Prelude.{◌≡◌, IfOk, Option, Some, None, option_and_then, option_map};
+ghost use Rattle.std.specs.Prelude.{◌≡◌, IfOk, true, Option, Some, None, option_and_then, option_map};
 ghost use Rattle.plan_definitions.specs.Programs.{program_refusal, is_wanted, path_of, refused_in, refused_program};
+ghost use Rattle.plan_definitions.specs.WellFormed.{types_fit};
 
 use crate::signatures::signature_of;
 use description_types::{Component, Description, Runnable};
@@ -19,6 +20,7 @@ fn program_refusal(
     component: &Component,
     runnable: &Runnable,
 ) -> Result<Option<(u16, Seq<usize>)>, Memory>
+    requires { types_fit types.now ≡ true }
     ensures { IfOk result (λ refused. refused ≡ program_refusal types.now component.now runnable.now) }
 {
     let signature = signature_of(alloc, types, component, runnable.accesses.items())?;
@@ -45,6 +47,7 @@ fn path_refused(
     component: &Component,
     runnable: &Runnable,
 ) -> Result<Option<Seq<usize>>, Memory>
+    requires { types_fit types.now ≡ true }
     ensures { IfOk result (λ path. path ≡ option_and_then (path_of wanted) (program_refusal types.now component.now runnable.now)) }
 {
     match program_refusal(alloc, types, component, runnable)? {
@@ -60,6 +63,7 @@ fn refused_in(
     types: &TypeTable,
     component: &Component,
 ) -> Result<Option<InProgram>, Memory>
+    requires { types_fit types.now ≡ true }
     ensures { IfOk result (λ found. found ≡ refused_in wanted types.now component.now) }
 {
     for (position, runnable) in component.behavior.runnables.items().iter().enumerate() {
@@ -77,6 +81,7 @@ pub fn refused_program(
     wanted: Option<u16>,
     d: &Description,
 ) -> Result<Option<(usize, InProgram)>, Memory>
+    requires { types_fit d.now.types ≡ true }
     ensures { IfOk result (λ found. found ≡ refused_program wanted d.now) }
 {
     for (position, component) in d.components.items().iter().enumerate() {

@@ -1,7 +1,8 @@
 //! The signatures of runnables.
 
-ghost use Rattle.std.specs.Prelude.{◌≡◌, ◌++◌, IfOk, OnOk, replicate, option_copied};
+ghost use Rattle.std.specs.Prelude.{◌≡◌, ◌++◌, IfOk, OnOk, replicate, true, option_copied};
 ghost use Rattle.plan_definitions.specs.Signatures.{limits_of, words_of, goes, arguments_of, words_of_item, kind_at, words_at, words_of_variable, given, taken, mode_count, modes_of, access_sig, signature};
+ghost use Rattle.plan_definitions.specs.WellFormed.{types_fit};
 
 use crate::items::item_at;
 use description_types::{Access, Component};
@@ -10,7 +11,7 @@ use plan_definitions::Item;
 use rte_text::{Memory, Seq};
 use rte_value::Limits;
 use runnable_lang::{AccessKind, AccessSig, Signature};
-use std::alloc::{AllocError, Global};
+use std::alloc::Global;
 
 fn limits_of(types: &[DataType], of_type: u32) -> Limits
     ensures { result ≡ limits_of types.now of_type }
@@ -166,10 +167,12 @@ fn modes_at(types: &TypeTable, component: &Component, access: Access) -> usize
     }
 }
 
-fn modes_of(types: &TypeTable, component: &Component, access: Access) -> Result<u32, Memory>
-    ensures { IfOk result (λ modes. modes ≡ modes_of types.now component.now access) }
+#[tactic(auto, using(crate::proofs::Modes::few_modes))]
+fn modes_of(types: &TypeTable, component: &Component, access: Access) -> u32
+    requires { types_fit types.now ≡ true }
+    ensures { result ≡ modes_of types.now component.now access }
 {
-    u32::try_from(modes_at(types, component, access)).map_err(|_| AllocError)
+    modes_at(types, component, access) as u32
 }
 
 fn access_sig(
@@ -178,11 +181,12 @@ fn access_sig(
     component: &Component,
     access: Access,
 ) -> Result<AccessSig, Memory>
+    requires { types_fit types.now ≡ true }
     ensures { IfOk result (λ sig. sig ≡ access_sig types.now component.now access) }
 {
     let ins = given(alloc, types, component, access)?;
     let outs = taken(alloc, types, component, access)?;
-    let modes = modes_of(types, component, access)?;
+    let modes = modes_of(types, component, access);
     Ok(AccessSig {
         kind: access.kind,
         port: access.port,
@@ -195,13 +199,15 @@ fn access_sig(
 
 /// The signature of a runnable of a component with these accesses, in their order: the limits of each word or argument that
 /// goes through each access, and how many modes a mode port has (SWS_RTE: the signatures of Rte_Write, Rte_Read, Rte_Call and
-/// the like). What an access gives or takes is none where it does not fit its port, or names nothing.
+/// the like). What an access gives or takes is none where it does not fit its port, or names nothing. The types fit, as those of
+/// each description that is read: so no group has more than 32 modes.
 pub fn signature_of(
     alloc: Global,
     types: &TypeTable,
     component: &Component,
     accesses: &[Access],
 ) -> Result<Signature, Memory>
+    requires { types_fit types.now ≡ true }
     ensures { IfOk result (λ found. found.accesses ≡ signature types.now component.now accesses.now) }
 {
     let mut list = Vec::new(alloc);

@@ -1,7 +1,8 @@
 //! From the bytes of a description to its plan and its mapping.
 
-ghost use Rattle.std.specs.Prelude.{IfErr, IfOk};
+ghost use Rattle.std.specs.Prelude.{◌≡◌, IfErr, IfOk, true};
 ghost use Rattle.plan_definitions.specs.PlanRefusals.{IsRefusal};
+ghost use Rattle.plan_definitions.specs.WellFormed.{types_fit};
 ghost use Rattle.description_stages.specs.Plans.{IsPlanRefusalOf, IsPlannedFrom, IsPlannedOf, IsToldBy};
 
 use crate::joining::{JoinedDescription, join_description};
@@ -25,6 +26,7 @@ pub struct PlannedDescription {
 
 /// The plan and the mapping of a description that breaks none of rules 1 to 15.
 fn planned(alloc: Global, joined: JoinedDescription) -> Result<PlannedDescription, Refused>
+    requires { types_fit joined.description.types ≡ true }
     ensures planned { IfOk result (IsPlannedFrom joined) }
     ensures refused { IfErr result (IsToldBy (IsRefusal joined.description joined.flat)) }
 {

@@ -1,10 +1,11 @@
 //! The whole plan.
 
-ghost use Rattle.std.specs.Prelude.{◌≡◌, IfOk, map};
+ghost use Rattle.std.specs.Prelude.{◌≡◌, IfOk, map, true};
 ghost use Rattle.plan_definitions.specs.Mapped.{is_mapped};
 ghost use Rattle.plan_definitions.specs.Parts.{events_of};
 ghost use Rattle.plan_definitions.specs.Callings.{callings as all_callings};
 ghost use Rattle.plan_definitions.specs.Planned.{object_count};
+ghost use Rattle.plan_definitions.specs.WellFormed.{types_fit};
 ghost use Rattle.event_mapping.specs.Sized.{IsPlan, few_objects};
 
 use crate::pieces::{behavior_of, items_of, modes_of, services_of};
@@ -36,6 +37,7 @@ fn plan_over(
 ) -> Result<Option<BusPlan>, Memory>
     requires calls { callings.now ≡ all_callings source.now.d.now source.now.f.now }
     requires mapping { mapped.now ≡ map (is_mapped source.now.d.now source.now.f.now) (events_of source.now.d.now source.now.f.now) }
+    requires types { types_fit source.now.d.now.types ≡ true }
     ensures { IfOk result (λ found. IsPlan found source.now.d.now source.now.f.now) }
 {
     let items = items_of(alloc, source)?;
@@ -73,7 +75,8 @@ pub fn build_plan(
     f: &Flat,
     mapped: &[bool],
 ) -> Result<Option<BusPlan>, Memory>
-    requires { mapped.now ≡ map (is_mapped d.now f.now) (events_of d.now f.now) }
+    requires mapping { mapped.now ≡ map (is_mapped d.now f.now) (events_of d.now f.now) }
+    requires types { types_fit d.now.types ≡ true }
     ensures { IfOk result (λ found. IsPlan found d.now f.now) }
 {
     let source = Source::new(alloc, d, f)?;

@@ -1,6 +1,6 @@
 //! The checks of a description made flat, and its plan and mapping where it keeps them.
 
-ghost use Rattle.std.specs.Prelude.{◌≡◌, Err, IfOk, OnOk, Some};
+ghost use Rattle.std.specs.Prelude.{◌≡◌, Err, IfOk, OnOk, Some, true};
 ghost use Rattle.plan_definitions.specs.Telling.{Tells as Says};
 ghost use Rattle.plan_definitions.specs.MappingRefusals.{Tells, mapping_text};
 ghost use Rattle.plan_definitions.specs.MappingRefusals as rules;
@@ -8,6 +8,7 @@ ghost use Rattle.plan_definitions.specs.MappingRules.{HaveOrder};
 ghost use Rattle.plan_definitions.specs.Tasks.{are_mapped, mapping_of};
 ghost use Rattle.plan_definitions.specs.Planned.{plan_of, seen};
 ghost use Rattle.plan_definitions.specs.PlanRefusals.{IsOfSize, IsRefusal, IsThen, of_size};
+ghost use Rattle.plan_definitions.specs.WellFormed.{types_fit};
 
 use crate::build::build_plan;
 use crate::guard::is_foretold;
@@ -40,7 +41,8 @@ fn sized(alloc: Global, plan: BusPlan) -> Result<BusPlan, Refused>
 }
 
 fn sized_plan(alloc: Global, d: &Description, f: &Flat, mapped: &[bool]) -> Result<BusPlan, Refused>
-    requires { mapped.now ≡ are_mapped d.now f.now }
+    requires mapping { mapped.now ≡ are_mapped d.now f.now }
+    requires types { types_fit d.now.types ≡ true }
     ensures size { Says (of_size (plan_of d.now f.now)) result }
     ensures plan { IfOk result (λ plan. seen plan ≡ plan_of d.now f.now) }
 {
@@ -52,6 +54,7 @@ fn sized_plan(alloc: Global, d: &Description, f: &Flat, mapped: &[bool]) -> Resu
 }
 
 fn listed(alloc: Global, d: &Description, f: &Flat) -> Result<(BusPlan, Mapping), Refused>
+    requires { types_fit d.now.types ≡ true }
     ensures size { Says (of_size (plan_of d.now f.now)) result }
     ensures plan { IfOk result (λ found. seen found.0 ≡ plan_of d.now f.now) }
     ensures mapping { IfOk result (λ found. found.1 ≡ mapping_of d.now f.now) }
@@ -65,6 +68,7 @@ fn listed(alloc: Global, d: &Description, f: &Flat) -> Result<(BusPlan, Mapping)
 
 /// The plan and the mapping, listed only where the counts do not tell that the plan is too large.
 fn planned(alloc: Global, d: &Description, f: &Flat) -> Result<(BusPlan, Mapping), Refused>
+    requires { types_fit d.now.types ≡ true }
     ensures size { Says (of_size (plan_of d.now f.now)) result }
     ensures plan { IfOk result (λ found. seen found.0 ≡ plan_of d.now f.now) }
     ensures mapping { IfOk result (λ found. found.1 ≡ mapping_of d.now f.now) }
@@ -77,6 +81,7 @@ fn planned(alloc: Global, d: &Description, f: &Flat) -> Result<(BusPlan, Mapping
 }
 
 fn mapped_plan(alloc: Global, d: &Description, f: &Flat) -> Result<(BusPlan, Mapping), Refused>
+    requires { types_fit d.now.types ≡ true }
     ensures refusal { Tells (IsThen (rules.IsRefusal d.now f.now) (IsOfSize d.now f.now)) result }
     ensures plan { IfOk result (λ found. seen found.0 ≡ plan_of d.now f.now) }
     ensures mapping { IfOk result (λ found. found.1 ≡ mapping_of d.now f.now) }
@@ -100,6 +105,8 @@ fn mapped_plan(alloc: Global, d: &Description, f: &Flat) -> Result<(BusPlan, Map
 ///   `/mapping`). Every required queued element is a receiver, joined or not, the environment's too. Too many objects or events
 ///   are told from counts, before the plan and the mapping are listed, unless joins may put enough elements into common groups.
 ///
+/// The types of the description fit, as they do once it is read.
+///
 /// The plan lists everything by instance and in declared order, what belongs to the environment last; groups by their least
 /// element. The mapping has the tasks on their cores, each with the numbers of its events in the order of their positions. The
 /// tasks can be put in an order in which each waits by `call` only for later ones.
@@ -108,6 +115,7 @@ fn mapped_plan(alloc: Global, d: &Description, f: &Flat) -> Result<(BusPlan, Map
 ///
 /// SWS_RTE: RteEventToTaskMapping.
 pub fn map_events(alloc: Global, d: &Description, f: &Flat) -> Result<(BusPlan, Mapping), Refused>
+    requires { types_fit d.now.types ≡ true }
     ensures refusal { Tells (IsRefusal d.now f.now) result }
     ensures plan { IfOk result (λ found. seen found.0 ≡ plan_of d.now f.now) }
     ensures mapping { IfOk result (λ found. found.1 ≡ mapping_of d.now f.now) }

@@ -1,11 +1,12 @@
 //! The lists of a plan, piece by piece.
 
-ghost use Rattle.std.specs.Prelude.{◌≡◌, IfOk, map};
+ghost use Rattle.std.specs.Prelude.{◌≡◌, IfOk, map, true};
 ghost use Rattle.plan_definitions.specs.Mapped.{is_mapped};
 ghost use Rattle.plan_definitions.specs.Parts.{events_of};
 ghost use Rattle.plan_definitions.specs.Callings.{callings as all_callings};
 ghost use Rattle.plan_definitions.specs.Services.{points, servers};
 ghost use Rattle.plan_definitions.specs.Planned.{areas};
+ghost use Rattle.plan_definitions.specs.WellFormed.{types_fit};
 ghost use Rattle.event_mapping.specs.Pieces.{AreItems, AreModes, AreServices, IsBehavior};
 
 use crate::areas::areas_of_plan;
@@ -150,7 +151,8 @@ pub fn behavior_of(
     source: &Source<'_>,
     callings: &Callings,
 ) -> Result<Behavior, Memory>
-    requires { callings.now ≡ all_callings source.now.d.now source.now.f.now }
+    requires calls { callings.now ≡ all_callings source.now.d.now source.now.f.now }
+    requires types { types_fit source.now.d.now.types ≡ true }
     ensures { IfOk result (λ behavior. IsBehavior source.now.d.now source.now.f.now behavior) }
 {
     let event_list = event_plans(alloc, source, callings)?;

@@ -1,6 +1,6 @@
 //! The runnables of a plan.
 
-ghost use Rattle.std.specs.Prelude.{◌≡◌, [], ◌∷◌, ◌++◌, IfOk, OnOk, map, nat_eq, option_map, slice_get};
+ghost use Rattle.std.specs.Prelude.{◌≡◌, true, [], ◌∷◌, ◌++◌, IfOk, OnOk, map, nat_eq, option_map, slice_get};
 ghost use Rattle.std.specs.List.{flat_map};
 ghost use Rattle.std.specs.Map.{lookup};
 ghost use Rattle.std.specs.Option.{option_map_or};
@@ -9,6 +9,7 @@ ghost use Rattle.plan_definitions.specs.Lists.{from};
 ghost use Rattle.plan_services.specs.Served.{served_entry};
 ghost use Rattle.plan_definitions.specs.Started.{runnable_of, runnables as all_runnables, runnables_of_component, served_number};
 ghost use Rattle.plan_definitions.specs.Callings.{callings as all_callings};
+ghost use Rattle.plan_definitions.specs.WellFormed.{types_fit};
 
 use crate::events::component_at;
 use crate::invoked::Operation;
@@ -48,6 +49,7 @@ fn runnable_of(
     runnable: &Runnable,
 ) -> Result<RunnablePlan, Memory>
     requires calls { callings.now ≡ all_callings source.now.d.now source.now.f.now }
+    requires types { types_fit source.now.d.now.types ≡ true }
     requires serves { served.now.entries.items ≡ flat_map served_entry component.now.behavior.events }
     ensures { IfOk result (λ found. seen found ≡ runnable_of source.now.d.now source.now.f.now instance component.now position runnable.now) }
 {
@@ -78,6 +80,7 @@ fn push_runnable(
     runnable: &Runnable,
 ) -> Result<(), Memory>
     requires calls { callings.now ≡ all_callings source.now.d.now source.now.f.now }
+    requires types { types_fit source.now.d.now.types ≡ true }
     requires serves { served.now.entries.items ≡ flat_map served_entry component.now.behavior.events }
     ensures { OnOk result (map seen list.new.items ≡ map seen list.old.items ++ runnable_of source.now.d.now source.now.f.now instance component.now number runnable.now ∷ []) }
 {
@@ -101,6 +104,7 @@ fn push_runnables(
     runnables: &[Runnable],
 ) -> Result<(), Memory>
     requires calls { callings.now ≡ all_callings source.now.d.now source.now.f.now }
+    requires types { types_fit source.now.d.now.types ≡ true }
     requires serves { served.now.entries.items ≡ flat_map served_entry component.now.behavior.events }
     ensures { OnOk result (map seen list.new.items ≡ map seen list.old.items ++ from 0 (λ m r. runnable_of source.now.d.now source.now.f.now instance component.now m r ∷ []) runnables.now) }
 {
@@ -120,7 +124,8 @@ fn push_component(
     number: usize,
     component: &Component,
 ) -> Result<(), Memory>
-    requires { callings.now ≡ all_callings source.now.d.now source.now.f.now }
+    requires calls { callings.now ≡ all_callings source.now.d.now source.now.f.now }
+    requires types { types_fit source.now.d.now.types ≡ true }
     ensures { OnOk result (map seen list.new.items ≡ map seen list.old.items ++ runnables_of_component source.now.d.now source.now.f.now number component.now) }
 {
     let served = served_of(alloc, component.behavior.events.items())?;
@@ -139,7 +144,8 @@ fn push_instance(
     number: usize,
     instance: &Instance,
 ) -> Result<(), Memory>
-    requires { callings.now ≡ all_callings source.now.d.now source.now.f.now }
+    requires calls { callings.now ≡ all_callings source.now.d.now source.now.f.now }
+    requires types { types_fit source.now.d.now.types ≡ true }
     ensures { OnOk result (map seen list.new.items ≡ map seen list.old.items ++ option_map_or (runnables_of_component source.now.d.now source.now.f.now number) (slice_get source.now.d.now.components instance.now.component) []) }
 {
     match component_at(source.d, instance) {
@@ -156,7 +162,8 @@ fn push_instances(
     callings: &Callings,
     instances: &[Instance],
 ) -> Result<(), Memory>
-    requires { callings.now ≡ all_callings source.now.d.now source.now.f.now }
+    requires calls { callings.now ≡ all_callings source.now.d.now source.now.f.now }
+    requires types { types_fit source.now.d.now.types ≡ true }
     ensures { OnOk result (map seen list.new.items ≡ map seen list.old.items ++ from 0 (λ i x. option_map_or (runnables_of_component source.now.d.now source.now.f.now i) (slice_get source.now.d.now.components x.component) []) instances.now) }
 {
     for (number, instance) in instances.iter().enumerate() {
@@ -171,7 +178,8 @@ pub fn runnable_plans(
     source: &Source<'_>,
     callings: &Callings,
 ) -> Result<Vec<RunnablePlan>, Memory>
-    requires { callings.now ≡ all_callings source.now.d.now source.now.f.now }
+    requires calls { callings.now ≡ all_callings source.now.d.now source.now.f.now }
+    requires types { types_fit source.now.d.now.types ≡ true }
     ensures { IfOk result (λ list. map seen list.items ≡ all_runnables source.now.d.now source.now.f.now) }
 {
     let mut list = Vec::new(alloc);
