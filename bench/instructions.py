@@ -24,7 +24,7 @@ import tempfile
 import loads
 
 PROGRAM = os.environ.get("RTE", str(loads.TOP / "crates" / "rte" / "out" / "rte"))
-SHOWN = ["chatter", "fan", "instances", "queue", "wide_queue", "calls", "contention", "switches", "outer"]
+SHOWN = ["chatter", "fan", "queue", "wide_queue", "calls", "outer"]
 
 # The work of a function, by its name: the first row that fits.
 WORK = {
