@@ -79,8 +79,7 @@ impl Runners {
         }
     }
 
-    /// Whether no activation of any key runs. It looks at one flag for each 128 keys, and at the flags of each such block in which a key was
-    /// noted to run since the last call.
+    /// Whether no activation of any key runs. It looks at one word of bits, and then at one more for each 4,096 keys.
     pub fn none_runs(&mut self) -> bool
         ensures same { self.new ≡ self.old }
         ensures none { (p : Plan) (m : Mapping) (h : History) → IsSound p m → RunnersStand p h self.old → result ≡ none_runs p h }
