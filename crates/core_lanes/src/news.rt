@@ -3,6 +3,7 @@
 use std::alloc::{AllocError, Global};
 use std::hint;
 use std::sync::atomic::{AtomicU64, Ordering};
+use std::thread;
 
 /// A core has no news.
 const NONE: u64 = 0;
@@ -13,8 +14,11 @@ const SOME: u64 = 1;
 /// A core has left the round, and hears of nothing.
 const GONE: u64 = 2;
 
-/// How often a core that waits for news looks for them in a turn.
-const MOST_LOOKS: u32 = 256;
+/// How often a core that waits for news looks for them before it gives way to other threads.
+const LOOKS: u32 = 256;
+
+/// How often a core that waits for news gives way in a turn.
+const MOST_YIELDS: u32 = 16;
 
 /// Objects in which other cores made entries that a core has not heard of yet.
 #[derive(Drop)]
@@ -99,16 +103,28 @@ impl News {
         self.busy.fetch_sub(1, Ordering::SeqCst);
     }
 
-    /// Waits for news of a core, for a while and only if another core may still make an entry.
+    /// Looks for news for a while. The answer is whether a core need not wait for any: some are there, or no core may still make an entry.
+    fn is_over(&self, inbox: &Inbox) -> bool {
+        for _look in 0..LOOKS {
+            if inbox.state.load(Ordering::SeqCst) != NONE || self.busy.load(Ordering::SeqCst) == 0 {
+                return true;
+            }
+            hint::spin_loop();
+        }
+        false
+    }
+
+    /// Waits for news of a core, for a while and only if another core may still make an entry. The thread of that core may not have begun
+    /// yet for want of a processor, so the one that waits gives way to it.
     pub(crate) fn wait(&self, core: u32) {
         let Some(inbox) = self.inboxes.get(core as usize) else {
             return;
         };
-        for _look in 0..MOST_LOOKS {
-            if inbox.state.load(Ordering::SeqCst) != NONE || self.busy.load(Ordering::SeqCst) == 0 {
+        for _yield in 0..MOST_YIELDS {
+            if self.is_over(inbox) {
                 return;
             }
-            hint::spin_loop();
+            thread::yield_now();
         }
     }
 
