@@ -31,6 +31,26 @@ fn refilled(entries: Vec<Stamped>, made: &[Stamped]) -> Vec<Stamped>
     entries
 }
 
+/// Empties a list, and takes room in it for so many entries.
+fn make_room(list: &mut Vec<Stamped>, room: usize) -> Result<(), Memory> {
+    list.clear();
+    list.reserve(room)
+}
+
+/// The entries of a round, in a list with as much room as the list of earlier ones has, and a list whose room is spare. If both lists
+/// have the same room, they change places and nothing is copied.
+fn exchanged(earlier: Vec<Stamped>, made: Vec<Stamped>) -> (Vec<Stamped>, Vec<Stamped>)
+    requires { length made.items ≤ vec_capacity earlier }
+    ensures items { result.0.items ≡ made.entry.items }
+    ensures capacity { vec_capacity result.0 ≡ vec_capacity earlier }
+{
+    if made.capacity() == earlier.capacity() {
+        return (made, earlier);
+    }
+    let entries = refilled(earlier, made.as_slice());
+    (entries, made)
+}
+
 impl Node {
     /// The cores of a node make a round of turns at the same time, each in a thread of its own. There has to be room for 1,024
     /// entries of each core. The only error is that there is no memory, and then no core made a turn.
@@ -51,6 +71,9 @@ impl Node {
         ensures stamps { OnOk result (stamps_count self.new.entries ≡ true) }
         ensures lawful { OnOk result ((h : History) → IsLawfulNode self.old h → IsLawfulNode self.new (after self.new.entries h)) }
     {
+        // With the same room the lists of two rounds can change places.
+        let room = self.live.entries.capacity();
+        make_room(&mut self.live.spare.entries, room)?;
         let live = mem::replace(&mut self.live, Live::none(alloc));
         let Live {
             cores,
@@ -80,8 +103,8 @@ impl Node {
                     mut spare,
                 } = changing;
                 watch.wake_all(cores.as_slice());
-                let entries = refilled(entries, made.as_slice());
-                spare.entries = made;
+                let (entries, free) = exchanged(entries, made);
+                spare.entries = free;
                 self.live = Live {
                     cores,
                     objects,
