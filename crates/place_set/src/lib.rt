@@ -1,6 +1,7 @@
 //! Sets of places.
 #![tactic(auto)]
 
+mod bits;
 mod set;
 mod threads;
 

@@ -1,34 +1,35 @@
 //! A set of places below a length.
 
-ghost use Rattle.std.specs.Prelude.{◌≡◌, ◌<◌, ◌≤◌, ◌+◌, ◌*◌, length, replicate, true, false, slice_set, slice_index_or, max, IfOk};
-ghost use Rattle.place_set.specs.Blocks.{AreMarked};
+ghost use Rattle.std.specs.Prelude.{◌≡◌, ◌<◌, ◌≤◌, ◌+◌, ◌*◌, ℕ, length, replicate, true, false, slice_set, slice_index_or, IfOk};
+ghost use Rattle.place_set.specs.Bits.{IsSummary, IsFirstBit};
 ghost use Rattle.place_set.specs.Places.{IsNext};
 
 use crate::Memory;
+use crate::bits::{WORD, clear_bit, first_bit, first_of_word, has_bit, set_bit};
 use std::alloc::Global;
 use std::marker::Model;
-
-/// How many flags a block has.
-const BLOCK: usize = 128;
 
 /// A set of places below a length, which takes no memory once it is made. It is seen as a flag for each place: whether
 /// it is in the set.
 #[derive(Drop)]
 pub struct PlaceSet {
-    flags: Vec<bool>,
-    /// For each 128 flags whether one of them may be set. Where it says no, none is.
-    blocks: Vec<bool>,
+    /// How many flags there are.
+    len: usize,
+    /// A bit for each flag.
+    words: Vec<u64>,
+    /// A bit for each word: whether one of its bits is set.
+    summary: Vec<u64>,
 }
 
 impl Model for PlaceSet {
     ghost use Rattle.std.specs.Prelude.{List, Bool};
-    ghost use Rattle.place_set.specs.Blocks.{AreMarked};
+    ghost use Rattle.place_set.specs.Bits.{flags_of, IsSummary};
 
     ghost Value = { List Bool };
 
-    ghost view = { λ s. s.flags.items };
+    ghost view = { λ s. flags_of s.words.items s.len };
 
-    ghost invariant = { λ s. AreMarked s.flags.items s.blocks.items };
+    ghost invariant = { λ s. IsSummary s.len s.words.items s.summary.items };
 }
 
 impl PlaceSet {
@@ -36,28 +37,35 @@ impl PlaceSet {
     pub fn full(alloc: Global, len: usize) -> Result<PlaceSet, Memory>
         ensures { IfOk result (λ s. s ≡ replicate len true) }
     {
-        let flags = vec![in alloc; true; len]?;
-        let blocks = vec![in alloc; true; len / BLOCK + 1]?;
-        Ok(PlaceSet { flags, blocks })
+        let count = len / WORD + 1;
+        let words = vec![in alloc; u64::MAX; count]?;
+        let summary = vec![in alloc; u64::MAX; count / WORD + 1]?;
+        Ok(PlaceSet {
+            len,
+            words,
+            summary,
+        })
     }
 
     /// No place below a length. The only error is that there is no memory.
     pub fn empty(alloc: Global, len: usize) -> Result<PlaceSet, Memory>
         ensures { IfOk result (λ s. s ≡ replicate len false) }
     {
-        let flags = vec![in alloc; false; len]?;
-        let blocks = vec![in alloc; false; len / BLOCK + 1]?;
-        Ok(PlaceSet { flags, blocks })
+        let count = len / WORD + 1;
+        let words = vec![in alloc; 0; count]?;
+        let summary = vec![in alloc; 0; count / WORD + 1]?;
+        Ok(PlaceSet {
+            len,
+            words,
+            summary,
+        })
     }
 
     /// Whether a place is in the set. One past its length is not.
     pub fn contains(&self, place: usize) -> bool
         ensures { result ≡ slice_index_or self.now place false }
     {
-        match self.flags.get(place) {
-            Some(flag) => *flag,
-            None => false,
-        }
+        place < self.len && has_bit(&self.words, place)
     }
 
     /// Puts a place into the set.
@@ -65,8 +73,8 @@ impl PlaceSet {
         requires { place < length self.old }
         ensures { self.new ≡ slice_set self.old place true }
     {
-        self.flags[place] = true;
-        self.blocks[place / BLOCK] = true;
+        set_bit(&mut self.words, place);
+        set_bit(&mut self.summary, place / WORD);
     }
 
     /// Takes a place out of the set.
@@ -74,62 +82,49 @@ impl PlaceSet {
         requires { place < length self.old }
         ensures { self.new ≡ slice_set self.old place false }
     {
-        self.flags[place] = false;
+        if clear_bit(&mut self.words, place) {
+            clear_bit(&mut self.summary, place / WORD);
+        }
     }
 
-    /// The first place of the set that is not before this one. It looks at the flags of that place's block, of the block
-    /// in which it finds one, and of those that fell empty since; of every other block of 128 at one flag.
+    /// The first place of the set that is not before this one. It looks at one word for 64 places, and then at one for each
+    /// 4,096 places that are left.
     pub fn next(&mut self, from: usize) -> Option<usize>
         ensures same { self.new ≡ self.old }
         ensures next { IsNext self.old from (length self.old) result }
     {
-        next_of(&self.flags, &mut self.blocks, from)
-    }
-}
-
-/// The first flag that is set from one place up to another, which is within the flags.
-fn first_between(flags: &[bool], from: usize, to: usize) -> Option<usize>
-    requires { to ≤ length flags.now }
-    ensures { IsNext flags.now from to result }
-{
-    for at in from..to {
-        if flags[at] {
-            return Some(at);
+        match next_bit(self.len, &self.words, &self.summary, from) {
+            Some(at) if at < self.len => Some(at),
+            _ => None,
         }
     }
-    None
 }
 
-/// The first flag of a block that is set and not before a place. A block that is looked through in vain is no longer
-/// marked.
-fn first_of_block(flags: &[bool], blocks: &mut [bool], block: usize, from: usize) -> Option<usize>
-    requires within { block < length blocks.old }
-    requires marked { AreMarked flags.now blocks.old }
-    ensures marked { AreMarked flags.now blocks.new }
-    ensures next { IsNext flags.now (max from (block * 128)) (block * 128 + 128) result }
+/// The first bit that is set, of the words behind one.
+fn first_behind(len: usize, words: &[u64], summary: &[u64], behind: usize) -> Option<usize>
+    requires within { behind < length words.now }
+    requires summary { IsSummary len words.now summary.now }
+    ensures { IsFirstBit words.now (behind * 64 + 64) result }
 {
-    if !blocks[block] {
+    match first_bit(summary, behind + 1) {
+        Some(word) if word < words.len() => {
+            Some(word * WORD + words[word].trailing_zeros() as usize)
+        }
+        _ => None,
+    }
+}
+
+/// The first bit that is set and not before a place.
+fn next_bit(len: usize, words: &[u64], summary: &[u64], from: usize) -> Option<usize>
+    requires { IsSummary len words.now summary.now }
+    ensures { IsFirstBit words.now from result }
+{
+    let word = from / WORD;
+    if word >= words.len() {
         return None;
     }
-    let start = block * BLOCK;
-    let end = start + BLOCK.min(flags.len() - start);
-    let first = first_between(flags, from.max(start), end);
-    if first.is_none() && from <= start {
-        blocks[block] = false;
+    match first_of_word(words[word], (from % WORD) as u32) {
+        Some(at) => Some(word * WORD + at as usize),
+        None => first_behind(len, words, summary, word),
     }
-    first
-}
-
-/// The first flag that is set and not before a place.
-fn next_of(flags: &[bool], blocks: &mut [bool], from: usize) -> Option<usize>
-    requires { AreMarked flags.now blocks.old }
-    ensures marked { AreMarked flags.now blocks.new }
-    ensures next { IsNext flags.now from (length flags.now) result }
-{
-    for block in from / BLOCK..blocks.len() {
-        if let Some(at) = first_of_block(flags, blocks, block, from) {
-            return Some(at);
-        }
-    }
-    None
 }
