@@ -19,13 +19,16 @@ pub enum Trail<'a> {
     Part(&'a Trail<'a>, &'a Value, Kind, usize),
 }
 
+/// Room that most places fit in, in bytes, so that few texts of them grow.
+const ROOM: usize = 48;
+
 impl Trail<'_> {
     /// The place as a JSON pointer, the whole as the empty text.
     pub fn place(&self, alloc: Global) -> Result<String, AllocError>
         ensures { IfOk result (λ text. string_bytes text ≡ (spot_of self.now).place) }
     {
         match self {
-            Trail::Whole => Ok(String::new(alloc)),
+            Trail::Whole => String::with_capacity(alloc, ROOM),
             Trail::Member(outer, _, _, key) => {
                 let mut text = outer.place(alloc)?;
                 text.push_str("/")?;
