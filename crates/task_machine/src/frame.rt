@@ -1,17 +1,22 @@
 //! Frames, which run bodies.
 
-ghost use Rattle.std.specs.Prelude.{◌≡◌, ◌++◌, ◌∷◌, [], List, map, IfOk};
+ghost use Rattle.std.specs.Prelude.{◌≡◌, ◌++◌, ◌∷◌, [], List, map, length, get_or, pos, IfOk};
 ghost use Rattle.rte_value.specs.declared.kinds.ActKey.{ActKey};
 ghost use Rattle.bus_semantics.specs.declared.entries.Deed.{Deed};
-ghost use Rattle.bus_semantics.specs.Wanted.{wanted_of};
+ghost use Rattle.bus_semantics.specs.Activations.{declared_code, results};
+ghost use Rattle.bus_semantics.specs.Wanted.{wanted_of, to_write, to_send, to_ask, to_publish, to_return};
 ghost use Rattle.task_machine.specs.declared.instr.Body.{Body};
 ghost use Rattle.task_machine.specs.Instructions.{instruction_of, requested};
 ghost use Rattle.task_machine.specs.Spots.{store_of};
+ghost use Rattle.task_machine.specs.Store.{written_in, words_or_none};
+ghost use Rattle.task_machine.specs.Words.{words_given};
 ghost use Rattle.task_machine.specs.Frames.{code_of, event_in, words_started, first_place, most, asks, Stands, IsMadeFor, wanted_in};
 
 use crate::Memory;
+use crate::given::Given;
 use crate::instr::{Body, Instr, Request, TaskSet};
 use crate::place::Place;
+use crate::returned::Returned;
 use crate::store::Store;
 use bus_semantics::{Deed, Wish};
 use rte_value::{ActKey, Word};
@@ -133,6 +138,58 @@ fn code_of(t: &TaskSet, runnable: u32) -> &[Instr]
     }
 }
 
+/// What a write asks. As each wish with a value it is made in a function of its own: the room of a value is cleared where a
+/// function begins, so in `wish_of` it would be for a call without one too.
+fn write_of(elem: u32, given: &Given, vars: &[Word]) -> Wish
+    ensures { wanted_of result ≡ to_write elem (words_given vars.now given.now.words.items) }
+{
+    Wish::Write {
+        elem,
+        value: given.value(vars),
+    }
+}
+
+/// What a send asks.
+fn send_of(elem: u32, given: &Given, vars: &[Word]) -> Wish
+    ensures { wanted_of result ≡ to_send elem (words_given vars.now given.now.words.items) }
+{
+    Wish::Send {
+        elem,
+        value: given.value(vars),
+    }
+}
+
+/// What a call of an operation asks.
+fn ask_of(point: u32, given: &Given, vars: &[Word]) -> Wish
+    ensures { wanted_of result ≡ to_ask point (words_given vars.now given.now.words.items) }
+{
+    Wish::Ask {
+        point,
+        value: given.value(vars),
+    }
+}
+
+/// What a publication asks.
+fn publish_of(elem: u32, slot: usize, store: &Store) -> Wish
+    ensures { wanted_of result ≡ to_publish elem (words_or_none (written_in slot (store_of store.now))) }
+{
+    Wish::Publish {
+        elem,
+        value: store.published(slot),
+    }
+}
+
+/// What a return asks.
+fn return_of(returned: &Returned, vars: &[Word]) -> Wish
+    ensures { wanted_of result ≡ to_return (declared_code returned.now.errors (get_or vars.now (length returned.now.arguments.items) (pos 0)))
+        (results returned.now.arguments.items vars.now) }
+{
+    Wish::Return {
+        code: returned.code(vars),
+        value: returned.value(vars),
+    }
+}
+
 /// What a call asks, in an activation that this event started, over this store.
 fn wish_of(request: &Request, event: u32, store: &Store) -> Wish
     ensures { wanted_of result ≡ requested request.now event (store_of store.now) }
@@ -140,22 +197,13 @@ fn wish_of(request: &Request, event: u32, store: &Store) -> Wish
     match request {
         Request::Admit => Wish::Admit { event },
         Request::Fetch { elem } => Wish::Fetch { elem: *elem },
-        Request::Write { elem, given } => Wish::Write {
-            elem: *elem,
-            value: given.value(&store.vars),
-        },
+        Request::Write { elem, given } => write_of(*elem, given, &store.vars),
         Request::Read { elem } => Wish::Read { elem: *elem },
         Request::Invalidate { elem } => Wish::Invalidate { elem: *elem },
         Request::IsUpdated { elem } => Wish::IsUpdated { elem: *elem },
-        Request::Send { elem, given } => Wish::Send {
-            elem: *elem,
-            value: given.value(&store.vars),
-        },
+        Request::Send { elem, given } => send_of(*elem, given, &store.vars),
         Request::Receive { elem } => Wish::Receive { elem: *elem },
-        Request::Ask { point, given } => Wish::Ask {
-            point: *point,
-            value: given.value(&store.vars),
-        },
+        Request::Ask { point, given } => ask_of(*point, given, &store.vars),
         Request::Answer { point } => Wish::Answer { point: *point },
         Request::TakeResult { point } => Wish::TakeResult { point: *point },
         Request::Enter { area } => Wish::Enter { area: *area },
@@ -165,14 +213,8 @@ fn wish_of(request: &Request, event: u32, store: &Store) -> Wish
             mode: *mode,
         },
         Request::Mode { port } => Wish::Mode { port: *port },
-        Request::Publish { elem, slot } => Wish::Publish {
-            elem: *elem,
-            value: store.published(*slot),
-        },
-        Request::Return(returned) => Wish::Return {
-            code: returned.code(&store.vars),
-            value: returned.value(&store.vars),
-        },
+        Request::Publish { elem, slot } => publish_of(*elem, *slot, store),
+        Request::Return(returned) => return_of(returned, &store.vars),
         Request::End => Wish::End { event },
     }
 }
@@ -231,12 +273,11 @@ impl Frame {
         if self.at.left == 0 {
             return Next::Over;
         }
-        match code_of(t, self.key.runnable).get(self.at.place) {
-            Some(Instr::Call { request, .. }) => {
-                Next::Call(wish_of(request, self.event, &self.at.store))
-            }
-            _ => Next::Over,
+        let code = code_of(t, self.key.runnable);
+        if let Some(Instr::Call { request, .. }) = code.get(self.at.place) {
+            return Next::Call(wish_of(request, self.event, &self.at.store));
         }
+        Next::Over
     }
 
     /// The bus has answered the call that `next_call` gave. Where the activation is over nothing changes.
