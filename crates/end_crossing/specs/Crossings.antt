@@ -31,6 +31,10 @@ pub record IsMatched (d : Description) (m : Matched) : Type 0 where
   pub sides : (g : Gate) (s : Side) → get same_gate m.sides g ≡ Some s → IsSide d g s
   pub near : AreNear d Anything m.near
 
+-- wherever items of one of the first interfaces and one of the second are joined, these are one of the pairs
+abbrev pub AreJoining : Description → List ℕ → List ℕ → List (ℕ × ℕ) → Type 0
+AreJoining d first second pairs = (p r : ℕ) → Among p first → Among r second → (i j : ℕ) → ItemsJoin (interface_at d p) (interface_at d r) i j → Among (p, r) pairs
+
 -- wherever items of two of these ports are joined, their interfaces are one of the pairs
 abbrev pub HasPairs : Description → List PortEnd → List PortEnd → List (ℕ × ℕ) → Type 0
 HasPairs d provided required pairs = (p r : PortEnd) → Among p provided → Among r required → (i j : ℕ) → ItemsJoin (interface_at d p.interface) (interface_at d r.interface) i j → Among (p.interface, r.interface) pairs

@@ -1,16 +1,17 @@
 //! Which items of pairs of interfaces are joined, found once for each pair.
 
-ghost use Rattle.std.specs.Prelude.{◌≡◌, ◌↔◌, ◌⊎◌, List, IfOk, OnOk, IsTrue, length, nat_le};
+ghost use Rattle.std.specs.Prelude.{◌≡◌, ◌≤◌, ◌<◌, ◌↔◌, ◌⊎◌, ℕ, List, IfOk, OnOk, IsTrue, length, nat_le};
 ghost use Rattle.end_crossing.specs.declared.crossings.Crossing.{Crossing};
 ghost use Rattle.composition_tables.specs.declared.links.Link.{Link};
 ghost use Rattle.composition_tables.specs.declared.tree.PortEnd.{PortEnd};
 ghost use Rattle.flat_descriptions.specs.Members.{Among};
 ghost use Rattle.indexmap.specs.IndexMap.{get};
 ghost use Rattle.end_search.specs.Gates.{IsShallow};
-ghost use Rattle.end_crossing.specs.Crossings.{same_pair, IsAdding, IsMatched};
+ghost use Rattle.end_crossing.specs.Crossings.{same_pair, AreJoining, IsAdding, IsMatched};
 ghost use Rattle.end_search.specs.Matching.{AreMatches};
 ghost use Rattle.end_search.specs.Sides.{IsSide};
-ghost use Rattle.end_search.specs.Sharing.{AreShared, IsIndexed};
+ghost use Rattle.end_search.specs.Sharing.{IsIndexed};
+ghost use Rattle.flat_descriptions.specs.Items.{interface_at, ItemsJoin};
 ghost use Rattle.composition_tables.specs.Multi.{under};
 ghost use Rattle.composition_tables.specs.Trees.{IsTree};
 
@@ -232,19 +233,77 @@ impl<'a> Matched<'a> {
         Ok(())
     }
 
-    /// The pairs of an interface of a provided side and one of a required side that share an item.
+    /// The pair of a provided interface and a required one, if items of them are joined, and these are looked up at once.
+    fn lone_pair(
+        &mut self,
+        alloc: Global,
+        d: &Description,
+        pair: (u32, u32),
+    ) -> Result<Vec<(u32, u32)>, Memory>
+        requires { IsMatched d.now self.old }
+        ensures matched { OnOk result (IsMatched d.now self.new) }
+        ensures done { OnOk result (self.new.done ≡ self.old.done) }
+        ensures crossed { OnOk result (self.new.crossed ≡ self.old.crossed) }
+        ensures pairs { IfOk result (λ pairs. (i j : ℕ) → ItemsJoin (interface_at d.now pair.0) (interface_at d.now pair.1) i j → Among pair pairs.items) }
+    {
+        self.find(alloc, d, pair)?;
+        let mut pairs = Vec::new(alloc);
+        if !self.kept(pair).is_empty() {
+            pairs.push(pair)?;
+        }
+        Ok(pairs)
+    }
+
+    /// The pairs of one provided interface at most and one required interface at most that have joined items.
+    fn lone_pairs(
+        &mut self,
+        alloc: Global,
+        d: &Description,
+        provided: &[u32],
+        required: &[u32],
+    ) -> Result<Vec<(u32, u32)>, Memory>
+        requires matched { IsMatched d.now self.old }
+        requires provided { length provided.now ≤ 1 }
+        requires required { length required.now ≤ 1 }
+        ensures matched { OnOk result (IsMatched d.now self.new) }
+        ensures done { OnOk result (self.new.done ≡ self.old.done) }
+        ensures crossed { OnOk result (self.new.crossed ≡ self.old.crossed) }
+        ensures pairs { IfOk result (λ pairs. AreJoining d.now provided.now required.now pairs.items) }
+    {
+        match provided.first() {
+            Some(first) => match required.first() {
+                Some(second) => self.lone_pair(alloc, d, (*first, *second)),
+                None => Ok(Vec::new(alloc)),
+            },
+            None => Ok(Vec::new(alloc)),
+        }
+    }
+
+    /// The pairs of an interface of a provided side and one of a required side that have joined items. Others may be among
+    /// them that share an item's name.
     pub fn pairs(
-        &self,
+        &mut self,
         alloc: Global,
         d: &Description,
         provided: &Side,
         required: &Side,
     ) -> Result<Vec<(u32, u32)>, Memory>
-        requires matched { IsMatched d.now self.now }
-        requires provided { IsIndexed d.now provided.now.interfaces.keys provided.now.index }
-        requires required { IsIndexed d.now required.now.interfaces.keys required.now.index }
-        ensures { IfOk result (λ pairs. AreShared d.now provided.now.interfaces.keys required.now.interfaces.keys pairs.items) }
+        requires matched { IsMatched d.now self.old }
+        requires provided { 1 < length provided.now.interfaces.keys → IsIndexed d.now provided.now.interfaces.keys provided.now.index }
+        requires required { 1 < length required.now.interfaces.keys → IsIndexed d.now required.now.interfaces.keys required.now.index }
+        ensures matched { OnOk result (IsMatched d.now self.new) }
+        ensures done { OnOk result (self.new.done ≡ self.old.done) }
+        ensures crossed { OnOk result (self.new.crossed ≡ self.old.crossed) }
+        ensures pairs { IfOk result (λ pairs. AreJoining d.now provided.now.interfaces.keys required.now.interfaces.keys pairs.items) }
     {
+        if provided.interfaces.len() <= 1 && required.interfaces.len() <= 1 {
+            return self.lone_pairs(
+                alloc,
+                d,
+                provided.interfaces.as_slice(),
+                required.interfaces.as_slice(),
+            );
+        }
         let pairs = shared(alloc, d, self.interfaces.as_slice(), provided, required)?;
         Ok(pairs)
     }

@@ -1,6 +1,6 @@
 //! What is below gates: ends and their interfaces, and which of these share an item.
 
-ghost use Rattle.std.specs.Prelude.{◌≡◌, ℕ, IfOk, OnOk};
+ghost use Rattle.std.specs.Prelude.{◌≡◌, ◌<◌, ◌⊎◌, ℕ, IfOk, OnOk, length};
 ghost use Rattle.composition_tables.specs.declared.tree.PortEnd.{PortEnd};
 ghost use Rattle.flat_descriptions.specs.Members.{Among};
 ghost use Rattle.end_search.specs.Gates.{gate_ends, IsShallow};
@@ -21,7 +21,7 @@ use crate::partners::{Index, index_of, partners};
 use crate::seek::{Found, Wanted};
 use composition_tables::tree::{PortEnd, Tree};
 use description_types::Description;
-use indexmap::IndexSet;
+use indexmap::{IndexMap, IndexSet};
 use rte_text::Memory;
 use std::alloc::Global;
 
@@ -30,7 +30,7 @@ use std::alloc::Global;
 pub struct Side<'a> {
     /// The interfaces of the ports.
     pub interfaces: IndexSet<u32>,
-    /// For each key of their items those that have it.
+    /// For each key of their items those that have it, where there are several interfaces. A single one needs no index.
     pub index: Index<'a>,
     /// The ends, for each interface.
     pub groups: Groups,
@@ -86,6 +86,23 @@ fn interfaces_at(
     Ok(interfaces)
 }
 
+/// For each key of some interfaces those that have it. One alone is matched by itself, so that it needs none.
+fn index_over<'a>(
+    alloc: Global,
+    d: &Description,
+    listed: &[Listed<'a>],
+    interfaces: &[u32],
+) -> Result<Index<'a>, Memory>
+    requires { AreListed d.now listed.now }
+    ensures { IfOk result (λ index. 1 < length interfaces.now → IsIndexed d.now interfaces.now index) }
+{
+    if interfaces.len() <= 1 {
+        return Ok(IndexMap::new(alloc));
+    }
+    let index = index_of(alloc, d, listed, interfaces)?;
+    Ok(index)
+}
+
 /// What is below a gate.
 pub fn side_of<'a>(
     alloc: Global,
@@ -104,7 +121,7 @@ pub fn side_of<'a>(
     let found = ends_near(alloc, tree, gate, near)?;
     let groups = groups_of(alloc, found.ends.as_slice())?;
     let interfaces = interfaces_at(alloc, tree, gate, &found)?;
-    let index = index_of(alloc, tree.d, listed, interfaces.as_slice())?;
+    let index = index_over(alloc, tree.d, listed, interfaces.as_slice())?;
     Ok(Side {
         interfaces,
         index,
@@ -115,8 +132,8 @@ pub fn side_of<'a>(
     })
 }
 
-/// The pairs of an interface of a provided side and one of a required side that share an item. The side with less interfaces
-/// is walked, so that a large one costs nothing beside a small one.
+/// The pairs of an interface of a provided side and one of a required side that share an item, where one side has several
+/// interfaces. The side with less interfaces is walked, so that a large one costs nothing beside a small one.
 pub fn shared(
     alloc: Global,
     d: &Description,
@@ -125,8 +142,9 @@ pub fn shared(
     required: &Side,
 ) -> Result<Vec<(u32, u32)>, Memory>
     requires listed { AreListed d.now listed.now }
-    requires provided { IsIndexed d.now provided.now.interfaces.keys provided.now.index }
-    requires required { IsIndexed d.now required.now.interfaces.keys required.now.index }
+    requires several { (1 < length provided.now.interfaces.keys) ⊎ (1 < length required.now.interfaces.keys) }
+    requires provided { 1 < length provided.now.interfaces.keys → IsIndexed d.now provided.now.interfaces.keys provided.now.index }
+    requires required { 1 < length required.now.interfaces.keys → IsIndexed d.now required.now.interfaces.keys required.now.index }
     ensures { IfOk result (λ pairs. AreShared d.now provided.now.interfaces.keys required.now.interfaces.keys pairs.items) }
 {
     if provided.interfaces.len() <= required.interfaces.len() {
