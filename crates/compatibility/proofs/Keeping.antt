@@ -2,7 +2,7 @@
 use Rattle.std.proofs.Common.{◌≡◌, ℕ, zero, suc, ◌+◌, ◌<◌, ◌≤◌, List, [], ◌∷◌, length, get_or, drop, map, filter, Bool, true, false, cond, ◌&&◌, ◌||◌, not, nat_eq, Option, Some, None, refl, sym, ap, ◌∙◌, arith, add-one, true≢false}
 use Rattle.std.proofs.lemmas.Bool.{eqb-true, eq-eqb, and_parts}
 use Rattle.std.specs.List.{list_any}
-use Rattle.std.specs.Option.{option_eq, option_map_or, is_some}
+use Rattle.std.specs.Option.{option_eq, option_map_or, is_some, unwrap_or}
 use Rattle.flat_descriptions.specs.declared.flat.End.{End}
 use Rattle.flat_descriptions.specs.declared.flat.Join.{Join}
 use Rattle.compatibility.specs.declared.partners.Partners.{Partners}
@@ -28,6 +28,11 @@ same_number_refl (Some x) = eq-eqb x x refl
 
 pub same_end_refl : (a : End) → same_end a a ≡ true
 same_end_refl a = (λ j. (same_number_refl a.instance j && eq-eqb a.port a.port refl j) && eq-eqb a.element a.element refl j)
+
+-- a partner that is kept already as the first changes nothing
+pub set_first : (kept : Option Partners) (x : End) → with_one (Some (unwrap_or kept (with_one None x))) x ≡ with_one kept x
+set_first None x = (λ j. record { first = x; several = not (same_end_refl x j) })
+set_first (Some p) x = refl
 
 -- what is kept of some partners, and of those that come after them
 added_some : (x : End) (s : Bool) (xs : List End) → added (Some (record { first = x; several = s })) xs ≡ Some (record { first = x; several = s || list_any (λ y. not (same_end x y)) xs })

@@ -94,9 +94,10 @@ fn with_one(kept: Option<Partners>, partner: End) -> Partners
 fn note(map: &mut IndexMap<Key, Partners>, end: End, partner: End) -> Result<(), Memory>
     ensures { OnOk result (Updates same_key map.old map.new (key_of end) (Some (with_one (get same_key map.old (key_of end)) partner))) }
 {
-    let item = Item::of(end);
-    let kept = with_one(kept_of(map, &item), partner);
-    map.insert(key_of(&item), kept)?;
+    let kept = map
+        .entry(key_of_end(end))?
+        .or_insert(with_one(None, partner));
+    *kept = with_one(Some(*kept), partner);
     Ok(())
 }
 
