@@ -1,5 +1,5 @@
 -- The links of compositions where they stand, and those of the environment.
-use Rattle.std.proofs.Common.{◌≡◌, ℕ, zero, suc, ◌+◌, ◌-◌, ◌*◌, ◌^◌, ◌<◌, ◌≤◌, min, List, [], ◌∷◌, map, slice_get, Bool, true, false, Option, Some, None, ◌⊎◌, inl, inr, ⊎_elim, ◌↔◌, refl, sym, ap, subst, ◌∙◌, arith, true≢false}
+use Rattle.std.proofs.Common.{◌≡◌, ℕ, zero, suc, ◌+◌, ◌-◌, ◌*◌, ◌^◌, ◌<◌, ◌≤◌, min, List, [], ◌∷◌, map, Bool, true, false, Option, Some, None, ◌⊎◌, inl, inr, ⊎_elim, ◌↔◌, refl, sym, ap, subst, ◌∙◌, arith, true≢false}
 use Rattle.std.proofs.lemmas.List.{length-map}
 use Rattle.description_types.specs.declared.component.PortKind.{PortKind}
 use Rattle.description_types.specs.declared.component.PortKind.TheVariants.{Provided, Required}
@@ -24,9 +24,9 @@ use Rattle.end_search.specs.Gates.{outer_ends}
 use Rattle.composition_tables.specs.Owners.{owner_from}
 use Rattle.flat_descriptions.specs.Members.{Among, AllApart}
 use Rattle.composition_tables.proofs.Following.{inner_cases}
-use Rattle.composition_tables.proofs.Growth.{grown_same, grown_none, grown_then, grown_stop}
+use Rattle.composition_tables.proofs.Growth.{grown_same, grown_then, grown_stop}
 use Rattle.end_crossing.proofs.SamePorts.{cross_same}
-use Rattle.composition_tables.proofs.Members.{past_end, place, unflat}
+use Rattle.composition_tables.proofs.Members.{unflat}
 
 -- how high numbers go
 abbrev IsLow : ℕ → Owner → Type 0
@@ -77,6 +77,27 @@ module _ (d : Description) where
       let a = owner_same first x.provided.owner y.provided.owner within low_x.0 low_y.0 (ap (λ l. l.provided.owner) e) in
       let b = owner_same first x.required.owner y.required.owner within low_x.1 low_y.1 (ap (λ l. l.required.owner) e) in
       (λ i. record { provided = record { owner = a i; port = (e i).provided.port; element = (e i).provided.element }; required = record { owner = b i; port = (e i).required.port; element = (e i).required.element } })
+
+-- where the first instance is the first of all, the links are as they are
+owner_kept : (first : ℕ) (o : Owner) → first ≡ 0 → IsLow 9225 o → owner_from first o ≡ o
+owner_kept first o none low_o =
+    let bound = low_o.2 in
+    let same : min (first + low_o.0) (2 ^ 32 - 1) ≡ low_o.0 = omega arith in
+    ap (owner_from first) low_o.1 ∙ ap (λ k. Instance k) same ∙ sym low_o.1
+
+module _ (d : Description) (node : Node) (none : node.first ≡ 0) (deep : node.depth ≤ 8) where
+  link_kept : (y : Link) → IsOwnLink d node.depth node.composition y → link_from node.first y ≡ y
+  link_kept y own =
+      let low_y = assembly_low d node.depth node.composition own.0 y deep own.2 in
+      let a = owner_kept node.first y.provided.owner none low_y.0 in
+      let b = owner_kept node.first y.required.owner none low_y.1 in
+      (λ i. record { provided = record { owner = a i; port = y.provided.port; element = y.provided.element }; required = record { owner = b i; port = y.required.port; element = y.required.element } })
+
+  pub node_first : (before after : List Link) (is_full : Bool) → Grown (IsOwnLink d node.depth node.composition) before after is_full → Grown (IsNodeLink d node) before after is_full
+  node_first before after is_full g =
+      grown_same (IsOwnLink d node.depth node.composition) (IsNodeLink d node) before after is_full
+      (λ x own. (x, own, sym (link_kept x own)))
+      (λ x h. subst (IsOwnLink d node.depth node.composition) (sym (h.2 ∙ link_kept h.0 h.1)) h.1) g
 
 pub mapped : {X Y : Type 0} (f : X → Y) (y : Y) (xs : List X) → Among y (map f xs) → (x : X) × Among x xs × (y ≡ f x)
 mapped f y [] h = absurd h
@@ -159,10 +180,6 @@ pub nodes_within : (d : Description) (nodes slice : List Node) → slice ≡ nod
 nodes_within d nodes slice same are x h =
     let r = node_bounds d 8 d.root 0 x ((are x).0 (subst (Among x) same h)) in
     (r.0, (let bound = r.1 in omega arith))
-
--- no composition makes no links
-pub no_nodes : (d : Description) (nodes : List Node) (links : List Link) → slice_get nodes 0 ≡ None → Grown (AnyOf (IsNodeLink d) nodes) links links false
-no_nodes d nodes links none = grown_none (AnyOf (IsNodeLink d) nodes) links (λ x a. let p = place a.0 nodes a.1 in omega (arith, p.1, past_end nodes 0 none))
 
 pub links_full : (d : Description) (nodes slice : List Node) (before after : List Link) (is_full : Bool) → slice ≡ nodes → ((x : Node) → Among x nodes ↔ IsNode d 8 d.root 0 x)
     → Grown (AnyOf (IsNodeLink d) slice) before after is_full → is_full ≡ true → Grown (IsLink d) before after true

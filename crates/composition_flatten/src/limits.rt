@@ -73,7 +73,7 @@ fn join_of(link: Link) -> Join
 fn joins_of(alloc: Global, links: &[Link]) -> Result<Vec<Join>, Memory>
     ensures { IfOk result (λ joins. joins.items ≡ map join_of links.now) }
 {
-    let mut joins = Vec::new(alloc);
+    let mut joins = Vec::with_capacity(alloc, links.len())?;
     for link in links {
         joins.push(join_of(*link))?;
     }

@@ -1,6 +1,6 @@
 //! All links of a description.
 
-ghost use Rattle.std.specs.Prelude.{◌≡◌, ◌≤◌, ◌^◌, [], ℕ, IfOk, OnOk, Some, nat_eq, slice_get};
+ghost use Rattle.std.specs.Prelude.{◌≡◌, ◌≤◌, ◌^◌, [], ℕ, IfOk, OnOk, Some, nat_eq};
 ghost use Rattle.std.specs.List.{flat_map};
 ghost use Rattle.indexmap.specs.IndexSet.{insert_all};
 ghost use Rattle.composition_tables.specs.declared.links.Link.{Link};
@@ -11,7 +11,6 @@ ghost use Rattle.flat_descriptions.specs.Members.{Among};
 ghost use Rattle.flat_descriptions.specs.Growing.{AnyOf, Grown};
 ghost use Rattle.composition_flatten.specs.Links.{IsOwn, IsNodeLink, IsOuterLink, IsLink, link_from, item_from, outer_link};
 ghost use Rattle.composition_flatten.specs.Outers.{outers_of};
-ghost use Rattle.composition_tables.specs.Nodes.{IsNode};
 ghost use Rattle.end_crossing.specs.Crossings.{IsAdding, IsMatched};
 ghost use Rattle.composition_tables.specs.Trees.{IsTree};
 
@@ -30,6 +29,9 @@ use rte_text::Memory;
 use std::alloc::Global;
 use std::collections::BTreeSet;
 
+/// A number that no composition has: the links of none are taken first.
+const NO_COMPOSITION: u32 = u32::MAX;
+
 /// The links that a composition's assemblies make, with instances numbered from its first one on. Where there are more
 /// than the limit, some may be missing.
 #[derive(Drop)]
@@ -44,7 +46,7 @@ pub struct Own {
 pub fn listed(alloc: Global, links: &BTreeSet<Link>) -> Result<Vec<Link>, Memory>
     ensures { IfOk result (λ list. list.items ≡ links.now.keys) }
 {
-    let mut list = Vec::new(alloc);
+    let mut list = Vec::with_capacity(alloc, links.len())?;
     for link in links {
         list.push(*link)?;
     }
@@ -138,6 +140,28 @@ fn take_own(
     Ok(())
 }
 
+/// Adds the links that a composition's assemblies make where its first instance is the first of all. They are not listed before,
+/// since their instances have these numbers. The answer is whether there are more links than the limit.
+#[tactic(auto, using(crate::proofs::Wholes::node_first))]
+fn add_as_they_are(
+    alloc: Global,
+    tree: &Tree,
+    node: Node,
+    matched: &mut Matched,
+    links: &mut BTreeSet<Link>,
+) -> Result<bool, Memory>
+    requires is_tree { IsTree tree.now }
+    requires depth { node.depth ≤ 8 }
+    requires first { node.first ≡ 0 }
+    requires matched { IsMatched tree.now.d.now matched.old }
+    ensures matched { OnOk result (IsMatched tree.now.d.now matched.new) }
+    ensures grown { IfOk result (λ is_full. Grown (IsNodeLink tree.now.d.now node) links.old.keys links.new.keys is_full) }
+{
+    matched.begin(alloc, tree.d);
+    let is_full = add_own(alloc, tree, node.depth, node.composition, matched, links)?;
+    Ok(is_full)
+}
+
 /// Adds the links that a composition's assemblies make where it stands. The answer is whether there are more links than
 /// the limit.
 fn add_node(
@@ -157,18 +181,16 @@ fn add_node(
     ensures own { OnOk result (IsOwn tree.now.d.now own.new) }
     ensures grown { IfOk result (λ is_full. Grown (IsNodeLink tree.now.d.now node) links.old.keys links.new.keys is_full) }
 {
+    if node.first == 0 {
+        let is_full = add_as_they_are(alloc, tree, node, matched, links)?;
+        return Ok(is_full);
+    }
     take_own(alloc, tree, node, own, matched)?;
     if own.is_full {
         return Ok(true);
     }
     let is_full = add_from(node.first, own.links.as_slice(), links)?;
     Ok(is_full)
-}
-
-fn first_node(nodes: &[Node]) -> Option<Node>
-    ensures { result ≡ slice_get nodes.now 0 }
-{
-    nodes.first().copied()
 }
 
 /// Adds the links of each of these, where some composition's links were taken last.
@@ -209,14 +231,9 @@ fn add_nodes(
     ensures matched { OnOk result (IsMatched tree.now.d.now matched.new) }
     ensures grown { IfOk result (λ is_full. Grown (AnyOf (IsNodeLink tree.now.d.now) nodes.now) links.old.keys links.new.keys is_full) }
 {
-    match first_node(nodes) {
-        Some(first) => {
-            let own = own_of(alloc, tree, first.depth, first.composition, matched)?;
-            let is_full = add_each_node(alloc, tree, nodes, own, matched, links)?;
-            Ok(is_full)
-        }
-        None => Ok(false),
-    }
+    let own = own_of(alloc, tree, 0, NO_COMPOSITION, matched)?;
+    let is_full = add_each_node(alloc, tree, nodes, own, matched, links)?;
+    Ok(is_full)
 }
 
 fn add_by_kind(
