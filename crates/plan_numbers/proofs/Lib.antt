@@ -1,3 +1,4 @@
+pub mod Firsts
 pub mod Listing
 pub mod Numbering
 pub mod Finding

@@ -21,7 +21,7 @@ fn key_of(end: End) -> EndKey
 fn by_required(alloc: Global, joins: &[Join]) -> Result<Table<EndKey, End>, Memory>
     ensures { IfOk result (λ table. table.entries.items ≡ map required_entry joins.now) }
 {
-    let mut entries = Vec::new(alloc);
+    let mut entries = Vec::with_capacity(alloc, joins.len())?;
     for join in joins {
         entries.push((key_of(join.required), join.provided))?;
     }
@@ -31,7 +31,7 @@ fn by_required(alloc: Global, joins: &[Join]) -> Result<Table<EndKey, End>, Memo
 fn by_provided(alloc: Global, joins: &[Join]) -> Result<Table<EndKey, End>, Memory>
     ensures { IfOk result (λ table. table.entries.items ≡ map provided_entry joins.now) }
 {
-    let mut entries = Vec::new(alloc);
+    let mut entries = Vec::with_capacity(alloc, joins.len())?;
     for join in joins {
         entries.push((key_of(join.provided), join.required))?;
     }

@@ -104,7 +104,7 @@ pub fn mode_ports_among(alloc: Global, joined: &Joined, sites: &[Site]) -> Resul
 fn keys_of(alloc: Global, sites: &[Site]) -> Result<Vec<Key>, Memory>
     ensures { IfOk result (λ keys. keys.items ≡ keys_of sites.now) }
 {
-    let mut keys = Vec::new(alloc);
+    let mut keys = Vec::with_capacity(alloc, sites.len())?;
     for site in sites {
         keys.push((site.owner, site.port, site.item))?;
     }

@@ -39,7 +39,7 @@ fn entries_of<K: Eq + Hash + Copy>(alloc: Global, keys: &[K]) -> Result<Vec<(K, 
     ensures keys { IfOk result (λ entries. keys_of entries.items ≡ keys.now) }
     ensures numbers { IfOk result (λ entries. (q : K) → lookup (K.eq q) entries.items ≡ position_from (K.eq q) 0 keys.now) }
 {
-    let mut list = Vec::new(alloc);
+    let mut list = Vec::with_capacity(alloc, keys.len())?;
     for (number, key) in keys.iter().enumerate() {
         push_entry(&mut list, *key, number)?;
     }

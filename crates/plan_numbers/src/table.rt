@@ -19,15 +19,6 @@ pub struct Table<K: Eq + Hash + Copy, V: Copy> {
     ghost known: { HasFirsts K.eq entries.items firsts },
 }
 
-fn first_value<V: Copy>(found: Option<V>, value: V) -> V
-    ensures { Some result ≡ option_or found (Some value) }
-{
-    match found {
-        Some(first) => first,
-        None => value,
-    }
-}
-
 fn note<K: Eq + Hash + Copy, V: Copy>(
     map: &mut IndexMap<K, V>,
     key: K,
@@ -35,8 +26,7 @@ fn note<K: Eq + Hash + Copy, V: Copy>(
 ) -> Result<(), Memory>
     ensures { OnOk result (Updates K.eq map.old map.new key (option_or (get K.eq map.old key) (Some value))) }
 {
-    let first = first_value(map.get(&key).copied(), value);
-    map.insert(key, first)?;
+    map.entry(key)?.or_insert(value);
     Ok(())
 }
 
@@ -46,7 +36,7 @@ fn firsts_of<K: Eq + Hash + Copy, V: Copy>(
 ) -> Result<IndexMap<K, V>, Memory>
     ensures { IfOk result (λ firsts. HasFirsts K.eq entries.now firsts) }
 {
-    let mut firsts = IndexMap::new(alloc);
+    let mut firsts = IndexMap::with_capacity(alloc, entries.len())?;
     for entry in entries {
         note(&mut firsts, entry.0, entry.1)?;
     }
