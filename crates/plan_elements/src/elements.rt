@@ -52,7 +52,7 @@ fn element_of(
     ensures { IfOk result (λ element. elem_seen element ≡ element_of source.now.d.now source.now.f.now group site) }
 {
     let name = site_name(alloc, source, site)?;
-    let init = init_of(alloc, source, site)?;
+    let init = init_of(source, site);
     let found = type_of(source, site);
     Ok(ElemPlan {
         instance: site.owner,

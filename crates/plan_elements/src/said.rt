@@ -1,6 +1,6 @@
 //! What is said of elements and variables: their initial words and queues.
 
-ghost use Rattle.std.specs.Prelude.{◌≡◌, false, IfOk, option_and_then, option_copied, pos};
+ghost use Rattle.std.specs.Prelude.{◌≡◌, false, option_and_then, option_copied, pos, replicate};
 ghost use Rattle.std.specs.Option.{option_map_or};
 ghost use Rattle.rte_value.specs.Arithmetic.{clamped};
 ghost use Rattle.rte_value.specs.Values.{words_of as value_words};
@@ -12,9 +12,8 @@ use bus_semantics::ElemKind;
 use interface_types::DataType;
 use plan_definitions::{Site, SiteKind};
 use plan_numbers::Source;
-use rte_text::{Memory, Seq};
-use rte_value::{Limits, Value, Word};
-use std::alloc::Global;
+use rte_text::Seq;
+use rte_value::{Limits, MOST_WORDS, Value, Word};
 
 /// The limits of each word of a type; of no type 0 alone.
 pub fn limits_of(found: Option<DataType>) -> Limits
@@ -40,12 +39,6 @@ fn zero_within(limits: Limits) -> Word
     ensures { result ≡ clamped limits (pos 0) }
 {
     limits.low.max(Word::min(0, limits.high))
-}
-
-fn zeros(alloc: Global, found: Option<DataType>) -> Result<Vec<Word>, Memory>
-    ensures { IfOk result (λ words. words.items ≡ zeros found) }
-{
-    vec![in alloc; zero_within(limits_of(found)); words_of(found) as usize]
 }
 
 fn keeps_last(kind: SiteKind, kept: ElemKind) -> bool
@@ -98,16 +91,35 @@ fn held(words: &[Word]) -> Value
     }
 }
 
+fn repeated(word: Word, count: usize) -> Value
+    ensures { value_words result ≡ held (replicate count word) }
+{
+    if count > MOST_WORDS {
+        return Value::empty();
+    }
+    let words = [word; MOST_WORDS];
+    held(&words[..count])
+}
+
+/// 0 in each word of a type, or what lies nearest to it within the limits. Most types have one word.
+fn zero_value(found: Option<DataType>) -> Value
+    ensures { value_words result ≡ held (zeros found) }
+{
+    let zero = zero_within(limits_of(found));
+    let count = words_of(found);
+    if count == 1 {
+        return Value::of_word(zero);
+    }
+    repeated(zero, count as usize)
+}
+
 /// The initial value: of a variable and of a required unqueued element the one that is given, else 0 in each word.
-pub fn init_of(alloc: Global, source: &Source<'_>, site: Site) -> Result<Value, Memory>
-    ensures { IfOk result (λ value. value_words value ≡ init_of source.now.d.now source.now.f.now site) }
+pub fn init_of(source: &Source<'_>, site: Site) -> Value
+    ensures { value_words result ≡ init_of source.now.d.now source.now.f.now site }
 {
     match given_of(source, site) {
-        Some(words) => Ok(held(words.items())),
-        None => {
-            let words = zeros(alloc, type_of(source, site))?;
-            Ok(held(words.as_slice()))
-        }
+        Some(words) => held(words.items()),
+        None => zero_value(type_of(source, site)),
     }
 }
 
