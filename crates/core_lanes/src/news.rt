@@ -1,9 +1,8 @@
 //! What cores of a round tell one another.
 
 use std::alloc::{AllocError, Global};
-use std::hint;
 use std::sync::atomic::{AtomicU64, Ordering};
-use std::thread;
+use std::{hint, thread};
 
 /// A core has no news.
 const NONE: u64 = 0;
