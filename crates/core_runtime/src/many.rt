@@ -31,17 +31,17 @@ fn refilled(entries: Vec<Stamped>, made: &[Stamped]) -> Vec<Stamped>
     entries
 }
 
-/// Empties a list, and takes room in it for so many entries.
-fn make_room(list: &mut Vec<Stamped>, room: usize) -> Result<(), Memory> {
+/// Empties a list, and takes room in it for so many entries, if there is memory.
+fn make_room(list: &mut Vec<Stamped>, room: usize) {
     list.clear();
-    list.reserve(room)
+    list.reserve(room).ok();
 }
 
 /// The entries of a round, in a list with as much room as the list of earlier ones has, and a list whose room is spare. If both lists
 /// have the same room, they change places and nothing is copied.
 fn exchanged(earlier: Vec<Stamped>, made: Vec<Stamped>) -> (Vec<Stamped>, Vec<Stamped>)
     requires { length made.items ≤ vec_capacity earlier }
-    ensures items { result.0.items ≡ made.entry.items }
+    ensures items { result.0.items ≡ made.items }
     ensures capacity { vec_capacity result.0 ≡ vec_capacity earlier }
 {
     if made.capacity() == earlier.capacity() {
@@ -71,17 +71,15 @@ impl Node {
         ensures stamps { OnOk result (stamps_count self.new.entries ≡ true) }
         ensures lawful { OnOk result ((h : History) → IsLawfulNode self.old h → IsLawfulNode self.new (after self.new.entries h)) }
     {
-        // With the same room the lists of two rounds can change places.
-        let room = self.live.entries.capacity();
-        make_room(&mut self.live.spare.entries, room)?;
         let live = mem::replace(&mut self.live, Live::none(alloc));
         let Live {
             cores,
             objects,
             mut watch,
             entries,
-            spare,
+            mut spare,
         } = live;
+        make_room(&mut spare.entries, entries.capacity());
         let changing = Changing {
             cores,
             objects,
