@@ -1,9 +1,10 @@
 -- The items of an array, read one after another.
-use Rattle.std.proofs.Common.{rules, ◌≡◌, ℕ, ◌+◌, ◌<◌, List, [], ◌∷◌, ◌++◌, map, take, length, get_or, sym, ap, ◌∙◌}
+use Rattle.std.proofs.Common.{rules, arith, subst, ◌≡◌, ℕ, ◌+◌, ◌<◌, List, [], ◌∷◌, ◌++◌, map, take, length, get_or, sym, ap, ◌∙◌}
 use Rattle.std.proofs.lemmas.List.{map-append, take_more}
 use Rattle.serde_json.specs.Data.{Data, null}
 use Rattle.serde_json.specs.View.{view}
 use Rattle.serde_json.specs.declared.value.Value.{Value, Null, the_lemmas}
+use Rattle.declared_names.specs.Sizes.{IsSmall}
 
 -- one more item is read
 pub item_read : {X Y : Type 0} (tree : X → Y) (reading : Data → Y) (vs : List Value) (i : ℕ) (v : Value) (list after : List X) (x : X) → i < length vs → v ≡ get_or vs i v
@@ -15,3 +16,6 @@ item_read tree reading vs i v list after x h is before read pushed =
 -- nothing, as data
 pub view_null : view Null ≡ null
 view_null = search (rules, the_lemmas)
+
+pub null_small : IsSmall (view Null)
+null_small = subst IsSmall (sym view_null) (record { few = omega arith })

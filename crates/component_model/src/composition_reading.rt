@@ -1,12 +1,13 @@
 //! Compositions, read from JSON.
 
-ghost use Rattle.std.specs.Prelude.{◌≡◌, IfOk, option_map};
+ghost use Rattle.std.specs.Prelude.{◌≡◌, IfOk, map, option_map};
 ghost use Rattle.serde_json.specs.View.{view};
 ghost use Rattle.component_model.specs.Compositions.{composition_reading, connector_reading, connectors_between, ends_in, inner_port_reading, port_in_type, prototype_reading, prototype_type_reading, type_named};
+ghost use Rattle.declared_names.specs.Sizes.{AreSmall, IsSmall};
 
 use crate::from_value::{FromValue, read_list};
 use declared_names::{
-    Positions, PrototypeNames, Scope, copy_at, find_at, items_at, short_names, text_at,
+    Positions, PrototypeNames, Scope, copy_at, declared, find_at, items_at, text_at,
     text_of_part_at,
 };
 use description_types::{Composition, Connector, InnerPort, Prototype, PrototypeType};
@@ -62,11 +63,12 @@ pub struct Ends<'a> {
 }
 
 fn ends_in<'a>(alloc: Global, names: &PrototypeNames, value: &'a Value) -> Result<Ends<'a>, Memory>
+    requires { IsSmall (view value.now) }
     ensures { IfOk result (λ ends. ends ≡ ends_in names.now (view value.now)) }
 {
-    let prototypes = Positions::of(alloc, short_names(alloc, items_at(value, "prototypes"))?)?;
+    let prototypes = declared(alloc, value, "prototypes")?;
     let types = read_list(alloc, names, items_at(value, "prototypes"))?;
-    let outer = Positions::of(alloc, short_names(alloc, items_at(value, "ports"))?)?;
+    let outer = declared(alloc, value, "ports")?;
     Ok(Ends {
         prototypes,
         types,
@@ -142,6 +144,7 @@ fn connectors(
     names: &PrototypeNames,
     value: &Value,
 ) -> Result<Seq<Connector>, Memory>
+    requires { IsSmall (view value.now) }
     ensures { IfOk result (λ cs. cs ≡ connectors_between names.now (ends_in names.now (view value.now)) (view value.now)) }
 {
     let ends = ends_in(alloc, names, value)?;
@@ -149,19 +152,34 @@ fn connectors(
     Ok(connectors)
 }
 
-impl<'a> FromValue<Scope<'a>> for Composition {
-    ghost reading = { λ s d. composition_reading s.interfaces s.prototypes d };
+fn read_composition(alloc: Global, scope: &Scope, value: &Value) -> Result<Composition, Memory>
+    requires { IsSmall (view value.now) }
+    ensures { IfOk result (λ c. c ≡ composition_reading scope.now.interfaces scope.now.prototypes (view value.now)) }
+{
+    let short_name = copy_at(alloc, value, "shortName")?;
+    let ports = read_list(alloc, &scope.interfaces, items_at(value, "ports"))?;
+    let prototypes = read_list(alloc, &scope.prototypes, items_at(value, "prototypes"))?;
+    let connectors = connectors(alloc, &scope.prototypes, value)?;
+    Ok(Composition {
+        short_name,
+        ports,
+        prototypes,
+        connectors,
+    })
+}
 
-    fn from_value(alloc: Global, scope: &Scope<'a>, value: &Value) -> Result<Composition, Memory> {
-        let short_name = copy_at(alloc, value, "shortName")?;
-        let ports = read_list(alloc, &scope.interfaces, items_at(value, "ports"))?;
-        let prototypes = read_list(alloc, &scope.prototypes, items_at(value, "prototypes"))?;
-        let connectors = connectors(alloc, &scope.prototypes, value)?;
-        Ok(Composition {
-            short_name,
-            ports,
-            prototypes,
-            connectors,
-        })
+/// The compositions that the values are.
+pub fn read_compositions(
+    alloc: Global,
+    scope: &Scope,
+    values: &[Value],
+) -> Result<Seq<Composition>, Memory>
+    requires { AreSmall (map view values.now) }
+    ensures { IfOk result (λ cs. cs ≡ map (composition_reading scope.now.interfaces scope.now.prototypes) (map view values.now)) }
+{
+    let mut list = Vec::new(alloc);
+    for value in values {
+        list.push(read_composition(alloc, scope, value)?)?;
     }
+    Ok(Seq::of(list))
 }

@@ -3,9 +3,10 @@
 ghost use Rattle.std.specs.Prelude.{◌≡◌, IfOk};
 ghost use Rattle.serde_json.specs.View.{view};
 ghost use Rattle.component_model.specs.Compositions.{mapped_event_reading, mapping_reading, task_reading};
+ghost use Rattle.declared_names.specs.Sizes.{IsSmall};
 
 use crate::from_value::{FromValue, read_list};
-use declared_names::{Positions, copy_at, items_at, number_at, short_names, text_at};
+use declared_names::{Positions, copy_at, declared, items_at, number_at, text_at};
 use description_types::{MappedEvent, Task, TaskMapping};
 use rte_text::Memory;
 use serde_json::Value;
@@ -44,10 +45,11 @@ impl<'a> FromValue<Positions<'a>> for MappedEvent {
 
 /// The mapping.
 pub fn read_mapping(alloc: Global, value: &Value) -> Result<TaskMapping, Memory>
+    requires { IsSmall (view value.now) }
     ensures { IfOk result (λ m. m ≡ mapping_reading (view value.now)) }
 {
     let tasks = read_list(alloc, &(), items_at(value, "tasks"))?;
-    let names = Positions::of(alloc, short_names(alloc, items_at(value, "tasks"))?)?;
+    let names = declared(alloc, value, "tasks")?;
     let events = read_list(alloc, &names, items_at(value, "events"))?;
     Ok(TaskMapping {
         cores: number_at(value, "cores", 0),

@@ -8,9 +8,10 @@ ghost use Rattle.component_model.specs.Descriptions.{description_of, reading, re
 ghost use Rattle.component_model.specs.Initials.{broken_initials, initial_place};
 ghost use Rattle.component_model.specs.Programs.{component_reading, component_tree};
 ghost use Rattle.component_model.specs.Refusals.{IsRead, IsRefusalOf, typed_refusal};
+ghost use Rattle.declared_names.specs.Sizes.{AreFew, AreSmall, IsSmall};
 
 use crate::component_reading::read_component;
-use crate::from_value::read_list;
+use crate::composition_reading::read_compositions;
 use crate::initials::{first_broken, initial_place};
 use crate::mapping_reading::read_mapping;
 use crate::type_reading::read_types;
@@ -23,6 +24,7 @@ use serde_json::Value;
 use std::alloc::Global;
 
 fn read_components(alloc: Global, scope: &Scope, values: &[Value]) -> Result<Seq<Component>, Memory>
+    requires { AreSmall (map view values.now) }
     ensures { IfOk result (λ cs. map component_tree cs ≡ map (component_reading scope.now) (map view values.now)) }
 {
     let mut list = Vec::new(alloc);
@@ -33,6 +35,7 @@ fn read_components(alloc: Global, scope: &Scope, values: &[Value]) -> Result<Seq
 }
 
 fn read_in(alloc: Global, scope: &Scope, value: &Value) -> Result<Description, Memory>
+    requires { IsSmall (view value.now) }
     ensures { IfOk result (λ d. description_of d ≡ reading_in scope.now (view value.now)) }
 {
     let nothing = Value::Null;
@@ -42,7 +45,7 @@ fn read_in(alloc: Global, scope: &Scope, value: &Value) -> Result<Description, M
     let root = scope.prototypes.compositions.find(text_at(value, "root"));
     let types = read_types(alloc, &scope.types, value)?;
     let components = read_components(alloc, scope, listed)?;
-    let compositions = read_list(alloc, scope, composed)?;
+    let compositions = read_compositions(alloc, scope, composed)?;
     let mapping = read_mapping(alloc, mapped)?;
     Ok(Description {
         types,
@@ -54,6 +57,7 @@ fn read_in(alloc: Global, scope: &Scope, value: &Value) -> Result<Description, M
 }
 
 fn read(alloc: Global, value: &Value) -> Result<Description, Memory>
+    requires { IsSmall (view value.now) }
     ensures { IfOk result (λ d. description_of d ≡ reading (view value.now)) }
 {
     let scope = scope_of(alloc, value)?;
@@ -83,8 +87,10 @@ fn check(alloc: Global, description: &Description) -> Result<(), Refused>
 /// The description that the bytes are, where they break none of rules 1 to 8: those of `judge` of `description_places`, those
 /// of `check_types` of `interface_types`, and that an initial value of a data element or variable has as many words as its
 /// type, each within its limits (8, at the initial value). `Rule` names the least rule that they break, with its first
-/// place; `Memory` is answered where memory ran out, and never tells anything of the bytes.
+/// place; `Memory` is answered where memory ran out, and never tells anything of the bytes. They are read as fewer values than
+/// 32 bits number, as bytes fewer than that are, so each name stands at a position of 32 bits.
 pub fn read_description(alloc: Global, bytes: &[u8]) -> Result<Description, Refused>
+    requires { AreFew bytes.now }
     ensures read { IfOk result (λ d. IsRead bytes.now (description_of d)) }
     ensures refused { IfErr result (IsRefusalOf bytes.now) }
 {

@@ -3,6 +3,7 @@
 ghost use Rattle.std.specs.Prelude.{◌≡◌, [], IfOk, filter, map, option_copied, option_map, slice_get, slice_index_or, unwrap_or};
 ghost use Rattle.serde_json.specs.View.{view};
 ghost use Rattle.declared_names.specs.Names.{position_in, text_of};
+ghost use Rattle.declared_names.specs.Sizes.{IsSmall};
 ghost use Rattle.component_model.specs.Programs.{arguments_of, first_names, invoked_events, is_invoked, runnable_names};
 ghost use Rattle.declared_names.specs.Values.{seen};
 
@@ -48,6 +49,7 @@ fn runnable_names<'a>(alloc: Global, events: &[&'a Value]) -> Result<Vec<&'a str
 
 /// The servers of a behavior.
 pub fn servers_in<'a>(alloc: Global, behavior: &'a Value) -> Result<Servers<'a>, Memory>
+    requires { IsSmall (view behavior.now) }
     ensures events { IfOk result (λ s. map seen s.events.items ≡ invoked_events (view behavior.now)) }
     ensures runnables { IfOk result (λ s. s.runnables ≡ runnable_names (invoked_events (view behavior.now))) }
 {

@@ -1,20 +1,21 @@
 //! The types of a description, read from JSON.
 
-ghost use Rattle.std.specs.Prelude.{◌≡◌, IfOk};
+ghost use Rattle.std.specs.Prelude.{◌≡◌, IfOk, map};
 ghost use Rattle.serde_json.specs.View.{view};
 ghost use Rattle.component_model.specs.Types.{argument_reading, base_type_reading, data_element_reading, data_type_reading, direction_reading, error_reading, interface_kind_reading, interface_reading, mode_element_reading, mode_group_reading, operation_reading, policy_reading, types_reading};
+ghost use Rattle.declared_names.specs.Sizes.{AreSmall, IsSmall};
 ghost use Rattle.declared_names.specs.Values.{text_in};
 
 use crate::from_value::{FromValue, read_list};
 use declared_names::{
-    Positions, TypeNames, copy_at, items_at, small_number_at, text_at, text_at_in, text_in, texts,
+    TypeNames, copy_at, declared_texts, items_at, small_number_at, text_at, text_at_in, text_in,
     word_at,
 };
 use interface_types::{
     ApplicationError, Argument, BaseType, DataElement, DataType, Direction, Interface,
     InterfaceKind, ModeElement, ModeGroup, Operation, SwImplPolicy, TypeTable,
 };
-use rte_text::{Memory, Text};
+use rte_text::{Memory, Seq, Text};
 use rte_value::Limits;
 use serde_json::Value;
 use std::alloc::Global;
@@ -61,26 +62,36 @@ impl FromValue<()> for DataType {
 }
 
 fn initial_mode(alloc: Global, value: &Value) -> Result<u32, Memory>
+    requires { IsSmall (view value.now) }
     ensures { IfOk result (λ n. n ≡ (mode_group_reading (view value.now)).initial_mode) }
 {
-    let modes = texts(alloc, items_at(value, "modes"))?;
-    let positions = Positions::of(alloc, modes)?;
-    Ok(positions.find(text_at(value, "initialMode")))
+    let modes = declared_texts(alloc, value, "modes")?;
+    Ok(modes.find(text_at(value, "initialMode")))
 }
 
-impl FromValue<()> for ModeGroup {
-    ghost reading = { λ _ d. mode_group_reading d };
+fn read_group(alloc: Global, value: &Value) -> Result<ModeGroup, Memory>
+    requires { IsSmall (view value.now) }
+    ensures { IfOk result (λ g. g ≡ mode_group_reading (view value.now)) }
+{
+    let short_name = copy_at(alloc, value, "shortName")?;
+    let modes = read_list(alloc, &(), items_at(value, "modes"))?;
+    let initial_mode = initial_mode(alloc, value)?;
+    Ok(ModeGroup {
+        short_name,
+        modes,
+        initial_mode,
+    })
+}
 
-    fn from_value(alloc: Global, _scope: &(), value: &Value) -> Result<ModeGroup, Memory> {
-        let short_name = copy_at(alloc, value, "shortName")?;
-        let modes = read_list(alloc, &(), items_at(value, "modes"))?;
-        let initial_mode = initial_mode(alloc, value)?;
-        Ok(ModeGroup {
-            short_name,
-            modes,
-            initial_mode,
-        })
+fn read_groups(alloc: Global, values: &[Value]) -> Result<Seq<ModeGroup>, Memory>
+    requires { AreSmall (map view values.now) }
+    ensures { IfOk result (λ gs. gs ≡ map mode_group_reading (map view values.now)) }
+{
+    let mut list = Vec::new(alloc);
+    for value in values {
+        list.push(read_group(alloc, value)?)?;
     }
+    Ok(Seq::of(list))
 }
 
 fn policy_of(word: &str) -> SwImplPolicy
@@ -215,10 +226,12 @@ impl<'a> FromValue<TypeNames<'a>> for Interface {
 
 /// The types of the description.
 pub fn read_types(alloc: Global, names: &TypeNames, value: &Value) -> Result<TypeTable, Memory>
+    requires { IsSmall (view value.now) }
     ensures { IfOk result (λ t. t ≡ types_reading names.now (view value.now)) }
 {
+    let groups = items_at(value, "modeGroups");
     let data_types = read_list(alloc, &(), items_at(value, "dataTypes"))?;
-    let mode_groups = read_list(alloc, &(), items_at(value, "modeGroups"))?;
+    let mode_groups = read_groups(alloc, groups)?;
     let interfaces = read_list(alloc, names, items_at(value, "interfaces"))?;
     Ok(TypeTable {
         data_types,

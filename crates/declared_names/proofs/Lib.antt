@@ -1,2 +1,4 @@
 mod Lists
 mod Placed
+pub mod Reading
+pub mod Sizes

@@ -3,11 +3,11 @@
 ghost use Rattle.std.specs.Prelude.{◌≡◌, IfOk, map};
 ghost use Rattle.serde_json.specs.View.{view};
 ghost use Rattle.declared_names.specs.Components.{component_names, item_in, mode_in};
-ghost use Rattle.declared_names.specs.Names.{position_in, short_names};
+ghost use Rattle.declared_names.specs.Names.{position_in};
 ghost use Rattle.declared_names.specs.Components.{interface_of_port};
-ghost use Rattle.declared_names.specs.Values.{items_at};
+ghost use Rattle.declared_names.specs.Sizes.{IsSmall};
 
-use crate::names::{Positions, find_at, short_names, texts};
+use crate::names::{Positions, declared, declared_texts, find_at};
 use crate::scopes::InterfaceNames;
 use crate::values::{items_at, text_at};
 use rte_text::{Memory, Seq};
@@ -38,13 +38,6 @@ fn port_interfaces(
     Ok(Seq::of(list))
 }
 
-fn declared<'a>(alloc: Global, value: &'a Value, key: &str) -> Result<Positions<'a>, Memory>
-    ensures { IfOk result (λ p. p ≡ short_names (items_at key.now (view value.now))) }
-{
-    let names = short_names(alloc, items_at(value, key))?;
-    Positions::of(alloc, names)
-}
-
 /// What a component and its behavior declare.
 pub fn component_names<'a>(
     alloc: Global,
@@ -52,11 +45,13 @@ pub fn component_names<'a>(
     value: &'a Value,
     behavior: &'a Value,
 ) -> Result<ComponentNames<'a>, Memory>
+    requires value { IsSmall (view value.now) }
+    requires behavior { IsSmall (view behavior.now) }
     ensures { IfOk result (λ names. names ≡ component_names interfaces.now (view value.now) (view behavior.now)) }
 {
     let ports = declared(alloc, value, "ports")?;
     let port_interfaces = port_interfaces(alloc, interfaces, items_at(value, "ports"))?;
-    let areas = Positions::of(alloc, texts(alloc, items_at(behavior, "exclusiveAreas"))?)?;
+    let areas = declared_texts(alloc, behavior, "exclusiveAreas")?;
     let variables = declared(alloc, behavior, "variables")?;
     let runnables = declared(alloc, behavior, "runnables")?;
     Ok(ComponentNames {

@@ -12,7 +12,7 @@ mod scopes;
 mod values;
 
 pub use in_component::{ComponentNames, InComponent, component_names};
-pub use names::{Positions, find_at, short_names, texts};
+pub use names::{Positions, declared, declared_texts, find_at, short_names, texts};
 pub use scopes::{
     InterfaceNames, PrototypeNames, Scope, TypeNames, interface_names, prototype_names, scope_of,
     type_names,

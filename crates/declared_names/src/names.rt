@@ -1,14 +1,16 @@
 //! Names, and where they stand.
 
-ghost use Rattle.std.specs.Prelude.{◌≡◌, IfOk, length, map};
+ghost use Rattle.std.specs.Prelude.{◌≡◌, ◌<◌, ◌^◌, IfOk, length, map};
 ghost use Rattle.serde_json.specs.View.{view};
 ghost use Rattle.declared_names.specs.Names.{position_at, position_in, short_names, text_of, texts};
+ghost use Rattle.declared_names.specs.Sizes.{IsSmall};
+ghost use Rattle.declared_names.specs.Values.{items_at};
 
-use crate::values::{text_at, text_in};
+use crate::values::{items_at, text_at, text_in};
 use indexmap::IndexMap;
 use rte_text::Memory;
 use serde_json::Value;
-use std::alloc::{AllocError, Global};
+use std::alloc::Global;
 use std::marker::Model;
 
 /// The names of a list, with where each stands.
@@ -33,14 +35,12 @@ impl<'a> Model for Positions<'a> {
 }
 
 impl<'a> Positions<'a> {
-    /// The positions of these names, the first one's where a name is doubled.
+    /// The positions of these names, of which there are fewer than 2^32; the first one's where a name is doubled.
     pub fn of(alloc: Global, names: Vec<&'a str>) -> Result<Positions<'a>, Memory>
+        requires { length names.items < 2 ^ 32 }
         ensures { IfOk result (λ p. p ≡ map text_of names.entry.items) }
     {
-        let count = match u32::try_from(names.len()) {
-            Ok(count) => count,
-            Err(_) => return Err(AllocError),
-        };
+        let count = names.len() as u32;
         let mut places = IndexMap::new(alloc);
         let mut left = names.len();
         while left > 0 {
@@ -109,4 +109,26 @@ pub fn texts<'a>(alloc: Global, values: &'a [Value]) -> Result<Vec<&'a str>, Mem
         names.push(text_in(value))?;
     }
     Ok(names)
+}
+
+/// What is declared in the array at the key, by its short names.
+pub fn declared<'a>(alloc: Global, value: &'a Value, key: &str) -> Result<Positions<'a>, Memory>
+    requires { IsSmall (view value.now) }
+    ensures { IfOk result (λ p. p ≡ short_names (items_at key.now (view value.now))) }
+{
+    let names = short_names(alloc, items_at(value, key))?;
+    Positions::of(alloc, names)
+}
+
+/// What is declared by the texts in the array at the key.
+pub fn declared_texts<'a>(
+    alloc: Global,
+    value: &'a Value,
+    key: &str,
+) -> Result<Positions<'a>, Memory>
+    requires { IsSmall (view value.now) }
+    ensures { IfOk result (λ p. p ≡ texts (items_at key.now (view value.now))) }
+{
+    let names = texts(alloc, items_at(value, key))?;
+    Positions::of(alloc, names)
 }

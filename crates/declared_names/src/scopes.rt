@@ -4,9 +4,10 @@ ghost use Rattle.std.specs.Prelude.{◌≡◌, IfOk, map, option_map};
 ghost use Rattle.serde_json.specs.View.{view};
 ghost use Rattle.declared_names.specs.Names.{short_names, text_of};
 ghost use Rattle.declared_names.specs.Scopes.{argument_names, interface_names, item_names, mode_names, modes_in, operation_arguments, port_names, prototype_names, scope_of, type_names};
+ghost use Rattle.declared_names.specs.Sizes.{AreSmall, IsSmall};
 ghost use Rattle.declared_names.specs.Values.{seen};
 
-use crate::names::{Positions, short_names, texts};
+use crate::names::{Positions, declared, short_names, texts};
 use crate::values::{item, items_at, text_at, text_at_in};
 use rte_text::{Memory, Seq};
 use serde_json::Value;
@@ -61,6 +62,7 @@ fn item_names<'a>(alloc: Global, value: &'a Value) -> Result<Vec<&'a str>, Memor
 }
 
 fn items<'a>(alloc: Global, values: &'a [Value]) -> Result<Seq<Positions<'a>>, Memory>
+    requires { AreSmall (map view values.now) }
     ensures { IfOk result (λ lists. lists ≡ map item_names (map view values.now)) }
 {
     let mut lists = Vec::new(alloc);
@@ -72,26 +74,29 @@ fn items<'a>(alloc: Global, values: &'a [Value]) -> Result<Seq<Positions<'a>>, M
 }
 
 fn ports<'a>(alloc: Global, values: &'a [Value]) -> Result<Seq<Positions<'a>>, Memory>
+    requires { AreSmall (map view values.now) }
     ensures { IfOk result (λ lists. lists ≡ map port_names (map view values.now)) }
 {
     let mut lists = Vec::new(alloc);
     for value in values {
-        lists.push(declared(alloc, items_at(value, "ports"))?)?;
+        lists.push(declared(alloc, value, "ports")?)?;
     }
     Ok(Seq::of(lists))
 }
 
 fn arguments_in<'a>(alloc: Global, values: &'a [Value]) -> Result<Seq<Positions<'a>>, Memory>
+    requires { AreSmall (map view values.now) }
     ensures { IfOk result (λ lists. lists ≡ map operation_arguments (map view values.now)) }
 {
     let mut lists = Vec::new(alloc);
     for value in values {
-        lists.push(declared(alloc, items_at(value, "arguments"))?)?;
+        lists.push(declared(alloc, value, "arguments")?)?;
     }
     Ok(Seq::of(lists))
 }
 
 fn arguments<'a>(alloc: Global, values: &'a [Value]) -> Result<Seq<Seq<Positions<'a>>>, Memory>
+    requires { AreSmall (map view values.now) }
     ensures { IfOk result (λ lists. lists ≡ map argument_names (map view values.now)) }
 {
     let mut lists = Vec::new(alloc);
@@ -116,6 +121,7 @@ fn mode_names<'a>(
     groups: &'a [Value],
     value: &Value,
 ) -> Result<Positions<'a>, Memory>
+    requires { AreSmall (map view groups.now) }
     ensures { IfOk result (λ p. p ≡ mode_names names.now (map view groups.now) (view value.now)) }
 {
     let group = names.find(text_at_in(value, "modeGroup", "type"));
@@ -129,6 +135,7 @@ fn modes<'a>(
     groups: &'a [Value],
     values: &[Value],
 ) -> Result<Seq<Positions<'a>>, Memory>
+    requires { AreSmall (map view groups.now) }
     ensures { IfOk result (λ lists. lists ≡ map (mode_names names.now (map view groups.now)) (map view values.now)) }
 {
     let mut lists = Vec::new(alloc);
@@ -138,19 +145,13 @@ fn modes<'a>(
     Ok(Seq::of(lists))
 }
 
-fn declared<'a>(alloc: Global, values: &'a [Value]) -> Result<Positions<'a>, Memory>
-    ensures { IfOk result (λ p. p ≡ short_names (map view values.now)) }
-{
-    let names = short_names(alloc, values)?;
-    Positions::of(alloc, names)
-}
-
 /// The data types and the mode groups of the description.
 pub fn type_names<'a>(alloc: Global, value: &'a Value) -> Result<TypeNames<'a>, Memory>
+    requires { IsSmall (view value.now) }
     ensures { IfOk result (λ names. names ≡ type_names (view value.now)) }
 {
-    let data_types = declared(alloc, items_at(value, "dataTypes"))?;
-    let mode_groups = declared(alloc, items_at(value, "modeGroups"))?;
+    let data_types = declared(alloc, value, "dataTypes")?;
+    let mode_groups = declared(alloc, value, "modeGroups")?;
     Ok(TypeNames {
         data_types,
         mode_groups,
@@ -163,10 +164,11 @@ pub fn interface_names<'a>(
     groups: &Positions,
     value: &'a Value,
 ) -> Result<InterfaceNames<'a>, Memory>
+    requires { IsSmall (view value.now) }
     ensures { IfOk result (λ names. names ≡ interface_names groups.now (view value.now)) }
 {
     let values = items_at(value, "interfaces");
-    let interfaces = declared(alloc, values)?;
+    let interfaces = declared(alloc, value, "interfaces")?;
     let items = items(alloc, values)?;
     let modes = modes(alloc, groups, items_at(value, "modeGroups"), values)?;
     let arguments = arguments(alloc, values)?;
@@ -180,10 +182,11 @@ pub fn interface_names<'a>(
 
 /// The components and compositions of the description.
 pub fn prototype_names<'a>(alloc: Global, value: &'a Value) -> Result<PrototypeNames<'a>, Memory>
+    requires { IsSmall (view value.now) }
     ensures { IfOk result (λ names. names ≡ prototype_names (view value.now)) }
 {
-    let components = declared(alloc, items_at(value, "components"))?;
-    let compositions = declared(alloc, items_at(value, "compositions"))?;
+    let components = declared(alloc, value, "components")?;
+    let compositions = declared(alloc, value, "compositions")?;
     let component_ports = ports(alloc, items_at(value, "components"))?;
     let composition_ports = ports(alloc, items_at(value, "compositions"))?;
     Ok(PrototypeNames {
@@ -196,6 +199,7 @@ pub fn prototype_names<'a>(alloc: Global, value: &'a Value) -> Result<PrototypeN
 
 /// The names of the description.
 pub fn scope_of<'a>(alloc: Global, value: &'a Value) -> Result<Scope<'a>, Memory>
+    requires { IsSmall (view value.now) }
     ensures { IfOk result (λ scope. scope ≡ scope_of (view value.now)) }
 {
     let types = type_names(alloc, value)?;

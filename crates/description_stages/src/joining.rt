@@ -3,6 +3,7 @@
 ghost use Rattle.std.specs.Prelude.{◌≡◌, IfErr, IfOk, None, OnOk};
 ghost use Rattle.flat_descriptions.specs.Flattening.{IsFlatOf};
 ghost use Rattle.plan_definitions.specs.JoinRefusals.{refusal};
+ghost use Rattle.declared_names.specs.Sizes.{AreFew};
 ghost use Rattle.description_stages.specs.Stages.{IsJoinRefusalOf, IsJoinedOf, IsRefusalOf, IsToldAs};
 
 use compatibility::check_joins;
@@ -47,8 +48,9 @@ fn join(alloc: Global, description: &Description) -> Result<Flat, Refused>
 /// The description that the bytes are, made flat, where it breaks none of rules 1 to 15: those of `read_description` of
 /// `component_model`, of `flatten` of `composition_flatten` and of `check_joins` of `compatibility`. `Rule` names the least
 /// rule that is broken, with its first place; `Memory` is answered where memory ran out, and never tells anything of the
-/// bytes.
+/// bytes. They are read as fewer values than 32 bits number.
 pub fn join_description(alloc: Global, bytes: &[u8]) -> Result<JoinedDescription, Refused>
+    requires { AreFew bytes.now }
     ensures joined { IfOk result (IsJoinedOf bytes.now) }
     ensures refused { IfErr result (IsRefusalOf bytes.now) }
 {

@@ -3,6 +3,7 @@
 ghost use Rattle.std.specs.Prelude.{◌≡◌, IfErr, IfOk, true};
 ghost use Rattle.plan_definitions.specs.PlanRefusals.{IsRefusal};
 ghost use Rattle.plan_definitions.specs.WellFormed.{types_fit};
+ghost use Rattle.declared_names.specs.Sizes.{AreFew};
 ghost use Rattle.description_stages.specs.Plans.{IsPlanRefusalOf, IsPlannedFrom, IsPlannedOf, IsToldBy};
 
 use crate::joining::{JoinedDescription, join_description};
@@ -45,8 +46,9 @@ fn planned(alloc: Global, joined: JoinedDescription) -> Result<PlannedDescriptio
 /// The description that the bytes are, made flat, with its plan and its mapping, where it breaks none of rules 1 to 30: those
 /// of `join_description`, and those of `map_events` of `event_mapping`. The plan is sound with the mapping. `Rule` names the
 /// least rule that is broken, with its first place; `Memory` is answered where memory ran out, and never tells anything of
-/// the bytes.
+/// the bytes. They are read as fewer values than 32 bits number.
 pub fn plan_description(alloc: Global, bytes: &[u8]) -> Result<PlannedDescription, Refused>
+    requires { AreFew bytes.now }
     ensures planned { IfOk result (IsPlannedOf bytes.now) }
     ensures refused { IfErr result (IsPlanRefusalOf bytes.now) }
 {

@@ -3,6 +3,7 @@
 ghost use Rattle.std.specs.Prelude.{◌≡◌, ◌≤◌, map, string_bytes, length, IfOk, IfErr, OnOk, IfSome, IfNone};
 ghost use Rattle.rte_text.specs.declared.shelf.TheConstants.{FILE_LIMIT};
 ghost use Rattle.rte_text.specs.Shelves.{HeldWhereTold};
+ghost use Rattle.declared_names.specs.Sizes.{AreFew};
 ghost use Rattle.description_stages.specs.Plans.{IsPlannedOf};
 ghost use Rattle.rte_program.specs.Inputs.{counts_of, run_words, AreInputs, AskForRun, IsFetched, IsFetchStopped, IsJudged, IsNotPlanned, IsNumbered, IsStopped, NamesInputs};
 ghost use Rattle.rte_program.specs.Stops.{IsShort};
@@ -62,6 +63,7 @@ pub fn fetch_word<S: Shelf>(
 
 /// The plan that the bytes of a description stand for: it breaks none of rules 1 to 30.
 pub fn plan_bytes(alloc: Global, bytes: &[u8]) -> Result<PlannedDescription, Stop>
+    requires { AreFew bytes.now }
     ensures planned { IfOk result (IsPlannedOf bytes.now) }
     ensures stopped { IfErr result (IsNotPlanned bytes.now) }
 {
@@ -74,6 +76,7 @@ pub fn plan_bytes(alloc: Global, bytes: &[u8]) -> Result<PlannedDescription, Sto
 
 /// Reads the description and then the script.
 pub fn judge(alloc: Global, description: &[u8], script: &[u8]) -> Result<Prepared, Stop>
+    requires { AreFew description.now }
     ensures ready { IfOk result (λ x. AreInputs description.now script.now x.found x.script.lines) }
     ensures stopped { IfErr result (IsJudged description.now script.now) }
 {

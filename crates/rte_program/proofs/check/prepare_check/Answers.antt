@@ -1,6 +1,7 @@
 use Rattle.std.proofs.Common.{◌≡◌, ◌≤◌, arith, length, map, refl, rules, slice_get, string_bytes, Some}
 use Rattle.rte_text.specs.declared.shelf.TheConstants.{FILE_LIMIT}
 use Rattle.rte_text.specs.Shelves.{ShelfCounts}
+use Rattle.declared_names.proofs.Reading.{short_few}
 use Rattle.rte_program.specs.Checking.{NamesThree}
 use Rattle.rte_program.specs.Inputs.{IsFetchStopped}
 use Rattle.rte_program.proofs.Checks as by
@@ -51,3 +52,8 @@ returns-clause-short g c =
     let s = c.as_slice-2.result.now in
     let fits : length s ≤ FILE_LIMIT = search rules in
     short_by c.as_slice.result.now s fits c.in-Err-judge.stop c.in-Err-judge.ensures.stopped
+
+pub judge-requires : goal.judge-requires
+judge-requires g c =
+    let fits : length c.as_slice.result.now ≤ FILE_LIMIT = search rules in
+    short_few c.as_slice.result.now (omega (arith, fits))

@@ -1,5 +1,7 @@
-use Rattle.std.proofs.Common.{◌≡◌, arith, inl, inr, map, refl, rules, string_bytes}
+use Rattle.std.proofs.Common.{◌≡◌, arith, inl, inr, map, refl, rules, string_bytes, length, ◌≤◌}
+use Rattle.rte_text.specs.declared.shelf.TheConstants.{FILE_LIMIT}
 use Rattle.rte_text.specs.Shelves.{ShelfCounts}
+use Rattle.declared_names.proofs.Reading.{short_few}
 use Rattle.rte_program.specs.Inputs.{NamesOne}
 use Rattle.rte_program.proofs.Judging as by
 use Rattle.rte_program.proofs.plan.read_plan.Goals as goal
@@ -22,3 +24,8 @@ returns-clause-stopped g c =
     let names : NamesOne words files d = search rules in
     let same : after ≡ before = search rules in
     by.plan_stopped words files before after d names same c.plan_bytes.result c.plan_bytes.ensures.stopped
+
+pub plan_bytes-requires : goal.plan_bytes-requires
+plan_bytes-requires g c =
+    let fits : length c.as_slice.result.now ≤ FILE_LIMIT = search rules in
+    short_few c.as_slice.result.now (omega (arith, fits))

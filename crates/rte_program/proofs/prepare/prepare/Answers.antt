@@ -1,6 +1,7 @@
-use Rattle.std.proofs.Common.{◌≡◌, map, string_bytes, rules, length, ◌≤◌}
+use Rattle.std.proofs.Common.{◌≡◌, map, string_bytes, rules, length, ◌≤◌, arith}
 use Rattle.rte_text.specs.declared.shelf.TheConstants.{FILE_LIMIT}
 use Rattle.rte_text.specs.Shelves.{ShelfCounts}
+use Rattle.declared_names.proofs.Reading.{short_few}
 use Rattle.rte_program.specs.Inputs.{Names}
 use Rattle.rte_program.proofs.Judging as by
 use Rattle.rte_program.proofs.prepare.prepare.Goals as goal
@@ -23,3 +24,8 @@ returns-clause-numbered g c = by.judge_numbered c.as_slice.result.now c.as_slice
 pub returns-clause-short : goal.returns-clause-short
 returns-clause-short g c = let s = c.as_slice-2.result.now in let fits : length s ≤ FILE_LIMIT = search rules in
     by.judge_short c.as_slice.result.now s fits c.judge.result c.judge.ensures.stopped
+
+pub judge-requires : goal.judge-requires
+judge-requires g c =
+    let fits : length c.as_slice.result.now ≤ FILE_LIMIT = search rules in
+    short_few c.as_slice.result.now (omega (arith, fits))

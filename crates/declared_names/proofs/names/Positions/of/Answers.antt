@@ -8,9 +8,9 @@ pub loop-left-preserved : goal.loop-left-preserved
 loop-left-preserved c =
     let names = c.args.names.items in
     let back : c.loop-left.left ≡ (c.loop-left.left - 1) + 1 = omega arith in
-    let before : (q : List ℕ) → unwrap_or (get_by (λ k. bytes_eq q k.now) c.loop-left.places) c.in-Ok.count ≡ ((c.loop-left.left - 1) + 1) + position_in (map text_of (drop ((c.loop-left.left - 1) + 1) names)) q =
+    let before : (q : List ℕ) → unwrap_or (get_by (λ k. bytes_eq q k.now) c.loop-left.places) c.len-count.result ≡ ((c.loop-left.left - 1) + 1) + position_in (map text_of (drop ((c.loop-left.left - 1) + 1) names)) q =
     λ q. c.loop-left.invariant.found q ∙ ap (λ n. n + position_in (map text_of (drop n names)) q) back in
     record {
       within = omega arith;
-      found = placed names (c.loop-left.left - 1) c.index.result.now c.loop-left.places c.insert.new.self c.in-Ok.count (omega arith) (ap (λ x. x.now) c.index.ensures) c.in_ok-insert.ensures.updates before;
+      found = placed names (c.loop-left.left - 1) c.index.result.now c.loop-left.places c.insert.new.self c.len-count.result (omega arith) (ap (λ x. x.now) c.index.ensures) c.in_ok-insert.ensures.updates before;
     }
