@@ -8,3 +8,4 @@ mod LegalTraces
 mod Checks
 mod Scripts
 mod Apart
+mod SoakSizes

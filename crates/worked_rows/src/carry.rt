@@ -1,6 +1,7 @@
 //! Carrying out a row.
 
-ghost use Rattle.std.specs.Prelude.{IfOk};
+ghost use Rattle.std.specs.Prelude.{◌≤◌, IfOk, length};
+ghost use Rattle.rte_text.specs.declared.shelf.TheConstants.{FILE_LIMIT};
 ghost use Rattle.bus_semantics.specs.Plan.{plan_of};
 ghost use Rattle.trace_reading.specs.Readable.{IsReadable};
 
@@ -31,7 +32,9 @@ fn file<R: Files + AllocGlobal + Clone + Drop>(
     rt: &R,
     folder: &str,
     name: &str,
-) -> Result<Vec<u8>, Fault> {
+) -> Result<Vec<u8>, Fault>
+    ensures { IfOk result (λ bytes. length bytes.items ≤ FILE_LIMIT) }
+{
     let path = format!(in rt.alloc(); "{folder}/{name}")?;
     match FileShelf::new(rt.clone()?).fetch(rt.alloc(), path.as_str()) {
         Fetched::Bytes(bytes) => Ok(bytes),

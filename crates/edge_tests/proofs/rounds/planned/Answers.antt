@@ -1,0 +1,6 @@
+use Rattle.std.proofs.Common.{arith}
+use Rattle.declared_names.proofs.Reading.{short_few}
+use Rattle.edge_tests.proofs.rounds.planned.Goals as goal
+
+pub plan_description-requires : goal.plan_description-requires
+plan_description-requires c = short_few _ (omega arith)
