@@ -5,7 +5,7 @@ ghost use Rattle.runnable_lang.specs.Trees.{program_tree};
 ghost use Rattle.serde_json.specs.View.{view};
 ghost use Rattle.declared_names.specs.Components.{component_names};
 ghost use Rattle.component_model.specs.Programs.{behavior_reading, behavior_tree, component_reading, component_tree, runnable_reading, runnable_tree, runnables_in};
-ghost use Rattle.declared_names.specs.Sizes.{IsSmall};
+ghost use Rattle.declared_names.specs.Sizes.{AreSmall, HaveFewArguments, IsSmall};
 ghost use Rattle.declared_names.specs.Values.{seen};
 
 use crate::from_value::read_list;
@@ -26,6 +26,8 @@ fn program(
     servers: &Servers,
     value: &Value,
 ) -> Result<Program, Memory>
+    requires value { IsSmall (view value.now) }
+    requires arguments { HaveFewArguments scope.now.interfaces.now }
     ensures { IfOk result (λ p. program_tree p
         ≡ (runnable_reading scope.now.interfaces.now scope.now.names.now (map seen servers.now.events.items) servers.now.runnables (view value.now)).program) }
 {
@@ -42,6 +44,8 @@ fn read_runnable(
     servers: &Servers,
     value: &Value,
 ) -> Result<Runnable, Memory>
+    requires value { IsSmall (view value.now) }
+    requires arguments { HaveFewArguments scope.now.interfaces.now }
     ensures { IfOk result (λ r. runnable_tree r
         ≡ runnable_reading scope.now.interfaces.now scope.now.names.now (map seen servers.now.events.items) servers.now.runnables (view value.now)) }
 {
@@ -62,6 +66,8 @@ fn read_runnables(
     servers: &Servers,
     values: &[Value],
 ) -> Result<Seq<Runnable>, Memory>
+    requires values { AreSmall (map view values.now) }
+    requires arguments { HaveFewArguments scope.now.interfaces.now }
     ensures { IfOk result (λ rs. map runnable_tree rs
         ≡ map (runnable_reading scope.now.interfaces.now scope.now.names.now (map seen servers.now.events.items) servers.now.runnables) (map view values.now)) }
 {
@@ -73,7 +79,8 @@ fn read_runnables(
 }
 
 fn runnables(alloc: Global, scope: &InComponent, value: &Value) -> Result<Seq<Runnable>, Memory>
-    requires { IsSmall (view value.now) }
+    requires value { IsSmall (view value.now) }
+    requires arguments { HaveFewArguments scope.now.interfaces.now }
     ensures { IfOk result (λ rs. map runnable_tree rs
         ≡ runnables_in scope.now.interfaces.now scope.now.names.now (view value.now)) }
 {
@@ -88,7 +95,8 @@ fn read_behavior(
     scope: &InComponent,
     value: &Value,
 ) -> Result<Behavior, Memory>
-    requires { IsSmall (view value.now) }
+    requires value { IsSmall (view value.now) }
+    requires arguments { HaveFewArguments scope.now.interfaces.now }
     ensures { IfOk result (λ b. behavior_tree b ≡ behavior_reading types.now scope.now.interfaces.now scope.now.names.now (view value.now)) }
 {
     let areas = items_at(value, "exclusiveAreas");
@@ -109,6 +117,7 @@ fn read_behavior(
 fn behavior(alloc: Global, scope: &Scope, value: &Value, inner: &Value) -> Result<Behavior, Memory>
     requires value { IsSmall (view value.now) }
     requires inner { IsSmall (view inner.now) }
+    requires arguments { HaveFewArguments scope.now.interfaces }
     ensures { IfOk result (λ b. behavior_tree b
         ≡ behavior_reading scope.now.types scope.now.interfaces (component_names scope.now.interfaces (view value.now) (view inner.now)) (view inner.now)) }
 {
@@ -124,7 +133,8 @@ fn behavior(alloc: Global, scope: &Scope, value: &Value, inner: &Value) -> Resul
 
 /// The component that the value is.
 pub fn read_component(alloc: Global, scope: &Scope, value: &Value) -> Result<Component, Memory>
-    requires { IsSmall (view value.now) }
+    requires value { IsSmall (view value.now) }
+    requires arguments { HaveFewArguments scope.now.interfaces }
     ensures { IfOk result (λ c. component_tree c ≡ component_reading scope.now (view value.now)) }
 {
     let nothing = Value::Null;

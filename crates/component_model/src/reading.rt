@@ -8,7 +8,7 @@ ghost use Rattle.component_model.specs.Descriptions.{description_of, reading, re
 ghost use Rattle.component_model.specs.Initials.{broken_initials, initial_place};
 ghost use Rattle.component_model.specs.Programs.{component_reading, component_tree};
 ghost use Rattle.component_model.specs.Refusals.{IsRead, IsRefusalOf, typed_refusal};
-ghost use Rattle.declared_names.specs.Sizes.{AreFew, AreSmall, IsSmall};
+ghost use Rattle.declared_names.specs.Sizes.{AreFew, AreSmall, HaveFewArguments, IsSmall};
 
 use crate::component_reading::read_component;
 use crate::composition_reading::read_compositions;
@@ -24,7 +24,8 @@ use serde_json::Value;
 use std::alloc::Global;
 
 fn read_components(alloc: Global, scope: &Scope, values: &[Value]) -> Result<Seq<Component>, Memory>
-    requires { AreSmall (map view values.now) }
+    requires values { AreSmall (map view values.now) }
+    requires arguments { HaveFewArguments scope.now.interfaces }
     ensures { IfOk result (λ cs. map component_tree cs ≡ map (component_reading scope.now) (map view values.now)) }
 {
     let mut list = Vec::new(alloc);
@@ -35,7 +36,8 @@ fn read_components(alloc: Global, scope: &Scope, values: &[Value]) -> Result<Seq
 }
 
 fn read_in(alloc: Global, scope: &Scope, value: &Value) -> Result<Description, Memory>
-    requires { IsSmall (view value.now) }
+    requires value { IsSmall (view value.now) }
+    requires arguments { HaveFewArguments scope.now.interfaces }
     ensures { IfOk result (λ d. description_of d ≡ reading_in scope.now (view value.now)) }
 {
     let nothing = Value::Null;

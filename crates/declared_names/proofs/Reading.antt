@@ -247,5 +247,5 @@ size_read text d e =
     subst (AtMost size n) e (at_most_then weight size n n of_json (λ j x. more_small (weight j) n (of_json j) x (of_json_small j)) _ (last_small n (json.value max_depth (tokens text)) read_tokens))
 
 -- few bytes are read as few values
-pub short_few : (bytes : List ℕ) → length bytes + 1 < 2 ^ 32 → AreFew bytes
+pub short_few : (bytes : List ℕ) → length bytes + 1 < 2 ^ 31 → AreFew bytes
 short_few bytes short = record { small = λ d is. record { few = omega (arith, size_read bytes d is, short) } }

@@ -1,5 +1,5 @@
 -- What is in a value of few values, and how many names it declares.
-use Rattle.std.proofs.Common.{◌≡◌, ℕ, zero, suc, ◌+◌, ◌^◌, ◌<◌, ◌≤◌, List, [], ◌∷◌, length, map, get_or, slice_get, codes, bytes_eq, Bool, true, false, cond, Option, Some, None, unwrap_or, option_and_then, Ordering, Less, Equal, Greater, Bor, refl, sym, ap, subst, ◌∙◌, arith}
+use Rattle.std.proofs.Common.{◌≡◌, ℕ, zero, suc, ◌+◌, ◌^◌, ◌<◌, ◌≤◌, List, [], ◌∷◌, length, map, get_or, slice_get, slice_index_or, codes, bytes_eq, Bool, true, false, cond, Option, Some, None, unwrap_or, option_and_then, Ordering, Less, Equal, Greater, Bor, refl, sym, ap, subst, ◌∙◌, arith}
 use Rattle.std.proofs.lemmas.List.{length-map}
 use Rattle.std.specs.Cmp.Lexicographic.{slice_cmp}
 use Rattle.std.specs.Ordering.{nat_cmp, match_ordering}
@@ -8,8 +8,8 @@ use Rattle.serde_json.specs.Find.{get, get_member, as_array}
 use Rattle.serde_json.specs.View.{view}
 use Rattle.serde_json.specs.declared.value.Value.{Value}
 use Rattle.declared_names.specs.Names.{Names, short_names, texts, text_of}
-use Rattle.declared_names.specs.Scopes.{item_names, modes_in}
-use Rattle.declared_names.specs.Sizes.{size, items_size, members_size, sizes, IsSmall, AreSmall}
+use Rattle.declared_names.specs.Scopes.{argument_names, interface_names, item_names, modes_in, operation_arguments}
+use Rattle.declared_names.specs.Sizes.{size, items_size, members_size, sizes, IsSmall, AreSmall, HaveFewArguments}
 use Rattle.declared_names.specs.Values.{items_at, items_of, listed, text_at, text_at_in, text_in}
 
 some : (d : Data) → 1 ≤ size d
@@ -60,7 +60,7 @@ at_size None n h = omega arith
 at_size (Some d) n h = omega (arith, array_size d, h d refl)
 
 pub at_small : (key : List ℕ) (d : Data) (ds : List Data) → ds ≡ items_at key d → IsSmall d → AreSmall ds
-at_small key d ds is small = record { few = subst (λ l. sizes l < 2 ^ 32) (sym is) (omega (arith, at_size (get key d) (size d) (get_size key d), small.few)) }
+at_small key d ds is small = record { few = subst (λ l. sizes l < 2 ^ 31) (sym is) (omega (arith, at_size (get key d) (size d) (get_size key d), small.few)) }
 
 -- the value at a key, or another
 pub value_small : (key : List ℕ) (d other e : Data) → e ≡ unwrap_or (get key d) other → IsSmall d → IsSmall other → IsSmall e
@@ -122,3 +122,25 @@ few_items d names are small = counted names (item_names d) are
 pub few_modes : (groups : List Data) (i : ℕ) (o : Option Data) (names : List (Bor (List ℕ))) → o ≡ slice_get groups i → map text_of names ≡ modes_in o → AreSmall groups → length names < 2 ^ 32
 few_modes groups i None names at are small = counted names [] are (omega arith)
 few_modes groups i (Some g) names at are small = counted names (modes_in (Some g)) are (texts_few (codes "modes") g (item_small groups i g (sym at) small))
+
+-- and the arguments of an operation
+arguments_size : (o : Data) → length (operation_arguments o) ≤ size o
+arguments_size o = omega (arith, length-map (items_at (codes "arguments") o) (text_at (codes "shortName")), length_sizes (items_at (codes "arguments") o), at_size (get (codes "arguments") o) (size o) (get_size (codes "arguments") o))
+
+one_arguments : (os : List Data) (o : ℕ) → length (slice_index_or (map operation_arguments os) o []) ≤ sizes os
+one_arguments [] o = omega arith
+one_arguments (x ∷ os) zero = omega (arith, arguments_size x)
+one_arguments (x ∷ os) (suc o) = omega (arith, one_arguments os o)
+
+operation_size : (i : Data) (o : ℕ) → length (slice_index_or (argument_names i) o []) ≤ size i
+operation_size i o = omega (arith, one_arguments (items_at (codes "operations") i) o, at_size (get (codes "operations") i) (size i) (get_size (codes "operations") i))
+
+any_arguments : (is : List Data) (i o : ℕ) → length (slice_index_or (slice_index_or (map argument_names is) i []) o []) ≤ sizes is
+any_arguments [] i o = omega arith
+any_arguments (x ∷ is) zero o = omega (arith, operation_size x o)
+any_arguments (x ∷ is) (suc i) o = omega (arith, any_arguments is i o)
+
+pub few_arguments : (groups : Names) (d : Data) → IsSmall d → HaveFewArguments (interface_names groups d)
+few_arguments groups d small = record {
+  few = λ i o. omega (arith, any_arguments (items_at (codes "interfaces") d) i o, at_size (get (codes "interfaces") d) (size d) (get_size (codes "interfaces") d), small.few);
+}

@@ -1,7 +1,8 @@
 -- How many values a value has in it.
-use Rattle.std.specs.Prelude.{◌≡◌, ℕ, ◌+◌, ◌^◌, ◌<◌, List, [], ◌∷◌, Some}
+use Rattle.std.specs.Prelude.{◌≡◌, ℕ, ◌+◌, ◌^◌, ◌<◌, List, [], ◌∷◌, length, slice_index_or, Some}
 use Rattle.serde_json.specs.Data.{Data, null, boolean, number, string, array, object, Items, no_items, item, Members, no_members, member}
 use Rattle.serde_json.specs.Read.{read}
+use Rattle.declared_names.specs.declared.scopes.InterfaceNames.{InterfaceNames}
 
 -- itself, and those in its items or members
 abbrev mutual
@@ -25,12 +26,16 @@ abbrev pub sizes : List Data → ℕ
 sizes [] = 0
 sizes (d ∷ ds) = size d + sizes ds
 
--- so few values that 32 bits number them
+-- so few values that 31 bits number them, and 32 those of two such values
 pub record IsSmall (d : Data) : Type 0 where
-  pub few : size d < 2 ^ 32
+  pub few : size d < 2 ^ 31
 
 pub record AreSmall (ds : List Data) : Type 0 where
-  pub few : sizes ds < 2 ^ 32
+  pub few : sizes ds < 2 ^ 31
+
+-- each operation has so few arguments
+pub record HaveFewArguments (interfaces : InterfaceNames) : Type 0 where
+  pub few : (i o : ℕ) → length (slice_index_or (slice_index_or interfaces.arguments i []) o []) < 2 ^ 31
 
 -- what the bytes are read as has so few
 pub record AreFew (bytes : List ℕ) : Type 0 where

@@ -1,4 +1,5 @@
 mod Added
+mod Counted
 mod Kept
 mod Meanings
 mod Parts

@@ -1,9 +1,10 @@
 //! The programs of runnables, read from JSON.
 
-ghost use Rattle.std.specs.Prelude.{◌≡◌, IfOk, map};
+ghost use Rattle.std.specs.Prelude.{◌≡◌, ◌<◌, ◌+◌, ◌^◌, IfOk, length, map};
 ghost use Rattle.runnable_lang.specs.Trees.{program_tree};
 ghost use Rattle.serde_json.specs.View.{view};
 ghost use Rattle.declared_names.specs.Names.{text_of};
+ghost use Rattle.declared_names.specs.Sizes.{size};
 ghost use Rattle.program_reading.specs.Programs.{program_of, program_reading};
 ghost use Rattle.program_reading.specs.Variables.{variables_of};
 
@@ -23,6 +24,7 @@ fn variables_of<'a>(
     first: &[&'a str],
     value: &'a Value,
 ) -> Result<Positions<'a>, Memory>
+    requires { length first.now + size (view value.now) < 2 ^ 32 }
     ensures { IfOk result (λ vars. vars ≡ variables_of (map text_of first.now) (view value.now)) }
 {
     let mut vars = Variables::new(alloc);
@@ -50,13 +52,15 @@ fn program_of(
     })
 }
 
-/// The program that the value is, with first variables of these names.
+/// The program that the value is, with first variables of these names. They and the values in it are fewer than 2^32, so 32
+/// bits number its variables.
 pub fn read_program<'a>(
     alloc: Global,
     component: &InComponent,
     first: &[&'a str],
     value: &'a Value,
 ) -> Result<Program, Memory>
+    requires { length first.now + size (view value.now) < 2 ^ 32 }
     ensures { IfOk result (λ p. program_tree p ≡ program_reading component.now.interfaces.now component.now.names.now (map text_of first.now) (view value.now)) }
 {
     let vars = variables_of(alloc, first, value)?;

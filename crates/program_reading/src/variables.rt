@@ -1,6 +1,6 @@
 //! The variables of a program.
 
-ghost use Rattle.std.specs.Prelude.{◌≡◌, [], IfOk, OnOk, length, map, slice_get, unwrap_or};
+ghost use Rattle.std.specs.Prelude.{◌≡◌, ◌<◌, ◌^◌, [], IfOk, OnOk, length, map, slice_get, unwrap_or};
 ghost use Rattle.description_places.specs.Forms.{form_of};
 ghost use Rattle.description_places.specs.Visits.{part_of};
 ghost use Rattle.serde_json.specs.View.{items_view, view};
@@ -63,8 +63,9 @@ impl<'a> Variables<'a> {
         }
     }
 
-    /// The names, with where each stands.
+    /// The names, which 32 bits number, with where each stands.
     pub fn positions(&self, alloc: Global) -> Result<Positions<'a>, Memory>
+        requires { length self.now < 2 ^ 32 }
         ensures { IfOk result (λ p. p ≡ self.now) }
     {
         let mut names = Vec::new(alloc);

@@ -1,9 +1,8 @@
-use Rattle.std.proofs.Common.{codes, sym, subst, arith}
+use Rattle.std.proofs.Common.{codes}
 use Rattle.serde_json.specs.View.{view}
-use Rattle.declared_names.specs.Sizes.{IsSmall}
 use Rattle.declared_names.proofs.Sizes.{value_small}
 use Rattle.component_model.proofs.Lists.{null_small}
 use Rattle.component_model.proofs.component_reading.read_component.Goals as goal
 
 pub behavior-requires-clause-inner : goal.behavior-requires-clause-inner
-behavior-requires-clause-inner c = value_small (codes "behavior") (view c.args.value.now) _ _ c.value_at.ensures c.requires null_small
+behavior-requires-clause-inner c = value_small (codes "behavior") (view c.args.value.now) _ _ c.value_at.ensures c.requires.value null_small

@@ -8,5 +8,5 @@ loop-value-preserved c =
     item_read component_tree (component_reading c.args.scope.now) c.args.values.now c.loop-value.value-index c.value-item.result c.loop-value.list.items c.push.new.self.items c.in_ok-read_component.field-0
     c.loop-value-test.true c.value-item.is c.loop-value.invariant c.in_ok-read_component.ensures c.in_ok-push.ensures.items
 
-pub read_component-requires : goal.read_component-requires
-read_component-requires c = each_small c.args.values.now c.loop-value.value-index c.value-item.result c.loop-value-test.true c.value-item.is c.requires
+pub read_component-requires-clause-value : goal.read_component-requires-clause-value
+read_component-requires-clause-value c = each_small c.args.values.now c.loop-value.value-index c.value-item.result c.loop-value-test.true c.value-item.is c.requires.values

@@ -17,11 +17,11 @@ returns c =
     let mapping = c.in_ok-mapping.ensures ∙ ap mapping_reading (c.value_at-mapped.ensures ∙ ap (unwrap_or (get (codes "mapping") (view c.args.value.now))) view_null) in
     λ i. record { types = c.in_ok-types.ensures i; components = components i; compositions = compositions i; root = root i; mapping = mapping i }
 
-pub read_components-requires : goal.read_components-requires
-read_components-requires c = at_small (codes "components") (view c.args.value.now) _ c.items_at-listed.ensures c.requires
+pub read_components-requires-clause-values : goal.read_components-requires-clause-values
+read_components-requires-clause-values c = at_small (codes "components") (view c.args.value.now) _ c.items_at-listed.ensures c.requires.value
 
 pub read_compositions-requires : goal.read_compositions-requires
-read_compositions-requires c = at_small (codes "compositions") (view c.args.value.now) _ c.items_at-composed.ensures c.requires
+read_compositions-requires c = at_small (codes "compositions") (view c.args.value.now) _ c.items_at-composed.ensures c.requires.value
 
 pub read_mapping-requires : goal.read_mapping-requires
-read_mapping-requires c = value_small (codes "mapping") (view c.args.value.now) _ _ c.value_at-mapped.ensures c.requires null_small
+read_mapping-requires c = value_small (codes "mapping") (view c.args.value.now) _ _ c.value_at-mapped.ensures c.requires.value null_small
