@@ -2,6 +2,7 @@
 
 ghost use Rattle.std.specs.Prelude.{◌≡◌, ◌++◌, ℕ, codes, IfOk, IfErr, OnOk, string_bytes};
 ghost use Rattle.std.specs.Fmt.{decimal};
+ghost use Rattle.end_search.specs.Matching.{HasFewItems};
 ghost use Rattle.flat_descriptions.specs.Flattening.{IsFlatOf, IsRefusalOf, KeepsConnectors, KeepsLimits, KeepsNesting, composition_place, connector_place};
 ghost use Rattle.composition_flatten.specs.Within.{IsWithin};
 
@@ -57,7 +58,8 @@ fn check_nesting(alloc: Global, d: &Description) -> Result<(), Refused>
 
 /// Rule 10: the limits on instances and joins.
 fn check_limits(alloc: Global, d: &Description) -> Result<Within, Refused>
-    requires { KeepsNesting d.now }
+    requires nesting { KeepsNesting d.now }
+    requires few { HasFewItems d.now }
     ensures kept { IfOk result (IsWithin d.now) }
     ensures refused { IfErr result (IsRefusalOf d.now) }
 {
@@ -91,8 +93,10 @@ fn check_connectors(alloc: Global, d: &Description) -> Result<(), Refused>
 /// 11 that the description breaks, with its first place; `Memory` is answered where memory ran out, and never tells anything
 /// of the description.
 ///
-/// Positions that are out of range lead nowhere, so any description may be given.
+/// Positions that are out of range lead nowhere, so any description may be given whose interfaces have fewer items than 32 bits
+/// number.
 pub fn flatten(alloc: Global, d: &Description) -> Result<Flat, Refused>
+    requires { HasFewItems d.now }
     ensures flat { IfOk result (IsFlatOf d.now) }
     ensures refused { IfErr result (IsRefusalOf d.now) }
 {

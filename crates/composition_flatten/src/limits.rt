@@ -2,6 +2,7 @@
 
 ghost use Rattle.std.specs.Prelude.{◌≡◌, ◌↔◌, IfOk, IfSome, IfNone, IsTrue, map};
 ghost use Rattle.composition_tables.specs.Counts.{IsCounted};
+ghost use Rattle.end_search.specs.Matching.{HasFewItems};
 ghost use Rattle.flat_descriptions.specs.Flattening.{KeepsLimits};
 ghost use Rattle.flat_descriptions.specs.Growing.{IsPastLimit};
 ghost use Rattle.flat_descriptions.specs.Instances.{names_env};
@@ -114,6 +115,7 @@ fn keeps_counts(alloc: Global, d: &Description, levels: &[Vec<u32>]) -> Result<b
 fn joins_within(alloc: Global, tree: &Tree) -> Result<Option<Vec<Join>>, Memory>
     requires is_tree { IsTree tree.now }
     requires counts { KeepsCounts tree.now.d.now }
+    requires few { HasFewItems tree.now.d.now }
     ensures none { IfOk result (λ found. IfNone found (IsPastLimit (IsJoined tree.now.d.now))) }
     ensures some { IfOk result (λ found. IfSome found (λ joins. AreJoins tree.now.d.now joins.items)) }
 {
@@ -132,6 +134,7 @@ fn joins_within(alloc: Global, tree: &Tree) -> Result<Option<Vec<Join>>, Memory>
 
 /// The instances and the joins of a description that keeps the limits.
 pub fn parts_within(alloc: Global, d: &Description) -> Result<Option<Within>, Memory>
+    requires { HasFewItems d.now }
     ensures none { IfOk result (λ found. IfNone found (¬ KeepsLimits d.now)) }
     ensures some { IfOk result (λ found. IfSome found (IsWithin d.now)) }
 {

@@ -7,6 +7,7 @@ ghost use Rattle.composition_tables.specs.declared.links.Link.{Link};
 ghost use Rattle.composition_tables.specs.declared.nodes.Node.{Node};
 ghost use Rattle.composition_tables.specs.Ends.{ends};
 ghost use Rattle.end_search.specs.Gates.{gate_ends, IsShallow};
+ghost use Rattle.end_search.specs.Matching.{HasFewItems};
 ghost use Rattle.flat_descriptions.specs.Members.{Among};
 ghost use Rattle.flat_descriptions.specs.Growing.{AnyOf, Grown};
 ghost use Rattle.composition_flatten.specs.Links.{IsOwn, IsNodeLink, IsOuterLink, IsLink, link_from, item_from, outer_link};
@@ -388,7 +389,8 @@ fn add_outers(
 /// Adds all links of a description. The answer is whether there are more of them than the limit; then the rest may be
 /// missing.
 pub fn add_links(alloc: Global, tree: &Tree, links: &mut BTreeSet<Link>) -> Result<bool, Memory>
-    requires { IsTree tree.now }
+    requires is_tree { IsTree tree.now }
+    requires few { HasFewItems tree.now.d.now }
     ensures { IfOk result (λ is_full. Grown (IsLink tree.now.d.now) links.old.keys links.new.keys is_full) }
 {
     let mut matched = Matched::new(alloc, tree.d)?;

@@ -1,1 +1,2 @@
+mod FewItems
 pub mod Whole

@@ -4,6 +4,7 @@ ghost use Rattle.std.specs.Prelude.{◌≡◌, IfErr, IfOk, None, OnOk};
 ghost use Rattle.flat_descriptions.specs.Flattening.{IsFlatOf};
 ghost use Rattle.plan_definitions.specs.JoinRefusals.{refusal};
 ghost use Rattle.declared_names.specs.Sizes.{AreFew};
+ghost use Rattle.end_search.specs.Matching.{HasFewItems};
 ghost use Rattle.description_stages.specs.Stages.{IsJoinRefusalOf, IsJoinedOf, IsRefusalOf, IsToldAs};
 
 use compatibility::check_joins;
@@ -34,6 +35,7 @@ fn check(alloc: Global, description: &Description, flat: &Flat) -> Result<(), Re
 
 /// The description made flat, where what is joined may be joined.
 fn join(alloc: Global, description: &Description) -> Result<Flat, Refused>
+    requires { HasFewItems description.now }
     ensures flat { IfOk result (IsFlatOf description.now) }
     ensures may_join { IfOk result (λ flat. refusal description.now flat ≡ None) }
     ensures refused { IfErr result (IsJoinRefusalOf description.now) }

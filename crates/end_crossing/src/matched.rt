@@ -8,7 +8,7 @@ ghost use Rattle.flat_descriptions.specs.Members.{Among};
 ghost use Rattle.indexmap.specs.IndexMap.{get};
 ghost use Rattle.end_search.specs.Gates.{IsShallow};
 ghost use Rattle.end_crossing.specs.Crossings.{same_pair, AreJoining, IsAdding, IsMatched};
-ghost use Rattle.end_search.specs.Matching.{AreMatches};
+ghost use Rattle.end_search.specs.Matching.{AreMatches, HasFewItems};
 ghost use Rattle.end_search.specs.Sides.{IsSide};
 ghost use Rattle.end_search.specs.Sharing.{IsIndexed};
 ghost use Rattle.flat_descriptions.specs.Items.{interface_at, ItemsJoin};
@@ -87,6 +87,7 @@ fn keep(
 impl<'a> Matched<'a> {
     /// Nothing is found yet.
     pub fn new(alloc: Global, d: &'a Description) -> Result<Matched<'a>, Memory>
+        requires { HasFewItems d.now }
         ensures { IfOk result (IsMatched d.now) }
     {
         let interfaces = interfaces_of(alloc, d)?;

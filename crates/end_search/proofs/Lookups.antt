@@ -1,5 +1,5 @@
 -- Names and ends, as they are noted and looked up.
-use Rattle.std.proofs.Common.{◌≡◌, ℕ, ◌+◌, ◌<◌, ◌≤◌, List, [], ◌∷◌, length, get_or, take, ◌⊎◌, inl, inr, ⊎_elim, ◌↔◌, sym, subst, ◌∙◌, IsTrue, nat_eq, Some, None, Vec, Bor, slice_get, option_map, unwrap_or, ap, arith}
+use Rattle.std.proofs.Common.{◌≡◌, ℕ, ◌+◌, ◌^◌, ◌<◌, ◌≤◌, List, [], ◌∷◌, length, get_or, take, ◌⊎◌, inl, inr, ⊎_elim, ◌↔◌, sym, subst, ◌∙◌, IsTrue, nat_eq, Some, None, Vec, Bor, slice_get, option_map, unwrap_or, ap, arith}
 use Rattle.std.proofs.lemmas.Bool.{cases_lt, eqb-true, eq-eqb}
 use Rattle.std.proofs.lemmas.List.{take_more, take_all, length-map}
 use Rattle.composition_tables.specs.declared.tree.Owner.TheVariants.{Instance}
@@ -61,3 +61,8 @@ end_more ends k d q x N M within now before =
 
 pub ends_all : (ends : List PortEnd) (k q : ℕ) (x : PortEnd) (N : Type 0) → length ends ≤ k → N ↔ (Among x (take k ends) × (x.interface ≡ q)) → N ↔ (Among x ends × (x.interface ≡ q))
 ends_all ends k q x N past h = subst (λ l. N ↔ (Among x l × (x.interface ≡ q))) (take_all k ends past) h
+
+-- so many names are referred to
+pub few_named : (names : List (Bor (List ℕ))) (all : List (List ℕ)) → names_of names ≡ all → length all < 2 ^ 32 → length names < 2 ^ 32
+few_named names all are few =
+    let same : length names ≡ length all = sym (length-map names (λ b. b.now)) ∙ ap length are in omega arith

@@ -1,9 +1,15 @@
 -- How the joined items of two interfaces are found.
-use Rattle.std.specs.Prelude.{◌≡◌, ◌↔◌, ℕ, List, map}
+use Rattle.std.specs.Prelude.{◌≡◌, ◌<◌, ◌^◌, ◌↔◌, ℕ, List, length, map, slice_get, Some}
+use Rattle.interface_types.specs.declared.interface.Interface.{Interface}
 use Rattle.description_types.specs.declared.description.Description.{Description}
 use Rattle.end_search.specs.declared.interfaces.Listed.{Listed}
+use Rattle.end_search.specs.Tables.{item_names}
 use Rattle.flat_descriptions.specs.Items.{interface_at, ItemsJoin}
 use Rattle.flat_descriptions.specs.Members.{Among}
+
+-- 32 bits number the items of each interface
+pub record HasFewItems (d : Description) : Type 0 where
+  pub few : (i : ℕ) (x : Interface) → slice_get d.types.interfaces i ≡ Some x → length (item_names x.kind) < 2 ^ 32
 
 -- these are the interfaces of the description
 abbrev pub AreListed : Description → List Listed → Type 0

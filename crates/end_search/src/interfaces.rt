@@ -1,6 +1,6 @@
 //! Interfaces, with the names by which their items are joined.
 
-ghost use Rattle.std.specs.Prelude.{◌≡◌, [], ◌∷◌, ℕ, List, map, IfOk};
+ghost use Rattle.std.specs.Prelude.{◌≡◌, ◌<◌, ◌^◌, [], ◌∷◌, ℕ, List, length, map, IfOk};
 ghost use Rattle.flat_descriptions.specs.Items.{element_names, operation_names};
 ghost use Rattle.end_search.specs.Sharing.{item_keys, keys_of};
 ghost use Rattle.end_search.specs.Tables.{names_of, item_names};
@@ -100,8 +100,9 @@ fn keys_for<'a>(
     }
 }
 
-/// An interface with the names of its items.
+/// An interface with the names of its items, which 32 bits number.
 pub fn with_names<'a>(alloc: Global, kind: &'a InterfaceKind) -> Result<Listed<'a>, Memory>
+    requires { length (item_names kind.now) < 2 ^ 32 }
     ensures { IfOk result (λ listed. listed.kind.now ≡ kind.now) }
 {
     let list = item_names(alloc, kind)?;

@@ -3,7 +3,7 @@
 ghost use Rattle.std.specs.Prelude.{◌≡◌, ◌↔◌, ◌⊎◌, [], ◌∷◌, ℕ, IfOk, OnOk, Some};
 ghost use Rattle.flat_descriptions.specs.Items.{interface_at, ItemsJoin, IsSameName};
 ghost use Rattle.flat_descriptions.specs.Members.{Among};
-ghost use Rattle.end_search.specs.Matching.{AreListed, turned};
+ghost use Rattle.end_search.specs.Matching.{AreListed, HasFewItems, turned};
 
 use crate::interfaces::{Listed, with_names};
 use crate::names::Names;
@@ -14,6 +14,7 @@ use std::alloc::Global;
 
 /// The interfaces of a description, each with the names of its items.
 pub fn interfaces_of(alloc: Global, d: &Description) -> Result<Vec<Listed<'_>>, Memory>
+    requires { HasFewItems d.now }
     ensures { IfOk result (λ list. AreListed d.now list.items) }
 {
     let mut list = Vec::new(alloc);

@@ -1,6 +1,6 @@
 //! Names, and where they stand.
 
-ghost use Rattle.std.specs.Prelude.{◌≡◌, ◌↔◌, ◌⊎◌, ℕ, List, IfOk, OnOk, Some, slice_get, option_map, length};
+ghost use Rattle.std.specs.Prelude.{◌≡◌, ◌<◌, ◌^◌, ◌↔◌, ◌⊎◌, ℕ, List, IfOk, OnOk, Some, slice_get, option_map, length};
 ghost use Rattle.std.specs.Borrow.{Bor};
 ghost use Rattle.indexmap.specs.IndexMap.{get};
 ghost use Rattle.end_search.specs.Tables.{names_of, same_name, ArePlaces};
@@ -10,7 +10,7 @@ ghost use Rattle.flat_descriptions.specs.Members.{Among};
 use composition_tables::multi::add_under;
 use indexmap::IndexMap;
 use rte_text::Memory;
-use std::alloc::{AllocError, Global};
+use std::alloc::Global;
 use std::marker::Model;
 
 /// Names in order, with the positions of each. One name may stand at several.
@@ -33,14 +33,12 @@ impl<'a> Model for Names<'a> {
 }
 
 impl<'a> Names<'a> {
-    /// The names with their positions. More than a `u32` can number count as want of memory.
+    /// The names, of which there are fewer than 2^32, with their positions.
     pub fn of(alloc: Global, names: Vec<&'a [u8]>) -> Result<Names<'a>, Memory>
+        requires { length names.items < 2 ^ 32 }
         ensures { IfOk result (λ n. n ≡ names_of names.entry.items) }
     {
-        let count = match u32::try_from(names.len()) {
-            Ok(count) => count,
-            Err(_) => return Err(AllocError),
-        };
+        let count = names.len() as u32;
         let mut places = IndexMap::new(alloc);
         for position in 0..count {
             add_under(alloc, &mut places, names[position as usize], position)?;
