@@ -25,8 +25,11 @@ among_few interfaces (Some i) operation few = few.few i operation
 first_few : (interfaces : InterfaceNames) (names : ComponentNames) (event : Option Data) → HaveFewArguments interfaces → length (first_names interfaces names event) ≤ 2 ^ 31
 first_few interfaces names None few = omega arith
 first_few interfaces names (Some e) few =
-    omega (arith, length-append (arguments_of interfaces names e) (codes "error" ∷ []),
-        among_few interfaces (slice_get names.port_interfaces (port_of_event names e)) (item_of_event interfaces names (codes "operation") e) few)
+    omega (
+      arith,
+      length-append (arguments_of interfaces names e) (codes "error" ∷ []),
+      among_few interfaces (slice_get names.port_interfaces (port_of_event names e)) (item_of_event interfaces names (codes "operation") e) few,
+    )
 
 pub few_variables : (interfaces : InterfaceNames) (names : ComponentNames) (event : Option Data) (list slice : List (Bor (List ℕ))) (d : Data) → slice ≡ list → map text_of list ≡ first_names interfaces names event
     → HaveFewArguments interfaces → IsSmall d → length slice + size d < 2 ^ 32

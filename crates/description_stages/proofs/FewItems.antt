@@ -29,9 +29,9 @@ kind_few : (names : TypeNames) (d : Data) → IsSmall d → length (item_names (
 kind_few names d small =
     let kind = text_at (codes "kind") d in
     chosen (bytes_eq kind (codes "ClientServerInterface")) (bytes_eq kind (codes "ModeSwitchInterface"))
-        (map (operation_reading names) (items_at (codes "operations") d)) (mode_element_reading names d) (map (data_element_reading names) (items_at (codes "dataElements") d))
-        (omega (arith, length-map (items_at (codes "operations") d) (operation_reading names), few_at (codes "operations") d small))
-        (omega (arith, length-map (items_at (codes "dataElements") d) (data_element_reading names), few_at (codes "dataElements") d small))
+    (map (operation_reading names) (items_at (codes "operations") d)) (mode_element_reading names d) (map (data_element_reading names) (items_at (codes "dataElements") d))
+    (omega (arith, length-map (items_at (codes "operations") d) (operation_reading names), few_at (codes "operations") d small))
+    (omega (arith, length-map (items_at (codes "dataElements") d) (data_element_reading names), few_at (codes "dataElements") d small))
 
 each_few : (names : TypeNames) (ds : List Data) (i : ℕ) (x : Interface) → slice_get (map (interface_reading names) ds) i ≡ Some x → ((j : ℕ) (d : Data) → slice_get ds j ≡ Some d → IsSmall d) → length (item_names x.kind) < 2 ^ 32
 each_few names [] i x is small = cc

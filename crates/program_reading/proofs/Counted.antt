@@ -53,4 +53,4 @@ mutual
 pub few_variables : (first : Names) (d : Data) (vars : Names) (n : ℕ) → vars ≡ all_added (all_added [] first) (names_in d Statements) → n ≡ length first → n + size d < 2 ^ 32 → length vars < 2 ^ 32
 few_variables first d vars n are same few =
     subst (λ vs. length vs < 2 ^ 32) (sym are)
-        (omega (arith, few, same, added_length [] first, names_length d Statements, added_length (all_added [] first) (names_in d Statements)))
+    (omega (arith, few, same, added_length [] first, names_length d Statements, added_length (all_added [] first) (names_in d Statements)))

@@ -107,16 +107,16 @@ written_size t h = by (read t) refl
 soak_size : (n : ℕ) → n ≤ 64 → size (soak_value n) ≤ 100000
 soak_size n h =
     whole_size (written data_types_text) (written interfaces_text) components (compositions n) (mapping n)
-        (written_size data_types_text refl) (written_size interfaces_text refl)
-        (components_size (written producer_text) (written consumer_text) (written server_text) (written_size producer_text refl) (written_size consumer_text refl) (written_size server_text refl))
-        (compositions_size n (prototypes n) (connectors n) (more_size Producer Consumer n (prototype (codes "acc") (codes "Acc")) h (prototype_size (codes "acc") (codes "Acc")))
-            (omega (arith, list_size (each n (part Queue) ++ each n (part Service)) 1280 (pairs_size Queue Service n h))))
-        (mapping_size tasks (events n) (more_size ProducerTask ConsumerTask 4 (task (codes "A") 0) (omega arith) (task_size (codes "A") 0))
-            (more_size Producing Consuming n (in_task (codes "acc") (codes "A") 0) h (in_task_size (codes "acc") (codes "A") 0)))
+    (written_size data_types_text refl) (written_size interfaces_text refl)
+    (components_size (written producer_text) (written consumer_text) (written server_text) (written_size producer_text refl) (written_size consumer_text refl) (written_size server_text refl))
+    (compositions_size n (prototypes n) (connectors n) (more_size Producer Consumer n (prototype (codes "acc") (codes "Acc")) h (prototype_size (codes "acc") (codes "Acc")))
+    (omega (arith, list_size (each n (part Queue) ++ each n (part Service)) 1280 (pairs_size Queue Service n h))))
+    (mapping_size tasks (events n) (more_size ProducerTask ConsumerTask 4 (task (codes "A") 0) (omega arith) (task_size (codes "A") 0))
+    (more_size Producing Consuming n (in_task (codes "acc") (codes "A") 0) h (in_task_size (codes "acc") (codes "A") 0)))
 
 -- bytes that are read as it are read as few values
 pub soak_few : (n : ℕ) (bytes : List ℕ) → n ≤ 64 → Reads bytes (soak_value n) → AreFew bytes
 soak_few n bytes h reads = record { small = λ d is. by (soak_value n) d (soak_size n h) (reads.1) is }
   where
     by : (e d : Data) → size e ≤ 100000 → read bytes ≡ Some e → read bytes ≡ Some d → IsSmall d
-    by e d few as is = let same : e ≡ d = cc in record { few = omega (arith, subst (λ x. size x ≤ 100000) same few) }
+    by e d few value is = let same : e ≡ d = cc in record { few = omega (arith, subst (λ x. size x ≤ 100000) same few) }

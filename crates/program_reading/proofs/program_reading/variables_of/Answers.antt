@@ -11,5 +11,5 @@ pub positions-requires : goal.positions-requires
 positions-requires c =
     let first = map text_of c.args.first.now in
     few_variables first (view c.args.value.now) c.add_names.new.vars (length c.args.first.now)
-        (c.in_ok-add_names.ensures ∙ ap (λ vs. all_added vs (names_in (view c.args.value.now) Statements)) (c.in_ok-add_all.ensures ∙ ap (λ vs. all_added vs first) c.new-vars.ensures))
-        (sym (length-map c.args.first.now text_of)) c.requires
+    (c.in_ok-add_names.ensures ∙ ap (λ vs. all_added vs (names_in (view c.args.value.now) Statements)) (c.in_ok-add_all.ensures ∙ ap (λ vs. all_added vs first) c.new-vars.ensures))
+    (sym (length-map c.args.first.now text_of)) c.requires
