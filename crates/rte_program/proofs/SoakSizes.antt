@@ -1,15 +1,13 @@
 -- The description with which a node is soaked has few values.
-use Rattle.std.proofs.Common.{◌≡◌, ◌≤◌, ◌<◌, ◌+◌, ◌*◌, ◌^◌, ℕ, zero, suc, true, List, [], ◌∷◌, ◌++◌, nat_le, length, Option, Some, None, unwrap_or, codes, refl, sym, ap, subst, ◌∙◌, arith}
+use Rattle.std.proofs.Common.{◌≡◌, ◌≤◌, ◌+◌, ◌*◌, ◌%◌, ℕ, zero, suc, true, List, [], ◌∷◌, ◌++◌, nat_le, length, Option, Some, None, unwrap_or, codes, refl, sym, ap, subst, arith}
 use Rattle.std.proofs.lemmas.Bool.{leb-true}
 use Rattle.serde_json.specs.Data.{Data, Members, no_members, null, number, put, string, unsigned}
 use Rattle.serde_json.specs.Read.{read}
 use Rattle.serde_json.specs.View.{items_of}
 use Rattle.description_places.specs.Rules.{Reads}
-use Rattle.soak_maker.specs.declared.parts.Numbered.{Numbered}
-use Rattle.soak_maker.specs.declared.parts.Numbered.TheVariants.{Producer, Consumer, Queue, Service, ProducerTask, ConsumerTask, Producing, Consuming}
 use Rattle.soak_maker.specs.Components.{consumer_text, data_types_text, interfaces_text, producer_text, server_text}
 use Rattle.soak_maker.specs.Json.{each, fields, list, with_fields, written}
-use Rattle.soak_maker.specs.Parts.{assembly, in_task, part, prototype, task}
+use Rattle.soak_maker.specs.Parts.{assembly, in_task, name, prototype, task}
 use Rattle.soak_maker.specs.Soak.{components, compositions, connectors, events, mapping, prototypes, soak_value, tasks}
 use Rattle.declared_names.specs.Sizes.{size, items_size, members_size, sizes, IsSmall, AreFew}
 use Rattle.declared_names.proofs.Reading.{put_small, size_read}
@@ -58,23 +56,31 @@ in_task_size : (a b : List ℕ) (n : ℕ) → size (in_task a b n) ≤ 10
 in_task_size a b n =
     fields_least ((codes "instance", string a) ∷ (codes "event", string (codes "Ev")) ∷ (codes "task", string b) ∷ (codes "position", number (unsigned n)) ∷ []) 9 (omega arith)
 
-part_size : (k : Numbered) (i : ℕ) → size (part k i) ≤ 10
-part_size Producer i = prototype_size _ _
-part_size Consumer i = prototype_size _ _
-part_size Queue i = assembly_size _ _ _
-part_size Service i = assembly_size _ _ _
-part_size ProducerTask i = task_size _ _
-part_size ConsumerTask i = task_size _ _
-part_size Producing i = in_task_size _ _ _
-part_size Consuming i = in_task_size _ _ _
+-- two of each number below this one
+pairs_size : (n : ℕ) (f g : ℕ → Data) → n ≤ 64 → ((i : ℕ) → size (f i) ≤ 10) → ((i : ℕ) → size (g i) ≤ 10) → sizes (each n f ++ each n g) ≤ 1280
+pairs_size n f g h each_f each_g = both_size (each n f) (each n g) 640 640 (omega (arith, h, each_size n f each_f)) (omega (arith, h, each_size n g each_g))
 
-pairs_size : (j k : Numbered) (n : ℕ) → n ≤ 64 → sizes (each n (part j) ++ each n (part k)) ≤ 1280
-pairs_size j k n h =
-    both_size (each n (part j)) (each n (part k)) 640 640 (omega (arith, h, each_size n (part j) (part_size j))) (omega (arith, h, each_size n (part k) (part_size k)))
+-- and one more
+more_size : (n : ℕ) (f g : ℕ → Data) (d : Data) → n ≤ 64 → ((i : ℕ) → size (f i) ≤ 10) → ((i : ℕ) → size (g i) ≤ 10) → size d ≤ 10 → size (list ((each n f ++ each n g) ++ d ∷ [])) ≤ 1291
+more_size n f g d h each_f each_g one = list_size ((each n f ++ each n g) ++ d ∷ []) 1290 (both_size (each n f ++ each n g) (d ∷ []) 1280 10 (pairs_size n f g h each_f each_g) (omega (arith, one)))
 
--- two of each number, and one more
-more_size : (j k : Numbered) (n : ℕ) (d : Data) → n ≤ 64 → size d ≤ 10 → size (list ((each n (part j) ++ each n (part k)) ++ d ∷ [])) ≤ 1291
-more_size j k n d h one = list_size ((each n (part j) ++ each n (part k)) ++ d ∷ []) 1290 (both_size (each n (part j) ++ each n (part k)) (d ∷ []) 1280 10 (pairs_size j k n h) (omega (arith, one)))
+prototypes_size : (n : ℕ) → n ≤ 64 → size (prototypes n) ≤ 1291
+prototypes_size n h =
+    more_size n _ _ _ h (λ i. prototype_size (name (codes "p") i) (codes "Prod")) (λ i. prototype_size (name (codes "c") i) (codes "Cons")) (prototype_size (codes "acc") (codes "Acc"))
+
+connectors_size : (n : ℕ) → n ≤ 64 → size (connectors n) ≤ 1281
+connectors_size n h =
+    list_size _ 1280 (pairs_size n _ _ h (λ i. assembly_size (name (codes "p") i) (name (codes "c") i) (codes "q")) (λ i. assembly_size (codes "acc") (name (codes "p") i) (codes "s")))
+
+tasks_size : size tasks ≤ 1291
+tasks_size =
+    more_size 4 (λ i. task (name (codes "P") i) i) (λ i. task (name (codes "C") i) i) (task (codes "A") 0) (omega arith)
+    (λ i. task_size (name (codes "P") i) i) (λ i. task_size (name (codes "C") i) i) (task_size (codes "A") 0)
+
+events_size : (n : ℕ) → n ≤ 64 → size (events n) ≤ 1291
+events_size n h =
+    more_size n _ _ _ h (λ i. in_task_size (name (codes "p") i) (name (codes "P") (i % 4)) i) (λ i. in_task_size (name (codes "c") i) (name (codes "C") ((i % 4 + 1) % 4)) i)
+    (in_task_size (codes "acc") (codes "A") 0)
 
 -- ---- the whole
 
@@ -109,10 +115,8 @@ soak_size n h =
     whole_size (written data_types_text) (written interfaces_text) components (compositions n) (mapping n)
     (written_size data_types_text refl) (written_size interfaces_text refl)
     (components_size (written producer_text) (written consumer_text) (written server_text) (written_size producer_text refl) (written_size consumer_text refl) (written_size server_text refl))
-    (compositions_size n (prototypes n) (connectors n) (more_size Producer Consumer n (prototype (codes "acc") (codes "Acc")) h (prototype_size (codes "acc") (codes "Acc")))
-    (omega (arith, list_size (each n (part Queue) ++ each n (part Service)) 1280 (pairs_size Queue Service n h))))
-    (mapping_size tasks (events n) (more_size ProducerTask ConsumerTask 4 (task (codes "A") 0) (omega arith) (task_size (codes "A") 0))
-    (more_size Producing Consuming n (in_task (codes "acc") (codes "A") 0) h (in_task_size (codes "acc") (codes "A") 0)))
+    (compositions_size n (prototypes n) (connectors n) (prototypes_size n h) (omega (arith, connectors_size n h)))
+    (mapping_size tasks (events n) tasks_size (events_size n h))
 
 -- bytes that are read as it are read as few values
 pub soak_few : (n : ℕ) (bytes : List ℕ) → n ≤ 64 → Reads bytes (soak_value n) → AreFew bytes

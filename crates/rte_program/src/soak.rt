@@ -60,7 +60,7 @@ pub fn pairs_in(words: &[String]) -> Option<u32>
 
 /// The description of so many pairs with its plan, and the script over it.
 fn prepare_soak(alloc: Global, pairs: u32) -> Result<Prepared, Stop>
-    requires few { pairs ≤ 64 }
+    requires { pairs ≤ 64 }
     ensures ready { IfOk result (λ x. IsSoaked pairs x.found x.script.lines) }
     ensures stopped { IfErr result (IsUnsoaked pairs) }
 {
