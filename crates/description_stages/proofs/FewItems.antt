@@ -38,7 +38,7 @@ each_few names [] i x is small = cc
 each_few names (d ∷ ds) zero x is small =
     let same : interface_reading names d ≡ x = cc in
     subst (λ (y : Interface). length (item_names y.kind) < 2 ^ 32) same (kind_few names d (small 0 d refl))
-each_few names (d ∷ ds) (suc i) x is small = each_few names ds i x is (λ j e at. small (j + 1) e at)
+each_few names (d ∷ ds) (suc i) x is small = each_few names ds i x is (λ j e at. small (suc j) e at)
 
 pub has_few_items : (bytes : List ℕ) (d : Description) → IsRead bytes (description_of d) → AreFew bytes → HasFewItems d
 has_few_items bytes d is_read few =
