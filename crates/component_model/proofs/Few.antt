@@ -20,7 +20,7 @@ few_servers names events b are from small =
 
 among_few : (interfaces : InterfaceNames) (i : Option ℕ) (operation : ℕ) → HaveFewArguments interfaces → length (arguments_among interfaces.arguments i operation) < 2 ^ 31
 among_few interfaces None operation few = omega arith
-among_few interfaces (Some i) operation few = few.few i operation
+among_few interfaces (Some i) operation few = omega (arith, few.few i operation)
 
 first_few : (interfaces : InterfaceNames) (names : ComponentNames) (event : Option Data) → HaveFewArguments interfaces → length (first_names interfaces names event) ≤ 2 ^ 31
 first_few interfaces names None few = omega arith

@@ -12,7 +12,7 @@ use Rattle.declared_names.specs.Scopes.{argument_names, interface_names, item_na
 use Rattle.declared_names.specs.Sizes.{size, items_size, members_size, sizes, IsSmall, AreSmall, HaveFewArguments}
 use Rattle.declared_names.specs.Values.{items_at, items_of, listed, text_at, text_at_in, text_in}
 
-some : (d : Data) → 1 ≤ size d
+pub some : (d : Data) → 1 ≤ size d
 some null = omega arith
 some (boolean b) = omega arith
 some (number n) = omega arith
@@ -20,7 +20,7 @@ some (string s) = omega arith
 some (array ds) = omega arith
 some (object ms) = omega arith
 
-length_sizes : (ds : List Data) → length ds ≤ sizes ds
+pub length_sizes : (ds : List Data) → length ds ≤ sizes ds
 length_sizes [] = omega arith
 length_sizes (d ∷ ds) = omega (arith, some d, length_sizes ds)
 
@@ -47,7 +47,7 @@ get_size k (array ds) e is = cc
 get_size k (object ms) e is = omega (arith, member_size k ms e is)
 
 -- the items of an array, and those of the array at a key
-array_size : (d : Data) → sizes (items_of (as_array d)) ≤ size d
+array_size : (d : Data) → sizes (items_of (as_array d)) < size d
 array_size null = omega arith
 array_size (boolean b) = omega arith
 array_size (number n) = omega arith
@@ -55,12 +55,15 @@ array_size (string s) = omega arith
 array_size (array ds) = omega (arith, listed_sizes ds)
 array_size (object ms) = omega arith
 
-at_size : (o : Option Data) (n : ℕ) → ((e : Data) → o ≡ Some e → size e ≤ n) → sizes (items_of (option_and_then as_array o)) ≤ n
-at_size None n h = omega arith
-at_size (Some d) n h = omega (arith, array_size d, h d refl)
+of_size : (o : Option Data) (n : ℕ) → 1 ≤ n → ((e : Data) → o ≡ Some e → size e ≤ n) → sizes (items_of (option_and_then as_array o)) < n
+of_size None n least h = omega (arith, least)
+of_size (Some d) n least h = omega (arith, array_size d, h d refl)
+
+pub at_size : (key : List ℕ) (d : Data) → sizes (items_at key d) < size d
+at_size key d = of_size (get key d) (size d) (some d) (get_size key d)
 
 pub at_small : (key : List ℕ) (d : Data) (ds : List Data) → ds ≡ items_at key d → IsSmall d → AreSmall ds
-at_small key d ds is small = record { few = subst (λ l. sizes l < 2 ^ 31) (sym is) (omega (arith, at_size (get key d) (size d) (get_size key d), small.few)) }
+at_small key d ds is small = record { few = subst (λ l. sizes l ≤ 2 ^ 22) (sym is) (omega (arith, at_size key d, small.few)) }
 
 -- the value at a key, or another
 pub value_small : (key : List ℕ) (d other e : Data) → e ≡ unwrap_or (get key d) other → IsSmall d → IsSmall other → IsSmall e
@@ -71,7 +74,7 @@ value_small key d other e is small instead = by (get key d) refl
     by (Some x) some = subst IsSmall (sym (is ∙ ap (λ o. unwrap_or o other) some)) (record { few = omega (arith, get_size key d x some, small.few) })
 
 -- an item of a list
-each_size : (ds : List Data) (i : ℕ) (d : Data) → slice_get ds i ≡ Some d → size d ≤ sizes ds
+pub each_size : (ds : List Data) (i : ℕ) (d : Data) → slice_get ds i ≡ Some d → size d ≤ sizes ds
 each_size [] i d is = cc
 each_size (x ∷ ds) zero d is = let same : x ≡ d = cc in subst (λ y. size y ≤ sizes (x ∷ ds)) same (omega arith)
 each_size (x ∷ ds) (suc i) d is = omega (arith, each_size ds i d is)
@@ -98,7 +101,7 @@ counted names ns are few = let same : length names ≡ length ns = sym (length-m
 
 -- 32 bits number what is declared at a key
 pub few_at : (key : List ℕ) (d : Data) → IsSmall d → length (items_at key d) < 2 ^ 32
-few_at key d small = omega (arith, length_sizes (items_at key d), at_size (get key d) (size d) (get_size key d), small.few)
+few_at key d small = omega (arith, length_sizes (items_at key d), at_size key d, small.few)
 
 short_few : (key : List ℕ) (d : Data) → IsSmall d → length (short_names (items_at key d)) < 2 ^ 32
 short_few key d small = omega (arith, length-map (items_at key d) (text_at (codes "shortName")), few_at key d small)
@@ -125,7 +128,7 @@ few_modes groups i (Some g) names at are small = counted names (modes_in (Some g
 
 -- and the arguments of an operation
 arguments_size : (o : Data) → length (operation_arguments o) ≤ size o
-arguments_size o = omega (arith, length-map (items_at (codes "arguments") o) (text_at (codes "shortName")), length_sizes (items_at (codes "arguments") o), at_size (get (codes "arguments") o) (size o) (get_size (codes "arguments") o))
+arguments_size o = omega (arith, length-map (items_at (codes "arguments") o) (text_at (codes "shortName")), length_sizes (items_at (codes "arguments") o), at_size (codes "arguments") o)
 
 one_arguments : (os : List Data) (o : ℕ) → length (slice_index_or (map operation_arguments os) o []) ≤ sizes os
 one_arguments [] o = omega arith
@@ -133,7 +136,7 @@ one_arguments (x ∷ os) zero = omega (arith, arguments_size x)
 one_arguments (x ∷ os) (suc o) = omega (arith, one_arguments os o)
 
 operation_size : (i : Data) (o : ℕ) → length (slice_index_or (argument_names i) o []) ≤ size i
-operation_size i o = omega (arith, one_arguments (items_at (codes "operations") i) o, at_size (get (codes "operations") i) (size i) (get_size (codes "operations") i))
+operation_size i o = omega (arith, one_arguments (items_at (codes "operations") i) o, at_size (codes "operations") i)
 
 any_arguments : (is : List Data) (i o : ℕ) → length (slice_index_or (slice_index_or (map argument_names is) i []) o []) ≤ sizes is
 any_arguments [] i o = omega arith
@@ -142,5 +145,5 @@ any_arguments (x ∷ is) (suc i) o = omega (arith, any_arguments is i o)
 
 pub few_arguments : (groups : Names) (d : Data) → IsSmall d → HaveFewArguments (interface_names groups d)
 few_arguments groups d small = record {
-  few = λ i o. omega (arith, any_arguments (items_at (codes "interfaces") d) i o, at_size (get (codes "interfaces") d) (size d) (get_size (codes "interfaces") d), small.few);
+  few = λ i o. omega (arith, any_arguments (items_at (codes "interfaces") d) i o, at_size (codes "interfaces") d, small.few);
 }

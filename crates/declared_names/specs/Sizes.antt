@@ -1,5 +1,5 @@
 -- How many values a value has in it.
-use Rattle.std.specs.Prelude.{◌≡◌, ℕ, ◌+◌, ◌^◌, ◌<◌, List, [], ◌∷◌, length, slice_index_or, Some}
+use Rattle.std.specs.Prelude.{◌≡◌, ℕ, ◌+◌, ◌^◌, ◌≤◌, List, [], ◌∷◌, length, slice_index_or, Some}
 use Rattle.serde_json.specs.Data.{Data, null, boolean, number, string, array, object, Items, no_items, item, Members, no_members, member}
 use Rattle.serde_json.specs.Read.{read}
 use Rattle.declared_names.specs.declared.scopes.InterfaceNames.{InterfaceNames}
@@ -26,17 +26,17 @@ abbrev pub sizes : List Data → ℕ
 sizes [] = 0
 sizes (d ∷ ds) = size d + sizes ds
 
--- so few values that 31 bits number them, and 32 those of two such values
+-- no more values than a file of 8 MiB is read as
 pub record IsSmall (d : Data) : Type 0 where
-  pub few : size d < 2 ^ 31
+  pub few : size d ≤ 2 ^ 22
 
 pub record AreSmall (ds : List Data) : Type 0 where
-  pub few : sizes ds < 2 ^ 31
+  pub few : sizes ds ≤ 2 ^ 22
 
--- each operation has so few arguments
+-- each operation has no more arguments
 pub record HaveFewArguments (interfaces : InterfaceNames) : Type 0 where
-  pub few : (i o : ℕ) → length (slice_index_or (slice_index_or interfaces.arguments i []) o []) < 2 ^ 31
+  pub few : (i o : ℕ) → length (slice_index_or (slice_index_or interfaces.arguments i []) o []) ≤ 2 ^ 22
 
--- what the bytes are read as has so few
+-- what the bytes are read as has no more
 pub record AreFew (bytes : List ℕ) : Type 0 where
   pub small : (d : Data) → read bytes ≡ Some d → IsSmall d
