@@ -6,7 +6,7 @@ ghost use Rattle.description_places.specs.Forms.{form_of};
 use crate::kind::Kind;
 
 /// What a value of a kind is.
-#[derive(Clone, Copy, Debug, PartialEq, Eq)]
+#[derive(Clone, Copy)]
 pub enum Form {
     /// Any value.
     Anything,

@@ -1,7 +1,7 @@
 //! The kinds of value of a description.
 
 /// What a value stands for in a description.
-#[derive(Clone, Copy, Debug, PartialEq, Eq)]
+#[derive(Clone, Copy)]
 pub enum Kind {
     // A value whose shape is judged by the value round it, or not at all.
     Anything,
