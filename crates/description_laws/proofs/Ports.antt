@@ -66,14 +66,18 @@ items_counted names x = counted names x (bytes_eq (text_at (codes "kind") x) (co
 -- ---- where the declaration of an interface leads
 
 abbrev leads_home : Kind → Bool
-leads_home of_kind.Port = false
-leads_home of_kind.Prototype = false
-leads_home _ = true
+leads_home of_kind.SenderReceiverInterface = true
+leads_home of_kind.ClientServerInterface = true
+leads_home of_kind.ModeSwitchInterface = true
+leads_home of_kind.UnknownInterface = true
+leads_home _ = false
 
 home : (kind : Kind) (x : Data) (place : List ℕ) → leads_home kind ≡ true → end_of_object kind x place ≡ place
-home of_kind.Port x place h = absurd (false≢true h)
-home of_kind.Prototype x place h = absurd (false≢true h)
-home _ x place h = refl
+home of_kind.SenderReceiverInterface x place h = refl
+home of_kind.ClientServerInterface x place h = refl
+home of_kind.ModeSwitchInterface x place h = refl
+home of_kind.UnknownInterface x place h = refl
+home _ x place h = absurd (false≢true h)
 
 -- a name that is read at a key, and what it refers to
 pub record Refers (ds : List Declared) (x : Data) (key : List ℕ) (finds : List ℕ → Type 0) : Type 0 where

@@ -1,19 +1,25 @@
--- Nothing in a calculation is declared, and nothing refers.
-use Rattle.std.proofs.Common.{◌≡◌, ℕ, zero, suc, ◌+◌, List, [], ◌∷◌, ◌++◌, map, replicate, Bool, true, false, cond, not, Option, Some, None, option_map, bytes_eq, is_some, slice_index_or, refl, sym, ap, ◌∙◌, subst}
+-- Nothing in a calculation is declared, and nothing refers; and where a plain value need not be looked at.
+use Rattle.std.proofs.Common.{◌≡◌, ℕ, zero, suc, ◌+◌, List, [], ◌∷◌, ◌++◌, map, replicate, Bool, true, false, cond, not, Option, Some, None, option_map, bytes_eq, is_some, refl, sym, ap, ◌∙◌}
+use Rattle.std.proofs.lemmas.Bool.{false≢true, and_parts}
 use Rattle.std.specs.List.{find, flat_map}
-use Rattle.std.proofs.lemmas.List.{append-nil}
 use Rattle.serde_json.specs.Data.{Data, null, boolean, number, string, array, object, Items, no_items, item, Members}
-use Rattle.serde_json.specs.Find.{as_number, as_str}
+use Rattle.serde_json.specs.Find.{as_number, as_str, get_member}
+use Rattle.description_places.specs.declared.form.Form.{Form}
+use Rattle.description_places.specs.declared.form.Form.TheVariants as form
 use Rattle.description_places.specs.declared.kind.Kind.{Kind}
 use Rattle.description_places.specs.declared.kind.Kind.TheVariants as kind
-use Rattle.description_places.specs.Alternatives.{Choice, choices_of, expression_kind, first_word, kind_of, pick_if, resolved}
+use Rattle.description_places.specs.Alternatives.{Choice, choices_of, first_word, kind_of, pick_if, resolved}
 use Rattle.description_places.specs.Calculations.{Calculation, assignment, expression, constant, name, operator, unknown, other, kind_in, IsCalculation, Passes}
-use Rattle.description_places.specs.Declarations.{Declared, declarations, declared_by}
+use Rattle.description_places.specs.Around.{named}
+use Rattle.description_places.specs.Declarations.{Declared, declarations, declared_at, declared_by, list_of, name_of}
 use Rattle.description_places.specs.Forms.{form_of}
-use Rattle.description_places.specs.Keys.{keys_of}
-use Rattle.description_places.specs.References.{breaks_references}
+use Rattle.description_places.specs.Gathered.{Gathered, gathered_after}
+use Rattle.description_places.specs.Keys.{Key, keys_of}
+use Rattle.description_places.specs.References.{breaks_references, is_found}
+use Rattle.description_places.specs.Skips.{is_plain, is_declared_kind, declares_nothing, is_referring_kind, refers_to_nothing, Skips}
 use Rattle.description_places.specs.Spots.{Spot, Level, inside, inside_part}
-use Rattle.description_places.specs.Visits.{Visit, visits, items_visits, members_visits, in_array, in_object, in_parts, part_of, under_keys, first_broken}
+use Rattle.description_places.specs.Visits.{Visit, visit_at, at_key, visits, items_visits, members_visits, in_array, in_object, in_parts, part_of, under_keys, first_broken}
+use Rattle.description_places.proofs.Walks.{at_key_found, visits_at}
 
 -- ---- kinds
 
@@ -68,6 +74,62 @@ no_keys operator = refl
 no_keys unknown = refl
 no_keys other = refl
 
+-- ---- plain kinds
+
+plain_same : (k : Kind) (d : Data) → is_plain (form_of k) ≡ true → resolved k d ≡ k
+plain_same kind.Interface d h = absurd (false≢true h)
+plain_same kind.Event d h = absurd (false≢true h)
+plain_same kind.Connector d h = absurd (false≢true h)
+plain_same kind.Access d h = absurd (false≢true h)
+plain_same kind.Statement d h = absurd (false≢true h)
+plain_same kind.Expression d h = absurd (false≢true h)
+plain_same _ d h = refl
+
+plain_part : (f : Form) (k : Kind) (i : ℕ) → is_plain f ≡ true → part_of f k i ≡ kind.Anything
+plain_part (form.List part) k i h = absurd (false≢true h)
+plain_part (form.Counted least most part) k i h = absurd (false≢true h)
+plain_part form.Row k i h = absurd (false≢true h)
+plain_part _ k i h = refl
+
+plain_keys : (k : Kind) → is_plain (form_of k) ≡ true → keys_of k ≡ []
+plain_keys kind.Description h = absurd (false≢true h)
+plain_keys kind.DataType h = absurd (false≢true h)
+plain_keys kind.ModeGroup h = absurd (false≢true h)
+plain_keys kind.SenderReceiverInterface h = absurd (false≢true h)
+plain_keys kind.ClientServerInterface h = absurd (false≢true h)
+plain_keys kind.ModeSwitchInterface h = absurd (false≢true h)
+plain_keys kind.UnknownInterface h = absurd (false≢true h)
+plain_keys kind.DataElement h = absurd (false≢true h)
+plain_keys kind.Operation h = absurd (false≢true h)
+plain_keys kind.Argument h = absurd (false≢true h)
+plain_keys kind.OperationError h = absurd (false≢true h)
+plain_keys kind.ModeElement h = absurd (false≢true h)
+plain_keys kind.Component h = absurd (false≢true h)
+plain_keys kind.Port h = absurd (false≢true h)
+plain_keys kind.ComSpec h = absurd (false≢true h)
+plain_keys kind.Behavior h = absurd (false≢true h)
+plain_keys kind.Variable h = absurd (false≢true h)
+plain_keys kind.Runnable h = absurd (false≢true h)
+plain_keys kind.TimingEvent h = absurd (false≢true h)
+plain_keys kind.InitEvent h = absurd (false≢true h)
+plain_keys kind.DataReceivedEvent h = absurd (false≢true h)
+plain_keys kind.OperationInvokedEvent h = absurd (false≢true h)
+plain_keys kind.CallReturnsEvent h = absurd (false≢true h)
+plain_keys kind.ModeSwitchEvent h = absurd (false≢true h)
+plain_keys kind.ModeTransitionEvent h = absurd (false≢true h)
+plain_keys kind.ModeSwitchAckEvent h = absurd (false≢true h)
+plain_keys kind.UnknownEvent h = absurd (false≢true h)
+plain_keys kind.DisabledModes h = absurd (false≢true h)
+plain_keys kind.Composition h = absurd (false≢true h)
+plain_keys kind.Prototype h = absurd (false≢true h)
+plain_keys kind.AssemblyConnector h = absurd (false≢true h)
+plain_keys kind.DelegationConnector h = absurd (false≢true h)
+plain_keys kind.UnknownConnector h = absurd (false≢true h)
+plain_keys kind.Mapping h = absurd (false≢true h)
+plain_keys kind.Task h = absurd (false≢true h)
+plain_keys kind.MappedEvent h = absurd (false≢true h)
+plain_keys _ h = refl
+
 -- ---- the values of a calculation
 
 module _ (X : Type 0) (look : Visit → List X) (nothing : (c : Calculation) (v : Visit) → v.kind ≡ kind_in c → look v ≡ []) where
@@ -102,10 +164,23 @@ module _ (X : Type 0) (look : Visit → List X) (nothing : (c : Calculation) (v 
         (in_calculation d (part_of (form_of (kind_in c)) (kind_in c) i) (spots i) is.0 (ap (λ k. resolved k d) here.1 ∙ is.1))
         (in_its_parts ds c spots (i + 1))
 
--- ---- what they declare, and what breaks the rule of references
+  -- ---- what they declare, and what breaks the rule of references
 
-declares_nothing : (c : Calculation) (v : Visit) → v.kind ≡ kind_in c → declared_by v ≡ []
-declares_nothing c v is = ap (λ k. declared_by (record { place = v.place; kind = k; value = v.value; around = v.around })) is ∙ by c
+  in_plain : (d : Data) (k : Kind) (s : Spot) → is_plain (form_of k) ≡ true → look (visit_at s k d) ≡ [] → flat_map look (visits d k s) ≡ []
+  in_plain null k s plain none = both (ap (λ q. look (visit_at s q null)) (plain_same k null plain) ∙ none) refl
+  in_plain (boolean b) k s plain none = both (ap (λ q. look (visit_at s q (boolean b))) (plain_same k (boolean b) plain) ∙ none) refl
+  in_plain (number n) k s plain none = both (ap (λ q. look (visit_at s q (number n))) (plain_same k (number n) plain) ∙ none) refl
+  in_plain (string t) k s plain none = both (ap (λ q. look (visit_at s q (string t))) (plain_same k (string t) plain) ∙ none) refl
+  in_plain (array ds) k s plain none = both (ap (λ q. look (visit_at s q (array ds))) (plain_same k (array ds) plain) ∙ none)
+      (ap (λ q. flat_map look (in_array q (array ds) s (items_visits ds))) (plain_same k (array ds) plain)
+      ∙ (λ j. flat_map look (in_parts (λ i. plain_part (form_of k) k i plain j) (inside_part s k (array ds)) 0 (items_visits ds)))
+      ∙ in_its_parts ds other (inside_part s k (array ds)) 0)
+  in_plain (object ms) k s plain none = both (ap (λ q. look (visit_at s q (object ms))) (plain_same k (object ms) plain) ∙ none)
+      (ap (λ q. flat_map look (in_object q (object ms) s (members_visits ms))) (plain_same k (object ms) plain)
+      ∙ ap (λ ks. flat_map look (under_keys ks (inside s k (object ms)) (members_visits ms))) (plain_keys k plain))
+
+not_declared : (c : Calculation) (v : Visit) → v.kind ≡ kind_in c → declared_by v ≡ []
+not_declared c v is = ap (λ k. declared_by (record { place = v.place; kind = k; value = v.value; around = v.around })) is ∙ by c
   where
     by : (c : Calculation) → declared_by (record { place = v.place; kind = kind_in c; value = v.value; around = v.around }) ≡ []
     by assignment = refl
@@ -116,15 +191,56 @@ declares_nothing c v is = ap (λ k. declared_by (record { place = v.place; kind 
     by unknown = refl
     by other = refl
 
-pub nothing_declared : (kind : Kind) (d : Data) (k : Kind) (s : Spot) (xs : List Declared) → IsCalculation kind → kind ≡ resolved k d → xs ≡ xs ++ declarations (visits d k s)
-nothing_declared kind d k s xs calculation is = sym (ap (λ ys. xs ++ ys) (in_calculation Declared declared_by declares_nothing d k s calculation.0 (sym is ∙ calculation.1)) ∙ append-nil xs)
+pub nothing_declared : (kind : Kind) (d : Data) (k : Kind) (s : Spot) (g : Gathered) → IsCalculation kind → kind ≡ resolved k d → g ≡ gathered_after g (declarations (visits d k s))
+nothing_declared kind d k s g calculation is = sym (ap (gathered_after g) (in_calculation Declared declared_by not_declared d k s calculation.0 (sym is ∙ calculation.1)))
+
+declares_plain : (k : Kind) → declares_nothing k ≡ true → is_plain (form_of k) ≡ true
+declares_plain k h = (and_parts (is_plain (form_of k)) (not (is_declared_kind k)) h).0
+
+not_listed : (k : Kind) (around : List Level) → declares_nothing k ≡ true → list_of k around ≡ None
+not_listed kind.DeclaredName around h = absurd (false≢true h)
+not_listed kind.DeclaredMode around h = absurd (false≢true h)
+not_listed kind.DeclaredArea around h = absurd (false≢true h)
+not_listed kind.ComSpecItem around h = absurd (false≢true h)
+not_listed kind.Position around h = absurd (false≢true h)
+not_listed kind.ItemAccess around h = absurd (false≢true h)
+not_listed kind.VariableAccess around h = absurd (false≢true h)
+not_listed kind.PortAccess around h = absurd (false≢true h)
+not_listed kind.AreaAccess around h = absurd (false≢true h)
+not_listed _ around h = refl
+
+plain_declares : (k : Kind) (d : Data) (s : Spot) → declares_nothing k ≡ true → declarations (visits d k s) ≡ []
+plain_declares k d s h =
+    in_plain Declared declared_by not_declared d k s (declares_plain k h)
+    (ap (λ o. declared_at (visit_at s k d) (option_map (λ list. named list (name_of k d s.around)) o)) (not_listed k s.around h))
+
+-- at a key whose values declare nothing
+pub nothing_at_key : (key : Key) (spots : List ℕ → Spot) (ms : Members) (g : Gathered) → declares_nothing key.kind ≡ true
+    → g ≡ gathered_after g (declarations (at_key key spots (members_visits ms)))
+nothing_at_key key spots ms g h = sym (ap (λ vs. gathered_after g (declarations vs)) (at_key_found key spots ms) ∙ by (get_member key.name ms))
+  where
+    by : (o : Option Data) → gathered_after g (declarations (visits_at key spots o)) ≡ g
+    by None = refl
+    by (Some d) = ap (gathered_after g) (plain_declares key.kind d (spots key.name) h)
+
+-- the same of a rule that skips it
+pub none_at_key : (breaks : Visit → Bool) (key : Key) (spots : List ℕ → Spot) (ms : Members) → Skips breaks key.kind
+    → None ≡ first_broken breaks (at_key key spots (members_visits ms))
+none_at_key breaks key spots ms skips = sym (ap (first_broken breaks) (at_key_found key spots ms) ∙ by (get_member key.name ms))
+  where
+    by : (o : Option Data) → first_broken breaks (visits_at key spots o) ≡ None
+    by None = refl
+    by (Some d) = skips d (spots key.name)
+
+refers_plain : (k : Kind) → refers_to_nothing k ≡ true → is_plain (form_of k) ≡ true
+refers_plain k h = (and_parts (is_plain (form_of k)) (not (is_referring_kind k)) h).0
 
 module _ (ds : List Declared) where
   abbrev broken_at : Visit → List (List ℕ)
   broken_at v = cond (breaks_references ds v) (v.place ∷ []) []
 
-  refers_to_nothing : (c : Calculation) (v : Visit) → v.kind ≡ kind_in c → broken_at v ≡ []
-  refers_to_nothing c v is = ap (λ k. broken_at (record { place = v.place; kind = k; value = v.value; around = v.around })) is ∙ by c
+  refers_nowhere : (c : Calculation) (v : Visit) → v.kind ≡ kind_in c → broken_at v ≡ []
+  refers_nowhere c v is = ap (λ k. broken_at (record { place = v.place; kind = k; value = v.value; around = v.around })) is ∙ by c
     where
       by : (c : Calculation) → broken_at (record { place = v.place; kind = kind_in c; value = v.value; around = v.around }) ≡ []
       by assignment = refl
@@ -145,4 +261,29 @@ module _ (ds : List Declared) where
       by false none later = later none
 
   pub references_pass : (kind : Kind) → IsCalculation kind → Passes (breaks_references ds) kind
-  references_pass kind calculation = λ k d s is. none_broken (visits d k s) (in_calculation (List ℕ) broken_at refers_to_nothing d k s calculation.0 (is ∙ calculation.1))
+  references_pass kind calculation = λ k d s is. none_broken (visits d k s) (in_calculation (List ℕ) broken_at refers_nowhere d k s calculation.0 (is ∙ calculation.1))
+
+  finds : (k : Kind) (d : Data) (around : List Level) → refers_to_nothing k ≡ true → is_found ds k d around ≡ true
+  finds kind.TypeName d around h = absurd (false≢true h)
+  finds kind.GroupName d around h = absurd (false≢true h)
+  finds kind.InterfaceName d around h = absurd (false≢true h)
+  finds kind.PrototypeTypeName d around h = absurd (false≢true h)
+  finds kind.RootName d around h = absurd (false≢true h)
+  finds kind.TaskName d around h = absurd (false≢true h)
+  finds kind.InitialMode d around h = absurd (false≢true h)
+  finds kind.RunnableName d around h = absurd (false≢true h)
+  finds kind.ComponentPort d around h = absurd (false≢true h)
+  finds kind.OuterPort d around h = absurd (false≢true h)
+  finds kind.AreaName d around h = absurd (false≢true h)
+  finds kind.VariableName d around h = absurd (false≢true h)
+  finds kind.ComSpecItem d around h = absurd (false≢true h)
+  finds kind.EventItem d around h = absurd (false≢true h)
+  finds kind.AccessItem d around h = absurd (false≢true h)
+  finds kind.JoinedPrototype d around h = absurd (false≢true h)
+  finds kind.JoinedPort d around h = absurd (false≢true h)
+  finds kind.CoreNumber d around h = absurd (false≢true h)
+  finds _ d around h = refl
+
+  pub references_skip : (kind : Kind) → refers_to_nothing kind ≡ true → Skips (breaks_references ds) kind
+  references_skip kind h = λ d s. none_broken (visits d kind s)
+      (in_plain (List ℕ) broken_at refers_nowhere d kind s (refers_plain kind h) (ap (λ b. cond (not b) (s.place ∷ []) []) (finds kind d s.around h)))

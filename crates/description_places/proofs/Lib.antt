@@ -3,6 +3,7 @@ pub mod Gathers
 pub mod KeyLaws
 pub mod Lookups
 pub mod Members
+pub mod Placeless
 pub mod Repeated
 pub mod Tables
 pub mod Unbroken

@@ -1,11 +1,13 @@
--- One more declaration is looked at.
-use Rattle.std.proofs.Common.{◌≡◌, ℕ, ◌+◌, ◌<◌, List, [], ◌∷◌, ◌++◌, map, drop, length, get_or, Bool, true, false, ◌||◌, cond, bytes_eq, string_bytes, Option, Some, None, option_map, is_some, Bor, refl, sym, ap, ◌∙◌, append_assoc}
-use Rattle.std.proofs.lemmas.List.{at_drop_more, map-append, append-nil}
+-- One more declaration is gathered, and what comes of all.
+use Rattle.std.proofs.Common.{◌≡◌, ℕ, List, [], ◌∷◌, ◌++◌, map, Bool, true, false, true≢false, ◌||◌, cond, bytes_eq, String, Global, string_bytes, Option, Some, None, option_map, is_some, refl, sym, ap, ◌∙◌, append_assoc}
+use Rattle.std.proofs.lemmas.Bool.{false≢true}
+use Rattle.std.proofs.lemmas.List.{map-append, append-nil}
 use Rattle.std.specs.List.{find, list_any}
 use Rattle.std.specs.Map.{lookup}
-use Rattle.description_places.specs.Declarations.{Declared, declared_of, has_key, is_repeated, with_earlier, first_repeated}
-use Rattle.description_places.specs.declared.gathering.Declaration.{Declaration}
-use Rattle.description_places.specs.Tables.{entry_of}
+use Rattle.description_places.specs.Declarations.{Declared, has_key, is_repeated, with_earlier, first_repeated}
+use Rattle.description_places.specs.declared.distinct.Declaration.{Declaration}
+use Rattle.description_places.specs.Gathered.{Gathered, all_distinct, repeated_at, without_place, with_next, gathered_after}
+use Rattle.description_places.specs.Tables.{declared_as, entry_of, gathered_as}
 
 -- more of them stand before each
 abbrev pub put_before : List Declared → List (Declared × List Declared) → List (Declared × List Declared)
@@ -45,50 +47,93 @@ is_some_of_cond : {X : Type 0} (b : Bool) (x : X) (rest : Option X) → is_some 
 is_some_of_cond true x rest = refl
 is_some_of_cond false x rest = refl
 
-module _ (eq : Bor (List ℕ) → Bor (List ℕ) → Bool) (same : (x y : Bor (List ℕ)) → eq x y ≡ bytes_eq x.now y.now) where
+-- ---- one more, in the program's table
+
+-- after a repeated one nothing more is kept
+pub after_repeated : (repeated : Option (String Global)) (ds : List Declared) (d : Declared) → is_some repeated ≡ true
+    → gathered_as (option_map string_bytes repeated) ds ≡ with_next (gathered_as (option_map string_bytes repeated) ds) d
+after_repeated None ds d some = absurd (false≢true some)
+after_repeated (Some place) ds d some = refl
+
+pub still_distinct : (repeated : Option (String Global)) (ds : List Declared) → is_some repeated ≡ false → gathered_as (option_map string_bytes repeated) ds ≡ all_distinct ds
+still_distinct None ds none = refl
+still_distinct (Some place) ds none = absurd (true≢false none)
+
+module _ (eq : String Global → String Global → Bool) (same : (x y : String Global) → eq x y ≡ bytes_eq (string_bytes x) (string_bytes y)) where
   -- a key of the table is one of those before
-  in_table : (key : Bor (List ℕ)) (es : List (Bor (List ℕ) × Bor Declaration)) → is_some (lookup (eq key) es) ≡ list_any (has_key key.now) (map entry_of es)
+  in_table : (key : String Global) (es : List (String Global × Declaration)) → is_some (lookup (eq key) es) ≡ list_any (has_key (string_bytes key)) (map entry_of es)
   in_table key [] = refl
   in_table key (e ∷ es) =
       is_some_of_cond (eq key e.0) e.1 (lookup (eq key) es)
       ∙ ap (λ b. b || is_some (lookup (eq key) es)) (same key e.0)
-      ∙ ap (λ b. bytes_eq key.now e.0.now || b) (in_table key es)
+      ∙ ap (λ b. bytes_eq (string_bytes key) (string_bytes e.0) || b) (in_table key es)
 
-  module _ (found : List Declaration) (i : ℕ) (d : Declaration) (key : Bor (List ℕ)) (es : List (Bor (List ℕ) × Bor Declaration)) (whole : Option (List ℕ)) (old : Option (Bor Declaration))
-      (within : i < length found) (is : d ≡ get_or found i d) (key_is : key.now ≡ string_bytes d.key)
-      (inv : whole ≡ repeated_after (map entry_of es) (map declared_of (drop i found)))
-      (looked : old ≡ lookup (eq key) es) where
-    turn : whole ≡ cond (is_some old) (Some (string_bytes d.place)) (repeated_after (map entry_of es ++ declared_of d ∷ []) (map declared_of (drop (i + 1) found)))
-    turn =
-        inv ∙ at_drop_more (λ ds. repeated_after (map entry_of es) (map declared_of ds)) found i d within
-        ∙ sym (ap (λ (x : Declaration). repeated_after (map entry_of es) (declared_of x ∷ map declared_of (drop (i + 1) found))) is)
-        ∙ one_more (map entry_of es) (declared_of d) (map declared_of (drop (i + 1) found))
-        ∙ sym (ap (λ k. cond (list_any (has_key k) (map entry_of es)) (Some (string_bytes d.place)) (repeated_after (map entry_of es ++ declared_of d ∷ []) (map declared_of (drop (i + 1) found)))) key_is)
-        ∙ sym (ap (λ b. cond b (Some (string_bytes d.place)) (repeated_after (map entry_of es ++ declared_of d ∷ []) (map declared_of (drop (i + 1) found)))) (ap is_some looked ∙ in_table key es))
+  module _ (key : String Global) (d : Declaration) (place : List ℕ) (es : List (String Global × Declaration)) (before : Gathered) (old : Option Declaration)
+      (start : before ≡ all_distinct (map entry_of es)) (looked : old ≡ lookup (eq key) es) where
+    next : with_next before (declared_as (string_bytes key) place d) ≡ cond (is_some old) (repeated_at place) (all_distinct (map entry_of es ++ entry_of (key, d) ∷ []))
+    next =
+        ap (λ g. with_next g (declared_as (string_bytes key) place d)) start
+        ∙ sym (ap (λ b. cond b (repeated_at place) (all_distinct (map entry_of es ++ entry_of (key, d) ∷ []))) (ap is_some looked ∙ in_table key es))
 
-    pub repeated_here : (v : Bor Declaration) (place : List ℕ) → old ≡ Some v → place ≡ string_bytes d.place → whole ≡ Some place
-    repeated_here v place there place_is =
-        turn ∙ ap (λ o. cond (is_some o) (Some (string_bytes d.place)) (repeated_after (map entry_of es ++ declared_of d ∷ []) (map declared_of (drop (i + 1) found)))) there
-        ∙ ap (λ p. Some p) (sym place_is)
+    pub repeated_here : (v : Declaration) (text : List ℕ) → old ≡ Some v → text ≡ place → repeated_at text ≡ with_next before (declared_as (string_bytes key) place d)
+    repeated_here v text there text_is =
+        ap (λ p. repeated_at p) text_is
+        ∙ sym (next ∙ ap (λ o. cond (is_some o) (repeated_at place) (all_distinct (map entry_of es ++ entry_of (key, d) ∷ []))) there)
 
-    module _ (value : Bor Declaration) (after : List (Bor (List ℕ) × Bor Declaration)) (value_is : value.now ≡ d)
-        (fresh : old ≡ None) (grown : after ≡ es ++ (key, value) ∷ []) where
-      added : map entry_of after ≡ map entry_of es ++ declared_of d ∷ []
-      added =
-          ap (map entry_of) grown
-          ∙ map-append entry_of es ((key, value) ∷ [])
-          ∙ ap (λ k. map entry_of es ++ record { key = k; place = string_bytes value.now.place; owner = value.now.owner; leads_to = string_bytes value.now.leads_to } ∷ []) key_is
-          ∙ ap (λ (x : Declaration). map entry_of es ++ record { key = string_bytes d.key; place = string_bytes x.place; owner = x.owner; leads_to = string_bytes x.leads_to } ∷ []) value_is
+    pub new_here : (after : List (String Global × Declaration)) → old ≡ None → after ≡ es ++ (key, d) ∷ []
+        → all_distinct (map entry_of after) ≡ with_next before (declared_as (string_bytes key) place d)
+    new_here after fresh grown =
+        ap (λ xs. all_distinct (map entry_of xs)) grown
+        ∙ ap (λ ds. all_distinct ds) (map-append entry_of es ((key, d) ∷ []))
+        ∙ sym (next ∙ ap (λ o. cond (is_some o) (repeated_at place) (all_distinct (map entry_of es ++ entry_of (key, d) ∷ []))) fresh)
 
-      pub new_here : whole ≡ repeated_after (map entry_of after) (map declared_of (drop (i + 1) found))
-      new_here =
-          turn ∙ ap (λ o. cond (is_some o) (Some (string_bytes d.place)) (repeated_after (map entry_of es ++ declared_of d ∷ []) (map declared_of (drop (i + 1) found)))) fresh
-          ∙ sym (ap (λ seen. repeated_after seen (map declared_of (drop (i + 1) found))) added)
+-- ---- what comes of all
 
-      pub all_here : map entry_of es ++ map declared_of (drop i found) ≡ map declared_of found → map entry_of after ++ map declared_of (drop (i + 1) found) ≡ map declared_of found
-      all_here all =
-          ap (λ seen. seen ++ map declared_of (drop (i + 1) found)) added
-          ∙ append_assoc (map entry_of es) (declared_of d ∷ []) (map declared_of (drop (i + 1) found))
-          ∙ ap (λ (x : Declaration). map entry_of es ++ (declared_of x ∷ map declared_of (drop (i + 1) found))) is
-          ∙ sym (ap (λ rest. map entry_of es ++ rest) (at_drop_more (λ ds. map declared_of ds) found i d within))
-          ∙ all
+stays : (place : List ℕ) (ds : List Declared) → gathered_after (repeated_at place) ds ≡ repeated_at place
+stays place [] = refl
+stays place (d ∷ ds) = stays place ds
+
+any_without : (key : List ℕ) (ds : List Declared) → list_any (has_key key) (map without_place ds) ≡ list_any (has_key key) ds
+any_without key [] = refl
+any_without key (d ∷ ds) = ap (λ b. bytes_eq key d.key || b) (any_without key ds)
+
+by_test : (seen ds : List Declared) (d : Declared) (b : Bool)
+    → gathered_after (all_distinct (map without_place (seen ++ d ∷ []))) ds ≡ gathered_as (repeated_after (seen ++ d ∷ []) ds) (map without_place ((seen ++ d ∷ []) ++ ds))
+    → gathered_after (cond b (repeated_at d.place) (all_distinct (map without_place seen ++ without_place d ∷ []))) ds
+    ≡ gathered_as (cond b (Some d.place) (repeated_after (seen ++ d ∷ []) ds)) (map without_place (seen ++ d ∷ ds))
+by_test seen ds d true later = stays d.place ds
+by_test seen ds d false later =
+    sym (ap (λ xs. gathered_after (all_distinct xs) ds) (map-append without_place seen (d ∷ [])))
+    ∙ later
+    ∙ ap (λ xs. gathered_as (repeated_after (seen ++ d ∷ []) ds) (map without_place xs)) (append_assoc seen (d ∷ []) ds)
+
+from_here : (seen ds : List Declared) → gathered_after (all_distinct (map without_place seen)) ds ≡ gathered_as (repeated_after seen ds) (map without_place (seen ++ ds))
+from_here seen [] = ap (λ ds. all_distinct (map without_place ds)) (sym (append-nil seen))
+from_here seen (d ∷ ds) =
+    ap (λ b. gathered_after (cond b (repeated_at d.place) (all_distinct (map without_place seen ++ without_place d ∷ []))) ds) (any_without d.key seen)
+    ∙ by_test seen ds d (list_any (has_key d.key) seen) (from_here (seen ++ d ∷ []) ds)
+    ∙ sym (ap (λ o. gathered_as o (map without_place (seen ++ d ∷ ds))) (one_more seen d ds))
+
+pub gathered_all : (ds : List Declared) → gathered_after (all_distinct []) ds ≡ gathered_as (first_repeated ds) (map without_place ds)
+gathered_all ds = from_here [] ds ∙ sym (ap (λ o. gathered_as o (map without_place ds)) (repeated_at_first ds))
+
+abbrev pub place_in : Gathered → Option (List ℕ)
+place_in (all_distinct ds) = None
+place_in (repeated_at place) = Some place
+
+abbrev kept_in : Gathered → List Declared
+kept_in (all_distinct ds) = ds
+kept_in (repeated_at place) = []
+
+place_back : (o : Option (List ℕ)) (ds : List Declared) → place_in (gathered_as o ds) ≡ o
+place_back None ds = refl
+place_back (Some place) ds = refl
+
+-- what was gathered of some declarations says which is repeated, or is these declarations without their places
+pub repeated_is : (g : Gathered) (ds : List Declared) → g ≡ gathered_after (all_distinct []) ds → place_in g ≡ first_repeated ds
+repeated_is g ds is = ap place_in (is ∙ gathered_all ds) ∙ place_back (first_repeated ds) (map without_place ds)
+
+pub kept_is : (g : Gathered) (ds kept : List Declared) → g ≡ gathered_after (all_distinct []) ds → g ≡ all_distinct kept → kept ≡ map without_place ds
+kept_is g ds kept is all =
+    let none : first_repeated ds ≡ None = sym (repeated_is g ds is) ∙ ap place_in all in
+    sym (ap kept_in all) ∙ ap kept_in (is ∙ gathered_all ds) ∙ ap (λ o. kept_in (gathered_as o (map without_place ds))) none

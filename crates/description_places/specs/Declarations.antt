@@ -1,12 +1,11 @@
 -- What a description declares, and the first that was declared before.
-use Rattle.std.specs.Prelude.{ℕ, List, [], ◌∷◌, ◌++◌, Bool, map, Option, Some, None, option_map, option_and_then, unwrap_or, bytes_eq, codes, string_bytes}
+use Rattle.std.specs.Prelude.{ℕ, List, [], ◌∷◌, ◌++◌, Bool, map, Option, Some, None, option_map, option_and_then, unwrap_or, bytes_eq, codes}
 use Rattle.std.specs.Fmt.{decimal}
 use Rattle.std.specs.List.{find, list_any, flat_map}
 use Rattle.serde_json.specs.Data.{Data, array, Items, no_items, item}
 use Rattle.serde_json.specs.Find.{as_number, as_u64}
-use Rattle.description_places.specs.declared.gathering.Declaration.{Declaration}
 use Rattle.description_places.specs.declared.kind.Kind.{Kind}
-use Rattle.description_places.specs.declared.kind.Kind.TheVariants.{Composition, DataElement, Operation, Port, Prototype, DeclaredName, DeclaredMode, DeclaredArea, ComSpecItem, Position, ItemAccess, VariableAccess, PortAccess, AreaAccess}
+use Rattle.description_places.specs.declared.kind.Kind.TheVariants.{SenderReceiverInterface, ClientServerInterface, ModeSwitchInterface, UnknownInterface, DataElement, Operation, Component, Port, Composition, Prototype, DeclaredName, DeclaredMode, DeclaredArea, ComSpecItem, Position, ItemAccess, VariableAccess, PortAccess, AreaAccess}
 use Rattle.description_places.specs.Around.{text_in, text_at, named, place_at, value_at, owner_of}
 use Rattle.description_places.specs.Spots.{Level}
 use Rattle.description_places.specs.Visits.{Visit}
@@ -19,12 +18,9 @@ pub record Declared : Type 0 where
   pub place : List ℕ
   -- the kind of the object or list that its name stands in
   pub owner : Kind
-  -- what it leads to: a port to its interface and a prototype to its type, by their keys, all others to their own place
+  -- what it leads to: a port to its interface and a prototype to its type, by their keys, an interface, a component and a
+  -- composition to its own place; all others lead nowhere
   pub leads_to : List ℕ
-
--- the declaration that the program's stands for
-abbrev pub declared_of : Declaration → Declared
-declared_of d = record { key = string_bytes d.key; place = string_bytes d.place; owner = d.owner; leads_to = string_bytes d.leads_to }
 
 -- the list that an object's `shortName` is declared in: components and compositions count as one list, and so do the
 -- items of an interface, whatever list of it they stand in
@@ -79,7 +75,13 @@ key_of_kind kind d around = option_map (λ list. named list (name_of kind d arou
 abbrev pub end_of_object : Kind → Data → List ℕ → List ℕ
 end_of_object Port d place = named (codes "/interfaces") (text_at (codes "interface") d)
 end_of_object Prototype d place = named (codes "/components") (text_at (codes "type") d)
-end_of_object _ d place = place
+end_of_object SenderReceiverInterface d place = place
+end_of_object ClientServerInterface d place = place
+end_of_object ModeSwitchInterface d place = place
+end_of_object UnknownInterface d place = place
+end_of_object Component d place = place
+end_of_object Composition d place = place
+end_of_object _ d place = []
 
 abbrev pub end_of : List Level → List ℕ
 end_of around = end_of_object (owner_of around) (value_at 0 around) (place_at 0 around)

@@ -2,6 +2,7 @@ pub mod Alternatives
 pub mod Around
 pub mod Declarations
 pub mod Forms
+pub mod Gathered
 pub mod Keys
 pub mod Laws
 pub mod Names
@@ -9,6 +10,7 @@ pub mod References
 pub mod Rows
 pub mod Rules
 pub mod Shape
+pub mod Skips
 pub mod Spots
 pub mod Tables
 pub mod Trails

@@ -1,24 +1,35 @@
 //! What is declared, by its key, and what is declared twice.
 
-ghost use Rattle.std.specs.Prelude.{◌≡◌, ℕ, List, None, Some, Bool, IfOk, IfErr, is_some, map, option_map, string_bytes};
-ghost use Rattle.description_places.specs.Declarations.{declared_of, first_repeated};
+ghost use Rattle.std.specs.Prelude.{◌≡◌, ℕ, List, [], IfOk, IfErr, OnOk, option_map, string_bytes};
+ghost use Rattle.description_places.specs.Gathered.{all_distinct, repeated_at, with_next};
 ghost use Rattle.description_places.specs.References.{is_composition, is_declared, is_declared_composition, led_to};
 ghost use Rattle.description_places.specs.Rows.{text_of};
-ghost use Rattle.description_places.specs.Tables.{declared_in};
+ghost use Rattle.description_places.specs.Tables.{declared_as, declared_in, gathered_in};
+ghost use Rattle.description_places.specs.Trails.{spot_of};
 
-use crate::gathering::Declaration;
 use crate::kind::Kind;
+use crate::trail::Trail;
 use indexmap::IndexMap;
 use rte_text::Memory;
 use std::alloc::Global;
 
-/// What is declared, by its key.
+/// Something that a description declares.
 #[derive(Drop)]
-pub struct Declarations<'a> {
-    by_key: IndexMap<&'a str, &'a Declaration>,
+pub struct Declaration {
+    /// The kind of the object or list that its name stands in.
+    pub owner: Kind,
+    /// What it leads to: a port to its interface and a prototype to its type, by their keys, an interface, a component and a
+    /// composition to its own place. All others lead nowhere: the text is empty.
+    pub leads_to: String,
 }
 
-impl Declarations<'_> {
+/// What is declared, by its key.
+#[derive(Drop)]
+pub struct Declarations {
+    by_key: IndexMap<String, Declaration>,
+}
+
+impl Declarations {
     /// Whether something is declared under the key.
     pub fn contains(&self, key: &str) -> bool
         ensures { result ≡ is_declared (declared_in self.now) key.now }
@@ -53,25 +64,57 @@ fn is_composition(kind: Kind) -> bool
     matches!(kind, Kind::Composition)
 }
 
-/// What was found, by its key, or the place of the first whose key an earlier one has; in time that grows linearly.
-pub fn by_key<'a>(
-    alloc: Global,
-    found: &'a [Declaration],
-) -> Result<Result<Declarations<'a>, String>, Memory>
-    ensures distinct { IfOk result (λ answer. IfOk answer (λ table.
-        (first_repeated (map declared_of found.now) ≡ None) × (declared_in table ≡ map declared_of found.now))) }
-    ensures repeated { IfOk result (λ answer. IfErr answer (λ place.
-        first_repeated (map declared_of found.now) ≡ Some (string_bytes place))) }
-{
-    let mut by_key = IndexMap::new(alloc);
-    for declaration in found {
-        match by_key.insert(declaration.key.as_str(), declaration)? {
+/// What has been gathered of a description. Once a key is declared twice nothing more is kept.
+#[derive(Drop)]
+pub struct Gathering {
+    by_key: IndexMap<String, Declaration>,
+    repeated: Option<String>,
+}
+
+impl Gathering {
+    /// Nothing.
+    pub fn new(alloc: Global) -> Gathering
+        ensures { gathered_in result ≡ all_distinct [] }
+    {
+        Gathering {
+            by_key: IndexMap::new(alloc),
+            repeated: None,
+        }
+    }
+
+    /// Puts what is declared where the trail stands under its key.
+    pub fn put(
+        &mut self,
+        alloc: Global,
+        key: String,
+        declaration: Declaration,
+        trail: &Trail,
+    ) -> Result<(), Memory>
+        ensures { OnOk result (gathered_in self.new
+            ≡ with_next (gathered_in self.old) (declared_as (string_bytes key) (spot_of trail.now).place declaration)) }
+    {
+        if self.repeated.is_some() {
+            return Ok(());
+        }
+        match self.by_key.insert(key, declaration)? {
             Some(_) => {
-                let place = declaration.place.clone()?;
-                return Ok(Err(place));
+                let place = trail.place(alloc)?;
+                self.repeated = Some(place);
             }
             None => {}
         }
+        Ok(())
     }
-    Ok(Ok(Declarations { by_key }))
+
+    /// What is declared, or the place of the first that was declared before.
+    pub fn finish(self) -> Result<Declarations, String>
+        ensures distinct { IfOk result (λ table. gathered_in self ≡ all_distinct (declared_in table)) }
+        ensures repeated { IfErr result (λ place. gathered_in self ≡ repeated_at (string_bytes place)) }
+    {
+        let Gathering { by_key, repeated } = self;
+        match repeated {
+            Some(place) => Err(place),
+            None => Ok(Declarations { by_key }),
+        }
+    }
 }

@@ -1,38 +1,29 @@
 //! Gathering what a description declares.
 
-ghost use Rattle.std.specs.Prelude.{◌≡◌, ◌++◌, IfOk, OnOk, map, option_map, string_bytes, Some};
+ghost use Rattle.std.specs.Prelude.{◌≡◌, IfOk, OnOk, option_map, string_bytes};
 ghost use Rattle.serde_json.specs.View.{view, items_view, members_view};
 ghost use Rattle.description_places.specs.Around.{named, value_at, owner_of};
-ghost use Rattle.description_places.specs.Declarations.{declared_of, declared_by, declarations, list_of_object, list_of, parts_text, access_name, position_name, name_of, key_of_kind, end_of};
+ghost use Rattle.description_places.specs.Declarations.{declared_by, declarations, list_of_object, list_of, parts_text, access_name, position_name, name_of, key_of_kind, end_of};
+ghost use Rattle.description_places.specs.Gathered.{gathered_after};
 ghost use Rattle.description_places.specs.Keys.{key_of};
 ghost use Rattle.description_places.specs.Spots.{inside};
+ghost use Rattle.description_places.specs.Tables.{gathered_in};
 ghost use Rattle.description_places.specs.Trails.{spot_of};
 ghost use Rattle.description_places.specs.Visits.{visits, visit_at, items_visits, members_visits, in_array, in_object, at_key};
 
 use crate::alternatives::resolved;
 use crate::around::{named, owner_of, place_at, text_around, text_in};
 use crate::calculations::is_calculation;
+use crate::distinct::{Declaration, Gathering};
 use crate::keys::{Field, keys_of};
 use crate::kind::Kind;
+use crate::skipping::declares_nothing;
 use crate::trail::Trail;
 use crate::walk::part_kinds;
 use itoa::Buffer;
 use rte_text::Memory;
 use serde_json::{Map, Value};
 use std::alloc::Global;
-
-/// Something that a description declares.
-#[derive(Drop)]
-pub struct Declaration {
-    /// The list that declares it, with its name there.
-    pub key: String,
-    /// Where it is declared.
-    pub place: String,
-    /// The kind of the object or list that its name stands in.
-    pub owner: Kind,
-    /// What it leads to: a port to its interface and a prototype to its type, by their keys, all others to their own place.
-    pub leads_to: String,
-}
 
 fn list_of_object(alloc: Global, trail: &Trail) -> Result<String, Memory>
     ensures { IfOk result (λ text. string_bytes text
@@ -142,7 +133,13 @@ fn end_of(alloc: Global, trail: &Trail) -> Result<String, Memory>
             let list = String::from_str(alloc, "/components")?;
             named(list, text_around(trail, 0, "type"))
         }
-        _ => place_at(alloc, trail, 0),
+        Kind::SenderReceiverInterface
+        | Kind::ClientServerInterface
+        | Kind::ModeSwitchInterface
+        | Kind::UnknownInterface
+        | Kind::Component
+        | Kind::Composition => place_at(alloc, trail, 0),
+        _ => Ok(String::new(alloc)),
     }
 }
 
@@ -151,41 +148,34 @@ fn declare(
     value: &Value,
     kind: Kind,
     trail: &Trail,
-    found: &mut Vec<Declaration>,
+    found: &mut Gathering,
 ) -> Result<(), Memory>
-    ensures { OnOk result (map declared_of found.new.items
-        ≡ map declared_of found.old.items ++ declared_by (visit_at (spot_of trail.now) kind (view value.now))) }
+    ensures { OnOk result (gathered_in found.new
+        ≡ gathered_after (gathered_in found.old) (declared_by (visit_at (spot_of trail.now) kind (view value.now)))) }
 {
     match key_of_kind(alloc, kind, value, trail)? {
         Some(key) => {
-            let place = trail.place(alloc)?;
-            let leads_to = end_of(alloc, trail)?;
             let owner = owner_of(trail);
-            found.push(Declaration {
-                key,
-                place,
-                owner,
-                leads_to,
-            })?;
-            Ok(())
+            let leads_to = end_of(alloc, trail)?;
+            found.put(alloc, key, Declaration { owner, leads_to }, trail)
         }
         None => Ok(()),
     }
 }
 
-/// Appends what the value that stands here declares, and what is declared in it, in document order. The only error is that
+/// Gathers what the value that stands here declares, and what is declared in it, in document order. The only error is that
 /// there is no memory for it.
 #[cycle(gather)]
-#[tactic(auto, using(crate::proofs::Gathers::one_declared, crate::proofs::Calculating::nothing_declared))]
+#[tactic(auto, using(crate::proofs::Gathers::after_both, crate::proofs::Gathers::one_declared, crate::proofs::Calculating::nothing_declared))]
 pub fn gather(
     alloc: Global,
     value: &Value,
     kind: Kind,
     trail: &Trail,
-    found: &mut Vec<Declaration>,
+    found: &mut Gathering,
 ) -> Result<(), Memory>
-    ensures { OnOk result (map declared_of found.new.items
-        ≡ map declared_of found.old.items ++ declarations (visits (view value.now) kind (spot_of trail.now))) }
+    ensures { OnOk result (gathered_in found.new
+        ≡ gathered_after (gathered_in found.old) (declarations (visits (view value.now) kind (spot_of trail.now)))) }
 {
     let kind = resolved(kind, value);
     if is_calculation(kind) {
@@ -206,11 +196,11 @@ fn gather_parts(
     owner: &Value,
     kind: Kind,
     trail: &Trail,
-    found: &mut Vec<Declaration>,
+    found: &mut Gathering,
 ) -> Result<(), Memory>
-    ensures { OnOk result (map declared_of found.new.items
-        ≡ map declared_of found.old.items
-        ++ declarations (in_array kind (view owner.now) (spot_of trail.now) (items_visits (items_view parts.now)))) }
+    ensures { OnOk result (gathered_in found.new
+        ≡ gathered_after (gathered_in found.old)
+        (declarations (in_array kind (view owner.now) (spot_of trail.now) (items_visits (items_view parts.now))))) }
 {
     let kinds = part_kinds(kind);
     for index in 0..parts.len() {
@@ -227,11 +217,11 @@ fn gather_members(
     owner: &Value,
     kind: Kind,
     trail: &Trail,
-    found: &mut Vec<Declaration>,
+    found: &mut Gathering,
 ) -> Result<(), Memory>
-    ensures { OnOk result (map declared_of found.new.items
-        ≡ map declared_of found.old.items
-        ++ declarations (in_object kind (view owner.now) (spot_of trail.now) (members_visits (members_view members.now.entries)))) }
+    ensures { OnOk result (gathered_in found.new
+        ≡ gathered_after (gathered_in found.old)
+        (declarations (in_object kind (view owner.now) (spot_of trail.now) (members_visits (members_view members.now.entries))))) }
 {
     for key in keys_of(kind) {
         gather_at_key(alloc, members, key, owner, kind, trail, found)?;
@@ -247,12 +237,15 @@ fn gather_at_key(
     owner: &Value,
     kind: Kind,
     trail: &Trail,
-    found: &mut Vec<Declaration>,
+    found: &mut Gathering,
 ) -> Result<(), Memory>
-    ensures { OnOk result (map declared_of found.new.items
-        ≡ map declared_of found.old.items
-        ++ declarations (at_key (key_of key.now) (inside (spot_of trail.now) kind (view owner.now)) (members_visits (members_view members.now.entries)))) }
+    ensures { OnOk result (gathered_in found.new
+        ≡ gathered_after (gathered_in found.old)
+        (declarations (at_key (key_of key.now) (inside (spot_of trail.now) kind (view owner.now)) (members_visits (members_view members.now.entries))))) }
 {
+    if declares_nothing(key.kind) {
+        return Ok(());
+    }
     match members.get(key.name) {
         Some(value) => {
             let inner = Trail::Member(&*trail, &*owner, kind, key.name);

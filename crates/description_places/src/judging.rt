@@ -7,7 +7,7 @@ ghost use Rattle.description_places.specs.Rules.{least_of, refusal, refusal_of_n
 ghost use Rattle.description_places.specs.Tables.{declared_in};
 ghost use Rattle.description_places.specs.Visits.{first_broken};
 
-use crate::distinct::{Declarations, by_key};
+use crate::distinct::{Declarations, Gathering};
 use crate::gathering::gather;
 use crate::kind::Kind;
 use crate::references::ReferenceRule;
@@ -65,9 +65,9 @@ fn refusal_in_turn(alloc: Global, value: &Value) -> Result<Option<Refusal>, Memo
 fn refusal_of_names(alloc: Global, value: &Value) -> Result<Option<Refusal>, Memory>
     ensures { IfOk result (λ found. option_map {U = ℕ × List ℕ} (λ r. (r.rule, r.place)) found ≡ refusal_of_names (view value.now)) }
 {
-    let mut found = Vec::new(alloc);
+    let mut found = Gathering::new(alloc);
     gather(alloc, value, Kind::Description, &Trail::Whole, &mut found)?;
-    match by_key(alloc, &found)? {
+    match found.finish() {
         Err(place) => Ok(Some(refusal_at(alloc, 4, place)?)),
         Ok(declared) => refusal_of_references(alloc, value, &declared),
     }

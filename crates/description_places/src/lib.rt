@@ -45,13 +45,14 @@ mod rows;
 mod rule;
 mod rules;
 mod shape;
+mod skipping;
 mod trail;
 mod walk;
 
 pub use alternatives::{Alternative, choices_of, resolved};
-pub use distinct::{Declarations, by_key};
+pub use distinct::{Declaration, Declarations, Gathering};
 pub use form::{Form, form_of};
-pub use gathering::{Declaration, gather};
+pub use gathering::gather;
 pub use judging::judge;
 pub use keys::{Field, keys_of};
 pub use kind::Kind;

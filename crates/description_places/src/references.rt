@@ -14,6 +14,7 @@ use crate::calculations::is_calculation;
 use crate::distinct::Declarations;
 use crate::kind::Kind;
 use crate::rule::Rule;
+use crate::skipping::refers_to_nothing;
 use crate::trail::Trail;
 use rte_text::Memory;
 use serde_json::Value;
@@ -23,7 +24,7 @@ use std::alloc::Global;
 #[derive(Clone, Copy)]
 pub struct ReferenceRule<'a> {
     /// What the description declares.
-    pub declared: &'a Declarations<'a>,
+    pub declared: &'a Declarations,
 }
 
 impl Rule for ReferenceRule<'_> {
@@ -43,6 +44,11 @@ impl Rule for ReferenceRule<'_> {
     #[tactic(auto, using(crate::proofs::Calculating::references_pass))]
     fn passes(&self, kind: Kind) -> bool {
         is_calculation(kind)
+    }
+
+    #[tactic(auto, using(crate::proofs::Calculating::references_skip))]
+    fn skips(&self, kind: Kind) -> bool {
+        refers_to_nothing(kind)
     }
 }
 

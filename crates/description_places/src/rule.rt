@@ -3,6 +3,7 @@
 ghost use Rattle.std.specs.Prelude.{◌≡◌, Bool, true, IfOk};
 ghost use Rattle.serde_json.specs.View.{view};
 ghost use Rattle.description_places.specs.Calculations.{Passes};
+ghost use Rattle.description_places.specs.Skips.{Skips};
 ghost use Rattle.description_places.specs.Trails.{spot_of};
 ghost use Rattle.description_places.specs.Visits.{Visit, visit_at};
 
@@ -30,4 +31,8 @@ pub trait Rule {
     /// Whether the walk may pass a value of this kind, with all that it holds: then none of these breaks the rule.
     fn passes(&self, kind: Kind) -> bool
         ensures { result ≡ true → Passes (breaks self.now) kind };
+
+    /// Whether the walk need not look where a value of this kind should stand: nothing there breaks the rule.
+    fn skips(&self, kind: Kind) -> bool
+        ensures { result ≡ true → Skips (breaks self.now) kind };
 }

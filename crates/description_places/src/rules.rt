@@ -34,6 +34,10 @@ impl Rule for ShapeRule {
     fn passes(&self, _kind: Kind) -> bool {
         false
     }
+
+    fn skips(&self, _kind: Kind) -> bool {
+        false
+    }
 }
 
 /// Whether a value stands where a name should, and is none.
@@ -69,6 +73,10 @@ impl Rule for NameRule {
     fn passes(&self, _kind: Kind) -> bool {
         false
     }
+
+    fn skips(&self, _kind: Kind) -> bool {
+        false
+    }
 }
 
 /// Rules 2 and 3 together.
@@ -89,6 +97,10 @@ impl Rule for ShapeOrNameRule {
     }
 
     fn passes(&self, _kind: Kind) -> bool {
+        false
+    }
+
+    fn skips(&self, _kind: Kind) -> bool {
         false
     }
 }

@@ -105,6 +105,9 @@ fn first_at_key<R: Rule>(
     ensures { IfOk result (λ found. option_map string_bytes found
         ≡ first_broken (R.breaks rule.now) (at_key (key_of key.now) (inside (spot_of trail.now) kind (view owner.now)) (members_visits (members_view members.now.entries)))) }
 {
+    if rule.skips(key.kind) {
+        return Ok(None);
+    }
     match members.get(key.name) {
         Some(value) => {
             let inner = Trail::Member(&*trail, &*owner, kind, key.name);

@@ -5,9 +5,15 @@ use Rattle.description_places.specs.Keys.{key_of}
 use Rattle.description_places.specs.Spots.{inside, inside_part}
 use Rattle.description_places.specs.Trails.{spot_of}
 use Rattle.description_places.specs.Visits.{members_visits, part_of}
+use Rattle.description_places.proofs.Calculating.{none_at_key}
 use Rattle.description_places.proofs.Members.{member_found}
 use Rattle.description_places.proofs.Walks.{key_broken, key_unbroken, part_broken, part_unbroken, spot_of_part, spot_of_member, value_found, none_found, same_found}
 use Rattle.description_places.proofs.walk.+walk.Goals as goal
+
+pub first_at_key-returns-then-skips : goal.first_at_key-returns-then-skips
+first_at_key-returns-then-skips g t c =
+    none_at_key (g.R.Rule.breaks c.args.rule.now) (key_of c.args.key.now) (inside (spot_of c.args.trail.now) c.args.kind (view c.args.owner.now)) (members_view c.args.members.now.entries)
+    (c.skips.ensures c.if-skips.true)
 
 pub first_at_key-returns-in-Some : goal.first_at_key-returns-in-Some
 first_at_key-returns-in-Some g t c =
