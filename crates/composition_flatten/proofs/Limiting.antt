@@ -16,6 +16,7 @@ use Rattle.composition_tables.specs.contracts.links.LinkOrd.TheImpl as link
 use Rattle.composition_tables.specs.contracts.links.ItemOrd.TheImpl as item
 use Rattle.composition_tables.specs.contracts.tree.OwnerOrd.TheImpl as owner
 use Rattle.composition_tables.specs.Counts.{IsCounted, count_in}
+use Rattle.composition_tables.specs.LinkOrder.{AreInOrder}
 use Rattle.flat_descriptions.specs.Flattening.{KeepsLimits}
 use Rattle.flat_descriptions.specs.Growing.{IsPastLimit, Grown}
 use Rattle.flat_descriptions.specs.Places.{places, IsTooDeep}
@@ -32,7 +33,7 @@ use Rattle.composition_flatten.proofs.Linking.{join_linked}
 use Rattle.composition_tables.proofs.Members.{left, right, cases}
 use Rattle.composition_tables.proofs.Counting.{counted}
 use Rattle.composition_flatten.proofs.Naming.{placed_size, named_instances}
-use Rattle.composition_tables.proofs.SameLinks.{same_link, itself_link, apart_from_order}
+use Rattle.composition_tables.proofs.SameLinks.{itself_link, apart_from_order}
 use Rattle.composition_flatten.proofs.Wholes.{mapped, apart_map}
 
 -- the count tells whether there are few instances
@@ -102,10 +103,10 @@ module _ (d : Description) (keeps : KeepsCounts d) where
   past_full before after is_full none g full =
       past_joined (λ x. Among x before ⊎ IsLink d x) (λ x h. ⊎_elim (λ b. absurd (subst (Among x) none b)) (λ l. l) h) (g.past full)
 
-  pub past_long : (before after : List Link) (is_full : Bool) → before ≡ [] → Grown (IsLink d) before after is_full → IsStrictlySortedBy (link.cmp-value).it after → 65536 < length after → IsPastLimit (IsJoined d)
+  pub past_long : (before after : List Link) (is_full : Bool) → before ≡ [] → Grown (IsLink d) before after is_full → AreInOrder after → 65536 < length after → IsPastLimit (IsJoined d)
   past_long before after is_full none g order long =
       past_joined (λ x. Among x after) (λ x h. ⊎_elim (λ b. absurd (subst (Among x) none b)) (λ l. l) (g.sound x h))
-      (after, apart_from_order (link.cmp-value).it same_link itself_link after order, (λ x h. h), long)
+      (after, apart_from_order (link.cmp-value).it itself_link after order, (λ x h. h), long)
 
   -- the joins keep the order of the links
   owner_ordered : (x y : Owner) → (owner.cmp-value).it x y ≡ instance_order (instance_of x) (instance_of y)
@@ -124,7 +125,7 @@ module _ (d : Description) (keeps : KeepsCounts d) where
   all_after x [] h = h
   all_after x (y ∷ ys) h = (sym (link_ordered x y) ∙ h.0, all_after x ys h.1)
 
-  joins_ordered : (xs : List Link) → IsStrictlySortedBy (link.cmp-value).it xs → IsStrictlySortedBy join_order (map join_of xs)
+  joins_ordered : (xs : List Link) → AreInOrder xs → IsStrictlySortedBy join_order (map join_of xs)
   unfolding IsStrictlySortedBy
   joins_ordered [] h = h
   joins_ordered (x ∷ xs) h = (all_after x xs h.0, joins_ordered xs h.1)
@@ -134,10 +135,10 @@ module _ (d : Description) (keeps : KeepsCounts d) where
   among_map x (y ∷ xs) (inl e) = inl (ap join_of e)
   among_map x (y ∷ xs) (inr h) = inr (among_map x xs h)
 
-  pub are_joins : (before after slice list : List Link) (joins : List Join) (is_full : Bool) → before ≡ [] → Grown (IsLink d) before after is_full → is_full ≡ false → IsStrictlySortedBy (link.cmp-value).it after → length after ≤ 65536
-      → list ≡ after → slice ≡ list → joins ≡ map join_of slice → AreJoins d joins
-  are_joins before after slice list joins is_full none g room order few list_is slice_is joins_are =
-      let same : joins ≡ map join_of after = joins_are ∙ ap (map join_of) (slice_is ∙ list_is) in
+  pub are_joins : (before after slice : List Link) (joins : List Join) (is_full : Bool) → before ≡ [] → Grown (IsLink d) before after is_full → is_full ≡ false → AreInOrder after → length after ≤ 65536
+      → slice ≡ after → joins ≡ map join_of slice → AreJoins d joins
+  are_joins before after slice joins is_full none g room order few slice_is joins_are =
+      let same : joins ≡ map join_of after = joins_are ∙ ap (map join_of) slice_is in
       let exact : (j : Join) → Among j joins ↔ IsJoined d j = λ j. (
         (λ h. let r = mapped join_of j after (subst (Among j) same h) in subst (IsJoined d) (sym r.2) (link_joined d keeps.few keeps.shallow r.0 (⊎_elim (λ b. absurd (subst (Among r.0) none b)) (λ l. l) (g.sound r.0 r.1)))),
         (λ h. let r = join_linked d keeps.few keeps.shallow j h in subst (Among j) (sym same) (subst (λ w. Among w (map join_of after)) r.2 (among_map r.0 after (g.has room r.0 r.1)))),

@@ -12,10 +12,11 @@ ghost use Rattle.composition_tables.specs.Trees.{IsTree};
 ghost use Rattle.composition_flatten.specs.Within.{IsWithin, AreJoins, KeepsCounts};
 
 use crate::listing::list_instances;
-use crate::whole::{add_links, listed};
+use crate::whole::add_links;
 use composition_tables::counts::{DEPTH_LIMIT, count_below, count_levels};
 use composition_tables::delegations::delegations;
 use composition_tables::depth::is_too_deep;
+use composition_tables::gathering::{no_links, put_in_order};
 use composition_tables::links::{Item, LINK_LIMIT, Link};
 use composition_tables::prototypes::prototypes_of;
 use composition_tables::starts::start_levels;
@@ -24,7 +25,6 @@ use description_types::Description;
 use flat_descriptions::{End, Instance, Join};
 use rte_text::Memory;
 use std::alloc::Global;
-use std::collections::BTreeSet;
 
 /// The greatest number of instances.
 const INSTANCE_LIMIT: u32 = 1_024;
@@ -119,16 +119,16 @@ fn joins_within(alloc: Global, tree: &Tree) -> Result<Option<Vec<Join>>, Memory>
     ensures none { IfOk result (λ found. IfNone found (IsPastLimit (IsJoined tree.now.d.now))) }
     ensures some { IfOk result (λ found. IfSome found (λ joins. AreJoins tree.now.d.now joins.items)) }
 {
-    let mut links = BTreeSet::new(alloc);
+    let mut links = no_links(alloc);
     let is_full = add_links(alloc, tree, &mut links)?;
     if is_full {
         return Ok(None);
     }
-    if links.len() > LINK_LIMIT {
+    put_in_order(&mut links)?;
+    if links.list.len() > LINK_LIMIT {
         return Ok(None);
     }
-    let list = listed(alloc, &links)?;
-    let joins = joins_of(alloc, list.as_slice())?;
+    let joins = joins_of(alloc, links.list.as_slice())?;
     Ok(Some(joins))
 }
 

@@ -9,7 +9,7 @@ ghost use Rattle.end_crossing.specs.Crossings.{IsAdding};
 ghost use Rattle.composition_tables.specs.Trees.{IsTree};
 
 use composition_tables::connectors::{connectors_of, lets_join};
-use composition_tables::links::Link;
+use composition_tables::gathering::Links;
 use composition_tables::tree::Tree;
 use description_types::{Connector, InnerPort};
 use end_crossing::matched::Matched;
@@ -17,7 +17,6 @@ use end_crossing::splitting::cross_gates;
 use end_search::gates::{inner_gate, narrowed};
 use rte_text::Memory;
 use std::alloc::Global;
-use std::collections::BTreeSet;
 
 fn add_crossing(
     alloc: Global,
@@ -27,15 +26,15 @@ fn add_crossing(
     provider: InnerPort,
     requester: InnerPort,
     matched: &mut Matched,
-    links: &mut BTreeSet<Link>,
+    links: &mut Links,
 ) -> Result<bool, Memory>
     requires is_tree { IsTree tree.now }
     requires within { depth ≤ 8 }
-    requires matched { IsAdding tree.now.d.now matched.old links.old.keys }
-    ensures matched { OnOk result (IsAdding tree.now.d.now matched.new links.new.keys) }
+    requires matched { IsAdding tree.now.d.now matched.old links.old.list.items }
+    ensures matched { OnOk result (IsAdding tree.now.d.now matched.new links.new.list.items) }
     ensures grown { IfOk result (λ is_full. Grown (IsCrossLink tree.now.d.now
         (inner_ends tree.now.d.now depth (ends tree.now.d.now depth) composition 0 provider)
-        (inner_ends tree.now.d.now depth (ends tree.now.d.now depth) composition 0 requester)) links.old.keys links.new.keys is_full) }
+        (inner_ends tree.now.d.now depth (ends tree.now.d.now depth) composition 0 requester)) links.old.list.items links.new.list.items is_full) }
 {
     match inner_gate(tree, depth, composition, 0, provider) {
         Some(provided) => match inner_gate(tree, depth, composition, 0, requester) {
@@ -58,13 +57,13 @@ fn add_assembly(
     composition: u32,
     connector: Connector,
     matched: &mut Matched,
-    links: &mut BTreeSet<Link>,
+    links: &mut Links,
 ) -> Result<bool, Memory>
     requires is_tree { IsTree tree.now }
     requires within { depth ≤ 8 }
-    requires matched { IsAdding tree.now.d.now matched.old links.old.keys }
-    ensures matched { OnOk result (IsAdding tree.now.d.now matched.new links.new.keys) }
-    ensures grown { IfOk result (λ is_full. Grown (IsAssemblyLink tree.now.d.now depth composition connector) links.old.keys links.new.keys is_full) }
+    requires matched { IsAdding tree.now.d.now matched.old links.old.list.items }
+    ensures matched { OnOk result (IsAdding tree.now.d.now matched.new links.new.list.items) }
+    ensures grown { IfOk result (λ is_full. Grown (IsAssemblyLink tree.now.d.now depth composition connector) links.old.list.items links.new.list.items is_full) }
 {
     match connector {
         Connector::Assembly {
@@ -97,13 +96,13 @@ pub fn add_own(
     depth: usize,
     composition: u32,
     matched: &mut Matched,
-    links: &mut BTreeSet<Link>,
+    links: &mut Links,
 ) -> Result<bool, Memory>
     requires is_tree { IsTree tree.now }
     requires within { depth ≤ 8 }
-    requires matched { IsAdding tree.now.d.now matched.old links.old.keys }
-    ensures matched { OnOk result (IsAdding tree.now.d.now matched.new links.new.keys) }
-    ensures grown { IfOk result (λ is_full. Grown (IsOwnLink tree.now.d.now depth composition) links.old.keys links.new.keys is_full) }
+    requires matched { IsAdding tree.now.d.now matched.old links.old.list.items }
+    ensures matched { OnOk result (IsAdding tree.now.d.now matched.new links.new.list.items) }
+    ensures grown { IfOk result (λ is_full. Grown (IsOwnLink tree.now.d.now depth composition) links.old.list.items links.new.list.items is_full) }
 {
     for connector in connectors_of(tree.d, composition as usize) {
         if add_assembly(alloc, tree, depth, composition, *connector, matched, links)? {

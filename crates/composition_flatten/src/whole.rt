@@ -18,7 +18,8 @@ ghost use Rattle.composition_tables.specs.Trees.{IsTree};
 use crate::own::add_own;
 use composition_tables::connectors::{connectors_of, interface_of, kind_of};
 use composition_tables::counts::DEPTH_LIMIT;
-use composition_tables::links::{Item, Link, add_link, owner_from};
+use composition_tables::gathering::{Links, add_link, no_links, put_in_order};
+use composition_tables::links::{Item, Link, owner_from};
 use composition_tables::nodes::{Node, nodes_of};
 use composition_tables::tree::Tree;
 use description_types::{Connector, PortKind, PrototypeType};
@@ -28,7 +29,6 @@ use end_search::gates::{Gate, narrowed};
 use indexmap::IndexSet;
 use rte_text::Memory;
 use std::alloc::Global;
-use std::collections::BTreeSet;
 
 /// A number that no composition has: the links of none are taken first.
 const NO_COMPOSITION: u32 = u32::MAX;
@@ -41,17 +41,6 @@ pub struct Own {
     pub composition: u32,
     pub links: Vec<Link>,
     pub is_full: bool,
-}
-
-/// The links of a set, in order.
-pub fn listed(alloc: Global, links: &BTreeSet<Link>) -> Result<Vec<Link>, Memory>
-    ensures { IfOk result (λ list. list.items ≡ links.now.keys) }
-{
-    let mut list = Vec::with_capacity(alloc, links.len())?;
-    for link in links {
-        list.push(*link)?;
-    }
-    Ok(list)
 }
 
 fn item_from(first: u32, item: Item) -> Item
@@ -73,15 +62,15 @@ fn link_from(first: u32, link: Link) -> Link
     }
 }
 
-fn add_one_from(first: u32, link: Link, links: &mut BTreeSet<Link>) -> Result<bool, Memory>
-    ensures { IfOk result (λ is_full. Grown (λ x. x ≡ link_from first link) links.old.keys links.new.keys is_full) }
+fn add_one_from(first: u32, link: Link, links: &mut Links) -> Result<bool, Memory>
+    ensures { IfOk result (λ is_full. Grown (λ x. x ≡ link_from first link) links.old.list.items links.new.list.items is_full) }
 {
     let is_full = add_link(links, link_from(first, link))?;
     Ok(is_full)
 }
 
-fn add_from(first: u32, own: &[Link], links: &mut BTreeSet<Link>) -> Result<bool, Memory>
-    ensures { IfOk result (λ is_full. Grown (AnyOf (λ (y : Link) x. x ≡ link_from first y) own.now) links.old.keys links.new.keys is_full) }
+fn add_from(first: u32, own: &[Link], links: &mut Links) -> Result<bool, Memory>
+    ensures { IfOk result (λ is_full. Grown (AnyOf (λ (y : Link) x. x ≡ link_from first y) own.now) links.old.list.items links.new.list.items is_full) }
 {
     for link in own {
         if add_one_from(first, *link, links)? {
@@ -106,14 +95,14 @@ fn own_of(
     ensures composition { IfOk result (λ own. own.composition ≡ composition) }
     ensures own { IfOk result (λ own. IsOwn tree.now.d.now own) }
 {
-    let mut found = BTreeSet::new(alloc);
+    let mut found = no_links(alloc);
     matched.begin(alloc, tree.d);
     let is_full = add_own(alloc, tree, depth, composition, matched, &mut found)?;
-    let links = listed(alloc, &found)?;
+    put_in_order(&mut found)?;
     Ok(Own {
         depth,
         composition,
-        links,
+        links: found.list,
         is_full,
     })
 }
@@ -149,14 +138,14 @@ fn add_as_they_are(
     tree: &Tree,
     node: Node,
     matched: &mut Matched,
-    links: &mut BTreeSet<Link>,
+    links: &mut Links,
 ) -> Result<bool, Memory>
     requires is_tree { IsTree tree.now }
     requires depth { node.depth ≤ 8 }
     requires first { node.first ≡ 0 }
     requires matched { IsMatched tree.now.d.now matched.old }
     ensures matched { OnOk result (IsMatched tree.now.d.now matched.new) }
-    ensures grown { IfOk result (λ is_full. Grown (IsNodeLink tree.now.d.now node) links.old.keys links.new.keys is_full) }
+    ensures grown { IfOk result (λ is_full. Grown (IsNodeLink tree.now.d.now node) links.old.list.items links.new.list.items is_full) }
 {
     matched.begin(alloc, tree.d);
     let is_full = add_own(alloc, tree, node.depth, node.composition, matched, links)?;
@@ -171,7 +160,7 @@ fn add_node(
     node: Node,
     own: &mut Own,
     matched: &mut Matched,
-    links: &mut BTreeSet<Link>,
+    links: &mut Links,
 ) -> Result<bool, Memory>
     requires is_tree { IsTree tree.now }
     requires depth { node.depth ≤ 8 }
@@ -180,7 +169,7 @@ fn add_node(
     requires matched { IsMatched tree.now.d.now matched.old }
     ensures matched { OnOk result (IsMatched tree.now.d.now matched.new) }
     ensures own { OnOk result (IsOwn tree.now.d.now own.new) }
-    ensures grown { IfOk result (λ is_full. Grown (IsNodeLink tree.now.d.now node) links.old.keys links.new.keys is_full) }
+    ensures grown { IfOk result (λ is_full. Grown (IsNodeLink tree.now.d.now node) links.old.list.items links.new.list.items is_full) }
 {
     if node.first == 0 {
         let is_full = add_as_they_are(alloc, tree, node, matched, links)?;
@@ -201,14 +190,14 @@ fn add_each_node(
     nodes: &[Node],
     last: Own,
     matched: &mut Matched,
-    links: &mut BTreeSet<Link>,
+    links: &mut Links,
 ) -> Result<bool, Memory>
     requires is_tree { IsTree tree.now }
     requires within { (x : Node) → Among x nodes.now → (x.depth ≤ 8) × (x.first ≤ 2 ^ 31) }
     requires own { IsOwn tree.now.d.now last }
     requires matched { IsMatched tree.now.d.now matched.old }
     ensures matched { OnOk result (IsMatched tree.now.d.now matched.new) }
-    ensures grown { IfOk result (λ is_full. Grown (AnyOf (IsNodeLink tree.now.d.now) nodes.now) links.old.keys links.new.keys is_full) }
+    ensures grown { IfOk result (λ is_full. Grown (AnyOf (IsNodeLink tree.now.d.now) nodes.now) links.old.list.items links.new.list.items is_full) }
 {
     let mut own = last;
     for node in nodes {
@@ -224,13 +213,13 @@ fn add_nodes(
     tree: &Tree,
     nodes: &[Node],
     matched: &mut Matched,
-    links: &mut BTreeSet<Link>,
+    links: &mut Links,
 ) -> Result<bool, Memory>
     requires is_tree { IsTree tree.now }
     requires within { (x : Node) → Among x nodes.now → (x.depth ≤ 8) × (x.first ≤ 2 ^ 31) }
     requires matched { IsMatched tree.now.d.now matched.old }
     ensures matched { OnOk result (IsMatched tree.now.d.now matched.new) }
-    ensures grown { IfOk result (λ is_full. Grown (AnyOf (IsNodeLink tree.now.d.now) nodes.now) links.old.keys links.new.keys is_full) }
+    ensures grown { IfOk result (λ is_full. Grown (AnyOf (IsNodeLink tree.now.d.now) nodes.now) links.old.list.items links.new.list.items is_full) }
 {
     let own = own_of(alloc, tree, 0, NO_COMPOSITION, matched)?;
     let is_full = add_each_node(alloc, tree, nodes, own, matched, links)?;
@@ -244,14 +233,14 @@ fn add_by_kind(
     own: Gate,
     inner: Gate,
     matched: &mut Matched,
-    links: &mut BTreeSet<Link>,
+    links: &mut Links,
 ) -> Result<bool, Memory>
     requires is_tree { IsTree tree.now }
     requires own { IsShallow own }
     requires inner { IsShallow inner }
-    requires matched { IsAdding tree.now.d.now matched.old links.old.keys }
-    ensures matched { OnOk result (IsAdding tree.now.d.now matched.new links.new.keys) }
-    ensures grown { IfOk result (λ is_full. Grown (outer_link (Some kind) tree.now.d.now (gate_ends tree.now.d.now own) (gate_ends tree.now.d.now inner)) links.old.keys links.new.keys is_full) }
+    requires matched { IsAdding tree.now.d.now matched.old links.old.list.items }
+    ensures matched { OnOk result (IsAdding tree.now.d.now matched.new links.new.list.items) }
+    ensures grown { IfOk result (λ is_full. Grown (outer_link (Some kind) tree.now.d.now (gate_ends tree.now.d.now own) (gate_ends tree.now.d.now inner)) links.old.list.items links.new.list.items is_full) }
 {
     match kind {
         PortKind::Required => {
@@ -272,14 +261,14 @@ fn add_between(
     own: Gate,
     inner: Gate,
     matched: &mut Matched,
-    links: &mut BTreeSet<Link>,
+    links: &mut Links,
 ) -> Result<bool, Memory>
     requires is_tree { IsTree tree.now }
     requires own { IsShallow own }
     requires inner { IsShallow inner }
-    requires matched { IsAdding tree.now.d.now matched.old links.old.keys }
-    ensures matched { OnOk result (IsAdding tree.now.d.now matched.new links.new.keys) }
-    ensures grown { IfOk result (λ is_full. Grown (outer_link kind tree.now.d.now (gate_ends tree.now.d.now own) (gate_ends tree.now.d.now inner)) links.old.keys links.new.keys is_full) }
+    requires matched { IsAdding tree.now.d.now matched.old links.old.list.items }
+    ensures matched { OnOk result (IsAdding tree.now.d.now matched.new links.new.list.items) }
+    ensures grown { IfOk result (λ is_full. Grown (outer_link kind tree.now.d.now (gate_ends tree.now.d.now own) (gate_ends tree.now.d.now inner)) links.old.list.items links.new.list.items is_full) }
 {
     match kind {
         Some(kind) => {
@@ -305,12 +294,12 @@ fn add_outer(
     tree: &Tree,
     port: u32,
     matched: &mut Matched,
-    links: &mut BTreeSet<Link>,
+    links: &mut Links,
 ) -> Result<bool, Memory>
     requires is_tree { IsTree tree.now }
     requires matched { IsMatched tree.now.d.now matched.old }
     ensures matched { OnOk result (IsMatched tree.now.d.now matched.new) }
-    ensures grown { IfOk result (λ is_full. Grown (IsOuterLink tree.now.d.now port) links.old.keys links.new.keys is_full) }
+    ensures grown { IfOk result (λ is_full. Grown (IsOuterLink tree.now.d.now port) links.old.list.items links.new.list.items is_full) }
 {
     let root = PrototypeType::Composition(tree.d.root);
     match interface_of(tree.d, root, port) {
@@ -356,11 +345,11 @@ fn add_each_outer(
     tree: &Tree,
     ports: &[u32],
     matched: &mut Matched,
-    links: &mut BTreeSet<Link>,
+    links: &mut Links,
 ) -> Result<bool, Memory>
     requires is_tree { IsTree tree.now }
     requires matched { IsMatched tree.now.d.now matched.old }
-    ensures { IfOk result (λ is_full. Grown (AnyOf (IsOuterLink tree.now.d.now) ports.now) links.old.keys links.new.keys is_full) }
+    ensures { IfOk result (λ is_full. Grown (AnyOf (IsOuterLink tree.now.d.now) ports.now) links.old.list.items links.new.list.items is_full) }
 {
     for port in ports {
         if add_outer(alloc, tree, *port, matched, links)? {
@@ -375,11 +364,11 @@ fn add_outers(
     alloc: Global,
     tree: &Tree,
     matched: &mut Matched,
-    links: &mut BTreeSet<Link>,
+    links: &mut Links,
 ) -> Result<bool, Memory>
     requires is_tree { IsTree tree.now }
     requires matched { IsMatched tree.now.d.now matched.old }
-    ensures { IfOk result (λ is_full. Grown (λ (x : Link). (port : ℕ) × IsOuterLink tree.now.d.now port x) links.old.keys links.new.keys is_full) }
+    ensures { IfOk result (λ is_full. Grown (λ (x : Link). (port : ℕ) × IsOuterLink tree.now.d.now port x) links.old.list.items links.new.list.items is_full) }
 {
     let ports = delegated_ports(alloc, connectors_of(tree.d, tree.d.root as usize))?;
     let is_full = add_each_outer(alloc, tree, ports.as_slice(), matched, links)?;
@@ -388,10 +377,10 @@ fn add_outers(
 
 /// Adds all links of a description. The answer is whether there are more of them than the limit; then the rest may be
 /// missing.
-pub fn add_links(alloc: Global, tree: &Tree, links: &mut BTreeSet<Link>) -> Result<bool, Memory>
+pub fn add_links(alloc: Global, tree: &Tree, links: &mut Links) -> Result<bool, Memory>
     requires is_tree { IsTree tree.now }
     requires few { HasFewItems tree.now.d.now }
-    ensures { IfOk result (λ is_full. Grown (IsLink tree.now.d.now) links.old.keys links.new.keys is_full) }
+    ensures { IfOk result (λ is_full. Grown (IsLink tree.now.d.now) links.old.list.items links.new.list.items is_full) }
 {
     let mut matched = Matched::new(alloc, tree.d)?;
     let nodes = nodes_of(alloc, tree)?;

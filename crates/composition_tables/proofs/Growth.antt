@@ -1,21 +1,48 @@
 -- Sets that grow, step by step.
-use Rattle.std.proofs.Common.{◌≡◌, ℕ, ◌+◌, ◌<◌, ◌≤◌, List, [], ◌∷◌, length, get_or, take, drop, Bool, true, false, ltb, ◌⊎◌, inl, inr, ⊎_elim, ◌↔◌, refl, sym, subst, ◌∙◌, true≢false}
+use Rattle.std.proofs.Common.{◌≡◌, ℕ, ◌+◌, ◌<◌, ◌≤◌, List, [], ◌∷◌, ◌++◌, length, get_or, take, drop, Bool, true, false, ltb, ◌⊎◌, inl, inr, ⊎_elim, ◌↔◌, refl, sym, subst, ◌∙◌, true≢false}
 use Rattle.std.proofs.lemmas.Bool.{ltb-true}
 use Rattle.std.proofs.lemmas.List.{take_more, take_all, take-append-drop}
+use Rattle.std.specs.Prelude.{IsPermutation}
 use Rattle.flat_descriptions.specs.Growing.{AnyOf, IsPastLimit, Grown}
 use Rattle.flat_descriptions.specs.Members.{Among, AllApart}
 use Rattle.composition_tables.proofs.Members.{left, right, cases, at}
+use Rattle.composition_tables.proofs.Sorting.{moved_same}
 
 pub past_weaker : {X : Type 0} (P Q : X → Type 0) → ((x : X) → P x → Q x) → IsPastLimit P → IsPastLimit Q
 past_weaker P Q weaker h = (h.0, h.1, (λ x a. weaker x (h.2 x a)), h.3)
 
 module _ {X : Type 0} where
-  pub grown_one : (before after : List X) (x : X) (is_full : Bool) → ((y : X) → Among y after ↔ (Among y before ⊎ (y ≡ x))) → AllApart after → is_full ≡ ltb 65536 (length after) → Grown (λ y. y ≡ x) before after is_full
-  grown_one before after x is_full more apart is = record {
-    sound = λ y h. (more y).0 h;
-    stays = λ y h. (more y).1 (inl h);
-    has = λ _ y h. (more y).1 (inr h);
-    past = λ full. (after, apart, (λ y h. (more y).0 h), ltb-true 65536 (length after) (sym is ∙ full));
+  pushed : (before after : List X) (x : X) → after ≡ before ++ x ∷ [] → (y : X) → Among y after ↔ (Among y before ⊎ (y ≡ x))
+  pushed before after x is y = (
+    (λ h. ⊎_elim (λ l. inl l) (λ r. ⊎_elim (λ e. inr e) (λ no. absurd no) r) (cases y before (x ∷ []) (subst (Among y) is h))),
+    (λ s. subst (Among y) (sym is) (⊎_elim (λ l. left y before (x ∷ []) l) (λ e. right y before (x ∷ []) (inl e)) s)),
+  )
+
+  -- the elements are moved, and one is put behind them
+  pub grown_pushed : (before moved after : List X) (x : X) → IsPermutation before moved → after ≡ moved ++ x ∷ [] → Grown (λ y. y ≡ x) before after false
+  grown_pushed before moved after x same is = record {
+    sound = λ y h. ⊎_elim (λ l. inl ((moved_same before moved same y).0 l)) (λ e. inr e) ((pushed moved after x is y).0 h);
+    stays = λ y h. (pushed moved after x is y).1 (inl ((moved_same before moved same y).1 h));
+    has = λ _ y h. (pushed moved after x is y).1 (inr h);
+    past = λ full. absurd (true≢false (sym full));
+  }
+
+  -- so many different ones are past the limit
+  pub grown_counted : (P : X → Type 0) (before after : List X) (is_full : Bool) → Grown P before after false → AllApart after → is_full ≡ ltb 65536 (length after) → Grown P before after is_full
+  grown_counted P before after is_full g apart is = record {
+    sound = g.sound;
+    stays = g.stays;
+    has = λ _ x p. g.has refl x p;
+    past = λ full. (after, apart, g.sound, ltb-true 65536 (length after) (sym is ∙ full));
+  }
+
+  -- a list is put in order
+  pub grown_ordered : (P : X → Type 0) (before between after : List X) (is_full : Bool) → ((x : X) → Among x after ↔ Among x between) → Grown P before between is_full → Grown P before after is_full
+  grown_ordered P before between after is_full same g = record {
+    sound = λ x h. g.sound x ((same x).0 h);
+    stays = λ x h. (same x).1 (g.stays x h);
+    has = λ f x p. (same x).1 (g.has f x p);
+    past = g.past;
   }
 
   pub grown_same : (P Q : X → Type 0) (before after : List X) (is_full : Bool) → ((x : X) → P x → Q x) → ((x : X) → Q x → P x) → Grown P before after is_full → Grown Q before after is_full

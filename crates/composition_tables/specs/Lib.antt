@@ -2,6 +2,7 @@ pub mod Counts
 pub mod Ends
 pub mod Inner
 pub mod Levels
+pub mod LinkOrder
 pub mod Multi
 pub mod Nodes
 pub mod Owners

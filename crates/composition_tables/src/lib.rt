@@ -9,6 +9,7 @@ pub mod counts;
 pub mod delegations;
 pub mod depth;
 pub mod ends;
+pub mod gathering;
 pub mod inner;
 pub mod links;
 pub mod multi;

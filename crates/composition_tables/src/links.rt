@@ -1,12 +1,9 @@
-//! Sets of links.
+//! Links.
 
-ghost use Rattle.std.specs.Prelude.{◌≡◌, IfOk};
-ghost use Rattle.flat_descriptions.specs.Growing.{Grown};
+ghost use Rattle.std.specs.Prelude.{◌≡◌};
 ghost use Rattle.composition_tables.specs.Owners.{owner_from};
 
 use crate::tree::Owner;
-use rte_text::Memory;
-use std::collections::BTreeSet;
 
 /// An item of a port.
 #[derive(Clone, Copy, PartialEq, Eq, PartialOrd, Ord)]
@@ -26,14 +23,6 @@ pub struct Link {
 
 /// The greatest number of joined pairs.
 pub const LINK_LIMIT: usize = 65_536;
-
-/// Adds a link. The answer is whether there are more of them now than the limit.
-pub fn add_link(links: &mut BTreeSet<Link>, link: Link) -> Result<bool, Memory>
-    ensures { IfOk result (λ is_full. Grown (λ x. x ≡ link) links.old.keys links.new.keys is_full) }
-{
-    links.insert(link)?;
-    Ok(links.len() > LINK_LIMIT)
-}
 
 /// An owner, with instances numbered from another first one on.
 pub fn owner_from(first: u32, owner: Owner) -> Owner

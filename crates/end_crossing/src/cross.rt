@@ -7,13 +7,13 @@ ghost use Rattle.end_crossing.specs.PortLinks.{item_of, link_of, IsPairLink, IsC
 ghost use Rattle.end_crossing.specs.Crossings.{HasPairs, IsAdding, IsBetween};
 
 use crate::matched::Matched;
-use composition_tables::links::{Item, Link, add_link};
+use composition_tables::gathering::{Links, add_link};
+use composition_tables::links::{Item, Link};
 use composition_tables::tree::PortEnd;
 use description_types::Description;
 use end_search::groups::{Groups, group_of, groups_of};
 use rte_text::Memory;
 use std::alloc::Global;
-use std::collections::BTreeSet;
 
 fn item_of(end: PortEnd, element: u32) -> Item
     ensures { result ≡ item_of end element }
@@ -38,9 +38,9 @@ fn add_item(
     provided: PortEnd,
     required: PortEnd,
     items: (u32, u32),
-    links: &mut BTreeSet<Link>,
+    links: &mut Links,
 ) -> Result<bool, Memory>
-    ensures { IfOk result (λ is_full. Grown (λ x. x ≡ link_of provided required items) links.old.keys links.new.keys is_full) }
+    ensures { IfOk result (λ is_full. Grown (λ x. x ≡ link_of provided required items) links.old.list.items links.new.list.items is_full) }
 {
     let is_full = add_link(links, link_of(provided, required, items))?;
     Ok(is_full)
@@ -52,9 +52,9 @@ fn add_items(
     provided: PortEnd,
     required: PortEnd,
     pairs: &[(u32, u32)],
-    links: &mut BTreeSet<Link>,
+    links: &mut Links,
 ) -> Result<bool, Memory>
-    ensures { IfOk result (λ is_full. Grown (AnyOf (λ (items : ℕ × ℕ) x. x ≡ link_of provided required items) pairs.now) links.old.keys links.new.keys is_full) }
+    ensures { IfOk result (λ is_full. Grown (AnyOf (λ (items : ℕ × ℕ) x. x ≡ link_of provided required items) pairs.now) links.old.list.items links.new.list.items is_full) }
 {
     for pair in pairs {
         if add_item(provided, required, *pair, links)? {
@@ -71,11 +71,11 @@ pub fn add_pair(
     provided: PortEnd,
     required: PortEnd,
     matched: &mut Matched,
-    links: &mut BTreeSet<Link>,
+    links: &mut Links,
 ) -> Result<bool, Memory>
-    requires { IsAdding d.now matched.old links.old.keys }
-    ensures matched { OnOk result (IsAdding d.now matched.new links.new.keys) }
-    ensures grown { IfOk result (λ is_full. Grown (IsPairLink d.now provided required) links.old.keys links.new.keys is_full) }
+    requires { IsAdding d.now matched.old links.old.list.items }
+    ensures matched { OnOk result (IsAdding d.now matched.new links.new.list.items) }
+    ensures grown { IfOk result (λ is_full. Grown (IsPairLink d.now provided required) links.old.list.items links.new.list.items is_full) }
 {
     if matched.is_done(provided, required) {
         return Ok(false);
@@ -96,11 +96,11 @@ pub fn add_ends(
     provided: PortEnd,
     required: &[PortEnd],
     matched: &mut Matched,
-    links: &mut BTreeSet<Link>,
+    links: &mut Links,
 ) -> Result<bool, Memory>
-    requires { IsAdding d.now matched.old links.old.keys }
-    ensures matched { OnOk result (IsAdding d.now matched.new links.new.keys) }
-    ensures grown { IfOk result (λ is_full. Grown (AnyOf (IsPairLink d.now provided) required.now) links.old.keys links.new.keys is_full) }
+    requires { IsAdding d.now matched.old links.old.list.items }
+    ensures matched { OnOk result (IsAdding d.now matched.new links.new.list.items) }
+    ensures grown { IfOk result (λ is_full. Grown (AnyOf (IsPairLink d.now provided) required.now) links.old.list.items links.new.list.items is_full) }
 {
     for end in required {
         if add_pair(alloc, d, provided, *end, matched, links)? {
@@ -116,11 +116,11 @@ fn add_all(
     provided: &[PortEnd],
     required: &[PortEnd],
     matched: &mut Matched,
-    links: &mut BTreeSet<Link>,
+    links: &mut Links,
 ) -> Result<bool, Memory>
-    requires { IsAdding d.now matched.old links.old.keys }
-    ensures matched { OnOk result (IsAdding d.now matched.new links.new.keys) }
-    ensures grown { IfOk result (λ is_full. Grown (IsCrossLink d.now provided.now required.now) links.old.keys links.new.keys is_full) }
+    requires { IsAdding d.now matched.old links.old.list.items }
+    ensures matched { OnOk result (IsAdding d.now matched.new links.new.list.items) }
+    ensures grown { IfOk result (λ is_full. Grown (IsCrossLink d.now provided.now required.now) links.old.list.items links.new.list.items is_full) }
 {
     for end in provided {
         if add_ends(alloc, d, *end, required, matched, links)? {
@@ -138,11 +138,11 @@ fn add_groups(
     provided: &Groups,
     required: &Groups,
     matched: &mut Matched,
-    links: &mut BTreeSet<Link>,
+    links: &mut Links,
 ) -> Result<bool, Memory>
-    requires { IsAdding d.now matched.old links.old.keys }
-    ensures matched { OnOk result (IsAdding d.now matched.new links.new.keys) }
-    ensures grown { IfOk result (λ is_full. Grown (IsBetween d.now provided.now required.now pair) links.old.keys links.new.keys is_full) }
+    requires { IsAdding d.now matched.old links.old.list.items }
+    ensures matched { OnOk result (IsAdding d.now matched.new links.new.list.items) }
+    ensures grown { IfOk result (λ is_full. Grown (IsBetween d.now provided.now required.now pair) links.old.list.items links.new.list.items is_full) }
 {
     let first = group_of(provided, pair.0);
     let second = group_of(required, pair.1);
@@ -158,11 +158,11 @@ pub fn add_grouped(
     provided: &Groups,
     required: &Groups,
     matched: &mut Matched,
-    links: &mut BTreeSet<Link>,
+    links: &mut Links,
 ) -> Result<bool, Memory>
-    requires { IsAdding d.now matched.old links.old.keys }
-    ensures matched { OnOk result (IsAdding d.now matched.new links.new.keys) }
-    ensures grown { IfOk result (λ is_full. Grown (AnyOf (IsBetween d.now provided.now required.now) pairs.now) links.old.keys links.new.keys is_full) }
+    requires { IsAdding d.now matched.old links.old.list.items }
+    ensures matched { OnOk result (IsAdding d.now matched.new links.new.list.items) }
+    ensures grown { IfOk result (λ is_full. Grown (AnyOf (IsBetween d.now provided.now required.now) pairs.now) links.old.list.items links.new.list.items is_full) }
 {
     for pair in pairs {
         if add_groups(alloc, d, *pair, provided, required, matched, links)? {
@@ -181,12 +181,12 @@ pub fn cross(
     required: &[PortEnd],
     pairs: &[(u32, u32)],
     matched: &mut Matched,
-    links: &mut BTreeSet<Link>,
+    links: &mut Links,
 ) -> Result<bool, Memory>
-    requires matched { IsAdding d.now matched.old links.old.keys }
+    requires matched { IsAdding d.now matched.old links.old.list.items }
     requires pairs { HasPairs d.now provided.now required.now pairs.now }
-    ensures matched { OnOk result (IsAdding d.now matched.new links.new.keys) }
-    ensures grown { IfOk result (λ is_full. Grown (IsCrossLink d.now provided.now required.now) links.old.keys links.new.keys is_full) }
+    ensures matched { OnOk result (IsAdding d.now matched.new links.new.list.items) }
+    ensures grown { IfOk result (λ is_full. Grown (IsCrossLink d.now provided.now required.now) links.old.list.items links.new.list.items is_full) }
 {
     let first = groups_of(alloc, provided)?;
     let second = groups_of(alloc, required)?;

@@ -14,7 +14,8 @@ use crate::completing::complete_all;
 use crate::cross::{add_grouped, cross};
 use crate::matched::Matched;
 use crate::rows::add_known;
-use composition_tables::links::{LINK_LIMIT, Link};
+use composition_tables::gathering::Links;
+use composition_tables::links::LINK_LIMIT;
 use composition_tables::tree::Tree;
 use description_types::Description;
 use end_search::gates::{Gate, ends_at};
@@ -23,7 +24,6 @@ use end_search::sides::Side;
 use indexmap::IndexSet;
 use rte_text::Memory;
 use std::alloc::Global;
-use std::collections::BTreeSet;
 
 fn note_interface(interface: u32, found: &mut IndexSet<u32>) -> Result<(), Memory>
     ensures stays { OnOk result ((i : ℕ) → Among i found.old.keys → Among i found.new.keys) }
@@ -108,15 +108,15 @@ fn cross_found(
     first: &Found,
     second: &Found,
     matched: &mut Matched,
-    links: &mut BTreeSet<Link>,
+    links: &mut Links,
 ) -> Result<Option<bool>, Memory>
     requires first { AreFirsts d.now provided pairs.now first.now }
     requires second { AreSeconds d.now required pairs.now second.now }
-    requires matched { IsAdding d.now matched.old links.old.keys }
+    requires matched { IsAdding d.now matched.old links.old.list.items }
     requires pairs { HasPairs d.now (gate_ends d.now provided) (gate_ends d.now required) pairs.now }
-    ensures matched { OnOk result (IsAdding d.now matched.new links.new.keys) }
-    ensures grown { IfOk result (λ answer. IfSome answer (Grown (IsCrossLink d.now (gate_ends d.now provided) (gate_ends d.now required)) links.old.keys links.new.keys)) }
-    ensures part { IfOk result (λ answer. IfNone answer (IsPart (IsCrossLink d.now (gate_ends d.now provided) (gate_ends d.now required)) links.old.keys links.new.keys)) }
+    ensures matched { OnOk result (IsAdding d.now matched.new links.new.list.items) }
+    ensures grown { IfOk result (λ answer. IfSome answer (Grown (IsCrossLink d.now (gate_ends d.now provided) (gate_ends d.now required)) links.old.list.items links.new.list.items)) }
+    ensures part { IfOk result (λ answer. IfNone answer (IsPart (IsCrossLink d.now (gate_ends d.now provided) (gate_ends d.now required)) links.old.list.items links.new.list.items)) }
     ensures cut { IfOk result (λ answer. IfNone answer ((first.now.is_cut ≡ true) ⊎ (second.now.is_cut ≡ true))) }
 {
     let is_full = cross(
@@ -151,16 +151,16 @@ fn add_within(
     pairs: &[(u32, u32)],
     limit: usize,
     matched: &mut Matched,
-    links: &mut BTreeSet<Link>,
+    links: &mut Links,
 ) -> Result<Option<bool>, Memory>
     requires is_tree { IsTree tree.now }
     requires provided { IsShallow provided }
     requires required { IsShallow required }
-    requires matched { IsAdding tree.now.d.now matched.old links.old.keys }
+    requires matched { IsAdding tree.now.d.now matched.old links.old.list.items }
     requires pairs { HasPairs tree.now.d.now (gate_ends tree.now.d.now provided) (gate_ends tree.now.d.now required) pairs.now }
-    ensures matched { OnOk result (IsAdding tree.now.d.now matched.new links.new.keys) }
-    ensures grown { IfOk result (λ answer. IfSome answer (Grown (IsCrossLink tree.now.d.now (gate_ends tree.now.d.now provided) (gate_ends tree.now.d.now required)) links.old.keys links.new.keys)) }
-    ensures part { IfOk result (λ answer. IfNone answer (IsPart (IsCrossLink tree.now.d.now (gate_ends tree.now.d.now provided) (gate_ends tree.now.d.now required)) links.old.keys links.new.keys)) }
+    ensures matched { OnOk result (IsAdding tree.now.d.now matched.new links.new.list.items) }
+    ensures grown { IfOk result (λ answer. IfSome answer (Grown (IsCrossLink tree.now.d.now (gate_ends tree.now.d.now provided) (gate_ends tree.now.d.now required)) links.old.list.items links.new.list.items)) }
+    ensures part { IfOk result (λ answer. IfNone answer (IsPart (IsCrossLink tree.now.d.now (gate_ends tree.now.d.now provided) (gate_ends tree.now.d.now required)) links.old.list.items links.new.list.items)) }
     ensures cut { IfOk result (λ answer. IfNone answer (limit < 18446744073709551615)) }
 {
     let first = firsts_below(alloc, tree, provided, pairs, limit)?;
@@ -180,15 +180,15 @@ fn add_whole(
     required: Gate,
     pairs: &[(u32, u32)],
     matched: &mut Matched,
-    links: &mut BTreeSet<Link>,
+    links: &mut Links,
 ) -> Result<bool, Memory>
     requires is_tree { IsTree tree.now }
     requires provided { IsShallow provided }
     requires required { IsShallow required }
-    requires matched { IsAdding tree.now.d.now matched.old links.old.keys }
+    requires matched { IsAdding tree.now.d.now matched.old links.old.list.items }
     requires pairs { HasPairs tree.now.d.now (gate_ends tree.now.d.now provided) (gate_ends tree.now.d.now required) pairs.now }
-    ensures matched { OnOk result (IsAdding tree.now.d.now matched.new links.new.keys) }
-    ensures grown { IfOk result (λ is_full. Grown (IsCrossLink tree.now.d.now (gate_ends tree.now.d.now provided) (gate_ends tree.now.d.now required)) links.old.keys links.new.keys is_full) }
+    ensures matched { OnOk result (IsAdding tree.now.d.now matched.new links.new.list.items) }
+    ensures grown { IfOk result (λ is_full. Grown (IsCrossLink tree.now.d.now (gate_ends tree.now.d.now provided) (gate_ends tree.now.d.now required)) links.old.list.items links.new.list.items is_full) }
 {
     match add_within(
         alloc,
@@ -214,15 +214,15 @@ fn add_rest(
     required: Gate,
     pairs: &[(u32, u32)],
     matched: &mut Matched,
-    links: &mut BTreeSet<Link>,
+    links: &mut Links,
 ) -> Result<bool, Memory>
     requires is_tree { IsTree tree.now }
     requires provided { IsShallow provided }
     requires required { IsShallow required }
-    requires matched { IsAdding tree.now.d.now matched.old links.old.keys }
+    requires matched { IsAdding tree.now.d.now matched.old links.old.list.items }
     requires pairs { HasPairs tree.now.d.now (gate_ends tree.now.d.now provided) (gate_ends tree.now.d.now required) pairs.now }
-    ensures matched { OnOk result (IsAdding tree.now.d.now matched.new links.new.keys) }
-    ensures grown { IfOk result (λ is_full. Grown (IsCrossLink tree.now.d.now (gate_ends tree.now.d.now provided) (gate_ends tree.now.d.now required)) links.old.keys links.new.keys is_full) }
+    ensures matched { OnOk result (IsAdding tree.now.d.now matched.new links.new.list.items) }
+    ensures grown { IfOk result (λ is_full. Grown (IsCrossLink tree.now.d.now (gate_ends tree.now.d.now provided) (gate_ends tree.now.d.now required)) links.old.list.items links.new.list.items is_full) }
 {
     let near = add_within(
         alloc, tree, provided, required, pairs, LINK_LIMIT, matched, links,
@@ -247,17 +247,17 @@ fn add_cut(
     second: &Side,
     pairs: &[(u32, u32)],
     matched: &mut Matched,
-    links: &mut BTreeSet<Link>,
+    links: &mut Links,
 ) -> Result<bool, Memory>
     requires is_tree { IsTree tree.now }
     requires provided { IsShallow provided }
     requires required { IsShallow required }
     requires first { IsSide tree.now.d.now provided first.now }
     requires second { IsSide tree.now.d.now required second.now }
-    requires matched { IsAdding tree.now.d.now matched.old links.old.keys }
+    requires matched { IsAdding tree.now.d.now matched.old links.old.list.items }
     requires pairs { HasPairs tree.now.d.now (gate_ends tree.now.d.now provided) (gate_ends tree.now.d.now required) pairs.now }
-    ensures matched { OnOk result (IsAdding tree.now.d.now matched.new links.new.keys) }
-    ensures grown { IfOk result (λ is_full. Grown (IsCrossLink tree.now.d.now (gate_ends tree.now.d.now provided) (gate_ends tree.now.d.now required)) links.old.keys links.new.keys is_full) }
+    ensures matched { OnOk result (IsAdding tree.now.d.now matched.new links.new.list.items) }
+    ensures grown { IfOk result (λ is_full. Grown (IsCrossLink tree.now.d.now (gate_ends tree.now.d.now provided) (gate_ends tree.now.d.now required)) links.old.list.items links.new.list.items is_full) }
 {
     if add_grouped(
         alloc,
@@ -324,19 +324,19 @@ fn add_shared(
     second: &mut Side,
     pairs: &[(u32, u32)],
     matched: &mut Matched,
-    links: &mut BTreeSet<Link>,
+    links: &mut Links,
 ) -> Result<bool, Memory>
     requires is_tree { IsTree tree.now }
     requires provided { IsShallow provided }
     requires required { IsShallow required }
     requires first { IsSide tree.now.d.now provided first.old }
     requires second { IsSide tree.now.d.now required second.old }
-    requires matched { IsAdding tree.now.d.now matched.old links.old.keys }
+    requires matched { IsAdding tree.now.d.now matched.old links.old.list.items }
     requires pairs { HasPairs tree.now.d.now (gate_ends tree.now.d.now provided) (gate_ends tree.now.d.now required) pairs.now }
     ensures first { OnOk result (IsSide tree.now.d.now provided first.new) }
     ensures second { OnOk result (IsSide tree.now.d.now required second.new) }
-    ensures matched { OnOk result (IsAdding tree.now.d.now matched.new links.new.keys) }
-    ensures grown { IfOk result (λ is_full. Grown (IsCrossLink tree.now.d.now (gate_ends tree.now.d.now provided) (gate_ends tree.now.d.now required)) links.old.keys links.new.keys is_full) }
+    ensures matched { OnOk result (IsAdding tree.now.d.now matched.new links.new.list.items) }
+    ensures grown { IfOk result (λ is_full. Grown (IsCrossLink tree.now.d.now (gate_ends tree.now.d.now provided) (gate_ends tree.now.d.now required)) links.old.list.items links.new.list.items is_full) }
 {
     let has_firsts = complete_firsts(alloc, tree, provided, pairs, first)?;
     let has_seconds = complete_seconds(alloc, tree, required, pairs, second)?;
@@ -367,14 +367,14 @@ pub fn add_sides(
     provided: Gate,
     required: Gate,
     matched: &mut Matched,
-    links: &mut BTreeSet<Link>,
+    links: &mut Links,
 ) -> Result<bool, Memory>
     requires is_tree { IsTree tree.now }
     requires provided { IsShallow provided }
     requires required { IsShallow required }
-    requires matched { IsAdding tree.now.d.now matched.old links.old.keys }
-    ensures matched { OnOk result (IsAdding tree.now.d.now matched.new links.new.keys) }
-    ensures grown { IfOk result (λ is_full. Grown (IsCrossLink tree.now.d.now (gate_ends tree.now.d.now provided) (gate_ends tree.now.d.now required)) links.old.keys links.new.keys is_full) }
+    requires matched { IsAdding tree.now.d.now matched.old links.old.list.items }
+    ensures matched { OnOk result (IsAdding tree.now.d.now matched.new links.new.list.items) }
+    ensures grown { IfOk result (λ is_full. Grown (IsCrossLink tree.now.d.now (gate_ends tree.now.d.now provided) (gate_ends tree.now.d.now required)) links.old.list.items links.new.list.items is_full) }
 {
     let mut first = matched.take_side(alloc, tree, provided)?;
     let mut second = matched.take_side(alloc, tree, required)?;

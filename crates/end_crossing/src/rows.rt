@@ -12,14 +12,13 @@ ghost use Rattle.composition_tables.specs.declared.tree.PortEnd.{PortEnd};
 use crate::cross::{add_ends, add_pair};
 use crate::crossings::Crossing;
 use crate::matched::Matched;
-use composition_tables::links::Link;
+use composition_tables::gathering::Links;
 use composition_tables::tree::PortEnd;
 use description_types::Description;
 use end_search::gates::Gate;
 use end_search::groups::{Groups, group_of};
 use rte_text::Memory;
 use std::alloc::Global;
-use std::collections::BTreeSet;
 
 /// Adds the links of a provided port with the required ones of an interface below a gate, unless they were added before. So
 /// a port that many gates lead to is joined with those of a gate once.
@@ -31,12 +30,12 @@ fn add_row(
     interface: u32,
     second: &[PortEnd],
     matched: &mut Matched,
-    links: &mut BTreeSet<Link>,
+    links: &mut Links,
 ) -> Result<bool, Memory>
-    requires matched { IsAdding d.now matched.old links.old.keys }
+    requires matched { IsAdding d.now matched.old links.old.list.items }
     requires second { AreOf d.now required interface second.now }
-    ensures matched { OnOk result (IsAdding d.now matched.new links.new.keys) }
-    ensures grown { IfOk result (λ is_full. Grown (AnyOf (IsPairLink d.now end) second.now) links.old.keys links.new.keys is_full) }
+    ensures matched { OnOk result (IsAdding d.now matched.new links.new.list.items) }
+    ensures grown { IfOk result (λ is_full. Grown (AnyOf (IsPairLink d.now end) second.now) links.old.list.items links.new.list.items is_full) }
 {
     let crossing = Crossing::Row(end, required, interface);
     if matched.is_crossed(crossing) {
@@ -57,12 +56,12 @@ fn add_rows(
     interface: u32,
     second: &[PortEnd],
     matched: &mut Matched,
-    links: &mut BTreeSet<Link>,
+    links: &mut Links,
 ) -> Result<bool, Memory>
-    requires matched { IsAdding d.now matched.old links.old.keys }
+    requires matched { IsAdding d.now matched.old links.old.list.items }
     requires second { AreOf d.now required interface second.now }
-    ensures matched { OnOk result (IsAdding d.now matched.new links.new.keys) }
-    ensures grown { IfOk result (λ is_full. Grown (IsCrossLink d.now first.now second.now) links.old.keys links.new.keys is_full) }
+    ensures matched { OnOk result (IsAdding d.now matched.new links.new.list.items) }
+    ensures grown { IfOk result (λ is_full. Grown (IsCrossLink d.now first.now second.now) links.old.list.items links.new.list.items is_full) }
 {
     for end in first {
         if add_row(alloc, d, *end, required, interface, second, matched, links)? {
@@ -78,11 +77,11 @@ fn add_providers(
     provided: &[PortEnd],
     required: PortEnd,
     matched: &mut Matched,
-    links: &mut BTreeSet<Link>,
+    links: &mut Links,
 ) -> Result<bool, Memory>
-    requires { IsAdding d.now matched.old links.old.keys }
-    ensures matched { OnOk result (IsAdding d.now matched.new links.new.keys) }
-    ensures grown { IfOk result (λ is_full. Grown (AnyOf (λ (p : PortEnd). IsPairLink d.now p required) provided.now) links.old.keys links.new.keys is_full) }
+    requires { IsAdding d.now matched.old links.old.list.items }
+    ensures matched { OnOk result (IsAdding d.now matched.new links.new.list.items) }
+    ensures grown { IfOk result (λ is_full. Grown (AnyOf (λ (p : PortEnd). IsPairLink d.now p required) provided.now) links.old.list.items links.new.list.items is_full) }
 {
     for end in provided {
         if add_pair(alloc, d, *end, required, matched, links)? {
@@ -101,12 +100,12 @@ fn add_column(
     first: &[PortEnd],
     end: PortEnd,
     matched: &mut Matched,
-    links: &mut BTreeSet<Link>,
+    links: &mut Links,
 ) -> Result<bool, Memory>
-    requires matched { IsAdding d.now matched.old links.old.keys }
+    requires matched { IsAdding d.now matched.old links.old.list.items }
     requires first { AreOf d.now provided interface first.now }
-    ensures matched { OnOk result (IsAdding d.now matched.new links.new.keys) }
-    ensures grown { IfOk result (λ is_full. Grown (AnyOf (λ (p : PortEnd). IsPairLink d.now p end) first.now) links.old.keys links.new.keys is_full) }
+    ensures matched { OnOk result (IsAdding d.now matched.new links.new.list.items) }
+    ensures grown { IfOk result (λ is_full. Grown (AnyOf (λ (p : PortEnd). IsPairLink d.now p end) first.now) links.old.list.items links.new.list.items is_full) }
 {
     let crossing = Crossing::Column(provided, interface, end);
     if matched.is_crossed(crossing) {
@@ -127,12 +126,12 @@ fn add_columns(
     first: &[PortEnd],
     second: &[PortEnd],
     matched: &mut Matched,
-    links: &mut BTreeSet<Link>,
+    links: &mut Links,
 ) -> Result<bool, Memory>
-    requires matched { IsAdding d.now matched.old links.old.keys }
+    requires matched { IsAdding d.now matched.old links.old.list.items }
     requires first { AreOf d.now provided interface first.now }
-    ensures matched { OnOk result (IsAdding d.now matched.new links.new.keys) }
-    ensures grown { IfOk result (λ is_full. Grown (AnyOf (λ (r : PortEnd). AnyOf (λ (p : PortEnd). IsPairLink d.now p r) first.now) second.now) links.old.keys links.new.keys is_full) }
+    ensures matched { OnOk result (IsAdding d.now matched.new links.new.list.items) }
+    ensures grown { IfOk result (λ is_full. Grown (AnyOf (λ (r : PortEnd). AnyOf (λ (p : PortEnd). IsPairLink d.now p r) first.now) second.now) links.old.list.items links.new.list.items is_full) }
 {
     for end in second {
         if add_column(alloc, d, provided, interface, first, *end, matched, links)? {
@@ -153,13 +152,13 @@ fn add_between(
     first: &[PortEnd],
     second: &[PortEnd],
     matched: &mut Matched,
-    links: &mut BTreeSet<Link>,
+    links: &mut Links,
 ) -> Result<bool, Memory>
-    requires matched { IsAdding d.now matched.old links.old.keys }
+    requires matched { IsAdding d.now matched.old links.old.list.items }
     requires first { AreOf d.now provided pair.0 first.now }
     requires second { AreOf d.now required pair.1 second.now }
-    ensures matched { OnOk result (IsAdding d.now matched.new links.new.keys) }
-    ensures grown { IfOk result (λ is_full. Grown (IsCrossLink d.now first.now second.now) links.old.keys links.new.keys is_full) }
+    ensures matched { OnOk result (IsAdding d.now matched.new links.new.list.items) }
+    ensures grown { IfOk result (λ is_full. Grown (IsCrossLink d.now first.now second.now) links.old.list.items links.new.list.items is_full) }
 {
     if first.len() <= second.len() {
         let is_full = add_rows(alloc, d, first, required, pair.1, second, matched, links)?;
@@ -178,13 +177,13 @@ fn add_interfaces(
     first: &Groups,
     second: &Groups,
     matched: &mut Matched,
-    links: &mut BTreeSet<Link>,
+    links: &mut Links,
 ) -> Result<bool, Memory>
-    requires matched { IsAdding d.now matched.old links.old.keys }
+    requires matched { IsAdding d.now matched.old links.old.list.items }
     requires first { AreOf d.now provided pair.0 (under (get nat_eq first.now pair.0)) }
     requires second { AreOf d.now required pair.1 (under (get nat_eq second.now pair.1)) }
-    ensures matched { OnOk result (IsAdding d.now matched.new links.new.keys) }
-    ensures grown { IfOk result (λ is_full. Grown (IsBetween d.now first.now second.now pair) links.old.keys links.new.keys is_full) }
+    ensures matched { OnOk result (IsAdding d.now matched.new links.new.list.items) }
+    ensures grown { IfOk result (λ is_full. Grown (IsBetween d.now first.now second.now pair) links.old.list.items links.new.list.items is_full) }
 {
     let firsts = group_of(first, pair.0);
     let seconds = group_of(second, pair.1);
@@ -205,13 +204,13 @@ pub fn add_known(
     first: &Groups,
     second: &Groups,
     matched: &mut Matched,
-    links: &mut BTreeSet<Link>,
+    links: &mut Links,
 ) -> Result<bool, Memory>
-    requires matched { IsAdding d.now matched.old links.old.keys }
+    requires matched { IsAdding d.now matched.old links.old.list.items }
     requires first { HaveFirsts d.now provided pairs.now first.now }
     requires second { HaveSeconds d.now required pairs.now second.now }
-    ensures matched { OnOk result (IsAdding d.now matched.new links.new.keys) }
-    ensures grown { IfOk result (λ is_full. Grown (AnyOf (IsBetween d.now first.now second.now) pairs.now) links.old.keys links.new.keys is_full) }
+    ensures matched { OnOk result (IsAdding d.now matched.new links.new.list.items) }
+    ensures grown { IfOk result (λ is_full. Grown (AnyOf (IsBetween d.now first.now second.now) pairs.now) links.old.list.items links.new.list.items is_full) }
 {
     for pair in pairs {
         if add_interfaces(

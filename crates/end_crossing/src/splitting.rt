@@ -14,13 +14,12 @@ use crate::crossings::Crossing;
 use crate::matched::Matched;
 use crate::parts::{Parts, parts_of};
 use composition_tables::counts::DEPTH_LIMIT;
-use composition_tables::links::Link;
+use composition_tables::gathering::Links;
 use composition_tables::tree::Tree;
 use description_types::InnerPort;
 use end_search::gates::{Gate, inner_gate, narrowed};
 use rte_text::Memory;
 use std::alloc::Global;
-use std::collections::BTreeSet;
 
 /// How often two gates are split at most, one after the other.
 const SPLITS: usize = 2 * DEPTH_LIMIT;
@@ -35,14 +34,14 @@ fn cross_provided_part(
     inner: InnerPort,
     required: Gate,
     matched: &mut Matched,
-    links: &mut BTreeSet<Link>,
+    links: &mut Links,
 ) -> Result<bool, Memory>
     requires is_tree { IsTree tree.now }
     requires within { parts.now.depth ≤ 8 }
     requires required { IsShallow required }
-    requires matched { IsAdding tree.now.d.now matched.old links.old.keys }
-    ensures matched { OnOk result (IsAdding tree.now.d.now matched.new links.new.keys) }
-    ensures grown { IfOk result (λ is_full. Grown (IsCrossLink tree.now.d.now (inner_ends tree.now.d.now parts.now.depth (ends tree.now.d.now parts.now.depth) parts.now.composition parts.now.first inner) (gate_ends tree.now.d.now required)) links.old.keys links.new.keys is_full) }
+    requires matched { IsAdding tree.now.d.now matched.old links.old.list.items }
+    ensures matched { OnOk result (IsAdding tree.now.d.now matched.new links.new.list.items) }
+    ensures grown { IfOk result (λ is_full. Grown (IsCrossLink tree.now.d.now (inner_ends tree.now.d.now parts.now.depth (ends tree.now.d.now parts.now.depth) parts.now.composition parts.now.first inner) (gate_ends tree.now.d.now required)) links.old.list.items links.new.list.items is_full) }
 {
     match inner_gate(tree, parts.depth, parts.composition, parts.first, inner) {
         Some(gate) => {
@@ -62,14 +61,14 @@ fn cross_provided_parts(
     parts: &Parts,
     required: Gate,
     matched: &mut Matched,
-    links: &mut BTreeSet<Link>,
+    links: &mut Links,
 ) -> Result<bool, Memory>
     requires is_tree { IsTree tree.now }
     requires within { parts.now.depth ≤ 8 }
     requires required { IsShallow required }
-    requires matched { IsAdding tree.now.d.now matched.old links.old.keys }
-    ensures matched { OnOk result (IsAdding tree.now.d.now matched.new links.new.keys) }
-    ensures grown { IfOk result (λ is_full. Grown (IsCrossLink tree.now.d.now (part_ends tree.now.d.now parts.now) (gate_ends tree.now.d.now required)) links.old.keys links.new.keys is_full) }
+    requires matched { IsAdding tree.now.d.now matched.old links.old.list.items }
+    ensures matched { OnOk result (IsAdding tree.now.d.now matched.new links.new.list.items) }
+    ensures grown { IfOk result (λ is_full. Grown (IsCrossLink tree.now.d.now (part_ends tree.now.d.now parts.now) (gate_ends tree.now.d.now required)) links.old.list.items links.new.list.items is_full) }
 {
     for inner in parts.ports {
         if cross_provided_part(alloc, tree, splits, parts, *inner, required, matched, links)? {
@@ -89,14 +88,14 @@ fn cross_required_part(
     parts: &Parts,
     inner: InnerPort,
     matched: &mut Matched,
-    links: &mut BTreeSet<Link>,
+    links: &mut Links,
 ) -> Result<bool, Memory>
     requires is_tree { IsTree tree.now }
     requires within { parts.now.depth ≤ 8 }
     requires provided { IsShallow provided }
-    requires matched { IsAdding tree.now.d.now matched.old links.old.keys }
-    ensures matched { OnOk result (IsAdding tree.now.d.now matched.new links.new.keys) }
-    ensures grown { IfOk result (λ is_full. Grown (IsCrossLink tree.now.d.now (gate_ends tree.now.d.now provided) (inner_ends tree.now.d.now parts.now.depth (ends tree.now.d.now parts.now.depth) parts.now.composition parts.now.first inner)) links.old.keys links.new.keys is_full) }
+    requires matched { IsAdding tree.now.d.now matched.old links.old.list.items }
+    ensures matched { OnOk result (IsAdding tree.now.d.now matched.new links.new.list.items) }
+    ensures grown { IfOk result (λ is_full. Grown (IsCrossLink tree.now.d.now (gate_ends tree.now.d.now provided) (inner_ends tree.now.d.now parts.now.depth (ends tree.now.d.now parts.now.depth) parts.now.composition parts.now.first inner)) links.old.list.items links.new.list.items is_full) }
 {
     match inner_gate(tree, parts.depth, parts.composition, parts.first, inner) {
         Some(gate) => {
@@ -116,14 +115,14 @@ fn cross_required_parts(
     provided: Gate,
     parts: &Parts,
     matched: &mut Matched,
-    links: &mut BTreeSet<Link>,
+    links: &mut Links,
 ) -> Result<bool, Memory>
     requires is_tree { IsTree tree.now }
     requires within { parts.now.depth ≤ 8 }
     requires provided { IsShallow provided }
-    requires matched { IsAdding tree.now.d.now matched.old links.old.keys }
-    ensures matched { OnOk result (IsAdding tree.now.d.now matched.new links.new.keys) }
-    ensures grown { IfOk result (λ is_full. Grown (IsCrossLink tree.now.d.now (gate_ends tree.now.d.now provided) (part_ends tree.now.d.now parts.now)) links.old.keys links.new.keys is_full) }
+    requires matched { IsAdding tree.now.d.now matched.old links.old.list.items }
+    ensures matched { OnOk result (IsAdding tree.now.d.now matched.new links.new.list.items) }
+    ensures grown { IfOk result (λ is_full. Grown (IsCrossLink tree.now.d.now (gate_ends tree.now.d.now provided) (part_ends tree.now.d.now parts.now)) links.old.list.items links.new.list.items is_full) }
 {
     for inner in parts.ports {
         if cross_required_part(alloc, tree, splits, provided, parts, *inner, matched, links)? {
@@ -142,14 +141,14 @@ fn cross_split(
     provided: Gate,
     required: Gate,
     matched: &mut Matched,
-    links: &mut BTreeSet<Link>,
+    links: &mut Links,
 ) -> Result<bool, Memory>
     requires is_tree { IsTree tree.now }
     requires provided { IsShallow provided }
     requires required { IsShallow required }
-    requires matched { IsAdding tree.now.d.now matched.old links.old.keys }
-    ensures matched { OnOk result (IsAdding tree.now.d.now matched.new links.new.keys) }
-    ensures grown { IfOk result (λ is_full. Grown (IsCrossLink tree.now.d.now (gate_ends tree.now.d.now provided) (gate_ends tree.now.d.now required)) links.old.keys links.new.keys is_full) }
+    requires matched { IsAdding tree.now.d.now matched.old links.old.list.items }
+    ensures matched { OnOk result (IsAdding tree.now.d.now matched.new links.new.list.items) }
+    ensures grown { IfOk result (λ is_full. Grown (IsCrossLink tree.now.d.now (gate_ends tree.now.d.now provided) (gate_ends tree.now.d.now required)) links.old.list.items links.new.list.items is_full) }
 {
     if splits == 0 || matched.has_crossed_much() {
         let is_full = add_sides(alloc, tree, provided, required, matched, links)?;
@@ -201,14 +200,14 @@ fn cross_once(
     provided: Gate,
     required: Gate,
     matched: &mut Matched,
-    links: &mut BTreeSet<Link>,
+    links: &mut Links,
 ) -> Result<bool, Memory>
     requires is_tree { IsTree tree.now }
     requires provided { IsShallow provided }
     requires required { IsShallow required }
-    requires matched { IsAdding tree.now.d.now matched.old links.old.keys }
-    ensures matched { OnOk result (IsAdding tree.now.d.now matched.new links.new.keys) }
-    ensures grown { IfOk result (λ is_full. Grown (IsCrossLink tree.now.d.now (gate_ends tree.now.d.now provided) (gate_ends tree.now.d.now required)) links.old.keys links.new.keys is_full) }
+    requires matched { IsAdding tree.now.d.now matched.old links.old.list.items }
+    ensures matched { OnOk result (IsAdding tree.now.d.now matched.new links.new.list.items) }
+    ensures grown { IfOk result (λ is_full. Grown (IsCrossLink tree.now.d.now (gate_ends tree.now.d.now provided) (gate_ends tree.now.d.now required)) links.old.list.items links.new.list.items is_full) }
 {
     let crossing = Crossing::Gates(provided, required);
     if matched.is_crossed(crossing) {
@@ -229,14 +228,14 @@ pub fn cross_gates(
     provided: Gate,
     required: Gate,
     matched: &mut Matched,
-    links: &mut BTreeSet<Link>,
+    links: &mut Links,
 ) -> Result<bool, Memory>
     requires is_tree { IsTree tree.now }
     requires provided { IsShallow provided }
     requires required { IsShallow required }
-    requires matched { IsAdding tree.now.d.now matched.old links.old.keys }
-    ensures matched { OnOk result (IsAdding tree.now.d.now matched.new links.new.keys) }
-    ensures grown { IfOk result (λ is_full. Grown (IsCrossLink tree.now.d.now (gate_ends tree.now.d.now provided) (gate_ends tree.now.d.now required)) links.old.keys links.new.keys is_full) }
+    requires matched { IsAdding tree.now.d.now matched.old links.old.list.items }
+    ensures matched { OnOk result (IsAdding tree.now.d.now matched.new links.new.list.items) }
+    ensures grown { IfOk result (λ is_full. Grown (IsCrossLink tree.now.d.now (gate_ends tree.now.d.now provided) (gate_ends tree.now.d.now required)) links.old.list.items links.new.list.items is_full) }
 {
     let is_full = cross_once(alloc, tree, SPLITS, provided, required, matched, links)?;
     Ok(is_full)

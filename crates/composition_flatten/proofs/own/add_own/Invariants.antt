@@ -6,6 +6,6 @@ use Rattle.composition_flatten.proofs.own.add_own.Given as goal
 
 abbrev pub invariant-loop-connector : goal.invariant-loop-connector
 invariant-loop-connector l = record {
-  matched : IsAdding l.tree.d.now l.matched l.links.keys;
-  grown : Grown (AnyOf (IsAssemblyLink l.tree.d.now l.depth l.composition) (take l.connector-index l.connector-items)) l.fn.links.keys l.links.keys false;
+  matched : IsAdding l.tree.d.now l.matched l.links.list.items;
+  grown : Grown (AnyOf (IsAssemblyLink l.tree.d.now l.depth l.composition) (take l.connector-index l.connector-items)) l.fn.links.list.items l.links.list.items false;
 }

@@ -8,5 +8,5 @@ abbrev pub invariant-loop-node : goal.invariant-loop-node
 invariant-loop-node l = record {
   matched : IsMatched l.tree.d.now l.matched;
   own : IsOwn l.tree.d.now l.own;
-  grown : Grown (AnyOf (IsNodeLink l.tree.d.now) (take l.node-index l.nodes)) l.fn.links.keys l.links.keys false;
+  grown : Grown (AnyOf (IsNodeLink l.tree.d.now) (take l.node-index l.nodes)) l.fn.links.list.items l.links.list.items false;
 }

@@ -5,19 +5,19 @@ use Rattle.end_crossing.proofs.cross.add_grouped.Goals as goal
 pub returns-then-branch : goal.returns-then-branch
 returns-then-branch c = record {
   matched = c.in_ok-add_groups.ensures.matched;
-  grown = grown_full (IsBetween c.args.d.now c.args.provided.now c.args.required.now) c.args.pairs.now c.loop-pair.pair-index (0, 0) c.args.links.now.keys c.loop-pair.links.keys c.add_groups.new.links.keys c.in_ok-add_groups.field-0
+  grown = grown_full (IsBetween c.args.d.now c.args.provided.now c.args.required.now) c.args.pairs.now c.loop-pair.pair-index (0, 0) c.args.links.now.list.items c.loop-pair.links.list.items c.add_groups.new.links.list.items c.in_ok-add_groups.field-0
       c.loop-pair-test.true c.loop-pair.invariant.grown c.in_ok-add_groups.ensures.grown c.if-branch.true;
 }
 
 pub loop-pair-preserved : goal.loop-pair-preserved
 loop-pair-preserved c = record {
   matched = c.in_ok-add_groups.ensures.matched;
-  grown = grown_more (IsBetween c.args.d.now c.args.provided.now c.args.required.now) c.args.pairs.now c.loop-pair.pair-index (0, 0) c.args.links.now.keys c.loop-pair.links.keys c.add_groups.new.links.keys c.in_ok-add_groups.field-0
+  grown = grown_more (IsBetween c.args.d.now c.args.provided.now c.args.required.now) c.args.pairs.now c.loop-pair.pair-index (0, 0) c.args.links.now.list.items c.loop-pair.links.list.items c.add_groups.new.links.list.items c.in_ok-add_groups.field-0
       c.loop-pair-test.true c.loop-pair.invariant.grown c.in_ok-add_groups.ensures.grown c.if-branch.false;
 }
 
 pub returns : goal.returns
 returns c = record {
   matched = c.loop-pair.invariant.matched;
-  grown = grown_all (IsBetween c.args.d.now c.args.provided.now c.args.required.now) c.args.pairs.now c.loop-pair.pair-index c.args.links.now.keys c.loop-pair.links.keys c.loop-pair-test.false c.loop-pair.invariant.grown;
+  grown = grown_all (IsBetween c.args.d.now c.args.provided.now c.args.required.now) c.args.pairs.now c.loop-pair.pair-index c.args.links.now.list.items c.loop-pair.links.list.items c.loop-pair-test.false c.loop-pair.invariant.grown;
 }

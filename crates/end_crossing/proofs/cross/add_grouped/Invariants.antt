@@ -5,6 +5,6 @@ use Rattle.end_crossing.proofs.cross.add_grouped.Given as goal
 
 abbrev pub invariant-loop-pair : goal.invariant-loop-pair
 invariant-loop-pair l = record {
-  matched : IsAdding l.d l.matched l.links.keys;
-  grown : Grown (AnyOf (IsBetween l.d l.provided l.required) (take l.pair-index l.pairs)) l.fn.links.keys l.links.keys false;
+  matched : IsAdding l.d l.matched l.links.list.items;
+  grown : Grown (AnyOf (IsBetween l.d l.provided l.required) (take l.pair-index l.pairs)) l.fn.links.list.items l.links.list.items false;
 }

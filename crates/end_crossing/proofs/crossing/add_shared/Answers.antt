@@ -15,4 +15,4 @@ returns-then-has_seconds-clause-grown c =
     c.complete_firsts.new.side.groups c.complete_seconds.new.side.groups c.in_ok-has_firsts.ensures.side.sound c.in_ok-has_seconds.ensures.side.sound
     (λ k a x b e. (side_has c.args.tree.now.d.now c.args.provided c.complete_firsts.new.side c.in_ok-has_firsts.ensures.side k.0 (c.in_ok-has_firsts.ensures.has c.if-has_firsts.true k a) x).1 (b, e))
     (λ k a x b e. (side_has c.args.tree.now.d.now c.args.required c.complete_seconds.new.side c.in_ok-has_seconds.ensures.side k.1 (c.in_ok-has_seconds.ensures.has c.if-has_seconds.true k a) x).1 (b, e))
-    c.requires.pairs c.args.links.now.keys c.add_known.new.links.keys c.in_ok-is_full.is_full c.in_ok-is_full.ensures.grown
+    c.requires.pairs c.args.links.now.list.items c.add_known.new.links.list.items c.in_ok-is_full.is_full c.in_ok-is_full.ensures.grown

@@ -7,6 +7,6 @@ use Rattle.end_crossing.proofs.rows.add_columns.Given as goal
 
 abbrev pub invariant-loop-end : goal.invariant-loop-end
 invariant-loop-end l = record {
-  matched : IsAdding l.d l.matched l.links.keys;
-  grown : Grown (AnyOf (λ (r : PortEnd). AnyOf (λ (p : PortEnd). IsPairLink l.d p r) l.first) (take l.end-index l.second)) l.fn.links.keys l.links.keys false;
+  matched : IsAdding l.d l.matched l.links.list.items;
+  grown : Grown (AnyOf (λ (r : PortEnd). AnyOf (λ (p : PortEnd). IsPairLink l.d p r) l.first) (take l.end-index l.second)) l.fn.links.list.items l.links.list.items false;
 }

@@ -13,4 +13,4 @@ add_between-requires-clause-second c = subst (AreOf c.args.d.now c.args.required
 
 pub returns-clause-grown : goal.returns-clause-grown
 returns-clause-grown c = cross_at c.args.d.now c.group_of-firsts.result.now c.group_of-seconds.result.now (under (get nat_eq c.args.first.now c.args.pair.0)) (under (get nat_eq c.args.second.now c.args.pair.1))
-    c.args.links.now.keys c.add_between.new.links.keys c.in_ok-is_full.is_full c.group_of-firsts.ensures c.group_of-seconds.ensures c.in_ok-is_full.ensures.grown
+    c.args.links.now.list.items c.add_between.new.links.list.items c.in_ok-is_full.is_full c.group_of-firsts.ensures c.group_of-seconds.ensures c.in_ok-is_full.ensures.grown

@@ -7,19 +7,19 @@ use Rattle.end_crossing.proofs.rows.add_providers.Goals as goal
 pub returns-then-branch : goal.returns-then-branch
 returns-then-branch c = record {
   matched = c.in_ok-add_pair.ensures.matched;
-  grown = grown_full (λ (p : PortEnd). IsPairLink c.args.d.now p c.args.required) c.args.provided.now c.loop-end.end-index no_end c.args.links.now.keys c.loop-end.links.keys c.add_pair.new.links.keys c.in_ok-add_pair.field-0
+  grown = grown_full (λ (p : PortEnd). IsPairLink c.args.d.now p c.args.required) c.args.provided.now c.loop-end.end-index no_end c.args.links.now.list.items c.loop-end.links.list.items c.add_pair.new.links.list.items c.in_ok-add_pair.field-0
       c.loop-end-test.true c.loop-end.invariant.grown c.in_ok-add_pair.ensures.grown c.if-branch.true;
 }
 
 pub loop-end-preserved : goal.loop-end-preserved
 loop-end-preserved c = record {
   matched = c.in_ok-add_pair.ensures.matched;
-  grown = grown_more (λ (p : PortEnd). IsPairLink c.args.d.now p c.args.required) c.args.provided.now c.loop-end.end-index no_end c.args.links.now.keys c.loop-end.links.keys c.add_pair.new.links.keys c.in_ok-add_pair.field-0
+  grown = grown_more (λ (p : PortEnd). IsPairLink c.args.d.now p c.args.required) c.args.provided.now c.loop-end.end-index no_end c.args.links.now.list.items c.loop-end.links.list.items c.add_pair.new.links.list.items c.in_ok-add_pair.field-0
       c.loop-end-test.true c.loop-end.invariant.grown c.in_ok-add_pair.ensures.grown c.if-branch.false;
 }
 
 pub returns : goal.returns
 returns c = record {
   matched = c.loop-end.invariant.matched;
-  grown = grown_all (λ (p : PortEnd). IsPairLink c.args.d.now p c.args.required) c.args.provided.now c.loop-end.end-index c.args.links.now.keys c.loop-end.links.keys c.loop-end-test.false c.loop-end.invariant.grown;
+  grown = grown_all (λ (p : PortEnd). IsPairLink c.args.d.now p c.args.required) c.args.provided.now c.loop-end.end-index c.args.links.now.list.items c.loop-end.links.list.items c.loop-end-test.false c.loop-end.invariant.grown;
 }

@@ -6,6 +6,6 @@ use Rattle.end_crossing.proofs.rows.add_rows.Given as goal
 
 abbrev pub invariant-loop-end : goal.invariant-loop-end
 invariant-loop-end l = record {
-  matched : IsAdding l.d l.matched l.links.keys;
-  grown : Grown (AnyOf (λ p. AnyOf (IsPairLink l.d p) l.second) (take l.end-index l.first)) l.fn.links.keys l.links.keys false;
+  matched : IsAdding l.d l.matched l.links.list.items;
+  grown : Grown (AnyOf (λ p. AnyOf (IsPairLink l.d p) l.second) (take l.end-index l.first)) l.fn.links.list.items l.links.list.items false;
 }

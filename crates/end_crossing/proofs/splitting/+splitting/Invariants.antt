@@ -8,14 +8,14 @@ use Rattle.end_crossing.proofs.splitting.+splitting.Given as goal
 
 abbrev pub invariant-cross_provided_parts-loop-inner : goal.invariant-cross_provided_parts-loop-inner
 invariant-cross_provided_parts-loop-inner l = record {
-  matched : IsAdding l.tree.d.now l.matched l.links.keys;
-  grown : Grown (AnyOf (λ inner. IsCrossLink l.tree.d.now (inner_ends l.tree.d.now l.parts.depth (ends l.tree.d.now l.parts.depth) l.parts.composition l.parts.first inner) (gate_ends l.tree.d.now l.required)) (take l.inner-index l.parts.ports.now)) l.fn.links.keys l.links.keys false;
+  matched : IsAdding l.tree.d.now l.matched l.links.list.items;
+  grown : Grown (AnyOf (λ inner. IsCrossLink l.tree.d.now (inner_ends l.tree.d.now l.parts.depth (ends l.tree.d.now l.parts.depth) l.parts.composition l.parts.first inner) (gate_ends l.tree.d.now l.required)) (take l.inner-index l.parts.ports.now)) l.fn.links.list.items l.links.list.items false;
 }
 
 abbrev pub invariant-cross_required_parts-loop-inner : goal.invariant-cross_required_parts-loop-inner
 invariant-cross_required_parts-loop-inner l = record {
-  matched : IsAdding l.tree.d.now l.matched l.links.keys;
-  grown : Grown (AnyOf (λ inner. IsCrossLink l.tree.d.now (gate_ends l.tree.d.now l.provided) (inner_ends l.tree.d.now l.parts.depth (ends l.tree.d.now l.parts.depth) l.parts.composition l.parts.first inner)) (take l.inner-index l.parts.ports.now)) l.fn.links.keys l.links.keys false;
+  matched : IsAdding l.tree.d.now l.matched l.links.list.items;
+  grown : Grown (AnyOf (λ inner. IsCrossLink l.tree.d.now (gate_ends l.tree.d.now l.provided) (inner_ends l.tree.d.now l.parts.depth (ends l.tree.d.now l.parts.depth) l.parts.composition l.parts.first inner)) (take l.inner-index l.parts.ports.now)) l.fn.links.list.items l.links.list.items false;
 }
 
 abbrev pub decreases-cross_split : goal.decreases-cross_split
