@@ -1,13 +1,15 @@
 -- What is kept of partners.
 use Rattle.std.proofs.Common.{◌≡◌, ℕ, zero, suc, ◌+◌, ◌<◌, ◌≤◌, List, [], ◌∷◌, length, get_or, drop, map, filter, Bool, true, false, cond, ◌&&◌, ◌||◌, not, nat_eq, Option, Some, None, refl, sym, ap, ◌∙◌, arith, add-one, true≢false}
+use Rattle.std.specs.Prelude.{is_none as is_absent}
 use Rattle.std.proofs.lemmas.Bool.{eqb-true, eq-eqb, and_parts}
-use Rattle.std.specs.List.{list_any}
+use Rattle.std.specs.List.{list_all, list_any}
+use Rattle.std.specs.Map.{lookup, values_of}
 use Rattle.std.specs.Option.{option_eq, option_map_or, is_some, unwrap_or}
 use Rattle.flat_descriptions.specs.declared.flat.End.{End}
 use Rattle.flat_descriptions.specs.declared.flat.Join.{Join}
 use Rattle.compatibility.specs.declared.partners.Partners.{Partners}
 use Rattle.plan_definitions.specs.Joins.{same_end, partners, are_several, is_none}
-use Rattle.compatibility.specs.Partners.{added, summary, with_one, key_of, same_key, Key}
+use Rattle.compatibility.specs.Partners.{added, has_several, summary, with_one, key_of, same_key, Key}
 
 -- one that is said to be the same is the same
 same_number : (a b : Option ℕ) → option_eq nat_eq a b ≡ true → a ≡ b
@@ -93,3 +95,43 @@ none_found (x ∷ xs) kept is none = cc
 pub none_is : (xs : List End) (kept : Option Partners) → kept ≡ summary xs → not (is_some kept) ≡ is_none xs
 none_is [] kept is = ap (λ o. not (is_some o)) is
 none_is (x ∷ xs) kept is = ap (λ o. not (is_some o)) is
+
+-- where no value is of several partners, none that is looked up is
+not_several : (b : Bool) → not b ≡ true → b ≡ false
+not_several false h = refl
+not_several true h = sym h
+
+single_by : (b : Bool) (p : Partners) (rest : Option Partners) → not p.several ≡ true → has_several rest ≡ false → has_several (cond b (Some p) rest) ≡ false
+single_by true p rest one others = not_several p.several one
+single_by false p rest one others = others
+
+pub none_several : (es : List (Key × Partners)) (test : Key → Bool) → list_all (λ p. not p.several) (values_of es) ≡ true → has_several (lookup test es) ≡ false
+none_several [] test all = refl
+none_several (e ∷ es) test all =
+    let parts = and_parts (not e.1.several) (list_all (λ p. not p.several) (values_of es)) all in
+    single_by (test e.0) e.1 (lookup test es) parts.0 (none_several es test parts.1)
+
+-- whether several are kept, and that a join without several providers does not crowd
+pub several_is : (xs : List End) (kept : Option Partners) → kept ≡ summary xs → has_several kept ≡ are_several xs
+several_is [] kept is = ap has_several is
+several_is (x ∷ xs) kept is = ap has_several is
+
+-- no map is there
+pub where_absent : {X : Type 0} (o : Option X) (b : Bool) → o ≡ None → (is_absent o && b) ≡ false → b ≡ false
+where_absent None b none h = h
+where_absent (Some x) b none h = cc
+
+none_of : (a b : Bool) → b ≡ false → false ≡ (a && b)
+none_of true b none = sym none
+none_of false b none = refl
+
+pub none_crowded : (rs ps : List End) (kept : Option Partners) → kept ≡ summary ps → has_several kept ≡ false → false ≡ (are_several rs && are_several ps)
+none_crowded rs ps kept is none = none_of (are_several rs) (are_several ps) (sym (several_is ps kept is) ∙ none)
+
+-- what a map that is there keeps tells whether there are several
+pub known_several : {X : Type 0} (o : Option X) (x : X) (f : X → Option Partners) (xs : List End) → o ≡ Some x → option_map_or f o (summary xs) ≡ summary xs → has_several (f x) ≡ are_several xs
+known_several None x f xs is h = cc
+known_several (Some y) x f xs is h = several_is xs (f x) (ap f same ∙ h)
+  where
+    same : x ≡ y
+    same = cc

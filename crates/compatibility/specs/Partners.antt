@@ -1,7 +1,7 @@
 -- What is kept of the partners of an end.
 use Rattle.std.specs.Prelude.{◌≡◌, ℕ, List, [], ◌∷◌, Bool, false, ◌&&◌, ◌||◌, not, nat_eq, Option, Some, None}
 use Rattle.std.specs.List.{list_any}
-use Rattle.std.specs.Option.{option_eq}
+use Rattle.std.specs.Option.{option_eq, option_map_or}
 use Rattle.indexmap.specs.IndexMap.{IndexMap, get}
 use Rattle.flat_descriptions.specs.declared.flat.End.{End}
 use Rattle.flat_descriptions.specs.declared.flat.Join.{Join}
@@ -47,3 +47,11 @@ added kept (x ∷ xs) = added (Some (with_one kept x)) xs
 -- the map has what is kept of the partners of each end
 abbrev pub AreKept : {S : Type 0} → Side → List Join → IndexMap Key Partners S → Type 0
 AreKept side joins map = (e : End) → get same_key map (key_of e) ≡ summary (partners (own side) (other side) joins e)
+
+-- the same, if there is a map
+abbrev pub MayBeKept : {S : Type 0} → Side → List Join → Option (IndexMap Key Partners S) → Type 0
+MayBeKept side joins found = (e : End) → option_map_or (λ map. get same_key map (key_of e)) found (summary (partners (own side) (other side) joins e)) ≡ summary (partners (own side) (other side) joins e)
+
+-- several are kept
+abbrev pub has_several : Option Partners → Bool
+has_several kept = option_map_or (λ p. p.several) kept false

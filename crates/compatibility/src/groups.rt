@@ -44,7 +44,7 @@ impl Crowded<'_> {
     fn has(&self, provided: End) -> bool
         ensures { result ≡ is_crowded self.now.joins.now provided }
     {
-        self.ends.contains(&key_of_end(provided))
+        !self.ends.is_empty() && self.ends.contains(&key_of_end(provided))
     }
 }
 

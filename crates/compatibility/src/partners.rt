@@ -1,10 +1,10 @@
 //! Who is joined with an end.
 
-ghost use Rattle.std.specs.Prelude.{◌≡◌, IfOk, OnOk, Some};
+ghost use Rattle.std.specs.Prelude.{◌≡◌, ◌&&◌, IfOk, IsTrue, OnOk, Some, false, is_none as is_absent, not};
 ghost use Rattle.indexmap.specs.IndexMap.{Updates, get};
 ghost use Rattle.plan_definitions.specs.Joins.{are_several, crowds, is_none, providers, requirers, same_end};
 ghost use Rattle.compatibility.specs.declared.partners.Side.TheVariants as side;
-ghost use Rattle.compatibility.specs.Partners.{AreKept, key_of, other, own, same_key, with_one};
+ghost use Rattle.compatibility.specs.Partners.{AreKept, Key, MayBeKept, has_several, key_of, other, own, same_key, with_one};
 
 use crate::item::Item;
 use flat_descriptions::{End, Join};
@@ -104,11 +104,49 @@ fn note(map: &mut IndexMap<Key, Partners>, end: End, partner: End) -> Result<(),
 fn kept_of_all(alloc: Global, side: Side, joins: &[Join]) -> Result<IndexMap<Key, Partners>, Memory>
     ensures { IfOk result (λ kept. AreKept side joins.now kept) }
 {
-    let mut kept = IndexMap::new(alloc);
+    let mut kept = IndexMap::with_capacity(alloc, joins.len())?;
     for join in joins {
         note(&mut kept, side.own(join), side.other(join))?;
     }
     Ok(kept)
+}
+
+fn is_single(partners: &Partners) -> bool
+    ensures { result ≡ not partners.now.several }
+{
+    !partners.several
+}
+
+/// Whether no end has several partners.
+fn are_single(kept: &IndexMap<Key, Partners>) -> bool
+    ensures { IsTrue result → (q : Key) → has_several (get same_key kept.now q) ≡ false }
+{
+    kept.values().all(|partners| is_single(partners))
+}
+
+fn has_several(kept: &IndexMap<Key, Partners>, item: &Item) -> bool
+    ensures { result ≡ has_several (get same_key kept.now (key_of item.now)) }
+{
+    match kept_of(kept, item) {
+        None => false,
+        Some(found) => found.several,
+    }
+}
+
+/// What is kept of the partners of provided ends, and None where no required end has several: then nobody asks for it.
+fn kept_of_provided(
+    alloc: Global,
+    joins: &[Join],
+    of_required: &IndexMap<Key, Partners>,
+) -> Result<Option<IndexMap<Key, Partners>>, Memory>
+    ensures kept { IfOk result (λ found. MayBeKept side.Provided joins.now found) }
+    ensures single { IfOk result (λ found. (q : Key) → (is_absent found && has_several (get same_key of_required.now q)) ≡ false) }
+{
+    if are_single(of_required) {
+        return Ok(None);
+    }
+    let kept = kept_of_all(alloc, Side::Provided, joins)?;
+    Ok(Some(kept))
 }
 
 /// How many partners the ends of joins have, as far as it matters.
@@ -116,9 +154,11 @@ fn kept_of_all(alloc: Global, side: Side, joins: &[Join]) -> Result<IndexMap<Key
 pub struct Degrees<'a> {
     pub joins: &'a [Join],
     of_required: IndexMap<Key, Partners>,
-    of_provided: IndexMap<Key, Partners>,
+    /// None where no required end has several partners.
+    of_provided: Option<IndexMap<Key, Partners>>,
     ghost required: { AreKept side.Required joins.now of_required },
-    ghost provided: { AreKept side.Provided joins.now of_provided },
+    ghost provided: { MayBeKept side.Provided joins.now of_provided },
+    ghost single: { (q : Key) → (is_absent of_provided && has_several (get same_key of_required q)) ≡ false },
 }
 
 impl Degrees<'_> {
@@ -127,7 +167,7 @@ impl Degrees<'_> {
         ensures { IfOk result (λ degrees. degrees.joins.now ≡ joins.now) }
     {
         let of_required = kept_of_all(alloc, Side::Required, joins)?;
-        let of_provided = kept_of_all(alloc, Side::Provided, joins)?;
+        let of_provided = kept_of_provided(alloc, joins, &of_required)?;
         Ok(Degrees {
             joins,
             of_required,
@@ -139,10 +179,7 @@ impl Degrees<'_> {
     pub fn has_several_providers(&self, required: &Item) -> bool
         ensures { result ≡ are_several (providers self.now.joins.now required.now) }
     {
-        match kept_of(&self.of_required, required) {
-            None => false,
-            Some(found) => found.several,
-        }
+        has_several(&self.of_required, required)
     }
 
     /// Whether no provided end is joined with a required one.
@@ -152,22 +189,16 @@ impl Degrees<'_> {
         kept_of(&self.of_required, required).is_none()
     }
 
-    /// Whether two required ends or more are joined with a provided one.
-    pub fn has_several_requirers(&self, provided: &Item) -> bool
-        ensures { result ≡ are_several (requirers self.now.joins.now provided.now) }
-    {
-        match kept_of(&self.of_provided, provided) {
-            None => false,
-            Some(found) => found.several,
-        }
-    }
-
     /// Whether both ends of a join have several partners.
     pub fn crowds(&self, join: &Join) -> bool
         ensures { result ≡ crowds self.now.joins.now join.now }
     {
-        let provided = Item::of(join.provided);
-        let required = Item::of(join.required);
-        self.has_several_requirers(&provided) && self.has_several_providers(&required)
+        match &self.of_provided {
+            None => false,
+            Some(kept) => {
+                has_several(kept, &Item::of(join.provided))
+                    && self.has_several_providers(&Item::of(join.required))
+            }
+        }
     }
 }
