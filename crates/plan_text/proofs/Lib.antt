@@ -1,2 +1,3 @@
 pub mod Listed
 pub mod Texts
+pub mod Places

@@ -1,3 +1,4 @@
+pub mod Beginnings
 pub mod Lines
 pub mod Mapped
 pub mod Texts

@@ -1,20 +1,20 @@
 //! Single lines, each appended to a text.
 
 ghost use Rattle.std.specs.Prelude.{◌≡◌, ◌++◌, [], OnOk};
-ghost use Rattle.std.specs.Option.{option_map_or};
 ghost use Rattle.bus_semantics.specs.Plan.{instance_of, plan_of};
-ghost use Rattle.plan_definitions.specs.Ports.{interface_of, item_name, port_name};
-ghost use Rattle.plan_text.specs.Lines.{component_text, direct_line, end_text, event_line, instance_line, join_line, machine_line, owned_text, owner_text, task_line};
+ghost use Rattle.plan_definitions.specs.Ports.{item_name, port_name};
+ghost use Rattle.plan_text.specs.Lines.{component_text, direct_line, event_line, instance_line, machine_line, owned_text, owner_text, task_line};
 
 use bus_semantics::{BusPlan, EventPlan, MachinePlan};
 use description_types::{Description, MappedEvent, Task};
-use flat_descriptions::{End, Flat, Instance, Join};
+use flat_descriptions::{Flat, Instance};
 use interface_types::InterfaceKind;
 use itoa::Buffer;
-use plan_numbers::{interface_of, ports_of};
+use plan_numbers::ports_of;
 use rte_text::Memory;
 
-fn owner_text(f: &Flat, owner: Option<u32>) -> &[u8]
+/// The path of an instance, and `env` for the environment.
+pub fn owner_text(f: &Flat, owner: Option<u32>) -> &[u8]
     ensures { result.now ≡ owner_text f.now owner }
 {
     match owner {
@@ -27,7 +27,12 @@ fn owner_text(f: &Flat, owner: Option<u32>) -> &[u8]
 }
 
 /// Appends INSTANCE.NAME, or env.NAME.
-fn add_owned(f: &Flat, owner: Option<u32>, name: &[u8], text: &mut Vec<u8>) -> Result<(), Memory>
+pub fn add_owned(
+    f: &Flat,
+    owner: Option<u32>,
+    name: &[u8],
+    text: &mut Vec<u8>,
+) -> Result<(), Memory>
     ensures { OnOk result (text.new.items ≡ text.old.items ++ owned_text f.now owner name.now) }
 {
     text.extend_from_slice(owner_text(f, owner))?;
@@ -35,7 +40,8 @@ fn add_owned(f: &Flat, owner: Option<u32>, name: &[u8], text: &mut Vec<u8>) -> R
     text.extend_from_slice(name)
 }
 
-fn item_name(kind: &InterfaceKind, item: u32) -> &[u8]
+/// The name of an item of an interface.
+pub fn item_name(kind: &InterfaceKind, item: u32) -> &[u8]
     ensures { result.now ≡ item_name kind.now item }
 {
     match kind {
@@ -51,36 +57,14 @@ fn item_name(kind: &InterfaceKind, item: u32) -> &[u8]
     }
 }
 
-fn port_name<'a>(d: &'a Description, f: &Flat, owner: Option<u32>, port: u32) -> &'a [u8]
+/// The name of a port of an instance, or of the environment.
+pub fn port_name<'a>(d: &'a Description, f: &Flat, owner: Option<u32>, port: u32) -> &'a [u8]
     ensures { result.now ≡ port_name d.now f.now owner port }
 {
     match ports_of(d, f, owner).get(port as usize) {
         Some(port) => port.short_name.bytes(),
         None => &[],
     }
-}
-
-fn name_of_item<'a>(d: &'a Description, f: &Flat, end: End) -> &'a [u8]
-    ensures { result.now ≡ option_map_or (λ kind. item_name kind end.element) (interface_of d.now f.now end.instance end.port) [] }
-{
-    match interface_of(d, f, end.instance, end.port) {
-        Some(kind) => item_name(kind, end.element),
-        None => &[],
-    }
-}
-
-/// Appends INSTANCE.PORT.ITEM, or env.PORT.ITEM.
-fn add_end(d: &Description, f: &Flat, end: End, text: &mut Vec<u8>) -> Result<(), Memory>
-    ensures { OnOk result (text.new.items ≡ text.old.items ++ end_text d.now f.now end) }
-{
-    add_owned(
-        f,
-        end.instance,
-        port_name(d, f, end.instance, end.port),
-        text,
-    )?;
-    text.push(b'.')?;
-    text.extend_from_slice(name_of_item(d, f, end))
 }
 
 fn component_text(d: &Description, component: u32) -> &[u8]
@@ -100,18 +84,6 @@ pub fn add_instance(d: &Description, x: &Instance, text: &mut Vec<u8>) -> Result
     text.extend_from_slice(x.path.bytes())?;
     text.push(b' ')?;
     text.extend_from_slice(component_text(d, x.component))?;
-    text.push(b'\n')?;
-    Ok(())
-}
-
-/// Appends `join PROVIDED REQUIRED`.
-pub fn add_join(d: &Description, f: &Flat, join: Join, text: &mut Vec<u8>) -> Result<(), Memory>
-    ensures { OnOk result (text.new.items ≡ text.old.items ++ join_line d.now f.now join) }
-{
-    text.extend_from_slice(b"join ")?;
-    add_end(d, f, join.provided, text)?;
-    text.push(b' ')?;
-    add_end(d, f, join.required, text)?;
     text.push(b'\n')?;
     Ok(())
 }

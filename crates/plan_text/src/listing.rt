@@ -3,15 +3,16 @@
 ghost use Rattle.std.specs.Prelude.{◌≡◌, ◌<◌, ◌++◌, IfOk, OnOk, length};
 ghost use Rattle.std.specs.List.{flat_map};
 ghost use Rattle.plan_definitions.specs.Tasks.{by_position};
-ghost use Rattle.plan_text.specs.Lines.{event_line, instance_line, invokes_directly, join_line, machine_line, plan_text};
+ghost use Rattle.plan_text.specs.Lines.{event_line, instance_line, invokes_directly, machine_line, plan_text};
 ghost use Rattle.plan_text.specs.Mapped.{listed, seen};
 ghost use Rattle.plan_text.specs.Texts.{direct_text, task_text, tasks_text};
 
-use crate::lines::{add_direct, add_event, add_instance, add_join, add_machine, add_task};
+use crate::joins::add_joins;
+use crate::lines::{add_direct, add_event, add_instance, add_machine, add_task};
 use crate::mapped::{in_order, mapped_by_task};
 use bus_semantics::{BusPlan, EventKind, EventPlan, MachinePlan};
 use description_types::{Description, MappedEvent, Task};
-use flat_descriptions::{Flat, Instance, Join};
+use flat_descriptions::{Flat, Instance};
 use rte_text::Memory;
 use std::alloc::Global;
 
@@ -20,15 +21,6 @@ fn add_instances(d: &Description, instances: &[Instance], text: &mut Vec<u8>) ->
 {
     for instance in instances {
         add_instance(d, instance, text)?;
-    }
-    Ok(())
-}
-
-fn add_joins(d: &Description, f: &Flat, joins: &[Join], text: &mut Vec<u8>) -> Result<(), Memory>
-    ensures { OnOk result (text.new.items ≡ text.old.items ++ flat_map (join_line d.now f.now) joins.now) }
-{
-    for join in joins {
-        add_join(d, f, *join, text)?;
     }
     Ok(())
 }
@@ -133,7 +125,7 @@ pub fn plan_text(alloc: Global, d: &Description, f: &Flat, p: &BusPlan) -> Resul
 {
     let mut text = Vec::new(alloc);
     add_instances(d, f.instances.items(), &mut text)?;
-    add_joins(d, f, f.joins.items(), &mut text)?;
+    add_joins(alloc, d, f, f.joins.items(), &mut text)?;
     add_machines(f, p.machines.items(), &mut text)?;
     add_tasks(alloc, d, &mut text)?;
     add_direct_events(f, p, p.events.items(), &mut text)?;
