@@ -10,38 +10,37 @@ use Rattle.flat_descriptions.specs.declared.flat.Flat.{Flat}
 use Rattle.flat_descriptions.specs.declared.flat.Join.{Join}
 use Rattle.plan_definitions.specs.declared.site.Site.{Site}
 use Rattle.plan_definitions.specs.declared.site.SiteKind.{SiteKind}
-use Rattle.plan_definitions.specs.Joined.{across, partners}
-use Rattle.plan_definitions.specs.Keys.{Key, end_key, key_of, keys_of, number_in, same_key}
+use Rattle.plan_definitions.specs.Keys.{Key, end_key, keys_of, number_in, same_key}
 use Rattle.plan_definitions.specs.Lists.{positions}
 use Rattle.plan_definitions.specs.Things.{elements_of}
-use Rattle.plan_definitions.specs.ElementGroups.{leader, leader_of, least, nearest, own_number}
+use Rattle.plan_definitions.specs.ElementGroups.{leader_of, least, nearest, own_number}
 use Rattle.plan_elements.specs.Leading.{AreLeading, pairs_of}
 use Rattle.plan_elements.specs.Spreads.{across_pair, number_at, spread_numbers}
 
 -- ---- equal keys
 
-same_option : (a b : Option ℕ) → option_eq nat_eq a b ≡ true → a ≡ b
+pub same_option : (a b : Option ℕ) → option_eq nat_eq a b ≡ true → a ≡ b
 same_option None None same = refl
 same_option None (Some b) same = absurd (true≢false (sym same))
 same_option (Some a) None same = absurd (true≢false (sym same))
 same_option (Some a) (Some b) same = ap (λ n. Some n) (eqb-true a b same)
 
-option_self : (a : Option ℕ) → option_eq nat_eq a a ≡ true
+pub option_self : (a : Option ℕ) → option_eq nat_eq a a ≡ true
 option_self None = refl
 option_self (Some a) = eq-eqb a a refl
 
-key_is : (a b : Key) → same_key a b ≡ true → a ≡ b
+pub key_is : (a b : Key) → same_key a b ≡ true → a ≡ b
 key_is a b same =
     let parts = and_parts (option_eq nat_eq a.0 b.0 && option_eq nat_eq a.1 b.1) (nat_eq a.2 b.2) same in
     let two = and_parts (option_eq nat_eq a.0 b.0) (option_eq nat_eq a.1 b.1) parts.0 in
     λ j. (same_option a.0 b.0 two.0 j, same_option a.1 b.1 two.1 j, eqb-true a.2 b.2 parts.1 j)
 
-key_self : (a : Key) → same_key a a ≡ true
+pub key_self : (a : Key) → same_key a a ≡ true
 key_self a = λ j. (option_self a.0 j && option_self a.1 j) && eq-eqb a.2 a.2 refl j
 
 -- ---- a number tells its key, except for 0
 
-position_least : (test : Key → Bool) (i n : ℕ) (keys : List Key) → position_from test i keys ≡ Some n → (i ≤ n) × (n < i + length keys)
+pub position_least : (test : Key → Bool) (i n : ℕ) (keys : List Key) → position_from test i keys ≡ Some n → (i ≤ n) × (n < i + length keys)
 position_least test i n [] found = absurd cc
 position_least test i n (k ∷ keys) found = by (λ rest. position_least test (i + 1) n keys rest) (test k) found
   where
@@ -49,7 +48,7 @@ position_least test i n (k ∷ keys) found = by (λ rest. position_least test (i
     by later true found = let e : i ≡ n = cc in (omega arith, omega arith)
     by later false found = let rest = later found in (omega (arith, rest.0), omega (arith, rest.1))
 
-same_place : (a b : Key) (i n : ℕ) (keys : List Key) → position_from (same_key a) i keys ≡ Some n → position_from (same_key b) i keys ≡ Some n → a ≡ b
+pub same_place : (a b : Key) (i n : ℕ) (keys : List Key) → position_from (same_key a) i keys ≡ Some n → position_from (same_key b) i keys ≡ Some n → a ≡ b
 same_place a b i n [] first second = absurd cc
 same_place a b i n (k ∷ keys) first second = by (λ one two. same_place a b (i + 1) n keys one two) (same_key a k) (same_key b k) refl refl first second
   where

@@ -2,3 +2,4 @@ pub mod Filling
 pub mod Leading
 pub mod Listing
 pub mod Spreading
+pub mod Marking

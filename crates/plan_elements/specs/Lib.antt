@@ -2,3 +2,4 @@ pub mod Lists
 pub mod Spreads
 pub mod Leading
 pub mod Grouped
+pub mod Marks

@@ -1,32 +1,26 @@
 //! The data elements and variables of a plan.
 
-ghost use Rattle.std.specs.Prelude.{◌≡◌, false, IfOk, map};
+ghost use Rattle.std.specs.Prelude.{◌≡◌, [], ◌∷◌, ◌++◌, IfOk, None, OnOk, Some, false, map, option_and_then, option_copied, slice_get};
 ghost use Rattle.std.specs.Option.{option_map_or};
 ghost use Rattle.plan_definitions.specs.Joined.{end_of, is_joined};
-ghost use Rattle.plan_definitions.specs.Ports.{site_name};
-ghost use Rattle.plan_definitions.specs.Elements.{elem_seen, element_of, elements, group_of, is_provided};
+ghost use Rattle.plan_definitions.specs.Ports.{com_spec_of, site_name};
+ghost use Rattle.plan_definitions.specs.Elements.{declared_at, elem_seen, element_of, elements, group_of, is_provided};
+ghost use Rattle.plan_definitions.specs.Things.{elements_of};
 ghost use Rattle.plan_elements.specs.Grouped.{AreGroups};
+ghost use Rattle.plan_elements.specs.Marks.{AreMarks};
 
 use crate::groups::Groups;
-use crate::said::{init_of, limits_of, never_received_of, queue_of, words_of};
-use crate::types::{kind_of, type_of};
-use bus_semantics::ElemPlan;
+use crate::marks::{is_joined, marks_of};
+use crate::said::{given_by, init_of, limits_of, never_received_by, queue_by, words_of};
+use crate::types::{declared_in, kind_declared, type_at, type_declared, variable_at};
+use bus_semantics::{ElemKind, ElemPlan};
+use description_types::Variable;
+use interface_types::{ComSpec, DataElement, DataType};
 use plan_definitions::{Site, SiteKind};
-use plan_numbers::{Source, end_of, item_text, variable_name};
-use rte_text::{Memory, Text};
+use plan_numbers::{Source, interface_at, port_of, text_at, variable_name};
+use rte_text::{Memory, Seq, Text};
+use rte_value::Word;
 use std::alloc::Global;
-
-fn site_name(alloc: Global, source: &Source<'_>, site: Site) -> Result<Text, Memory>
-    ensures { IfOk result (λ name. name ≡ site_name source.now.d.now source.now.f.now site) }
-{
-    match site.port {
-        None => Text::new(
-            alloc,
-            variable_name(source.d, source.f, site.owner, site.item),
-        ),
-        Some(port) => item_text(alloc, source.d, source.f, site.owner, port, site.item),
-    }
-}
 
 fn is_provided(kind: SiteKind) -> bool
     ensures { result ≡ is_provided kind }
@@ -34,53 +28,164 @@ fn is_provided(kind: SiteKind) -> bool
     matches!(kind, SiteKind::Element(true))
 }
 
-fn is_joined(source: &Source<'_>, site: Site) -> bool
-    ensures { result ≡ option_map_or (is_joined source.now.f.now.joins) (end_of site) false }
+/// The group of an element, and whether a join has it as an end.
+#[derive(Clone, Copy)]
+struct Links {
+    group: u32,
+    joined: bool,
+}
+
+/// What an interface declares of an item, and what its port says of it.
+#[derive(Clone, Copy)]
+struct Item<'a> {
+    declared: Option<&'a DataElement>,
+    spec: Option<&'a ComSpec>,
+}
+
+fn item_plan(
+    source: &Source<'_>,
+    links: Links,
+    site: Site,
+    port: u32,
+    item: Item<'_>,
+    name: Text,
+) -> ElemPlan
+    requires joined { links.joined ≡ option_map_or (is_joined source.now.f.now.joins) (end_of site) false }
+    requires port { site.port ≡ Some port }
+    requires declared { option_copied item.declared ≡ declared_at source.now.d.now source.now.f.now site.owner port site.item }
+    requires spec { option_copied item.spec ≡ com_spec_of source.now.d.now source.now.f.now site.owner port site.item }
+    requires name { name ≡ site_name source.now.d.now source.now.f.now site }
+    ensures { elem_seen result ≡ element_of source.now.d.now source.now.f.now links.group site }
 {
-    match end_of(site) {
-        Some(end) => source.is_joined(end),
-        None => false,
+    let kind = kind_declared(item.declared);
+    let found = type_declared(source, item.declared);
+    let given = given_by(site.kind, kind, item.spec);
+    ElemPlan {
+        instance: site.owner,
+        name,
+        kind,
+        provided: is_provided(site.kind),
+        joined: links.joined,
+        group: links.group,
+        limits: limits_of(found),
+        words: words_of(found),
+        init: init_of(given, found),
+        never_received: never_received_by(site.kind, kind, item.spec),
+        queue_length: queue_by(site.kind, kind, item.spec),
     }
 }
 
-fn element_of(
+fn push_item(
+    list: &mut Vec<ElemPlan>,
     alloc: Global,
     source: &Source<'_>,
-    group: u32,
+    links: Links,
     site: Site,
-) -> Result<ElemPlan, Memory>
-    ensures { IfOk result (λ element. elem_seen element ≡ element_of source.now.d.now source.now.f.now group site) }
+    port: u32,
+) -> Result<(), Memory>
+    requires joined { links.joined ≡ option_map_or (is_joined source.now.f.now.joins) (end_of site) false }
+    requires port { site.port ≡ Some port }
+    ensures { OnOk result (map elem_seen list.new.items ≡ map elem_seen list.old.items ++ element_of source.now.d.now source.now.f.now links.group site ∷ []) }
 {
-    let name = site_name(alloc, source, site)?;
-    let init = init_of(source, site);
-    let found = type_of(source, site);
-    Ok(ElemPlan {
+    let found = port_of(source.d, source.f, site.owner, port);
+    let kind = interface_at(source.d, found);
+    let item = Item {
+        declared: declared_in(kind, site.item),
+        spec: source.com_spec_of(site.owner, port, site.item),
+    };
+    let name = text_at(alloc, found, kind, site.item)?;
+    list.push(item_plan(source, links, site, port, item, name))?;
+    Ok(())
+}
+
+fn type_of_variable(source: &Source<'_>, variable: Option<&Variable>) -> Option<DataType>
+    ensures { result ≡ option_and_then (λ v. slice_get source.now.d.now.types.data_types v.of_type) (option_copied variable.entry) }
+{
+    type_at(source, variable?.of_type)
+}
+
+fn given_to_variable(variable: Option<&Variable>) -> Option<&Seq<Word>>
+    ensures { option_copied result ≡ option_and_then (λ v. v.init_value) (option_copied variable.entry) }
+{
+    variable?.init_value.as_ref()
+}
+
+fn variable_plan(source: &Source<'_>, links: Links, site: Site, name: Text) -> ElemPlan
+    requires joined { links.joined ≡ option_map_or (is_joined source.now.f.now.joins) (end_of site) false }
+    requires port { site.port ≡ None }
+    requires name { name ≡ site_name source.now.d.now source.now.f.now site }
+    ensures { elem_seen result ≡ element_of source.now.d.now source.now.f.now links.group site }
+{
+    let variable = variable_at(source, site.owner, site.item);
+    let found = type_of_variable(source, variable);
+    let given = given_to_variable(variable);
+    ElemPlan {
         instance: site.owner,
         name,
-        kind: kind_of(source, site),
+        kind: ElemKind::Variable,
         provided: is_provided(site.kind),
-        joined: is_joined(source, site),
-        group,
+        joined: links.joined,
+        group: links.group,
         limits: limits_of(found),
         words: words_of(found),
-        init,
-        never_received: never_received_of(source, site),
-        queue_length: queue_of(source, site),
-    })
+        init: init_of(given, found),
+        never_received: false,
+        queue_length: 1,
+    }
+}
+
+fn push_variable(
+    list: &mut Vec<ElemPlan>,
+    alloc: Global,
+    source: &Source<'_>,
+    links: Links,
+    site: Site,
+) -> Result<(), Memory>
+    requires joined { links.joined ≡ option_map_or (is_joined source.now.f.now.joins) (end_of site) false }
+    requires port { site.port ≡ None }
+    ensures { OnOk result (map elem_seen list.new.items ≡ map elem_seen list.old.items ++ element_of source.now.d.now source.now.f.now links.group site ∷ []) }
+{
+    let text = variable_name(source.d, source.f, site.owner, site.item);
+    let name = Text::new(alloc, text)?;
+    list.push(variable_plan(source, links, site, name))?;
+    Ok(())
+}
+
+fn push_element(
+    list: &mut Vec<ElemPlan>,
+    alloc: Global,
+    source: &Source<'_>,
+    links: Links,
+    site: Site,
+) -> Result<(), Memory>
+    requires { links.joined ≡ option_map_or (is_joined source.now.f.now.joins) (end_of site) false }
+    ensures { OnOk result (map elem_seen list.new.items ≡ map elem_seen list.old.items ++ element_of source.now.d.now source.now.f.now links.group site ∷ []) }
+{
+    match site.port {
+        None => push_variable(list, alloc, source, links, site),
+        Some(port) => push_item(list, alloc, source, links, site, port),
+    }
 }
 
 fn elements_at(
     alloc: Global,
     source: &Source<'_>,
     groups: &[u32],
+    marks: &[bool],
     sites: &[Site],
 ) -> Result<Vec<ElemPlan>, Memory>
-    requires { groups.now ≡ map (group_of source.now.d.now source.now.f.now) sites.now }
+    requires groups { groups.now ≡ map (group_of source.now.d.now source.now.f.now) sites.now }
+    requires marks { AreMarks source.now.d.now source.now.f.now marks.now }
+    requires sites { sites.now ≡ elements_of source.now.d.now source.now.f.now }
     ensures { IfOk result (λ list. map elem_seen list.items ≡ map (λ s. element_of source.now.d.now source.now.f.now (group_of source.now.d.now source.now.f.now s) s) sites.now) }
 {
     let mut list = Vec::with_capacity(alloc, sites.len())?;
     for number in 0..sites.len() {
-        list.push(element_of(alloc, source, groups[number], sites[number])?)?;
+        let links = Links {
+            group: groups[number],
+            joined: is_joined(source, marks, sites[number]),
+        };
+        push_element(&mut list, alloc, source, links, sites[number])?;
     }
     Ok(list)
 }
@@ -94,10 +199,12 @@ pub fn element_plans(
     requires { AreGroups source.now.d.now source.now.f.now groups.now }
     ensures { IfOk result (λ list. map elem_seen list.items ≡ elements source.now.d.now source.now.f.now) }
 {
+    let marks = marks_of(alloc, source)?;
     elements_at(
         alloc,
         source,
         groups.numbers.as_slice(),
+        marks.as_slice(),
         source.lists.elements.as_slice(),
     )
 }

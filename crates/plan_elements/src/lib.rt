@@ -4,6 +4,7 @@
 mod elements;
 mod groups;
 mod leaders;
+mod marks;
 mod members;
 mod said;
 mod spread;

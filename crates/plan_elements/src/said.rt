@@ -1,17 +1,14 @@
 //! What is said of elements and variables: their initial words and queues.
 
-ghost use Rattle.std.specs.Prelude.{◌≡◌, false, option_and_then, option_copied, pos, replicate};
-ghost use Rattle.std.specs.Option.{option_map_or};
+ghost use Rattle.std.specs.Prelude.{◌≡◌, None, false, if◌then◌else◌, option_and_then, option_copied, pos, replicate};
+ghost use Rattle.std.specs.Option.{option_map_or, unwrap_or};
 ghost use Rattle.rte_value.specs.Arithmetic.{clamped};
 ghost use Rattle.rte_value.specs.Values.{words_of as value_words};
-ghost use Rattle.plan_definitions.specs.Ports.{com_spec_of};
-ghost use Rattle.plan_definitions.specs.Elements.{given_of, held, init_of, keeps_last, keeps_queue, kind_of, limits_of, never_received_of, queue_of, type_of, variable_at, words_of, zeros};
+ghost use Rattle.plan_definitions.specs.Elements.{held, keeps_last, keeps_queue, limits_of, words_of, zeros};
 
-use crate::types::{kind_of, type_of, variable_at};
 use bus_semantics::ElemKind;
-use interface_types::DataType;
-use plan_definitions::{Site, SiteKind};
-use plan_numbers::Source;
+use interface_types::{ComSpec, DataType};
+use plan_definitions::SiteKind;
 use rte_text::Seq;
 use rte_value::{Limits, MOST_WORDS, Value, Word};
 
@@ -53,32 +50,14 @@ fn keeps_queue(kind: SiteKind, kept: ElemKind) -> bool
     matches!((kind, kept), (SiteKind::Element(false), ElemKind::Queued))
 }
 
-fn given_to_variable<'a>(source: &'a Source<'_>, site: Site) -> Option<&'a Seq<Word>>
-    ensures { option_copied result ≡ option_and_then (λ v. v.init_value) (variable_at source.now.d.now source.now.f.now site.owner site.item) }
+/// The initial words that a port gives to an item, by how it is kept.
+pub fn given_by(kind: SiteKind, kept: ElemKind, spec: Option<&ComSpec>) -> Option<&Seq<Word>>
+    ensures { option_copied result ≡ (if keeps_last kind kept then option_and_then (λ c. c.init_value) (option_copied spec.entry) else None) }
 {
-    let variable = variable_at(source, site.owner, site.item)?;
-    variable.init_value.as_ref()
-}
-
-fn given_to_element<'a>(source: &'a Source<'_>, site: Site, port: u32) -> Option<&'a Seq<Word>>
-    ensures { option_copied result ≡ option_and_then (λ c. c.init_value) (com_spec_of source.now.d.now source.now.f.now site.owner port site.item) }
-{
-    let spec = source.com_spec_of(site.owner, port, site.item)?;
-    spec.init_value.as_ref()
-}
-
-fn given_of<'a>(source: &'a Source<'_>, site: Site) -> Option<&'a Seq<Word>>
-    ensures { option_copied result ≡ given_of source.now.d.now source.now.f.now site }
-{
-    match site.port {
-        None => given_to_variable(source, site),
-        Some(port) => {
-            if keeps_last(site.kind, kind_of(source, site)) {
-                given_to_element(source, site, port)
-            } else {
-                None
-            }
-        }
+    if keeps_last(kind, kept) {
+        spec?.init_value.as_ref()
+    } else {
+        None
     }
 }
 
@@ -113,53 +92,35 @@ fn zero_value(found: Option<DataType>) -> Value
     repeated(zero, count as usize)
 }
 
-/// The initial value: of a variable and of a required unqueued element the one that is given, else 0 in each word.
-pub fn init_of(source: &Source<'_>, site: Site) -> Value
-    ensures { value_words result ≡ init_of source.now.d.now source.now.f.now site }
+/// The initial value: the words that are given, else 0 in each word.
+pub fn init_of(given: Option<&Seq<Word>>, found: Option<DataType>) -> Value
+    ensures { value_words result ≡ held (unwrap_or (option_copied given.entry) (zeros found)) }
 {
-    match given_of(source, site) {
+    match given {
         Some(words) => held(words.items()),
-        None => zero_value(type_of(source, site)),
-    }
-}
-
-fn told_of(source: &Source<'_>, site: Site, port: u32) -> bool
-    ensures { result ≡ option_map_or (λ c. c.handle_never_received) (com_spec_of source.now.d.now source.now.f.now site.owner port site.item) false }
-{
-    match source.com_spec_of(site.owner, port, site.item) {
-        Some(spec) => spec.handle_never_received,
-        None => false,
+        None => zero_value(found),
     }
 }
 
 /// Whether a read before the first write answers that nothing was received.
-pub fn never_received_of(source: &Source<'_>, site: Site) -> bool
-    ensures { result ≡ never_received_of source.now.d.now source.now.f.now site }
+pub fn never_received_by(kind: SiteKind, kept: ElemKind, spec: Option<&ComSpec>) -> bool
+    ensures { result ≡ (if keeps_last kind kept then option_map_or (λ c. c.handle_never_received) (option_copied spec.entry) false else false) }
 {
-    match site.port {
+    match spec {
+        Some(spec) => keeps_last(kind, kept) && spec.handle_never_received,
         None => false,
-        Some(port) => {
-            if keeps_last(site.kind, kind_of(source, site)) {
-                told_of(source, site, port)
-            } else {
-                false
-            }
-        }
     }
 }
 
 /// How many values the queue of a required queued element holds, and 1 for others.
-pub fn queue_of(source: &Source<'_>, site: Site) -> u32
-    ensures { result ≡ queue_of source.now.d.now source.now.f.now site }
+pub fn queue_by(kind: SiteKind, kept: ElemKind, spec: Option<&ComSpec>) -> u32
+    ensures { result ≡ (if keeps_queue kind kept then option_map_or (λ c. c.queue_length) (option_copied spec.entry) 1 else 1) }
 {
-    match site.port {
+    if !keeps_queue(kind, kept) {
+        return 1;
+    }
+    match spec {
+        Some(spec) => spec.queue_length,
         None => 1,
-        Some(port) => {
-            if keeps_queue(site.kind, kind_of(source, site)) {
-                source.queue_length_of(site.owner, port, site.item)
-            } else {
-                1
-            }
-        }
     }
 }

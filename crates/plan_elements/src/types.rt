@@ -1,13 +1,14 @@
 //! Data elements and variables, with their types.
 
 ghost use Rattle.std.specs.Prelude.{◌≡◌, option_and_then, option_copied, slice_get};
-ghost use Rattle.plan_definitions.specs.Elements.{declared_at, element_in, kind_of, policy_kind, type_of, variable_at};
+ghost use Rattle.std.specs.Option.{option_map_or};
+ghost use Rattle.bus_semantics.specs.declared.plan.ElemKind.TheVariants.{Unqueued};
+ghost use Rattle.plan_definitions.specs.Elements.{element_in, policy_kind, variable_at};
 
 use bus_semantics::ElemKind;
 use description_types::Variable;
 use interface_types::{DataElement, DataType, InterfaceKind, SwImplPolicy};
-use plan_definitions::Site;
-use plan_numbers::{Source, component_of, interface_of};
+use plan_numbers::{Source, component_of};
 
 fn element_in(kind: &InterfaceKind, item: u32) -> Option<&DataElement>
     ensures { option_copied result ≡ element_in kind.now item }
@@ -18,16 +19,11 @@ fn element_in(kind: &InterfaceKind, item: u32) -> Option<&DataElement>
     }
 }
 
-fn declared_at<'a>(
-    source: &Source<'a>,
-    owner: Option<u32>,
-    port: u32,
-    item: u32,
-) -> Option<&'a DataElement>
-    ensures { option_copied result ≡ declared_at source.now.d.now source.now.f.now owner port item }
+/// The data element of an interface at a position, if the interface has such.
+pub fn declared_in(kind: Option<&InterfaceKind>, item: u32) -> Option<&DataElement>
+    ensures { option_copied result ≡ option_and_then (λ k. element_in k item) (option_copied kind.entry) }
 {
-    let kind = interface_of(source.d, source.f, owner, port)?;
-    element_in(kind, item)
+    element_in(kind?, item)
 }
 
 /// A variable of an instance. The environment has none.
@@ -38,35 +34,12 @@ pub fn variable_at<'a>(source: &Source<'a>, owner: Option<u32>, item: u32) -> Op
     component.behavior.variables.items().get(item as usize)
 }
 
-fn type_of_variable(source: &Source<'_>, owner: Option<u32>, item: u32) -> Option<DataType>
-    ensures { result ≡ option_and_then (λ v. slice_get source.now.d.now.types.data_types v.of_type) (variable_at source.now.d.now source.now.f.now owner item) }
+/// The data type at a position.
+pub fn type_at(source: &Source<'_>, position: u32) -> Option<DataType>
+    ensures { result ≡ slice_get source.now.d.now.types.data_types position }
 {
-    let variable = variable_at(source, owner, item)?;
     let types = source.d.types.data_types.items();
-    types.get(variable.of_type as usize).copied()
-}
-
-fn type_of_element(
-    source: &Source<'_>,
-    owner: Option<u32>,
-    port: u32,
-    item: u32,
-) -> Option<DataType>
-    ensures { result ≡ option_and_then (λ e. slice_get source.now.d.now.types.data_types e.of_type) (declared_at source.now.d.now source.now.f.now owner port item) }
-{
-    let element = declared_at(source, owner, port, item)?;
-    let types = source.d.types.data_types.items();
-    types.get(element.of_type as usize).copied()
-}
-
-/// The type of an element or variable.
-pub fn type_of(source: &Source<'_>, site: Site) -> Option<DataType>
-    ensures { result ≡ type_of source.now.d.now source.now.f.now site }
-{
-    match site.port {
-        None => type_of_variable(source, site.owner, site.item),
-        Some(port) => type_of_element(source, site.owner, port, site.item),
-    }
+    types.get(position as usize).copied()
 }
 
 fn policy_kind(policy: SwImplPolicy) -> ElemKind
@@ -78,14 +51,18 @@ fn policy_kind(policy: SwImplPolicy) -> ElemKind
     }
 }
 
-/// How an element is kept.
-pub fn kind_of(source: &Source<'_>, site: Site) -> ElemKind
-    ensures { result ≡ kind_of source.now.d.now source.now.f.now site }
+/// The type of what is declared.
+pub fn type_declared(source: &Source<'_>, declared: Option<&DataElement>) -> Option<DataType>
+    ensures { result ≡ option_and_then (λ e. slice_get source.now.d.now.types.data_types e.of_type) (option_copied declared.entry) }
 {
-    let Some(port) = site.port else {
-        return ElemKind::Variable;
-    };
-    match declared_at(source, site.owner, port, site.item) {
+    type_at(source, declared?.of_type)
+}
+
+/// How a declared element is kept.
+pub fn kind_declared(declared: Option<&DataElement>) -> ElemKind
+    ensures { result ≡ option_map_or (λ e. policy_kind e.sw_impl_policy) (option_copied declared.entry) Unqueued }
+{
+    match declared {
         Some(element) => policy_kind(element.sw_impl_policy),
         None => ElemKind::Unqueued,
     }

@@ -1,14 +1,14 @@
 -- Partners of ends, and what a list says of a key, as they are looked up.
-use Rattle.std.proofs.Common.{◌≡◌, ℕ, zero, suc, ◌+◌, List, [], ◌∷◌, map, Bool, true, false, cond, ◌&&◌, ◌||◌, nat_eq, Option, Some, None, ⊎_elim, refl, sym, ap, ◌∙◌, add-one}
-use Rattle.std.specs.List.{find, list_any, position_from, slice_get}
+use Rattle.std.proofs.Common.{◌≡◌, ℕ, zero, suc, ◌+◌, List, [], ◌∷◌, map, Bool, true, false, cond, ◌&&◌, nat_eq, Option, Some, None, ⊎_elim, refl, sym, ap, ◌∙◌, add-one}
+use Rattle.std.specs.List.{find, position_from, slice_get}
 use Rattle.std.specs.Map.{lookup}
-use Rattle.std.specs.Option.{is_some, option_and_then, option_eq, option_map}
+use Rattle.std.specs.Option.{option_and_then, option_eq, option_map}
 use Rattle.std.proofs.lemmas.Bool.{eq-eqb, ne_eqb, cases_eq}
 use Rattle.interface_types.specs.declared.interface.ComSpec.{ComSpec}
 use Rattle.flat_descriptions.specs.declared.flat.End.{End}
 use Rattle.flat_descriptions.specs.declared.flat.Join.{Join}
-use Rattle.plan_definitions.specs.Joined.{is_joined, provider_of, same_end}
-use Rattle.plan_numbers.specs.Ends.{EndKey, key_of, provided_entry, required_entry, same_end_key}
+use Rattle.plan_definitions.specs.Joined.{provider_of, same_end}
+use Rattle.plan_numbers.specs.Ends.{EndKey, key_of, required_entry, same_end_key}
 
 pub nat_eq_sym : (a b : ℕ) → nat_eq a b ≡ nat_eq b a
 nat_eq_sym a b = ⊎_elim (λ e. eq-eqb a b e ∙ sym (eq-eqb b a (sym e))) (λ ne. ne_eqb a b ne ∙ sym (ne_eqb b a (λ e. ne (sym e)))) (cases_eq a b)
@@ -35,40 +35,6 @@ provider_by e (j ∷ joins) = ap (λ rest. cond (same_end_key (key_of e) (key_of
 pub provider_found : (joins : List Join) (entries : List (EndKey × End)) (e : End) → entries ≡ map required_entry joins → lookup (same_end_key (key_of e)) entries ≡ provider_of joins e
 provider_found joins entries e are = ap (lookup (same_end_key (key_of e))) are ∙ provider_by e joins
 
-any_required : (e : End) (joins : List Join) → is_some (lookup (same_end_key (key_of e)) (map required_entry joins)) ≡ list_any (λ j. same_end j.required e) joins
-any_required e [] = refl
-any_required e (j ∷ joins) = ap (λ b. is_some (cond b (Some j.provided) (lookup (same_end_key (key_of e)) (map required_entry joins)))) (sym (same_end_is j.required e)) ∙ by (same_end j.required e) (any_required e joins)
-  where
-    by : (b : Bool) → is_some (lookup (same_end_key (key_of e)) (map required_entry joins)) ≡ list_any (λ j. same_end j.required e) joins
-        → is_some (cond b (Some j.provided) (lookup (same_end_key (key_of e)) (map required_entry joins))) ≡ (b || list_any (λ j. same_end j.required e) joins)
-    by true rest = refl
-    by false rest = rest
-
-any_provided : (e : End) (joins : List Join) → is_some (lookup (same_end_key (key_of e)) (map provided_entry joins)) ≡ list_any (λ j. same_end j.provided e) joins
-any_provided e [] = refl
-any_provided e (j ∷ joins) = ap (λ b. is_some (cond b (Some j.required) (lookup (same_end_key (key_of e)) (map provided_entry joins)))) (sym (same_end_is j.provided e)) ∙ by (same_end j.provided e) (any_provided e joins)
-  where
-    by : (b : Bool) → is_some (lookup (same_end_key (key_of e)) (map provided_entry joins)) ≡ list_any (λ j. same_end j.provided e) joins
-        → is_some (cond b (Some j.required) (lookup (same_end_key (key_of e)) (map provided_entry joins))) ≡ (b || list_any (λ j. same_end j.provided e) joins)
-    by true rest = refl
-    by false rest = rest
-
-either : (p q : Bool) (r s : Bool) → ((p || q) || (r || s)) ≡ ((p || r) || (q || s))
-either true q r s = refl
-either false true true s = refl
-either false true false s = refl
-either false false r s = refl
-
-any_of_both : (p q : Join → Bool) (joins : List Join) → list_any (λ j. p j || q j) joins ≡ (list_any p joins || list_any q joins)
-any_of_both p q [] = refl
-any_of_both p q (j ∷ joins) = ap (λ b. (p j || q j) || b) (any_of_both p q joins) ∙ either (p j) (q j) (list_any p joins) (list_any q joins)
-
-pub joined_found : (joins : List Join) (provided required : List (EndKey × End)) (e : End) → provided ≡ map provided_entry joins → required ≡ map required_entry joins
-    → (is_some (lookup (same_end_key (key_of e)) provided) || is_some (lookup (same_end_key (key_of e)) required)) ≡ is_joined joins e
-joined_found joins provided required e areprovided arerequired =
-    (λ j. is_some (lookup (same_end_key (key_of e)) (areprovided j)) || is_some (lookup (same_end_key (key_of e)) (arerequired j)))
-    ∙ (λ j. any_provided e joins j || any_required e joins j) ∙ sym (any_of_both (λ j. same_end j.provided e) (λ j. same_end j.required e) joins)
-
 -- what is found by its key
 pub position_next : {X : Type 0} (test : X → Bool) (n : ℕ) (xs : List X) → position_from test (n + 1) xs ≡ option_map (λ p. p + 1) (position_from test n xs)
 position_next test n [] = refl
@@ -94,22 +60,6 @@ found_at key k (x ∷ xs) = found_by key k x xs (nat_eq k (key x)) (found_at key
 pub spec_found : (item : ℕ) (specs : List ComSpec) (table : List ℕ) → table ≡ map (λ s. s.element) specs
     → option_and_then (slice_get specs) (position_from (nat_eq item) 0 table) ≡ find (λ s. nat_eq s.element item) specs
 spec_found item specs table are = ap (λ keys. option_and_then (slice_get specs) (position_from (nat_eq item) 0 keys)) are ∙ found_at (λ s. s.element) item specs
-
-either_is : (a b c : Bool) → (a || b) ≡ c → a ≡ true → true ≡ c
-either_is true b c is here = is
-either_is false b c is here = cc
-
-or_is : (a b c : Bool) → (a || b) ≡ c → a ≡ false → b ≡ c
-or_is true b c is here = cc
-or_is false b c is here = is
-
-pub first_joined : (joins : List Join) (provided required : List (EndKey × End)) (e : End) (r : Bool) → provided ≡ map provided_entry joins → required ≡ map required_entry joins
-    → r ≡ is_some (lookup (same_end_key (key_of e)) provided) → r ≡ true → r ≡ is_joined joins e
-first_joined joins provided required e r areprovided arerequired is here = here ∙ either_is _ _ _ (joined_found joins provided required e areprovided arerequired) (sym is ∙ here)
-
-pub second_joined : (joins : List Join) (provided required : List (EndKey × End)) (e : End) (r s : Bool) → provided ≡ map provided_entry joins → required ≡ map required_entry joins
-    → r ≡ is_some (lookup (same_end_key (key_of e)) provided) → r ≡ false → s ≡ is_some (lookup (same_end_key (key_of e)) required) → s ≡ is_joined joins e
-second_joined joins provided required e r s areprovided arerequired is here then_is = then_is ∙ or_is _ _ _ (joined_found joins provided required e areprovided arerequired) (sym is ∙ here)
 
 -- The standard library's lemma has a dash in its name, which a `using` in code cannot write.
 pub slice_get_map : {X Y : Type 0} (f : X → Y) (xs : List X) (i : ℕ) → slice_get (map f xs) i ≡ option_map f (slice_get xs i)

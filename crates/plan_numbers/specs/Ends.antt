@@ -13,9 +13,6 @@ key_of e = (e.instance, e.port, e.element)
 abbrev pub same_end_key : EndKey → EndKey → Bool
 same_end_key a b = (option_eq nat_eq a.0 b.0 && nat_eq a.1 b.1) && nat_eq a.2 b.2
 
--- the ends of a join, the one as a key, the other as its partner
+-- the required end of a join as a key, with the provided one
 abbrev pub required_entry : Join → EndKey × End
 required_entry j = (key_of j.required, j.provided)
-
-abbrev pub provided_entry : Join → EndKey × End
-provided_entry j = (key_of j.provided, j.required)

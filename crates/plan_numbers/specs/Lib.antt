@@ -3,3 +3,4 @@ pub mod Positions
 pub mod Ends
 pub mod ComSpecs
 pub mod Listed
+pub mod Starts

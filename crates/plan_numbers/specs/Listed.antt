@@ -23,7 +23,6 @@ abbrev pub AreLists : Description → Flat → Lists → Type 0
 AreLists d f l = AreAmong f.joins (sites d f) l
 
 pub record AreNumbers (l : Lists) (n : SiteNumbers) : Type 0 where
-  pub elements : n.elements ≡ keys_of l.elements.items
   pub servers : n.servers ≡ keys_of l.servers.items
   pub machines : n.machines ≡ keys_of l.machines.items
   pub mode_ports : n.mode_ports ≡ keys_of l.mode_ports.items

@@ -1,7 +1,7 @@
 //! Who is joined with whom.
 
 ghost use Rattle.std.specs.Prelude.{◌≡◌, IfOk, map};
-ghost use Rattle.plan_numbers.specs.Ends.{key_of, provided_entry, required_entry};
+ghost use Rattle.plan_numbers.specs.Ends.{key_of, required_entry};
 
 use crate::table::Table;
 use flat_descriptions::{End, Join};
@@ -28,52 +28,35 @@ fn by_required(alloc: Global, joins: &[Join]) -> Result<Table<EndKey, End>, Memo
     Table::new(alloc, entries)
 }
 
-fn by_provided(alloc: Global, joins: &[Join]) -> Result<Table<EndKey, End>, Memory>
-    ensures { IfOk result (λ table. table.entries.items ≡ map provided_entry joins.now) }
-{
-    let mut entries = Vec::with_capacity(alloc, joins.len())?;
-    for join in joins {
-        entries.push((key_of(join.provided), join.required))?;
-    }
-    Table::new(alloc, entries)
-}
-
-/// Joins, seen as their list, with the first partner of each end, found by hash.
+/// Joins, seen as their list, with the first provider of each required end, found by hash.
 #[derive(Drop)]
-pub struct Joined {
-    joins: Vec<Join>,
+pub struct Joined<'a> {
+    joins: &'a [Join],
     required: Table<EndKey, End>,
-    provided: Table<EndKey, End>,
 }
 
-impl Model for Joined {
+impl<'a> Model for Joined<'a> {
     ghost use Rattle.std.specs.Prelude.{◌≡◌, List, map};
     ghost use Rattle.flat_descriptions.specs.declared.flat.Join.{Join};
-    ghost use Rattle.plan_numbers.specs.Ends.{provided_entry, required_entry};
+    ghost use Rattle.plan_numbers.specs.Ends.{required_entry};
 
     ghost Value = { List Join };
 
-    ghost view = { λ s. s.joins.items };
+    ghost view = { λ s. s.joins.now };
 
-    ghost invariant = { λ s. (s.required.entries.items ≡ map required_entry s.joins.items) × (s.provided.entries.items ≡ map provided_entry s.joins.items) };
+    ghost invariant = { λ s. s.required.entries.items ≡ map required_entry s.joins.now };
 }
 
-impl Joined {
+impl<'a> Joined<'a> {
     ghost use Rattle.std.specs.Prelude.{◌≡◌, IfOk};
-    ghost use Rattle.plan_definitions.specs.Joined.{is_joined, provider_of};
+    ghost use Rattle.plan_definitions.specs.Joined.{provider_of};
 
     /// Those of these joins.
-    pub fn of(alloc: Global, joins: &[Join]) -> Result<Joined, Memory>
+    pub fn of(alloc: Global, joins: &'a [Join]) -> Result<Joined<'a>, Memory>
         ensures { IfOk result (λ joined. joined ≡ joins.now) }
     {
         let required = by_required(alloc, joins)?;
-        let provided = by_provided(alloc, joins)?;
-        let joins = Vec::from_slice(alloc, joins)?;
-        Ok(Joined {
-            joins,
-            required,
-            provided,
-        })
+        Ok(Joined { joins, required })
     }
 
     /// The provided end that is joined with a required one.
@@ -82,14 +65,5 @@ impl Joined {
         ensures { result ≡ provider_of self.now required }
     {
         self.required.find(key_of(required))
-    }
-
-    /// Whether a join has this end.
-    #[tactic(auto, using(crate::proofs::Finding::joined_found))]
-    pub fn is_joined(&self, end: End) -> bool
-        ensures { result ≡ is_joined self.now end }
-    {
-        let provides = self.provided.find(key_of(end)).is_some();
-        provides || self.required.find(key_of(end)).is_some()
     }
 }

@@ -81,7 +81,7 @@ pub fn end_of(site: Site) -> Option<End>
     })
 }
 
-fn has_machine(joined: &Joined, site: Site) -> bool
+fn has_machine(joined: &Joined<'_>, site: Site) -> bool
     ensures { result ≡ has_machine joined.now site }
 {
     match end_of(site) {
@@ -91,7 +91,11 @@ fn has_machine(joined: &Joined, site: Site) -> bool
 }
 
 /// The required mode elements that have a machine.
-pub fn mode_ports_among(alloc: Global, joined: &Joined, sites: &[Site]) -> Result<Vec<Site>, Memory>
+pub fn mode_ports_among(
+    alloc: Global,
+    joined: &Joined<'_>,
+    sites: &[Site],
+) -> Result<Vec<Site>, Memory>
     ensures { IfOk result (λ list. list.items ≡ filter (has_machine joined.now) (filter (λ s. is_mode_port s.kind) sites.now)) }
 {
     let required = sites.iter().filter(|s| is_mode_port(s.kind));

@@ -26,10 +26,9 @@ pub struct Lists {
     pub mode_ports: Vec<Site>,
 }
 
-/// Their numbers.
+/// The numbers of those that are found by hash.
 #[derive(Drop)]
 pub struct SiteNumbers {
-    pub elements: Numbers<Key>,
     pub servers: Numbers<Key>,
     pub machines: Numbers<Key>,
     pub mode_ports: Numbers<Key>,
@@ -43,7 +42,7 @@ pub struct PairNumbers {
     pub areas: Numbers<Pair>,
 }
 
-fn lists_among(alloc: Global, joined: &Joined, sites: &[Site]) -> Result<Lists, Memory>
+fn lists_among(alloc: Global, joined: &Joined<'_>, sites: &[Site]) -> Result<Lists, Memory>
     ensures { IfOk result (λ lists. AreAmong joined.now sites.now lists) }
 {
     let elements = elements_among(alloc, sites)?;
@@ -71,12 +70,10 @@ pub fn lists_of(alloc: Global, d: &Description, f: &Flat, joined: &Joined) -> Re
 pub fn site_numbers(alloc: Global, lists: &Lists) -> Result<SiteNumbers, Memory>
     ensures { IfOk result (λ numbers. AreNumbers lists.now numbers) }
 {
-    let elements = numbers_of(alloc, lists.elements.as_slice())?;
     let servers = numbers_of(alloc, lists.servers.as_slice())?;
     let machines = numbers_of(alloc, lists.machines.as_slice())?;
     let mode_ports = numbers_of(alloc, lists.mode_ports.as_slice())?;
     Ok(SiteNumbers {
-        elements,
         servers,
         machines,
         mode_ports,

@@ -1,6 +1,6 @@
 //! The ports of instances and of the environment.
 
-ghost use Rattle.std.specs.Prelude.{◌≡◌, Some, option_copied};
+ghost use Rattle.std.specs.Prelude.{◌≡◌, Some, option_and_then, option_copied, option_map, slice_get};
 ghost use Rattle.plan_definitions.specs.Parts.{component_of};
 ghost use Rattle.plan_definitions.specs.Sites.{root_ports};
 ghost use Rattle.plan_definitions.specs.Ports.{interface_of, port_of, ports_of};
@@ -53,6 +53,14 @@ pub fn port_of<'a>(d: &'a Description, f: &Flat, owner: Option<u32>, port: u32) 
 }
 
 /// The interface of a port.
+pub fn interface_at<'a>(d: &'a Description, port: Option<&Port>) -> Option<&'a InterfaceKind>
+    ensures { option_copied result ≡ option_map (λ i. i.kind) (option_and_then (λ p. slice_get d.now.types.interfaces p.interface) (option_copied port.entry)) }
+{
+    let interface = d.types.interfaces.items().get(port?.interface as usize)?;
+    Some(&interface.kind)
+}
+
+/// The interface of a port of an owner.
 pub fn interface_of<'a>(
     d: &'a Description,
     f: &Flat,
@@ -61,7 +69,5 @@ pub fn interface_of<'a>(
 ) -> Option<&'a InterfaceKind>
     ensures { option_copied result ≡ interface_of d.now f.now owner port }
 {
-    let found = port_of(d, f, owner, port)?;
-    let interface = d.types.interfaces.items().get(found.interface as usize)?;
-    Some(&interface.kind)
+    interface_at(d, port_of(d, f, owner, port))
 }

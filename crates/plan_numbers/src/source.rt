@@ -1,17 +1,20 @@
 //! A description with its flat form, and what is found in them for its plan.
 
 ghost use Rattle.std.specs.Prelude.{◌≡◌, Some, IfOk, option_copied};
-ghost use Rattle.plan_definitions.specs.Joined.{end_at, is_joined, provider_of};
-ghost use Rattle.plan_definitions.specs.Keys.{keys_of, number_in, pair_number};
+ghost use Rattle.std.specs.List.{position_from};
+ghost use Rattle.plan_definitions.specs.Joined.{end_at, provider_of};
+ghost use Rattle.plan_definitions.specs.Keys.{keys_of, number_in, pair_number, same_key};
 ghost use Rattle.plan_definitions.specs.Parts.{areas_of, events_of, runnables_of};
 ghost use Rattle.plan_numbers.specs.ComSpecs.{AreTables};
 ghost use Rattle.plan_numbers.specs.Listed.{AreLists, AreNumbers, ArePairs};
+ghost use Rattle.plan_numbers.specs.Starts.{AreStarts};
 ghost use Rattle.plan_definitions.specs.Ports.{com_spec_of, queue_length_of};
 ghost use Rattle.plan_definitions.specs.Things.{elements_of, machine_for, machine_number, mode_port_number, server_number};
 
 use crate::com_specs::{PortTables, com_spec_of, port_tables};
 use crate::joined::Joined;
 use crate::lists::{Lists, PairNumbers, SiteNumbers, lists_of, pair_numbers, site_numbers};
+use crate::starts::{Starts, element_number, element_place, starts_of};
 use description_types::Description;
 use flat_descriptions::{End, Flat};
 use interface_types::ComSpec;
@@ -26,12 +29,14 @@ pub struct Source<'a> {
     /// All that is numbered at ports, and the variables.
     pub lists: Lists,
     tables: PortTables,
-    joined: Joined,
+    joined: Joined<'a>,
+    starts: Starts,
     sites: SiteNumbers,
     pairs: PairNumbers,
     pub ghost listed: { AreLists d.now f.now lists },
     ghost tabled: { AreTables d.now tables },
     ghost linked: { joined ≡ f.now.joins },
+    ghost started: { AreStarts d.now f.now starts },
     ghost numbered: { AreNumbers lists sites },
     ghost paired: { ArePairs d.now f.now pairs },
 }
@@ -43,6 +48,7 @@ impl Source<'_> {
     {
         let joined = Joined::of(alloc, f.joins.items())?;
         let lists = lists_of(alloc, d, f, &joined)?;
+        let starts = starts_of(alloc, d, f, lists.elements.len())?;
         let sites = site_numbers(alloc, &lists)?;
         let tables = port_tables(alloc, d, f)?;
         let pairs = pair_numbers(alloc, d, f)?;
@@ -52,6 +58,7 @@ impl Source<'_> {
             lists,
             tables,
             joined,
+            starts,
             sites,
             pairs,
         })
@@ -85,18 +92,18 @@ impl Source<'_> {
         })
     }
 
-    /// Whether a join has this end.
-    pub fn is_joined(&self, end: End) -> bool
-        ensures { result ≡ is_joined self.now.f.now.joins end }
-    {
-        self.joined.is_joined(end)
-    }
-
     /// The number of an element of an owner, or of a variable, which has no port.
     pub fn element_number(&self, owner: Option<u32>, port: Option<u32>, item: u32) -> u32
         ensures { result ≡ number_in (keys_of (elements_of self.now.d.now self.now.f.now)) (owner, port, item) }
     {
-        self.sites.elements.number((owner, port, item))
+        element_number(self.d, self.f, &self.starts, (owner, port, item))
+    }
+
+    /// Where an element of an owner, or a variable, stands among them.
+    pub fn element_place(&self, owner: Option<u32>, port: Option<u32>, item: u32) -> Option<usize>
+        ensures { result ≡ position_from (same_key (owner, port, item)) 0 (keys_of (elements_of self.now.d.now self.now.f.now)) }
+    {
+        element_place(self.d, self.f, &self.starts, (owner, port, item))
     }
 
     /// The number of a server of an instance.

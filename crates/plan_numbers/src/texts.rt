@@ -1,11 +1,11 @@
 //! Names of items of ports, and of variables.
 
-ghost use Rattle.std.specs.Prelude.{◌≡◌, ◌++◌, [], IfOk, Some, codes};
+ghost use Rattle.std.specs.Prelude.{◌≡◌, ◌++◌, [], IfOk, Some, codes, option_copied};
 ghost use Rattle.std.specs.Option.{option_map_or};
-ghost use Rattle.plan_definitions.specs.Ports.{interface_of, item_name, item_text, port_name, variable_name};
+ghost use Rattle.plan_definitions.specs.Ports.{item_name, item_text, variable_name};
 
-use crate::owners::{component_of, interface_of, port_of};
-use description_types::Description;
+use crate::owners::{component_of, interface_at, port_of};
+use description_types::{Description, Port};
 use flat_descriptions::Flat;
 use interface_types::InterfaceKind;
 use rte_text::{Memory, Text};
@@ -27,25 +27,19 @@ fn item_name(kind: &InterfaceKind, item: u32) -> &[u8]
     }
 }
 
-fn port_name<'a>(d: &'a Description, f: &Flat, owner: Option<u32>, port: u32) -> &'a [u8]
-    ensures { result.now ≡ port_name d.now f.now owner port }
+fn name_of_port(port: Option<&Port>) -> &[u8]
+    ensures { result.now ≡ option_map_or (λ p. p.short_name) (option_copied port.entry) [] }
 {
-    match port_of(d, f, owner, port) {
+    match port {
         Some(port) => port.short_name.bytes(),
         None => &[],
     }
 }
 
-fn name_of_item<'a>(
-    d: &'a Description,
-    f: &Flat,
-    owner: Option<u32>,
-    port: u32,
-    item: u32,
-) -> &'a [u8]
-    ensures { result.now ≡ option_map_or (λ kind. item_name kind item) (interface_of d.now f.now owner port) [] }
+fn name_of_item(kind: Option<&InterfaceKind>, item: u32) -> &[u8]
+    ensures { result.now ≡ option_map_or (λ k. item_name k item) (option_copied kind.entry) [] }
 {
-    match interface_of(d, f, owner, port) {
+    match kind {
         Some(kind) => item_name(kind, item),
         None => &[],
     }
@@ -62,6 +56,18 @@ fn dotted(alloc: Global, first: &[u8], second: &[u8]) -> Result<Text, Memory>
     Ok(Text::of(held))
 }
 
+/// The text PORT.ITEM of an item, from its port and the interface of its port.
+pub fn text_at(
+    alloc: Global,
+    port: Option<&Port>,
+    kind: Option<&InterfaceKind>,
+    item: u32,
+) -> Result<Text, Memory>
+    ensures { IfOk result (λ text. text ≡ (option_map_or (λ p. p.short_name) (option_copied port.entry) [] ++ codes ".") ++ option_map_or (λ k. item_name k item) (option_copied kind.entry) []) }
+{
+    dotted(alloc, name_of_port(port), name_of_item(kind, item))
+}
+
 /// The text PORT.ITEM of an item.
 pub fn item_text(
     alloc: Global,
@@ -73,11 +79,8 @@ pub fn item_text(
 ) -> Result<Text, Memory>
     ensures { IfOk result (λ text. text ≡ item_text d.now f.now owner port item) }
 {
-    dotted(
-        alloc,
-        port_name(d, f, owner, port),
-        name_of_item(d, f, owner, port, item),
-    )
+    let found = port_of(d, f, owner, port);
+    text_at(alloc, found, interface_at(d, found), item)
 }
 
 fn variable_of_instance<'a>(d: &'a Description, f: &Flat, instance: u32, item: u32) -> &'a [u8]

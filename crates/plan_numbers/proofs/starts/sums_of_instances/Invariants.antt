@@ -1,0 +1,6 @@
+use Rattle.std.proofs.Common.{◌≡◌, ◌++◌, drop}
+use Rattle.plan_numbers.specs.Starts.{elements_of_instance, sums}
+use Rattle.plan_numbers.proofs.starts.sums_of_instances.Given as goal
+
+abbrev pub invariant-loop-instance : goal.invariant-loop-instance
+invariant-loop-instance l = sums (elements_of_instance l.d) 0 l.instances ≡ l.list.items ++ sums (elements_of_instance l.d) l.sum (drop l.instance-index l.instances)
