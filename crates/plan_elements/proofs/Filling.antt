@@ -1,5 +1,5 @@
 -- Lists of groups, filled one element at a time.
-use Rattle.std.proofs.Common.{◌≡◌, ℕ, zero, suc, ◌+◌, ◌<◌, ◌≤◌, List, [], ◌∷◌, ◌++◌, map, length, get_or, set, take, replicate, Bool, true, false, cond, nat_eq, refl, sym, ap, ◌∙◌, arith, add-one, add-zero, append_assoc, length-take}
+use Rattle.std.proofs.Common.{◌≡◌, ℕ, zero, suc, ◌+◌, ◌<◌, List, [], ◌∷◌, ◌++◌, map, length, get_or, set, take, replicate, cond, nat_eq, refl, sym, ap, ◌∙◌, arith, add-zero, append_assoc, length-take}
 use Rattle.std.proofs.lemmas.Bool.{eq-eqb, ne_eqb}
 use Rattle.std.proofs.lemmas.List.{append-nil, get_or-map, map-set, take_more}
 use Rattle.plan_definitions.specs.Lists.{from, positions}

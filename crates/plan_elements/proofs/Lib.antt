@@ -1,5 +1,5 @@
 pub mod Filling
 pub mod Leading
-pub mod Listing
 pub mod Spreading
 pub mod Marking
+pub mod Ranking

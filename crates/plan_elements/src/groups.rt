@@ -1,13 +1,16 @@
 //! Groups of elements that joins connect.
 
-ghost use Rattle.std.specs.Prelude.{◌≡◌, IfOk, map};
+ghost use Rattle.std.specs.Prelude.{◌≡◌, ◌+◌, [], ◌∷◌, ◌++◌, IfOk, OnOk, length, map, nat_eq, if◌then◌else◌};
 ghost use Rattle.plan_definitions.specs.Elements.{leaders as all_leaders};
 ghost use Rattle.plan_elements.specs.Grouped.{AreGroups};
-ghost use Rattle.plan_definitions.specs.ElementGroups.{groups as all_groups, heads as all_heads, number_among};
+ghost use Rattle.plan_definitions.specs.ElementGroups.{groups as all_groups, heads};
+ghost use Rattle.plan_elements.specs.Lists.{ranks};
+ghost use Rattle.plan_elements.specs.Spreads.{number_at};
 
 use crate::leaders::leaders_of;
-use crate::members::{all_members, heads};
-use plan_numbers::{Numbers, Source};
+use crate::members::all_members;
+use crate::spread::number_at;
+use plan_numbers::{Source, position};
 use rte_text::{Memory, Seq};
 use std::alloc::Global;
 
@@ -18,32 +21,62 @@ pub struct Groups {
     pub count: usize,
 }
 
-fn head_numbers(alloc: Global, leaders: &[u32]) -> Result<Numbers<u32>, Memory>
-    ensures { IfOk result (λ numbers. numbers ≡ all_heads leaders.now) }
-{
-    let list = heads(alloc, leaders)?;
-    Numbers::of(alloc, list.as_slice())
+/// At the number of each element that leads a group the number of the group, at others 0; and how many groups there are.
+#[derive(Drop)]
+struct Ranks {
+    numbers: Vec<u32>,
+    count: u32,
 }
 
-fn numbers_of(alloc: Global, heads: &Numbers<u32>, leaders: &[u32]) -> Result<Vec<u32>, Memory>
-    ensures { IfOk result (λ list. list.items ≡ map (number_among heads.now) leaders.now) }
+/// Adds the rank of an element, where so many groups are before; and counts its group.
+fn push_rank(list: &mut Vec<u32>, number: usize, count: u32, leader: u32) -> Result<u32, Memory>
+    ensures rank { OnOk result (list.new.items ≡ list.old.items ++ (if nat_eq leader number then count else 0) ∷ []) }
+    ensures count { IfOk result (λ next. next ≡ (if nat_eq leader number then count + 1 else count)) }
+{
+    if leader as usize == number {
+        list.push(count)?;
+        position(count as usize + 1)
+    } else {
+        list.push(0)?;
+        Ok(count)
+    }
+}
+
+#[tactic(auto, using(crate::proofs::Ranking::ranks_more, crate::proofs::Ranking::count_more, crate::proofs::Ranking::ranks_all, crate::proofs::Ranking::count_all))]
+fn ranks_of(alloc: Global, leaders: &[u32]) -> Result<Ranks, Memory>
+    ensures ranks { IfOk result (λ r. r.numbers.items ≡ ranks 0 0 leaders.now) }
+    ensures count { IfOk result (λ r. r.count ≡ length (heads leaders.now)) }
+{
+    let mut numbers = Vec::with_capacity(alloc, leaders.len())?;
+    let mut count = 0;
+    for (number, leader) in leaders.iter().enumerate() {
+        count = push_rank(&mut numbers, number, count, *leader)?;
+    }
+    Ok(Ranks { numbers, count })
+}
+
+fn numbers_of(alloc: Global, ranks: &[u32], leaders: &[u32]) -> Result<Vec<u32>, Memory>
+    ensures { IfOk result (λ list. list.items ≡ map (number_at ranks.now) leaders.now) }
 {
     let mut list = Vec::with_capacity(alloc, leaders.len())?;
     for leader in leaders {
-        list.push(heads.number(*leader))?;
+        list.push(number_at(ranks, *leader))?;
     }
     Ok(list)
 }
 
 /// The groups of a description.
+#[tactic(auto, using(crate::proofs::Ranking::ranks_are))]
 pub fn groups_over(alloc: Global, source: &Source<'_>) -> Result<Groups, Memory>
     ensures { IfOk result (λ groups. AreGroups source.now.d.now source.now.f.now groups) }
 {
     let leaders = leaders_of(alloc, source)?;
-    let heads = head_numbers(alloc, leaders.as_slice())?;
-    let numbers = numbers_of(alloc, &heads, leaders.as_slice())?;
-    let count = heads.len();
-    Ok(Groups { numbers, count })
+    let ranks = ranks_of(alloc, leaders.as_slice())?;
+    let numbers = numbers_of(alloc, ranks.numbers.as_slice(), leaders.as_slice())?;
+    Ok(Groups {
+        numbers,
+        count: ranks.count as usize,
+    })
 }
 
 /// The elements of each group, in rising order; groups by their least elements.

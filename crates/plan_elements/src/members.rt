@@ -1,33 +1,12 @@
 //! The elements of each group.
 
-ghost use Rattle.std.specs.Prelude.{◌≡◌, [], ◌∷◌, ◌++◌, IfOk, OnOk, length, map, replicate};
-ghost use Rattle.plan_definitions.specs.ElementGroups.{all_members, head_at, heads};
+ghost use Rattle.std.specs.Prelude.{◌≡◌, [], IfOk, OnOk, map, replicate};
+ghost use Rattle.plan_definitions.specs.ElementGroups.{all_members};
 ghost use Rattle.plan_elements.specs.Lists.{put_in};
 
 use plan_numbers::position;
 use rte_text::{Memory, Seq};
 use std::alloc::Global;
-
-fn push_head(list: &mut Vec<u32>, number: usize, leader: u32) -> Result<(), Memory>
-    ensures { OnOk result (list.new.items ≡ list.old.items ++ head_at number leader) }
-{
-    if leader as usize == number {
-        list.push(leader)?;
-    }
-    Ok(())
-}
-
-/// The elements that are the least of their groups, in order.
-#[tactic(auto, using(crate::proofs::Listing::from_more, crate::proofs::Listing::from_none))]
-pub fn heads(alloc: Global, leaders: &[u32]) -> Result<Vec<u32>, Memory>
-    ensures { IfOk result (λ list. list.items ≡ heads leaders.now) }
-{
-    let mut list = Vec::new(alloc);
-    for (number, leader) in leaders.iter().enumerate() {
-        push_head(&mut list, number, *leader)?;
-    }
-    Ok(list)
-}
 
 fn empties(alloc: Global, count: usize) -> Result<Vec<Vec<u32>>, Memory>
     ensures { IfOk result (λ lists. map (λ v. v.items) lists.items ≡ replicate count []) }
