@@ -1,5 +1,5 @@
 -- Elements stand where the sums of those before them say.
-use Rattle.std.proofs.Common.{◌≡◌, ℕ, zero, suc, ◌+◌, ◌<◌, ◌≤◌, ◌^◌, List, [], ◌∷◌, ◌++◌, map, length, drop, get_or, Bool, true, false, cond, ◌&&◌, nat_eq, nat_lt, slice_get, Option, Some, None, option_map, option_and_then, refl, sym, ap, ◌∙◌, arith, add-one}
+use Rattle.std.proofs.Common.{◌≡◌, ℕ, zero, suc, ◌+◌, ◌<◌, ◌≤◌, ◌^◌, List, [], ◌∷◌, ◌++◌, map, length, min, drop, get_or, Bool, true, false, cond, ◌&&◌, nat_eq, nat_lt, slice_get, Option, Some, None, option_map, option_and_then, refl, sym, ap, subst, ◌∙◌, arith, add-one}
 use Rattle.std.proofs.lemmas.Bool.{eq-eqb, ne_eqb, ltb-true, ltb-false}
 use Rattle.std.proofs.lemmas.List.{length-append, length-map, map-append, at_drop_more, at_drop_all, append_assoc}
 use Rattle.std.proofs.lemmas.List.Elements.{filter-append}
@@ -24,7 +24,7 @@ use Rattle.plan_definitions.specs.declared.site.SiteKind.{SiteKind}
 use Rattle.plan_definitions.specs.declared.site.SiteKind.TheVariants.{Element, Variable, Server, Machine, ModePort}
 use Rattle.plan_numbers.proofs.Finding.{position_next, slice_get_map}
 use Rattle.plan_numbers.proofs.Numbering.{position_within}
-use Rattle.plan_numbers.specs.Starts.{AreStarts, between, elements_at, elements_in, elements_of_instance, elements_within, low_within, place_outside, place_within, sums, total}
+use Rattle.plan_numbers.specs.Starts.{AreStarts, between, capped, capped_sums, elements_at, elements_in, elements_of_instance, elements_within, low_within, place_outside, place_within, sums, total}
 use Rattle.plan_numbers.specs.declared.starts.Starts.{Starts}
 
 -- ---- sums
@@ -76,6 +76,32 @@ module _ {X : Type 0} (size : X → ℕ) where
 
   pub sums_all : (xs : List X) (whole old : List ℕ) (sum i : ℕ) → length xs ≤ i → whole ≡ old ++ sums size sum (drop i xs) → whole ≡ old ++ sum ∷ []
   sums_all xs whole old sum i past so_far = so_far ∙ ap (λ l. old ++ l) (at_drop_all (sums size sum) xs i past)
+
+  -- and the one that caps them
+  pub capped_more : (xs : List X) (whole old : List ℕ) (sum next i : ℕ) (x : X) → i < length xs → x ≡ get_or xs i x → next ≡ capped (sum + size x) → whole ≡ old ++ capped_sums size sum (drop i xs)
+      → whole ≡ (old ++ sum ∷ []) ++ capped_sums size next (drop (i + 1) xs)
+  capped_more xs whole old sum next i x within is then so_far = so_far ∙ ap (λ l. old ++ l) (at_drop_more (capped_sums size sum) xs i x within)
+      ∙ (λ j. old ++ sum ∷ capped_sums size (capped (sum + size (sym is j))) (drop (i + 1) xs)) ∙ (λ j. old ++ sum ∷ capped_sums size (sym then j) (drop (i + 1) xs))
+      ∙ sym (append_assoc old (sum ∷ []) (capped_sums size next (drop (i + 1) xs)))
+
+  pub capped_all : (xs : List X) (whole old : List ℕ) (sum i : ℕ) → length xs ≤ i → whole ≡ old ++ capped_sums size sum (drop i xs) → whole ≡ old ++ sum ∷ []
+  capped_all xs whole old sum i past so_far = so_far ∙ ap (λ l. old ++ l) (at_drop_all (capped_sums size sum) xs i past)
+
+  -- sums that 32 bits hold are the same capped
+  uncapped : (n : ℕ) (xs : List X) → n + total size xs < 2 ^ 32 → capped_sums size n xs ≡ sums size n xs
+  uncapped n [] fits = refl
+  uncapped n (x ∷ xs) fits =
+      let here : capped (n + size x) ≡ n + size x = omega (arith, fits) in
+      ap (λ k. n ∷ capped_sums size k xs) here ∙ ap (λ l. n ∷ l) (uncapped (n + size x) xs (omega (arith, fits)))
+
+  capped_last : (n : ℕ) (xs : List X) → n ≤ 4294967295 → slice_get (capped_sums size n xs) (length xs) ≡ Some (capped (n + total size xs))
+  capped_last n [] least = ap (λ k. Some k) (omega (arith, least))
+  capped_last n (x ∷ xs) least = capped_last (capped (n + size x)) xs (omega arith) ∙ ap (λ k. Some k) (omega arith)
+
+  one_of_all : (xs : List X) (i : ℕ) (x : X) → slice_get xs i ≡ Some x → size x ≤ total size xs
+  one_of_all [] i x is = absurd cc
+  one_of_all (y ∷ xs) zero x is = let same : y ≡ x = cc in subst (λ z. size z ≤ size y + total size xs) same (omega arith)
+  one_of_all (y ∷ xs) (suc i) x is = omega (arith, one_of_all xs i x is)
 
 -- ---- positions in lists that are put together
 
@@ -328,7 +354,21 @@ module _ (d : Description) (f : Flat) where
       by None = refl
       by (Some c) = no_instance d.types j c q differ
 
+  all_elements : total (elements_of_instance d) f.instances + total (elements_at d.types) (root_ports d) ≡ length (elements_of d f)
+  all_elements = sym (length-append (from 0 (instance_keys d) f.instances) (ports_keys d.types None (root_ports d))
+      ∙ (λ j. from_length (instance_keys d) (elements_of_instance d) instance_size f.instances 0 j + ports_length d.types None (root_ports d) j))
+      ∙ ap length (sym (keys_are d f)) ∙ length-map (elements_of d f) key_of
+
   module _ (s : Starts) (are : AreStarts d f s) where
+    -- 32 bits hold the sums of the components that instances have, and those of the root
+    ports_fit : (i : ℕ) (x : Instance) → slice_get f.instances i ≡ Some x → (c : Component) → slice_get d.components x.component ≡ Some c → 0 + total (elements_at d.types) c.ports < 2 ^ 32
+    ports_fit i x is c of =
+        let own : elements_of_instance d x ≡ elements_within d.types c = ap (λ o. option_map_or (elements_within d.types) o 0) of in
+        omega (arith, own, one_of_all (elements_of_instance d) f.instances i x is, all_elements, are.of_all, are.few)
+
+    root_is : s.root ≡ sums (elements_at d.types) 0 (root_ports d)
+    root_is = are.of_root ∙ uncapped (elements_at d.types) 0 (root_ports d) (omega (arith, all_elements, are.of_all, are.few))
+
     within : (i : ℕ) (port : Option ℕ) (m : ℕ) → position_from (same_key (Some i, port, m)) 0 (from 0 (instance_keys d) f.instances) ≡ place_within d f s i port m
     within i port m = block (instance_keys d) (elements_of_instance d) instance_size (same_key (Some i, port, m)) i (λ j x differ. no_such (Some i, port, m) j x differ) f.instances 0 i (omega arith)
         ∙ by (slice_get f.instances i) refl
@@ -352,7 +392,8 @@ module _ (d : Description) (f : Flat) where
         in_instance x is None of = refl
         in_instance x is (Some c) of = found c (slice_get s.instances i) (slice_get s.components x.component)
             (ap (λ l. slice_get l i) are.of_instances ∙ sum_at (elements_of_instance d) 0 f.instances i x is)
-            (ap (λ l. slice_get l x.component) are.of_components ∙ slice_get_map (λ c. sums (elements_at d.types) 0 c.ports) d.components x.component ∙ ap (option_map (λ c. sums (elements_at d.types) 0 c.ports)) of)
+            (ap (λ l. slice_get l x.component) are.of_components ∙ slice_get_map (λ c. capped_sums (elements_at d.types) 0 c.ports) d.components x.component
+            ∙ ap (option_map (λ c. capped_sums (elements_at d.types) 0 c.ports)) of ∙ ap (λ l. Some l) (uncapped (elements_at d.types) 0 c.ports (ports_fit i x is c of)))
 
         by : (o : Option Instance) → slice_get f.instances i ≡ o → option_and_then (λ x. option_map (λ p. low + p) (position_from (same_key (Some i, port, m)) 0 (instance_keys d i x))) o
             ≡ option_and_then (λ x. option_and_then (λ c. option_and_then (λ list. option_and_then (λ start. option_map (λ low. (start + low) + m) (low_within list c port m)) (slice_get s.instances i)) (slice_get s.components x.component)) (slice_get d.components x.component)) o
@@ -370,7 +411,7 @@ module _ (d : Description) (f : Flat) where
     outside : (port : Option ℕ) (m : ℕ) → option_map (λ p. total (elements_of_instance d) f.instances + p) (position_from (same_key (None, port, m)) 0 (ports_keys d.types None (root_ports d))) ≡ place_outside f s port m
     outside None m = ap (option_map (λ p. total (elements_of_instance d) f.instances + p)) (no_port d.types None None m (root_ports d))
     outside (Some k) m = ap (option_map (λ p. low + p)) (at_port d.types None k m (root_ports d)) ∙ shifted (between (sums (elements_at d.types) 0 (root_ports d)) k m)
-        ∙ (λ j. option_and_then (λ start. option_map (λ low. (start + low) + m) (between (sym are.of_root j) k m)) (sym starts j))
+        ∙ (λ j. option_and_then (λ start. option_map (λ low. (start + low) + m) (between (sym root_is j) k m)) (sym starts j))
       where
         low : ℕ
         low = total (elements_of_instance d) f.instances
@@ -398,18 +439,17 @@ place_fits d f key p count is fits found =
     let keys : length (keys_of (elements_of d f)) ≡ length (elements_of d f) = length-map (elements_of d f) key_of in
     omega (arith, within, keys, is, fits)
 
--- the last sum is how many there are
-pub last_sum : (types : TypeTable) (ports : List Port) (list : List ℕ) (sum : ℕ) → list ≡ sums (elements_at types) 0 ports → slice_get list (length ports) ≡ Some sum → sum ≡ total (elements_at types) ports
-last_sum types ports list sum are is = inside sum (0 + total (elements_at types) ports) (sym is ∙ ap (λ l. slice_get l (length ports)) are ∙ last_at (elements_at types) 0 ports) ∙ none
+-- the last sum is how many there are, where it is less than the greatest number
+pub last_sum : (types : TypeTable) (ports : List Port) (list : List ℕ) (sum : ℕ) → list ≡ capped_sums (elements_at types) 0 ports → slice_get list (length ports) ≡ Some sum → sum + 1 < 2 ^ 32 → sum ≡ total (elements_at types) ports
+last_sum types ports list sum are is least =
+    let last : sum ≡ capped (0 + total (elements_at types) ports) = inside sum (capped (0 + total (elements_at types) ports)) (sym is ∙ ap (λ l. slice_get l (length ports)) are ∙ capped_last (elements_at types) 0 ports (omega arith)) in
+    omega (arith, last, least)
   where
     inside : (a b : ℕ) → Some a ≡ Some b → a ≡ b
     inside a b same = cc
 
-    none : 0 + total (elements_at types) ports ≡ total (elements_at types) ports
-    none = omega arith
-
-pub no_last : (types : TypeTable) (ports : List Port) (list : List ℕ) (sum : ℕ) → list ≡ sums (elements_at types) 0 ports → slice_get list (length ports) ≡ None → sum ≡ total (elements_at types) ports
-no_last types ports list sum are is = other (0 + total (elements_at types) ports) (sym is ∙ ap (λ l. slice_get l (length ports)) are ∙ last_at (elements_at types) 0 ports)
+pub no_last : (types : TypeTable) (ports : List Port) (list : List ℕ) (sum : ℕ) → list ≡ capped_sums (elements_at types) 0 ports → slice_get list (length ports) ≡ None → sum ≡ total (elements_at types) ports
+no_last types ports list sum are is = other (capped (0 + total (elements_at types) ports)) (sym is ∙ ap (λ l. slice_get l (length ports)) are ∙ capped_last (elements_at types) 0 ports (omega arith))
   where
     other : (b : ℕ) → None ≡ Some b → sum ≡ total (elements_at types) ports
     other b same = absurd cc

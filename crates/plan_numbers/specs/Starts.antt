@@ -1,5 +1,5 @@
 -- How many elements stand before those of a port and of an instance.
-use Rattle.std.specs.Prelude.{◌≡◌, ℕ, ◌+◌, ◌<◌, ◌^◌, List, [], ◌∷◌, map, length, nat_lt, slice_get, Option, Some, None, option_and_then, option_map, if◌then◌else◌}
+use Rattle.std.specs.Prelude.{◌≡◌, ℕ, ◌+◌, ◌<◌, ◌^◌, List, [], ◌∷◌, map, length, min, nat_lt, slice_get, Option, Some, None, option_and_then, option_map, if◌then◌else◌}
 use Rattle.std.specs.Option.{option_map_or}
 use Rattle.description_types.specs.declared.component.Component.{Component}
 use Rattle.description_types.specs.declared.component.Port.{Port}
@@ -37,6 +37,14 @@ abbrev pub sums : {X : Type 0} → (X → ℕ) → ℕ → List X → List ℕ
 sums size n [] = n ∷ []
 sums size n (x ∷ xs) = n ∷ sums size (n + size x) xs
 
+-- the same, where the greatest number that 32 bits hold stands for all greater ones
+abbrev pub capped : ℕ → ℕ
+capped n = min n 4294967295
+
+abbrev pub capped_sums : {X : Type 0} → (X → ℕ) → ℕ → List X → List ℕ
+capped_sums size n [] = n ∷ []
+capped_sums size n (x ∷ xs) = n ∷ capped_sums size (capped (n + size x)) xs
+
 -- the sum at a place, of an item that reaches no further than the next sum; and of an item of so many that stand behind the sum
 abbrev pub between : List ℕ → ℕ → ℕ → Option ℕ
 between list k m = option_and_then (λ low. option_and_then (λ high. if nat_lt (low + m) high then Some low else None) (slice_get list (k + 1))) (slice_get list k)
@@ -56,10 +64,10 @@ place_within d f s i port m = option_and_then (λ x. option_and_then (λ c. opti
 abbrev pub place_outside : Flat → Starts → Option ℕ → ℕ → Option ℕ
 place_outside f s port m = option_and_then (λ k. option_and_then (λ start. option_map (λ low. (start + low) + m) (between s.root k m)) (slice_get s.instances (length f.instances))) port
 
--- the tables of a description
+-- the tables of a description; components that no instance has may have any number of elements
 pub record AreStarts (d : Description) (f : Flat) (s : Starts) : Type 0 where
-  pub of_components : s.components ≡ map (λ c. sums (elements_at d.types) 0 c.ports) d.components
-  pub of_root : s.root ≡ sums (elements_at d.types) 0 (root_ports d)
+  pub of_components : s.components ≡ map (λ c. capped_sums (elements_at d.types) 0 c.ports) d.components
+  pub of_root : s.root ≡ capped_sums (elements_at d.types) 0 (root_ports d)
   pub of_instances : s.instances ≡ sums (elements_of_instance d) 0 f.instances
   pub of_all : s.count ≡ length (elements_of d f)
   pub few : s.count < 2 ^ 32

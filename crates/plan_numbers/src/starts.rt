@@ -4,7 +4,7 @@ ghost use Rattle.std.specs.Prelude.{◌≡◌, IfOk, ◌+◌, length, map, slice
 ghost use Rattle.std.specs.List.{position_from};
 ghost use Rattle.plan_definitions.specs.Keys.{keys_of, number_in, same_key};
 ghost use Rattle.plan_definitions.specs.Things.{elements_of};
-ghost use Rattle.plan_numbers.specs.Starts.{AreStarts, behind, between, elements_at, elements_in, elements_of_instance, elements_within, low_within, place_outside, place_within, sums, total};
+ghost use Rattle.plan_numbers.specs.Starts.{AreStarts, behind, between, capped, capped_sums, elements_at, elements_in, elements_of_instance, elements_within, low_within, place_outside, place_within, sums, total};
 
 use crate::numbers::{Key, position};
 use crate::owners::ports_of;
@@ -15,7 +15,8 @@ use rte_text::{Memory, Seq};
 use std::alloc::Global;
 
 /// How many elements stand before those of each port of each component, and of the root, within it; and before those of each
-/// instance. Each list ends with how many there are.
+/// instance. Each list ends with how many there are. In the lists of ports the greatest number stands for all greater ones, since a
+/// component that no instance has may have any number of elements.
 #[derive(Drop)]
 pub struct Starts {
     pub components: Seq<Seq<u32>>,
@@ -51,15 +52,22 @@ fn next_sum(sum: u32, size: usize) -> Result<u32, Memory>
     position(sum as usize + size as usize)
 }
 
-#[tactic(auto, using(crate::proofs::Starting::sums_more, crate::proofs::Starting::sums_all))]
+/// The sum of a number of 32 bits and a size, or the greatest such number in place of a greater one.
+fn capped_sum(sum: u32, size: usize) -> u32
+    ensures { result ≡ capped (sum + size) }
+{
+    sum.saturating_add(size.min(u32::MAX as usize) as u32)
+}
+
+#[tactic(auto, using(crate::proofs::Starting::capped_more, crate::proofs::Starting::capped_all))]
 fn sums_of_ports(alloc: Global, types: &TypeTable, ports: &[Port]) -> Result<Seq<u32>, Memory>
-    ensures { IfOk result (λ list. list ≡ sums (elements_at types.now) 0 ports.now) }
+    ensures { IfOk result (λ list. list ≡ capped_sums (elements_at types.now) 0 ports.now) }
 {
     let mut list = Vec::new(alloc);
     let mut sum = 0;
     for port in ports {
         list.push(sum)?;
-        sum = next_sum(sum, elements_at(types, port))?;
+        sum = capped_sum(sum, elements_at(types, port));
     }
     list.push(sum)?;
     Ok(Seq::of(list))
@@ -70,7 +78,7 @@ fn sums_of_components(
     types: &TypeTable,
     components: &[Component],
 ) -> Result<Seq<Seq<u32>>, Memory>
-    ensures { IfOk result (λ lists. lists ≡ map (λ c. sums (elements_at types.now) 0 c.ports) components.now) }
+    ensures { IfOk result (λ lists. lists ≡ map (λ c. capped_sums (elements_at types.now) 0 c.ports) components.now) }
 {
     let mut lists = Vec::new(alloc);
     for component in components {
@@ -86,21 +94,25 @@ fn sum_at(list: &[u32], place: usize) -> Option<u32>
 }
 
 /// How many elements these ports have, whose sums are given.
-fn elements_of_ports(types: &TypeTable, ports: &[Port], list: &[u32]) -> u32
-    requires { list.now ≡ sums (elements_at types.now) 0 ports.now }
-    ensures { result ≡ total (elements_at types.now) ports.now }
+fn elements_of_ports(types: &TypeTable, ports: &[Port], list: &[u32]) -> Result<u32, Memory>
+    requires { list.now ≡ capped_sums (elements_at types.now) 0 ports.now }
+    ensures { IfOk result (λ count. count ≡ total (elements_at types.now) ports.now) }
 {
     match sum_at(list, ports.len()) {
-        Some(sum) => sum,
-        None => 0,
+        Some(sum) => {
+            // The greatest number may stand for a greater one.
+            position(sum as usize + 1)?;
+            Ok(sum)
+        }
+        None => Ok(0),
     }
 }
 
 fn elements_within(types: &TypeTable, component: &Component, list: &[u32]) -> Result<u32, Memory>
-    requires { list.now ≡ sums (elements_at types.now) 0 component.now.ports }
+    requires { list.now ≡ capped_sums (elements_at types.now) 0 component.now.ports }
     ensures { IfOk result (λ count. count ≡ elements_within types.now component.now) }
 {
-    let at_ports = elements_of_ports(types, component.ports.items(), list);
+    let at_ports = elements_of_ports(types, component.ports.items(), list)?;
     next_sum(at_ports, component.behavior.variables.len())
 }
 
@@ -109,7 +121,7 @@ fn elements_of_instance(
     lists: &[Seq<u32>],
     instance: &Instance,
 ) -> Result<u32, Memory>
-    requires { lists.now ≡ map (λ c. sums (elements_at d.now.types) 0 c.ports) d.now.components }
+    requires { lists.now ≡ map (λ c. capped_sums (elements_at d.now.types) 0 c.ports) d.now.components }
     ensures { IfOk result (λ count. count ≡ elements_of_instance d.now instance.now) }
 {
     let Some(component) = d.components.items().get(instance.component as usize) else {
@@ -128,7 +140,7 @@ fn sums_of_instances(
     lists: &[Seq<u32>],
     instances: &[Instance],
 ) -> Result<Seq<u32>, Memory>
-    requires { lists.now ≡ map (λ c. sums (elements_at d.now.types) 0 c.ports) d.now.components }
+    requires { lists.now ≡ map (λ c. capped_sums (elements_at d.now.types) 0 c.ports) d.now.components }
     ensures { IfOk result (λ list. list ≡ sums (elements_of_instance d.now) 0 instances.now) }
 {
     let mut list = Vec::new(alloc);
