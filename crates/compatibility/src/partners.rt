@@ -2,7 +2,7 @@
 
 ghost use Rattle.std.specs.Prelude.{◌≡◌, ◌&&◌, IfOk, IsTrue, OnOk, Some, false, is_none as is_absent, not};
 ghost use Rattle.indexmap.specs.IndexMap.{Updates, get};
-ghost use Rattle.plan_definitions.specs.Joins.{are_several, crowds, is_none, providers, requirers, same_end};
+ghost use Rattle.plan_definitions.specs.Joins.{are_several, crowds, is_none, providers, same_end};
 ghost use Rattle.compatibility.specs.declared.partners.Side.TheVariants as side;
 ghost use Rattle.compatibility.specs.Partners.{AreKept, Key, MayBeKept, has_several, key_of, other, own, same_key, with_one};
 
