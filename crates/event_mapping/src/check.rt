@@ -17,7 +17,7 @@ use bus_semantics::{BusPlan, Mapping};
 use component_rules::check_components;
 use description_types::Description;
 use flat_descriptions::Flat;
-use mapping_rules::{check_mapping, list_mapping};
+use mapping_rules::{KeptMapping, check_mapping, list_mapping};
 use rte_text::{Refusal, Refused, Text};
 use std::alloc::Global;
 
@@ -53,13 +53,20 @@ fn sized_plan(alloc: Global, d: &Description, f: &Flat, mapped: &[bool]) -> Resu
     }
 }
 
-fn listed(alloc: Global, d: &Description, f: &Flat) -> Result<(BusPlan, Mapping), Refused>
-    requires { types_fit d.now.types ≡ true }
+fn listed(
+    alloc: Global,
+    d: &Description,
+    f: &Flat,
+    kept: KeptMapping<'_>,
+) -> Result<(BusPlan, Mapping), Refused>
+    requires types { types_fit d.now.types ≡ true }
+    requires description { kept.d.now ≡ d.now }
+    requires flat { kept.f.now ≡ f.now }
     ensures size { Says (of_size (plan_of d.now f.now)) result }
     ensures plan { IfOk result (λ found. seen found.0 ≡ plan_of d.now f.now) }
     ensures mapping { IfOk result (λ found. found.1 ≡ mapping_of d.now f.now) }
 {
-    let (mapping, mapped) = list_mapping(alloc, d, f)?;
+    let (mapping, mapped) = list_mapping(alloc, kept)?;
     match sized_plan(alloc, d, f, mapped.as_slice()) {
         Ok(plan) => Ok((plan, mapping)),
         Err(refused) => Err(refused),
@@ -67,8 +74,15 @@ fn listed(alloc: Global, d: &Description, f: &Flat) -> Result<(BusPlan, Mapping)
 }
 
 /// The plan and the mapping, listed only where the counts do not tell that the plan is too large.
-fn planned(alloc: Global, d: &Description, f: &Flat) -> Result<(BusPlan, Mapping), Refused>
-    requires { types_fit d.now.types ≡ true }
+fn planned(
+    alloc: Global,
+    d: &Description,
+    f: &Flat,
+    kept: KeptMapping<'_>,
+) -> Result<(BusPlan, Mapping), Refused>
+    requires types { types_fit d.now.types ≡ true }
+    requires description { kept.d.now ≡ d.now }
+    requires flat { kept.f.now ≡ f.now }
     ensures size { Says (of_size (plan_of d.now f.now)) result }
     ensures plan { IfOk result (λ found. seen found.0 ≡ plan_of d.now f.now) }
     ensures mapping { IfOk result (λ found. found.1 ≡ mapping_of d.now f.now) }
@@ -77,7 +91,7 @@ fn planned(alloc: Global, d: &Description, f: &Flat) -> Result<(BusPlan, Mapping
     if foretold {
         return Err(size_refusal(alloc));
     }
-    listed(alloc, d, f)
+    listed(alloc, d, f, kept)
 }
 
 fn mapped_plan(alloc: Global, d: &Description, f: &Flat) -> Result<(BusPlan, Mapping), Refused>
@@ -88,7 +102,7 @@ fn mapped_plan(alloc: Global, d: &Description, f: &Flat) -> Result<(BusPlan, Map
     ensures order { OnOk result (HaveOrder d.now f.now) }
 {
     match check_mapping(alloc, d, f) {
-        Ok(()) => planned(alloc, d, f),
+        Ok(kept) => planned(alloc, d, f, kept),
         Err(refused) => Err(refused),
     }
 }

@@ -21,7 +21,7 @@ module _ (k n : ℕ) where
   one m (ModeSwitch port activation) es = refl
   one m (ModeSwitchedAck port) es = refl
 
-  invoked_from : (m : ℕ) (es : List Event) → lookup (same_pair (k, n)) (from m (λ m e. invoked_at m e.kind) es) ≡ position_from (λ e. invokes k n e.kind) m es
+  pub invoked_from : (m : ℕ) (es : List Event) → lookup (same_pair (k, n)) (from m (λ m e. invoked_at m e.kind) es) ≡ position_from (λ e. invokes k n e.kind) m es
   invoked_from m [] = refl
   invoked_from m (e ∷ es) = one m e.kind (from (m + 1) (λ m e. invoked_at m e.kind) es) ∙ ap (λ r. cond (invokes k n e.kind) (Some m) r) (invoked_from (m + 1) es)
 

@@ -6,6 +6,8 @@ pub mod Events
 pub mod Listing
 pub mod Ends
 pub mod Invoked
+pub mod Unserved
+pub mod Unnamed
 pub mod Firsts
 pub mod InTurn
 pub mod Sameness

@@ -36,3 +36,8 @@ moved P d e f g de fg p = subst (λ h. P e h) fg (subst (λ k. P k f) de p)
 pub never_ok : {U : Type 0} (P : Type 0) (r : Result U Refused) → OnOk r ⊥ → OnOk r P
 never_ok P (Ok u) h = absurd h
 never_ok P (Err x) h = tt
+
+-- what refuses the one refuses the other
+pub passed_over : (d : Description) (f : Flat) (U : Type 0) (x : Refused) → Tells {U = Unit} (IsRefusal d f) (Err x) → Tells {U = U} (IsRefusal d f) (Err x)
+passed_over d f U (Rule x) tells = tells
+passed_over d f U Memory tells = tt

@@ -9,6 +9,8 @@ ghost use Rattle.plan_definitions.specs.MappingRefusals.{IsOfTasks, IsRefusal, T
 ghost use Rattle.plan_definitions.specs.MappingRules.{HaveOrder, TellsOrder};
 
 use crate::instances::{InstanceRule, Part, first_broken};
+use crate::kept::KeptMapping;
+use crate::mapped::Mapped;
 use crate::naming::Names;
 use crate::peeling::are_acyclic;
 use crate::places::{event_text, mapped_text, mapping_text, runnable_text};
@@ -43,7 +45,7 @@ fn refused(rule: u16, place: Text) -> Result<(), Refused>
     Err(Refused::Rule(Refusal { rule, place }))
 }
 
-fn check_named(alloc: Global, names: &Names<'_>) -> Result<(), Refused>
+fn check_each_named(alloc: Global, names: &Names<'_>) -> Result<(), Refused>
     ensures { Says (of_named names.now.d.now names.now.f.now) result }
 {
     match unnamed(names, names.d.mapping.events.items()) {
@@ -53,6 +55,15 @@ fn check_named(alloc: Global, names: &Names<'_>) -> Result<(), Refused>
             refused(25, place)
         }
     }
+}
+
+fn check_named(alloc: Global, mapped: &Mapped<'_>) -> Result<(), Refused>
+    ensures { Says (of_named mapped.now.names.d.now mapped.now.names.f.now) result }
+{
+    if mapped.are_named() {
+        return Ok(());
+    }
+    check_each_named(alloc, &mapped.names)
 }
 
 fn number_of(rule: InstanceRule) -> u16
@@ -80,21 +91,22 @@ fn part_text(
 }
 
 fn check_rule(alloc: Global, servers: &Servers<'_>, rule: InstanceRule) -> Result<(), Refused>
-    ensures { Says (of_rule rule servers.now.mapped.names.d.now servers.now.mapped.names.f.now) result }
+    ensures { Says (of_rule rule servers.now.mapped.now.names.d.now servers.now.mapped.now.names.f.now) result }
 {
     match first_broken(alloc, servers, rule)? {
         None => Ok(()),
         Some(part) => {
-            let place = part_text(alloc, &servers.mapped.names, rule, part)?;
+            let mapped = servers.mapped;
+            let place = part_text(alloc, &mapped.names, rule, part)?;
             refused(number_of(rule), place)
         }
     }
 }
 
 fn check_events(alloc: Global, servers: &Servers<'_>) -> Result<(), Refused>
-    ensures { Says (of_events servers.now.mapped.names.d.now servers.now.mapped.names.f.now) result }
+    ensures { Says (of_events servers.now.mapped.now.names.d.now servers.now.mapped.now.names.f.now) result }
 {
-    check_named(alloc, &servers.mapped.names)?;
+    check_named(alloc, servers.mapped)?;
     check_rule(alloc, servers, InstanceRule::MappedOnce)?;
     check_rule(alloc, servers, InstanceRule::OneTask)?;
     check_rule(alloc, servers, InstanceRule::Direct)
@@ -102,7 +114,7 @@ fn check_events(alloc: Global, servers: &Servers<'_>) -> Result<(), Refused>
 
 /// Whether the tasks can be put in an order in which each waits only for later ones.
 fn are_ordered(alloc: Global, servers: &Servers<'_>) -> Result<bool, Memory>
-    ensures { IfOk result (λ answer. TellsOrder answer servers.now.mapped.names.d.now servers.now.mapped.names.f.now) }
+    ensures { IfOk result (λ answer. TellsOrder answer servers.now.mapped.now.names.d.now servers.now.mapped.now.names.f.now) }
 {
     let edges = waits(alloc, servers)?;
     let answer = are_acyclic(alloc, edges)?;
@@ -118,8 +130,8 @@ fn refuse_tasks(alloc: Global) -> Result<(), Refused>
 }
 
 fn check_tasks(alloc: Global, servers: &Servers<'_>) -> Result<(), Refused>
-    ensures refusal { Tells (IsOfTasks servers.now.mapped.names.d.now servers.now.mapped.names.f.now) result }
-    ensures order { OnOk result (HaveOrder servers.now.mapped.names.d.now servers.now.mapped.names.f.now) }
+    ensures refusal { Tells (IsOfTasks servers.now.mapped.now.names.d.now servers.now.mapped.now.names.f.now) result }
+    ensures order { OnOk result (HaveOrder servers.now.mapped.now.names.d.now servers.now.mapped.now.names.f.now) }
 {
     let ordered = are_ordered(alloc, servers)?;
     if ordered {
@@ -129,13 +141,21 @@ fn check_tasks(alloc: Global, servers: &Servers<'_>) -> Result<(), Refused>
 }
 
 fn check_rules(alloc: Global, servers: &Servers<'_>) -> Result<(), Refused>
-    ensures refusal { Tells (IsRefusal servers.now.mapped.names.d.now servers.now.mapped.names.f.now) result }
-    ensures order { OnOk result (HaveOrder servers.now.mapped.names.d.now servers.now.mapped.names.f.now) }
+    ensures refusal { Tells (IsRefusal servers.now.mapped.now.names.d.now servers.now.mapped.now.names.f.now) result }
+    ensures order { OnOk result (HaveOrder servers.now.mapped.now.names.d.now servers.now.mapped.now.names.f.now) }
 {
     match check_events(alloc, servers) {
         Ok(()) => check_tasks(alloc, servers),
         Err(refused) => Err(refused),
     }
+}
+
+fn check_mapped(alloc: Global, mapped: &Mapped<'_>) -> Result<(), Refused>
+    ensures refusal { Tells (IsRefusal mapped.now.names.d.now mapped.now.names.f.now) result }
+    ensures order { OnOk result (HaveOrder mapped.now.names.d.now mapped.now.names.f.now) }
+{
+    let servers = Servers::new(alloc, mapped)?;
+    check_rules(alloc, &servers)
 }
 
 /// Whether the mapping of a description, made flat, keeps its rules: each mapped event names an instance and an event of it (25,
@@ -148,13 +168,22 @@ fn check_rules(alloc: Global, servers: &Servers<'_>) -> Result<(), Refused>
 /// `Memory` may come at any time.
 ///
 /// Where they are kept, the tasks can be put in an order in which each waits only for later ones. Of events that are not mapped
-/// nothing is listed, so they may be counted before `list_mapping` lists all.
+/// nothing is listed, so they may be counted before `list_mapping` lists all, which is given what is found of the events here.
 ///
 /// SWS_RTE: RteEventToTaskMapping.
-pub fn check_mapping(alloc: Global, d: &Description, f: &Flat) -> Result<(), Refused>
+pub fn check_mapping<'a>(
+    alloc: Global,
+    d: &'a Description,
+    f: &'a Flat,
+) -> Result<KeptMapping<'a>, Refused>
     ensures refusal { Tells (IsRefusal d.now f.now) result }
     ensures order { OnOk result (HaveOrder d.now f.now) }
+    ensures description { IfOk result (λ kept. kept.d.now ≡ d.now) }
+    ensures flat { IfOk result (λ kept. kept.f.now ≡ f.now) }
 {
-    let servers = Servers::new(alloc, d, f)?;
-    check_rules(alloc, &servers)
+    let mapped = Mapped::new(alloc, d, f)?;
+    match check_mapped(alloc, &mapped) {
+        Ok(()) => Ok(KeptMapping { d, f, mapped }),
+        Err(refused) => Err(refused),
+    }
 }

@@ -57,7 +57,7 @@ fn badly_mapped_at(
     number: usize,
     kind: EventKind,
 ) -> Option<Part>
-    ensures { result ≡ unless (is_mapped_well kind (length (mapped_as servers.now.mapped.names.d.now servers.now.mapped.names.f.now (instance, number)))) (instance, number) }
+    ensures { result ≡ unless (is_mapped_well kind (length (mapped_as servers.now.mapped.now.names.d.now servers.now.mapped.now.names.f.now (instance, number)))) (instance, number) }
 {
     let times = servers.mapped.tasks_of_event((instance, number)).len();
     unless(is_mapped_well(kind, times), instance, number)
@@ -65,7 +65,7 @@ fn badly_mapped_at(
 
 #[tactic(auto, using(crate::proofs::Firsts::first_more, crate::proofs::Firsts::first_here, crate::proofs::Firsts::first_none))]
 fn badly_mapped_in(servers: &Servers<'_>, instance: usize, component: &Component) -> Option<Part>
-    ensures { result ≡ badly_mapped_in servers.now.mapped.names.d.now servers.now.mapped.names.f.now instance component.now }
+    ensures { result ≡ badly_mapped_in servers.now.mapped.now.names.d.now servers.now.mapped.now.names.f.now instance component.now }
 {
     for (number, event) in component.behavior.events.items().iter().enumerate() {
         if let Some(part) = badly_mapped_at(servers, instance, number, event.kind) {
@@ -129,8 +129,8 @@ fn spread_in(
     instance: usize,
     component: &Component,
 ) -> Result<Option<Part>, Memory>
-    requires { component_of servers.now.mapped.names.d.now servers.now.mapped.names.f.now instance ≡ Some component.now }
-    ensures { IfOk result (λ part. part ≡ spread_in servers.now.mapped.names.d.now servers.now.mapped.names.f.now instance component.now) }
+    requires { component_of servers.now.mapped.now.names.d.now servers.now.mapped.now.names.f.now instance ≡ Some component.now }
+    ensures { IfOk result (λ part. part ≡ spread_in servers.now.mapped.now.names.d.now servers.now.mapped.now.names.f.now instance component.now) }
 {
     let behavior = &component.behavior;
     let tasks = servers
@@ -183,7 +183,7 @@ fn keeps_direct(
     number: usize,
     event: &Event,
 ) -> bool
-    ensures { result ≡ keeps_direct servers.now.mapped.names.d.now servers.now.mapped.names.f.now instance component.now number event.now }
+    ensures { result ≡ keeps_direct servers.now.mapped.now.names.d.now servers.now.mapped.now.names.f.now instance component.now number event.now }
 {
     match event.kind {
         EventKind::OperationInvoked { port, operation } => {
@@ -202,7 +202,7 @@ fn not_direct_at(
     number: usize,
     event: &Event,
 ) -> Option<Part>
-    ensures { result ≡ unless (keeps_direct servers.now.mapped.names.d.now servers.now.mapped.names.f.now instance component.now number event.now) (instance, number) }
+    ensures { result ≡ unless (keeps_direct servers.now.mapped.now.names.d.now servers.now.mapped.now.names.f.now instance component.now number event.now) (instance, number) }
 {
     unless(
         keeps_direct(servers, instance, component, number, event),
@@ -213,7 +213,7 @@ fn not_direct_at(
 
 #[tactic(auto, using(crate::proofs::Firsts::first_more, crate::proofs::Firsts::first_here, crate::proofs::Firsts::first_none))]
 fn not_direct_in(servers: &Servers<'_>, instance: usize, component: &Component) -> Option<Part>
-    ensures { result ≡ not_direct_in servers.now.mapped.names.d.now servers.now.mapped.names.f.now instance component.now }
+    ensures { result ≡ not_direct_in servers.now.mapped.now.names.d.now servers.now.mapped.now.names.f.now instance component.now }
 {
     for (number, event) in component.behavior.events.items().iter().enumerate() {
         if let Some(part) = not_direct_at(servers, instance, component, number, event) {
@@ -230,8 +230,8 @@ fn broken_in(
     instance: usize,
     component: &Component,
 ) -> Result<Option<Part>, Memory>
-    requires { component_of servers.now.mapped.names.d.now servers.now.mapped.names.f.now instance ≡ Some component.now }
-    ensures { IfOk result (λ part. part ≡ broken_in rule servers.now.mapped.names.d.now servers.now.mapped.names.f.now instance component.now) }
+    requires { component_of servers.now.mapped.now.names.d.now servers.now.mapped.now.names.f.now instance ≡ Some component.now }
+    ensures { IfOk result (λ part. part ≡ broken_in rule servers.now.mapped.now.names.d.now servers.now.mapped.now.names.f.now instance component.now) }
 {
     match rule {
         InstanceRule::MappedOnce => Ok(badly_mapped_in(servers, instance, component)),
@@ -246,10 +246,11 @@ fn broken_at(
     rule: InstanceRule,
     instance: usize,
 ) -> Result<Option<Part>, Memory>
-    ensures { IfOk result (λ part. part ≡ option_and_then (broken_in rule servers.now.mapped.names.d.now servers.now.mapped.names.f.now instance)
-        (component_of servers.now.mapped.names.d.now servers.now.mapped.names.f.now instance)) }
+    ensures { IfOk result (λ part. part ≡ option_and_then (broken_in rule servers.now.mapped.now.names.d.now servers.now.mapped.now.names.f.now instance)
+        (component_of servers.now.mapped.now.names.d.now servers.now.mapped.now.names.f.now instance)) }
 {
-    match servers.mapped.names.component_of(instance) {
+    let mapped = servers.mapped;
+    match mapped.names.component_of(instance) {
         Some(component) => broken_in(alloc, servers, rule, instance, component),
         None => Ok(None),
     }
@@ -262,9 +263,10 @@ pub fn first_broken(
     servers: &Servers<'_>,
     rule: InstanceRule,
 ) -> Result<Option<Part>, Memory>
-    ensures { IfOk result (λ part. part ≡ first_broken rule servers.now.mapped.names.d.now servers.now.mapped.names.f.now) }
+    ensures { IfOk result (λ part. part ≡ first_broken rule servers.now.mapped.now.names.d.now servers.now.mapped.now.names.f.now) }
 {
-    for instance in 0..servers.mapped.names.f.instances.len() {
+    let mapped = servers.mapped;
+    for instance in 0..mapped.names.f.instances.len() {
         match broken_at(alloc, servers, rule, instance)? {
             Some(part) => return Ok(Some(part)),
             None => {}

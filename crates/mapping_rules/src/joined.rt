@@ -13,14 +13,20 @@ use std::alloc::Global;
 /// The instance, the port and the item of an end.
 type EndKey = (Option<usize>, u32, u32);
 
-/// The joins of a description made flat, by their required ends, and by the provided ends that the environment is joined to.
+/// The joins of a description made flat, by their required ends.
 #[derive(Drop)]
-pub struct Joined<'a> {
+pub struct Providers<'a> {
     pub f: &'a Flat,
-    providers: Table<EndKey, End>,
-    outside: Positions<EndKey>,
-    ghost are_providers: { providers.entries.items ≡ map provided_for f.now.joins },
-    ghost are_outside: { outside ≡ flat_map outside_at f.now.joins },
+    table: Table<EndKey, End>,
+    ghost are_providers: { table.entries.items ≡ map provided_for f.now.joins },
+}
+
+/// The provided ends that the environment is joined to, in a description made flat.
+#[derive(Drop)]
+pub struct Outside<'a> {
+    pub f: &'a Flat,
+    ends: Positions<EndKey>,
+    ghost are_outside: { ends ≡ flat_map outside_at f.now.joins },
 }
 
 fn triple(end: End) -> EndKey
@@ -36,7 +42,7 @@ fn triple(end: End) -> EndKey
 fn providers_of(alloc: Global, joins: &[Join]) -> Result<Vec<(EndKey, End)>, Memory>
     ensures { IfOk result (λ list. list.items ≡ map provided_for joins.now) }
 {
-    let mut list = Vec::new(alloc);
+    let mut list = Vec::with_capacity(alloc, joins.len())?;
     for join in joins {
         list.push((triple(join.required), join.provided))?;
     }
@@ -62,33 +68,38 @@ fn outside_of(alloc: Global, joins: &[Join]) -> Result<Vec<EndKey>, Memory>
     Ok(list)
 }
 
-impl<'a> Joined<'a> {
+impl<'a> Providers<'a> {
     /// The joins of a description made flat.
-    pub fn new(alloc: Global, f: &'a Flat) -> Result<Joined<'a>, Memory>
-        ensures { IfOk result (λ joined. joined.f.now ≡ f.now) }
+    pub fn new(alloc: Global, f: &'a Flat) -> Result<Providers<'a>, Memory>
+        ensures { IfOk result (λ providers. providers.f.now ≡ f.now) }
     {
-        let joins = f.joins.items();
-        let list = outside_of(alloc, joins)?;
-        let outside = Positions::of(alloc, list.as_slice())?;
-        let providers = Table::new(alloc, providers_of(alloc, joins)?)?;
-        Ok(Joined {
-            f,
-            providers,
-            outside,
-        })
+        let list = providers_of(alloc, f.joins.items())?;
+        let table = Table::new(alloc, list)?;
+        Ok(Providers { f, table })
     }
 
     /// The first provided end that is joined with a required one of an instance.
     pub fn provider_of(&self, instance: usize, port: u32, item: u32) -> Option<End>
         ensures { result ≡ provider_of self.now.f.now.joins (end_at (Some instance) port item) }
     {
-        self.providers.find((Some(instance), port, item))
+        self.table.find((Some(instance), port, item))
+    }
+}
+
+impl<'a> Outside<'a> {
+    /// Those of a description made flat.
+    pub fn new(alloc: Global, f: &'a Flat) -> Result<Outside<'a>, Memory>
+        ensures { IfOk result (λ outside. outside.f.now ≡ f.now) }
+    {
+        let list = outside_of(alloc, f.joins.items())?;
+        let ends = Positions::of(alloc, list.as_slice())?;
+        Ok(Outside { f, ends })
     }
 
     /// Whether the environment is joined to a provided end of an instance.
-    pub fn serves_outside(&self, instance: usize, port: u32, item: u32) -> bool
+    pub fn has(&self, instance: usize, port: u32, item: u32) -> bool
         ensures { result ≡ list_any (λ j. same_end (end_at (Some instance) port item) j.provided && is_none j.required.instance) self.now.f.now.joins }
     {
-        self.outside.find((Some(instance), port, item)).is_some()
+        self.ends.find((Some(instance), port, item)).is_some()
     }
 }

@@ -5,6 +5,7 @@ mod check;
 mod groups;
 mod instances;
 mod joined;
+mod kept;
 mod mapped;
 mod naming;
 mod peeling;
@@ -15,4 +16,5 @@ mod tasks;
 mod waits;
 
 pub use check::check_mapping;
+pub use kept::KeptMapping;
 pub use tasks::list_mapping;

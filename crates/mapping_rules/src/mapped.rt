@@ -1,12 +1,12 @@
 //! Which events are mapped, and to which tasks.
 
-ghost use Rattle.std.specs.Prelude.{◌≡◌, ℕ, ◌++◌, IfOk, OnOk, map, nat_eq};
+ghost use Rattle.std.specs.Prelude.{◌≡◌, ℕ, ◌++◌, IfOk, IsTrue, None, OnOk, map, nat_eq};
 ghost use Rattle.std.specs.List.{flat_map};
 ghost use Rattle.plan_definitions.specs.Lists.{from};
 ghost use Rattle.mapping_rules.specs.Groups.{values_at};
 ghost use Rattle.mapping_rules.specs.Listed.{task_of, tasks_at};
 ghost use Rattle.plan_definitions.specs.Mapped.{is_mapped};
-ghost use Rattle.plan_definitions.specs.MappingRules.{tasks_of_event, tasks_from};
+ghost use Rattle.plan_definitions.specs.MappingRules.{tasks_of_event, tasks_from, unnamed};
 
 use crate::groups::Groups;
 use crate::naming::Names;
@@ -69,6 +69,13 @@ impl<'a> Mapped<'a> {
         let list = tasks_of(alloc, &names, d.mapping.events.items())?;
         let tasks = Groups::new(alloc, list)?;
         Ok(Mapped { names, tasks })
+    }
+
+    /// Whether each mapped event names an event of an instance.
+    pub fn are_named(&self) -> bool
+        ensures { IsTrue result → unnamed self.now.names.d.now self.now.names.f.now ≡ None }
+    {
+        self.tasks.entries.len() == self.names.d.mapping.events.len()
     }
 
     /// The tasks that an event of an instance is mapped to, once for each time that it is mapped.

@@ -9,12 +9,12 @@ ghost use Rattle.mapping_rules.specs.Placing.{in_task, numbers_of, placed_at, ta
 ghost use Rattle.plan_definitions.specs.Tasks.{are_mapped, mapping_of};
 
 use crate::groups::Groups;
+use crate::kept::KeptMapping;
 use crate::mapped::Mapped;
 use crate::naming::Names;
 use crate::sorting::{Placed, sort_by_position};
 use bus_semantics::{Mapping, Task};
-use description_types::{Description, MappedEvent, Task as DeclaredTask};
-use flat_descriptions::Flat;
+use description_types::{MappedEvent, Task as DeclaredTask};
 use plan_numbers::{Numbers, Pair, numbered_events};
 use rte_text::{Memory, Seq, Text};
 use std::alloc::Global;
@@ -167,15 +167,10 @@ fn made(alloc: Global, mapped: &Mapped<'_>) -> Result<(Mapping, Vec<bool>), Memo
 /// so it takes memory for each. A mapped event that names none is left out. The only error is want of memory.
 ///
 /// SWS_RTE: RteEventToTaskMapping.
-pub fn list_mapping(
-    alloc: Global,
-    d: &Description,
-    f: &Flat,
-) -> Result<(Mapping, Vec<bool>), Memory>
-    ensures mapping { IfOk result (λ found. found.0 ≡ mapping_of d.now f.now) }
-    ensures mapped { IfOk result (λ found. found.1.items ≡ are_mapped d.now f.now) }
+pub fn list_mapping(alloc: Global, kept: KeptMapping<'_>) -> Result<(Mapping, Vec<bool>), Memory>
+    ensures mapping { IfOk result (λ found. found.0 ≡ mapping_of kept.entry.d.now kept.entry.f.now) }
+    ensures mapped { IfOk result (λ found. found.1.items ≡ are_mapped kept.entry.d.now kept.entry.f.now) }
 {
-    let mapped = Mapped::new(alloc, d, f)?;
-    let found = made(alloc, &mapped)?;
+    let found = made(alloc, &kept.mapped)?;
     Ok(found)
 }

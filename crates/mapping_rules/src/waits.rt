@@ -80,7 +80,7 @@ fn add_of_runnable(
     accesses: &[Access],
 ) -> Result<(), Memory>
     ensures { OnOk result ((e : ℕ × ℕ) → contains same_pair edges.new e ≡ (contains same_pair edges.old e
-        || any_at (λ k a. pairs e tasks.now (waits_by servers.now.mapped.names.d.now servers.now.mapped.names.f.now instance a)) 0 accesses.now)) }
+        || any_at (λ k a. pairs e tasks.now (waits_by servers.now.mapped.now.names.d.now servers.now.mapped.now.names.f.now instance a)) 0 accesses.now)) }
 {
     for access in accesses {
         add_pairs(edges, tasks, servers.waits_by(instance, *access))?;
@@ -97,7 +97,7 @@ fn add_of_number(
     runnable: &Runnable,
 ) -> Result<(), Memory>
     ensures { OnOk result ((e : ℕ × ℕ) → contains same_pair edges.new e ≡ (contains same_pair edges.old e
-        || any_at (λ k a. pairs e (values_at (nat_eq number) tasks.now.entries.items) (waits_by servers.now.mapped.names.d.now servers.now.mapped.names.f.now instance a)) 0 runnable.now.accesses)) }
+        || any_at (λ k a. pairs e (values_at (nat_eq number) tasks.now.entries.items) (waits_by servers.now.mapped.now.names.d.now servers.now.mapped.now.names.f.now instance a)) 0 runnable.now.accesses)) }
 {
     add_of_runnable(
         edges,
@@ -116,7 +116,7 @@ fn add_of_runnables(
     runnables: &[Runnable],
 ) -> Result<(), Memory>
     ensures { OnOk result ((e : ℕ × ℕ) → contains same_pair edges.new e ≡ (contains same_pair edges.old e
-        || any_at (λ m r. any_at (λ k a. pairs e (values_at (nat_eq m) tasks.now.entries.items) (waits_by servers.now.mapped.names.d.now servers.now.mapped.names.f.now instance a)) 0 r.accesses) 0 runnables.now)) }
+        || any_at (λ m r. any_at (λ k a. pairs e (values_at (nat_eq m) tasks.now.entries.items) (waits_by servers.now.mapped.now.names.d.now servers.now.mapped.now.names.f.now instance a)) 0 r.accesses) 0 runnables.now)) }
 {
     for (number, runnable) in runnables.iter().enumerate() {
         add_of_number(edges, servers, instance, tasks, number, runnable)?;
@@ -132,7 +132,7 @@ fn add_of_component(
     component: &Component,
 ) -> Result<(), Memory>
     ensures { OnOk result ((e : ℕ × ℕ) → contains same_pair edges.new e ≡ (contains same_pair edges.old e
-        || waits_in servers.now.mapped.names.d.now servers.now.mapped.names.f.now e instance component.now)) }
+        || waits_in servers.now.mapped.now.names.d.now servers.now.mapped.now.names.f.now e instance component.now)) }
 {
     let behavior = &component.behavior;
     let tasks = servers
@@ -149,9 +149,10 @@ fn add_of_instance(
     instance: usize,
 ) -> Result<(), Memory>
     ensures { OnOk result ((e : ℕ × ℕ) → contains same_pair edges.new e ≡ (contains same_pair edges.old e
-        || option_map_or (waits_in servers.now.mapped.names.d.now servers.now.mapped.names.f.now e instance) (component_of servers.now.mapped.names.d.now servers.now.mapped.names.f.now instance) false)) }
+        || option_map_or (waits_in servers.now.mapped.now.names.d.now servers.now.mapped.now.names.f.now e instance) (component_of servers.now.mapped.now.names.d.now servers.now.mapped.now.names.f.now instance) false)) }
 {
-    match servers.mapped.names.component_of(instance) {
+    let mapped = servers.mapped;
+    match mapped.names.component_of(instance) {
         Some(component) => add_of_component(alloc, edges, servers, instance, component),
         None => Ok(()),
     }
@@ -159,20 +160,30 @@ fn add_of_instance(
 
 fn add_all(alloc: Global, edges: &mut IndexSet<Edge>, servers: &Servers<'_>) -> Result<(), Memory>
     ensures { OnOk result ((e : ℕ × ℕ) → contains same_pair edges.new e ≡ (contains same_pair edges.old e
-        || has_wait servers.now.mapped.names.d.now servers.now.mapped.names.f.now e)) }
+        || has_wait servers.now.mapped.now.names.d.now servers.now.mapped.now.names.f.now e)) }
 {
-    for instance in 0..servers.mapped.names.f.instances.len() {
+    let mapped = servers.mapped;
+    for instance in 0..mapped.names.f.instances.len() {
         add_of_instance(alloc, edges, servers, instance)?;
     }
     Ok(())
 }
 
-/// An edge from each task to each task that it waits for, each once.
-pub fn waits(alloc: Global, servers: &Servers<'_>) -> Result<Vec<Edge>, Memory>
-    ensures { IfOk result (λ edges. (e : ℕ × ℕ) → list_any (same_pair e) edges.items ≡ has_wait servers.now.mapped.names.d.now servers.now.mapped.names.f.now e) }
+fn list_waits(alloc: Global, servers: &Servers<'_>) -> Result<Vec<Edge>, Memory>
+    ensures { IfOk result (λ edges. (e : ℕ × ℕ) → list_any (same_pair e) edges.items ≡ has_wait servers.now.mapped.now.names.d.now servers.now.mapped.now.names.f.now e) }
 {
     let mut edges = IndexSet::new(alloc);
     add_all(alloc, &mut edges, servers)?;
     let list = Vec::from_slice(alloc, edges.as_slice())?;
     Ok(list)
+}
+
+/// An edge from each task to each task that it waits for, each once.
+pub fn waits(alloc: Global, servers: &Servers<'_>) -> Result<Vec<Edge>, Memory>
+    ensures { IfOk result (λ edges. (e : ℕ × ℕ) → list_any (same_pair e) edges.items ≡ has_wait servers.now.mapped.now.names.d.now servers.now.mapped.now.names.f.now e) }
+{
+    if servers.serve_nothing() {
+        return Ok(Vec::new(alloc));
+    }
+    list_waits(alloc, servers)
 }

@@ -1,12 +1,14 @@
+use Rattle.std.proofs.Common.{◌∙◌}
 use Rattle.bus_semantics.specs.declared.plan.BusPlan.{BusPlan}
 use Rattle.bus_semantics.specs.declared.script.Mapping.{Mapping}
 use Rattle.plan_definitions.specs.Planned.{plan_of}
 use Rattle.plan_definitions.specs.PlanRefusals.{of_size}
+use Rattle.plan_definitions.specs.Tasks.{mapping_of}
 use Rattle.event_mapping.proofs.Telling.{still_says}
 use Rattle.event_mapping.proofs.check.listed.Goals as goal
 
 pub returns-in-Ok : goal.returns-in-Ok
-returns-in-Ok c = record { size = c.in-Ok.ensures.size; plan = c.in-Ok.ensures.plan; mapping = c.in_ok-mapping.ensures.mapping }
+returns-in-Ok c = record { size = c.in-Ok.ensures.size; plan = c.in-Ok.ensures.plan; mapping = c.in_ok-mapping.ensures.mapping ∙ (λ j. mapping_of (c.requires.description j) (c.requires.flat j)) }
 
 pub returns-in-Err : goal.returns-in-Err
 returns-in-Err c = record {

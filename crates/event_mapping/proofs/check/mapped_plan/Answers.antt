@@ -1,5 +1,6 @@
 use Rattle.bus_semantics.specs.declared.plan.BusPlan.{BusPlan}
 use Rattle.bus_semantics.specs.declared.script.Mapping.{Mapping}
+use Rattle.mapping_rules.specs.declared.kept.KeptMapping.{KeptMapping}
 use Rattle.plan_definitions.specs.MappingRefusals as rules
 use Rattle.plan_definitions.specs.MappingRules.{HaveOrder}
 use Rattle.plan_definitions.specs.Planned.{plan_of}
@@ -17,7 +18,7 @@ returns-in-Ok c = record {
 
 pub returns-in-Err : goal.returns-in-Err
 returns-in-Err c = record {
-  refusal = then_first (rules.IsRefusal c.args.d.now c.args.f.now) (of_size (plan_of c.args.d.now c.args.f.now)) Unit (BusPlan × Mapping) c.in-Err.refused c.in-Err.ensures.refusal;
+  refusal = then_first (rules.IsRefusal c.args.d.now c.args.f.now) (of_size (plan_of c.args.d.now c.args.f.now)) KeptMapping (BusPlan × Mapping) c.in-Err.refused c.in-Err.ensures.refusal;
   plan = tt;
   mapping = tt;
   order = tt;

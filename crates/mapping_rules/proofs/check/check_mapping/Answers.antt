@@ -1,13 +1,26 @@
-use Rattle.std.proofs.Common.{OnOk}
+use Rattle.std.proofs.Common.{Err, None, refl}
 use Rattle.plan_definitions.specs.MappingRefusals.{IsRefusal, Tells}
 use Rattle.plan_definitions.specs.MappingRules.{HaveOrder}
-use Rattle.mapping_rules.proofs.Telling.{moved}
+use Rattle.mapping_rules.proofs.Telling.{moved, passed_over}
+use Rattle.mapping_rules.specs.declared.kept.KeptMapping.{KeptMapping}
 use Rattle.mapping_rules.proofs.check.check_mapping.Goals as goal
+
+pub returns-in-Ok : goal.returns-in-Ok
+returns-in-Ok c = record {
+  refusal = moved (λ d f. IsRefusal d f None) c.in_ok-mapped.mapped.names.d.now c.args.d.now c.in_ok-mapped.mapped.names.f.now c.args.f.now
+      c.in_ok-mapped.ensures.d c.in_ok-mapped.ensures.f c.in-Ok.ensures.refusal;
+  order = moved (λ d f. HaveOrder d f) c.in_ok-mapped.mapped.names.d.now c.args.d.now c.in_ok-mapped.mapped.names.f.now c.args.f.now
+      c.in_ok-mapped.ensures.d c.in_ok-mapped.ensures.f c.in-Ok.ensures.order;
+  description = refl;
+  flat = refl;
+}
 
 pub returns : goal.returns
 returns c = record {
-  refusal = moved (λ d f. Tells (IsRefusal d f) c.check_rules.result) c.in_ok-servers.servers.mapped.names.d.now c.args.d.now c.in_ok-servers.servers.mapped.names.f.now c.args.f.now
-      c.in_ok-servers.ensures.d c.in_ok-servers.ensures.f c.check_rules.ensures.refusal;
-  order = moved (λ d f. OnOk c.check_rules.result (HaveOrder d f)) c.in_ok-servers.servers.mapped.names.d.now c.args.d.now c.in_ok-servers.servers.mapped.names.f.now c.args.f.now
-      c.in_ok-servers.ensures.d c.in_ok-servers.ensures.f c.check_rules.ensures.order;
+  refusal = passed_over c.args.d.now c.args.f.now KeptMapping c.in-Err.refused
+      (moved (λ d f. Tells {U = Unit} (IsRefusal d f) (Err c.in-Err.refused)) c.in_ok-mapped.mapped.names.d.now c.args.d.now c.in_ok-mapped.mapped.names.f.now c.args.f.now
+      c.in_ok-mapped.ensures.d c.in_ok-mapped.ensures.f c.in-Err.ensures.refusal);
+  order = tt;
+  description = tt;
+  flat = tt;
 }

@@ -5,6 +5,6 @@ use Rattle.mapping_rules.proofs.instances.first_broken.Goals as goal
 
 pub loop-instance-preserved : goal.loop-instance-preserved
 loop-instance-preserved c =
-    let within : c.loop-instance.instance < length c.args.servers.now.mapped.names.f.now.instances = omega arith in
-    c.loop-instance.invariant ∙ instance_more c.args.servers.now.mapped.names.d.now (broken_in c.args.rule c.args.servers.now.mapped.names.d.now c.args.servers.now.mapped.names.f.now)
-    c.args.servers.now.mapped.names.f.now c.loop-instance.instance within (sym c.in_ok-part.ensures ∙ c.in-None.is)
+    let within : c.loop-instance.instance < length c.args.servers.now.mapped.now.names.f.now.instances = omega arith in
+    c.loop-instance.invariant ∙ instance_more c.args.servers.now.mapped.now.names.d.now (broken_in c.args.rule c.args.servers.now.mapped.now.names.d.now c.args.servers.now.mapped.now.names.f.now)
+    c.args.servers.now.mapped.now.names.f.now c.loop-instance.instance within (sym c.in_ok-part.ensures ∙ c.in-None.is)

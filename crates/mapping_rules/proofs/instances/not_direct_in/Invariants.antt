@@ -4,5 +4,5 @@ use Rattle.plan_definitions.specs.MappingRules.{keeps_direct}
 use Rattle.mapping_rules.proofs.instances.not_direct_in.Given as goal
 
 abbrev pub invariant-loop-number : goal.invariant-loop-number
-invariant-loop-number l = first_of {Y = ℕ × ℕ} (λ m e. unless (keeps_direct l.servers.mapped.names.d.now l.servers.mapped.names.f.now l.instance l.component m e) (l.instance, m)) 0 l.component.behavior.events
-    ≡ first_of {Y = ℕ × ℕ} (λ m e. unless (keeps_direct l.servers.mapped.names.d.now l.servers.mapped.names.f.now l.instance l.component m e) (l.instance, m)) l.number (drop l.number l.component.behavior.events)
+invariant-loop-number l = first_of {Y = ℕ × ℕ} (λ m e. unless (keeps_direct l.servers.mapped.now.names.d.now l.servers.mapped.now.names.f.now l.instance l.component m e) (l.instance, m)) 0 l.component.behavior.events
+    ≡ first_of {Y = ℕ × ℕ} (λ m e. unless (keeps_direct l.servers.mapped.now.names.d.now l.servers.mapped.now.names.f.now l.instance l.component m e) (l.instance, m)) l.number (drop l.number l.component.behavior.events)

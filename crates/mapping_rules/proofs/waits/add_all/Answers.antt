@@ -7,6 +7,6 @@ use Rattle.mapping_rules.proofs.waits.add_all.Goals as goal
 
 pub loop-instance-preserved : goal.loop-instance-preserved
 loop-instance-preserved c =
-    let within : c.loop-instance.instance < length c.args.servers.now.mapped.names.f.now.instances = omega arith in
-    λ e. instances_more c.args.servers.now.mapped.names.d.now (waits_in c.args.servers.now.mapped.names.d.now c.args.servers.now.mapped.names.f.now e) c.args.servers.now.mapped.names.f.now c.loop-instance.instance
+    let within : c.loop-instance.instance < length c.args.servers.now.mapped.now.names.f.now.instances = omega arith in
+    λ e. instances_more c.args.servers.now.mapped.now.names.d.now (waits_in c.args.servers.now.mapped.now.names.d.now c.args.servers.now.mapped.now.names.f.now e) c.args.servers.now.mapped.now.names.f.now c.loop-instance.instance
     (contains same_pair c.loop-instance.edges e) (contains same_pair c.add_of_instance.new.edges e) _ within (c.in_ok-add_of_instance.ensures e) (c.loop-instance.invariant e)

@@ -7,6 +7,6 @@ use Rattle.mapping_rules.proofs.waits.add_all.Given as goal
 
 abbrev pub invariant-loop-instance : goal.invariant-loop-instance
 invariant-loop-instance l = (e : ℕ × ℕ) → (contains same_pair l.edges e
-    || any_at (λ i x. option_map_or (waits_in l.servers.mapped.names.d.now l.servers.mapped.names.f.now e i) (slice_get l.servers.mapped.names.d.now.components x.component) false) l.instance
-    (drop l.instance l.servers.mapped.names.f.now.instances))
-    ≡ (contains same_pair l.initial.edges e || has_wait l.servers.mapped.names.d.now l.servers.mapped.names.f.now e)
+    || any_at (λ i x. option_map_or (waits_in l.servers.mapped.now.names.d.now l.servers.mapped.now.names.f.now e i) (slice_get l.servers.mapped.now.names.d.now.components x.component) false) l.instance
+    (drop l.instance l.servers.mapped.now.names.f.now.instances))
+    ≡ (contains same_pair l.initial.edges e || has_wait l.servers.mapped.now.names.d.now l.servers.mapped.now.names.f.now e)

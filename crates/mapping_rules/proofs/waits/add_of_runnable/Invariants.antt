@@ -6,5 +6,5 @@ use Rattle.mapping_rules.specs.Waiting.{any_at, pairs}
 use Rattle.mapping_rules.proofs.waits.add_of_runnable.Given as goal
 
 abbrev pub invariant-loop-access : goal.invariant-loop-access
-invariant-loop-access l = (e : ℕ × ℕ) → (contains same_pair l.edges e || any_at (λ k a. pairs e l.tasks (waits_by l.servers.mapped.names.d.now l.servers.mapped.names.f.now l.instance a)) 0 (drop l.access-index l.accesses))
-    ≡ (contains same_pair l.initial.edges e || any_at (λ k a. pairs e l.tasks (waits_by l.servers.mapped.names.d.now l.servers.mapped.names.f.now l.instance a)) 0 l.accesses)
+invariant-loop-access l = (e : ℕ × ℕ) → (contains same_pair l.edges e || any_at (λ k a. pairs e l.tasks (waits_by l.servers.mapped.now.names.d.now l.servers.mapped.now.names.f.now l.instance a)) 0 (drop l.access-index l.accesses))
+    ≡ (contains same_pair l.initial.edges e || any_at (λ k a. pairs e l.tasks (waits_by l.servers.mapped.now.names.d.now l.servers.mapped.now.names.f.now l.instance a)) 0 l.accesses)

@@ -8,6 +8,6 @@ use Rattle.mapping_rules.proofs.waits.add_of_runnables.Given as goal
 
 abbrev pub invariant-loop-number : goal.invariant-loop-number
 invariant-loop-number l = (e : ℕ × ℕ) → (contains same_pair l.edges e
-    || any_at (λ m r. any_at (λ k a. pairs e (values_at (nat_eq m) l.tasks.entries.items) (waits_by l.servers.mapped.names.d.now l.servers.mapped.names.f.now l.instance a)) 0 r.accesses) l.number (drop l.number l.runnables))
+    || any_at (λ m r. any_at (λ k a. pairs e (values_at (nat_eq m) l.tasks.entries.items) (waits_by l.servers.mapped.now.names.d.now l.servers.mapped.now.names.f.now l.instance a)) 0 r.accesses) l.number (drop l.number l.runnables))
     ≡ (contains same_pair l.initial.edges e
-    || any_at (λ m r. any_at (λ k a. pairs e (values_at (nat_eq m) l.tasks.entries.items) (waits_by l.servers.mapped.names.d.now l.servers.mapped.names.f.now l.instance a)) 0 r.accesses) 0 l.runnables)
+    || any_at (λ m r. any_at (λ k a. pairs e (values_at (nat_eq m) l.tasks.entries.items) (waits_by l.servers.mapped.now.names.d.now l.servers.mapped.now.names.f.now l.instance a)) 0 r.accesses) 0 l.runnables)
