@@ -74,7 +74,7 @@ value_small key d other e is small instead = by (get key d) refl
     by (Some x) some = subst IsSmall (sym (is ∙ ap (λ o. unwrap_or o other) some)) (record { few = omega (arith, get_size key d x some, small.few) })
 
 -- an item of a list
-pub each_size : (ds : List Data) (i : ℕ) (d : Data) → slice_get ds i ≡ Some d → size d ≤ sizes ds
+each_size : (ds : List Data) (i : ℕ) (d : Data) → slice_get ds i ≡ Some d → size d ≤ sizes ds
 each_size [] i d is = cc
 each_size (x ∷ ds) zero d is = let same : x ≡ d = cc in subst (λ y. size y ≤ sizes (x ∷ ds)) same (omega arith)
 each_size (x ∷ ds) (suc i) d is = omega (arith, each_size ds i d is)

@@ -1,2 +1,4 @@
 mod FewItems
+mod FewParts
+mod Limits
 pub mod Whole

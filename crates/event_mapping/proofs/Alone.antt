@@ -122,7 +122,7 @@ module _ (lead : Site → ℕ) (test : Site → Bool) where
       by false fails true is rest = omega (arith, rest)
       by false fails false is rest = let z : i + 0 ≡ i = omega arith in absurd (true≢false (sym (eq-eqb (lead x) i (each 0 x refl fails ∙ z)) ∙ is))
 
-as_many : {Y : Type 0} (F : ℕ → Y) (i n : ℕ) → length (map F (positions i n)) ≡ n
+pub as_many : {Y : Type 0} (F : ℕ → Y) (i n : ℕ) → length (map F (positions i n)) ≡ n
 as_many F i zero = refl
 as_many F i (suc n) = ap (λ m. suc m) (as_many F (i + 1) n)
 
@@ -172,7 +172,7 @@ passes_one test a b c is (x ∷ xs) = subst (λ t. length (cond t (x ∷ filter 
     by false false true rest = omega (arith, rest)
     by false false false rest = rest
 
-named_few : (joins : List Join) (xs : List Site) → Apart key_of xs → length (filter (named joins) xs) ≤ length joins + length joins
+pub named_few : (joins : List Join) (xs : List Site) → Apart key_of xs → length (filter (named joins) xs) ≤ length joins + length joins
 named_few [] xs apart = let none = none_passes (named []) xs (λ x h passes. never x passes) in omega (arith, none)
   where
     never : (s : Site) → named [] s ≡ true → ⊥

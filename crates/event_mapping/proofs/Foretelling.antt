@@ -47,13 +47,13 @@ module _ (d : Description) (f : Flat) where
           by None = refl
           by (Some c) = refl
 
-  elements_listed : length (elements d f) ≡ length (elements_of d f)
+  pub elements_listed : length (elements d f) ≡ length (elements_of d f)
   elements_listed = length-map (elements_of d f) (λ s. element_of d f (group_of d f s) s)
 
-  servers_listed : length (servers d f) ≡ length (servers_of d f)
+  pub servers_listed : length (servers d f) ≡ length (servers_of d f)
   servers_listed = length-map (servers_of d f) (server_of d f)
 
-  machines_listed : length (machines d f) ≡ length (machines_of d f)
+  pub machines_listed : length (machines d f) ≡ length (machines_of d f)
   machines_listed = length-map (machines_of d f) (λ s. machine_at d f s.owner (unwrap_or s.port 0))
 
   all_listed : listed (plan_of d f) ≡ item_count d f

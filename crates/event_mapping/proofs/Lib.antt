@@ -7,3 +7,4 @@ pub mod Totals
 pub mod Spending
 pub mod Sized
 pub mod Foretelling
+mod Counting

@@ -31,6 +31,7 @@ pub mod Ports
 pub mod Programs
 pub mod Services
 pub mod Signatures
+pub mod Sizes
 pub mod Sites
 pub mod Sorting
 pub mod Spots
