@@ -1,7 +1,8 @@
 //! From the bytes of a description to its plan and its mapping.
 
-ghost use Rattle.std.specs.Prelude.{◌≡◌, IfErr, IfOk, true};
+ghost use Rattle.std.specs.Prelude.{◌≡◌, ◌≤◌, IfErr, IfOk, length, true};
 ghost use Rattle.plan_definitions.specs.PlanRefusals.{IsRefusal};
+ghost use Rattle.plan_definitions.specs.Sizes.{HasFewParts};
 ghost use Rattle.plan_definitions.specs.WellFormed.{types_fit};
 ghost use Rattle.declared_names.specs.Sizes.{AreFew};
 ghost use Rattle.description_stages.specs.Plans.{IsPlanRefusalOf, IsPlannedFrom, IsPlannedOf, IsToldBy};
@@ -27,7 +28,10 @@ pub struct PlannedDescription {
 
 /// The plan and the mapping of a description that breaks none of rules 1 to 15.
 fn planned(alloc: Global, joined: JoinedDescription) -> Result<PlannedDescription, Refused>
-    requires { types_fit joined.description.types ≡ true }
+    requires types { types_fit joined.description.types ≡ true }
+    requires parts { HasFewParts joined.description }
+    requires instances { length joined.flat.instances ≤ 1024 }
+    requires joins { length joined.flat.joins ≤ 65536 }
     ensures planned { IfOk result (IsPlannedFrom joined) }
     ensures refused { IfErr result (IsToldBy (IsRefusal joined.description joined.flat)) }
 {

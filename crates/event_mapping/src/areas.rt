@@ -1,6 +1,6 @@
 //! The exclusive areas of a plan.
 
-ghost use Rattle.std.specs.Prelude.{◌≡◌, [], ◌∷◌, ◌++◌, IfOk, OnOk, map};
+ghost use Rattle.std.specs.Prelude.{◌≡◌, ◌<◌, ◌^◌, [], ◌∷◌, ◌++◌, IfOk, OnOk, length, map};
 ghost use Rattle.plan_definitions.specs.Lists.{from};
 ghost use Rattle.plan_definitions.specs.Planned.{area_of, areas, areas_at, named_areas};
 
@@ -54,14 +54,16 @@ fn push_instance(
     number: usize,
     instance: &Instance,
 ) -> Result<(), Memory>
+    requires { number < 2 ^ 32 }
     ensures { OnOk result (list.new.items ≡ list.old.items ++ named_areas number (areas_at d.now instance.now)) }
 {
-    push_areas(list, alloc, position(number)?, names_at(d, instance))
+    push_areas(list, alloc, position(number), names_at(d, instance))
 }
 
 /// The exclusive areas of a plan: those of each instance, in declared order.
 #[tactic(auto, using(crate::proofs::Listing::from_more, crate::proofs::Listing::from_none))]
 pub fn areas_of_plan(alloc: Global, d: &Description, f: &Flat) -> Result<Vec<AreaPlan>, Memory>
+    requires { length f.now.instances < 2 ^ 32 }
     ensures { IfOk result (λ list. list.items ≡ areas d.now f.now) }
 {
     let mut list = Vec::new(alloc);

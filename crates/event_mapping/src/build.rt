@@ -5,6 +5,7 @@ ghost use Rattle.plan_definitions.specs.Mapped.{is_mapped};
 ghost use Rattle.plan_definitions.specs.Parts.{events_of};
 ghost use Rattle.plan_definitions.specs.Callings.{callings as all_callings};
 ghost use Rattle.plan_definitions.specs.Planned.{object_count};
+ghost use Rattle.plan_definitions.specs.Sizes.{HasFewThings};
 ghost use Rattle.plan_definitions.specs.WellFormed.{types_fit};
 ghost use Rattle.event_mapping.specs.Sized.{IsPlan, few_objects};
 
@@ -77,6 +78,7 @@ pub fn build_plan(
 ) -> Result<Option<BusPlan>, Memory>
     requires mapping { mapped.now ≡ map (is_mapped d.now f.now) (events_of d.now f.now) }
     requires types { types_fit d.now.types ≡ true }
+    requires few { HasFewThings d.now f.now }
     ensures { IfOk result (λ found. IsPlan found d.now f.now) }
 {
     let source = Source::new(alloc, d, f)?;

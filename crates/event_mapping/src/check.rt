@@ -1,6 +1,6 @@
 //! The checks of a description made flat, and its plan and mapping where it keeps them.
 
-ghost use Rattle.std.specs.Prelude.{◌≡◌, Err, IfOk, OnOk, Some, true};
+ghost use Rattle.std.specs.Prelude.{◌≡◌, ◌≤◌, Err, IfOk, OnOk, Some, length, true};
 ghost use Rattle.plan_definitions.specs.Telling.{Tells as Says};
 ghost use Rattle.plan_definitions.specs.MappingRefusals.{Tells, mapping_text};
 ghost use Rattle.plan_definitions.specs.MappingRefusals as rules;
@@ -8,6 +8,7 @@ ghost use Rattle.plan_definitions.specs.MappingRules.{HaveOrder};
 ghost use Rattle.plan_definitions.specs.Tasks.{are_mapped, mapping_of};
 ghost use Rattle.plan_definitions.specs.Planned.{plan_of, seen};
 ghost use Rattle.plan_definitions.specs.PlanRefusals.{IsOfSize, IsRefusal, IsThen, of_size};
+ghost use Rattle.plan_definitions.specs.Sizes.{HasFewParts, HasFewThings};
 ghost use Rattle.plan_definitions.specs.WellFormed.{types_fit};
 
 use crate::build::build_plan;
@@ -43,6 +44,7 @@ fn sized(alloc: Global, plan: BusPlan) -> Result<BusPlan, Refused>
 fn sized_plan(alloc: Global, d: &Description, f: &Flat, mapped: &[bool]) -> Result<BusPlan, Refused>
     requires mapping { mapped.now ≡ are_mapped d.now f.now }
     requires types { types_fit d.now.types ≡ true }
+    requires few { HasFewThings d.now f.now }
     ensures size { Says (of_size (plan_of d.now f.now)) result }
     ensures plan { IfOk result (λ plan. seen plan ≡ plan_of d.now f.now) }
 {
@@ -62,6 +64,7 @@ fn listed(
     requires types { types_fit d.now.types ≡ true }
     requires description { kept.d.now ≡ d.now }
     requires flat { kept.f.now ≡ f.now }
+    requires few { HasFewThings d.now f.now }
     ensures size { Says (of_size (plan_of d.now f.now)) result }
     ensures plan { IfOk result (λ found. seen found.0 ≡ plan_of d.now f.now) }
     ensures mapping { IfOk result (λ found. found.1 ≡ mapping_of d.now f.now) }
@@ -83,6 +86,9 @@ fn planned(
     requires types { types_fit d.now.types ≡ true }
     requires description { kept.d.now ≡ d.now }
     requires flat { kept.f.now ≡ f.now }
+    requires parts { HasFewParts d.now }
+    requires instances { length f.now.instances ≤ 1024 }
+    requires joins { length f.now.joins ≤ 65536 }
     ensures size { Says (of_size (plan_of d.now f.now)) result }
     ensures plan { IfOk result (λ found. seen found.0 ≡ plan_of d.now f.now) }
     ensures mapping { IfOk result (λ found. found.1 ≡ mapping_of d.now f.now) }
@@ -95,7 +101,10 @@ fn planned(
 }
 
 fn mapped_plan(alloc: Global, d: &Description, f: &Flat) -> Result<(BusPlan, Mapping), Refused>
-    requires { types_fit d.now.types ≡ true }
+    requires types { types_fit d.now.types ≡ true }
+    requires parts { HasFewParts d.now }
+    requires instances { length f.now.instances ≤ 1024 }
+    requires joins { length f.now.joins ≤ 65536 }
     ensures refusal { Tells (IsThen (rules.IsRefusal d.now f.now) (IsOfSize d.now f.now)) result }
     ensures plan { IfOk result (λ found. seen found.0 ≡ plan_of d.now f.now) }
     ensures mapping { IfOk result (λ found. found.1 ≡ mapping_of d.now f.now) }
@@ -119,7 +128,8 @@ fn mapped_plan(alloc: Global, d: &Description, f: &Flat) -> Result<(BusPlan, Map
 ///   `/mapping`). Every required queued element is a receiver, joined or not, the environment's too. Too many objects or events
 ///   are told from counts, before the plan and the mapping are listed, unless joins may put enough elements into common groups.
 ///
-/// The types of the description fit, as they do once it is read.
+/// The types of the description fit and it has few parts, as a description has that is read from a file; and rule 10 holds: it has at
+/// most 1,024 instances and 65,536 joins. So 32 bits number what a plan numbers.
 ///
 /// The plan lists everything by instance and in declared order, what belongs to the environment last; groups by their least
 /// element. The mapping has the tasks on their cores, each with the numbers of its events in the order of their positions. The
@@ -129,7 +139,10 @@ fn mapped_plan(alloc: Global, d: &Description, f: &Flat) -> Result<(BusPlan, Map
 ///
 /// SWS_RTE: RteEventToTaskMapping.
 pub fn map_events(alloc: Global, d: &Description, f: &Flat) -> Result<(BusPlan, Mapping), Refused>
-    requires { types_fit d.now.types ≡ true }
+    requires types { types_fit d.now.types ≡ true }
+    requires parts { HasFewParts d.now }
+    requires instances { length f.now.instances ≤ 1024 }
+    requires joins { length f.now.joins ≤ 65536 }
     ensures refusal { Tells (IsRefusal d.now f.now) result }
     ensures plan { IfOk result (λ found. seen found.0 ≡ plan_of d.now f.now) }
     ensures mapping { IfOk result (λ found. found.1 ≡ mapping_of d.now f.now) }

@@ -1,6 +1,6 @@
 //! The tasks with their events.
 
-ghost use Rattle.std.specs.Prelude.{◌≡◌, [], ◌∷◌, ◌++◌, IfOk, OnOk, map};
+ghost use Rattle.std.specs.Prelude.{◌≡◌, ◌<◌, ◌^◌, [], ◌∷◌, ◌++◌, IfOk, OnOk, length, map};
 ghost use Rattle.std.specs.List.{flat_map};
 ghost use Rattle.plan_definitions.specs.Lists.{from};
 ghost use Rattle.plan_definitions.specs.Parts.{events_of};
@@ -123,6 +123,7 @@ fn tasks_of(alloc: Global, mapped: &Mapped<'_>, numbers: &Events) -> Result<Vec<
 
 /// The tasks on their cores, each with the numbers of its events in the order of their positions.
 fn mapping_of(alloc: Global, mapped: &Mapped<'_>) -> Result<Mapping, Memory>
+    requires { length (events_of mapped.now.names.d.now mapped.now.names.f.now) < 2 ^ 32 }
     ensures { IfOk result (λ mapping. mapping ≡ mapping_of mapped.now.names.d.now mapped.now.names.f.now) }
 {
     let pairs = numbered_events(alloc, mapped.names.d, mapped.names.f)?;
@@ -154,6 +155,7 @@ fn are_mapped(alloc: Global, mapped: &Mapped<'_>) -> Result<Vec<bool>, Memory>
 }
 
 fn made(alloc: Global, mapped: &Mapped<'_>) -> Result<(Mapping, Vec<bool>), Memory>
+    requires { length (events_of mapped.now.names.d.now mapped.now.names.f.now) < 2 ^ 32 }
     ensures mapping { IfOk result (λ found. found.0 ≡ mapping_of mapped.now.names.d.now mapped.now.names.f.now) }
     ensures mapped { IfOk result (λ found. found.1.items ≡ are_mapped mapped.now.names.d.now mapped.now.names.f.now) }
 {
@@ -164,10 +166,11 @@ fn made(alloc: Global, mapped: &Mapped<'_>) -> Result<(Mapping, Vec<bool>), Memo
 
 /// The mapping of a description, made flat: the tasks on their cores, each with the numbers of its events in a plan, in the order
 /// of their positions; and for each event of a plan, by its number, whether it is mapped. All events of all instances are listed,
-/// so it takes memory for each. A mapped event that names none is left out. The only error is want of memory.
+/// so it takes memory for each; 32 bits number them. A mapped event that names none is left out. The only error is want of memory.
 ///
 /// SWS_RTE: RteEventToTaskMapping.
 pub fn list_mapping(alloc: Global, kept: KeptMapping<'_>) -> Result<(Mapping, Vec<bool>), Memory>
+    requires { length (events_of kept.entry.d.now kept.entry.f.now) < 2 ^ 32 }
     ensures mapping { IfOk result (λ found. found.0 ≡ mapping_of kept.entry.d.now kept.entry.f.now) }
     ensures mapped { IfOk result (λ found. found.1.items ≡ are_mapped kept.entry.d.now kept.entry.f.now) }
 {

@@ -1,6 +1,6 @@
 //! The least number in the group of each element.
 
-ghost use Rattle.std.specs.Prelude.{◌≡◌, IfOk, map};
+ghost use Rattle.std.specs.Prelude.{◌≡◌, ◌<◌, ◌^◌, IfOk, map};
 ghost use Rattle.plan_definitions.specs.Elements.{leaders};
 ghost use Rattle.plan_definitions.specs.Keys.{keys_of};
 ghost use Rattle.plan_definitions.specs.Lists.{positions};
@@ -36,11 +36,12 @@ fn pairs_of(alloc: Global, source: &Source<'_>, joins: &[Join]) -> Result<Vec<(u
 
 #[tactic(auto, using(crate::proofs::Leading::own_more, crate::proofs::Leading::own_none))]
 fn numbers_below(alloc: Global, count: usize) -> Result<Vec<u32>, Memory>
+    requires { count < 2 ^ 32 }
     ensures { IfOk result (λ list. list.items ≡ positions 0 count) }
 {
     let mut list = Vec::with_capacity(alloc, count)?;
     for number in 0..count {
-        list.push(position(number)?)?;
+        list.push(position(number))?;
     }
     Ok(list)
 }

@@ -29,11 +29,12 @@ fn put(lists: &mut Vec<Vec<u32>>, group: u32, element: u32) -> Result<(), Memory
 
 #[tactic(auto, using(crate::proofs::Filling::none_yet))]
 fn filled(alloc: Global, numbers: &[u32], count: usize) -> Result<Vec<Vec<u32>>, Memory>
+    requires { length numbers.now < 2 ^ 32 }
     ensures { IfOk result (λ lists. map (λ v. v.items) lists.items ≡ all_members count numbers.now) }
 {
     let mut lists = empties(alloc, count)?;
     for (element, group) in numbers.iter().enumerate() {
-        put(&mut lists, *group, position(element)?)?;
+        put(&mut lists, *group, position(element))?;
     }
     Ok(lists)
 }
@@ -47,6 +48,7 @@ fn sealed(alloc: Global, lists: Vec<Vec<u32>>) -> Result<Seq<Seq<u32>>, Memory>
 
 /// The elements of each of so many groups, in rising order, from the number of the group of each element.
 pub fn all_members(alloc: Global, numbers: &[u32], count: usize) -> Result<Seq<Seq<u32>>, Memory>
+    requires { length numbers.now < 2 ^ 32 }
     ensures { IfOk result (λ lists. lists ≡ all_members count numbers.now) }
 {
     let lists = filled(alloc, numbers, count)?;

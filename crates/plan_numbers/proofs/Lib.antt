@@ -3,3 +3,4 @@ pub mod Listing
 pub mod Numbering
 pub mod Finding
 pub mod Starting
+pub mod Few

@@ -1,5 +1,5 @@
 -- All that a plan numbers, listed and numbered.
-use Rattle.std.specs.Prelude.{◌≡◌, List, filter}
+use Rattle.std.specs.Prelude.{◌≡◌, ◌<◌, ◌^◌, List, filter, length}
 use Rattle.flat_descriptions.specs.declared.flat.Flat.{Flat}
 use Rattle.flat_descriptions.specs.declared.flat.Join.{Join}
 use Rattle.description_types.specs.declared.description.Description.{Description}
@@ -21,6 +21,13 @@ pub record AreAmong (joins : List Join) (all : List Site) (l : Lists) : Type 0 w
 
 abbrev pub AreLists : Description → Flat → Lists → Type 0
 AreLists d f l = AreAmong f.joins (sites d f) l
+
+-- 32 bits number each list
+pub record AreShort (l : Lists) : Type 0 where
+  pub elements : length l.elements.items < 2 ^ 32
+  pub servers : length l.servers.items < 2 ^ 32
+  pub machines : length l.machines.items < 2 ^ 32
+  pub mode_ports : length l.mode_ports.items < 2 ^ 32
 
 pub record AreNumbers (l : Lists) (n : SiteNumbers) : Type 0 where
   pub servers : n.servers ≡ keys_of l.servers.items

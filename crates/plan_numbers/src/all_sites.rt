@@ -1,7 +1,8 @@
 //! All sites of a description, in order.
 
-ghost use Rattle.std.specs.Prelude.{◌≡◌, [], ◌∷◌, ◌++◌, IfOk, OnOk, Some, option_copied, slice_get};
+ghost use Rattle.std.specs.Prelude.{◌≡◌, ◌<◌, ◌^◌, [], ◌∷◌, ◌++◌, IfOk, OnOk, Some, length, option_copied, slice_get};
 ghost use Rattle.plan_definitions.specs.Lists.{from};
+ghost use Rattle.plan_definitions.specs.Sizes.{HasFewInside, HasFewParts, HasFewThings, HasShortInterfaces};
 ghost use Rattle.plan_definitions.specs.Sites.{site, provides_at, kind_at, count_at, shape_at, sites_with, sites_at, sites_of_ports, variables_of, sites_of_component, sites_of_instance, root_ports, sites};
 
 use crate::numbers::position;
@@ -103,12 +104,14 @@ fn push_at(
     number: usize,
     port: &Port,
 ) -> Result<(), Memory>
+    requires number { number < 2 ^ 32 }
+    requires items { HasShortInterfaces types.now }
     ensures { OnOk result (list.new.items ≡ list.old.items ++ sites_at types.now owner number port.now) }
 {
     match shape_at(types, owner, port) {
         Some((kind, count)) => {
-            let count = position(count)?;
-            push_sites(list, owner, position(number)?, kind, count)
+            let count = position(count);
+            push_sites(list, owner, position(number), kind, count)
         }
         None => Ok(()),
     }
@@ -121,6 +124,8 @@ fn push_ports(
     owner: Option<u32>,
     ports: &[Port],
 ) -> Result<(), Memory>
+    requires ports { length ports.now < 2 ^ 32 }
+    requires items { HasShortInterfaces types.now }
     ensures { OnOk result (list.new.items ≡ list.old.items ++ sites_of_ports types.now owner ports.now) }
 {
     for (number, port) in ports.iter().enumerate() {
@@ -145,10 +150,12 @@ fn push_component(
     instance: u32,
     component: &Component,
 ) -> Result<(), Memory>
+    requires inside { HasFewInside component.now }
+    requires items { HasShortInterfaces types.now }
     ensures { OnOk result (list.new.items ≡ list.old.items ++ sites_of_component types.now instance component.now) }
 {
     push_ports(list, types, Some(instance), component.ports.items())?;
-    let count = position(component.behavior.variables.len())?;
+    let count = position(component.behavior.variables.len());
     push_variables(list, instance, count)
 }
 
@@ -164,10 +171,12 @@ fn push_instance(
     number: usize,
     instance: &Instance,
 ) -> Result<(), Memory>
+    requires number { number < 2 ^ 32 }
+    requires parts { HasFewParts d.now }
     ensures { OnOk result (list.new.items ≡ list.old.items ++ sites_of_instance d.now number instance.now) }
 {
     match component_at(d, instance) {
-        Some(component) => push_component(list, &d.types, position(number)?, component),
+        Some(component) => push_component(list, &d.types, position(number), component),
         None => Ok(()),
     }
 }
@@ -178,6 +187,8 @@ fn push_instances(
     d: &Description,
     instances: &[Instance],
 ) -> Result<(), Memory>
+    requires instances { length instances.now < 2 ^ 32 }
+    requires parts { HasFewParts d.now }
     ensures { OnOk result (list.new.items ≡ list.old.items ++ from 0 (sites_of_instance d.now) instances.now) }
 {
     for (number, instance) in instances.iter().enumerate() {
@@ -199,6 +210,7 @@ fn root_ports(d: &Description) -> &[Port]
 /// last. A required operation is none. There are as many as the instances have data elements, variables, provided operations
 /// and mode elements, and the environment data elements and mode elements.
 pub fn sites(alloc: Global, d: &Description, f: &Flat) -> Result<Vec<Site>, Memory>
+    requires { HasFewThings d.now f.now }
     ensures { IfOk result (λ list. list.items ≡ sites d.now f.now) }
 {
     let mut list = Vec::new(alloc);

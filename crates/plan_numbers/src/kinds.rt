@@ -1,6 +1,6 @@
 //! The sites of each kind.
 
-ghost use Rattle.std.specs.Prelude.{◌≡◌, ◌&&◌, IfOk, filter, map};
+ghost use Rattle.std.specs.Prelude.{◌≡◌, ◌<◌, ◌^◌, ◌&&◌, IfOk, filter, length, map};
 ghost use Rattle.plan_definitions.specs.Joined.{end_of};
 ghost use Rattle.plan_definitions.specs.Keys.{is_element, is_machine, is_mode_port, is_server, keys_of};
 ghost use Rattle.plan_definitions.specs.Things.{has_machine};
@@ -117,6 +117,7 @@ fn keys_of(alloc: Global, sites: &[Site]) -> Result<Vec<Key>, Memory>
 
 /// The numbers of sites.
 pub fn numbers_of(alloc: Global, sites: &[Site]) -> Result<Numbers<Key>, Memory>
+    requires { length sites.now < 2 ^ 32 }
     ensures { IfOk result (λ numbers. numbers ≡ keys_of sites.now) }
 {
     let keys = keys_of(alloc, sites)?;

@@ -2,7 +2,8 @@
 
 ghost use Rattle.std.specs.Prelude.{◌≡◌, IfOk};
 ghost use Rattle.plan_definitions.specs.Parts.{areas_of, events_of, runnables_of};
-ghost use Rattle.plan_numbers.specs.Listed.{AreAmong, AreLists, AreNumbers, ArePairs};
+ghost use Rattle.plan_definitions.specs.Sizes.{HasFewThings};
+ghost use Rattle.plan_numbers.specs.Listed.{AreAmong, AreLists, AreNumbers, AreShort, ArePairs};
 
 use crate::all_sites::sites;
 use crate::joined::Joined;
@@ -59,7 +60,8 @@ fn lists_among(alloc: Global, joined: &Joined<'_>, sites: &[Site]) -> Result<Lis
 
 /// The lists of a description.
 pub fn lists_of(alloc: Global, d: &Description, f: &Flat, joined: &Joined) -> Result<Lists, Memory>
-    requires { joined.now ≡ f.now.joins }
+    requires joined { joined.now ≡ f.now.joins }
+    requires few { HasFewThings d.now f.now }
     ensures { IfOk result (λ lists. AreLists d.now f.now lists) }
 {
     let all = sites(alloc, d, f)?;
@@ -68,6 +70,7 @@ pub fn lists_of(alloc: Global, d: &Description, f: &Flat, joined: &Joined) -> Re
 
 /// The numbers of what these lists hold.
 pub fn site_numbers(alloc: Global, lists: &Lists) -> Result<SiteNumbers, Memory>
+    requires { AreShort lists.now }
     ensures { IfOk result (λ numbers. AreNumbers lists.now numbers) }
 {
     let servers = numbers_of(alloc, lists.servers.as_slice())?;
@@ -81,6 +84,7 @@ pub fn site_numbers(alloc: Global, lists: &Lists) -> Result<SiteNumbers, Memory>
 }
 
 fn runnable_numbers(alloc: Global, d: &Description, f: &Flat) -> Result<Numbers<Pair>, Memory>
+    requires { HasFewThings d.now f.now }
     ensures { IfOk result (λ numbers. numbers ≡ runnables_of d.now f.now) }
 {
     let list = numbered_runnables(alloc, d, f)?;
@@ -88,6 +92,7 @@ fn runnable_numbers(alloc: Global, d: &Description, f: &Flat) -> Result<Numbers<
 }
 
 fn event_numbers(alloc: Global, d: &Description, f: &Flat) -> Result<Numbers<Pair>, Memory>
+    requires { HasFewThings d.now f.now }
     ensures { IfOk result (λ numbers. numbers ≡ events_of d.now f.now) }
 {
     let list = numbered_events(alloc, d, f)?;
@@ -95,6 +100,7 @@ fn event_numbers(alloc: Global, d: &Description, f: &Flat) -> Result<Numbers<Pai
 }
 
 fn area_numbers(alloc: Global, d: &Description, f: &Flat) -> Result<Numbers<Pair>, Memory>
+    requires { HasFewThings d.now f.now }
     ensures { IfOk result (λ numbers. numbers ≡ areas_of d.now f.now) }
 {
     let list = numbered_areas(alloc, d, f)?;
@@ -103,6 +109,7 @@ fn area_numbers(alloc: Global, d: &Description, f: &Flat) -> Result<Numbers<Pair
 
 /// The numbers of the runnables, events and areas of a description.
 pub fn pair_numbers(alloc: Global, d: &Description, f: &Flat) -> Result<PairNumbers, Memory>
+    requires { HasFewThings d.now f.now }
     ensures { IfOk result (λ numbers. ArePairs d.now f.now numbers) }
 {
     let runnables = runnable_numbers(alloc, d, f)?;

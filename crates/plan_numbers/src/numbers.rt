@@ -1,32 +1,22 @@
 //! Numbers of keys.
 
-ghost use Rattle.std.specs.Prelude.{◌≡◌, ◌<◌, ◌^◌, IfOk, OnOk, length};
+ghost use Rattle.std.specs.Prelude.{◌≡◌, ◌<◌, ◌^◌};
 
 use crate::positions::Positions;
 use rte_text::Memory;
-use std::alloc::{AllocError, Global};
+use std::alloc::Global;
 use std::hash::Hash;
 use std::marker::Model;
 
 /// A thing at a port, as a key: its owner, its port, None for a variable, and its item.
 pub type Key = (Option<u32>, Option<u32>, u32);
 
-/// Whether 32 bits number so many things. For more the answer is out of memory: it is the one limit of a plan that is no rule.
-fn number_all(count: usize) -> Result<(), Memory>
-    ensures { OnOk result (count < 2 ^ 32) }
-{
-    if count > u32::MAX as usize {
-        return Err(AllocError);
-    }
-    Ok(())
-}
-
 /// A number as the plan holds it.
-pub fn position(number: usize) -> Result<u32, Memory>
-    ensures { IfOk result (λ position. position ≡ number) }
+pub fn position(number: usize) -> u32
+    requires { number < 2 ^ 32 }
+    ensures { result ≡ number }
 {
-    number_all(number)?;
-    Ok(number as u32)
+    number as u32
 }
 
 /// Keys in an order, seen as their list, with the number of each, found by hash.
@@ -46,15 +36,15 @@ impl<K: Eq + Hash + Copy> Model for Numbers<K> {
 }
 
 impl<K: Eq + Hash + Copy> Numbers<K> {
-    ghost use Rattle.std.specs.Prelude.{◌≡◌, IfOk, length};
+    ghost use Rattle.std.specs.Prelude.{◌≡◌, ◌<◌, ◌^◌, IfOk, length};
     ghost use Rattle.std.specs.List.{position_from};
     ghost use Rattle.std.specs.Option.{unwrap_or};
 
     /// The numbers of these keys: their positions.
     pub fn of(alloc: Global, keys: &[K]) -> Result<Numbers<K>, Memory>
+        requires { length keys.now < 2 ^ 32 }
         ensures { IfOk result (λ numbers. numbers ≡ keys.now) }
     {
-        number_all(keys.len())?;
         let positions = Positions::of(alloc, keys)?;
         Ok(Numbers { positions })
     }

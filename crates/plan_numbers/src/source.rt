@@ -5,6 +5,7 @@ ghost use Rattle.std.specs.List.{position_from};
 ghost use Rattle.plan_definitions.specs.Joined.{end_at, provider_of};
 ghost use Rattle.plan_definitions.specs.Keys.{keys_of, number_in, pair_number, same_key};
 ghost use Rattle.plan_definitions.specs.Parts.{areas_of, events_of, runnables_of};
+ghost use Rattle.plan_definitions.specs.Sizes.{HasFewThings};
 ghost use Rattle.plan_numbers.specs.ComSpecs.{AreTables};
 ghost use Rattle.plan_numbers.specs.Listed.{AreLists, AreNumbers, ArePairs};
 ghost use Rattle.plan_numbers.specs.Starts.{AreStarts};
@@ -39,11 +40,13 @@ pub struct Source<'a> {
     ghost started: { AreStarts d.now f.now starts },
     ghost numbered: { AreNumbers lists sites },
     ghost paired: { ArePairs d.now f.now pairs },
+    pub ghost few: { HasFewThings d.now f.now },
 }
 
 impl Source<'_> {
-    /// That of a description and its flat form.
+    /// That of a description and its flat form. 32 bits number what is in them.
     pub fn new<'a>(alloc: Global, d: &'a Description, f: &'a Flat) -> Result<Source<'a>, Memory>
+        requires { HasFewThings d.now f.now }
         ensures { IfOk result (λ source. (source.d.now ≡ d.now) × (source.f.now ≡ f.now)) }
     {
         let joined = Joined::of(alloc, f.joins.items())?;

@@ -3,3 +3,5 @@ pub mod Pointing
 pub mod Invoking
 pub mod Using
 pub mod Serving
+pub mod Outer
+pub mod Few

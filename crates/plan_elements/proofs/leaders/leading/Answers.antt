@@ -4,6 +4,7 @@ use Rattle.plan_definitions.specs.Keys.{key_of, keys_of}
 use Rattle.plan_definitions.specs.Things.{elements_of}
 use Rattle.plan_elements.specs.Leading.{pairs_of}
 use Rattle.plan_elements.specs.Spreads.{number_at, spread_numbers}
+use Rattle.plan_elements.proofs.Few.{few_elements}
 use Rattle.plan_elements.proofs.Leading.{they_lead}
 use Rattle.plan_elements.proofs.leaders.leading.Goals as goal
 
@@ -18,3 +19,9 @@ returns c =
     c.in_ok-own.ensures
     (λ n. c.in_ok-near.ensures n ∙ (λ j. spread_numbers (c.as_slice.ensures.value j) (number_at (c.as_slice-2.ensures.value j)) n))
     (λ n. c.in_ok-least.ensures n ∙ (λ j. spread_numbers (c.as_slice-3.ensures.value j) (number_at (c.as_slice-4.ensures.value j)) n))
+
+pub numbers_below-requires : goal.numbers_below-requires
+numbers_below-requires c =
+    let source = c.args.source.now in
+    let long : c.len.result ≡ length source.lists.elements.items = omega (arith, c.len.ensures, source.lists.elements.ok.0) in
+    few_elements source.d.now source.f.now source.lists.elements.items c.len.result long source.listed.elements source.few
