@@ -9,8 +9,8 @@ use Rattle.description_types.specs.declared.description.Description.{Description
 use Rattle.flat_descriptions.specs.declared.flat.Flat.{Flat}
 use Rattle.flat_descriptions.specs.Members.{sum_of}
 use Rattle.plan_definitions.specs.declared.part.Part.{Part}
-use Rattle.plan_definitions.specs.Callings.{callings_of_component}
-use Rattle.plan_definitions.specs.Parts.{counted, of_instances, parts_of}
+use Rattle.plan_definitions.specs.Callings.{callings}
+use Rattle.plan_definitions.specs.Parts.{counted, parts_of}
 use Rattle.plan_definitions.specs.Things.{elements_of, machines_of, mode_ports_of, servers_of}
 use Rattle.plan_definitions.specs.WellFormed.{item_count}
 
@@ -35,8 +35,7 @@ pub record HasFewParts (d : Description) : Type 0 where
   pub compositions : (i : ℕ) (c : Composition) → slice_get d.compositions i ≡ Some c → length c.ports < 2 ^ 22
   pub types : HasShortInterfaces d.types
 
--- 32 bits number what a plan numbers of each kind; of its points those of the instances, for the root may provide any number of
--- operations to the environment
+-- 32 bits number what a plan numbers of each kind
 pub record HasFewThings (d : Description) (f : Flat) : Type 0 where
   pub parts : HasFewParts d
   pub instances : length f.instances < 2 ^ 32
@@ -45,4 +44,4 @@ pub record HasFewThings (d : Description) (f : Flat) : Type 0 where
   pub machines : length (machines_of d f) < 2 ^ 32
   pub mode_ports : length (mode_ports_of d f) < 2 ^ 32
   pub pairs : (part : Part) → length (parts_of part d f) < 2 ^ 32
-  pub calls : length (of_instances callings_of_component d f) < 2 ^ 32
+  pub points : length (callings d f) < 2 ^ 32

@@ -1,5 +1,5 @@
 -- Rule 30 over what is listed (Software Component Template, flattened; profile: the limits of a bus). There are at most 16,384 objects and
--- 16,384 events, and in all queues together at most 65,536 values, requests and switches may wait.
+-- 16,384 events, in all queues together at most 65,536 values, requests and switches may wait, and there are at most 262,144 points.
 use Rattle.std.specs.Prelude.{ℕ, ◌+◌, length, sum_by, Bool, false, ◌||◌, nat_lt, if◌then◌else◌}
 use Rattle.std.specs.Option.{unwrap_or}
 use Rattle.description_types.specs.declared.description.Description.{Description}
@@ -15,6 +15,7 @@ use Rattle.plan_definitions.specs.Elements.{kind_of, leaders}
 use Rattle.plan_definitions.specs.ElementGroups.{heads}
 use Rattle.plan_definitions.specs.Services.{server_of}
 use Rattle.plan_definitions.specs.PlanRules.{is_queued}
+use Rattle.plan_definitions.specs.Callings.{callings}
 
 -- the groups of data elements, each by its least element, the servers, the exclusive areas, the mode machines, and the clock
 abbrev pub objects_of : Description → Flat → ℕ
@@ -32,4 +33,4 @@ waiting_at d f s = by s.kind
 
 -- rule 30 is broken
 abbrev pub is_past : Description → Flat → Bool
-is_past d f = (nat_lt 16384 (objects_of d f) || nat_lt 16384 (length (events_of d f))) || nat_lt 65536 (sum_by (waiting_at d f) (sites d f))
+is_past d f = (nat_lt 16384 (objects_of d f) || nat_lt 16384 (length (events_of d f))) || (nat_lt 65536 (sum_by (waiting_at d f) (sites d f)) || nat_lt 262144 (length (callings d f)))

@@ -3,5 +3,3 @@ pub mod Pointing
 pub mod Invoking
 pub mod Using
 pub mod Serving
-pub mod Outer
-pub mod Few

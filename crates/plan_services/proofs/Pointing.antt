@@ -1,13 +1,12 @@
 -- The points of calls, as they are looked up.
-use Rattle.std.proofs.Common.{◌≡◌, ℕ, ◌+◌, List, [], ◌∷◌, ◌++◌, map, Bool, true, false, cond, ◌&&◌, nat_eq, Option, Some, None, ⊎_elim, refl, sym, ap, ◌∙◌}
-use Rattle.std.specs.List.{list_any, position_from}
-use Rattle.std.specs.Option.{is_some, option_eq, option_map, option_map_or, unwrap_or}
-use Rattle.std.proofs.lemmas.Bool.{eq-eqb, ne_eqb, cases_eq, or_parts}
+use Rattle.std.proofs.Common.{◌≡◌, ℕ, ◌+◌, List, [], ◌∷◌, map, Bool, true, false, cond, ◌&&◌, nat_eq, Option, Some, None, ⊎_elim, refl, sym, ap, ◌∙◌}
+use Rattle.std.specs.List.{position_from}
+use Rattle.std.specs.Option.{option_eq, option_map, option_map_or, unwrap_or}
+use Rattle.std.proofs.lemmas.Bool.{eq-eqb, ne_eqb, cases_eq}
 use Rattle.std.proofs.Math.Bool.{and_assoc}
 use Rattle.plan_definitions.specs.Keys.{same_pair}
 use Rattle.plan_definitions.specs.declared.calling.Calling.{Calling}
 use Rattle.plan_definitions.specs.Callings.{call_key, first_calling, is_calling, leaves, left_key}
-use Rattle.plan_services.specs.Numbered.{has_caller}
 
 pub nat_eq_sym : (a b : ℕ) → nat_eq a b ≡ nat_eq b a
 nat_eq_sym a b = ⊎_elim (λ e. eq-eqb a b e ∙ sym (eq-eqb b a (sym e))) (λ ne. ne_eqb a b ne ∙ sym (ne_eqb b a (λ e. ne (sym e)))) (cases_eq a b)
@@ -60,31 +59,3 @@ pub left_at : (i k n : ℕ) (keys : List (Option ℕ × ℕ × ℕ)) (list : Lis
     → unwrap_or (position_from (same_left (Some i, k, n)) 0 keys) 0 ≡ first_calling (leaves i k n) list
 left_at i k n keys list are = ap (λ ks. unwrap_or (position_from (same_left (Some i, k, n)) 0 ks) 0) are
     ∙ ap (λ p. unwrap_or p 0) (position_map left_key (same_left (Some i, k, n)) (leaves i k n) (left_same i k n) 0 list)
-
--- ---- calls that no instance makes, behind those of instances
-
-unless_called : {U : Type 0} (caller : Option U) (test : U → Bool) → is_some caller ≡ false → option_map_or test caller false ≡ false
-unless_called None test none = refl
-unless_called (Some x) test none = cc
-
-never_first : (test : Calling → Bool) → ((c : Calling) → has_caller c ≡ false → test c ≡ false) → (n : ℕ) (outer : List Calling) → list_any has_caller outer ≡ false → position_from test n outer ≡ None
-never_first test fails n [] free = refl
-never_first test fails n (c ∷ outer) free =
-    let parts = or_parts (has_caller c) (list_any has_caller outer) free in
-    ap (λ b. cond b (Some n) (position_from test (n + 1) outer)) (fails c parts.0) ∙ never_first test fails (n + 1) outer parts.1
-
-first_inner : (test : Calling → Bool) → ((c : Calling) → has_caller c ≡ false → test c ≡ false) → (n : ℕ) (inner outer : List Calling) → list_any has_caller outer ≡ false → position_from test n inner ≡ position_from test n (inner ++ outer)
-first_inner test fails n [] outer free = sym (never_first test fails n outer free)
-first_inner test fails n (c ∷ inner) outer free = ap (λ rest. cond (test c) (Some n) rest) (first_inner test fails (n + 1) inner outer free)
-
-calling_fails : (i m k n : ℕ) (c : Calling) → has_caller c ≡ false → is_calling (i, m) k n c ≡ false
-calling_fails i m k n c none = ap (λ b. b && (nat_eq c.port k && nat_eq c.item n)) (unless_called c.caller (λ x. nat_eq x.0 i && nat_eq x.1 m) none)
-
-leaving_fails : (i k n : ℕ) (c : Calling) → has_caller c ≡ false → leaves i k n c ≡ false
-leaving_fails i k n c none = ap (λ b. (b && c.asynchronous) && (nat_eq c.port k && nat_eq c.item n)) (unless_called c.caller (λ x. nat_eq x.0 i) none)
-
-pub called_first : (i m k n : ℕ) (inner outer : List Calling) → list_any has_caller outer ≡ false → first_calling (is_calling (i, m) k n) inner ≡ first_calling (is_calling (i, m) k n) (inner ++ outer)
-called_first i m k n inner outer free = ap (λ p. unwrap_or p 0) (first_inner (is_calling (i, m) k n) (calling_fails i m k n) 0 inner outer free)
-
-pub left_first : (i k n : ℕ) (inner outer : List Calling) → list_any has_caller outer ≡ false → first_calling (leaves i k n) inner ≡ first_calling (leaves i k n) (inner ++ outer)
-left_first i k n inner outer free = ap (λ p. unwrap_or p 0) (first_inner (leaves i k n) (leaving_fails i k n) 0 inner outer free)

@@ -1,3 +1,2 @@
 pub mod Users
 pub mod Served
-pub mod Numbered

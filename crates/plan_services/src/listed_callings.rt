@@ -1,9 +1,9 @@
 //! Calls in their order, and the numbers of the points at which they are made.
 
-ghost use Rattle.std.specs.Prelude.{◌≡◌, ◌<◌, ◌^◌, IfOk, length, map};
+ghost use Rattle.std.specs.Prelude.{◌≡◌, IfOk, map};
 ghost use Rattle.plan_definitions.specs.Callings.{call_key, left_key};
 
-use crate::callings::{instance_callings, push_outer_callings};
+use crate::callings::callings_of;
 use description_types::Description;
 use flat_descriptions::Flat;
 use plan_definitions::Calling;
@@ -51,7 +51,6 @@ fn left_keys(alloc: Global, list: &[Calling]) -> Result<Vec<EndKey>, Memory>
 }
 
 fn calls_of(alloc: Global, list: &[Calling]) -> Result<Numbers<CallKey>, Memory>
-    requires { length list.now < 2 ^ 32 }
     ensures { IfOk result (λ numbers. numbers ≡ map call_key list.now) }
 {
     let keys = call_keys(alloc, list)?;
@@ -59,14 +58,13 @@ fn calls_of(alloc: Global, list: &[Calling]) -> Result<Numbers<CallKey>, Memory>
 }
 
 fn left_of(alloc: Global, list: &[Calling]) -> Result<Numbers<EndKey>, Memory>
-    requires { length list.now < 2 ^ 32 }
     ensures { IfOk result (λ numbers. numbers ≡ map left_key list.now) }
 {
     let keys = left_keys(alloc, list)?;
     Numbers::of(alloc, keys.as_slice())
 }
 
-/// Calls, seen as their list. Those of instances, which stand first, are found by hash.
+/// Calls, seen as their list, found by hash.
 #[derive(Drop)]
 pub struct Callings {
     list: Vec<Calling>,
@@ -75,15 +73,15 @@ pub struct Callings {
 }
 
 impl Model for Callings {
-    ghost use Rattle.std.specs.Prelude.{List};
+    ghost use Rattle.std.specs.Prelude.{◌≡◌, List, map};
     ghost use Rattle.plan_definitions.specs.declared.calling.Calling.{Calling};
-    ghost use Rattle.plan_services.specs.Numbered.{AreNumbered};
+    ghost use Rattle.plan_definitions.specs.Callings.{call_key, left_key};
 
     ghost Value = { List Calling };
 
     ghost view = { λ c. c.list.items };
 
-    ghost invariant = { λ c. AreNumbered c.calls c.left c.list.items };
+    ghost invariant = { λ c. (c.calls ≡ map call_key c.list.items) × (c.left ≡ map left_key c.list.items) };
 }
 
 impl Callings {
@@ -97,10 +95,9 @@ impl Callings {
         requires { HasFewThings d.now f.now }
         ensures { IfOk result (λ found. found ≡ callings d.now f.now) }
     {
-        let mut list = instance_callings(alloc, d, f)?;
+        let list = callings_of(alloc, d, f)?;
         let calls = calls_of(alloc, list.as_slice())?;
         let left = left_of(alloc, list.as_slice())?;
-        push_outer_callings(&mut list, d, f)?;
         Ok(Callings { list, calls, left })
     }
 

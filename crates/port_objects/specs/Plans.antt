@@ -28,7 +28,7 @@ IsOfOneKind p g true = QueuesFit p g
 IsOfOneKind p g false = IsUnqueuedGroup p g
 
 -- groups list their elements and are of one kind each, servers and machines are such that are made and own the points and events that name
--- them, the objects and events are counted, and no period is empty
+-- them, the objects and events are counted, 32 bits number the points, and no period is empty
 pub record HasObjects (p : Plan) : Type 0 where
   pub groups : groups_fit p ≡ true
   pub kinds : (group : ℕ) → group < length p.groups → IsOfOneKind p group (has_queues p group)
@@ -38,4 +38,5 @@ pub record HasObjects (p : Plan) : Type 0 where
   pub theirs : AreTheirs p
   pub counted : objects_counted p ≡ true
   pub few_events : nat_le (length p.events) 16384 ≡ true
+  pub few_points : length p.points < 2 ^ 32
   pub periods : have_periods p ≡ true

@@ -19,11 +19,10 @@ use machine_objects::{MachineObject, mattering_events};
 use object_kinds::{take_list, waiting_events};
 use queue_objects::QueueGroup;
 use server_objects::{ServerObject, joined_points, return_events};
-use std::alloc::{AllocError, Global};
+use std::alloc::Global;
 
 /// The objects of a plan, to which nothing has happened: one for each group, one for each server, one for each area, one for each mode
-/// machine, and then the clock, so that each stands at its number. The only error is that there is no memory for them, which there is not
-/// for the points of a plan that 32 bits do not count; what comes later on them takes none.
+/// machine, and then the clock, so that each stands at its number. The only error is that there is no memory for them; what comes later on them takes none.
 pub fn make_objects(alloc: Global, p: &BusPlan) -> Result<Vec<Object>, Memory>
     requires sound { HasObjects (plan_of p.now) }
     ensures kept { IfOk result (λ objects. map kept_of objects.items ≡ opening (plan_of p.now)) }
@@ -69,7 +68,6 @@ fn push_servers(alloc: Global, p: &BusPlan, objects: &mut Vec<Object>) -> Result
     ensures { OnOk result (AreFirst (plan_of p.now) (before_areas (plan_of p.now)) objects.new.items) }
 {
     server_objects::first_servers_stand_for_nothing();
-    count_points(p)?;
     let mut points = joined_points(alloc, p)?;
     let mut returns = return_events(alloc, p)?;
     for server in 0..p.servers.len() as u32 {
@@ -77,16 +75,6 @@ fn push_servers(alloc: Global, p: &BusPlan, objects: &mut Vec<Object>) -> Result
         let awaited = take_list(alloc, &mut returns, server);
         let made = ServerObject::new(alloc, p, server, called, awaited)?;
         objects.push(Object::Server(made))?;
-    }
-    Ok(())
-}
-
-/// Is out of memory for a plan with more points than 32 bits count.
-fn count_points(p: &BusPlan) -> Result<(), Memory>
-    ensures { OnOk result (length p.now.points < 2 ^ 32) }
-{
-    if p.points.len() > u32::MAX as usize {
-        return Err(AllocError);
     }
     Ok(())
 }

@@ -5,6 +5,7 @@ pub mod Limits
 pub mod Reading
 pub mod Pieces
 pub mod Index
+pub mod Numbers
 pub mod Sentences
 pub mod Scripts
 pub mod Carried

@@ -4,6 +4,7 @@ ghost use Rattle.std.specs.Prelude.{◌≡◌, IfOk, OnOk, option_copied, true};
 ghost use Rattle.std.specs.List.{list_all};
 ghost use Rattle.bus_semantics.specs.Plan.{plan_of};
 ghost use Rattle.script_reading.specs.Index.{IsIndex, IsNoted, has_few_modes};
+ghost use Rattle.script_reading.specs.Numbers.{HasFewNumbers};
 ghost use Rattle.script_reading.specs.Offers.{mode_in, mode_of, number_of};
 ghost use Rattle.script_reading.specs.declared.forms.Form.TheVariants.{Ask, Read, Receive, SeeMode, Send, Switch, Write};
 
@@ -12,7 +13,7 @@ use crate::offers::{how_many, offered};
 use bus_semantics::{BusPlan, MachinePlan};
 use indexmap::IndexMap;
 use rte_text::Memory;
-use std::alloc::{AllocError, Global};
+use std::alloc::Global;
 
 /// The elements of the environment by name, found by hash.
 #[derive(Drop)]
@@ -57,35 +58,22 @@ fn note<'p>(
     Ok(())
 }
 
-/// The things that the form is for by name, the first one's number where a name is doubled. More than a `u32` can
-/// number count as want of memory.
+/// The things that the form is for by name, the first one's number where a name is doubled.
 fn index_of<'p>(
     alloc: Global,
     plan: &'p BusPlan,
     form: Form,
 ) -> Result<IndexMap<&'p [u8], u32>, Memory>
+    requires { HasFewNumbers (plan_of plan.now) }
     ensures { IfOk result (λ index. IsIndex form (plan_of plan.now) index) }
 {
-    let count = match u32::try_from(how_many(plan, form)) {
-        Ok(count) => count,
-        Err(_) => return Err(AllocError),
-    };
     let mut places = IndexMap::new(alloc);
-    let mut left = count;
+    let mut left = how_many(plan, form) as u32;
     while left > 0 {
         left -= 1;
         note(&mut places, left, offered(plan, form, left as usize))?;
     }
     Ok(places)
-}
-
-/// Whether the modes of each machine can be numbered by a `u32`.
-fn have_few_modes(machines: &[MachinePlan]) -> bool
-    ensures { result ≡ list_all has_few_modes machines.now }
-{
-    machines
-        .iter()
-        .all(|machine| machine.modes.len() <= 4_294_967_295)
 }
 
 /// The number of the machine's first mode that has the name.
@@ -103,6 +91,7 @@ fn mode_in(machine: &MachinePlan, name: &[u8]) -> Option<u32>
 
 impl<'p> Elements<'p> {
     fn of(alloc: Global, plan: &'p BusPlan) -> Result<Elements<'p>, Memory>
+        requires { HasFewNumbers (plan_of plan.now) }
         ensures { IfOk result (λ elements. elements.plan.now ≡ plan.now) }
     {
         let written = index_of(alloc, plan, Form::Write)?;
@@ -120,13 +109,11 @@ impl<'p> Elements<'p> {
 }
 
 impl<'p> Environment<'p> {
-    /// What the environment of the plan has. More modes of a machine than a `u32` can number count as want of memory.
+    /// What the environment of the plan has.
     pub fn of(alloc: Global, plan: &'p BusPlan) -> Result<Environment<'p>, Memory>
+        requires { HasFewNumbers (plan_of plan.now) }
         ensures { IfOk result (λ environment. environment.plan.now ≡ plan.now) }
     {
-        if !have_few_modes(plan.machines.items()) {
-            return Err(AllocError);
-        }
         let elements = Elements::of(alloc, plan)?;
         let points = index_of(alloc, plan, Form::Ask)?;
         let machines = index_of(alloc, plan, Form::Switch)?;

@@ -1,5 +1,0 @@
-use Rattle.plan_numbers.proofs.Few.{few_outer}
-use Rattle.plan_services.proofs.callings.push_outer_callings.Goals as goal
-
-pub push_outer_ports-requires-clause-ports : goal.push_outer_ports-requires-clause-ports
-push_outer_ports-requires-clause-ports c = few_outer c.args.d.now c.ports_of.result.now c.ports_of.ensures c.requires

@@ -1,0 +1,13 @@
+-- How many things of a plan go by name.
+use Rattle.std.specs.Prelude.{◌≡◌, ◌<◌, ◌^◌, length, true}
+use Rattle.std.specs.List.{list_all}
+use Rattle.bus_semantics.specs.Plan.{Plan}
+use Rattle.script_reading.specs.Index.{has_few_modes}
+
+-- 32 bits number the elements, the points, the machines with their modes, and the mode elements
+pub record HasFewNumbers (p : Plan) : Type 0 where
+  pub elements : length p.elements < 2 ^ 32
+  pub points : length p.points < 2 ^ 32
+  pub machines : length p.machines < 2 ^ 32
+  pub mode_ports : length p.mode_ports < 2 ^ 32
+  pub modes : list_all has_few_modes p.machines ≡ true
