@@ -27,7 +27,8 @@ use Rattle.plan_definitions.specs.Things.{machines_of, servers_of}
 use Rattle.plan_definitions.specs.Elements.{Elem, element_of, group_of, kind_of, leaders, queue_of}
 use Rattle.plan_definitions.specs.ElementGroups.{groups, heads}
 use Rattle.plan_definitions.specs.Modes.{machine_at}
-use Rattle.plan_definitions.specs.Services.{server_of}
+use Rattle.plan_definitions.specs.Callings.{callings}
+use Rattle.plan_definitions.specs.Services.{point_of, server_of}
 use Rattle.plan_definitions.specs.Started.{event_of, events}
 use Rattle.plan_definitions.specs.Planned.{areas, areas_at, named_areas, plan_of}
 use Rattle.plan_definitions.specs.PlanRules.{is_queued, is_too_large, received, requested}
@@ -200,4 +201,4 @@ module _ (d : Description) (f : Flat) where
 
 -- the law
 pub plan_counts : (d : Description) (f : Flat) → is_too_large (plan_of d f) ≡ is_past d f
-plan_counts d f = λ i. (nat_lt 16384 (objects_counted d f i) || nat_lt 16384 (events_listed d f i)) || nat_lt 65536 (counted_alike d f (sites d f) (sites_fair d f) i)
+plan_counts d f = λ i. (nat_lt 16384 (objects_counted d f i) || nat_lt 16384 (events_listed d f i)) || (nat_lt 65536 (counted_alike d f (sites d f) (sites_fair d f) i) || nat_lt 262144 (as_long (point_of d f) (callings d f) i))
