@@ -16,15 +16,16 @@ use Rattle.plan_definitions.specs.Elements.{element_of, elements, group_of, lead
 use Rattle.plan_definitions.specs.ElementGroups.{groups}
 use Rattle.plan_definitions.specs.Started.{event_of, events, events_of_component}
 use Rattle.plan_definitions.specs.Modes.{machine_at, machines}
-use Rattle.plan_definitions.specs.Services.{server_of, servers}
+use Rattle.plan_definitions.specs.Callings.{callings}
+use Rattle.plan_definitions.specs.Services.{point_of, points, server_of, servers}
 use Rattle.event_mapping.specs.Foretold.{IsForetold, listed}
-use Rattle.event_mapping.specs.Guard.{event_count, events_of_instance, is_counted, item_count}
+use Rattle.event_mapping.specs.Guard.{event_count, events_of_instance, is_counted, item_count, point_count}
 use Rattle.plan_definitions.specs.Planned.{area_of, areas, areas_at, named_areas, plan_of}
 use Rattle.plan_definitions.specs.PlanRules.{is_too_large, queue_lengths}
 use Rattle.event_mapping.proofs.Alone.{groups_most}
 use Rattle.event_mapping.proofs.Apart.{apart_filter, sites_apart}
 use Rattle.event_mapping.proofs.Spending.{some_left}
-use Rattle.event_mapping.proofs.Totals.{areas_in, by_kind, length_from, sites_counted}
+use Rattle.event_mapping.proofs.Totals.{areas_in, by_kind, callings_counted, length_from, sites_counted}
 
 module _ (d : Description) (f : Flat) where
   events_listed : length (events d f) ≡ event_count d f
@@ -56,22 +57,25 @@ module _ (d : Description) (f : Flat) where
   pub machines_listed : length (machines d f) ≡ length (machines_of d f)
   machines_listed = length-map (machines_of d f) (λ s. machine_at d f s.owner (unwrap_or s.port 0))
 
+  points_listed : length (points d f) ≡ point_count d f
+  points_listed = length-map (callings d f) (point_of d f) ∙ callings_counted d f
+
   all_listed : listed (plan_of d f) ≡ item_count d f
   all_listed =
       let counted = sites_counted d f in
       let kinds : length (elements_of d f) + (length (servers_of d f) + length (machines_of d f)) ≡ length (filter (λ s. is_counted s.kind) (sites d f)) = by_kind (sites d f) in
       omega (arith, counted, kinds, elements_listed, servers_listed, machines_listed, areas_listed)
 
-  -- all but what the ends of joins name are objects, with the clock
-  objects_most : item_count d f < (plan_of d f).objects + (length f.joins + length f.joins)
-  objects_most =
-      let most : length (elements_of d f) ≤ length (groups (leaders d f)) + (length f.joins + length f.joins)
-      = groups_most f.joins (elements_of d f) (apart_filter key_of (λ (s : Site). is_element s.kind) (sites d f) (sites_apart d f)) in
-      omega (arith, all_listed, most, elements_listed)
+  -- all but what the ends of joins name lead a group, and are objects with the clock
+  pub elements_most : length (elements_of d f) ≤ length (groups (leaders d f)) + (length f.joins + length f.joins)
+  elements_most = groups_most f.joins (elements_of d f) (apart_filter key_of (λ (s : Site). is_element s.kind) (sites d f) (sites_apart d f))
 
-  pub foretold : (answer : Bool) (most left rest : ℕ) → answer ≡ ((left == 0) || (rest == 0)) → left ≡ 16385 - event_count d f → rest ≡ most - item_count d f
-      → most ≡ 16384 + (length f.joins + length f.joins) → IsForetold answer d f
-  foretold true most left rest is events_are items_are most_is = ⊎_elim many_events many_objects (or_cases (left == 0) (rest == 0) (sym is))
+  objects_most : item_count d f < (plan_of d f).objects + (length f.joins + length f.joins)
+  objects_most = omega (arith, all_listed, elements_most, elements_listed)
+
+  pub foretold : (answer : Bool) (most left few rest : ℕ) → answer ≡ ((left == 0) || ((few == 0) || (rest == 0))) → left ≡ 16385 - event_count d f → few ≡ 262145 - point_count d f
+      → rest ≡ most - item_count d f → most ≡ 16384 + (length f.joins + length f.joins) → IsForetold answer d f
+  foretold true most left few rest is events_are points_are items_are most_is = ⊎_elim many_events (λ h. ⊎_elim many_points many_objects (or_cases (few == 0) (rest == 0) h)) (or_cases (left == 0) ((few == 0) || (rest == 0)) (sym is))
     where
       objects_over : Bool
       objects_over = nat_lt 16384 (plan_of d f).objects
@@ -82,13 +86,28 @@ module _ (d : Description) (f : Flat) where
       lengths_over : Bool
       lengths_over = nat_lt 65536 (queue_lengths (plan_of d f))
 
+      points_over : Bool
+      points_over = nat_lt 262144 (length (points d f))
+
       many_events : (left == 0) ≡ true → is_too_large (plan_of d f) ≡ true
-      many_events none = let spent = eqb-true left 0 none in or_left (objects_over || events_over) lengths_over (or_right objects_over events_over (lt-ltb 16384 (length (events d f)) (omega (arith, spent, events_listed, events_are))))
+      many_events none = let spent = eqb-true left 0 none in or_left (objects_over || events_over) (lengths_over || points_over)
+          (or_right objects_over events_over (lt-ltb 16384 (length (events d f)) (omega (arith, spent, events_listed, events_are))))
+
+      many_points : (few == 0) ≡ true → is_too_large (plan_of d f) ≡ true
+      many_points none = let spent = eqb-true few 0 none in or_right (objects_over || events_over) (lengths_over || points_over)
+          (or_right lengths_over points_over (lt-ltb 262144 (length (points d f)) (omega (arith, spent, points_listed, points_are))))
 
       many_objects : (rest == 0) ≡ true → is_too_large (plan_of d f) ≡ true
-      many_objects none = let spent = eqb-true rest 0 none in or_left (objects_over || events_over) lengths_over (or_left objects_over events_over (lt-ltb 16384 (plan_of d f).objects (omega (arith, spent, objects_most, items_are, most_is))))
-  foretold false most left rest is events_are items_are most_is =
-      let parts = or_parts (left == 0) (rest == 0) (sym is) in
-      let few = some_left left parts.0 in
-      let short = some_left rest parts.1 in
-      (omega (arith, all_listed, short, items_are, most_is), omega (arith, few, events_listed, events_are))
+      many_objects none = let spent = eqb-true rest 0 none in or_left (objects_over || events_over) (lengths_over || points_over)
+          (or_left objects_over events_over (lt-ltb 16384 (plan_of d f).objects (omega (arith, spent, objects_most, items_are, most_is))))
+  foretold false most left few rest is events_are points_are items_are most_is =
+      let parts = or_parts (left == 0) ((few == 0) || (rest == 0)) (sym is) in
+      let others = or_parts (few == 0) (rest == 0) parts.1 in
+      let events_left = some_left left parts.0 in
+      let points_left = some_left few others.0 in
+      let items_left = some_left rest others.1 in
+      record {
+        objects = omega (arith, all_listed, items_left, items_are, most_is);
+        events = omega (arith, events_left, events_listed, events_are);
+        points = omega (arith, points_left, points_listed, points_are);
+      }

@@ -20,5 +20,5 @@ many n is = by (nat_le n 16384) refl is
     by false h is = let more = leb-false n 16384 h in lt-ltb 16384 n (omega (arith, more))
 
 pub too_many : (p : Planned) (n : ℕ) → None ≡ few_objects n → n ≡ p.objects → is_too_large p ≡ true
-too_many p n none is = or_left (nat_lt 16384 p.objects || nat_lt 16384 (length p.events)) (nat_lt 65536 (queue_lengths p))
+too_many p n none is = or_left (nat_lt 16384 p.objects || nat_lt 16384 (length p.events)) (nat_lt 65536 (queue_lengths p) || nat_lt 262144 (length p.points))
     (or_left (nat_lt 16384 p.objects) (nat_lt 16384 (length p.events)) (subst (λ m. nat_lt 16384 m ≡ true) is (many n none)))

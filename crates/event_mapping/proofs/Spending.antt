@@ -6,10 +6,8 @@ use Rattle.std.specs.List.{sum_by}
 use Rattle.std.specs.Option.{option_map_or}
 use Rattle.description_types.specs.declared.component.Component.{Component}
 use Rattle.description_types.specs.declared.description.Description.{Description}
-use Rattle.flat_descriptions.specs.declared.flat.Flat.{Flat}
 use Rattle.flat_descriptions.specs.declared.flat.Instance.{Instance}
-use Rattle.plan_definitions.specs.Sites.{root_ports}
-use Rattle.event_mapping.specs.Guard.{at_most, item_count, items_in, items_of_instance, items_of_ports}
+use Rattle.event_mapping.specs.Guard.{at_most}
 use Rattle.event_mapping.proofs.Totals.{looked_up}
 
 -- the turn of a loop
@@ -30,21 +28,23 @@ capped h g most each (x ∷ xs) =
 none_more : (most : ℕ) → 0 ≡ most - (most - 0)
 none_more most = omega arith
 
-module _ (d : Description) (most : ℕ) (counts : List ℕ) (are : counts ≡ map (at_most most (items_in d.types)) d.components) where
-  each : (x : Instance) → unwrap_or (slice_get counts x.component) 0 ≡ most - (most - items_of_instance d x)
-  each x = (λ j. unwrap_or (slice_get (are j) x.component) 0) ∙ looked_up (at_most most (items_in d.types)) d.components x.component ∙ by (slice_get d.components x.component)
+-- as many for each instance as its component has, by a list of counts
+module _ (d : Description) (most : ℕ) (g : Component → ℕ) (counts : List ℕ) (are : counts ≡ map (at_most most g) d.components) where
+  each : (x : Instance) → unwrap_or (slice_get counts x.component) 0 ≡ most - (most - option_map_or g (slice_get d.components x.component) 0)
+  each x = (λ j. unwrap_or (slice_get (are j) x.component) 0) ∙ looked_up (at_most most g) d.components x.component ∙ by (slice_get d.components x.component)
     where
-      by : (o : Option Component) → option_map_or (at_most most (items_in d.types)) o 0 ≡ most - (most - option_map_or (items_in d.types) o 0)
+      by : (o : Option Component) → option_map_or (at_most most g) o 0 ≡ most - (most - option_map_or g o 0)
       by None = none_more most
       by (Some c) = refl
 
-  pub items_spent : (f : Flat) (inner left : ℕ) → inner ≡ most - sum_by (λ x. unwrap_or (slice_get counts x.component) 0) f.instances → left ≡ inner - items_of_ports d.types None (root_ports d)
-      → left ≡ most - item_count d f
-  items_spent f inner left first second =
-      let same = capped (λ (x : Instance). unwrap_or (slice_get counts x.component) 0) (items_of_instance d) most each f.instances in
-      omega (arith, same, first, second)
+  pub instances_spent : (xs : List Instance) (inner : ℕ) → inner ≡ most - sum_by (λ x. unwrap_or (slice_get counts x.component) 0) xs
+      → inner ≡ most - sum_by (λ x. option_map_or g (slice_get d.components x.component) 0) xs
+  instances_spent xs inner is = is ∙ capped (λ (x : Instance). unwrap_or (slice_get counts x.component) 0) (λ (x : Instance). option_map_or g (slice_get d.components x.component) 0) most each xs
 
--- three sums after one another
+-- two sums after one another, and three
+pub two_spent : (whole a b left new : ℕ) → left ≡ whole - a → new ≡ left - b → new ≡ whole - (a + b)
+two_spent whole a b left new first second = omega (arith, first, second)
+
 pub three_spent : (whole a b c left rest new : ℕ) → left ≡ whole - a → rest ≡ left - b → new ≡ rest - c → new ≡ whole - (a + (b + c))
 three_spent whole a b c left rest new first second third = omega (arith, first, second, third)
 

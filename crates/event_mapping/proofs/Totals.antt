@@ -3,26 +3,34 @@ use Rattle.std.proofs.Common.{◌≡◌, ℕ, zero, suc, ◌+◌, List, [], ◌�
 use Rattle.std.proofs.lemmas.List.{length-append}
 use Rattle.std.proofs.lemmas.List.Elements.{filter-append}
 use Rattle.std.proofs.lemmas.List.Sums.{sum_by-cons}
-use Rattle.std.specs.List.{sum_by}
+use Rattle.std.specs.List.{flat_map, sum_by}
 use Rattle.std.specs.Option.{option_map_or}
+use Rattle.runnable_lang.specs.declared.program.AccessKind.{AccessKind}
+use Rattle.runnable_lang.specs.declared.program.AccessKind.TheVariants as kind
+use Rattle.interface_types.specs.declared.interface.ComSpec.{ComSpec}
 use Rattle.interface_types.specs.declared.interface.Interface.{Interface}
 use Rattle.interface_types.specs.declared.interface.InterfaceKind.{InterfaceKind}
 use Rattle.interface_types.specs.declared.interface.InterfaceKind.TheVariants.{SenderReceiver, ClientServer, ModeSwitch}
 use Rattle.interface_types.specs.declared.interface.TypeTable.{TypeTable}
+use Rattle.description_types.specs.declared.component.Access.{Access}
 use Rattle.description_types.specs.declared.component.Component.{Component}
 use Rattle.description_types.specs.declared.component.Port.{Port}
 use Rattle.description_types.specs.declared.component.PortKind.{PortKind}
 use Rattle.description_types.specs.declared.component.PortKind.TheVariants.{Provided, Required}
+use Rattle.description_types.specs.declared.component.Runnable.{Runnable}
 use Rattle.description_types.specs.declared.description.Description.{Description}
 use Rattle.flat_descriptions.specs.declared.flat.Flat.{Flat}
 use Rattle.flat_descriptions.specs.declared.flat.Instance.{Instance}
 use Rattle.plan_definitions.specs.declared.site.Site.{Site}
 use Rattle.plan_definitions.specs.declared.site.SiteKind.{SiteKind}
 use Rattle.plan_definitions.specs.declared.site.SiteKind.TheVariants.{Element, Variable, Server, Machine, ModePort}
+use Rattle.plan_definitions.specs.Callings.{calling_of, callings, callings_in, callings_of_component, operations_at, outer_calling, outer_callings}
 use Rattle.plan_definitions.specs.Keys.{is_element, is_machine, is_server}
 use Rattle.plan_definitions.specs.Lists.{from, positions}
+use Rattle.plan_definitions.specs.Parts.{of_instances}
 use Rattle.plan_definitions.specs.Sites.{count_at, kind_at, root_ports, shape_at, site, sites, sites_at, sites_of_component, sites_of_instance, sites_of_ports, sites_with, variables_of}
-use Rattle.event_mapping.specs.Guard.{counted_with, is_counted, items_at, items_in, items_of_instance, items_of_ports, item_count}
+use Rattle.event_mapping.specs.Guard.{counted_with, is_counted, items_at, items_in, items_of_instance, items_of_ports, item_count, outer_points, point_count, points_at, points_in, points_of_instance, points_of_runnable}
+use Rattle.event_mapping.proofs.Alone.{as_many}
 
 -- ---- lists that are made of others
 
@@ -167,3 +175,53 @@ pub looked_up : {X : Type 0} (g : X → ℕ) (xs : List X) (n : ℕ) → unwrap_
 looked_up g [] n = refl
 looked_up g (x ∷ xs) zero = refl
 looked_up g (x ∷ xs) (suc n) = looked_up g xs n
+
+-- ---- points
+
+call_counted : (i m : ℕ) (k : AccessKind) (port item : ℕ) → length (calling_of i m (record { kind = k; port = port; item = item })) ≡ points_at (record { kind = k; port = port; item = item })
+call_counted i m kind.Write port item = refl
+call_counted i m kind.Read port item = refl
+call_counted i m kind.Invalidate port item = refl
+call_counted i m kind.IsUpdated port item = refl
+call_counted i m kind.Send port item = refl
+call_counted i m kind.Receive port item = refl
+call_counted i m kind.IWrite port item = refl
+call_counted i m kind.IRead port item = refl
+call_counted i m kind.IrvWrite port item = refl
+call_counted i m kind.IrvRead port item = refl
+call_counted i m kind.IrvIWrite port item = refl
+call_counted i m kind.IrvIRead port item = refl
+call_counted i m kind.Call port item = refl
+call_counted i m kind.ACall port item = refl
+call_counted i m kind.TakeResult port item = refl
+call_counted i m kind.Switch port item = refl
+call_counted i m kind.Mode port item = refl
+call_counted i m kind.Enter port item = refl
+
+calls_counted : (i m : ℕ) (accesses : List Access) → length (flat_map (calling_of i m) accesses) ≡ sum_by points_at accesses
+calls_counted i m [] = refl
+calls_counted i m (a ∷ accesses) =
+    let one : length (calling_of i m a) ≡ points_at a = call_counted i m a.kind a.port a.item in
+    omega (arith, length-append (calling_of i m a) (flat_map (calling_of i m) accesses), one, calls_counted i m accesses, sum_by-cons points_at a accesses)
+
+at_outer : (d : Description) (k : ℕ) (side : PortKind) (name : List ℕ) (interface : ℕ) (specs : List ComSpec)
+    → length (outer_callings d k (record { kind = side; short_name = name; interface = interface; com_specs = specs })) ≡ outer_points d (record { kind = side; short_name = name; interface = interface; com_specs = specs })
+at_outer d k Provided name interface specs = as_many (outer_calling k) 0 (operations_at d (record { kind = Provided; short_name = name; interface = interface; com_specs = specs }))
+at_outer d k Required name interface specs = refl
+
+module _ (d : Description) (f : Flat) where
+  pub callings_counted : length (callings d f) ≡ point_count d f
+  callings_counted = length-append (of_instances callings_of_component d f) (from 0 (outer_callings d) (root_ports d)) ∙ (λ j. inner j + outer j)
+    where
+      each : (i : ℕ) (x : Instance) → length (option_map_or (callings_of_component i) (slice_get d.components x.component) []) ≡ points_of_instance d x
+      each i x = by (slice_get d.components x.component)
+        where
+          by : (o : Option Component) → length (option_map_or (callings_of_component i) o []) ≡ option_map_or points_in o 0
+          by None = refl
+          by (Some c) = length_from (callings_in i) points_of_runnable (λ m (r : Runnable). calls_counted i m r.accesses) 0 c.behavior.runnables
+
+      inner : length (of_instances callings_of_component d f) ≡ sum_by (points_of_instance d) f.instances
+      inner = length_from (λ i (x : Instance). option_map_or (callings_of_component i) (slice_get d.components x.component) []) (points_of_instance d) each 0 f.instances
+
+      outer : length (from 0 (outer_callings d) (root_ports d)) ≡ sum_by (outer_points d) (root_ports d)
+      outer = length_from (outer_callings d) (outer_points d) (λ k (p : Port). at_outer d k p.kind p.short_name p.interface p.com_specs) 0 (root_ports d)

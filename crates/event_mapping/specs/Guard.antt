@@ -1,14 +1,21 @@
 -- How much a plan would list, counted before anything is listed.
 use Rattle.std.specs.Prelude.{ℕ, ◌+◌, ◌-◌, List, length, sum_by, Bool, true, false, slice_get, Option, Some, None, if◌then◌else◌}
 use Rattle.std.specs.Option.{option_map_or}
+use Rattle.runnable_lang.specs.declared.program.AccessKind.{AccessKind}
+use Rattle.runnable_lang.specs.declared.program.AccessKind.TheVariants as kind
 use Rattle.interface_types.specs.declared.interface.TypeTable.{TypeTable}
+use Rattle.description_types.specs.declared.component.Access.{Access}
 use Rattle.description_types.specs.declared.component.Component.{Component}
 use Rattle.description_types.specs.declared.component.Port.{Port}
+use Rattle.description_types.specs.declared.component.PortKind.{PortKind}
+use Rattle.description_types.specs.declared.component.PortKind.TheVariants.{Provided, Required}
+use Rattle.description_types.specs.declared.component.Runnable.{Runnable}
 use Rattle.description_types.specs.declared.description.Description.{Description}
 use Rattle.flat_descriptions.specs.declared.flat.Flat.{Flat}
 use Rattle.flat_descriptions.specs.declared.flat.Instance.{Instance}
 use Rattle.plan_definitions.specs.declared.site.SiteKind.{SiteKind}
 use Rattle.plan_definitions.specs.declared.site.SiteKind.TheVariants.{ModePort}
+use Rattle.plan_definitions.specs.Callings.{operations_at}
 use Rattle.plan_definitions.specs.Sites.{root_ports, shape_at}
 
 -- data elements, variables, servers and mode machines; a required mode element has its machine elsewhere
@@ -42,6 +49,35 @@ item_count d f = sum_by (items_of_instance d) f.instances + items_of_ports d.typ
 
 abbrev pub event_count : Description → Flat → ℕ
 event_count d f = sum_by (events_of_instance d) f.instances
+
+-- points: one for each call of a runnable, and one for each operation that the root provides
+abbrev pub points_at : Access → ℕ
+points_at a = by_kind a.kind
+  where
+    by_kind : AccessKind → ℕ
+    by_kind kind.Call = 1
+    by_kind kind.ACall = 1
+    by_kind _ = 0
+
+abbrev pub points_of_runnable : Runnable → ℕ
+points_of_runnable r = sum_by points_at r.accesses
+
+-- those of an instance: as many for each instance of a component
+abbrev pub points_in : Component → ℕ
+points_in c = sum_by points_of_runnable c.behavior.runnables
+
+abbrev pub points_of_instance : Description → Instance → ℕ
+points_of_instance d x = option_map_or points_in (slice_get d.components x.component) 0
+
+abbrev pub outer_points : Description → Port → ℕ
+outer_points d port = by_kind port.kind
+  where
+    by_kind : PortKind → ℕ
+    by_kind Required = 0
+    by_kind Provided = operations_at d port
+
+abbrev pub point_count : Description → Flat → ℕ
+point_count d f = sum_by (points_of_instance d) f.instances + sum_by (outer_points d) (root_ports d)
 
 -- as many, but no more than so many
 abbrev pub at_most : {X : Type 0} → ℕ → (X → ℕ) → X → ℕ

@@ -13,6 +13,9 @@ pub const OBJECTS: u32 = 16_384;
 /// How many events a plan may have.
 pub const EVENTS: usize = 16_384;
 
+/// How many points a plan may have at which operations are called.
+pub const POINTS: usize = 262_144;
+
 /// How long all queues may be together.
 const QUEUES: u32 = 65_536;
 
@@ -87,16 +90,17 @@ fn after_queues(plan: &BusPlan) -> u32
     after_switches(requested, plan.machines.items())
 }
 
-fn is_beyond(objects: u32, events: usize, left: u32) -> bool
-    ensures { result ≡ ((nat_lt 16384 objects || nat_lt 16384 events) || (left == 0)) }
+fn is_beyond(objects: u32, events: usize, left: u32, points: usize) -> bool
+    ensures { result ≡ ((nat_lt 16384 objects || nat_lt 16384 events) || ((left == 0) || nat_lt 262144 points)) }
 {
-    objects > OBJECTS || events > EVENTS || left == 0
+    (objects > OBJECTS || events > EVENTS) || (left == 0 || points > POINTS)
 }
 
-/// Whether a plan has more than 16,384 objects or events, or its queues are together longer than 65,536.
+/// Whether a plan has more than 16,384 objects or events, its queues are together longer than 65,536, or it has more than 262,144
+/// points.
 pub fn is_too_large(plan: &BusPlan) -> bool
     ensures { result ≡ is_too_large (seen plan.now) }
 {
     let left = after_queues(plan);
-    is_beyond(plan.objects, plan.events.len(), left)
+    is_beyond(plan.objects, plan.events.len(), left, plan.points.len())
 }

@@ -1,0 +1,14 @@
+use Rattle.std.proofs.Common.{◌-◌, ◌∙◌, ap, map, slice_get, sum_by}
+use Rattle.std.specs.Option.{unwrap_or}
+use Rattle.plan_definitions.specs.Sites.{root_ports}
+use Rattle.event_mapping.specs.Guard.{at_most, outer_points, points_in, points_of_instance}
+use Rattle.event_mapping.proofs.Spending.{instances_spent, two_spent}
+use Rattle.event_mapping.proofs.guard.after_points.Goals as goal
+
+pub returns : goal.returns
+returns c = two_spent c.args.most (sum_by (points_of_instance c.args.d.now) c.args.f.now.instances) (sum_by (outer_points c.args.d.now) (root_ports c.args.d.now)) c.after_instances-inner.result c.after_outer-left.result
+    (instances_spent c.args.d.now c.args.most points_in c.as_slice.result.now
+    (c.as_slice.ensures.value ∙ c.in_ok-counts.ensures ∙ ap (map (at_most c.args.most points_in)) c.items.ensures)
+    c.args.f.now.instances c.after_instances-inner.result
+    (c.after_instances-inner.ensures ∙ ap (λ xs. c.args.most - sum_by (λ x. unwrap_or (slice_get c.as_slice.result.now x.component) 0) xs) c.items-2.ensures))
+    (c.after_outer-left.ensures ∙ ap (λ ps. c.after_instances-inner.result - sum_by (outer_points c.args.d.now) ps) c.root_ports.ensures)
