@@ -124,9 +124,10 @@ fn mapped_plan(alloc: Global, d: &Description, f: &Flat) -> Result<(BusPlan, Map
 /// - The mapping and the instances keep those that `check_mapping` names: 25 at the mapped event, a JSON pointer; 26 and 28 at
 ///   `INSTANCE.EVENT`; 27 at `INSTANCE:RUNNABLE`; 29 at `/mapping`.
 /// - The plan has at most 16,384 objects (groups of elements, servers, exclusive areas, mode machines, and the clock) and 16,384
-///   events, and the queue lengths of all receivers, queued servers and mode machines are together at most 65,536 (30, at
-///   `/mapping`). Every required queued element is a receiver, joined or not, the environment's too. Too many objects or events
-///   are told from counts, before the plan and the mapping are listed, unless joins may put enough elements into common groups.
+///   events, the queue lengths of all receivers, queued servers and mode machines are together at most 65,536, and there are at
+///   most 262,144 points, one for each call of a runnable and one for each operation that the root provides (30, at `/mapping`).
+///   Every required queued element is a receiver, joined or not, the environment's too. Too many objects, events or points are
+///   told from counts, before the plan and the mapping are listed, unless joins may put enough elements into common groups.
 ///
 /// The types of the description fit and it has few parts, as a description has that is read from a file; and rule 10 holds: it has at
 /// most 1,024 instances and 65,536 joins. So 32 bits number what a plan numbers.
