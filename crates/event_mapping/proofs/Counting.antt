@@ -120,7 +120,7 @@ fewer a b leads (x ∷ xs) = by (a x) refl (b x) refl (fewer a b leads xs)
     by false is true also rest = omega (arith, rest)
     by false is false other rest = rest
 
-few_mode_ports : (d : Description) (f : Flat) → length (mode_ports_of d f) ≤ length f.joins + length f.joins
+pub few_mode_ports : (d : Description) (f : Flat) → length (mode_ports_of d f) ≤ length f.joins + length f.joins
 few_mode_ports d f =
     let at = of_kind is_mode_port d f in
     let most : length (mode_ports_of d f) ≤ length (filter (named f.joins) at) = fewer (has_machine f.joins) (named f.joins) (machine_named f.joins) at in

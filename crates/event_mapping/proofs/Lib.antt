@@ -8,3 +8,4 @@ pub mod Spending
 pub mod Sized
 pub mod Foretelling
 mod Counting
+pub mod FewNumbers
