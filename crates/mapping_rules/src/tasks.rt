@@ -170,7 +170,7 @@ fn made(alloc: Global, mapped: &Mapped<'_>) -> Result<(Mapping, Vec<bool>), Memo
 ///
 /// SWS_RTE: RteEventToTaskMapping.
 pub fn list_mapping(alloc: Global, kept: KeptMapping<'_>) -> Result<(Mapping, Vec<bool>), Memory>
-    requires { length (events_of kept.entry.d.now kept.entry.f.now) < 2 ^ 32 }
+    requires { length (events_of kept.d.now kept.f.now) < 2 ^ 32 }
     ensures mapping { IfOk result (λ found. found.0 ≡ mapping_of kept.entry.d.now kept.entry.f.now) }
     ensures mapped { IfOk result (λ found. found.1.items ≡ are_mapped kept.entry.d.now kept.entry.f.now) }
 {

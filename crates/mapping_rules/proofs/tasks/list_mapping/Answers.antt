@@ -1,7 +1,12 @@
-use Rattle.std.proofs.Common.{◌≡◌}
+use Rattle.std.proofs.Common.{◌≡◌, ◌<◌, ◌^◌, length, sym}
+use Rattle.plan_definitions.specs.Parts.{events_of}
 use Rattle.plan_definitions.specs.Tasks.{are_mapped, mapping_of}
 use Rattle.mapping_rules.proofs.Telling.{moved}
 use Rattle.mapping_rules.proofs.tasks.list_mapping.Goals as goal
+
+pub made-requires : goal.made-requires
+made-requires c = moved (λ d f. length (events_of d f) < 2 ^ 32) c.args.kept.d.now c.args.kept.mapped.names.d.now c.args.kept.f.now c.args.kept.mapped.names.f.now
+    (sym c.args.kept.of_description) (sym c.args.kept.of_flat) c.requires
 
 pub returns : goal.returns
 returns c = record {
