@@ -1,4 +1,4 @@
 mod FewItems
 mod FewParts
-mod Limits
+pub mod Limits
 pub mod Whole
