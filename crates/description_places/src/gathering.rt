@@ -1,6 +1,6 @@
 //! Gathering what a description declares.
 
-ghost use Rattle.std.specs.Prelude.{◌≡◌, IfOk, OnOk, option_map, string_bytes};
+ghost use Rattle.std.specs.Prelude.{◌≡◌, ◌++◌, IfOk, OnOk, option_map, string_bytes};
 ghost use Rattle.serde_json.specs.View.{view, items_view, members_view};
 ghost use Rattle.description_places.specs.Around.{named, value_at, owner_of};
 ghost use Rattle.description_places.specs.Declarations.{declared_by, declarations, list_of_object, list_of, parts_text, access_name, position_name, name_of, key_of_kind, end_of};
@@ -18,7 +18,7 @@ use crate::distinct::{Declaration, Gathering};
 use crate::keys::{Field, keys_of};
 use crate::kind::Kind;
 use crate::skipping::declares_nothing;
-use crate::trail::Trail;
+use crate::trail::{Trail, begun};
 use crate::walk::part_kinds;
 use itoa::Buffer;
 use rte_text::Memory;
@@ -30,7 +30,7 @@ fn list_of_object(alloc: Global, trail: &Trail) -> Result<String, Memory>
         ≡ list_of_object (owner_of ((spot_of trail.now).around)) ((spot_of trail.now).around)) }
 {
     match owner_of(trail) {
-        Kind::Composition => Ok(String::from_str(alloc, "/components")?),
+        Kind::Composition => Ok(begun(alloc, "/components")?),
         Kind::DataElement | Kind::Operation => place_at(alloc, trail, 2),
         _ => place_at(alloc, trail, 1),
     }
@@ -52,19 +52,20 @@ fn list_of(alloc: Global, kind: Kind, trail: &Trail) -> Result<Option<String>, M
     }
 }
 
-fn access_name(alloc: Global, value: &Value) -> Result<String, Memory>
-    ensures { IfOk result (λ text. string_bytes text ≡ access_name (view value.now)) }
+// The text, with the parts of an access after it.
+fn with_access(start: String, value: &Value) -> Result<String, Memory>
+    ensures { IfOk result (λ text. string_bytes text ≡ string_bytes start ++ access_name (view value.now)) }
 {
     match value.as_array() {
-        Some(parts) => parts_text(alloc, parts),
-        None => Ok(String::new(alloc)),
+        Some(parts) => with_parts(start, parts),
+        None => Ok(start),
     }
 }
 
-fn parts_text(alloc: Global, parts: &[Value]) -> Result<String, Memory>
-    ensures { IfOk result (λ text. string_bytes text ≡ parts_text (items_view parts.now)) }
+fn with_parts(start: String, parts: &[Value]) -> Result<String, Memory>
+    ensures { IfOk result (λ text. string_bytes text ≡ string_bytes start ++ parts_text (items_view parts.now)) }
 {
-    let mut text = String::new(alloc);
+    let mut text = start;
     for number in 0..parts.len() {
         text.push_str(" ")?;
         text.push_str(text_in(&parts[number]))?;
@@ -72,10 +73,12 @@ fn parts_text(alloc: Global, parts: &[Value]) -> Result<String, Memory>
     Ok(text)
 }
 
-fn position_name(alloc: Global, value: &Value, trail: &Trail) -> Result<String, Memory>
-    ensures { IfOk result (λ text. string_bytes text ≡ position_name (value_at 0 ((spot_of trail.now).around)) (view value.now)) }
+// The key of a position in a task, of the list that declares it.
+fn position_key(list: String, value: &Value, trail: &Trail) -> Result<String, Memory>
+    ensures { IfOk result (λ text. string_bytes text
+        ≡ named (string_bytes list) (position_name (value_at 0 ((spot_of trail.now).around)) (view value.now))) }
 {
-    let mut text = String::from_str(alloc, text_around(trail, 0, "task"))?;
+    let mut text = named(list, text_around(trail, 0, "task"))?;
     text.push_str(" ")?;
     let number = value.as_u64().unwrap_or(0);
     text.push_str(Buffer::new().format(number))?;
@@ -83,24 +86,15 @@ fn position_name(alloc: Global, value: &Value, trail: &Trail) -> Result<String, 
 }
 
 // The key of the value, of the list that declares it.
-fn key_in(
-    alloc: Global,
-    list: String,
-    kind: Kind,
-    value: &Value,
-    trail: &Trail,
-) -> Result<String, Memory>
+fn key_in(list: String, kind: Kind, value: &Value, trail: &Trail) -> Result<String, Memory>
     ensures { IfOk result (λ key. string_bytes key
         ≡ named (string_bytes list) (name_of kind (view value.now) ((spot_of trail.now).around))) }
 {
     match kind {
-        Kind::Position => {
-            let name = position_name(alloc, value, trail)?;
-            named(list, name.as_str())
-        }
+        Kind::Position => position_key(list, value, trail),
         Kind::ItemAccess | Kind::VariableAccess | Kind::PortAccess | Kind::AreaAccess => {
-            let name = access_name(alloc, value)?;
-            named(list, name.as_str())
+            let text = named(list, "")?;
+            with_access(text, value)
         }
         _ => named(list, text_in(value)),
     }
@@ -116,7 +110,7 @@ fn key_of_kind(
         ≡ key_of_kind kind (view value.now) ((spot_of trail.now).around)) }
 {
     match list_of(alloc, kind, trail)? {
-        Some(list) => Ok(Some(key_in(alloc, list, kind, value, trail)?)),
+        Some(list) => Ok(Some(key_in(list, kind, value, trail)?)),
         None => Ok(None),
     }
 }
@@ -126,11 +120,11 @@ fn end_of(alloc: Global, trail: &Trail) -> Result<String, Memory>
 {
     match owner_of(trail) {
         Kind::Port => {
-            let list = String::from_str(alloc, "/interfaces")?;
+            let list = begun(alloc, "/interfaces")?;
             named(list, text_around(trail, 0, "interface"))
         }
         Kind::Prototype => {
-            let list = String::from_str(alloc, "/components")?;
+            let list = begun(alloc, "/components")?;
             named(list, text_around(trail, 0, "type"))
         }
         Kind::SenderReceiverInterface

@@ -15,7 +15,7 @@ use crate::distinct::Declarations;
 use crate::kind::Kind;
 use crate::rule::Rule;
 use crate::skipping::refers_to_nothing;
-use crate::trail::Trail;
+use crate::trail::{Trail, begun};
 use rte_text::Memory;
 use serde_json::Value;
 use std::alloc::Global;
@@ -62,7 +62,7 @@ fn is_in_whole(
 ) -> Result<bool, Memory>
     ensures { IfOk result (λ found. found ≡ is_declared (declared_in declared.now) (named list.now name.now)) }
 {
-    let text = String::from_str(alloc, list)?;
+    let text = begun(alloc, list)?;
     let key = named(text, name)?;
     Ok(declared.contains(key.as_str()))
 }
@@ -75,7 +75,7 @@ fn is_composition_in_whole(
 ) -> Result<bool, Memory>
     ensures { IfOk result (λ found. found ≡ is_declared_composition (declared_in declared.now) (named list.now name.now)) }
 {
-    let text = String::from_str(alloc, list)?;
+    let text = begun(alloc, list)?;
     let key = named(text, name)?;
     Ok(declared.contains_composition(key.as_str()))
 }
@@ -128,7 +128,7 @@ fn interface_has(
 {
     match declared.led_to(interface) {
         Some(place) => {
-            let text = String::from_str(alloc, place)?;
+            let text = begun(alloc, place)?;
             let key = named(text, item)?;
             Ok(declared.contains(key.as_str()))
         }
@@ -155,7 +155,7 @@ fn component_has(
 {
     match declared.led_to(component) {
         Some(place) => {
-            let mut text = String::from_str(alloc, place)?;
+            let mut text = begun(alloc, place)?;
             text.push_str("/ports")?;
             let key = named(text, port)?;
             Ok(declared.contains(key.as_str()))
@@ -224,7 +224,7 @@ fn interface_in_whole_has(
 ) -> Result<bool, Memory>
     ensures { IfOk result (λ found. found ≡ interface_has (declared_in declared.now) item.now (named list.now interface.now)) }
 {
-    let text = String::from_str(alloc, list)?;
+    let text = begun(alloc, list)?;
     let key = named(text, interface)?;
     interface_has(alloc, declared, item, key.as_str())
 }
