@@ -100,6 +100,13 @@ fn key_in(list: String, kind: Kind, value: &Value, trail: &Trail) -> Result<Stri
     }
 }
 
+// The text with no room to spare: what is declared is kept until all references are judged.
+fn fitted(alloc: Global, text: &str) -> Result<String, Memory>
+    ensures { IfOk result (λ copy. string_bytes copy ≡ text.now) }
+{
+    Ok(String::from_str(alloc, text)?)
+}
+
 fn key_of_kind(
     alloc: Global,
     kind: Kind,
@@ -110,7 +117,11 @@ fn key_of_kind(
         ≡ key_of_kind kind (view value.now) ((spot_of trail.now).around)) }
 {
     match list_of(alloc, kind, trail)? {
-        Some(list) => Ok(Some(key_in(list, kind, value, trail)?)),
+        Some(list) => {
+            let key = key_in(list, kind, value, trail)?;
+            let key = fitted(alloc, key.as_str())?;
+            Ok(Some(key))
+        }
         None => Ok(None),
     }
 }
@@ -121,11 +132,13 @@ fn end_of(alloc: Global, trail: &Trail) -> Result<String, Memory>
     match owner_of(trail) {
         Kind::Port => {
             let list = begun(alloc, "/interfaces")?;
-            named(list, text_around(trail, 0, "interface"))
+            let key = named(list, text_around(trail, 0, "interface"))?;
+            fitted(alloc, key.as_str())
         }
         Kind::Prototype => {
             let list = begun(alloc, "/components")?;
-            named(list, text_around(trail, 0, "type"))
+            let key = named(list, text_around(trail, 0, "type"))?;
+            fitted(alloc, key.as_str())
         }
         Kind::SenderReceiverInterface
         | Kind::ClientServerInterface
