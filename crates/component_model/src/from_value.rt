@@ -26,7 +26,7 @@ pub fn read_list<S, T: FromValue<S> + Drop>(
 ) -> Result<Seq<T>, Memory>
     ensures { IfOk result (λ xs. xs ≡ map (T.reading scope.now) (map view values.now)) }
 {
-    let mut list = Vec::new(alloc);
+    let mut list = Vec::with_capacity(alloc, values.len())?;
     for value in values {
         list.push(T::from_value(alloc, scope, value)?)?;
     }
