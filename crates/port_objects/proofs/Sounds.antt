@@ -74,11 +74,11 @@ one_kind p g within whole few false is = record { number = within; unqueued = no
         let parts = and_parts (is_in_group p g x) (list_all (is_in_group p g) xs) all in
         λ i. is_unqueued x parts.0 (is_queued_at p x) refl i && none_queued xs parts.1 i
 
-pub has_objects : (p : Plan) (m : Mapping) → (sound : IsSound p m) → ((group elem : ℕ) → IsSound p m → is_in_group p group elem ≡ true → is_queued_at p elem ≡ true → IsQueuedGroup p group)
+pub has_objects : (p : Plan) (m : Mapping) → (sound : IsSound p m) → length p.points < 2 ^ 32 → ((group elem : ℕ) → IsSound p m → is_in_group p group elem ≡ true → is_queued_at p elem ≡ true → IsQueuedGroup p group)
     → ((group : ℕ) → IsSound p m → IsQueuedGroup p group → sum (map (places_at p) (receivers_of p group)) < 2 ^ 32)
     → ((server : ℕ) → IsSound p m → server < length p.servers → IsServer p (first_server p + server)) → (IsSound p m → AreJoined p)
     → ((object : ℕ) → IsSound p m → first_machine p ≤ object → object < clock p → IsMachine p object) → (IsSound p m → AreTheirs p) → HasObjects p
-has_objects p m sound whole few servers joined machines theirs = record {
+has_objects p m sound few_points whole few servers joined machines theirs = record {
   groups = sound.groups;
   kinds = λ g within. one_kind p g within (λ h x. whole h x sound) (few g sound) (has_queues p g) refl;
   servers = λ s within. servers s sound within;
@@ -87,6 +87,7 @@ has_objects p m sound whole few servers joined machines theirs = record {
   theirs = theirs sound;
   counted = sound.objects;
   few_events = (and_parts (every_from 0 (event_sound p) p.events) (nat_le (length p.events) 16384) sound.events).1;
+  few_points = few_points;
   periods = all_where (λ (v : EventPlan). has_period v.kind) p.events (λ i v there. of_kind i v.runnable (instance_of p v.runnable) v.kind (kind_fits p m sound i v there));
 }
   where

@@ -1,6 +1,6 @@
 //! Laws of objects.
 
-ghost use Rattle.std.specs.Prelude.{◌≡◌, ℕ, true, ◌∷◌, None, Some, is_some, unwrap_or, IfSome};
+ghost use Rattle.std.specs.Prelude.{◌≡◌, ◌<◌, ◌^◌, ℕ, true, ◌∷◌, None, Some, is_some, length, unwrap_or, IfSome};
 ghost use Rattle.bus_semantics.specs.declared.script.Mapping.{Mapping};
 ghost use Rattle.bus_semantics.specs.declared.entries.Actor.{Actor};
 ghost use Rattle.bus_semantics.specs.declared.entries.Deed.{Deed};
@@ -57,8 +57,8 @@ pub fn leads_miss_nothing()
     clock_objects::leads_miss_nothing();
 }
 
-/// A sound plan whose points 32 bits number has what `make_objects` asks of a plan, and what a wish that fits its actor touches is an object of the plan; so
-/// is what an entry that fits touches.
+/// A sound plan whose points 32 bits number has what `make_objects` asks of a plan, and what a wish that fits its actor touches is an
+/// object of the plan; so is what an entry that fits touches.
 pub fn sound_plans_have_objects()
     ensures asked { (p : Plan) (m : Mapping) → IsSound p m → length p.points < 2 ^ 32 → HasObjects p }
     ensures touched { (p : Plan) (m : Mapping) (a : Actor) (w : Wanted) → IsSound p m → wish_fits p a w ≡ true →
