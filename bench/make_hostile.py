@@ -327,10 +327,31 @@ def between_cycles(n):
     return whole(AB, [], above_cycle(n)["compositions"] + [last], "Top")
 
 
+def calls(n):
+    """An interface of very many operations."""
+    return {"kind": "ClientServerInterface", "shortName": "C", "operations": [{"shortName": f"o{k}"} for k in range(n)]}
+
+
+def points(n):
+    """Very many ports of the root, all of one interface of as many operations, each of which the environment may call."""
+    return whole([calls(n)], [], [top([], [], ports("P", "p", "C", n))])
+
+
+def points_inside(n):
+    """Very many calls of a runnable of each of 1,022 instances."""
+    accesses = [["call", "c", f"o{k}"] for k in range(n)]
+    component = {
+        "shortName": "W",
+        "ports": [port("R", "c", "C")],
+        "behavior": {"runnables": [{"shortName": "r", "accesses": accesses}]},
+    }
+    return whole([calls(n)], [component], [top([prototype(f"w{k}", "W") for k in range(1022)], [])])
+
+
 CASES = [
     connectors, connectors_apart, near, hubs_own, both_hubs, overlaps, ways, instances_apart, equal, names, names_own,
     names_split, names_split_own, alternate, instances, instances_joined, inner, outers, hub_joined, levels, above_cycle,
-    between_cycles,
+    between_cycles, points, points_inside,
 ]
 
 

@@ -50,7 +50,7 @@ memory=$(awk '/^MemTotal/ { printf "%d", $2 / 1048576 + 0.5 }' /proc/meminfo)
 
 wrong_bodies() {
     cat <<'END'
-C breaks none of the thirty rules|compatibility/accepts_many_to_many description_stages/leaves_joins_unchecked
+C breaks none of the thirty rules|compatibility/accepts_many_to_many
 S is a script over the plan of C|script_reading/accepts_a_word_past_the_limits
 the bytes are the text of a run|script_run/puts_no_run_mark script_run/puts_no_entries_of_the_round rte_text/drops_the_last_byte
 the run has the script's calls and run lines, all of them, in order|script_reading/skips_a_line script_run/hides_a_call script_run/skips_run_lines
@@ -62,7 +62,7 @@ this holds in whatever order the cores took their turns|core_runtime/gives_entri
 `unsettled` holds only after 100,000 entries of runnables|script_run/gives_up_at_99_999
 status 0 comes only then|rte_program/done_after_a_failed_fetch rte_program/done_after_a_failed_put
 each other status comes only if its cause is there|rte_program/always_words rte_program/always_refused rte_program/always_script rte_program/always_not_read rte_program/always_not_written rte_program/always_trace
-the least broken rule is named|compatibility/names_a_later_rule description_stages/maps_before_the_joins_are_checked
+the least broken rule is named|compatibility/names_a_later_rule
 a trace is called legal exactly if it is the text of such a run, else its first line that is not, with the clause|trace_check/check_accepts_a_foreign_call trace_check/refuses_for_a_lower_clause trace_check/takes_an_open_end trace_check/closes_outside_a_run_line trace_reading/accepts_another_line
 END
 }

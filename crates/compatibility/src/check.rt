@@ -4,13 +4,10 @@ ghost use Rattle.std.specs.Prelude.{◌≡◌, Some};
 ghost use Rattle.plan_definitions.specs.Telling.{Tells};
 ghost use Rattle.plan_definitions.specs.JoinRefusals.{of_connectors, of_root_ports, of_items, number_of, port_refusal, item_refusal, refusal};
 
-use crate::connectors::incompatible;
-use crate::items::Search;
-use crate::names::end_text;
 use crate::places::in_composition;
-use crate::root_ports::root_client;
 use description_types::Description;
 use flat_descriptions::Flat;
+use join_search::{Search, end_text, incompatible, root_client};
 use plan_definitions::JoinRule;
 use rte_text::{Refusal, Refused, Text};
 use std::alloc::Global;

@@ -3,7 +3,7 @@
 ghost use Rattle.std.specs.Prelude.{◌≡◌, ◌++◌, [], IfOk, IsTrue, OnOk, codes, option_copied, option_map, slice_get};
 ghost use Rattle.std.specs.List.{flat_map};
 ghost use Rattle.std.specs.Option.{option_map_or};
-ghost use Rattle.plan_definitions.specs.Ports.{item_name, item_text, port_of};
+ghost use Rattle.plan_definitions.specs.Ports.{item_name, item_text};
 ghost use Rattle.plan_text.specs.Lines.{end_text, join_line};
 ghost use Rattle.plan_text.specs.Beginnings.{Begins, beginning};
 
@@ -11,7 +11,7 @@ use crate::lines::{add_owned, item_name, owner_text, port_name};
 use description_types::{Description, Port};
 use flat_descriptions::{End, Flat, Join};
 use interface_types::InterfaceKind;
-use plan_numbers::{interface_of, ports_of};
+use plan_numbers::{interface_at, interface_of, port_of};
 use rte_text::Memory;
 use std::alloc::Global;
 
@@ -100,28 +100,13 @@ impl<'a> Beginning<'a> {
     }
 }
 
-fn port_of<'a>(d: &'a Description, f: &Flat, owner: Option<u32>, port: u32) -> Option<&'a Port>
-    ensures { option_copied result ≡ port_of d.now f.now owner port }
-{
-    ports_of(d, f, owner).get(port as usize)
-}
-
-fn kind_of<'a>(d: &'a Description, port: &Port) -> Option<&'a InterfaceKind>
-    ensures { option_copied result ≡ option_map (λ i. i.kind) (slice_get d.now.types.interfaces port.now.interface) }
-{
-    match d.types.interfaces.items().get(port.interface as usize) {
-        Some(interface) => Some(&interface.kind),
-        None => None,
-    }
-}
-
 fn add_item_of(d: &Description, port: &Port, element: u32, text: &mut Vec<u8>) -> Result<(), Memory>
     ensures { OnOk result (text.new.items ≡ text.old.items ++ port.now.short_name ++ codes "."
         ++ option_map_or (λ kind. item_name kind element) (option_map (λ i. i.kind) (slice_get d.now.types.interfaces port.now.interface)) []) }
 {
     text.extend_from_slice(port.short_name.bytes())?;
     text.push(b'.')?;
-    text.extend_from_slice(name_in(kind_of(d, port), element))
+    text.extend_from_slice(name_in(interface_at(d, Some(port)), element))
 }
 
 fn add_item(d: &Description, f: &Flat, end: End, text: &mut Vec<u8>) -> Result<(), Memory>

@@ -1,9 +1,0 @@
-use Rattle.std.proofs.Common.{sym, ap, option_map}
-use Rattle.plan_definitions.specs.JoinedItems.{breaks, end_of, looked_at}
-use Rattle.compatibility.proofs.Firsts.{number_none}
-use Rattle.compatibility.proofs.items.Search.first_item.Goals as goal
-
-pub returns-then-is_kept : goal.returns-then-is_kept
-returns-then-is_kept c = sym (ap (option_map (end_of c.args.instance c.args.port))
-    (number_none (λ n. breaks c.args.rule c.args.self.now.f.now.joins c.args.kind.now (end_of c.args.instance c.args.port n))
-    (λ n. c.is_kept.ensures c.if-is_kept.true c.args.kind.now (end_of c.args.instance c.args.port n)) 0 (looked_at c.args.rule c.args.kind.now)))

@@ -1,5 +1,0 @@
-use Rattle.compatibility.proofs.Stars.{many_to_many_is}
-use Rattle.compatibility.proofs.laws.crowded_groups_are_many_to_many.Goals as goal
-
-pub returns : goal.returns
-returns c = many_to_many_is

@@ -1,8 +1,0 @@
-use Rattle.std.proofs.Common.{◌≡◌, drop, Some, None, if◌then◌else◌}
-use Rattle.plan_definitions.specs.Connectors.{requires_server}
-use Rattle.plan_definitions.specs.Firsts.{first_of}
-use Rattle.compatibility.proofs.root_ports.root_client.Given as goal
-
-abbrev pub invariant-loop-position : goal.invariant-loop-position
-invariant-loop-position l = first_of (λ k port. if requires_server l.d.types port then Some k else None) 0 l.ports
-    ≡ first_of (λ k port. if requires_server l.d.types port then Some k else None) l.position (drop l.position l.ports)
