@@ -5,3 +5,4 @@ pub mod Keeping
 pub mod PartnersAre
 pub mod Stars
 pub mod Itself
+pub mod Suspecting

@@ -1,19 +1,20 @@
 //! Required items, and the first that breaks a rule.
 
-ghost use Rattle.std.specs.Prelude.{◌≡◌, IfOk, IsTrue, false, None, Some, if◌then◌else◌};
+ghost use Rattle.std.specs.Prelude.{◌≡◌, ℕ, IfOk, IsTrue, false, true, None, Some, if◌then◌else◌};
 ghost use Rattle.flat_descriptions.specs.declared.flat.End.{End};
 ghost use Rattle.description_types.specs.declared.description.PrototypeType.TheVariants as of_type;
 ghost use Rattle.indexmap.specs.IndexSet.{contains};
-ghost use Rattle.interface_types.specs.declared.interface.InterfaceKind.{InterfaceKind};
 ghost use Rattle.plan_definitions.specs.Connectors.{ports_of};
-ghost use Rattle.plan_definitions.specs.Joins.{is_many_to_many};
+ghost use Rattle.plan_definitions.specs.Joins.{are_several, is_many_to_many, providers};
 ghost use Rattle.join_search.specs.Partners.{key_of, same_key};
-ghost use Rattle.plan_definitions.specs.JoinedItems.{breaks, first_broken, first_item, in_instances, in_port, in_ports, looked_at, needs_provider, requires_at};
+ghost use Rattle.join_search.specs.Suspects.{port_of, same_port};
+ghost use Rattle.plan_definitions.specs.JoinedItems.{breaks, end_of, first_broken, first_item, in_instances, in_port, in_ports, looked_at, needs_provider, requires_at};
 
 use crate::groups::many_to_many;
 use crate::item::Item;
 use crate::partners::{Degrees, Key, key_of};
 use crate::ports::ports_of;
+use crate::suspects::{PortKey, crowded_ports, has_port, served_by_several};
 use description_types::{Description, Port, PortKind, PrototypeType};
 use flat_descriptions::{Flat, Instance};
 use indexmap::IndexSet;
@@ -59,7 +60,13 @@ pub struct Search<'a> {
     degrees: Degrees<'a>,
     /// The required ends in groups of many to many.
     crowded: IndexSet<Key>,
+    /// The ports at which a required end has several provided ones.
+    several_at: IndexSet<PortKey>,
+    /// The ports at which a required end is in a group of many to many.
+    crowded_at: IndexSet<PortKey>,
     ghost of_flat: { degrees.joins.now ≡ f.now.joins },
+    ghost several: { (e : End) → are_several (providers f.now.joins e) ≡ true → contains same_port several_at (port_of e) ≡ true },
+    ghost many: { (e : End) → is_many_to_many f.now.joins e ≡ true → contains same_port crowded_at (port_of e) ≡ true },
     ghost known: { (e : End) → contains same_key crowded (key_of e) ≡ is_many_to_many f.now.joins e },
 }
 
@@ -70,11 +77,15 @@ impl Search<'_> {
     {
         let degrees = Degrees::new(alloc, f.joins.items())?;
         let crowded = many_to_many(alloc, &degrees)?;
+        let several_at = served_by_several(alloc, &degrees)?;
+        let crowded_at = crowded_ports(alloc, degrees.joins, &crowded)?;
         Ok(Search {
             d,
             f,
             degrees,
             crowded,
+            several_at,
+            crowded_at,
         })
     }
 
@@ -90,13 +101,20 @@ impl Search<'_> {
         }
     }
 
-    /// Whether no item breaks the rule, which shows at once where no group is one of many to many.
-    fn is_kept(&self, rule: JoinRule) -> bool
-        ensures { IsTrue result → (kind : InterfaceKind) (e : End) → breaks rule self.now.f.now.joins kind e ≡ false }
+    /// Whether no item of a port breaks the rule, which shows at once where no joined end of the port does.
+    fn is_kept_at(
+        &self,
+        rule: JoinRule,
+        instance: Option<usize>,
+        port: usize,
+        kind: &InterfaceKind,
+    ) -> bool
+        ensures { IsTrue result → (n : ℕ) → breaks rule self.now.f.now.joins kind.now (end_of instance port n) ≡ false }
     {
-        match rule {
-            JoinRule::Services => false,
-            JoinRule::Groups => self.crowded.is_empty(),
+        match (rule, kind) {
+            (JoinRule::Services, InterfaceKind::ModeSwitch(_)) => false,
+            (JoinRule::Services, _) => !has_port(&self.several_at, instance, port),
+            (JoinRule::Groups, _) => !has_port(&self.crowded_at, instance, port),
         }
     }
 
@@ -109,7 +127,7 @@ impl Search<'_> {
     ) -> Option<Item>
         ensures { result ≡ first_item rule self.now.f.now.joins instance port kind.now }
     {
-        if self.is_kept(rule) {
+        if self.is_kept_at(rule, instance, port, kind) {
             return None;
         }
         self.first_item_of(rule, instance, port, kind)

@@ -15,6 +15,7 @@ mod operations;
 mod partners;
 mod ports;
 mod root_ports;
+mod suspects;
 mod types;
 
 pub use connectors::incompatible;

@@ -1,6 +1,7 @@
 //! Who is joined with an end.
 
 ghost use Rattle.std.specs.Prelude.{◌≡◌, ◌&&◌, IfOk, IsTrue, OnOk, Some, false, is_none as is_absent, not};
+ghost use Rattle.flat_descriptions.specs.declared.flat.End.{End};
 ghost use Rattle.indexmap.specs.IndexMap.{Updates, get};
 ghost use Rattle.plan_definitions.specs.Joins.{are_several, crowds, is_none, providers, same_end};
 ghost use Rattle.join_search.specs.declared.partners.Side.TheVariants as side;
@@ -173,6 +174,13 @@ impl Degrees<'_> {
             of_required,
             of_provided,
         })
+    }
+
+    /// Whether no required end has several provided ones, where that is known at once.
+    pub fn are_single(&self) -> bool
+        ensures { IsTrue result → (e : End) → are_several (providers self.now.joins.now e) ≡ false }
+    {
+        self.of_provided.is_none()
     }
 
     /// Whether two provided ends or more are joined with a required one.

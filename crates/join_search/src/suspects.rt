@@ -1,0 +1,92 @@
+//! The ports at which an end breaks a rule, so that others need not be looked through item by item.
+
+ghost use Rattle.std.specs.Prelude.{◌≡◌, ◌&&◌, ◌||◌, IfOk, OnOk, true};
+ghost use Rattle.flat_descriptions.specs.declared.flat.End.{End};
+ghost use Rattle.indexmap.specs.IndexSet.{contains};
+ghost use Rattle.plan_definitions.specs.Joins.{are_several, is_many_to_many, providers};
+ghost use Rattle.join_search.specs.Partners.{key_of, same_key};
+ghost use Rattle.join_search.specs.Suspects.{PortKey, among_at, port_of, same_port, several_at};
+
+use crate::item::Item;
+use crate::partners::{Degrees, Key, key_of_end};
+use flat_descriptions::{End, Join};
+use indexmap::IndexSet;
+use rte_text::Memory;
+use std::alloc::Global;
+
+/// A port, of an instance or of the environment, as a key of a set.
+pub type PortKey = (Option<usize>, usize);
+
+fn port_of(end: End) -> PortKey
+    ensures { result ≡ port_of end }
+{
+    let item = Item::of(end);
+    (item.instance(), item.port())
+}
+
+fn mark(marked: &mut IndexSet<PortKey>, end: End, is_marked: bool) -> Result<(), Memory>
+    ensures { OnOk result ((q : PortKey) → contains same_port marked.new q ≡ ((is_marked && same_port (port_of end) q) || contains same_port marked.old q)) }
+{
+    if is_marked {
+        marked.insert(port_of(end))?;
+    }
+    Ok(())
+}
+
+fn ports_of_several(alloc: Global, degrees: &Degrees) -> Result<IndexSet<PortKey>, Memory>
+    ensures { IfOk result (λ found. (q : PortKey) → contains same_port found q ≡ several_at degrees.now.joins.now q) }
+{
+    let mut found = IndexSet::new(alloc);
+    for join in degrees.joins {
+        let several = degrees.has_several_providers(&Item::of(join.required));
+        mark(&mut found, join.required, several)?;
+    }
+    Ok(found)
+}
+
+/// The ports of required ends that have several provided ones.
+pub fn served_by_several(alloc: Global, degrees: &Degrees) -> Result<IndexSet<PortKey>, Memory>
+    ensures { IfOk result (λ found. (e : End) → are_several (providers degrees.now.joins.now e) ≡ true → contains same_port found (port_of e) ≡ true) }
+{
+    if degrees.are_single() {
+        return Ok(IndexSet::new(alloc));
+    }
+    ports_of_several(alloc, degrees)
+}
+
+fn ports_of_crowded(
+    alloc: Global,
+    joins: &[Join],
+    crowded: &IndexSet<Key>,
+) -> Result<IndexSet<PortKey>, Memory>
+    ensures { IfOk result (λ found. (q : PortKey) → contains same_port found q ≡ among_at (contains same_key crowded.now) joins.now q) }
+{
+    let mut found = IndexSet::new(alloc);
+    for join in joins {
+        let is_among = crowded.contains(&key_of_end(join.required));
+        mark(&mut found, join.required, is_among)?;
+    }
+    Ok(found)
+}
+
+/// The ports of these required ends, which are those in groups of many to many.
+pub fn crowded_ports(
+    alloc: Global,
+    joins: &[Join],
+    crowded: &IndexSet<Key>,
+) -> Result<IndexSet<PortKey>, Memory>
+    requires { (e : End) → contains same_key crowded.now (key_of e) ≡ is_many_to_many joins.now e }
+    ensures { IfOk result (λ found. (e : End) → is_many_to_many joins.now e ≡ true → contains same_port found (port_of e) ≡ true) }
+{
+    if crowded.is_empty() {
+        return Ok(IndexSet::new(alloc));
+    }
+    ports_of_crowded(alloc, joins, crowded)
+}
+
+/// Whether a port is one of these.
+pub fn has_port(ports: &IndexSet<PortKey>, instance: Option<usize>, port: usize) -> bool
+    ensures { result ≡ contains same_port ports.now (instance, port) }
+{
+    !ports.is_empty() && ports.contains(&(instance, port))
+}
