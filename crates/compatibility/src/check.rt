@@ -78,12 +78,20 @@ fn check_rule(
     }
 }
 
+fn check_among(alloc: Global, search: &Search, d: &Description, f: &Flat) -> Result<(), Refused>
+    requires description { search.now.d.now ≡ d.now }
+    requires flat { search.now.f.now ≡ f.now }
+    ensures { Tells (item_refusal d.now f.now) result }
+{
+    check_rule(alloc, search, JoinRule::Services, d, f)?;
+    check_rule(alloc, search, JoinRule::Groups, d, f)
+}
+
 fn check_items(alloc: Global, d: &Description, f: &Flat) -> Result<(), Refused>
     ensures { Tells (item_refusal d.now f.now) result }
 {
     let search = Search::new(alloc, d, f)?;
-    check_rule(alloc, &search, JoinRule::Services, d, f)?;
-    check_rule(alloc, &search, JoinRule::Groups, d, f)
+    check_among(alloc, &search, d, f)
 }
 
 /// Whether what a description joins may be joined: the ports of each connector are compatible (12), the environment serves no
