@@ -3,3 +3,4 @@ pub mod Pointing
 pub mod Invoking
 pub mod Using
 pub mod Serving
+pub mod Few

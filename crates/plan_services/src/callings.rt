@@ -1,9 +1,10 @@
 //! Who calls which operation.
 
-ghost use Rattle.std.specs.Prelude.{◌≡◌, [], ◌∷◌, ◌++◌, IfOk, OnOk, map, option_copied, slice_get};
+ghost use Rattle.std.specs.Prelude.{◌≡◌, ◌<◌, ◌^◌, [], ◌∷◌, ◌++◌, IfOk, OnOk, length, map, option_copied, slice_get};
 ghost use Rattle.std.specs.List.{flat_map};
 ghost use Rattle.std.specs.Option.{option_map_or};
 ghost use Rattle.plan_definitions.specs.Lists.{from, positions};
+ghost use Rattle.plan_definitions.specs.Sizes.{HasFewParts, HasFewThings, HasShortInterfaces};
 ghost use Rattle.plan_definitions.specs.Callings.{calling_of, callings, callings_in, callings_of_component, operation_count, operations_at, outer_calling, outer_callings};
 
 use description_types::{Access, Component, Description, Port, PortKind, Runnable};
@@ -57,9 +58,10 @@ fn push_runnable(
     number: usize,
     runnable: &Runnable,
 ) -> Result<(), Memory>
+    requires { number < 2 ^ 32 }
     ensures { OnOk result (list.new.items ≡ list.old.items ++ callings_in instance number runnable.now) }
 {
-    push_calls(list, instance, position(number)?, runnable.accesses.items())
+    push_calls(list, instance, position(number), runnable.accesses.items())
 }
 
 #[tactic(auto, using(crate::proofs::Listing::from_more, crate::proofs::Listing::from_none))]
@@ -68,6 +70,7 @@ fn push_runnables(
     instance: u32,
     runnables: &[Runnable],
 ) -> Result<(), Memory>
+    requires { length runnables.now < 2 ^ 32 }
     ensures { OnOk result (list.new.items ≡ list.old.items ++ from 0 (callings_in instance) runnables.now) }
 {
     for (number, runnable) in runnables.iter().enumerate() {
@@ -88,15 +91,14 @@ fn push_instance(
     number: usize,
     instance: &Instance,
 ) -> Result<(), Memory>
+    requires number { number < 2 ^ 32 }
+    requires parts { HasFewParts d.now }
     ensures { OnOk result (list.new.items ≡ list.old.items ++ option_map_or (callings_of_component number) (slice_get d.now.components instance.now.component) []) }
 {
     match component_at(d, instance) {
         Some(component) => {
-            push_runnables(
-                list,
-                position(number)?,
-                component.behavior.runnables.items(),
-            )
+            let runnables = component.behavior.runnables.items();
+            push_runnables(list, position(number), runnables)
         }
         None => Ok(()),
     }
@@ -108,6 +110,8 @@ fn push_instances(
     d: &Description,
     instances: &[Instance],
 ) -> Result<(), Memory>
+    requires instances { length instances.now < 2 ^ 32 }
+    requires parts { HasFewParts d.now }
     ensures { OnOk result (list.new.items ≡ list.old.items ++ from 0 (λ i x. option_map_or (callings_of_component i) (slice_get d.now.components x.component) []) instances.now) }
 {
     for (number, instance) in instances.iter().enumerate() {
@@ -162,12 +166,14 @@ fn push_outer_port(
     number: usize,
     port: &Port,
 ) -> Result<(), Memory>
+    requires number { number < 2 ^ 32 }
+    requires items { HasShortInterfaces d.now.types }
     ensures { OnOk result (list.new.items ≡ list.old.items ++ outer_callings d.now number port.now) }
 {
     match port.kind {
         PortKind::Provided => {
-            let count = position(operations_at(d, port))?;
-            push_outer_calls(list, position(number)?, count)
+            let count = position(operations_at(d, port));
+            push_outer_calls(list, position(number), count)
         }
         PortKind::Required => Ok(()),
     }
@@ -175,6 +181,8 @@ fn push_outer_port(
 
 #[tactic(auto, using(crate::proofs::Listing::from_more, crate::proofs::Listing::from_none))]
 fn push_outer_ports(list: &mut Vec<Calling>, d: &Description, ports: &[Port]) -> Result<(), Memory>
+    requires ports { length ports.now < 2 ^ 32 }
+    requires items { HasShortInterfaces d.now.types }
     ensures { OnOk result (list.new.items ≡ list.old.items ++ from 0 (outer_callings d.now) ports.now) }
 {
     for (number, port) in ports.iter().enumerate() {
@@ -186,6 +194,7 @@ fn push_outer_ports(list: &mut Vec<Calling>, d: &Description, ports: &[Port]) ->
 /// All calls that may be made: by instance, runnable and access, then each operation that the root provides, which the
 /// environment may call.
 pub fn callings_of(alloc: Global, d: &Description, f: &Flat) -> Result<Vec<Calling>, Memory>
+    requires { HasFewThings d.now f.now }
     ensures { IfOk result (λ list. list.items ≡ callings d.now f.now) }
 {
     let mut list = Vec::new(alloc);

@@ -1,6 +1,6 @@
 //! Calls in their order, and the numbers of the points at which they are made.
 
-ghost use Rattle.std.specs.Prelude.{◌≡◌, IfOk, map};
+ghost use Rattle.std.specs.Prelude.{◌≡◌, ◌<◌, ◌^◌, IfOk, length, map};
 ghost use Rattle.plan_definitions.specs.Callings.{call_key, left_key};
 
 use crate::callings::callings_of;
@@ -51,6 +51,7 @@ fn left_keys(alloc: Global, list: &[Calling]) -> Result<Vec<EndKey>, Memory>
 }
 
 fn calls_of(alloc: Global, list: &[Calling]) -> Result<Numbers<CallKey>, Memory>
+    requires { length list.now < 2 ^ 32 }
     ensures { IfOk result (λ numbers. numbers ≡ map call_key list.now) }
 {
     let keys = call_keys(alloc, list)?;
@@ -58,6 +59,7 @@ fn calls_of(alloc: Global, list: &[Calling]) -> Result<Numbers<CallKey>, Memory>
 }
 
 fn left_of(alloc: Global, list: &[Calling]) -> Result<Numbers<EndKey>, Memory>
+    requires { length list.now < 2 ^ 32 }
     ensures { IfOk result (λ numbers. numbers ≡ map left_key list.now) }
 {
     let keys = left_keys(alloc, list)?;

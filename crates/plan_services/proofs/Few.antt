@@ -1,0 +1,33 @@
+-- Few enough to be numbered: the operations of a port, the runnables of an instance, and the keys of calls.
+use Rattle.std.proofs.Common.{◌≡◌, ℕ, ◌^◌, ◌<◌, ◌≤◌, List, length, map, slice_get, Option, Some, None, refl, ap, ◌∙◌, arith}
+use Rattle.std.proofs.lemmas.List.{length-map}
+use Rattle.std.specs.Option.{option_map_or}
+use Rattle.interface_types.specs.declared.interface.Interface.{Interface}
+use Rattle.interface_types.specs.declared.interface.InterfaceKind.{InterfaceKind}
+use Rattle.interface_types.specs.declared.interface.InterfaceKind.TheVariants.{SenderReceiver, ClientServer, ModeSwitch}
+use Rattle.description_types.specs.declared.component.Component.{Component}
+use Rattle.description_types.specs.declared.component.Port.{Port}
+use Rattle.description_types.specs.declared.description.Description.{Description}
+use Rattle.plan_definitions.specs.declared.calling.Calling.{Calling}
+use Rattle.plan_definitions.specs.declared.part.Part.TheVariants.{Runnables}
+use Rattle.plan_definitions.specs.Callings.{operation_count, operations_at}
+use Rattle.plan_definitions.specs.Sizes.{HasFewParts, HasShortInterfaces}
+use Rattle.plan_definitions.specs.WellFormed.{item_count}
+
+operations_most : (kind : InterfaceKind) → operation_count kind ≤ item_count kind
+operations_most (SenderReceiver elements) = omega arith
+operations_most (ClientServer operations) = omega arith
+operations_most (ModeSwitch element) = omega arith
+
+pub few_operations : (d : Description) (port : Port) → HasShortInterfaces d.types → operations_at d port < 2 ^ 32
+few_operations d port short = by (slice_get d.types.interfaces port.interface) refl
+  where
+    by : (o : Option Interface) → slice_get d.types.interfaces port.interface ≡ o → option_map_or (λ (i : Interface). operation_count i.kind) o 0 < 2 ^ 32
+    by None none = omega arith
+    by (Some x) some = omega (arith, operations_most x.kind, short.interfaces port.interface x some)
+
+pub few_runnables : (d : Description) (i : ℕ) (c : Component) → HasFewParts d → slice_get d.components i ≡ Some c → length c.behavior.runnables < 2 ^ 32
+few_runnables d i c few at = let most : length c.behavior.runnables < 2 ^ 22 = (few.components i c at).parts Runnables in omega (arith, most)
+
+pub few_keyed : {K : Type 0} (key : Calling → K) (slice keys : List K) (list : List Calling) → slice ≡ keys → keys ≡ map key list → length list < 2 ^ 32 → length slice < 2 ^ 32
+few_keyed key slice keys list same are few = let as_many : length slice ≡ length list = ap length (same ∙ are) ∙ length-map list key in omega (arith, as_many, few)
