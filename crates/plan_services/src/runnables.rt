@@ -1,6 +1,6 @@
 //! The runnables of a plan.
 
-ghost use Rattle.std.specs.Prelude.{◌≡◌, true, [], ◌∷◌, ◌++◌, IfOk, OnOk, map, nat_eq, option_map, slice_get};
+ghost use Rattle.std.specs.Prelude.{◌≡◌, ◌<◌, ◌^◌, true, [], ◌∷◌, ◌++◌, IfOk, OnOk, length, map, nat_eq, option_map, slice_get};
 ghost use Rattle.std.specs.List.{flat_map};
 ghost use Rattle.std.specs.Map.{lookup};
 ghost use Rattle.std.specs.Option.{option_map_or};
@@ -79,12 +79,13 @@ fn push_runnable(
     number: usize,
     runnable: &Runnable,
 ) -> Result<(), Memory>
+    requires number { number < 2 ^ 32 }
     requires calls { callings.now ≡ all_callings source.now.d.now source.now.f.now }
     requires types { types_fit source.now.d.now.types ≡ true }
     requires serves { served.now.entries.items ≡ flat_map served_entry component.now.behavior.events }
     ensures { OnOk result (map seen list.new.items ≡ map seen list.old.items ++ runnable_of source.now.d.now source.now.f.now instance component.now number runnable.now ∷ []) }
 {
-    let number = position(number)?;
+    let number = position(number);
     let found = runnable_of(
         alloc, source, callings, served, instance, component, number, runnable,
     )?;
@@ -103,6 +104,7 @@ fn push_runnables(
     component: &Component,
     runnables: &[Runnable],
 ) -> Result<(), Memory>
+    requires runnables { length runnables.now < 2 ^ 32 }
     requires calls { callings.now ≡ all_callings source.now.d.now source.now.f.now }
     requires types { types_fit source.now.d.now.types ≡ true }
     requires serves { served.now.entries.items ≡ flat_map served_entry component.now.behavior.events }
@@ -124,12 +126,14 @@ fn push_component(
     number: usize,
     component: &Component,
 ) -> Result<(), Memory>
+    requires number { number < 2 ^ 32 }
+    requires runnables { length component.now.behavior.runnables < 2 ^ 32 }
     requires calls { callings.now ≡ all_callings source.now.d.now source.now.f.now }
     requires types { types_fit source.now.d.now.types ≡ true }
     ensures { OnOk result (map seen list.new.items ≡ map seen list.old.items ++ runnables_of_component source.now.d.now source.now.f.now number component.now) }
 {
     let served = served_of(alloc, component.behavior.events.items())?;
-    let number = position(number)?;
+    let number = position(number);
     let runnables = component.behavior.runnables.items();
     push_runnables(
         list, alloc, source, callings, &served, number, component, runnables,
@@ -144,6 +148,7 @@ fn push_instance(
     number: usize,
     instance: &Instance,
 ) -> Result<(), Memory>
+    requires number { number < 2 ^ 32 }
     requires calls { callings.now ≡ all_callings source.now.d.now source.now.f.now }
     requires types { types_fit source.now.d.now.types ≡ true }
     ensures { OnOk result (map seen list.new.items ≡ map seen list.old.items ++ option_map_or (runnables_of_component source.now.d.now source.now.f.now number) (slice_get source.now.d.now.components instance.now.component) []) }
@@ -162,6 +167,7 @@ fn push_instances(
     callings: &Callings,
     instances: &[Instance],
 ) -> Result<(), Memory>
+    requires instances { length instances.now < 2 ^ 32 }
     requires calls { callings.now ≡ all_callings source.now.d.now source.now.f.now }
     requires types { types_fit source.now.d.now.types ≡ true }
     ensures { OnOk result (map seen list.new.items ≡ map seen list.old.items ++ from 0 (λ i x. option_map_or (runnables_of_component source.now.d.now source.now.f.now i) (slice_get source.now.d.now.components x.component) []) instances.now) }
