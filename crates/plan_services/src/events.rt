@@ -1,6 +1,6 @@
 //! The events of a plan.
 
-ghost use Rattle.std.specs.Prelude.{◌≡◌, [], ◌++◌, IfOk, OnOk, map, option_copied, option_map, slice_get};
+ghost use Rattle.std.specs.Prelude.{◌≡◌, ◌<◌, ◌^◌, [], ◌++◌, IfOk, OnOk, length, map, option_copied, option_map, slice_get};
 ghost use Rattle.std.specs.Option.{option_map_or};
 ghost use Rattle.plan_definitions.specs.Lists.{from};
 ghost use Rattle.plan_definitions.specs.Started.{disabling_of, event_of, events as all_events, events_of_component};
@@ -84,13 +84,14 @@ fn push_instance(
     number: usize,
     instance: &Instance,
 ) -> Result<(), Memory>
-    requires { callings.now ≡ all_callings source.now.d.now source.now.f.now }
+    requires number { number < 2 ^ 32 }
+    requires calls { callings.now ≡ all_callings source.now.d.now source.now.f.now }
     ensures { OnOk result (list.new.items ≡ list.old.items ++ option_map_or (events_of_component source.now.d.now source.now.f.now number) (slice_get source.now.d.now.components instance.now.component) []) }
 {
     match component_at(source.d, instance) {
         Some(component) => {
             let events = component.behavior.events.items();
-            push_events(list, alloc, source, callings, position(number)?, events)
+            push_events(list, alloc, source, callings, position(number), events)
         }
         None => Ok(()),
     }
@@ -104,7 +105,8 @@ fn push_instances(
     callings: &Callings,
     instances: &[Instance],
 ) -> Result<(), Memory>
-    requires { callings.now ≡ all_callings source.now.d.now source.now.f.now }
+    requires instances { length instances.now < 2 ^ 32 }
+    requires calls { callings.now ≡ all_callings source.now.d.now source.now.f.now }
     ensures { OnOk result (list.new.items ≡ list.old.items ++ from 0 (λ i x. option_map_or (events_of_component source.now.d.now source.now.f.now i) (slice_get source.now.d.now.components x.component) []) instances.now) }
 {
     for (number, instance) in instances.iter().enumerate() {
