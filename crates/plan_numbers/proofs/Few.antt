@@ -1,21 +1,16 @@
--- Few enough to be numbered: the items of a port, the ports of the root, and the keys of a list.
-use Rattle.std.proofs.Common.{◌≡◌, ℕ, ◌^◌, ◌<◌, ◌≤◌, List, [], length, slice_get, Bool, true, false, cond, ◌&&◌, is_some, Option, Some, None, option_map, refl, sym, ap, subst, ◌∙◌, arith}
-use Rattle.std.proofs.lemmas.List.{length-map}
-use Rattle.std.specs.Option.{option_map_or}
+-- Few enough to be numbered: the items of a port, and the lists of what stands at ports.
+use Rattle.std.proofs.Common.{◌≡◌, ℕ, ◌^◌, ◌<◌, ◌≤◌, length, slice_get, Bool, true, false, cond, ◌&&◌, is_some, Option, Some, None, option_map, refl, sym, ap, subst, arith}
 use Rattle.interface_types.specs.declared.interface.Interface.{Interface}
 use Rattle.interface_types.specs.declared.interface.InterfaceKind.{InterfaceKind}
 use Rattle.interface_types.specs.declared.interface.InterfaceKind.TheVariants.{SenderReceiver, ClientServer, ModeSwitch}
 use Rattle.interface_types.specs.declared.interface.TypeTable.{TypeTable}
 use Rattle.description_types.specs.declared.component.Port.{Port}
 use Rattle.description_types.specs.declared.component.PortKind.{PortKind}
-use Rattle.description_types.specs.declared.description.Composition.{Composition}
 use Rattle.description_types.specs.declared.description.Description.{Description}
 use Rattle.flat_descriptions.specs.declared.flat.Flat.{Flat}
-use Rattle.plan_definitions.specs.declared.site.Site.{Site}
 use Rattle.plan_definitions.specs.declared.site.SiteKind.{SiteKind}
-use Rattle.plan_definitions.specs.Keys.{Key, key_of, keys_of}
-use Rattle.plan_definitions.specs.Sites.{count_at, kind_at, provides_at, root_ports, shape_at}
-use Rattle.plan_definitions.specs.Sizes.{HasFewParts, HasFewThings, HasShortInterfaces}
+use Rattle.plan_definitions.specs.Sites.{count_at, kind_at, provides_at, shape_at}
+use Rattle.plan_definitions.specs.Sizes.{HasFewThings, HasShortInterfaces}
 use Rattle.plan_definitions.specs.WellFormed.{item_count}
 use Rattle.plan_numbers.specs.declared.lists.Lists.{Lists}
 use Rattle.plan_numbers.specs.Listed.{AreLists, AreShort}
@@ -39,19 +34,6 @@ few_at types owner port kind count short is = by (slice_get types.interfaces por
     by : (o : Option Interface) → slice_get types.interfaces port.interface ≡ o → option_map {U = SiteKind × ℕ} (λ (i : Interface). (kind_at owner port.kind i.kind, count_at owner port.kind i.kind)) o ≡ Some (kind, count) → count < 2 ^ 32
     by None none h = cc
     by (Some x) some h = let same : count_at owner port.kind x.kind ≡ count = ap second h in omega (arith, same, count_most owner port.kind x.kind, short.interfaces port.interface x some)
-
-pub few_outer : (d : Description) (ports : List Port) → ports ≡ root_ports d → HasFewParts d → length ports < 2 ^ 32
-few_outer d ports are few = subst (λ ps. length ps < 2 ^ 32) (sym are) (by (slice_get d.compositions d.root) refl)
-  where
-    by : (o : Option Composition) → slice_get d.compositions d.root ≡ o → length (option_map_or (λ (c : Composition). c.ports) o []) < 2 ^ 32
-    by None none = omega arith
-    by (Some c) some = omega (arith, few.compositions d.root c some)
-
-pub few_keys : (sites : List Site) (keys list : List Key) → list ≡ keys → keys ≡ keys_of sites → length sites < 2 ^ 32 → length list < 2 ^ 32
-few_keys sites keys list same are few = let as_many : length list ≡ length sites = ap length (same ∙ are) ∙ length-map sites key_of in omega (arith, as_many, few)
-
-pub few_listed : {X : Type 0} (list items all : List X) → list ≡ items → items ≡ all → length all < 2 ^ 32 → length list < 2 ^ 32
-few_listed list items all same are few = subst (λ xs. length xs < 2 ^ 32) (sym (same ∙ are)) few
 
 pub short_lists : (d : Description) (f : Flat) (l : Lists) → AreLists d f l → HasFewThings d f → AreShort l
 short_lists d f l are few = record {

@@ -5,7 +5,7 @@ use Rattle.std.proofs.lemmas.List.{length-append, length-map, map-append, at_dro
 use Rattle.std.proofs.lemmas.List.Elements.{filter-append}
 use Rattle.std.specs.Prelude.{filter}
 use Rattle.std.specs.List.{position_from}
-use Rattle.std.specs.Option.{option_eq, option_map_or, option_or}
+use Rattle.std.specs.Option.{option_eq, option_map_or, option_or, unwrap_or}
 use Rattle.description_types.specs.declared.component.Component.{Component}
 use Rattle.description_types.specs.declared.component.Port.{Port}
 use Rattle.description_types.specs.declared.description.Description.{Description}
@@ -439,17 +439,13 @@ place_fits d f key p count is fits found =
     let keys : length (keys_of (elements_of d f)) ≡ length (elements_of d f) = length-map (elements_of d f) key_of in
     omega (arith, within, keys, is, fits)
 
--- the last sum is how many there are, where it is less than the greatest number
-pub last_sum : (types : TypeTable) (ports : List Port) (list : List ℕ) (sum : ℕ) → list ≡ capped_sums (elements_at types) 0 ports → slice_get list (length ports) ≡ Some sum → sum + 1 < 2 ^ 32 → sum ≡ total (elements_at types) ports
-last_sum types ports list sum are is least =
-    let last : sum ≡ capped (0 + total (elements_at types) ports) = inside sum (capped (0 + total (elements_at types) ports)) (sym is ∙ ap (λ l. slice_get l (length ports)) are ∙ capped_last (elements_at types) 0 ports (omega arith)) in
-    omega (arith, last, least)
+-- the last sum is how many there are, where 32 bits hold it
+pub last_sum : (types : TypeTable) (ports : List Port) (list : List ℕ) → list ≡ capped_sums (elements_at types) 0 ports → total (elements_at types) ports < 2 ^ 32 → unwrap_or (slice_get list (length ports)) 0 ≡ total (elements_at types) ports
+last_sum types ports list are fits = ap (λ l. unwrap_or (slice_get l (length ports)) 0) are ∙ ap (λ o. unwrap_or o 0) (capped_last (elements_at types) 0 ports (omega arith)) ∙ uncapped_sum
   where
-    inside : (a b : ℕ) → Some a ≡ Some b → a ≡ b
-    inside a b same = cc
+    uncapped_sum : capped (0 + total (elements_at types) ports) ≡ total (elements_at types) ports
+    uncapped_sum = omega (arith, fits)
 
-pub no_last : (types : TypeTable) (ports : List Port) (list : List ℕ) (sum : ℕ) → list ≡ capped_sums (elements_at types) 0 ports → slice_get list (length ports) ≡ None → sum ≡ total (elements_at types) ports
-no_last types ports list sum are is = other (capped (0 + total (elements_at types) ports)) (sym is ∙ ap (λ l. slice_get l (length ports)) are ∙ capped_last (elements_at types) 0 ports (omega arith))
-  where
-    other : (b : ℕ) → None ≡ Some b → sum ≡ total (elements_at types) ports
-    other b same = absurd cc
+-- 32 bits hold what the instances have, where they hold all
+pub instances_fit : (d : Description) (f : Flat) (instances : List Instance) (count : ℕ) → instances ≡ f.instances → count ≡ length (elements_of d f) → count < 2 ^ 32 → total (elements_of_instance d) instances < 2 ^ 32
+instances_fit d f instances count same is fits = subst (λ xs. total (elements_of_instance d) xs < 2 ^ 32) (sym same) (omega (arith, all_elements d f, is, fits))

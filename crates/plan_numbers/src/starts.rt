@@ -1,6 +1,6 @@
 //! The numbers of data elements and variables. Those of a port follow one another, and so do those of ports and instances.
 
-ghost use Rattle.std.specs.Prelude.{◌≡◌, IfOk, ◌+◌, length, map, slice_get};
+ghost use Rattle.std.specs.Prelude.{◌≡◌, ◌+◌, ◌<◌, ◌^◌, IfOk, length, map, slice_get};
 ghost use Rattle.std.specs.List.{position_from};
 ghost use Rattle.plan_definitions.specs.Keys.{keys_of, number_in, same_key};
 ghost use Rattle.plan_definitions.specs.Things.{elements_of};
@@ -42,14 +42,6 @@ fn elements_at(types: &TypeTable, port: &Port) -> usize
         Some(interface) => elements_in(&interface.kind),
         None => 0,
     }
-}
-
-/// The sum of a number of 32 bits and a size.
-fn next_sum(sum: u32, size: usize) -> Result<u32, Memory>
-    ensures { IfOk result (λ next. next ≡ sum + size) }
-{
-    let size = position(size)?;
-    position(sum as usize + size as usize)
 }
 
 /// The sum of a number of 32 bits and a size, or the greatest such number in place of a greater one.
@@ -94,42 +86,34 @@ fn sum_at(list: &[u32], place: usize) -> Option<u32>
 }
 
 /// How many elements these ports have, whose sums are given.
-fn elements_of_ports(types: &TypeTable, ports: &[Port], list: &[u32]) -> Result<u32, Memory>
-    requires { list.now ≡ capped_sums (elements_at types.now) 0 ports.now }
-    ensures { IfOk result (λ count. count ≡ total (elements_at types.now) ports.now) }
+fn elements_of_ports(types: &TypeTable, ports: &[Port], list: &[u32]) -> u32
+    requires sums { list.now ≡ capped_sums (elements_at types.now) 0 ports.now }
+    requires few { total (elements_at types.now) ports.now < 2 ^ 32 }
+    ensures { result ≡ total (elements_at types.now) ports.now }
 {
-    match sum_at(list, ports.len()) {
-        Some(sum) => {
-            // The greatest number may stand for a greater one.
-            position(sum as usize + 1)?;
-            Ok(sum)
-        }
-        None => Ok(0),
-    }
+    sum_at(list, ports.len()).unwrap_or(0)
 }
 
-fn elements_within(types: &TypeTable, component: &Component, list: &[u32]) -> Result<u32, Memory>
-    requires { list.now ≡ capped_sums (elements_at types.now) 0 component.now.ports }
-    ensures { IfOk result (λ count. count ≡ elements_within types.now component.now) }
+fn elements_within(types: &TypeTable, component: &Component, list: &[u32]) -> u32
+    requires sums { list.now ≡ capped_sums (elements_at types.now) 0 component.now.ports }
+    requires few { elements_within types.now component.now < 2 ^ 32 }
+    ensures { result ≡ elements_within types.now component.now }
 {
-    let at_ports = elements_of_ports(types, component.ports.items(), list)?;
-    next_sum(at_ports, component.behavior.variables.len())
+    let at_ports = elements_of_ports(types, component.ports.items(), list);
+    at_ports + position(component.behavior.variables.len())
 }
 
-fn elements_of_instance(
-    d: &Description,
-    lists: &[Seq<u32>],
-    instance: &Instance,
-) -> Result<u32, Memory>
-    requires { lists.now ≡ map (λ c. capped_sums (elements_at d.now.types) 0 c.ports) d.now.components }
-    ensures { IfOk result (λ count. count ≡ elements_of_instance d.now instance.now) }
+fn elements_of_instance(d: &Description, lists: &[Seq<u32>], instance: &Instance) -> u32
+    requires sums { lists.now ≡ map (λ c. capped_sums (elements_at d.now.types) 0 c.ports) d.now.components }
+    requires few { elements_of_instance d.now instance.now < 2 ^ 32 }
+    ensures { result ≡ elements_of_instance d.now instance.now }
 {
     let Some(component) = d.components.items().get(instance.component as usize) else {
-        return Ok(0);
+        return 0;
     };
     match lists.get(instance.component as usize) {
         Some(list) => elements_within(&d.types, component, list.items()),
-        None => Ok(0),
+        None => 0,
     }
 }
 
@@ -140,15 +124,15 @@ fn sums_of_instances(
     lists: &[Seq<u32>],
     instances: &[Instance],
 ) -> Result<Seq<u32>, Memory>
-    requires { lists.now ≡ map (λ c. capped_sums (elements_at d.now.types) 0 c.ports) d.now.components }
+    requires sums { lists.now ≡ map (λ c. capped_sums (elements_at d.now.types) 0 c.ports) d.now.components }
+    requires few { total (elements_of_instance d.now) instances.now < 2 ^ 32 }
     ensures { IfOk result (λ list. list ≡ sums (elements_of_instance d.now) 0 instances.now) }
 {
     let mut list = Vec::new(alloc);
     let mut sum = 0;
     for instance in instances {
         list.push(sum)?;
-        let count = elements_of_instance(d, lists, instance)?;
-        sum = next_sum(sum, count as usize)?;
+        sum += elements_of_instance(d, lists, instance);
     }
     list.push(sum)?;
     Ok(Seq::of(list))
@@ -156,10 +140,10 @@ fn sums_of_instances(
 
 /// The tables of a description that has so many elements.
 pub fn starts_of(alloc: Global, d: &Description, f: &Flat, count: usize) -> Result<Starts, Memory>
-    requires { count ≡ length (elements_of d.now f.now) }
+    requires count { count ≡ length (elements_of d.now f.now) }
+    requires few { count < 2 ^ 32 }
     ensures { IfOk result (λ starts. AreStarts d.now f.now starts) }
 {
-    let count = position(count)?;
     let components = sums_of_components(alloc, &d.types, d.components.items())?;
     let root = sums_of_ports(alloc, &d.types, ports_of(d, f, None))?;
     let instances = sums_of_instances(alloc, d, components.items(), f.instances.items())?;
@@ -167,7 +151,7 @@ pub fn starts_of(alloc: Global, d: &Description, f: &Flat, count: usize) -> Resu
         components,
         root,
         instances,
-        count,
+        count: position(count),
     })
 }
 
