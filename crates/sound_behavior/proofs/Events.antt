@@ -215,7 +215,7 @@ module _ (d : Description) (f : Flat) (p : BusPlan) (m : Mapping) (w : IsWhole d
 
   few : nat_le (length (events d f)) 16384 ≡ true
   few =
-      let a = or_parts (nat_lt 16384 (whole_plan d f).objects || nat_lt 16384 (length (events d f))) (nat_lt 65536 (queue_lengths (whole_plan d f))) (of_size d f p m w) in
+      let a = or_parts (nat_lt 16384 (whole_plan d f).objects || nat_lt 16384 (length (events d f))) (nat_lt 65536 (queue_lengths (whole_plan d f)) || nat_lt 262144 (length (whole_plan d f).points)) (of_size d f p m w) in
       let b = (or_parts (nat_lt 16384 (whole_plan d f).objects) (nat_lt 16384 (length (events d f))) a.0).1 in
       le-leb (length (events d f)) 16384 (ltb-false 16384 (length (events d f)) b)
 
