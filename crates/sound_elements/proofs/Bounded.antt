@@ -82,15 +82,14 @@ module _ (d : Description) (f : Flat) (p : BusPlan) (m : Mapping) (w : IsWhole d
   areas_are : p.areas ≡ areas d f
   areas_are = ap (λ q. q.areas) w.is_plan
 
-  not_large : (nat_lt 16384 (planned d f).objects || nat_lt 16384 (length (planned d f).events)) || nat_lt 65536 (all_lengths (planned d f)) ≡ false
-  not_large = fair_size d f w.keeps_rules
+  small : ((nat_lt 16384 (planned d f).objects || nat_lt 16384 (length (planned d f).events)) ≡ false) × ((nat_lt 65536 (all_lengths (planned d f)) || nat_lt 262144 (length (planned d f).points)) ≡ false)
+  small = or_parts (nat_lt 16384 (planned d f).objects || nat_lt 16384 (length (planned d f).events)) (nat_lt 65536 (all_lengths (planned d f)) || nat_lt 262144 (length (planned d f).points)) (fair_size d f w.keeps_rules)
 
   few_objects : (planned d f).objects ≤ 16384
-  few_objects = ltb-false 16384 (planned d f).objects (or_parts (nat_lt 16384 (planned d f).objects) (nat_lt 16384 (length (planned d f).events))
-      (or_parts (nat_lt 16384 (planned d f).objects || nat_lt 16384 (length (planned d f).events)) (nat_lt 65536 (all_lengths (planned d f))) not_large).0).0
+  few_objects = ltb-false 16384 (planned d f).objects (or_parts (nat_lt 16384 (planned d f).objects) (nat_lt 16384 (length (planned d f).events)) small.0).0
 
   few_waiting : all_lengths (planned d f) ≤ 65536
-  few_waiting = ltb-false 65536 (all_lengths (planned d f)) (or_parts (nat_lt 16384 (planned d f).objects || nat_lt 16384 (length (planned d f).events)) (nat_lt 65536 (all_lengths (planned d f))) not_large).1
+  few_waiting = ltb-false 65536 (all_lengths (planned d f)) (or_parts (nat_lt 65536 (all_lengths (planned d f))) (nat_lt 262144 (length (planned d f).points)) small.1).0
 
   pub objects : objects_counted (plan_of p) ≡ true
   objects = and_from (p.objects == clock (plan_of p) + 1) (nat_le p.objects 16384)
