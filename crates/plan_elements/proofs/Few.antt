@@ -1,15 +1,16 @@
 -- Elements that 32 bits number, and their groups.
-use Rattle.std.proofs.Common.{◌≡◌, ℕ, ◌+◌, ◌^◌, ◌<◌, ◌≤◌, List, [], ◌∷◌, length, map, Bool, true, false, cond, nat_eq, ap, ◌∙◌, arith}
-use Rattle.std.proofs.lemmas.List.{length-append, length-map}
+use Rattle.std.proofs.Common.{◌≡◌, ℕ, ◌^◌, ◌<◌, List, length, map, Option, Some, sym, ap, ◌∙◌, arith}
+use Rattle.std.specs.List.{position_from}
+use Rattle.std.proofs.lemmas.List.{length-map}
 use Rattle.description_types.specs.declared.description.Description.{Description}
 use Rattle.flat_descriptions.specs.declared.flat.Flat.{Flat}
 use Rattle.plan_definitions.specs.declared.site.Site.{Site}
-use Rattle.plan_definitions.specs.ElementGroups.{group_number, head_at, heads, leader_of}
+use Rattle.plan_definitions.specs.ElementGroups.{group_number, leader_of}
 use Rattle.plan_definitions.specs.Elements.{leaders}
-use Rattle.plan_definitions.specs.Keys.{keys_of}
-use Rattle.plan_definitions.specs.Lists.{from}
+use Rattle.plan_definitions.specs.Keys.{Key, key_of, keys_of, same_key}
 use Rattle.plan_definitions.specs.Sizes.{HasFewThings}
 use Rattle.plan_definitions.specs.Things.{elements_of}
+use Rattle.plan_elements.proofs.Keys.{position_least}
 
 -- as many as there are elements
 all_lead : (d : Description) (f : Flat) → length (leaders d f) ≡ length (elements_of d f)
@@ -25,16 +26,8 @@ few_grouped d f slice list same are few =
 pub few_elements : (d : Description) (f : Flat) (items : List Site) (count : ℕ) → count ≡ length items → items ≡ elements_of d f → HasFewThings d f → count < 2 ^ 32
 few_elements d f items count is are few = let as_many : count ≡ length (elements_of d f) = is ∙ ap length are in omega (arith, as_many, few.elements)
 
-one_head : (n leader : ℕ) → length (head_at n leader) ≤ 1
-one_head n leader = by (nat_eq leader n)
-  where
-    by : (b : Bool) → length (cond b (n ∷ []) []) ≤ 1
-    by true = omega arith
-    by false = omega arith
-
-heads_from : (n : ℕ) (list : List ℕ) → length (from n head_at list) ≤ length list
-heads_from n [] = omega arith
-heads_from n (leader ∷ list) = omega (arith, length-append (head_at n leader) (from (n + 1) head_at list), one_head n leader, heads_from (n + 1) list)
-
-pub few_heads : (slice list leading : List ℕ) → slice ≡ list → list ≡ heads leading → length leading < 2 ^ 32 → length slice < 2 ^ 32
-few_heads slice list leading same are few = let as_many : length slice ≡ length (heads leading) = ap length (same ∙ are) in omega (arith, as_many, few, heads_from 0 leading)
+-- a place among them
+pub place_fits : (d : Description) (f : Flat) (k : Key) (place : Option ℕ) → place ≡ position_from (same_key k) 0 (keys_of (elements_of d f)) → HasFewThings d f → (p : ℕ) → place ≡ Some p → p < 2 ^ 32
+place_fits d f k place found few p is =
+    let least = position_least (same_key k) 0 p (keys_of (elements_of d f)) (sym found ∙ is) in
+    omega (arith, least.1, length-map (elements_of d f) key_of, few.elements)

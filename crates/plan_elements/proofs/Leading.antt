@@ -1,68 +1,27 @@
 -- The least number in the group of each element, found by numbers.
-use Rattle.std.proofs.Common.{◌≡◌, ℕ, zero, suc, ◌+◌, ◌<◌, ◌≤◌, ◌-◌, List, [], ◌∷◌, ◌++◌, append_assoc, map, length, min, Bool, true, false, cond, ◌&&◌, nat_eq, Option, Some, None, refl, sym, ap, ◌∙◌, arith}
+use Rattle.std.proofs.Common.{◌≡◌, ℕ, zero, suc, ◌+◌, ◌<◌, ◌≤◌, ◌-◌, List, [], ◌∷◌, ◌++◌, append_assoc, map, length, get_or, min, Bool, true, false, cond, nat_eq, Option, Some, None, refl, sym, ap, ◌∙◌, arith}
 use Rattle.std.specs.List.{flat_map, position_from}
 use Rattle.std.specs.Option.{option_eq, unwrap_or}
-use Rattle.std.proofs.lemmas.List.{map-append}
-use Rattle.std.proofs.lemmas.Bool.{eqb-true, eq-eqb, and_parts, true≢false}
+use Rattle.std.proofs.lemmas.List.{get_or-map, length-map, map-append}
+use Rattle.std.proofs.lemmas.Grind.{same_number_lists}
+use Rattle.std.proofs.lemmas.Bool.{eqb-true, eq-eqb, true≢false}
 use Rattle.description_types.specs.declared.description.Description.{Description}
 use Rattle.flat_descriptions.specs.declared.flat.End.{End}
 use Rattle.flat_descriptions.specs.declared.flat.Flat.{Flat}
 use Rattle.flat_descriptions.specs.declared.flat.Join.{Join}
 use Rattle.plan_definitions.specs.declared.site.Site.{Site}
 use Rattle.plan_definitions.specs.declared.site.SiteKind.{SiteKind}
-use Rattle.plan_definitions.specs.Keys.{Key, end_key, keys_of, number_in, same_key}
+use Rattle.plan_definitions.specs.declared.site.SiteKind.TheVariants.{Variable}
+use Rattle.plan_definitions.specs.Elements.{leaders}
+use Rattle.plan_definitions.specs.Keys.{Key, end_key, key_of, keys_of, number_in, same_key}
 use Rattle.plan_definitions.specs.Lists.{positions}
+use Rattle.plan_definitions.specs.Sites.{site}
 use Rattle.plan_definitions.specs.Things.{elements_of}
 use Rattle.plan_definitions.specs.ElementGroups.{leader_of, least, nearest, own_number}
-use Rattle.plan_elements.specs.Leading.{AreLeading, pairs_of}
+use Rattle.plan_elements.proofs.Keys.{and_none, key_is, key_self, position_least, same_place}
+use Rattle.plan_elements.proofs.Standing.{own_place}
+use Rattle.plan_elements.specs.Ends.{pairs_of}
 use Rattle.plan_elements.specs.Spreads.{across_pair, number_at, spread_numbers}
-
--- ---- equal keys
-
-pub same_option : (a b : Option ℕ) → option_eq nat_eq a b ≡ true → a ≡ b
-same_option None None same = refl
-same_option None (Some b) same = absurd (true≢false (sym same))
-same_option (Some a) None same = absurd (true≢false (sym same))
-same_option (Some a) (Some b) same = ap (λ n. Some n) (eqb-true a b same)
-
-pub option_self : (a : Option ℕ) → option_eq nat_eq a a ≡ true
-option_self None = refl
-option_self (Some a) = eq-eqb a a refl
-
-pub key_is : (a b : Key) → same_key a b ≡ true → a ≡ b
-key_is a b same =
-    let parts = and_parts (option_eq nat_eq a.0 b.0 && option_eq nat_eq a.1 b.1) (nat_eq a.2 b.2) same in
-    let two = and_parts (option_eq nat_eq a.0 b.0) (option_eq nat_eq a.1 b.1) parts.0 in
-    λ j. (same_option a.0 b.0 two.0 j, same_option a.1 b.1 two.1 j, eqb-true a.2 b.2 parts.1 j)
-
-pub key_self : (a : Key) → same_key a a ≡ true
-key_self a = λ j. (option_self a.0 j && option_self a.1 j) && eq-eqb a.2 a.2 refl j
-
--- ---- a number tells its key, except for 0
-
-pub position_least : (test : Key → Bool) (i n : ℕ) (keys : List Key) → position_from test i keys ≡ Some n → (i ≤ n) × (n < i + length keys)
-position_least test i n [] found = absurd cc
-position_least test i n (k ∷ keys) found = by (λ rest. position_least test (i + 1) n keys rest) (test k) found
-  where
-    by : (position_from test (i + 1) keys ≡ Some n → (i + 1 ≤ n) × (n < (i + 1) + length keys)) → (b : Bool) → cond b (Some i) (position_from test (i + 1) keys) ≡ Some n → (i ≤ n) × (n < i + suc (length keys))
-    by later true found = let e : i ≡ n = cc in (omega arith, omega arith)
-    by later false found = let rest = later found in (omega (arith, rest.0), omega (arith, rest.1))
-
-pub same_place : (a b : Key) (i n : ℕ) (keys : List Key) → position_from (same_key a) i keys ≡ Some n → position_from (same_key b) i keys ≡ Some n → a ≡ b
-same_place a b i n [] first second = absurd cc
-same_place a b i n (k ∷ keys) first second = by (λ one two. same_place a b (i + 1) n keys one two) (same_key a k) (same_key b k) refl refl first second
-  where
-    by : (position_from (same_key a) (i + 1) keys ≡ Some n → position_from (same_key b) (i + 1) keys ≡ Some n → a ≡ b) → (x y : Bool) → same_key a k ≡ x → same_key b k ≡ y → cond x (Some i) (position_from (same_key a) (i + 1) keys) ≡ Some n → cond y (Some i) (position_from (same_key b) (i + 1) keys) ≡ Some n → a ≡ b
-    by later true true is_a is_b first second = key_is a k is_a ∙ sym (key_is b k is_b)
-    by later true false is_a is_b first second =
-        let e : i ≡ n = cc in
-        let rest = position_least (same_key b) (i + 1) n keys second in
-        absurd (omega (arith, rest.0))
-    by later false true is_a is_b first second =
-        let e : i ≡ n = cc in
-        let rest = position_least (same_key a) (i + 1) n keys first in
-        absurd (omega (arith, rest.0))
-    by later false false is_a is_b first second = later first second
 
 found_at : (o : Option ℕ) (n : ℕ) → unwrap_or o 0 ≡ suc n → o ≡ Some (suc n)
 found_at None n e = absurd (omega (arith, e))
@@ -134,6 +93,10 @@ module _ (keys : List Key) (g : ℕ → ℕ) (k : Key) where
 
 -- ---- the numbers of the elements themselves
 
+positions_length : (i count : ℕ) → length (positions i count) ≡ count
+positions_length i zero = refl
+positions_length i (suc count) = ap (λ k. suc k) (positions_length (i + 1) count)
+
 own_at : (i count n : ℕ) → n < count → number_at (positions i count) n ≡ i + n
 own_at i zero n within = absurd (omega arith)
 own_at i (suc count) zero within = omega arith
@@ -175,10 +138,6 @@ own_none i n past = ap (positions i) none
 
 -- ---- a variable is at no join
 
-and_none : (x y : Bool) → ((x && false) && y) ≡ false
-and_none true y = refl
-and_none false y = refl
-
 no_partners : (owner : Option ℕ) (item : ℕ) (joins : List Join) → flat_map (across_key (owner, None, item)) joins ≡ []
 no_partners owner item [] = refl
 no_partners owner item (j ∷ joins) =
@@ -215,11 +174,28 @@ module _ (keys : List Key) (joins : List Join) (near list : List ℕ)
       let e : End = record { instance = owner; port = port; element = item } in
       list_at (end_key e) ∙ ap (λ z. least z (map (nearest joins keys) (flat_map (across_key (end_key e)) joins))) (near_end e)
 
-pub they_lead : (d : Description) (f : Flat) (own near list : List ℕ) (pairs : List (ℕ × ℕ)) (count : ℕ) → pairs ≡ pairs_of (keys_of (elements_of d f)) f.joins → count ≡ length (keys_of (elements_of d f)) → own ≡ positions 0 count
-    → ((n : ℕ) → number_at near n ≡ spread_numbers pairs (number_at own) n) → ((n : ℕ) → number_at list n ≡ spread_numbers pairs (number_at near) n) → AreLeading d f list
-they_lead d f own near list pairs count pairs_are counted own_are near_is list_is =
-    let keys = keys_of (elements_of d f) in
-    λ s. leads keys f.joins near list
-    (λ n. near_is n ∙ (λ j. spread_numbers (pairs_are j) (number_at ((own_are ∙ ap (positions 0) counted) j)) n))
-    (λ n. list_is n ∙ (λ j. spread_numbers (pairs_are j) (number_at near) n))
-    s.owner s.port s.item s.kind
+pub they_lead : (d : Description) (f : Flat) (own near list : List ℕ) (pairs : List (ℕ × ℕ)) (count : ℕ) → pairs ≡ pairs_of (keys_of (elements_of d f)) f.joins → count ≡ length (elements_of d f) → own ≡ positions 0 count
+    → length near ≡ length own → ((n : ℕ) → number_at near n ≡ spread_numbers pairs (number_at own) n) → length list ≡ length near → ((n : ℕ) → number_at list n ≡ spread_numbers pairs (number_at near) n) → list ≡ leaders d f
+they_lead d f own near list pairs count pairs_are counted own_are long_near near_is long list_is = same_number_lists list (leaders d f) as_many at
+  where
+    keys : List Key
+    keys = keys_of (elements_of d f)
+
+    all : length list ≡ length (elements_of d f)
+    all = long ∙ long_near ∙ ap length own_are ∙ positions_length 0 count ∙ counted
+
+    as_many : length list ≡ length (leaders d f)
+    as_many = all ∙ sym (length-map (elements_of d f) (leader_of f.joins keys))
+
+    is_leader : (s : Site) → number_at list (number_in keys (key_of s)) ≡ leader_of f.joins keys s
+    is_leader s = leads keys f.joins near list
+        (λ n. near_is n ∙ (λ j. spread_numbers (pairs_are j) (number_at ((own_are ∙ ap (positions 0) (counted ∙ sym (length-map (elements_of d f) key_of))) j)) n))
+        (λ n. list_is n ∙ (λ j. spread_numbers (pairs_are j) (number_at near) n))
+        s.owner s.port s.item s.kind
+
+    at : (k : ℕ) → k < length list → get_or list k 0 ≡ get_or (leaders d f) k 0
+    at k within =
+        let inside : k < length (elements_of d f) = omega (arith, within, all) in
+        let s = get_or (elements_of d f) k (site None None 0 Variable) in
+        ap (λ o. number_at list (unwrap_or o 0)) (sym (own_place d f k (site None None 0 Variable) inside)) ∙ is_leader s
+        ∙ sym (get_or-map (leader_of f.joins keys) (elements_of d f) k (site None None 0 Variable) 0 inside)

@@ -1,6 +1,8 @@
+pub mod Keys
+pub mod Standing
 pub mod Filling
 pub mod Leading
 pub mod Spreading
 pub mod Few
-pub mod Marking
+pub mod Joining
 pub mod Ranking

@@ -1,5 +1,4 @@
 pub mod Lists
 pub mod Spreads
-pub mod Leading
+pub mod Ends
 pub mod Grouped
-pub mod Marks

@@ -1,16 +1,12 @@
 //! The data elements and variables of a plan.
 
 ghost use Rattle.std.specs.Prelude.{◌≡◌, [], ◌∷◌, ◌++◌, IfOk, None, OnOk, Some, false, map, option_and_then, option_copied, slice_get};
-ghost use Rattle.std.specs.Option.{option_map_or};
-ghost use Rattle.plan_definitions.specs.Joined.{end_of, is_joined};
 ghost use Rattle.plan_definitions.specs.Ports.{com_spec_of, site_name};
 ghost use Rattle.plan_definitions.specs.Elements.{declared_at, elem_seen, element_of, elements, group_of, is_provided};
-ghost use Rattle.plan_definitions.specs.Things.{elements_of};
 ghost use Rattle.plan_elements.specs.Grouped.{AreGroups};
-ghost use Rattle.plan_elements.specs.Marks.{AreMarks};
+ghost use Rattle.plan_elements.specs.Ends.{joined_at};
 
 use crate::groups::Groups;
-use crate::marks::{is_joined, marks_of};
 use crate::said::{given_by, init_of, limits_of, never_received_by, queue_by, words_of};
 use crate::types::{declared_in, kind_declared, type_at, type_declared, variable_at};
 use bus_semantics::{ElemKind, ElemPlan};
@@ -50,7 +46,7 @@ fn item_plan(
     item: Item<'_>,
     name: Text,
 ) -> ElemPlan
-    requires joined { links.joined ≡ option_map_or (is_joined source.now.f.now.joins) (end_of site) false }
+    requires joined { links.joined ≡ joined_at source.now.f.now.joins site }
     requires port { site.port ≡ Some port }
     requires declared { option_copied item.declared ≡ declared_at source.now.d.now source.now.f.now site.owner port site.item }
     requires spec { option_copied item.spec ≡ com_spec_of source.now.d.now source.now.f.now site.owner port site.item }
@@ -83,7 +79,7 @@ fn push_item(
     site: Site,
     port: u32,
 ) -> Result<(), Memory>
-    requires joined { links.joined ≡ option_map_or (is_joined source.now.f.now.joins) (end_of site) false }
+    requires joined { links.joined ≡ joined_at source.now.f.now.joins site }
     requires port { site.port ≡ Some port }
     ensures { OnOk result (map elem_seen list.new.items ≡ map elem_seen list.old.items ++ element_of source.now.d.now source.now.f.now links.group site ∷ []) }
 {
@@ -111,7 +107,7 @@ fn given_to_variable(variable: Option<&Variable>) -> Option<&Seq<Word>>
 }
 
 fn variable_plan(source: &Source<'_>, links: Links, site: Site, name: Text) -> ElemPlan
-    requires joined { links.joined ≡ option_map_or (is_joined source.now.f.now.joins) (end_of site) false }
+    requires joined { links.joined ≡ joined_at source.now.f.now.joins site }
     requires port { site.port ≡ None }
     requires name { name ≡ site_name source.now.d.now source.now.f.now site }
     ensures { elem_seen result ≡ element_of source.now.d.now source.now.f.now links.group site }
@@ -141,7 +137,7 @@ fn push_variable(
     links: Links,
     site: Site,
 ) -> Result<(), Memory>
-    requires joined { links.joined ≡ option_map_or (is_joined source.now.f.now.joins) (end_of site) false }
+    requires joined { links.joined ≡ joined_at source.now.f.now.joins site }
     requires port { site.port ≡ None }
     ensures { OnOk result (map elem_seen list.new.items ≡ map elem_seen list.old.items ++ element_of source.now.d.now source.now.f.now links.group site ∷ []) }
 {
@@ -158,7 +154,7 @@ fn push_element(
     links: Links,
     site: Site,
 ) -> Result<(), Memory>
-    requires { links.joined ≡ option_map_or (is_joined source.now.f.now.joins) (end_of site) false }
+    requires { links.joined ≡ joined_at source.now.f.now.joins site }
     ensures { OnOk result (map elem_seen list.new.items ≡ map elem_seen list.old.items ++ element_of source.now.d.now source.now.f.now links.group site ∷ []) }
 {
     match site.port {
@@ -171,19 +167,18 @@ fn elements_at(
     alloc: Global,
     source: &Source<'_>,
     groups: &[u32],
-    marks: &[bool],
+    joined: &[bool],
     sites: &[Site],
 ) -> Result<Vec<ElemPlan>, Memory>
     requires groups { groups.now ≡ map (group_of source.now.d.now source.now.f.now) sites.now }
-    requires marks { AreMarks source.now.d.now source.now.f.now marks.now }
-    requires sites { sites.now ≡ elements_of source.now.d.now source.now.f.now }
+    requires joined { joined.now ≡ map (joined_at source.now.f.now.joins) sites.now }
     ensures { IfOk result (λ list. map elem_seen list.items ≡ map (λ s. element_of source.now.d.now source.now.f.now (group_of source.now.d.now source.now.f.now s) s) sites.now) }
 {
     let mut list = Vec::with_capacity(alloc, sites.len())?;
     for number in 0..sites.len() {
         let links = Links {
             group: groups[number],
-            joined: is_joined(source, marks, sites[number]),
+            joined: joined[number],
         };
         push_element(&mut list, alloc, source, links, sites[number])?;
     }
@@ -199,12 +194,11 @@ pub fn element_plans(
     requires { AreGroups source.now.d.now source.now.f.now groups.now }
     ensures { IfOk result (λ list. map elem_seen list.items ≡ elements source.now.d.now source.now.f.now) }
 {
-    let marks = marks_of(alloc, source)?;
     elements_at(
         alloc,
         source,
         groups.numbers.as_slice(),
-        marks.as_slice(),
+        groups.joined.as_slice(),
         source.lists.elements.as_slice(),
     )
 }

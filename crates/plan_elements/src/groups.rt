@@ -1,24 +1,29 @@
 //! Groups of elements that joins connect.
 
-ghost use Rattle.std.specs.Prelude.{◌≡◌, ◌+◌, [], ◌∷◌, ◌++◌, IfOk, OnOk, length, map, nat_eq, if◌then◌else◌};
+ghost use Rattle.std.specs.Prelude.{◌≡◌, ◌+◌, ◌<◌, ◌^◌, [], ◌∷◌, ◌++◌, IfOk, OnOk, length, map, nat_eq, if◌then◌else◌};
 ghost use Rattle.plan_definitions.specs.Elements.{leaders as all_leaders};
 ghost use Rattle.plan_elements.specs.Grouped.{AreGroups};
 ghost use Rattle.plan_definitions.specs.ElementGroups.{groups as all_groups, heads};
 ghost use Rattle.plan_elements.specs.Lists.{ranks};
 ghost use Rattle.plan_elements.specs.Spreads.{number_at};
 
+use crate::ends::{Ends, ends_of};
 use crate::leaders::leaders_of;
 use crate::members::all_members;
 use crate::spread::number_at;
-use plan_numbers::{Source, position};
+use plan_numbers::Source;
 use rte_text::{Memory, Seq};
 use std::alloc::Global;
 
-/// The number of the group of each element, and how many groups there are. They are numbered by their least elements.
+/// The groups that joins make of elements. They are numbered by their least elements.
 #[derive(Drop)]
 pub struct Groups {
+    /// The number of the group of each element.
     pub numbers: Vec<u32>,
+    /// How many groups there are.
     pub count: usize,
+    /// Of each element, whether a join has it as an end.
+    pub joined: Vec<bool>,
 }
 
 /// At the number of each element that leads a group the number of the group, at others 0; and how many groups there are.
@@ -30,12 +35,13 @@ struct Ranks {
 
 /// Adds the rank of an element, where so many groups are before; and counts its group.
 fn push_rank(list: &mut Vec<u32>, number: usize, count: u32, leader: u32) -> Result<u32, Memory>
+    requires { count + 1 < 2 ^ 32 }
     ensures rank { OnOk result (list.new.items ≡ list.old.items ++ (if nat_eq leader number then count else 0) ∷ []) }
     ensures count { IfOk result (λ next. next ≡ (if nat_eq leader number then count + 1 else count)) }
 {
     if leader as usize == number {
         list.push(count)?;
-        position(count as usize + 1)
+        Ok(count + 1)
     } else {
         list.push(0)?;
         Ok(count)
@@ -44,6 +50,7 @@ fn push_rank(list: &mut Vec<u32>, number: usize, count: u32, leader: u32) -> Res
 
 #[tactic(auto, using(crate::proofs::Ranking::ranks_more, crate::proofs::Ranking::count_more, crate::proofs::Ranking::ranks_all, crate::proofs::Ranking::count_all))]
 fn ranks_of(alloc: Global, leaders: &[u32]) -> Result<Ranks, Memory>
+    requires { length leaders.now < 2 ^ 32 }
     ensures ranks { IfOk result (λ r. r.numbers.items ≡ ranks 0 0 leaders.now) }
     ensures count { IfOk result (λ r. r.count ≡ length (heads leaders.now)) }
 {
@@ -70,12 +77,14 @@ fn numbers_of(alloc: Global, ranks: &[u32], leaders: &[u32]) -> Result<Vec<u32>,
 pub fn groups_over(alloc: Global, source: &Source<'_>) -> Result<Groups, Memory>
     ensures { IfOk result (λ groups. AreGroups source.now.d.now source.now.f.now groups) }
 {
-    let leaders = leaders_of(alloc, source)?;
+    let Ends { pairs, joined } = ends_of(alloc, source)?;
+    let leaders = leaders_of(alloc, source, pairs.as_slice())?;
     let ranks = ranks_of(alloc, leaders.as_slice())?;
     let numbers = numbers_of(alloc, ranks.numbers.as_slice(), leaders.as_slice())?;
     Ok(Groups {
         numbers,
         count: ranks.count as usize,
+        joined,
     })
 }
 

@@ -2,9 +2,9 @@
 #![tactic(auto)]
 
 mod elements;
+mod ends;
 mod groups;
 mod leaders;
-mod marks;
 mod members;
 mod said;
 mod spread;

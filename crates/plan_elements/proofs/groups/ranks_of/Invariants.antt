@@ -1,4 +1,4 @@
-use Rattle.std.proofs.Common.{◌≡◌, ◌+◌, ◌++◌, drop, length}
+use Rattle.std.proofs.Common.{◌≡◌, ◌≤◌, ◌+◌, ◌++◌, drop, length}
 use Rattle.plan_definitions.specs.ElementGroups.{head_at, heads}
 use Rattle.plan_definitions.specs.Lists.{from}
 use Rattle.plan_elements.specs.Lists.{ranks}
@@ -6,6 +6,7 @@ use Rattle.plan_elements.proofs.groups.ranks_of.Given as goal
 
 abbrev pub invariant-loop-number : goal.invariant-loop-number
 invariant-loop-number l = record {
+  few : l.count ≤ l.number;
   ranked : ranks 0 0 l.leaders ≡ l.numbers.items ++ ranks l.number l.count (drop l.number l.leaders);
   counted : length (heads l.leaders) ≡ l.count + length (from l.number head_at (drop l.number l.leaders));
 }
