@@ -1,13 +1,25 @@
--- One more thing, before those that an index has, and one more mode, behind those that were looked at.
-use Rattle.std.proofs.Common.{◌≡◌, ℕ, suc, ◌+◌, ◌-◌, ◌<◌, false, cond, List, bytes_eq, length, get_or, Some, Bor, refl, sym, ap, ◌∙◌, arith}
+-- How many things are numbered; one more thing, before those that an index has, and one more mode, behind those that were looked at.
+use Rattle.std.proofs.Common.{◌≡◌, ℕ, suc, ◌+◌, ◌-◌, ◌<◌, ◌^◌, false, cond, List, bytes_eq, length, get_or, Some, Bor, refl, sym, ap, ◌∙◌, arith}
 use Rattle.std.specs.List.{slice_get}
 use Rattle.std.proofs.lemmas.Option.{slice_get_read}
 use Rattle.indexmap.specs.IndexMap.{IndexMap, get_by}
 use Rattle.bus_semantics.specs.Plan.{Plan}
 use Rattle.bus_semantics.specs.Spelling.{Letters}
 use Rattle.script_reading.specs.declared.forms.Form.{Form}
-use Rattle.script_reading.specs.Offers.{first_from, goes_by, offered}
+use Rattle.script_reading.specs.declared.forms.Form.TheVariants.{Write, Send, Read, Receive, Ask, TakeResult, Switch, SeeMode}
+use Rattle.script_reading.specs.Offers.{first_from, goes_by, how_many, offered}
 use Rattle.script_reading.specs.Index.{IsNoted}
+use Rattle.script_reading.specs.Numbers.{HasFewNumbers}
+
+pub few_numbered : (f : Form) (p : Plan) → HasFewNumbers p → how_many f p < 2 ^ 32
+few_numbered Write p few = few.elements
+few_numbered Send p few = few.elements
+few_numbered Read p few = few.elements
+few_numbered Receive p few = few.elements
+few_numbered Ask p few = few.points
+few_numbered TakeResult p few = few.points
+few_numbered Switch p few = few.machines
+few_numbered SeeMode p few = few.mode_ports
 
 pub noted : {S : Type 0} (f : Form) (p : Plan) (count j left : ℕ) (m n : IndexMap (Bor (List ℕ)) ℕ S) → j < count → left ≡ j + 1 → IsNoted (offered f p j) j m n
     → ((q : List ℕ) → get_by (λ k. bytes_eq q k.now) m ≡ first_from (λ x. goes_by q (offered f p x)) (count - left) left)
