@@ -1,31 +1,27 @@
 -- Few things are numbered of a description that lists few, made flat within limits, where its counts do not foretell that its plan is
 -- too large.
 use Rattle.std.proofs.Common.{◌≡◌, ℕ, ◌+◌, ◌*◌, ◌^◌, ◌<◌, ◌≤◌, List, [], ◌∷◌, length, filter, slice_get, Bool, true, false, cond, ◌||◌, Option, Some, None, is_some, option_map, refl, arith}
-use Rattle.std.proofs.lemmas.List.{length-append}
-use Rattle.std.specs.List.{find, flat_map}
+use Rattle.std.proofs.lemmas.List.{length-append, length-map}
+use Rattle.std.specs.List.{find}
 use Rattle.std.specs.Option.{option_map_or}
-use Rattle.runnable_lang.specs.declared.program.AccessKind.{AccessKind}
-use Rattle.runnable_lang.specs.declared.program.AccessKind.TheVariants as kind
-use Rattle.description_types.specs.declared.component.Access.{Access}
 use Rattle.description_types.specs.declared.component.Component.{Component}
-use Rattle.description_types.specs.declared.component.Runnable.{Runnable}
 use Rattle.description_types.specs.declared.description.Description.{Description}
 use Rattle.flat_descriptions.specs.declared.flat.End.{End}
 use Rattle.flat_descriptions.specs.declared.flat.Flat.{Flat}
 use Rattle.flat_descriptions.specs.declared.flat.Instance.{Instance}
 use Rattle.flat_descriptions.specs.declared.flat.Join.{Join}
-use Rattle.flat_descriptions.specs.Members.{sum_of}
 use Rattle.plan_definitions.specs.declared.part.Part.{Part}
 use Rattle.plan_definitions.specs.declared.site.Site.{Site}
-use Rattle.plan_definitions.specs.Callings.{calling_of, callings_in, callings_of_component}
+use Rattle.plan_definitions.specs.Callings.{callings}
 use Rattle.plan_definitions.specs.Joined.{end_of, is_joined, provider_of, same_end}
 use Rattle.plan_definitions.specs.Keys.{is_mode_port, key_of, of_kind}
 use Rattle.plan_definitions.specs.Lists.{from}
 use Rattle.plan_definitions.specs.Parts.{counted, counted_at, numbered}
+use Rattle.plan_definitions.specs.Services.{point_of, points}
 use Rattle.plan_definitions.specs.Sites.{sites}
-use Rattle.plan_definitions.specs.Sizes.{HasFewParts, HasFewThings, access_count}
+use Rattle.plan_definitions.specs.Sizes.{HasFewParts, HasFewThings}
 use Rattle.plan_definitions.specs.Things.{has_machine, mode_ports_of}
-use Rattle.event_mapping.specs.Foretold.{IsForetold}
+use Rattle.event_mapping.specs.Foretold.{AreShort}
 use Rattle.event_mapping.proofs.Alone.{as_many, named, named_few}
 use Rattle.event_mapping.proofs.Apart.{apart_filter, sites_apart}
 use Rattle.event_mapping.proofs.Foretelling.{elements_listed, machines_listed, servers_listed}
@@ -40,38 +36,6 @@ from_few g each i (x ∷ xs) = omega (arith, each i x, length-append (g i x) (fr
 all_few : {X Y : Type 0} (g : ℕ → X → List Y) → ((i : ℕ) (x : X) → length (g i x) < 2 ^ 22) → (xs : List X) → length xs ≤ 1024 → length (from 0 g xs) < 2 ^ 32
 all_few g each xs few = omega (arith, few, from_few g each 0 xs)
 
-one_call : (i m : ℕ) (k : AccessKind) (port item : ℕ) → length (calling_of i m (record { kind = k; port = port; item = item })) ≤ 1
-one_call i m kind.Write port item = omega arith
-one_call i m kind.Read port item = omega arith
-one_call i m kind.Invalidate port item = omega arith
-one_call i m kind.IsUpdated port item = omega arith
-one_call i m kind.Send port item = omega arith
-one_call i m kind.Receive port item = omega arith
-one_call i m kind.IWrite port item = omega arith
-one_call i m kind.IRead port item = omega arith
-one_call i m kind.IrvWrite port item = omega arith
-one_call i m kind.IrvRead port item = omega arith
-one_call i m kind.IrvIWrite port item = omega arith
-one_call i m kind.IrvIRead port item = omega arith
-one_call i m kind.Call port item = omega arith
-one_call i m kind.ACall port item = omega arith
-one_call i m kind.TakeResult port item = omega arith
-one_call i m kind.Switch port item = omega arith
-one_call i m kind.Mode port item = omega arith
-one_call i m kind.Enter port item = omega arith
-
-runnable_calls : (i m : ℕ) (accesses : List Access) → length (flat_map (calling_of i m) accesses) ≤ length accesses
-runnable_calls i m [] = omega arith
-runnable_calls i m (a ∷ accesses) =
-    let one : length (calling_of i m a) ≤ 1 = one_call i m a.kind a.port a.item in
-    omega (arith, length-append (calling_of i m a) (flat_map (calling_of i m) accesses), one, runnable_calls i m accesses)
-
-component_calls : (i m : ℕ) (rs : List Runnable) → length (from m (callings_in i) rs) ≤ sum_of (λ (r : Runnable). length r.accesses) rs
-component_calls i m [] = omega arith
-component_calls i m (r ∷ rs) =
-    let first : length (callings_in i m r) ≤ length r.accesses = runnable_calls i m r.accesses in
-    omega (arith, length-append (callings_in i m r) (from (m + 1) (callings_in i) rs), first, component_calls i (m + 1) rs)
-
 module _ (d : Description) (few : HasFewParts d) where
   pairs_at : (part : Part) (i : ℕ) (x : Instance) → length (numbered i (counted_at part d x)) < 2 ^ 22
   pairs_at part i x = let below : counted_at part d x < 2 ^ 22 = by (slice_get d.components x.component) refl in omega (arith, as_many {Y = ℕ × ℕ} (λ n. (i, n)) 0 (counted_at part d x), below)
@@ -79,16 +43,6 @@ module _ (d : Description) (few : HasFewParts d) where
       by : (o : Option Component) → slice_get d.components x.component ≡ o → option_map_or (counted part) o 0 < 2 ^ 22
       by None none = omega arith
       by (Some c) some = (few.components x.component c some).parts part
-
-  calls_at : (i : ℕ) (x : Instance) → length (option_map_or (callings_of_component i) (slice_get d.components x.component) []) < 2 ^ 22
-  calls_at i x = by (slice_get d.components x.component) refl
-    where
-      by : (o : Option Component) → slice_get d.components x.component ≡ o → length (option_map_or (callings_of_component i) o []) < 2 ^ 22
-      by None none = omega arith
-      by (Some c) some =
-          let most : length (callings_of_component i c) ≤ access_count c = component_calls i 0 c.behavior.runnables in
-          let reached : access_count c < 2 ^ 22 = (few.components x.component c some).accesses in
-          omega (arith, most, reached)
 
 -- ---- required mode elements with a machine: joins name them
 
@@ -129,14 +83,14 @@ few_mode_ports d f =
 
 -- ---- the whole
 
-pub few_things : (d : Description) (f : Flat) → HasFewParts d → length f.instances ≤ 1024 → length f.joins ≤ 65536 → IsForetold false d f → HasFewThings d f
+pub few_things : (d : Description) (f : Flat) → HasFewParts d → length f.instances ≤ 1024 → length f.joins ≤ 65536 → AreShort d f → HasFewThings d f
 few_things d f few instances joins told = record {
   parts = few;
   instances = omega (arith, instances);
-  elements = omega (arith, joins, told.0, elements_listed d f);
-  servers = omega (arith, joins, told.0, servers_listed d f);
-  machines = omega (arith, joins, told.0, machines_listed d f);
+  elements = omega (arith, joins, told.objects, elements_listed d f);
+  servers = omega (arith, joins, told.objects, servers_listed d f);
+  machines = omega (arith, joins, told.objects, machines_listed d f);
   mode_ports = omega (arith, joins, few_mode_ports d f);
   pairs = λ part. all_few (λ i x. numbered i (counted_at part d x)) (pairs_at d few part) f.instances instances;
-  calls = all_few (λ i (x : Instance). option_map_or (callings_of_component i) (slice_get d.components x.component) []) (calls_at d few) f.instances instances;
+  points = let same : length (points d f) ≡ length (callings d f) = length-map (callings d f) (point_of d f) in omega (arith, told.points, same);
 }

@@ -1,11 +1,17 @@
-use Rattle.std.proofs.Common.{◌∙◌}
+use Rattle.std.proofs.Common.{◌<◌, ◌^◌, length, sym, ◌∙◌}
 use Rattle.bus_semantics.specs.declared.plan.BusPlan.{BusPlan}
 use Rattle.bus_semantics.specs.declared.script.Mapping.{Mapping}
+use Rattle.plan_definitions.specs.declared.part.Part.TheVariants.{Events}
+use Rattle.plan_definitions.specs.Parts.{events_of}
 use Rattle.plan_definitions.specs.Planned.{plan_of}
 use Rattle.plan_definitions.specs.PlanRefusals.{of_size}
 use Rattle.plan_definitions.specs.Tasks.{mapping_of}
-use Rattle.event_mapping.proofs.Telling.{still_says}
+use Rattle.event_mapping.proofs.Telling.{moved, still_says}
 use Rattle.event_mapping.proofs.check.listed.Goals as goal
+
+pub list_mapping-requires : goal.list_mapping-requires
+list_mapping-requires c = moved (λ d f. length (events_of d f) < 2 ^ 32) c.args.d.now c.args.kept.d.now c.args.f.now c.args.kept.f.now (sym c.requires.description) (sym c.requires.flat)
+    (c.requires.few.pairs Events)
 
 pub returns-in-Ok : goal.returns-in-Ok
 returns-in-Ok c = record { size = c.in-Ok.ensures.size; plan = c.in-Ok.ensures.plan; mapping = c.in_ok-mapping.ensures.mapping ∙ (λ j. mapping_of (c.requires.description j) (c.requires.flat j)) }
