@@ -41,6 +41,54 @@ fn settle(p: &BusPlan, t: &TaskSet, slot: &Slot, place: usize, a: &mut Awake)
     }
 }
 
+/// Looks at the slots that are awake from one place up to another, as `look_through` does. It stays a function of its own, since its
+/// room costs a look through no slots more than the look.
+#[inline(never)]
+fn look_among<B: Bench>(
+    p: &BusPlan,
+    t: &TaskSet,
+    slots: &mut Vec<Slot>,
+    a: &mut Awake,
+    from: usize,
+    to: usize,
+    bench: &mut B,
+    made: &mut Vec<Stamped>,
+) -> Passed
+    requires room { 0 < (B.told bench.old).room }
+    requires plan { B.plan bench.old ≡ plan_of p.now }
+    requires bodies { AsksAsPlanned (plan_of p.now) t.now }
+    requires sound { (m : Mapping) × IsSound (plan_of p.now) m }
+    requires ready { (i : ℕ) (s : Slot) → slice_get slots.old.items i ≡ Some s → IsReadySlot (plan_of p.now) t.now s }
+    requires order { from ≤ to }
+    requires within { to ≤ length slots.old.items }
+    requires space { length made.old.items < vec_capacity made.old }
+    requires fits { Fits slots.old.items a.old.first a.old }
+    requires held { HeldTold (plan_of p.now) t.now (B.told bench.old).objects None slots.old.items from a.old }
+    ensures home { B.home bench.new ≡ B.home bench.old }
+    ensures plan { B.plan bench.new ≡ B.plan bench.old }
+    ensures capacity { vec_capacity made.new ≡ vec_capacity made.old }
+    ensures pass { IsPass (plan_of p.now) t.now 0 slots.old.items slots.new.items from to
+        (B.told bench.old) (B.told bench.new) made.old.items made.new.items result }
+    ensures fits { Fits slots.new.items a.old.first a.new }
+    ensures held { HeldPassed (plan_of p.now) t.now (B.told bench.old).objects slots.new.items to a.new made.old.items made.new.items result }
+{
+    areas_are_closed_alike();
+    last_entries_are_last();
+    let mut behind = from;
+    while let Some(at) = a.slots.next(behind) {
+        if at >= to {
+            return Passed::Nothing;
+        }
+        match look_at_awake(p, t, &mut slots[at], &mut a.events[at], bench, made) {
+            Looks::Made => return Passed::Made(at),
+            Looks::Nothing => settle(p, t, &slots[at], at, a),
+            Looks::Contended(object) => return Passed::Contended(object),
+        }
+        behind = at + 1;
+    }
+    Passed::Nothing
+}
+
 /// Looks at the slots that are awake from one place up to another, until one of them steps. Its entry goes to the end of the list,
 /// which has room for it. The order of slots, by which those that wait at areas may sleep, begins at the first of these places
 /// before it, and behind the last one after it.
@@ -72,23 +120,9 @@ pub(crate) fn look_through<B: Bench>(
     ensures fits { Fits slots.new.items a.old.first a.new }
     ensures held { HeldPassed (plan_of p.now) t.now (B.told bench.old).objects slots.new.items to a.new made.old.items made.new.items result }
 {
-    areas_are_closed_alike();
-    last_entries_are_last();
     // Each second pass of a core with one slot.
     if from == to {
         return Passed::Nothing;
     }
-    let mut behind = from;
-    while let Some(at) = a.slots.next(behind) {
-        if at >= to {
-            return Passed::Nothing;
-        }
-        match look_at_awake(p, t, &mut slots[at], &mut a.events[at], bench, made) {
-            Looks::Made => return Passed::Made(at),
-            Looks::Nothing => settle(p, t, &slots[at], at, a),
-            Looks::Contended(object) => return Passed::Contended(object),
-        }
-        behind = at + 1;
-    }
-    Passed::Nothing
+    look_among(p, t, slots, a, from, to, bench, made)
 }

@@ -6,7 +6,7 @@ use Rattle.task_slots.specs.declared.slot.Slot.{Slot}
 use Rattle.task_slots.specs.Slots.{slot_tries}
 use Rattle.core_turn.specs.Awake.{Fits, HeldTold}
 use Rattle.task_slots.proofs.Unchanged.{TriesHeld, Unchanged}
-use Rattle.core_turn.proofs.awake_looks.look_through.Given as goal
+use Rattle.core_turn.proofs.awake_looks.look_among.Given as goal
 
 abbrev pub invariant-loop-at : goal.invariant-loop-at
 invariant-loop-at g l = record {
