@@ -1,5 +1,5 @@
--- Few enough to be numbered: the operations of a port, the runnables of an instance, and the keys of calls.
-use Rattle.std.proofs.Common.{◌≡◌, ℕ, ◌^◌, ◌<◌, ◌≤◌, List, length, map, slice_get, Option, Some, None, refl, ap, ◌∙◌, arith}
+-- Few enough to be numbered: the ports of the root, the operations of a port, the runnables of an instance, and the keys of calls.
+use Rattle.std.proofs.Common.{◌≡◌, ℕ, ◌^◌, ◌<◌, ◌≤◌, List, [], length, map, slice_get, Option, Some, None, refl, sym, ap, subst, ◌∙◌, arith}
 use Rattle.std.proofs.lemmas.List.{length-map}
 use Rattle.std.specs.Option.{option_map_or}
 use Rattle.interface_types.specs.declared.interface.Interface.{Interface}
@@ -7,10 +7,12 @@ use Rattle.interface_types.specs.declared.interface.InterfaceKind.{InterfaceKind
 use Rattle.interface_types.specs.declared.interface.InterfaceKind.TheVariants.{SenderReceiver, ClientServer, ModeSwitch}
 use Rattle.description_types.specs.declared.component.Component.{Component}
 use Rattle.description_types.specs.declared.component.Port.{Port}
+use Rattle.description_types.specs.declared.description.Composition.{Composition}
 use Rattle.description_types.specs.declared.description.Description.{Description}
 use Rattle.plan_definitions.specs.declared.calling.Calling.{Calling}
 use Rattle.plan_definitions.specs.declared.part.Part.TheVariants.{Runnables}
 use Rattle.plan_definitions.specs.Callings.{operation_count, operations_at}
+use Rattle.plan_definitions.specs.Sites.{root_ports}
 use Rattle.plan_definitions.specs.Sizes.{HasFewParts, HasShortInterfaces}
 use Rattle.plan_definitions.specs.WellFormed.{item_count}
 
@@ -25,6 +27,16 @@ few_operations d port short = by (slice_get d.types.interfaces port.interface) r
     by : (o : Option Interface) → slice_get d.types.interfaces port.interface ≡ o → option_map_or (λ (i : Interface). operation_count i.kind) o 0 < 2 ^ 32
     by None none = omega arith
     by (Some x) some = omega (arith, operations_most x.kind, short.interfaces port.interface x some)
+
+pub few_outer : (d : Description) (ports : List Port) → ports ≡ root_ports d → HasFewParts d → length ports < 2 ^ 32
+few_outer d ports are few = subst (λ ps. length ps < 2 ^ 32) (sym are) (by (slice_get d.compositions d.root) refl)
+  where
+    by : (o : Option Composition) → slice_get d.compositions d.root ≡ o → length (option_map_or (λ (c : Composition). c.ports) o []) < 2 ^ 32
+    by None none = omega arith
+    by (Some c) some = omega (arith, few.compositions d.root c some)
+
+pub few_listed : {X : Type 0} (list items all : List X) → list ≡ items → items ≡ all → length all < 2 ^ 32 → length list < 2 ^ 32
+few_listed list items all same are few = subst (λ xs. length xs < 2 ^ 32) (sym (same ∙ are)) few
 
 pub few_runnables : (d : Description) (i : ℕ) (c : Component) → HasFewParts d → slice_get d.components i ≡ Some c → length c.behavior.runnables < 2 ^ 32
 few_runnables d i c few at = let most : length c.behavior.runnables < 2 ^ 22 = (few.components i c at).parts Runnables in omega (arith, most)

@@ -1,4 +1,4 @@
-use Rattle.plan_numbers.proofs.Few.{few_outer}
+use Rattle.plan_services.proofs.Few.{few_outer}
 use Rattle.plan_services.proofs.callings.callings_of.Goals as goal
 
 pub push_outer_ports-requires-clause-ports : goal.push_outer_ports-requires-clause-ports

@@ -1,6 +1,5 @@
 use Rattle.std.proofs.Common.{ap, option_copied, refl, sym, ◌∙◌}
-use Rattle.plan_numbers.proofs.Few.{few_listed}
-use Rattle.plan_services.proofs.Few.{few_runnables}
+use Rattle.plan_services.proofs.Few.{few_listed, few_runnables}
 use Rattle.plan_services.proofs.callings.push_instance.Goals as goal
 
 pub push_runnables-requires : goal.push_runnables-requires

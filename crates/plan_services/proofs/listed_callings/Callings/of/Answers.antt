@@ -1,5 +1,5 @@
 use Rattle.plan_definitions.specs.Callings.{callings}
-use Rattle.plan_numbers.proofs.Few.{few_listed}
+use Rattle.plan_services.proofs.Few.{few_listed}
 use Rattle.plan_services.proofs.listed_callings.Callings.of.Goals as goal
 
 pub calls_of-requires : goal.calls_of-requires
