@@ -32,7 +32,6 @@ use Rattle.port_objects.specs.declared.object.Object.{Object}
 use Rattle.port_objects.specs.Kept.{Kept}
 use Rattle.port_objects.specs.Leading.{lead}
 use Rattle.port_objects.specs.Objects.{kept_of, ArePlans}
-use Rattle.port_objects.specs.Plans.{HasObjects}
 use Rattle.port_objects.specs.Standing.{Stands}
 use Rattle.port_objects.specs.Waking.{may_start_in}
 use Rattle.trace_objects.specs.Resting.{Begins, IsPaused, Rests, StartComes, starts_of}
@@ -48,7 +47,6 @@ pub record RestLaws (p : Plan) (h : History) : Type 0 where
   pub starts : (object : ℕ) (k : Kept) (event : ℕ) (n : Noted) → may_start_in k event ≡ false → IsPlainStart event n → lead p object k n ≡ None
   pub parts : (object : ℕ) (e : Entry) → IsLegal p (e ∷ h) → IsPastOf p object (entries_of p (e ∷ h) object)
   pub unjoined : (a : Actor) (event point : ℕ) → kind_of p event ≡ Returns point → server_of p point ≡ None → is_due p a event (noted h) ≡ false
-  pub has : HasObjects p
   pub touched : (a : Actor) (w : Wanted) → wish_fits p a w ≡ true → IfSome (object_of p a w) (IsObject p)
   pub goes : (k : ActKey) → runs k h ≡ true → GoesOn p h k
 
@@ -77,7 +75,7 @@ module _ (p : Plan) (m : Mapping) (h : History) (objects : List Object) (paused 
       by_object : (o : Option ℕ) → object_of_kind p (kind_of p e) ≡ o → IsStuck p h (Act (plain_key r), to_start e)
       by_object None none = stuck_alone p m h paused.sound laws.unjoined (Act (plain_key r)) (to_start e) refl fit none
       by_object (Some i) is =
-          let within = there p (Act (plain_key r)) (to_start e) objects i (sym is) plans laws.has (laws.touched (Act (plain_key r)) (to_start e) fit) in
+          let within = there p (Act (plain_key r)) (to_start e) objects i (sym is) plans paused.sound.objects (laws.touched (Act (plain_key r)) (to_start e) fit) in
           let o = there_is objects i within in
           held_stuck (Act (plain_key r)) (to_start e) (start_begins p m h objects paused laws.goes e r own) i (sym is) o.0 o.1
           (λ n actor wish. laws.starts i (kept_of o.0) e n (held i o.0 is o.1) (record { runnable = r; actor = actor; wish = wish }))

@@ -14,19 +14,19 @@ use Rattle.bus_semantics.specs.Objects.{clock, object_of, touched, entries_of, I
 use Rattle.bus_semantics.specs.Fitting.{wish_fits}
 use Rattle.bus_semantics.specs.Asked.{asks_its_own}
 use Rattle.bus_semantics.specs.Sound.{IsSound}
+use Rattle.bus_semantics.specs.SoundPlan.{objects_counted}
 use Rattle.port_objects.specs.declared.object.Object.{Object}
 use Rattle.port_objects.specs.Coming.{MayAsk}
 use Rattle.port_objects.specs.Objects.{kept_of, IsOfPlan, ArePlans}
-use Rattle.port_objects.specs.Plans.{HasObjects}
 use Rattle.port_objects.specs.Standing.{Stands}
 use Rattle.trace_objects.specs.Standing.{ObjectsStand}
 use Rattle.trace_objects.proofs.Parted.{plans_then}
 
 module _ (p : Plan) (a : Actor) (w : Wanted) (objects : List Object) (object : ℕ) (touching : Some object ≡ object_of p a w) (plans : ArePlans p objects) where
-  pub there : HasObjects p → IfSome (object_of p a w) (IsObject p) → object < length objects
-  there has known =
+  pub there : objects_counted p ≡ true → IfSome (object_of p a w) (IsObject p) → object < length objects
+  there counts known =
       let below : object < p.objects = subst (λ o. IfSome o (IsObject p)) (sym touching) known in
-      let counted : p.objects ≡ clock p + 1 = (unsigned_Decides p.objects (clock p + 1)).0 (and_parts (p.objects == clock p + 1) _ has.counted).0 in
+      let counted : p.objects ≡ clock p + 1 = (unsigned_Decides p.objects (clock p + 1)).0 (and_parts (p.objects == clock p + 1) _ counts).0 in
       let count : length objects ≡ suc (clock p) = plans.count in
       omega arith
 

@@ -24,7 +24,7 @@ index_mut-requires c =
     let w = wanted_of c.wish_of-wish.result in
     let can = c.requires.tried in
     let f = facts_at p e c.args.event w c.wish_of-wish.ensures c.running_activations_go_on.ensures c.what_comes_may_follow.ensures.wish c.what_comes_may_follow.ensures.entry can.mapping can.history can.tried in
-    let within = there p e.actor w c.args.objects.now.items c.in-Some.object c.in-Some.ensures c.requires.planned (c.sound_plans_have_objects.ensures.asked p can.mapping can.tried.sound) (c.sound_plans_have_objects.ensures.touched p can.mapping e.actor w can.tried.sound f.fit) in
+    let within = there p e.actor w c.args.objects.now.items c.in-Some.object c.in-Some.ensures c.requires.planned can.tried.sound.objects (c.sound_plans_have_objects.ensures.touched p can.mapping e.actor w can.tried.sound f.fit) in
     omega (arith, within)
 
 pub make_on-requires-clause-fits : goal.make_on-requires-clause-fits
@@ -52,7 +52,7 @@ make_on-requires-clause-planned c =
     let w = wanted_of c.wish_of-wish.result in
     let can = c.requires.tried in
     let f = facts_at p e c.args.event w c.wish_of-wish.ensures c.running_activations_go_on.ensures c.what_comes_may_follow.ensures.wish c.what_comes_may_follow.ensures.entry can.mapping can.history can.tried in
-    let within = there p e.actor w c.args.objects.now.items c.in-Some.object c.in-Some.ensures c.requires.planned (c.sound_plans_have_objects.ensures.asked p can.mapping can.tried.sound) (c.sound_plans_have_objects.ensures.touched p can.mapping e.actor w can.tried.sound f.fit) in
+    let within = there p e.actor w c.args.objects.now.items c.in-Some.object c.in-Some.ensures c.requires.planned can.tried.sound.objects (c.sound_plans_have_objects.ensures.touched p can.mapping e.actor w can.tried.sound f.fit) in
     planned p e.actor w c.args.objects.now.items c.in-Some.object c.in-Some.ensures c.requires.planned c.index_mut.result.now (found p e.actor w c.args.objects.now.items c.in-Some.object c.in-Some.ensures c.requires.planned c.index_mut.result.now within c.index_mut.ensures.value)
 
 pub make_on-requires-clause-number : goal.make_on-requires-clause-number
@@ -66,7 +66,7 @@ returns-in-Some-clause-among c =
     let w = wanted_of c.wish_of-wish.result in
     let can = c.requires.tried in
     let f = facts_at p e c.args.event w c.wish_of-wish.ensures c.running_activations_go_on.ensures c.what_comes_may_follow.ensures.wish c.what_comes_may_follow.ensures.entry can.mapping can.history can.tried in
-    let within = there p e.actor w c.args.objects.now.items c.in-Some.object c.in-Some.ensures c.requires.planned (c.sound_plans_have_objects.ensures.asked p can.mapping can.tried.sound) (c.sound_plans_have_objects.ensures.touched p can.mapping e.actor w can.tried.sound f.fit) in
+    let within = there p e.actor w c.args.objects.now.items c.in-Some.object c.in-Some.ensures c.requires.planned can.tried.sound.objects (c.sound_plans_have_objects.ensures.touched p can.mapping e.actor w can.tried.sound f.fit) in
     c.make_on.ensures.among c.args.objects.now.items
     (found p e.actor w c.args.objects.now.items c.in-Some.object c.in-Some.ensures c.requires.planned c.index_mut.result.now within c.index_mut.ensures.value) c.requires.among
 
@@ -80,7 +80,7 @@ returns-in-Some-clause-tried c = λ m h tried stand.
     let e = c.args.entry.now in
     let w = wanted_of c.wish_of-wish.result in
     let f = facts_at p e c.args.event w c.wish_of-wish.ensures c.running_activations_go_on.ensures c.what_comes_may_follow.ensures.wish c.what_comes_may_follow.ensures.entry m h tried in
-    let within = there p e.actor w c.args.objects.now.items c.in-Some.object c.in-Some.ensures c.requires.planned (c.sound_plans_have_objects.ensures.asked p m tried.sound) (c.sound_plans_have_objects.ensures.touched p m e.actor w tried.sound f.fit) in
+    let within = there p e.actor w c.args.objects.now.items c.in-Some.object c.in-Some.ensures c.requires.planned tried.sound.objects (c.sound_plans_have_objects.ensures.touched p m e.actor w tried.sound f.fit) in
     let is = found p e.actor w c.args.objects.now.items c.in-Some.object c.in-Some.ensures c.requires.planned c.index_mut.result.now within c.index_mut.ensures.value in
     let ask = may_ask p e.actor w c.args.objects.now.items c.in-Some.object c.in-Some.ensures c.requires.planned c.index_mut.result.now is m h tried.sound f.fit f.own stand in
     let starts : StartLaws p m h = record {

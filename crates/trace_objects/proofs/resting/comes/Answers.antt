@@ -15,7 +15,7 @@ pub index_mut-requires : goal.index_mut-requires
 index_mut-requires c =
     let p = plan_of c.args.p.now in
     let sound = c.requires.sound in
-    let within = there p c.args.who.now (wanted_of c.args.wish.now) c.args.objects.now.items c.in-Some.object c.in-Some.ensures c.requires.planned (c.sound_plans_have_objects.ensures.asked p sound.0 sound.1)
+    let within = there p c.args.who.now (wanted_of c.args.wish.now) c.args.objects.now.items c.in-Some.object c.in-Some.ensures c.requires.planned sound.1.objects
     (c.sound_plans_have_objects.ensures.touched p sound.0 c.args.who.now (wanted_of c.args.wish.now) sound.1 c.requires.fits) in
     omega (arith, within)
 
@@ -25,7 +25,7 @@ act-requires-clause-planned c =
     let a = c.args.who.now in
     let w = wanted_of c.args.wish.now in
     let sound = c.requires.sound in
-    let within = there p a w c.args.objects.now.items c.in-Some.object c.in-Some.ensures c.requires.planned (c.sound_plans_have_objects.ensures.asked p sound.0 sound.1)
+    let within = there p a w c.args.objects.now.items c.in-Some.object c.in-Some.ensures c.requires.planned sound.1.objects
     (c.sound_plans_have_objects.ensures.touched p sound.0 a w sound.1 c.requires.fits) in
     planned p a w c.args.objects.now.items c.in-Some.object c.in-Some.ensures c.requires.planned c.index_mut.result.now
     (found p a w c.args.objects.now.items c.in-Some.object c.in-Some.ensures c.requires.planned c.index_mut.result.now within c.index_mut.ensures.value)
@@ -37,7 +37,7 @@ returns-in-NotYet-clause-held c = λ no i o touch is.
     let w = wanted_of c.args.wish.now in
     let objects = c.args.objects.now.items in
     let sound = c.requires.sound in
-    let within = there p a w objects c.in-Some.object c.in-Some.ensures c.requires.planned (c.sound_plans_have_objects.ensures.asked p sound.0 sound.1) (c.sound_plans_have_objects.ensures.touched p sound.0 a w sound.1 c.requires.fits) in
+    let within = there p a w objects c.in-Some.object c.in-Some.ensures c.requires.planned sound.1.objects (c.sound_plans_have_objects.ensures.touched p sound.0 a w sound.1 c.requires.fits) in
     let there_it = found p a w objects c.in-Some.object c.in-Some.ensures c.requires.planned c.index_mut.result.now within c.index_mut.ensures.value in
     held_back p a w objects c.in-Some.object c.index_mut.result.now c.act.new.object c.in-NotYet.field-0 there_it c.in-Some.ensures c.in-NotYet.ensures.lead i o touch is
 
@@ -50,8 +50,7 @@ returns-in-Done-clause-comes c = λ m h sound legal stand begun.
     let p = plan_of c.args.p.now in
     let a = c.args.who.now in
     let w = wanted_of c.args.wish.now in
-    let has = c.sound_plans_have_objects.ensures.asked p m sound in
-    let within = there p a w c.args.objects.now.items c.in-Some.object c.in-Some.ensures c.requires.planned has (c.sound_plans_have_objects.ensures.touched p m a w sound c.requires.fits) in
+    let within = there p a w c.args.objects.now.items c.in-Some.object c.in-Some.ensures c.requires.planned sound.objects (c.sound_plans_have_objects.ensures.touched p m a w sound c.requires.fits) in
     let is = found p a w c.args.objects.now.items c.in-Some.object c.in-Some.ensures c.requires.planned c.index_mut.result.now within c.index_mut.ensures.value in
     let ask = may_ask p a w c.args.objects.now.items c.in-Some.object c.in-Some.ensures c.requires.planned c.index_mut.result.now is m h sound c.requires.fits c.requires.own stand in
     let one = c.in-Done.ensures.done m (entries_of p h c.in-Some.object) c.in-Done.field-0 ask refl in
@@ -64,8 +63,7 @@ returns-in-NotYet-clause-comes c = λ m h sound legal stand begun.
     let p = plan_of c.args.p.now in
     let a = c.args.who.now in
     let w = wanted_of c.args.wish.now in
-    let has = c.sound_plans_have_objects.ensures.asked p m sound in
-    let within = there p a w c.args.objects.now.items c.in-Some.object c.in-Some.ensures c.requires.planned has (c.sound_plans_have_objects.ensures.touched p m a w sound c.requires.fits) in
+    let within = there p a w c.args.objects.now.items c.in-Some.object c.in-Some.ensures c.requires.planned sound.objects (c.sound_plans_have_objects.ensures.touched p m a w sound c.requires.fits) in
     let is = found p a w c.args.objects.now.items c.in-Some.object c.in-Some.ensures c.requires.planned c.index_mut.result.now within c.index_mut.ensures.value in
     let ask = may_ask p a w c.args.objects.now.items c.in-Some.object c.in-Some.ensures c.requires.planned c.index_mut.result.now is m h sound c.requires.fits c.requires.own stand in
     stuck_there p m h legal a w begun c.in-Some.object c.in-Some.ensures (λ e longer. c.legal_histories_part_into_objects.ensures p m (e ∷ h) c.in-Some.object sound longer)

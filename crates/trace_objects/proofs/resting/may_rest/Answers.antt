@@ -23,7 +23,6 @@ returns-then-no_phase_comes-clause-rest c = λ m h sound legal none stand.
       starts = λ object k event n held plain. c.held_starts_lead_nowhere.ensures p object k event n held plain;
       parts = λ object e longer. c.legal_histories_part_into_objects.ensures p m (e ∷ h) object sound longer;
       unjoined = λ a event point kind unjoined. c.unjoined_points_return_nothing.ensures p h a event point legal kind unjoined;
-      has = c.sound_plans_have_objects.ensures.asked p m sound;
       touched = λ a w fits. c.sound_plans_have_objects.ensures.touched p m a w sound fits;
       goes = λ k running. c.running_activations_go_on.ensures p m h k sound legal running;
     } in
