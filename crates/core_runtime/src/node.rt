@@ -52,8 +52,7 @@ impl Model for Node {
 
 impl Node {
     /// A node to which nothing has happened. The plan is sound with the mapping, the bodies are those that `generate` makes of it, and 32
-    /// bits number the points.
-    /// The only error is that there is no memory.
+    /// bits number the points. The only error is that there is no memory.
     pub fn new(alloc: Global, p: BusPlan, m: Mapping, t: TaskSet) -> Result<Node, Memory>
         requires sound { IsSound (plan_of p) m }
         requires bodies { AsksAsPlanned (plan_of p) t }

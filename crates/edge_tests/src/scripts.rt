@@ -1,6 +1,10 @@
 //! Scripts over a small plan made by hand, with queues, operations and modes: what each line asks for, by number. What is
 //! wanted was written by hand.
 
+ghost use Rattle.std.specs.Prelude.{◌≡◌, IfOk, length};
+ghost use Rattle.bus_semantics.specs.Plan.{plan_of};
+ghost use Rattle.script_reading.specs.Numbers.{HasFewNumbers};
+
 use bus_semantics::{
     BusPlan, ElemKind, ElemPlan, Line, MachinePlan, ModePortPlan, PointPlan, Wish,
 };
@@ -37,7 +41,9 @@ fn element(
 }
 
 /// An element of an instance, and then those of the environment: it provides the first four and requires the others.
-fn elements(alloc: Global) -> Result<Vec<ElemPlan>, AllocError> {
+fn elements(alloc: Global) -> Result<Vec<ElemPlan>, AllocError>
+    ensures { IfOk result (λ list. length list.items ≡ 7) }
+{
     let inner = element(alloc, Some(0), b"inner.q", ElemKind::Queued, true, 1)?;
     let one = element(alloc, None, b"in.v", ElemKind::Unqueued, true, 1)?;
     let two = element(alloc, None, b"in.w", ElemKind::Unqueued, true, 2)?;
@@ -65,7 +71,9 @@ fn point(
 }
 
 /// A runnable's point, and two of the environment: `s.op` takes two arguments with limits of their own, `s.go` none.
-fn points(alloc: Global) -> Result<Vec<PointPlan>, AllocError> {
+fn points(alloc: Global) -> Result<Vec<PointPlan>, AllocError>
+    ensures { IfOk result (λ list. length list.items ≡ 3) }
+{
     let first = Limits { low: 0, high: 10 };
     let second = Limits { low: -7, high: 0 };
     let inner = point(alloc, Some(0), b"c.op", &[])?;
@@ -74,7 +82,9 @@ fn points(alloc: Global) -> Result<Vec<PointPlan>, AllocError> {
     Ok(vec![in alloc; inner, op, go]?)
 }
 
-fn machine(alloc: Global, instance: Option<u32>, name: &[u8]) -> Result<MachinePlan, AllocError> {
+fn machine(alloc: Global, instance: Option<u32>, name: &[u8]) -> Result<MachinePlan, AllocError>
+    ensures { IfOk result (λ made. length made.modes ≡ 2) }
+{
     let off = Text::new(alloc, b"Off")?;
     let on = Text::new(alloc, b"On")?;
     Ok(MachinePlan {
@@ -100,7 +110,9 @@ fn mode_port(
     })
 }
 
-fn plan(alloc: Global) -> Result<BusPlan, AllocError> {
+fn plan(alloc: Global) -> Result<BusPlan, AllocError>
+    ensures { IfOk result (λ made. HasFewNumbers (plan_of made)) }
+{
     let inner = machine(alloc, Some(0), b"o.g")?;
     let outer = machine(alloc, None, b"m.g")?;
     let seen_inside = mode_port(alloc, Some(0), b"i.g", 1)?;
@@ -138,7 +150,9 @@ fn told(alloc: Global, line: &Line) -> Result<String, AllocError> {
 }
 
 /// What the bytes are read as: what their lines ask for, or the bad line.
-fn answer(alloc: Global, p: &BusPlan, bytes: &[u8]) -> Result<String, AllocError> {
+fn answer(alloc: Global, p: &BusPlan, bytes: &[u8]) -> Result<String, AllocError>
+    requires { HasFewNumbers (plan_of p.now) }
+{
     match read_script(alloc, p, bytes) {
         ScriptRead::Read(script) => {
             let mut text = String::new(alloc);

@@ -1,6 +1,6 @@
 //! What a bench that counts its work tells of turns. What is wanted was found by hand.
 
-ghost use Rattle.std.specs.Prelude.{◌≡◌, ◌+◌, ◌<◌, ◌≤◌, IfSome};
+ghost use Rattle.std.specs.Prelude.{◌≡◌, ◌+◌, ◌<◌, ◌≤◌, ◌^◌, length, IfSome};
 ghost use Rattle.bus_semantics.specs.declared.script.Mapping.{Mapping};
 ghost use Rattle.bus_semantics.specs.Plan.{plan_of};
 ghost use Rattle.task_generator.specs.Promise.{AsksAsPlanned};
@@ -93,6 +93,7 @@ fn run<L: Ledger>(
     blank: Blank,
 ) -> Result<(String, String), AllocError>
     requires sound { IsSound (plan_of p.now) m.now }
+    requires points { length p.now.points < 2 ^ 32 }
     requires bodies { AsksAsPlanned (plan_of p.now) t.now }
     requires name { blank.name ≡ L.name }
     requires parts { blank.parts ≡ L.parts }
@@ -117,7 +118,8 @@ fn run<L: Ledger>(
 
 /// The description with its plan, if it breaks no rule.
 fn planned(alloc: Global) -> Option<PlannedDescription>
-    ensures { IfSome result (λ x. IsSound (plan_of x.plan) x.mapping) }
+    ensures sound { IfSome result (λ x. IsSound (plan_of x.plan) x.mapping) }
+    ensures points { IfSome result (λ x. length x.plan.points < 2 ^ 32) }
 {
     match plan_description(alloc, DESCRIPTION) {
         Ok(found) => Some(found),

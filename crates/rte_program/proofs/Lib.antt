@@ -4,6 +4,7 @@ pub mod Judging
 pub mod Ran
 pub mod Words
 pub mod Complete
+pub mod Numbered
 mod LegalTraces
 mod Checks
 mod Scripts

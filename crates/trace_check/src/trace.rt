@@ -77,6 +77,7 @@ fn check_begun(
     text: &[u8],
 ) -> Result<Checked, Memory>
     requires sound { IsSound (plan_of p.now) m.now }
+    requires points { length p.now.points < 2 ^ 32 }
     ensures { IfOk result (λ checked. (trace : Letters) → trace ≡ header version ++ text.now →
         IsVerdict (plan_of p.now) m.now script.now.lines trace checked) }
 {
@@ -101,6 +102,7 @@ fn check_bytes(
     trace: &[u8],
 ) -> Result<Checked, Memory>
     requires sound { IsSound (plan_of p.now) m.now }
+    requires points { length p.now.points < 2 ^ 32 }
     ensures { IfOk result (IsVerdict (plan_of p.now) m.now script.now.lines trace.now) }
 {
     if trace.is_empty() {

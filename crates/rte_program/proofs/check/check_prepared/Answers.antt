@@ -2,10 +2,13 @@ use Rattle.std.proofs.Common.{ℕ, List, inl, subst}
 use Rattle.bus_semantics.specs.Plan.{plan_of}
 use Rattle.check_definitions.specs.Verdicts.{IsVerdict}
 use Rattle.rte_program.proofs.Checks as by
+use Rattle.rte_program.proofs.Numbered.{numbered}
 use Rattle.rte_program.proofs.check.check_prepared.Goals as goal
 
 pub check_trace-requires : goal.check_trace-requires
-check_trace-requires g c = record { sound = c.requires.ready.2.described.is_sound }
+check_trace-requires g c =
+    let ready = c.requires.ready in
+    record { sound = ready.2.described.is_sound; points = (numbered ready.0 c.args.checkable.prepared.found ready.2.described).points }
 
 pub put_verdict-requires : goal.put_verdict-requires
 put_verdict-requires g c =

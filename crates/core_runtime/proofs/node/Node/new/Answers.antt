@@ -33,7 +33,7 @@ invariant_of-result c = (
   record {
     sound = c.requires.sound;
     bodies = c.requires.bodies;
-    counted = c.sound_plans_have_objects.ensures.asked (plan_of c.args.p) c.args.m c.requires.sound;
+    counted = c.sound_plans_have_objects.ensures.asked (plan_of c.args.p) c.args.m c.requires.sound c.requires.points;
     planned = c.in_ok-objects.ensures.planned;
     cores_are = c.in_ok-cores.ensures.count;
     room = new_room (plan_of c.args.p) c.args.m c.args.t c.in_ok-cores.cores.items c.in_ok-objects.objects.items c.requires.sound c.in_ok-cores.ensures.cores c.in_ok-objects.ensures.standing;
