@@ -1,9 +1,9 @@
 //! Sides of which not all ends are at hand, completed interface by interface.
 
-ghost use Rattle.std.specs.Prelude.{◌≡◌, ◌↔◌, ℕ, true, IfOk, IfSome, OnOk};
+ghost use Rattle.std.specs.Prelude.{◌≡◌, ◌↔◌, ℕ, true, false, IfOk, IfSome, OnOk};
 ghost use Rattle.description_types.specs.declared.description.Description.{Description};
 ghost use Rattle.composition_tables.specs.declared.tree.PortEnd.{PortEnd};
-ghost use Rattle.end_search.specs.Gates.{IsShallow};
+ghost use Rattle.end_search.specs.Gates.{IsShallow, gate_ends};
 ghost use Rattle.end_search.specs.Sides.{AreOf, HasInterface, IsSide};
 ghost use Rattle.flat_descriptions.specs.Members.{Among};
 ghost use Rattle.composition_tables.specs.Trees.{IsTree};
@@ -12,7 +12,7 @@ use composition_tables::links::LINK_LIMIT;
 use composition_tables::tree::{PortEnd, Tree};
 use end_search::gates::{Gate, ends_at};
 use end_search::groups::{group_of, groups_of};
-use end_search::seek::{Wanted, Wish};
+use end_search::seek::{Found, Wanted, Wish};
 use end_search::sides::Side;
 use indexmap::IndexSet;
 use rte_text::Memory;
@@ -47,6 +47,21 @@ fn note_known(side: &mut Side, gate: Gate, interface: u32, ends: Vec<PortEnd>) -
     Ok(())
 }
 
+/// The ends of an interface below a gate, cut short where there are more than there may be links.
+fn found_of(alloc: Global, tree: &Tree, gate: Gate, interface: u32) -> Result<Found, Memory>
+    requires is_tree { IsTree tree.now }
+    requires shallow { IsShallow gate }
+    ensures sound { IfOk result (λ found. (x : PortEnd) → Among x found.ends.keys → Among x (gate_ends tree.now.d.now gate)) }
+    ensures whole { IfOk result (λ found. found.is_cut ≡ false → (x : PortEnd) → Among x (gate_ends tree.now.d.now gate) → x.interface ≡ interface → Among x found.ends.keys) }
+{
+    let wish = Wish {
+        wanted: Wanted::Only(only(alloc, interface)?),
+        limit: LINK_LIMIT,
+    };
+    let found = ends_at(alloc, tree, gate, &wish)?;
+    Ok(found)
+}
+
 /// All ends of an interface below a gate, or none where there are more than there may be links.
 fn ends_of(
     alloc: Global,
@@ -58,11 +73,7 @@ fn ends_of(
     requires shallow { IsShallow gate }
     ensures { IfOk result (λ found. IfSome found (λ list. AreOf tree.now.d.now gate interface list.items)) }
 {
-    let wish = Wish {
-        wanted: Wanted::Only(only(alloc, interface)?),
-        limit: LINK_LIMIT,
-    };
-    let found = ends_at(alloc, tree, gate, &wish)?;
+    let found = found_of(alloc, tree, gate, interface)?;
     if found.is_cut {
         return Ok(None);
     }

@@ -1,9 +1,10 @@
 //! Links of ports.
 
-ghost use Rattle.std.specs.Prelude.{◌≡◌, ℕ, IfOk, OnOk};
+ghost use Rattle.std.specs.Prelude.{◌≡◌, ℕ, List, IfOk, OnOk};
 ghost use Rattle.flat_descriptions.specs.Growing.{AnyOf, Grown};
 ghost use Rattle.composition_tables.specs.declared.tree.PortEnd.{PortEnd};
 ghost use Rattle.end_crossing.specs.PortLinks.{item_of, link_of, IsPairLink, IsCrossLink};
+ghost use Rattle.end_search.specs.Tables.{AreGroups};
 ghost use Rattle.end_crossing.specs.Crossings.{HasPairs, IsAdding, IsBetween};
 
 use crate::matched::Matched;
@@ -172,6 +173,25 @@ pub fn add_grouped(
     Ok(false)
 }
 
+/// Adds the links of provided ports, in groups, with each of the required ones, given which pairs of their interfaces share an item.
+fn add_provided(
+    alloc: Global,
+    d: &Description,
+    provided: &Groups,
+    required: &[PortEnd],
+    pairs: &[(u32, u32)],
+    matched: &mut Matched,
+    links: &mut Links,
+) -> Result<bool, Memory>
+    requires { IsAdding d.now matched.old links.old.list.items }
+    ensures matched { OnOk result (IsAdding d.now matched.new links.new.list.items) }
+    ensures grown { IfOk result (λ is_full. (ends : List PortEnd) → AreGroups ends provided.now → HasPairs d.now ends required.now pairs.now → Grown (IsCrossLink d.now ends required.now) links.old.list.items links.new.list.items is_full) }
+{
+    let second = groups_of(alloc, required)?;
+    let is_full = add_grouped(alloc, d, pairs, provided, &second, matched, links)?;
+    Ok(is_full)
+}
+
 /// Adds the links of each of the provided ports with each of the required ones, given which pairs of their interfaces share
 /// an item. Ports of interfaces that share none cost one look each and not one for each pair.
 pub fn cross(
@@ -189,7 +209,6 @@ pub fn cross(
     ensures grown { IfOk result (λ is_full. Grown (IsCrossLink d.now provided.now required.now) links.old.list.items links.new.list.items is_full) }
 {
     let first = groups_of(alloc, provided)?;
-    let second = groups_of(alloc, required)?;
-    let is_full = add_grouped(alloc, d, pairs, &first, &second, matched, links)?;
+    let is_full = add_provided(alloc, d, &first, required, pairs, matched, links)?;
     Ok(is_full)
 }

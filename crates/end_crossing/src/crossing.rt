@@ -360,6 +360,77 @@ fn add_shared(
     Ok(is_full)
 }
 
+/// Adds the links of the ports below two gates, given what is below each.
+fn add_both(
+    alloc: Global,
+    tree: &Tree,
+    provided: Gate,
+    required: Gate,
+    first: &mut Side,
+    second: &mut Side,
+    matched: &mut Matched,
+    links: &mut Links,
+) -> Result<bool, Memory>
+    requires is_tree { IsTree tree.now }
+    requires provided { IsShallow provided }
+    requires required { IsShallow required }
+    requires first { IsSide tree.now.d.now provided first.old }
+    requires second { IsSide tree.now.d.now required second.old }
+    requires matched { IsAdding tree.now.d.now matched.old links.old.list.items }
+    ensures first { OnOk result (IsSide tree.now.d.now provided first.new) }
+    ensures second { OnOk result (IsSide tree.now.d.now required second.new) }
+    ensures matched { OnOk result (IsAdding tree.now.d.now matched.new links.new.list.items) }
+    ensures grown { IfOk result (λ is_full. Grown (IsCrossLink tree.now.d.now (gate_ends tree.now.d.now provided) (gate_ends tree.now.d.now required)) links.old.list.items links.new.list.items is_full) }
+{
+    let pairs = matched.pairs(alloc, tree.d, first, second)?;
+    let is_full = add_shared(
+        alloc,
+        tree,
+        provided,
+        required,
+        first,
+        second,
+        pairs.as_slice(),
+        matched,
+        links,
+    )?;
+    Ok(is_full)
+}
+
+/// Adds the links of the ports below two gates, given what is below the first.
+fn add_first(
+    alloc: Global,
+    tree: &Tree,
+    provided: Gate,
+    required: Gate,
+    first: &mut Side,
+    matched: &mut Matched,
+    links: &mut Links,
+) -> Result<bool, Memory>
+    requires is_tree { IsTree tree.now }
+    requires provided { IsShallow provided }
+    requires required { IsShallow required }
+    requires first { IsSide tree.now.d.now provided first.old }
+    requires matched { IsAdding tree.now.d.now matched.old links.old.list.items }
+    ensures first { OnOk result (IsSide tree.now.d.now provided first.new) }
+    ensures matched { OnOk result (IsAdding tree.now.d.now matched.new links.new.list.items) }
+    ensures grown { IfOk result (λ is_full. Grown (IsCrossLink tree.now.d.now (gate_ends tree.now.d.now provided) (gate_ends tree.now.d.now required)) links.old.list.items links.new.list.items is_full) }
+{
+    let mut second = matched.take_side(alloc, tree, required)?;
+    let is_full = add_both(
+        alloc,
+        tree,
+        provided,
+        required,
+        first,
+        &mut second,
+        matched,
+        links,
+    )?;
+    matched.keep_side(tree.d, required, second)?;
+    Ok(is_full)
+}
+
 /// Adds the links of the ports below two gates, by what is below each.
 pub fn add_sides(
     alloc: Global,
@@ -377,20 +448,7 @@ pub fn add_sides(
     ensures grown { IfOk result (λ is_full. Grown (IsCrossLink tree.now.d.now (gate_ends tree.now.d.now provided) (gate_ends tree.now.d.now required)) links.old.list.items links.new.list.items is_full) }
 {
     let mut first = matched.take_side(alloc, tree, provided)?;
-    let mut second = matched.take_side(alloc, tree, required)?;
-    let pairs = matched.pairs(alloc, tree.d, &first, &second)?;
-    let is_full = add_shared(
-        alloc,
-        tree,
-        provided,
-        required,
-        &mut first,
-        &mut second,
-        pairs.as_slice(),
-        matched,
-        links,
-    )?;
+    let is_full = add_first(alloc, tree, provided, required, &mut first, matched, links)?;
     matched.keep_side(tree.d, provided, first)?;
-    matched.keep_side(tree.d, required, second)?;
     Ok(is_full)
 }

@@ -4,6 +4,6 @@ use Rattle.end_crossing.proofs.completing.ends_of.Goals as goal
 
 pub returns : goal.returns
 returns c = λ x. (
-  (λ a. let l = (c.in_ok-list.ensures x).0 a in (c.in_ok-found.ensures.found.sound x (subst (Among x) c.as_slice.ensures.keys l.0), l.1)),
-  (λ h. (c.in_ok-list.ensures x).1 (subst (Among x) (sym c.as_slice.ensures.keys) (c.in_ok-found.ensures.found.whole c.if-found.false x h.0 (subst (λ i. Among i c.in_ok-only.field-0.keys) (sym h.1) c.in_ok-only.ensures)), h.1)),
+  (λ a. let l = (c.in_ok-list.ensures x).0 a in (c.in_ok-found.ensures.sound x (subst (Among x) c.as_slice.ensures.keys l.0), l.1)),
+  (λ h. (c.in_ok-list.ensures x).1 (subst (Among x) (sym c.as_slice.ensures.keys) (c.in_ok-found.ensures.whole c.if-found.false x h.0 h.1), h.1)),
 )
