@@ -155,9 +155,8 @@ keeps_both d keeps few = record { instances = keeps.few; depth = keeps.shallow; 
 pub counts_of_limits : (d : Description) → KeepsLimits d → KeepsCounts d
 counts_of_limits d keeps = record { few = keeps.instances; shallow = keeps.depth; names = keeps.names }
 
-pub within_is : (d d2 : Description) (found : Option (Vec Join Global)) (joins : Vec Join Global) (listed : Vec instance.Instance Global) (answer : Bool) → d2 ≡ d → IsTrue answer ↔ KeepsCounts d → answer ≡ true → listed.items ≡ named_below d 8 d.root [] → found ≡ Some joins
-    → IfSome found (λ j. AreJoins d2 j.items) → IsWithin d (record { instances = listed; joins = joins })
-within_is d d2 found joins listed answer same says kept listed_is is some =
-    let here : AreJoins d2 joins.items = subst (λ o. IfSome o (λ (j : Vec Join Global). AreJoins d2 j.items)) is some in
-    let are : AreJoins d joins.items = subst (λ x. AreJoins x joins.items) same here in
+pub within_is : (d : Description) (found : Option (Vec Join Global)) (joins : Vec Join Global) (listed : Vec instance.Instance Global) (answer : Bool) → IsTrue answer ↔ KeepsCounts d → answer ≡ true → listed.items ≡ named_below d 8 d.root [] → found ≡ Some joins
+    → IfSome found (λ j. AreJoins d j.items) → IsWithin d (record { instances = listed; joins = joins })
+within_is d found joins listed answer says kept listed_is is some =
+    let are : AreJoins d joins.items = subst (λ o. IfSome o (λ (j : Vec Join Global). AreJoins d j.items)) is some in
     record { limits = keeps_both d (says.0 kept) are.few; instances_listed = listed_is ∙ named_instances d; in_order = are.in_order; joined = are.joined }

@@ -18,7 +18,7 @@ use Rattle.composition_flatten.specs.declared.whole.Own.{Own}
 use Rattle.flat_descriptions.specs.Connectors.{interface_of, kind_of}
 use Rattle.composition_tables.specs.Ends.{ends, own_end, inner_ends, inner_ports, number_from, offset}
 use Rattle.flat_descriptions.specs.Growing.{AnyOf, Grown}
-use Rattle.composition_flatten.specs.Links.{IsAssemblyLink, IsOwnLink, IsNodeLink, IsOwn, IsOuterLink, IsLink, outer_link, link_from}
+use Rattle.composition_flatten.specs.Links.{IsAssemblyLink, IsOwnLink, IsNodeLink, IsInnerLink, IsOwn, IsOuterLink, IsLink, outer_link, link_from}
 use Rattle.composition_tables.specs.Nodes.{IsNode}
 use Rattle.end_search.specs.Gates.{outer_ends}
 use Rattle.composition_tables.specs.Owners.{owner_from}
@@ -181,17 +181,19 @@ nodes_within d nodes slice same are x h =
     let r = node_bounds d 8 d.root 0 x ((are x).0 (subst (Among x) same h)) in
     (r.0, (let bound = r.1 in omega arith))
 
-pub links_full : (d : Description) (nodes slice : List Node) (before after : List Link) (is_full : Bool) → slice ≡ nodes → ((x : Node) → Among x nodes ↔ IsNode d 8 d.root 0 x)
-    → Grown (AnyOf (IsNodeLink d) slice) before after is_full → is_full ≡ true → Grown (IsLink d) before after true
-links_full d nodes slice before after is_full same are g full =
-    grown_same (λ x. AnyOf (IsNodeLink d) slice x ⊎ IsLink d x) (IsLink d) before after true
-    (λ x s. ⊎_elim (λ a. inl (a.0, (are a.0).0 (subst (Among a.0) same a.1), a.2)) (λ l. l) s) (λ x l. inr l)
-    (grown_stop (AnyOf (IsNodeLink d) slice) (IsLink d) before after (subst (Grown (AnyOf (IsNodeLink d) slice) before after) full g))
+pub inner_grown : (d : Description) (nodes slice : List Node) (before after : List Link) (is_full : Bool) → slice ≡ nodes → ((x : Node) → Among x nodes ↔ IsNode d 8 d.root 0 x)
+    → Grown (AnyOf (IsNodeLink d) slice) before after is_full → Grown (IsInnerLink d) before after is_full
+inner_grown d nodes slice before after is_full same are g = grown_same (AnyOf (IsNodeLink d) slice) (IsInnerLink d) before after is_full
+    (λ x a. (a.0, (are a.0).0 (subst (Among a.0) same a.1), a.2))
+    (λ x n. (n.0, subst (Among n.0) (sym same) ((are n.0).1 n.1), n.2)) g
 
-pub links_all : (d : Description) (nodes slice : List Node) (before between after : List Link) (is_full first_full : Bool) → slice ≡ nodes → ((x : Node) → Among x nodes ↔ IsNode d 8 d.root 0 x)
-    → Grown (AnyOf (IsNodeLink d) slice) before between first_full → first_full ≡ false → Grown (λ x. (port : ℕ) × IsOuterLink d port x) between after is_full → Grown (IsLink d) before after is_full
-links_all d nodes slice before between after is_full first_full same are g room outer =
-    grown_same (λ x. AnyOf (IsNodeLink d) slice x ⊎ ((port : ℕ) × IsOuterLink d port x)) (IsLink d) before after is_full
-    (λ x s. ⊎_elim (λ a. inl (a.0, (are a.0).0 (subst (Among a.0) same a.1), a.2)) (λ o. inr o) s)
-    (λ x l. ⊎_elim (λ n. inl (n.0, subst (Among n.0) (sym same) ((are n.0).1 n.1), n.2)) (λ o. inr o) l)
-    (grown_then (AnyOf (IsNodeLink d) slice) (λ x. (port : ℕ) × IsOuterLink d port x) before between after is_full (subst (Grown (AnyOf (IsNodeLink d) slice) before between) room g) outer)
+pub links_full : (d : Description) (before after : List Link) (is_full : Bool) → Grown (IsInnerLink d) before after is_full → is_full ≡ true → Grown (IsLink d) before after true
+links_full d before after is_full g full =
+    grown_same (λ x. IsInnerLink d x ⊎ IsLink d x) (IsLink d) before after true
+    (λ x s. ⊎_elim (λ n. inl n) (λ l. l) s) (λ x l. inr l)
+    (grown_stop (IsInnerLink d) (IsLink d) before after (subst (Grown (IsInnerLink d) before after) full g))
+
+pub links_all : (d : Description) (before between after : List Link) (is_full first_full : Bool)
+    → Grown (IsInnerLink d) before between first_full → first_full ≡ false → Grown (λ x. (port : ℕ) × IsOuterLink d port x) between after is_full → Grown (IsLink d) before after is_full
+links_all d before between after is_full first_full g room outer =
+    grown_then (IsInnerLink d) (λ x. (port : ℕ) × IsOuterLink d port x) before between after is_full (subst (Grown (IsInnerLink d) before between) room g) outer

@@ -47,9 +47,13 @@ outer_link None d own inner x = ⊥
 abbrev pub IsOuterLink : Description → ℕ → Link → Type 0
 IsOuterLink d port x = outer_link (kind_of d (Composition d.root) port) d (outer_ends (interface_of d (Composition d.root) port) port) (ends d 8 (Composition d.root) 0 port) x
 
+-- a link that an assembly of a composition makes where the composition stands
+abbrev pub IsInnerLink : Description → Link → Type 0
+IsInnerLink d x = (node : Node) × IsNode d 8 d.root 0 node × IsNodeLink d node x
+
 -- a link of the description
 abbrev pub IsLink : Description → Link → Type 0
-IsLink d x = ((node : Node) × IsNode d 8 d.root 0 node × IsNodeLink d node x) ⊎ ((port : ℕ) × IsOuterLink d port x)
+IsLink d x = IsInnerLink d x ⊎ ((port : ℕ) × IsOuterLink d port x)
 
 -- the links of a composition, as they are kept
 abbrev pub IsOwn : Description → Own → Type 0

@@ -132,6 +132,23 @@ fn joins_within(alloc: Global, tree: &Tree) -> Result<Option<Vec<Join>>, Memory>
     Ok(Some(joins))
 }
 
+/// The joins of a description with few enough instances, in order, or none where there are more than the limit.
+fn joins_over(
+    alloc: Global,
+    d: &Description,
+    levels: Vec<Vec<u32>>,
+) -> Result<Option<Vec<Join>>, Memory>
+    requires counted { IsCounted d.now levels.items }
+    requires counts { KeepsCounts d.now }
+    requires few { HasFewItems d.now }
+    ensures none { IfOk result (λ found. IfNone found (IsPastLimit (IsJoined d.now))) }
+    ensures some { IfOk result (λ found. IfSome found (λ joins. AreJoins d.now joins.items)) }
+{
+    let tree = tree_of(alloc, d, levels)?;
+    let joins = joins_within(alloc, &tree)?;
+    Ok(joins)
+}
+
 /// The instances and the joins of a description that keeps the limits.
 pub fn parts_within(alloc: Global, d: &Description) -> Result<Option<Within>, Memory>
     requires { HasFewItems d.now }
@@ -143,8 +160,7 @@ pub fn parts_within(alloc: Global, d: &Description) -> Result<Option<Within>, Me
         return Ok(None);
     }
     let instances = list_instances(alloc, d, levels.as_slice())?;
-    let tree = tree_of(alloc, d, levels)?;
-    match joins_within(alloc, &tree)? {
+    match joins_over(alloc, d, levels)? {
         Some(joins) => Ok(Some(Within { instances, joins })),
         None => Ok(None),
     }

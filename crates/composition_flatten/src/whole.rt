@@ -10,7 +10,7 @@ ghost use Rattle.end_search.specs.Gates.{gate_ends, IsShallow};
 ghost use Rattle.end_search.specs.Matching.{HasFewItems};
 ghost use Rattle.flat_descriptions.specs.Members.{Among};
 ghost use Rattle.flat_descriptions.specs.Growing.{AnyOf, Grown};
-ghost use Rattle.composition_flatten.specs.Links.{IsOwn, IsNodeLink, IsOuterLink, IsLink, link_from, item_from, outer_link};
+ghost use Rattle.composition_flatten.specs.Links.{IsOwn, IsNodeLink, IsInnerLink, IsOuterLink, IsLink, link_from, item_from, outer_link};
 ghost use Rattle.composition_flatten.specs.Outers.{outers_of};
 ghost use Rattle.end_crossing.specs.Crossings.{IsAdding, IsMatched};
 ghost use Rattle.composition_tables.specs.Trees.{IsTree};
@@ -375,6 +375,41 @@ fn add_outers(
     Ok(is_full)
 }
 
+/// Adds the links that the assemblies of compositions make, wherever these stand.
+fn add_inner(
+    alloc: Global,
+    tree: &Tree,
+    matched: &mut Matched,
+    links: &mut Links,
+) -> Result<bool, Memory>
+    requires is_tree { IsTree tree.now }
+    requires matched { IsMatched tree.now.d.now matched.old }
+    ensures matched { OnOk result (IsMatched tree.now.d.now matched.new) }
+    ensures grown { IfOk result (λ is_full. Grown (IsInnerLink tree.now.d.now) links.old.list.items links.new.list.items is_full) }
+{
+    let nodes = nodes_of(alloc, tree)?;
+    let is_full = add_nodes(alloc, tree, nodes.as_slice(), matched, links)?;
+    Ok(is_full)
+}
+
+/// Adds all links of a description, keeping what is found for several of them.
+fn add_over(
+    alloc: Global,
+    tree: &Tree,
+    matched: &mut Matched,
+    links: &mut Links,
+) -> Result<bool, Memory>
+    requires is_tree { IsTree tree.now }
+    requires matched { IsMatched tree.now.d.now matched.old }
+    ensures { IfOk result (λ is_full. Grown (IsLink tree.now.d.now) links.old.list.items links.new.list.items is_full) }
+{
+    if add_inner(alloc, tree, matched, links)? {
+        return Ok(true);
+    }
+    let is_full = add_outers(alloc, tree, matched, links)?;
+    Ok(is_full)
+}
+
 /// Adds all links of a description. The answer is whether there are more of them than the limit; then the rest may be
 /// missing.
 pub fn add_links(alloc: Global, tree: &Tree, links: &mut Links) -> Result<bool, Memory>
@@ -383,10 +418,5 @@ pub fn add_links(alloc: Global, tree: &Tree, links: &mut Links) -> Result<bool, 
     ensures { IfOk result (λ is_full. Grown (IsLink tree.now.d.now) links.old.list.items links.new.list.items is_full) }
 {
     let mut matched = Matched::new(alloc, tree.d)?;
-    let nodes = nodes_of(alloc, tree)?;
-    if add_nodes(alloc, tree, nodes.as_slice(), &mut matched, links)? {
-        return Ok(true);
-    }
-    let is_full = add_outers(alloc, tree, &mut matched, links)?;
-    Ok(is_full)
+    add_over(alloc, tree, &mut matched, links)
 }
