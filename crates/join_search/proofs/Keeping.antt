@@ -4,7 +4,7 @@ use Rattle.std.specs.Prelude.{is_none as is_absent}
 use Rattle.std.proofs.lemmas.Bool.{eqb-true, eq-eqb, and_parts}
 use Rattle.std.specs.List.{list_all, list_any}
 use Rattle.std.specs.Map.{lookup, values_of}
-use Rattle.std.specs.Option.{option_eq, option_map_or, is_some, unwrap_or}
+use Rattle.std.specs.Option.{option_eq, option_map_or, unwrap_or}
 use Rattle.flat_descriptions.specs.declared.flat.End.{End}
 use Rattle.flat_descriptions.specs.declared.flat.Join.{Join}
 use Rattle.join_search.specs.declared.partners.Partners.{Partners}

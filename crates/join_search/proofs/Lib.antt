@@ -2,6 +2,7 @@ pub mod Turns
 pub mod Firsts
 pub mod Passing
 pub mod Keeping
+pub mod Marking
 pub mod PartnersAre
 pub mod Stars
 pub mod Itself

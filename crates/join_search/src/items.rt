@@ -1,23 +1,16 @@
 //! Required items, and the first that breaks a rule.
 
 ghost use Rattle.std.specs.Prelude.{◌≡◌, ℕ, IfOk, IsTrue, false, true, None, Some, if◌then◌else◌};
-ghost use Rattle.flat_descriptions.specs.declared.flat.End.{End};
 ghost use Rattle.description_types.specs.declared.description.PrototypeType.TheVariants as of_type;
-ghost use Rattle.indexmap.specs.IndexSet.{contains};
 ghost use Rattle.plan_definitions.specs.Connectors.{ports_of};
-ghost use Rattle.plan_definitions.specs.Joins.{are_several, is_many_to_many, providers};
-ghost use Rattle.join_search.specs.Partners.{key_of, same_key};
-ghost use Rattle.join_search.specs.Suspects.{port_of, same_port};
 ghost use Rattle.plan_definitions.specs.JoinedItems.{breaks, end_of, first_broken, first_item, in_instances, in_port, in_ports, looked_at, needs_provider, requires_at};
 
-use crate::groups::many_to_many;
 use crate::item::Item;
-use crate::partners::{Degrees, Key, key_of};
+use crate::partners::Degrees;
 use crate::ports::ports_of;
-use crate::suspects::{PortKey, crowded_ports, has_port, served_by_several};
+use crate::suspects::Suspects;
 use description_types::{Description, Port, PortKind, PrototypeType};
 use flat_descriptions::{Flat, Instance};
-use indexmap::IndexSet;
 use interface_types::InterfaceKind;
 use plan_definitions::JoinRule;
 use rte_text::Memory;
@@ -58,16 +51,9 @@ pub struct Search<'a> {
     pub d: &'a Description,
     pub f: &'a Flat,
     degrees: Degrees<'a>,
-    /// The required ends in groups of many to many.
-    crowded: IndexSet<Key>,
-    /// The ports at which a required end has several provided ones.
-    several_at: IndexSet<PortKey>,
-    /// The ports at which a required end is in a group of many to many.
-    crowded_at: IndexSet<PortKey>,
+    suspects: Suspects<'a>,
     ghost of_flat: { degrees.joins.now ≡ f.now.joins },
-    ghost several: { (e : End) → are_several (providers f.now.joins e) ≡ true → contains same_port several_at (port_of e) ≡ true },
-    ghost many: { (e : End) → is_many_to_many f.now.joins e ≡ true → contains same_port crowded_at (port_of e) ≡ true },
-    ghost known: { (e : End) → contains same_key crowded (key_of e) ≡ is_many_to_many f.now.joins e },
+    ghost suspected: { suspects.joins.now ≡ f.now.joins },
 }
 
 impl Search<'_> {
@@ -76,16 +62,12 @@ impl Search<'_> {
         ensures { IfOk result (λ search. (search.d.now ≡ d.now) × (search.f.now ≡ f.now)) }
     {
         let degrees = Degrees::new(alloc, f.joins.items())?;
-        let crowded = many_to_many(alloc, &degrees)?;
-        let several_at = served_by_several(alloc, &degrees)?;
-        let crowded_at = crowded_ports(alloc, degrees.joins, &crowded)?;
+        let suspects = Suspects::new(alloc, &degrees)?;
         Ok(Search {
             d,
             f,
             degrees,
-            crowded,
-            several_at,
-            crowded_at,
+            suspects,
         })
     }
 
@@ -97,7 +79,7 @@ impl Search<'_> {
                 self.degrees.has_several_providers(item)
                     || (needs_provider(kind, item) && self.degrees.has_no_provider(item))
             }
-            JoinRule::Groups => self.crowded.contains(&key_of(item)),
+            JoinRule::Groups => self.suspects.is_crowded(item),
         }
     }
 
@@ -113,8 +95,8 @@ impl Search<'_> {
     {
         match (rule, kind) {
             (JoinRule::Services, InterfaceKind::ModeSwitch(_)) => false,
-            (JoinRule::Services, _) => !has_port(&self.several_at, instance, port),
-            (JoinRule::Groups, _) => !has_port(&self.crowded_at, instance, port),
+            (JoinRule::Services, _) => !self.suspects.may_be_several(instance, port),
+            (JoinRule::Groups, _) => !self.suspects.may_be_crowded(instance, port),
         }
     }
 

@@ -1,4 +1,4 @@
-use Rattle.std.proofs.Common.{◌≡◌, true, sym, ◌∙◌, true≢false}
+use Rattle.std.proofs.Common.{◌≡◌, true, ◌∙◌}
 use Rattle.std.proofs.lemmas.Result.{IfOk-weaker}
 use Rattle.indexmap.specs.IndexSet.{contains}
 use Rattle.flat_descriptions.specs.declared.flat.End.{End}
