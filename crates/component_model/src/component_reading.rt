@@ -1,17 +1,19 @@
 //! Components, read from JSON.
 
-ghost use Rattle.std.specs.Prelude.{◌≡◌, IfOk, map};
+ghost use Rattle.std.specs.Prelude.{◌≡◌, IfOk, map, option_map};
 ghost use Rattle.runnable_lang.specs.Trees.{program_tree};
 ghost use Rattle.serde_json.specs.View.{view};
 ghost use Rattle.declared_names.specs.Components.{component_names};
-ghost use Rattle.component_model.specs.Programs.{behavior_reading, behavior_tree, component_reading, component_tree, runnable_reading, runnable_tree, runnables_in};
+ghost use Rattle.component_model.specs.Programs.{behavior_reading, behavior_tree, component_reading, component_tree, first_names, runnable_reading, runnable_tree, runnables_in};
+ghost use Rattle.program_reading.specs.Programs.{program_reading};
 ghost use Rattle.declared_names.specs.Sizes.{AreSmall, HaveFewArguments, IsSmall};
 ghost use Rattle.declared_names.specs.Values.{seen};
 
 use crate::from_value::read_list;
 use crate::servers::{Servers, first_names, servers_in};
 use declared_names::{
-    InComponent, Scope, TypeNames, component_names, copy_at, flag_at, items_at, text_at, value_at,
+    ComponentNames, InComponent, Scope, TypeNames, component_names, copy_at, flag_at, items_at,
+    text_at, value_at,
 };
 use description_types::{Behavior, Component, Runnable};
 use program_reading::read_program;
@@ -19,6 +21,22 @@ use rte_text::{Memory, Seq};
 use runnable_lang::Program;
 use serde_json::Value;
 use std::alloc::Global;
+
+// The program of the statements, which such an event starts.
+fn started_by(
+    alloc: Global,
+    scope: &InComponent,
+    event: Option<&Value>,
+    statements: &Value,
+) -> Result<Program, Memory>
+    requires value { IsSmall (view statements.now) }
+    requires arguments { HaveFewArguments scope.now.interfaces.now }
+    ensures { IfOk result (λ p. program_tree p
+        ≡ program_reading scope.now.interfaces.now scope.now.names.now (first_names scope.now.interfaces.now scope.now.names.now (option_map seen event.entry)) (view statements.now)) }
+{
+    let first = first_names(alloc, scope, event)?;
+    read_program(alloc, scope, &first, statements)
+}
 
 fn program(
     alloc: Global,
@@ -33,9 +51,7 @@ fn program(
 {
     let nothing = Value::Null;
     let event = servers.event_of(text_at(value, "shortName"));
-    let first = first_names(alloc, scope, event)?;
-    let program = read_program(alloc, scope, &first, value_at(value, "program", &nothing))?;
-    Ok(program)
+    started_by(alloc, scope, event, value_at(value, "program", &nothing))
 }
 
 fn read_runnable(
@@ -85,8 +101,9 @@ fn runnables(alloc: Global, scope: &InComponent, value: &Value) -> Result<Seq<Ru
         ≡ runnables_in scope.now.interfaces.now scope.now.names.now (view value.now)) }
 {
     let servers = servers_in(alloc, value)?;
-    let runnables = read_runnables(alloc, scope, &servers, items_at(value, "runnables"))?;
-    Ok(runnables)
+    let runnables = read_runnables(alloc, scope, &servers, items_at(value, "runnables"));
+    drop(servers);
+    runnables
 }
 
 fn read_behavior(
@@ -114,6 +131,24 @@ fn read_behavior(
     })
 }
 
+// The behavior of a component with these names.
+fn behavior_with(
+    alloc: Global,
+    scope: &Scope,
+    names: &ComponentNames,
+    inner: &Value,
+) -> Result<Behavior, Memory>
+    requires inner { IsSmall (view inner.now) }
+    requires arguments { HaveFewArguments scope.now.interfaces }
+    ensures { IfOk result (λ b. behavior_tree b ≡ behavior_reading scope.now.types scope.now.interfaces names.now (view inner.now)) }
+{
+    let component = InComponent {
+        interfaces: &scope.interfaces,
+        names,
+    };
+    read_behavior(alloc, &scope.types, &component, inner)
+}
+
 fn behavior(alloc: Global, scope: &Scope, value: &Value, inner: &Value) -> Result<Behavior, Memory>
     requires value { IsSmall (view value.now) }
     requires inner { IsSmall (view inner.now) }
@@ -121,14 +156,20 @@ fn behavior(alloc: Global, scope: &Scope, value: &Value, inner: &Value) -> Resul
     ensures { IfOk result (λ b. behavior_tree b
         ≡ behavior_reading scope.now.types scope.now.interfaces (component_names scope.now.interfaces (view value.now) (view inner.now)) (view inner.now)) }
 {
-    let interfaces = &scope.interfaces;
-    let names = component_names(alloc, interfaces, value, inner)?;
-    let component = InComponent {
-        interfaces,
-        names: &names,
-    };
-    let behavior = read_behavior(alloc, &scope.types, &component, inner)?;
-    Ok(behavior)
+    let names = component_names(alloc, &scope.interfaces, value, inner)?;
+    let behavior = behavior_with(alloc, scope, &names, inner);
+    drop(names);
+    behavior
+}
+
+// The behavior that the value has, or one of nothing.
+fn behavior_of(alloc: Global, scope: &Scope, value: &Value) -> Result<Behavior, Memory>
+    requires value { IsSmall (view value.now) }
+    requires arguments { HaveFewArguments scope.now.interfaces }
+    ensures { IfOk result (λ b. behavior_tree b ≡ (component_reading scope.now (view value.now)).behavior) }
+{
+    let nothing = Value::Null;
+    behavior(alloc, scope, value, value_at(value, "behavior", &nothing))
 }
 
 /// The component that the value is.
@@ -137,10 +178,9 @@ pub fn read_component(alloc: Global, scope: &Scope, value: &Value) -> Result<Com
     requires arguments { HaveFewArguments scope.now.interfaces }
     ensures { IfOk result (λ c. component_tree c ≡ component_reading scope.now (view value.now)) }
 {
-    let nothing = Value::Null;
     let short_name = copy_at(alloc, value, "shortName")?;
     let ports = read_list(alloc, &scope.interfaces, items_at(value, "ports"))?;
-    let behavior = behavior(alloc, scope, value, value_at(value, "behavior", &nothing))?;
+    let behavior = behavior_of(alloc, scope, value)?;
     Ok(Component {
         short_name,
         ports,

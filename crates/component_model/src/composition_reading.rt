@@ -148,8 +148,9 @@ fn connectors(
     ensures { IfOk result (λ cs. cs ≡ connectors_between names.now (ends_in names.now (view value.now)) (view value.now)) }
 {
     let ends = ends_in(alloc, names, value)?;
-    let connectors = connectors_between(alloc, names, &ends, value)?;
-    Ok(connectors)
+    let connectors = connectors_between(alloc, names, &ends, value);
+    drop(ends);
+    connectors
 }
 
 fn read_composition(alloc: Global, scope: &Scope, value: &Value) -> Result<Composition, Memory>
