@@ -22,7 +22,7 @@ use runnable_lang::Program;
 use serde_json::Value;
 use std::alloc::Global;
 
-// The program of the statements, which such an event starts.
+/// The program of the statements, which such an event starts.
 fn started_by(
     alloc: Global,
     scope: &InComponent,
@@ -131,7 +131,7 @@ fn read_behavior(
     })
 }
 
-// The behavior of a component with these names.
+/// The behavior of a component with these names.
 fn behavior_with(
     alloc: Global,
     scope: &Scope,
@@ -162,7 +162,7 @@ fn behavior(alloc: Global, scope: &Scope, value: &Value, inner: &Value) -> Resul
     behavior
 }
 
-// The behavior that the value has, or one of nothing.
+/// The behavior that the value has, or one of nothing.
 fn behavior_of(alloc: Global, scope: &Scope, value: &Value) -> Result<Behavior, Memory>
     requires value { IsSmall (view value.now) }
     requires arguments { HaveFewArguments scope.now.interfaces }

@@ -8,7 +8,7 @@ ghost use Rattle.declared_names.specs.Sizes.{IsSmall};
 use crate::from_value::{FromValue, read_list};
 use declared_names::{Positions, copy_at, declared, items_at, number_at, text_at};
 use description_types::{MappedEvent, Task, TaskMapping};
-use rte_text::Memory;
+use rte_text::{Memory, Seq};
 use serde_json::Value;
 use std::alloc::Global;
 
@@ -43,14 +43,24 @@ impl<'a> FromValue<Positions<'a>> for MappedEvent {
     }
 }
 
+/// The events that are mapped to the tasks of the mapping.
+fn mapped_events(alloc: Global, value: &Value) -> Result<Seq<MappedEvent>, Memory>
+    requires { IsSmall (view value.now) }
+    ensures { IfOk result (λ events. events ≡ (mapping_reading (view value.now)).events) }
+{
+    let names = declared(alloc, value, "tasks")?;
+    let events = read_list(alloc, &names, items_at(value, "events"));
+    drop(names);
+    events
+}
+
 /// The mapping.
 pub fn read_mapping(alloc: Global, value: &Value) -> Result<TaskMapping, Memory>
     requires { IsSmall (view value.now) }
     ensures { IfOk result (λ m. m ≡ mapping_reading (view value.now)) }
 {
     let tasks = read_list(alloc, &(), items_at(value, "tasks"))?;
-    let names = declared(alloc, value, "tasks")?;
-    let events = read_list(alloc, &names, items_at(value, "events"))?;
+    let events = mapped_events(alloc, value)?;
     Ok(TaskMapping {
         cores: number_at(value, "cores", 0),
         tasks,
