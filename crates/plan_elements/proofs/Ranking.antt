@@ -73,3 +73,7 @@ count_all leaders whole k i past so_far = sym (so_far ∙ ap (λ n. k + n) (at_d
   where
     none : k + 0 ≡ k
     none = omega arith
+
+pub few_more : (b : Bool) (k next i : ℕ) → next ≡ cond b (k + 1) k → k ≤ i → next ≤ i + 1
+few_more true k next i counted few = omega (arith, counted, few)
+few_more false k next i counted few = omega (arith, counted, few)

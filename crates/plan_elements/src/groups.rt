@@ -48,7 +48,6 @@ fn push_rank(list: &mut Vec<u32>, number: usize, count: u32, leader: u32) -> Res
     }
 }
 
-#[tactic(auto, using(crate::proofs::Ranking::ranks_more, crate::proofs::Ranking::count_more, crate::proofs::Ranking::ranks_all, crate::proofs::Ranking::count_all))]
 fn ranks_of(alloc: Global, leaders: &[u32]) -> Result<Ranks, Memory>
     requires { length leaders.now < 2 ^ 32 }
     ensures ranks { IfOk result (λ r. r.numbers.items ≡ ranks 0 0 leaders.now) }
