@@ -6,3 +6,5 @@ pub mod Spreading
 pub mod Few
 pub mod Joining
 pub mod Ranking
+pub mod Mapped
+pub mod Marking

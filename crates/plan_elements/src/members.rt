@@ -49,7 +49,6 @@ fn put(lists: &mut Vec<Vec<u32>>, group: u32, element: u32) -> Result<(), Memory
     Ok(())
 }
 
-#[tactic(auto, using(crate::proofs::Filling::none_yet))]
 fn filled(alloc: Global, numbers: &[u32], count: usize) -> Result<Vec<Vec<u32>>, Memory>
     requires { length numbers.now < 2 ^ 32 }
     ensures { IfOk result (λ lists. map (λ v. v.items) lists.items ≡ all_members count numbers.now) }
