@@ -61,7 +61,6 @@ fn push_instance(
 }
 
 /// The exclusive areas of a plan: those of each instance, in declared order.
-#[tactic(auto, using(crate::proofs::Listing::from_more, crate::proofs::Listing::from_none))]
 pub fn areas_of_plan(alloc: Global, d: &Description, f: &Flat) -> Result<Vec<AreaPlan>, Memory>
     requires { length f.now.instances < 2 ^ 32 }
     ensures { IfOk result (λ list. list.items ≡ areas d.now f.now) }
