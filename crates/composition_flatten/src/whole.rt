@@ -418,5 +418,7 @@ pub fn add_links(alloc: Global, tree: &Tree, links: &mut Links) -> Result<bool, 
     ensures { IfOk result (λ is_full. Grown (IsLink tree.now.d.now) links.old.list.items links.new.list.items is_full) }
 {
     let mut matched = Matched::new(alloc, tree.d)?;
-    add_over(alloc, tree, &mut matched, links)
+    let is_full = add_over(alloc, tree, &mut matched, links);
+    drop(matched);
+    is_full
 }

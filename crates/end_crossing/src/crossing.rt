@@ -165,9 +165,12 @@ fn add_within(
 {
     let first = firsts_below(alloc, tree, provided, pairs, limit)?;
     let second = seconds_below(alloc, tree, required, pairs, limit)?;
-    let answer = cross_found(
+    let crossed = cross_found(
         alloc, tree.d, provided, required, pairs, &first, &second, matched, links,
-    )?;
+    );
+    drop(second);
+    drop(first);
+    let answer = crossed?;
     Ok(answer)
 }
 

@@ -230,7 +230,7 @@ impl<'a> Matched<'a> {
         ensures crossed { OnOk result (self.new.crossed ≡ self.old.crossed) }
     {
         self.make_room_for(d, weight(&side));
-        self.sides.insert(gate, side)?;
+        drop(self.sides.insert(gate, side)?);
         Ok(())
     }
 
