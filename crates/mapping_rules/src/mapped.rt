@@ -50,6 +50,13 @@ fn tasks_of<'a>(
     Ok(list)
 }
 
+fn groups_of(alloc: Global, names: &Names<'_>) -> Result<Groups<(usize, usize), u32>, Memory>
+    ensures { IfOk result (λ tasks. tasks.entries.items ≡ flat_map (task_of names.now.d.now names.now.f.now) names.now.d.now.mapping.events) }
+{
+    let list = tasks_of(alloc, names, names.d.mapping.events.items())?;
+    Groups::new(alloc, list)
+}
+
 fn push_tasks(list: &mut Vec<(usize, u32)>, runnable: usize, tasks: &[u32]) -> Result<(), Memory>
     ensures { OnOk result (list.new.items ≡ list.old.items ++ map (λ t. (runnable, t)) tasks.now) }
 {
@@ -66,9 +73,13 @@ impl<'a> Mapped<'a> {
         ensures f { IfOk result (λ mapped. mapped.names.f.now ≡ f.now) }
     {
         let names = Names::new(alloc, d, f)?;
-        let list = tasks_of(alloc, &names, d.mapping.events.items())?;
-        let tasks = Groups::new(alloc, list)?;
-        Ok(Mapped { names, tasks })
+        match groups_of(alloc, &names) {
+            Ok(tasks) => Ok(Mapped { names, tasks }),
+            Err(memory) => {
+                drop(names);
+                Err(memory)
+            },
+        }
     }
 
     /// Whether each mapped event names an event of an instance.
@@ -106,7 +117,6 @@ impl<'a> Mapped<'a> {
         push_tasks(list, event.runnable as usize, tasks)
     }
 
-    #[tactic(auto, using(crate::proofs::Listing::from_more, crate::proofs::Listing::from_none))]
     fn list_tasks(
         &self,
         alloc: Global,

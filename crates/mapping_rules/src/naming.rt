@@ -33,6 +33,13 @@ fn paths_of<'a>(alloc: Global, instances: &'a [Instance]) -> Result<Vec<&'a [u8]
     Ok(list)
 }
 
+fn positions_of<'a>(alloc: Global, instances: &'a [Instance]) -> Result<Positions<&'a [u8]>, Memory>
+    ensures { IfOk result (λ names. names_of names ≡ map (λ x. x.path) instances.now) }
+{
+    let list = paths_of(alloc, instances)?;
+    Positions::of(alloc, list.as_slice())
+}
+
 fn short_names<'a>(alloc: Global, events: &'a [Event]) -> Result<Vec<&'a [u8]>, Memory>
     ensures { IfOk result (λ list. names_of list.items ≡ map (λ e. e.short_name) events.now) }
 {
@@ -87,8 +94,7 @@ impl<'a> Names<'a> {
         ensures d { IfOk result (λ names. names.d.now ≡ d.now) }
         ensures f { IfOk result (λ names. names.f.now ≡ f.now) }
     {
-        let list = paths_of(alloc, f.instances.items())?;
-        let paths = Positions::of(alloc, list.as_slice())?;
+        let paths = positions_of(alloc, f.instances.items())?;
         let events = events_of_all(alloc, d.components.items())?;
         Ok(Names {
             d,

@@ -50,7 +50,6 @@ fn push_invoked(
     Ok(())
 }
 
-#[tactic(auto, using(crate::proofs::Listing::from_more, crate::proofs::Listing::from_none))]
 fn list_invoked(alloc: Global, events: &[Event]) -> Result<Vec<((u32, u32), usize)>, Memory>
     ensures { IfOk result (λ list. list.items ≡ from 0 (λ m e. invoked_at m e.kind) events.now) }
 {

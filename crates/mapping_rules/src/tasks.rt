@@ -95,7 +95,6 @@ fn push_task(
     Ok(())
 }
 
-#[tactic(auto, using(crate::proofs::Listing::from_more, crate::proofs::Listing::from_none))]
 fn list_tasks(
     alloc: Global,
     groups: &Groups<usize, Placed>,
@@ -110,15 +109,36 @@ fn list_tasks(
     Ok(list)
 }
 
+fn placed_of(
+    alloc: Global,
+    names: &Names<'_>,
+    numbers: &Events,
+) -> Result<Groups<usize, Placed>, Memory>
+    requires { numbers.now ≡ events_of names.now.d.now names.now.f.now }
+    ensures { IfOk result (λ groups. groups.entries.items ≡ map (task_entry names.now.d.now names.now.f.now) names.now.d.now.mapping.events) }
+{
+    let d = names.d;
+    let list = list_placed(alloc, names, numbers, d.mapping.events.items())?;
+    Groups::new(alloc, list)
+}
+
 fn tasks_of(alloc: Global, mapped: &Mapped<'_>, numbers: &Events) -> Result<Vec<Task>, Memory>
     requires { numbers.now ≡ events_of mapped.now.names.d.now mapped.now.names.f.now }
     ensures { IfOk result (λ list. list.items ≡ (mapping_of mapped.now.names.d.now mapped.now.names.f.now).tasks) }
 {
     let d = mapped.names.d;
-    let list = list_placed(alloc, &mapped.names, numbers, d.mapping.events.items())?;
-    let groups = Groups::new(alloc, list)?;
-    let tasks = list_tasks(alloc, &groups, d.mapping.tasks.items())?;
-    Ok(tasks)
+    let groups = placed_of(alloc, &mapped.names, numbers)?;
+    let tasks = list_tasks(alloc, &groups, d.mapping.tasks.items());
+    drop(groups);
+    tasks
+}
+
+fn numbers_of(alloc: Global, names: &Names<'_>) -> Result<Events, Memory>
+    requires { length (events_of names.now.d.now names.now.f.now) < 2 ^ 32 }
+    ensures { IfOk result (λ numbers. numbers ≡ events_of names.now.d.now names.now.f.now) }
+{
+    let pairs = numbered_events(alloc, names.d, names.f)?;
+    Numbers::of(alloc, pairs.as_slice())
 }
 
 /// The tasks on their cores, each with the numbers of its events in the order of their positions.
@@ -126,9 +146,10 @@ fn mapping_of(alloc: Global, mapped: &Mapped<'_>) -> Result<Mapping, Memory>
     requires { length (events_of mapped.now.names.d.now mapped.now.names.f.now) < 2 ^ 32 }
     ensures { IfOk result (λ mapping. mapping ≡ mapping_of mapped.now.names.d.now mapped.now.names.f.now) }
 {
-    let pairs = numbered_events(alloc, mapped.names.d, mapped.names.f)?;
-    let numbers = Numbers::of(alloc, pairs.as_slice())?;
-    let tasks = tasks_of(alloc, mapped, &numbers)?;
+    let numbers = numbers_of(alloc, &mapped.names)?;
+    let tasks = tasks_of(alloc, mapped, &numbers);
+    drop(numbers);
+    let tasks = tasks?;
     Ok(Mapping {
         cores: mapped.names.d.mapping.cores,
         tasks: Seq::of(tasks),
@@ -174,6 +195,7 @@ pub fn list_mapping(alloc: Global, kept: KeptMapping<'_>) -> Result<(Mapping, Ve
     ensures mapping { IfOk result (λ found. found.0 ≡ mapping_of kept.entry.d.now kept.entry.f.now) }
     ensures mapped { IfOk result (λ found. found.1.items ≡ are_mapped kept.entry.d.now kept.entry.f.now) }
 {
-    let found = made(alloc, &kept.mapped)?;
-    Ok(found)
+    let found = made(alloc, &kept.mapped);
+    drop(kept);
+    found
 }
