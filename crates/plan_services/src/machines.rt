@@ -108,7 +108,9 @@ pub fn machine_plans(alloc: Global, source: &Source<'_>) -> Result<Vec<MachinePl
     ensures { IfOk result (λ list. list.items ≡ machines source.now.d.now source.now.f.now) }
 {
     let users = Users::new(alloc, source)?;
-    machines_at(alloc, source, &users, source.lists.machines.as_slice())
+    let plans = machines_at(alloc, source, &users, source.lists.machines.as_slice());
+    drop(users);
+    plans
 }
 
 fn mode_port_at(

@@ -36,34 +36,34 @@ fn supports_asynchronous(source: &Source<'_>, site: Site) -> bool
     }
 }
 
-/// The machines that instances require, one for each required mode element.
-fn used(alloc: Global, source: &Source<'_>, sites: &[Site]) -> Result<Vec<u32>, Memory>
-    ensures { IfOk result (λ list. list.items ≡ map (machine_required source.now.d.now source.now.f.now) (filter is_use sites.now)) }
+fn is_refusal(source: &Source<'_>, site: Site) -> bool
+    ensures { result ≡ is_refusal source.now.d.now source.now.f.now site }
 {
-    sites
-        .iter()
-        .filter(|s| s.owner.is_some())
-        .map(|s| machine_required(source, *s))
-        .collect(alloc)
+    site.owner.is_some() && !supports_asynchronous(source, site)
+}
+
+/// The machines that instances require.
+fn used(alloc: Global, source: &Source<'_>, sites: &[Site]) -> Result<IndexSet<u32>, Memory>
+    ensures { IfOk result (λ set. (n : ℕ) → contains nat_eq set n ≡ list_any (nat_eq n) (map (machine_required source.now.d.now source.now.f.now) (filter is_use sites.now))) }
+{
+    let mut set = IndexSet::new(alloc);
+    for site in sites {
+        if site.owner.is_some() {
+            set.insert(machine_required(source, *site))?;
+        }
+    }
+    Ok(set)
 }
 
 /// Those among them that the mode element does not support to switch asynchronously.
-fn refused(alloc: Global, source: &Source<'_>, sites: &[Site]) -> Result<Vec<u32>, Memory>
-    ensures { IfOk result (λ list. list.items ≡ map (machine_required source.now.d.now source.now.f.now) (filter (is_refusal source.now.d.now source.now.f.now) sites.now)) }
-{
-    sites
-        .iter()
-        .filter(|s| s.owner.is_some() && !supports_asynchronous(source, **s))
-        .map(|s| machine_required(source, *s))
-        .collect(alloc)
-}
-
-fn set_of(alloc: Global, numbers: &[u32]) -> Result<IndexSet<u32>, Memory>
-    ensures { IfOk result (λ set. (n : ℕ) → contains nat_eq set n ≡ list_any (nat_eq n) numbers.now) }
+fn refused(alloc: Global, source: &Source<'_>, sites: &[Site]) -> Result<IndexSet<u32>, Memory>
+    ensures { IfOk result (λ set. (n : ℕ) → contains nat_eq set n ≡ list_any (nat_eq n) (map (machine_required source.now.d.now source.now.f.now) (filter (is_refusal source.now.d.now source.now.f.now) sites.now))) }
 {
     let mut set = IndexSet::new(alloc);
-    for number in numbers {
-        set.insert(*number)?;
+    for site in sites {
+        if is_refusal(source, *site) {
+            set.insert(machine_required(source, *site))?;
+        }
     }
     Ok(set)
 }
@@ -76,10 +76,7 @@ impl Users {
         let sites = source.lists.mode_ports.as_slice();
         let used = used(alloc, source, sites)?;
         let refused = refused(alloc, source, sites)?;
-        Ok(Users {
-            used: set_of(alloc, used.as_slice())?,
-            refused: set_of(alloc, refused.as_slice())?,
-        })
+        Ok(Users { used, refused })
     }
 
     /// Whether the machine waits, between Close and Exit, for what the next mode disables.
