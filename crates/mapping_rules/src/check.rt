@@ -155,7 +155,9 @@ fn check_mapped(alloc: Global, mapped: &Mapped<'_>) -> Result<(), Refused>
     ensures order { OnOk result (HaveOrder mapped.now.names.d.now mapped.now.names.f.now) }
 {
     let servers = Servers::new(alloc, mapped)?;
-    check_rules(alloc, &servers)
+    let checked = check_rules(alloc, &servers);
+    drop(servers);
+    checked
 }
 
 /// Whether the mapping of a description, made flat, keeps its rules: each mapped event names an instance and an event of it (25,
@@ -184,6 +186,9 @@ pub fn check_mapping<'a>(
     let mapped = Mapped::new(alloc, d, f)?;
     match check_mapped(alloc, &mapped) {
         Ok(()) => Ok(KeptMapping { d, f, mapped }),
-        Err(refused) => Err(refused),
+        Err(refused) => {
+            drop(mapped);
+            Err(refused)
+        },
     }
 }

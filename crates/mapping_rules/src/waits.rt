@@ -174,8 +174,9 @@ fn list_waits(alloc: Global, servers: &Servers<'_>) -> Result<Vec<Edge>, Memory>
 {
     let mut edges = IndexSet::new(alloc);
     add_all(alloc, &mut edges, servers)?;
-    let list = Vec::from_slice(alloc, edges.as_slice())?;
-    Ok(list)
+    let list = Vec::from_slice(alloc, edges.as_slice());
+    drop(edges);
+    list
 }
 
 /// An edge from each task to each task that it waits for, each once.

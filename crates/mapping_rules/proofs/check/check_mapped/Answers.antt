@@ -6,8 +6,8 @@ use Rattle.mapping_rules.proofs.check.check_mapped.Goals as goal
 
 pub returns : goal.returns
 returns c = record {
-  refusal = moved (λ d f. Tells (IsRefusal d f) c.check_rules.result) c.in_ok-servers.servers.mapped.now.names.d.now c.args.mapped.now.names.d.now c.in_ok-servers.servers.mapped.now.names.f.now c.args.mapped.now.names.f.now
-      (ap (λ m. m.names.d.now) c.in_ok-servers.ensures) (ap (λ m. m.names.f.now) c.in_ok-servers.ensures) c.check_rules.ensures.refusal;
-  order = moved (λ d f. OnOk c.check_rules.result (HaveOrder d f)) c.in_ok-servers.servers.mapped.now.names.d.now c.args.mapped.now.names.d.now c.in_ok-servers.servers.mapped.now.names.f.now c.args.mapped.now.names.f.now
-      (ap (λ m. m.names.d.now) c.in_ok-servers.ensures) (ap (λ m. m.names.f.now) c.in_ok-servers.ensures) c.check_rules.ensures.order;
+  refusal = moved (λ d f. Tells (IsRefusal d f) c.check_rules-checked.result) c.in_ok-servers.servers.mapped.now.names.d.now c.args.mapped.now.names.d.now c.in_ok-servers.servers.mapped.now.names.f.now c.args.mapped.now.names.f.now
+      (ap (λ m. m.names.d.now) c.in_ok-servers.ensures) (ap (λ m. m.names.f.now) c.in_ok-servers.ensures) c.check_rules-checked.ensures.refusal;
+  order = moved (λ d f. OnOk c.check_rules-checked.result (HaveOrder d f)) c.in_ok-servers.servers.mapped.now.names.d.now c.args.mapped.now.names.d.now c.in_ok-servers.servers.mapped.now.names.f.now c.args.mapped.now.names.f.now
+      (ap (λ m. m.names.d.now) c.in_ok-servers.ensures) (ap (λ m. m.names.f.now) c.in_ok-servers.ensures) c.check_rules-checked.ensures.order;
 }

@@ -15,8 +15,8 @@ returns-in-Ok c = record {
   flat = refl;
 }
 
-pub returns : goal.returns
-returns c = record {
+pub returns-in-Err : goal.returns-in-Err
+returns-in-Err c = record {
   refusal = passed_over c.args.d.now c.args.f.now KeptMapping c.in-Err.refused
       (moved (λ d f. Tells {U = Unit} (IsRefusal d f) (Err c.in-Err.refused)) c.in_ok-mapped.mapped.names.d.now c.args.d.now c.in_ok-mapped.mapped.names.f.now c.args.f.now
       c.in_ok-mapped.ensures.d c.in_ok-mapped.ensures.f c.in-Err.ensures.refusal);
