@@ -1,5 +1,6 @@
 -- The turns of the loops that list.
 use Rattle.std.proofs.Common.{◌≡◌, ℕ, zero, suc, ◌+◌, ◌<◌, ◌≤◌, List, [], ◌∷◌, ◌++◌, map, length, get_or, drop, ◌-◌, refl, sym, ap, ◌∙◌, arith, add-one, append_assoc}
+use Rattle.std.proofs.lemmas.List.{append-nil}
 use Rattle.plan_definitions.specs.Lists.{positions, from}
 
 module _ {Y : Type 0} (f : ℕ → Y) where
@@ -34,6 +35,13 @@ module _ {X Y : Type 0} (f : ℕ → X → List Y) where
       → whole ≡ (old ++ f i x) ++ from (i + 1) f (drop (i + 1) xs)
   from_more xs whole old i x within is so_far = so_far ∙ ap (λ ys. old ++ ys) (from_next xs i i x within is)
       ∙ sym (append_assoc old (f i x) (from (i + 1) f (drop (suc i) xs))) ∙ (λ j. (old ++ f i x) ++ from (i + 1) f (drop (sym (add-one i) j) xs))
+
+  pub from_added : (xs : List X) (whole old new : List Y) (i : ℕ) (x : X) → i < length xs → x ≡ get_or xs i x → new ≡ old ++ f i x → whole ≡ old ++ from i f (drop i xs)
+      → whole ≡ new ++ from (i + 1) f (drop (i + 1) xs)
+  from_added xs whole old new i x within is added so_far = from_more xs whole old i x within is so_far ∙ ap (λ ys. ys ++ from (i + 1) f (drop (i + 1) xs)) (sym added)
+
+  pub from_all : (xs : List X) (whole old : List Y) (i : ℕ) → length xs ≤ i → whole ≡ old ++ from i f (drop i xs) → old ≡ whole
+  from_all xs whole old i past so_far = sym (so_far ∙ ap (λ ys. old ++ ys) (from_none xs i i past) ∙ append-nil old)
 
 -- nothing is added
 pub nothing : {Y : Type 0} (ys zs : List Y) → zs ≡ [] → ys ≡ ys ++ zs

@@ -179,7 +179,6 @@ fn push_outer_port(
     }
 }
 
-#[tactic(auto, using(crate::proofs::Listing::from_more, crate::proofs::Listing::from_none))]
 fn push_outer_ports(list: &mut Vec<Calling>, d: &Description, ports: &[Port]) -> Result<(), Memory>
     requires ports { length ports.now < 2 ^ 32 }
     requires items { HasShortInterfaces d.now.types }

@@ -37,7 +37,6 @@ fn server_of(
     Some(source.server_number(Some(instance), found.0, found.1))
 }
 
-#[tactic(auto, using(crate::proofs::Serving::served_found))]
 fn runnable_of(
     alloc: Global,
     source: &Source<'_>,
@@ -93,7 +92,6 @@ fn push_runnable(
     Ok(())
 }
 
-#[tactic(auto, using(crate::proofs::Listing::from_more, crate::proofs::Listing::from_none))]
 fn push_runnables(
     list: &mut Vec<RunnablePlan>,
     alloc: Global,
@@ -159,7 +157,6 @@ fn push_instance(
     }
 }
 
-#[tactic(auto, using(crate::proofs::Listing::from_more, crate::proofs::Listing::from_none))]
 fn push_instances(
     list: &mut Vec<RunnablePlan>,
     alloc: Global,

@@ -1,0 +1,12 @@
+use Rattle.std.proofs.Common.{[]}
+use Rattle.std.specs.List.{slice_get}
+use Rattle.std.specs.Option.{option_map_or}
+use Rattle.plan_definitions.specs.Started.{runnables_of_component}
+use Rattle.plan_services.proofs.Listing.{from_added, from_all}
+use Rattle.plan_services.proofs.runnables.push_instances.Goals as goal
+
+pub loop-number-preserved : goal.loop-number-preserved
+loop-number-preserved c = from_added (λ i x. option_map_or (runnables_of_component c.args.source.now.d.now c.args.source.now.f.now i) (slice_get c.args.source.now.d.now.components x.component) []) c.args.instances.now _ _ _ c.loop-number.number _ c.loop-number-test.true c.index-instances-number.is c.in_ok-push_instance.ensures c.loop-number.invariant
+
+pub returns : goal.returns
+returns c = from_all (λ i x. option_map_or (runnables_of_component c.args.source.now.d.now c.args.source.now.f.now i) (slice_get c.args.source.now.d.now.components x.component) []) c.args.instances.now _ _ c.loop-number.number c.loop-number-test.false c.loop-number.invariant
