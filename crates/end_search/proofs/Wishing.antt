@@ -17,6 +17,7 @@ use Rattle.composition_tables.specs.declared.inner.Inner.{Inner}
 use Rattle.end_search.specs.declared.seek.Found.{Found}
 use Rattle.end_search.specs.declared.seek.Known.{Known}
 use Rattle.end_search.specs.declared.seek.Wanted.{Wanted}
+use Rattle.end_search.specs.declared.seek.Wanted.TheVariants.{Anything}
 use Rattle.flat_descriptions.specs.Connectors.{interface_of}
 use Rattle.composition_tables.specs.Counts.{IsCounted, count_in}
 use Rattle.composition_tables.specs.Ends.{ends, own_end, inner_ends, inner_ports, number_from, offset}
@@ -204,6 +205,27 @@ found_of w P all found before none there back s = record {
   sound = λ x h. ⊎_elim (λ o. absurd (subst (Among x) none o)) (λ p. there x p) (s.sound x h);
   whole = λ f x a h. s.has f x (back x a h);
 }
+
+-- what was found of a port, moved to where it stands
+pub found_moved : (first : ℕ) (near found : Found) (slice before : List PortEnd) (is_more : Bool) → first < 2 ^ 32 → slice ≡ near.ends.keys → before ≡ [] → found.is_cut ≡ (is_more || near.is_cut)
+    → Sought (AnyOf (λ (y : PortEnd) x. x ≡ end_from first y) slice) before found.ends.keys is_more
+    → (d : Description) (w : Wanted) (n : ℕ) (t : PrototypeType) (port : ℕ) → AreFound w (ends d n t 0 port) near → AreFound w (ends d n t first port) found
+found_moved first near found slice before is_more short same none cut m d w n t port are = record {
+  sound = λ x h. ⊎_elim (λ o. absurd (subst (Among x) none o)) (λ a. (moved_there d Anything n t first port short x a.0 (are.sound a.0 (subst (Among a.0) same a.1), tt) a.2).0) (m.sound x h);
+  whole = λ all x a wanted.
+      let parts = or_parts is_more near.is_cut (sym cut ∙ all) in
+      let r = moved_back d w n t first port short x (a, wanted) in
+      m.has parts.0 x (r.0, subst (Among r.0) (sym same) (are.whole parts.1 r.0 r.1.0 r.1.1), r.2);
+}
+
+-- what was found below other ports than before
+pub known_anew : (d : Description) (w : Wanted) (depth c : ℕ) (ports : List ℕ) (known : Known) (after : List PortEnd) (is_cut : Bool) → known.depth ≡ depth → known.composition ≡ c → known.ports.items ≡ ports → known.ends.keys ≡ []
+    → Sought (AnyOf (IsEnd d w depth (Composition c) 0) ports) known.ends.keys after is_cut → Sought (AnyOf (IsEnd d w known.depth (Composition known.composition) 0) known.ports.items) [] after is_cut
+known_anew d w depth c ports known after is_cut same_depth same_c same_ports none s =
+    subst (λ n. Sought (AnyOf (IsEnd d w n (Composition known.composition) 0) known.ports.items) [] after is_cut) (sym same_depth)
+    (subst (λ q. Sought (AnyOf (IsEnd d w depth (Composition q) 0) known.ports.items) [] after is_cut) (sym same_c)
+    (subst (λ l. Sought (AnyOf (IsEnd d w depth (Composition c) 0) l) [] after is_cut) (sym same_ports)
+    (subst (λ l. Sought (AnyOf (IsEnd d w depth (Composition c) 0) ports) l after is_cut) none s)))
 
 -- equal lists of numbers
 pub same_numbers : (xs ys : List ℕ) → pointwise nat_eq xs ys ≡ true → xs ≡ ys

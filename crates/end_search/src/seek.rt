@@ -1,7 +1,8 @@
 //! The search for the ends below a port, from composition to composition.
 
-ghost use Rattle.std.specs.Prelude.{◌≡◌, ◌≤◌, ◌↔◌, ◌||◌, [], ◌∷◌, true, false, IfOk, OnOk, IsTrue};
+ghost use Rattle.std.specs.Prelude.{◌≡◌, ◌≤◌, ◌↔◌, ◌||◌, [], ◌∷◌, ℕ, true, false, IfOk, OnOk, IsTrue};
 ghost use Rattle.description_types.specs.declared.description.Description.{Description};
+ghost use Rattle.description_types.specs.declared.description.PrototypeType.{PrototypeType};
 ghost use Rattle.end_search.specs.declared.seek.Wanted.{Wanted};
 ghost use Rattle.composition_tables.specs.declared.tree.PortEnd.{PortEnd};
 ghost use Rattle.composition_tables.specs.Ends.{ends};
@@ -207,6 +208,26 @@ fn either(first: bool, second: bool) -> bool
     first || second
 }
 
+/// Begins to look below other ports, of which no end is known yet.
+fn begin_anew(
+    alloc: Global,
+    known: &mut Known,
+    depth: usize,
+    composition: u32,
+    ports: &[u32],
+) -> Result<(), Memory>
+    ensures depth { OnOk result (known.new.depth ≡ depth) }
+    ensures composition { OnOk result (known.new.composition ≡ composition) }
+    ensures ports { OnOk result (known.new.ports.items ≡ ports.now) }
+    ensures ends { OnOk result (known.new.ends.keys ≡ []) }
+{
+    known.depth = depth;
+    known.composition = composition;
+    known.ports = Vec::from_slice(alloc, ports)?;
+    known.ends.clear();
+    Ok(())
+}
+
 /// Finds the ends below some ports of a composition, unless they are the last that were found.
 #[cycle(seeking)]
 fn seek_known(
@@ -231,15 +252,16 @@ fn seek_known(
     if is_known(known, depth, composition, ports) {
         return Ok(());
     }
-    let mut found = IndexSet::new(alloc);
-    let is_cut = seek(alloc, tree, depth, composition, ports, wish, &mut found)?;
-    *known = Known {
+    begin_anew(alloc, known, depth, composition, ports)?;
+    known.is_cut = seek(
+        alloc,
+        tree,
         depth,
         composition,
-        ports: Vec::from_slice(alloc, ports)?,
-        ends: found,
-        is_cut,
-    };
+        ports,
+        wish,
+        &mut known.ends,
+    )?;
     Ok(())
 }
 
@@ -341,8 +363,9 @@ fn seek(
         return Ok(false);
     }
     let inner = inner_of(alloc, tree, composition, ports)?;
-    let is_cut = seek_prototypes(alloc, tree, depth - 1, composition, &inner, wish, found)?;
-    Ok(is_cut)
+    let is_cut = seek_prototypes(alloc, tree, depth - 1, composition, &inner, wish, found);
+    drop(inner);
+    is_cut
 }
 
 /// The ends at a port of an instance.
@@ -362,12 +385,38 @@ pub fn ends_of_instance(
     Ok(Found { ends, is_cut })
 }
 
-fn one_port(alloc: Global, port: u32) -> Result<Vec<u32>, Memory>
-    ensures { IfOk result (λ ports. ports.items ≡ port ∷ []) }
+/// The ends below a port of a composition whose first instance has the number 0, each once.
+fn ends_from_zero(
+    alloc: Global,
+    tree: &Tree,
+    depth: usize,
+    composition: u32,
+    port: u32,
+    wish: &Wish,
+) -> Result<Found, Memory>
+    requires is_tree { IsTree tree.now }
+    requires within { depth ≤ 8 }
+    ensures found { IfOk result (AreFound wish.now.wanted (ends tree.now.d.now depth (PrototypeType.Composition composition) 0 port)) }
+    ensures cut { IfOk result (λ found. IsCutBelow wish.now.limit found.is_cut) }
 {
-    let mut ports = Vec::new(alloc);
-    ports.push(port)?;
-    Ok(ports)
+    let ports = [port];
+    let mut ends = IndexSet::new(alloc);
+    let is_cut = seek(alloc, tree, depth, composition, &ports, wish, &mut ends)?;
+    Ok(Found { ends, is_cut })
+}
+
+/// The ends that were found below a port whose first instance has the number 0, with instances numbered from another first
+/// one on.
+fn ends_moved(alloc: Global, first: u32, near: &Found, limit: usize) -> Result<Found, Memory>
+    ensures found { IfOk result (λ found. (d : Description) (w : Wanted) (n : ℕ) (t : PrototypeType) (port : ℕ) → AreFound w (ends d n t 0 port) near.now → AreFound w (ends d n t first port) found) }
+    ensures cut { IfOk result (λ found. IsCutBelow limit near.now.is_cut → IsCutBelow limit found.is_cut) }
+{
+    let mut ends = IndexSet::new(alloc);
+    let is_more = note_all_moved(first, near.ends.as_slice(), limit, &mut ends)?;
+    Ok(Found {
+        ends,
+        is_cut: either(is_more, near.is_cut),
+    })
 }
 
 /// The ends at or below a port of a composition, each once. Where many chains lead to one port, it is followed once.
@@ -385,21 +434,8 @@ pub fn ends_below(
     ensures found { IfOk result (AreFound wish.now.wanted (ends tree.now.d.now depth (PrototypeType.Composition composition) first port)) }
     ensures cut { IfOk result (λ found. IsCutBelow wish.now.limit found.is_cut) }
 {
-    let ports = one_port(alloc, port)?;
-    let mut near = IndexSet::new(alloc);
-    let is_cut = seek(
-        alloc,
-        tree,
-        depth,
-        composition,
-        ports.as_slice(),
-        wish,
-        &mut near,
-    )?;
-    let mut ends = IndexSet::new(alloc);
-    let is_more = note_all_moved(first, near.as_slice(), wish.limit, &mut ends)?;
-    Ok(Found {
-        ends,
-        is_cut: either(is_more, is_cut),
-    })
+    let near = ends_from_zero(alloc, tree, depth, composition, port, wish)?;
+    let found = ends_moved(alloc, first, &near, wish.limit);
+    drop(near);
+    found
 }

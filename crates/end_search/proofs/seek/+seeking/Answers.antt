@@ -1,4 +1,5 @@
 use Rattle.std.proofs.Common.{◌≡◌, ◌∙◌, ◌-◌, suc, get_or, true, false, true≢false, ap, sym, subst, refl, arith, Some}
+use Rattle.std.proofs.lemmas.Result.{IfOk-weaker}
 use Rattle.description_types.specs.declared.description.PrototypeType.TheVariants.{Component, Composition}
 use Rattle.composition_tables.specs.Counts.{count_in}
 use Rattle.composition_tables.specs.Ends.{ends}
@@ -6,7 +7,7 @@ use Rattle.flat_descriptions.specs.Growing.{AnyOf}
 use Rattle.flat_descriptions.specs.Members.{Among}
 use Rattle.end_search.specs.Wishes.{IsBelowPrototype, IsEnd, IsInnerEnd, Sought}
 use Rattle.composition_tables.proofs.Noding.{type_declared}
-use Rattle.end_search.proofs.Wishing.{cut_either, sought_none, sought_begin, sought_more, sought_full, sought_all, sought_inside, sought_dead, sought_known, sought_missing, sought_below}
+use Rattle.end_search.proofs.Wishing.{cut_either, known_anew, sought_none, sought_begin, sought_more, sought_full, sought_all, sought_inside, sought_dead, sought_known, sought_missing, sought_below}
 use Rattle.end_search.proofs.seek.+seeking.Goals as goal
 
 pub seek_inner-start_of-start-requires-clause-declared : goal.seek_inner-start_of-start-requires-clause-declared
@@ -63,8 +64,14 @@ seek_prototypes-returns-clause-found t c = subst (λ l. Sought (AnyOf (IsBelowPr
 
 pub seek-returns-clause-found : goal.seek-returns-clause-found
 seek-returns-clause-found t c = let deep : suc (c.args.depth - 1) ≡ c.args.depth = omega arith in
-    sought_below c.args.tree.now.d.now c.args.wish.now.wanted (c.args.depth - 1) c.args.depth c.args.composition c.args.ports.now c.in_ok-inner.inner.prototypes.keys c.in_ok-inner.inner c.args.found.now.keys c.seek_prototypes.new.found.keys c.in_ok-is_cut.is_cut
-    deep refl c.in_ok-inner.ensures c.in_ok-is_cut.ensures.found
+    IfOk-weaker c.seek_prototypes-is_cut.result (Sought (AnyOf (IsBelowPrototype c.args.tree.now.d.now c.args.wish.now.wanted (c.args.depth - 1) c.args.composition c.in_ok-inner.inner) c.in_ok-inner.inner.prototypes.keys) c.args.found.now.keys c.seek_prototypes-is_cut.new.found.keys)
+    (Sought (AnyOf (IsEnd c.args.tree.now.d.now c.args.wish.now.wanted c.args.depth (Composition c.args.composition) 0) c.args.ports.now) c.args.found.now.keys c.seek_prototypes-is_cut.new.found.keys)
+    (λ is_cut. sought_below c.args.tree.now.d.now c.args.wish.now.wanted (c.args.depth - 1) c.args.depth c.args.composition c.args.ports.now c.in_ok-inner.inner.prototypes.keys c.in_ok-inner.inner c.args.found.now.keys c.seek_prototypes-is_cut.new.found.keys is_cut
+    deep refl c.in_ok-inner.ensures) c.seek_prototypes-is_cut.ensures.found
+
+pub seek_known-returns-clause-known : goal.seek_known-returns-clause-known
+seek_known-returns-clause-known t c = known_anew c.args.tree.now.d.now c.args.wish.now.wanted c.args.depth c.args.composition c.args.ports.now c.begin_anew.new.known _ _
+    c.in_ok-begin_anew.ensures.depth c.in_ok-begin_anew.ensures.composition c.in_ok-begin_anew.ensures.ports c.in_ok-begin_anew.ensures.ends c.in_ok-known.ensures.found
 
 pub seek_known-returns-then-is_known-clause-depth : goal.seek_known-returns-then-is_known-clause-depth
 seek_known-returns-then-is_known-clause-depth t c = (c.is_known.ensures c.if-is_known.true).0
