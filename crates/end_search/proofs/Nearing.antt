@@ -1,5 +1,5 @@
 -- What is kept of the ends below ports.
-use Rattle.std.proofs.Common.{◌≡◌, ℕ, ◌^◌, ◌<◌, List, [], Bool, true, false, cond, Some, Vec, inl, inr, ⊎_elim, true≢false, refl, sym, ap, subst, ◌∙◌}
+use Rattle.std.proofs.Common.{◌≡◌, ℕ, ◌^◌, ◌<◌, List, [], Result, Ok, Err, OnOk, Bool, true, false, cond, Some, Vec, inl, inr, ⊎_elim, true≢false, refl, sym, ap, subst, ◌∙◌}
 use Rattle.std.specs.Global.{Global}
 use Rattle.std.specs.HashMap.{HashMap, Updates, get}
 use Rattle.description_types.specs.declared.description.Description.{Description}
@@ -15,6 +15,11 @@ use Rattle.end_search.specs.Near.{same_gate, AreKept}
 use Rattle.end_search.specs.Wishes.{end_from, IsEnd, Sought}
 use Rattle.end_search.proofs.SameGates.{gate_is}
 use Rattle.end_search.proofs.Wishing.{moved_there, moved_back}
+
+-- what holds whatever the answer is
+pub on_ok : {T E : Type 0} (P : Type 0) (result : Result T E) → P → OnOk result P
+on_ok P (Ok x) p = p
+on_ok P (Err e) p = tt
 
 pub sought_part : (P : PortEnd → Type 0) (list : List PortEnd) → Sought P list list true
 sought_part P list = record { sound = λ x h. inl h; stays = λ x h. h; has = λ none. absurd (true≢false none) }

@@ -1,6 +1,6 @@
 //! The ends below ports, kept so that what was searched is not searched again.
 
-ghost use Rattle.std.specs.Prelude.{◌≡◌, ◌≤◌, ◌+◌, IfOk, OnOk};
+ghost use Rattle.std.specs.Prelude.{◌≡◌, ◌≤◌, ◌+◌, false, IfOk, OnOk};
 ghost use Rattle.description_types.specs.declared.description.Description.{Description};
 ghost use Rattle.composition_tables.specs.declared.tree.PortEnd.{PortEnd};
 ghost use Rattle.composition_tables.specs.Ends.{ends};
@@ -71,6 +71,24 @@ fn keep_ends(alloc: Global, near: &mut Near, gate: Gate, ends: &[PortEnd]) -> Re
 {
     near.weight = near.weight.saturating_add(ends.len()).saturating_add(8);
     near.ends.insert(gate, Vec::from_slice(alloc, ends)?)?;
+    Ok(())
+}
+
+/// Keeps the ends that were gathered below a port, or notes that there may be more.
+fn keep_gathered(
+    alloc: Global,
+    near: &mut Near,
+    gate: Gate,
+    ends: &[PortEnd],
+    is_cut: bool,
+) -> Result<(), Memory>
+    ensures { OnOk result ((d : Description) (w : Wanted) → AreNear d w near.old → (is_cut ≡ false → AreKept d w gate ends.now) → AreNear d w near.new) }
+{
+    if is_cut {
+        note_crowded(near, gate)?;
+        return Ok(());
+    }
+    keep_ends(alloc, near, gate, ends)?;
     Ok(())
 }
 
@@ -183,7 +201,7 @@ fn keep_port(
         return Ok(());
     }
     let mut found = IndexSet::new(alloc);
-    if gather(
+    let is_cut = gather(
         alloc,
         tree,
         depth - 1,
@@ -192,12 +210,33 @@ fn keep_port(
         wish,
         near,
         &mut found,
-    )? {
-        note_crowded(near, gate)?;
-        return Ok(());
-    }
-    keep_ends(alloc, near, gate, found.as_slice())?;
-    Ok(())
+    )?;
+    let kept = keep_gathered(alloc, near, gate, found.as_slice(), is_cut);
+    drop(found);
+    kept
+}
+
+/// Keeps the ends below a port of a composition, if they are few, whatever their interfaces.
+fn keep_few(
+    alloc: Global,
+    tree: &Tree,
+    depth: usize,
+    composition: u32,
+    port: u32,
+    near: &mut Near,
+) -> Result<(), Memory>
+    requires is_tree { IsTree tree.now }
+    requires within { depth ≤ 8 }
+    requires near { AreNear tree.now.d.now Wanted.Anything near.old }
+    ensures { OnOk result (AreNear tree.now.d.now Wanted.Anything near.new) }
+{
+    let wish = Wish {
+        wanted: Wanted::Anything,
+        limit: FEW,
+    };
+    let kept = keep_port(alloc, tree, depth, composition, port, &wish, near);
+    drop(wish);
+    kept
 }
 
 /// The ends below a port of a composition, if they are few. Else the answer is that there may be more.
@@ -216,11 +255,7 @@ fn few_below(
     ensures near { OnOk result (AreNear tree.now.d.now Wanted.Anything near.new) }
     ensures found { IfOk result (AreFound Wanted.Anything (ends tree.now.d.now depth (PrototypeType.Composition composition) first port)) }
 {
-    let wish = Wish {
-        wanted: Wanted::Anything,
-        limit: FEW,
-    };
-    keep_port(alloc, tree, depth, composition, port, &wish, near)?;
+    keep_few(alloc, tree, depth, composition, port, near)?;
     let mut ends = IndexSet::new(alloc);
     let is_cut = note_kept(near, depth, composition, first, port, FEW, &mut ends)?;
     Ok(Found { ends, is_cut })
@@ -236,8 +271,9 @@ fn all_at(alloc: Global, tree: &Tree, gate: Gate) -> Result<Found, Memory>
         wanted: Wanted::Anything,
         limit: LINK_LIMIT,
     };
-    let found = ends_at(alloc, tree, gate, &wish)?;
-    Ok(found)
+    let found = ends_at(alloc, tree, gate, &wish);
+    drop(wish);
+    found
 }
 
 /// The ends at or below a gate, each once. Few are kept, so that no port is searched again that has few.
@@ -251,15 +287,12 @@ pub fn ends_near(alloc: Global, tree: &Tree, gate: Gate, near: &mut Near) -> Res
     match gate {
         Gate::Composition(depth, composition, first, port) => {
             let few = few_below(alloc, tree, depth, composition, first, port, near)?;
-            if !few.is_cut {
-                return Ok(few);
+            if few.is_cut {
+                drop(few);
+                return all_at(alloc, tree, gate);
             }
-            let found = all_at(alloc, tree, gate)?;
-            Ok(found)
+            Ok(few)
         }
-        Gate::Outer(_, _) | Gate::Component(_, _, _) => {
-            let found = all_at(alloc, tree, gate)?;
-            Ok(found)
-        }
+        Gate::Outer(_, _) | Gate::Component(_, _, _) => all_at(alloc, tree, gate),
     }
 }

@@ -1,9 +1,8 @@
 use Rattle.std.proofs.Common.{◌∙◌, ◌+◌, ◌-◌, [], ◌∷◌, true, ap, sym, arith, Some}
+use Rattle.std.proofs.lemmas.Result.{on_ok_weaker}
 use Rattle.description_types.specs.declared.description.InnerPort.{InnerPort}
 use Rattle.description_types.specs.declared.description.PrototypeType.TheVariants.{Component, Composition}
 use Rattle.composition_tables.specs.Counts.{count_in}
-use Rattle.indexmap.specs.IndexMap.{get}
-use Rattle.end_search.specs.Near.{same_gate}
 use Rattle.end_search.specs.Wishes.{IsInnerEnd}
 use Rattle.composition_tables.proofs.Noding.{type_declared}
 use Rattle.end_search.proofs.Nearing.{gathered}
@@ -63,10 +62,7 @@ gather-returns-clause-found t c = sought_ports c.args.tree.now.d.now c.args.wish
     (sought_all (λ (inner : InnerPort). IsInnerEnd c.args.tree.now.d.now c.args.wish.now.wanted c.args.depth c.args.composition inner.prototype inner.port) c.inner_ports-inner-items.result.now c.loop-inner.inner-index
     c.args.found.now.keys c.loop-inner.found.keys c.loop-inner-test.false c.loop-inner.invariant.sought)
 
-pub keep_port-returns-then-branch : goal.keep_port-returns-then-branch
-keep_port-returns-then-branch t c = λ g list is. c.in_ok-gather.ensures.near g list (ap (λ m. get same_gate m g) (sym c.note_crowded.ensures) ∙ is)
-
 pub keep_port-returns : goal.keep_port-returns
-keep_port-returns t c = c.in_ok-keep_ends.ensures c.args.tree.now.d.now c.args.wish.now.wanted c.in_ok-gather.ensures.near
-    (gathered c.args.tree.now.d.now c.args.wish.now.wanted (c.args.depth - 1 + 1) c.args.depth c.args.composition c.args.port c.new-found.result.keys c.gather.new.found.keys c.as_slice.result.now c.in_ok-gather.field-0
-    (omega arith) c.new-found.ensures.empty c.if-branch.false c.as_slice.ensures.keys c.in_ok-gather.ensures.found)
+keep_port-returns t c = on_ok_weaker c.keep_gathered-kept.result (λ keeps. keeps c.args.tree.now.d.now c.args.wish.now.wanted c.in_ok-is_cut.ensures.near
+    (λ whole. gathered c.args.tree.now.d.now c.args.wish.now.wanted (c.args.depth - 1 + 1) c.args.depth c.args.composition c.args.port c.new-found.result.keys c.gather.new.found.keys c.as_slice.result.now c.in_ok-is_cut.is_cut
+    (omega arith) c.new-found.ensures.empty whole c.as_slice.ensures.keys c.in_ok-is_cut.ensures.found)) c.keep_gathered-kept.ensures
