@@ -1,6 +1,6 @@
 //! What is below gates: ends and their interfaces, and which of these share an item.
 
-ghost use Rattle.std.specs.Prelude.{◌≡◌, ◌<◌, ◌⊎◌, ℕ, IfOk, OnOk, length};
+ghost use Rattle.std.specs.Prelude.{◌≡◌, ◌<◌, ◌⊎◌, [], ℕ, List, IfOk, OnOk, length};
 ghost use Rattle.composition_tables.specs.declared.tree.PortEnd.{PortEnd};
 ghost use Rattle.flat_descriptions.specs.Members.{Among};
 ghost use Rattle.end_search.specs.Gates.{gate_ends, IsShallow};
@@ -9,6 +9,7 @@ ghost use Rattle.end_search.specs.Wishes.{AreFound};
 ghost use Rattle.end_search.specs.Matching.{AreListed};
 ghost use Rattle.end_search.specs.Sides.{IsSide};
 ghost use Rattle.end_search.specs.Sharing.{IsIndexed, AreShared};
+ghost use Rattle.end_search.specs.Tables.{AreGroups};
 ghost use Rattle.composition_tables.specs.Trees.{IsTree};
 
 use crate::below::interfaces_below;
@@ -103,6 +104,49 @@ fn index_over<'a>(
     Ok(index)
 }
 
+/// What is below a gate where these ends were found, with its interfaces and for each of their keys those that have it.
+fn side_with<'a>(
+    alloc: Global,
+    found: &Found,
+    interfaces: IndexSet<u32>,
+    index: Index<'a>,
+) -> Result<Side<'a>, Memory>
+    ensures interfaces { IfOk result (λ side. side.interfaces.keys ≡ interfaces.keys) }
+    ensures index { IfOk result (λ side. side.index ≡ index.entry) }
+    ensures groups { IfOk result (λ side. AreGroups found.now.ends.keys side.groups) }
+    ensures cut { IfOk result (λ side. side.is_cut ≡ found.now.is_cut) }
+    ensures known { IfOk result (λ side. side.known.keys ≡ []) }
+{
+    let groups = groups_of(alloc, found.ends.as_slice())?;
+    Ok(Side {
+        interfaces,
+        index,
+        groups,
+        count: found.ends.len(),
+        is_cut: found.is_cut,
+        known: IndexSet::new(alloc),
+    })
+}
+
+/// What is below a gate where these ends were found.
+fn side_over<'a>(
+    alloc: Global,
+    tree: &Tree,
+    gate: Gate,
+    listed: &[Listed<'a>],
+    found: &Found,
+) -> Result<Side<'a>, Memory>
+    requires is_tree { IsTree tree.now }
+    requires listed { AreListed tree.now.d.now listed.now }
+    requires found { AreFound Wanted.Anything (gate_ends tree.now.d.now gate) found.now }
+    ensures { IfOk result (λ side. IsSide tree.now.d.now gate side) }
+{
+    let interfaces = interfaces_at(alloc, tree, gate, found)?;
+    let index = index_over(alloc, tree.d, listed, interfaces.as_slice())?;
+    let side = side_with(alloc, found, interfaces, index)?;
+    Ok(side)
+}
+
 /// What is below a gate.
 pub fn side_of<'a>(
     alloc: Global,
@@ -119,17 +163,42 @@ pub fn side_of<'a>(
     ensures side { IfOk result (λ side. IsSide tree.now.d.now gate side) }
 {
     let found = ends_near(alloc, tree, gate, near)?;
-    let groups = groups_of(alloc, found.ends.as_slice())?;
-    let interfaces = interfaces_at(alloc, tree, gate, &found)?;
-    let index = index_over(alloc, tree.d, listed, interfaces.as_slice())?;
-    Ok(Side {
-        interfaces,
-        index,
-        groups,
-        count: found.ends.len(),
-        is_cut: found.is_cut,
-        known: IndexSet::new(alloc),
-    })
+    let side = side_over(alloc, tree, gate, listed, &found);
+    drop(found);
+    side
+}
+
+/// The pairs of one of these provided interfaces and a required one that share an item, the required ones being indexed.
+fn pairs_of_provided<'a>(
+    alloc: Global,
+    d: &Description,
+    listed: &[Listed<'a>],
+    provided: &[u32],
+    required: &Index<'a>,
+) -> Result<Vec<(u32, u32)>, Memory>
+    requires { AreListed d.now listed.now }
+    ensures { IfOk result (λ pairs. (others : List ℕ) → IsIndexed d.now others required.now → AreShared d.now provided.now others pairs.items) }
+{
+    let pairs = partners(alloc, d, listed, provided, required)?;
+    let list = Vec::from_slice(alloc, pairs.as_slice())?;
+    Ok(list)
+}
+
+/// The pairs of a provided interface and one of these required ones that share an item, the provided ones being indexed.
+fn pairs_of_required<'a>(
+    alloc: Global,
+    d: &Description,
+    listed: &[Listed<'a>],
+    required: &[u32],
+    provided: &Index<'a>,
+) -> Result<Vec<(u32, u32)>, Memory>
+    requires { AreListed d.now listed.now }
+    ensures { IfOk result (λ pairs. (others : List ℕ) → IsIndexed d.now others provided.now → AreShared d.now others required.now pairs.items) }
+{
+    let pairs = partners(alloc, d, listed, required, provided)?;
+    let list = turned(alloc, pairs.as_slice());
+    drop(pairs);
+    list
 }
 
 /// The pairs of an interface of a provided side and one of a required side that share an item, where one side has several
@@ -149,12 +218,8 @@ pub fn shared(
 {
     if provided.interfaces.len() <= required.interfaces.len() {
         let interfaces = provided.interfaces.as_slice();
-        let pairs = partners(alloc, d, listed, interfaces, &required.index)?;
-        let list = Vec::from_slice(alloc, pairs.as_slice())?;
-        return Ok(list);
+        return pairs_of_provided(alloc, d, listed, interfaces, &required.index);
     }
     let interfaces = required.interfaces.as_slice();
-    let pairs = partners(alloc, d, listed, interfaces, &provided.index)?;
-    let list = turned(alloc, pairs.as_slice())?;
-    Ok(list)
+    pairs_of_required(alloc, d, listed, interfaces, &provided.index)
 }

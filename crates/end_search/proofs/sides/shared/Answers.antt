@@ -1,7 +1,7 @@
-use Rattle.std.proofs.Common.{◌≡◌, ◌<◌, length, ⊎_elim, ◌∙◌, ap, sym, subst, arith}
-use Rattle.end_search.specs.Matching.{turned}
-use Rattle.flat_descriptions.specs.Members.{Among}
-use Rattle.end_search.proofs.SameNames.{turned_back}
+use Rattle.std.proofs.Common.{◌≡◌, ◌<◌, ℕ, List, Vec, length, ⊎_elim, subst, arith}
+use Rattle.std.specs.Global.{Global}
+use Rattle.std.proofs.lemmas.Result.{IfOk-weaker}
+use Rattle.end_search.specs.Sharing.{AreShared}
 use Rattle.end_search.proofs.sides.shared.Goals as goal
 
 pub returns-then-len : goal.returns-then-len
@@ -10,8 +10,8 @@ returns-then-len c =
     let second : c.len-2.result ≡ length c.args.required.now.interfaces.keys = c.len-2.ensures.len in
     let less = c.if-len.true in
     let many : 1 < length c.args.required.now.interfaces.keys = ⊎_elim (λ h. omega (arith, h, less, first, second)) (λ h. h) c.requires.several in
-    λ i j a b s. subst (Among (i, j)) (sym (c.in_ok-list.ensures.items ∙ c.as_slice.ensures.keys))
-    (c.in_ok-pairs.ensures c.args.required.now.interfaces.keys (c.requires.required many) i j (subst (Among i) (sym c.as_slice-interfaces.ensures.keys) a) b s)
+    IfOk-weaker c.pairs_of_provided.result _ (λ (pairs : Vec (ℕ × ℕ) Global). AreShared c.args.d.now c.args.provided.now.interfaces.keys c.args.required.now.interfaces.keys pairs.items)
+    (λ pairs are. subst (λ l. AreShared c.args.d.now l c.args.required.now.interfaces.keys pairs.items) c.as_slice-interfaces.ensures.keys (are c.args.required.now.interfaces.keys (c.requires.required many))) c.pairs_of_provided.ensures
 
 pub returns : goal.returns
 returns c =
@@ -19,5 +19,5 @@ returns c =
     let second : c.len-2.result ≡ length c.args.required.now.interfaces.keys = c.len-2.ensures.len in
     let more = c.if-len.false in
     let many : 1 < length c.args.provided.now.interfaces.keys = ⊎_elim (λ h. h) (λ h. omega (arith, h, more, first, second)) c.requires.several in
-    λ i j a b s. subst (Among (i, j)) (sym (c.in_ok-list-2.ensures ∙ ap turned c.as_slice-2.ensures.keys))
-    (turned_back c.in_ok-pairs-2.pairs.keys i j (c.in_ok-pairs-2.ensures c.args.provided.now.interfaces.keys (c.requires.provided many) j i (subst (Among j) (sym c.as_slice-interfaces-2.ensures.keys) b) a (s.0, s.2, s.1)))
+    IfOk-weaker c.pairs_of_required.result _ (λ (pairs : Vec (ℕ × ℕ) Global). AreShared c.args.d.now c.args.provided.now.interfaces.keys c.args.required.now.interfaces.keys pairs.items)
+    (λ pairs are. subst (λ l. AreShared c.args.d.now c.args.provided.now.interfaces.keys l pairs.items) c.as_slice-interfaces-2.ensures.keys (are c.args.provided.now.interfaces.keys (c.requires.provided many))) c.pairs_of_required.ensures
