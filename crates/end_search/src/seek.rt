@@ -224,7 +224,7 @@ fn begin_anew(
     known.depth = depth;
     known.composition = composition;
     known.ports = Vec::from_slice(alloc, ports)?;
-    known.ends.clear();
+    known.ends = IndexSet::new(alloc);
     Ok(())
 }
 
