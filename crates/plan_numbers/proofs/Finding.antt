@@ -8,6 +8,8 @@ use Rattle.interface_types.specs.declared.interface.ComSpec.{ComSpec}
 use Rattle.flat_descriptions.specs.declared.flat.End.{End}
 use Rattle.flat_descriptions.specs.declared.flat.Join.{Join}
 use Rattle.plan_definitions.specs.Joined.{provider_of, same_end}
+use Rattle.description_types.specs.declared.component.Port.{Port}
+use Rattle.plan_numbers.specs.ComSpecs.{items_of_ports, named_items}
 use Rattle.plan_numbers.specs.Ends.{EndKey, key_of, required_entry, same_end_key}
 
 pub nat_eq_sym : (a b : ℕ) → nat_eq a b ≡ nat_eq b a
@@ -66,3 +68,9 @@ pub slice_get_map : {X Y : Type 0} (f : X → Y) (xs : List X) (i : ℕ) → sli
 slice_get_map f [] i = refl
 slice_get_map f (x ∷ xs) zero = refl
 slice_get_map f (x ∷ xs) (suc i) = slice_get_map f xs i
+
+-- the items that a port's table has
+pub table_at : (ports : List Port) (tables : List (List ℕ)) (i : ℕ) (p : Port) (t : List ℕ) → tables ≡ items_of_ports ports → slice_get ports i ≡ Some p → slice_get tables i ≡ Some t → t ≡ named_items p
+table_at ports tables i p t are found is =
+    let same : Some t ≡ Some (named_items p) = sym is ∙ ap (λ ts. slice_get ts i) are ∙ slice_get_map named_items ports i ∙ ap (option_map named_items) found in
+    cc

@@ -1,6 +1,6 @@
 -- The turn of the loop that numbers keys.
-use Rattle.std.proofs.Common.{◌≡◌, ℕ, zero, suc, ◌+◌, ◌<◌, List, [], ◌∷◌, ◌++◌, length, get_or, take, drop, Bool, true, false, cond, Option, Some, None, refl, sym, ap, ◌∙◌, arith, add-one}
-use Rattle.std.proofs.lemmas.List.{take_more, map-append}
+use Rattle.std.proofs.Common.{◌≡◌, ℕ, zero, suc, ◌+◌, ◌<◌, ◌≤◌, List, [], ◌∷◌, ◌++◌, length, get_or, take, drop, Bool, true, false, cond, Option, Some, None, refl, sym, ap, ◌∙◌, arith, add-one}
+use Rattle.std.proofs.lemmas.List.{drop_all, take_more, map-append}
 use Rattle.std.specs.List.{position_from}
 use Rattle.std.specs.Map.{keys_of, lookup}
 use Rattle.std.specs.Option.{option_or}
@@ -31,6 +31,14 @@ module _ {K : Type 0} (test : K → Bool) where
   numbers_more keys i key old new within is pushed so_far = so_far ∙ ap (option_or (lookup test old)) (next keys i i key within is)
       ∙ either (lookup test old) (test key) i (position_from test (i + 1) (drop (suc i) keys))
       ∙ (λ j. option_or (sym (ap (lookup test) pushed ∙ one_more old key i) j) (position_from test (i + 1) (drop (sym (add-one i) j) keys)))
+
+  or_none : (found : Option ℕ) → option_or found None ≡ found
+  or_none None = refl
+  or_none (Some n) = refl
+
+  -- none is left
+  pub numbers_all : (keys : List K) (i : ℕ) (found : Option ℕ) → length keys ≤ i → position_from test 0 keys ≡ option_or found (position_from test i (drop i keys)) → found ≡ position_from test 0 keys
+  numbers_all keys i found past so_far = sym (so_far ∙ ap (λ l. option_or found (position_from test i l)) (drop_all i keys past) ∙ or_none found)
 
 pub keys_more : {K : Type 0} (keys : List K) (i : ℕ) (key : K) (old new : List (K × ℕ)) → i < length keys → key ≡ get_or keys i key → new ≡ old ++ (key, i) ∷ []
     → keys_of old ≡ take i keys → keys_of new ≡ take (i + 1) keys
