@@ -43,6 +43,13 @@ pub struct PairNumbers {
     pub areas: Numbers<Pair>,
 }
 
+/// All numbers that are found by hash.
+#[derive(Drop)]
+pub struct AllNumbers {
+    pub sites: SiteNumbers,
+    pub pairs: PairNumbers,
+}
+
 fn lists_among(alloc: Global, joined: &Joined<'_>, sites: &[Site]) -> Result<Lists, Memory>
     ensures { IfOk result (λ lists. AreAmong joined.now sites.now lists) }
 {
@@ -120,4 +127,26 @@ pub fn pair_numbers(alloc: Global, d: &Description, f: &Flat) -> Result<PairNumb
         events,
         areas,
     })
+}
+
+/// The numbers of what these lists hold, and of the runnables, events and areas of a description.
+pub fn all_numbers(
+    alloc: Global,
+    d: &Description,
+    f: &Flat,
+    lists: &Lists,
+) -> Result<AllNumbers, Memory>
+    requires short { AreShort lists.now }
+    requires few { HasFewThings d.now f.now }
+    ensures sites { IfOk result (λ numbers. AreNumbers lists.now numbers.sites) }
+    ensures pairs { IfOk result (λ numbers. ArePairs d.now f.now numbers.pairs) }
+{
+    let sites = site_numbers(alloc, lists)?;
+    match pair_numbers(alloc, d, f) {
+        Ok(pairs) => Ok(AllNumbers { sites, pairs }),
+        Err(memory) => {
+            drop(sites);
+            Err(memory)
+        }
+    }
 }
