@@ -1,6 +1,7 @@
 //! All that a plan numbers, listed and numbered.
 
 ghost use Rattle.std.specs.Prelude.{◌≡◌, IfOk};
+ghost use Rattle.plan_definitions.specs.Keys.{keys_of};
 ghost use Rattle.plan_definitions.specs.Parts.{areas_of, events_of, runnables_of};
 ghost use Rattle.plan_definitions.specs.Sizes.{HasFewThings};
 ghost use Rattle.plan_numbers.specs.Listed.{AreAmong, AreLists, AreNumbers, AreShort, ArePairs};
@@ -75,19 +76,45 @@ pub fn lists_of(alloc: Global, d: &Description, f: &Flat, joined: &Joined) -> Re
     lists_among(alloc, joined, all.as_slice())
 }
 
+/// The numbers of sites whose servers and machines are numbered.
+fn with_mode_ports(
+    alloc: Global,
+    lists: &Lists,
+    servers: Numbers<Key>,
+    machines: Numbers<Key>,
+) -> Result<SiteNumbers, Memory>
+    requires short { AreShort lists.now }
+    requires servers { servers ≡ keys_of lists.now.servers.items }
+    requires machines { machines ≡ keys_of lists.now.machines.items }
+    ensures { IfOk result (λ numbers. AreNumbers lists.now numbers) }
+{
+    match numbers_of(alloc, lists.mode_ports.as_slice()) {
+        Ok(mode_ports) => Ok(SiteNumbers {
+            servers,
+            machines,
+            mode_ports,
+        }),
+        Err(memory) => {
+            drop(servers);
+            drop(machines);
+            Err(memory)
+        }
+    }
+}
+
 /// The numbers of what these lists hold.
 pub fn site_numbers(alloc: Global, lists: &Lists) -> Result<SiteNumbers, Memory>
     requires { AreShort lists.now }
     ensures { IfOk result (λ numbers. AreNumbers lists.now numbers) }
 {
     let servers = numbers_of(alloc, lists.servers.as_slice())?;
-    let machines = numbers_of(alloc, lists.machines.as_slice())?;
-    let mode_ports = numbers_of(alloc, lists.mode_ports.as_slice())?;
-    Ok(SiteNumbers {
-        servers,
-        machines,
-        mode_ports,
-    })
+    match numbers_of(alloc, lists.machines.as_slice()) {
+        Ok(machines) => with_mode_ports(alloc, lists, servers, machines),
+        Err(memory) => {
+            drop(servers);
+            Err(memory)
+        }
+    }
 }
 
 fn runnable_numbers(alloc: Global, d: &Description, f: &Flat) -> Result<Numbers<Pair>, Memory>
@@ -114,19 +141,46 @@ fn area_numbers(alloc: Global, d: &Description, f: &Flat) -> Result<Numbers<Pair
     Numbers::of(alloc, list.as_slice())
 }
 
+/// The numbers of a description whose runnables and events are numbered.
+fn with_areas(
+    alloc: Global,
+    d: &Description,
+    f: &Flat,
+    runnables: Numbers<Pair>,
+    events: Numbers<Pair>,
+) -> Result<PairNumbers, Memory>
+    requires runnables { runnables ≡ runnables_of d.now f.now }
+    requires events { events ≡ events_of d.now f.now }
+    requires few { HasFewThings d.now f.now }
+    ensures { IfOk result (λ numbers. ArePairs d.now f.now numbers) }
+{
+    match area_numbers(alloc, d, f) {
+        Ok(areas) => Ok(PairNumbers {
+            runnables,
+            events,
+            areas,
+        }),
+        Err(memory) => {
+            drop(runnables);
+            drop(events);
+            Err(memory)
+        }
+    }
+}
+
 /// The numbers of the runnables, events and areas of a description.
 pub fn pair_numbers(alloc: Global, d: &Description, f: &Flat) -> Result<PairNumbers, Memory>
     requires { HasFewThings d.now f.now }
     ensures { IfOk result (λ numbers. ArePairs d.now f.now numbers) }
 {
     let runnables = runnable_numbers(alloc, d, f)?;
-    let events = event_numbers(alloc, d, f)?;
-    let areas = area_numbers(alloc, d, f)?;
-    Ok(PairNumbers {
-        runnables,
-        events,
-        areas,
-    })
+    match event_numbers(alloc, d, f) {
+        Ok(events) => with_areas(alloc, d, f, runnables, events),
+        Err(memory) => {
+            drop(runnables);
+            Err(memory)
+        }
+    }
 }
 
 /// The numbers of what these lists hold, and of the runnables, events and areas of a description.

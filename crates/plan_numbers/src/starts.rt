@@ -51,7 +51,6 @@ fn capped_sum(sum: u32, size: usize) -> u32
     sum.saturating_add(size.min(u32::MAX as usize) as u32)
 }
 
-#[tactic(auto, using(crate::proofs::Starting::capped_more, crate::proofs::Starting::capped_all))]
 fn sums_of_ports(alloc: Global, types: &TypeTable, ports: &[Port]) -> Result<Seq<u32>, Memory>
     ensures { IfOk result (λ list. list ≡ capped_sums (elements_at types.now) 0 ports.now) }
 {
@@ -117,7 +116,6 @@ fn elements_of_instance(d: &Description, lists: &[Seq<u32>], instance: &Instance
     }
 }
 
-#[tactic(auto, using(crate::proofs::Starting::sums_more, crate::proofs::Starting::sums_all))]
 fn sums_of_instances(
     alloc: Global,
     d: &Description,
