@@ -117,7 +117,6 @@ fn push_at(
     }
 }
 
-#[tactic(auto, using(crate::proofs::Listing::from_more, crate::proofs::Listing::from_none))]
 fn push_ports(
     list: &mut Vec<Site>,
     types: &TypeTable,
@@ -181,7 +180,6 @@ fn push_instance(
     }
 }
 
-#[tactic(auto, using(crate::proofs::Listing::from_more, crate::proofs::Listing::from_none))]
 fn push_instances(
     list: &mut Vec<Site>,
     d: &Description,

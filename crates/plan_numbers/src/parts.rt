@@ -61,7 +61,6 @@ fn push_instance(
     push_numbered(list, number, counted_at(part, d, instance))
 }
 
-#[tactic(auto, using(crate::proofs::Listing::from_more, crate::proofs::Listing::from_none))]
 fn parts_of(
     alloc: Global,
     part: Part,
