@@ -50,6 +50,7 @@ fn tasks_of<'a>(
     Ok(list)
 }
 
+/// The tasks that the events of a description are mapped to, by event.
 fn groups_of(alloc: Global, names: &Names<'_>) -> Result<Groups<(usize, usize), u32>, Memory>
     ensures { IfOk result (λ tasks. tasks.entries.items ≡ flat_map (task_of names.now.d.now names.now.f.now) names.now.d.now.mapping.events) }
 {

@@ -33,6 +33,7 @@ fn paths_of<'a>(alloc: Global, instances: &'a [Instance]) -> Result<Vec<&'a [u8]
     Ok(list)
 }
 
+/// The positions of instances by their paths.
 fn positions_of<'a>(alloc: Global, instances: &'a [Instance]) -> Result<Positions<&'a [u8]>, Memory>
     ensures { IfOk result (λ names. names_of names ≡ map (λ x. x.path) instances.now) }
 {

@@ -109,6 +109,7 @@ fn list_tasks(
     Ok(list)
 }
 
+/// The mapped events of a description with their positions, by task.
 fn placed_of(
     alloc: Global,
     names: &Names<'_>,
@@ -133,6 +134,7 @@ fn tasks_of(alloc: Global, mapped: &Mapped<'_>, numbers: &Events) -> Result<Vec<
     tasks
 }
 
+/// The events of all instances, by their numbers in a plan.
 fn numbers_of(alloc: Global, names: &Names<'_>) -> Result<Events, Memory>
     requires { length (events_of names.now.d.now names.now.f.now) < 2 ^ 32 }
     ensures { IfOk result (λ numbers. numbers ≡ events_of names.now.d.now names.now.f.now) }

@@ -36,6 +36,7 @@ fn supports_asynchronous(source: &Source<'_>, site: Site) -> bool
     }
 }
 
+/// Whether a mode element of an instance does not support an asynchronous mode switch.
 fn is_refusal(source: &Source<'_>, site: Site) -> bool
     ensures { result ≡ is_refusal source.now.d.now source.now.f.now site }
 {
