@@ -315,14 +315,16 @@ fn seek_prototypes(
     composition: u32,
     inner: &Inner,
     wish: &Wish,
+    known: &mut Known,
     found: &mut IndexSet<PortEnd>,
 ) -> Result<bool, Memory>
     requires is_tree { IsTree tree.now }
     requires within { depth ≤ 8 }
+    requires known { IsKnown tree.now.d.now wish.now.wanted known.old }
+    requires cut { IsCutBelow wish.now.limit known.old.is_cut }
     ensures found { IfOk result (Sought (AnyOf (IsBelowPrototype tree.now.d.now wish.now.wanted depth composition inner.now) inner.now.prototypes.keys) found.old.keys found.new.keys) }
     ensures cut { IfOk result (IsCutBelow wish.now.limit) }
 {
-    let mut known = nothing_known(alloc);
     for prototype in inner.prototypes.as_slice() {
         let ports = ports_of_prototype(inner, *prototype);
         if seek_inner(
@@ -333,7 +335,7 @@ fn seek_prototypes(
             *prototype,
             ports,
             wish,
-            &mut known,
+            known,
             found,
         )? {
             return Ok(true);
@@ -363,7 +365,18 @@ fn seek(
         return Ok(false);
     }
     let inner = inner_of(alloc, tree, composition, ports)?;
-    let is_cut = seek_prototypes(alloc, tree, depth - 1, composition, &inner, wish, found);
+    let mut known = nothing_known(alloc);
+    let is_cut = seek_prototypes(
+        alloc,
+        tree,
+        depth - 1,
+        composition,
+        &inner,
+        wish,
+        &mut known,
+        found,
+    );
+    drop(known);
     drop(inner);
     is_cut
 }

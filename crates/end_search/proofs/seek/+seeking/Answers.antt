@@ -40,8 +40,8 @@ seek-returns-then-depth-eq0-clause-found t c = sought_none (AnyOf (IsEnd c.args.
 
 pub seek_prototypes-loop-prototype-init : goal.seek_prototypes-loop-prototype-init
 seek_prototypes-loop-prototype-init t c = record {
-  known = c.nothing_known-known.ensures.known c.args.tree.now.d.now c.args.wish.now.wanted;
-  cut = λ is. absurd (true≢false (sym is ∙ c.nothing_known-known.ensures.whole));
+  known = c.requires.known;
+  cut = c.requires.cut;
   sought = sought_begin (IsBelowPrototype c.args.tree.now.d.now c.args.wish.now.wanted c.args.depth c.args.composition c.args.inner.now) c.as_slice-prototype-items.result.now c.args.found.now.keys;
 }
 
@@ -61,6 +61,21 @@ seek_prototypes-returns-then-branch-clause-found t c = subst (λ l. Sought (AnyO
 pub seek_prototypes-returns-clause-found : goal.seek_prototypes-returns-clause-found
 seek_prototypes-returns-clause-found t c = subst (λ l. Sought (AnyOf (IsBelowPrototype c.args.tree.now.d.now c.args.wish.now.wanted c.args.depth c.args.composition c.args.inner.now) l) c.args.found.now.keys c.loop-prototype.found.keys false) c.as_slice-prototype-items.ensures.keys
     (sought_all (IsBelowPrototype c.args.tree.now.d.now c.args.wish.now.wanted c.args.depth c.args.composition c.args.inner.now) c.as_slice-prototype-items.result.now c.loop-prototype.prototype-index c.args.found.now.keys c.loop-prototype.found.keys c.loop-prototype-test.false c.loop-prototype.invariant.sought)
+
+pub seek-seek_prototypes-is_cut-requires : goal.seek-seek_prototypes-is_cut-requires
+seek-seek_prototypes-is_cut-requires t c = (
+  omega arith,
+  (
+    c.requires.is_tree,
+    (
+      omega (arith, c.requires.within),
+      (
+        c.nothing_known-known.ensures.known c.args.tree.now.d.now c.args.wish.now.wanted,
+        (λ is. absurd (true≢false (sym is ∙ c.nothing_known-known.ensures.whole))),
+      ),
+    ),
+  ),
+)
 
 pub seek-returns-clause-found : goal.seek-returns-clause-found
 seek-returns-clause-found t c = let deep : suc (c.args.depth - 1) ≡ c.args.depth = omega arith in
