@@ -25,6 +25,10 @@ use indexmap::IndexSet;
 use rte_text::Memory;
 use std::alloc::Global;
 
+/// How many ends are looked for at most before all of them are: as many as a list of links has when each is kept once. So where there
+/// are more, their links mostly fill the list, and it is known that there are too many.
+const ENDS_LIMIT: usize = 2 * LINK_LIMIT;
+
 fn note_interface(interface: u32, found: &mut IndexSet<u32>) -> Result<(), Memory>
     ensures stays { OnOk result ((i : ℕ) → Among i found.old.keys → Among i found.new.keys) }
     ensures has { OnOk result (Among interface found.new.keys) }
@@ -209,7 +213,7 @@ fn add_whole(
 }
 
 /// Adds the links of the ports below two gates, given which pairs of their interfaces share an item, where not all ports
-/// are at hand. More of those that share one than there may be links mostly show that there are too many links.
+/// are at hand. More of those that share one than a list of links has mostly show that there are too many links.
 fn add_rest(
     alloc: Global,
     tree: &Tree,
@@ -228,7 +232,7 @@ fn add_rest(
     ensures grown { IfOk result (λ is_full. Grown (IsCrossLink tree.now.d.now (gate_ends tree.now.d.now provided) (gate_ends tree.now.d.now required)) links.old.list.items links.new.list.items is_full) }
 {
     let near = add_within(
-        alloc, tree, provided, required, pairs, LINK_LIMIT, matched, links,
+        alloc, tree, provided, required, pairs, ENDS_LIMIT, matched, links,
     )?;
     match near {
         Some(is_full) => Ok(is_full),
