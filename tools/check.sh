@@ -1,11 +1,17 @@
 #!/usr/bin/env bash
 # Tries the tools: their tests, each of them on the examples, the schema, and whether what README.md and docs/PROVED.md
-# name as proof exists. It takes seconds and proves nothing.
+# name as proof exists. It takes half a minute on a quiet machine and proves nothing.
 #
 # What cannot be tried because something is not installed or not built is skipped, and said. The program is the one that
-# the variable RTE names, or the one that was built; nothing is built here. The status is 1 where something is wrong,
-# else 0.
+# the variable RTE names, or the one that was built; nothing is built here. The status is 1 if something is wrong, else 0.
 set -u
+
+case ${1-} in
+-h | --help)
+    sed -n '2,/^set /{/^#/s/^# \{0,1\}//p}' -- "${BASH_SOURCE[0]}"
+    exit 0
+    ;;
+esac
 
 here=$(readlink -f -- "${BASH_SOURCE[0]}")
 top=$(dirname -- "$(dirname -- "$here")")
@@ -22,19 +28,35 @@ if [ -z "${RTE:-}" ] && [ -x crates/rte/out/rte ]; then
     export RTE=$top/crates/rte/out/rte
 fi
 
+exec 3>&1
 failed=0
 
-# Runs a command; what it prints is shown where it fails.
+# Runs a command, and says how long it took; what it prints is shown if it fails. A terminal sees what is under way.
 try() {
-    local name=$1
+    local name=$1 begun=$SECONDS
     shift
+    [ ! -t 1 ] || printf 'tools: %s ..\r' "$name"
     if "$@" >"$held/said" 2>&1; then
-        printf 'tools: %s: passed\n' "$name"
+        printf 'tools: %s: passed, %d s\n' "$name" $((SECONDS - begun))
     else
-        printf 'tools: %s: FAILED\n' "$name"
+        printf 'tools: %s: FAILED, %d s\n' "$name" $((SECONDS - begun))
         sed 's/^/    /' "$held/said"
         failed=1
     fi
+}
+
+# Runs a function on each example, all of them side by side. What it writes has the example's name in `held`.
+on_each_example() {
+    local example job jobs=() wrong=0
+    for example in examples/*/; do
+        mkdir -p -- "$held/$example"
+        "$1" "${example%/}" "$held/${example%/}" &
+        jobs+=($!)
+    done
+    for job in "${jobs[@]}"; do
+        wait "$job" || wrong=1
+    done
+    return $wrong
 }
 
 # Whether a trace is that of an example. The cores of a node take their turns in any order: then it is a legal one.
@@ -48,16 +70,16 @@ is_of_example() {
 
 # What the program prints has to come through unchanged.
 explain_passes_through() {
-    local example
-    for example in examples/*/; do
-        tools/explain.py "$example/description.json" "$example/script.txt" >"$held/trace" || return 1
-        is_of_example "$example" "$held/trace" || return 1
-    done
+    tools/explain.py "$1/description.json" "$1/script.txt" >"$2/trace" && is_of_example "$1" "$2/trace"
 }
 
-# Each case of the corpus has its verdict.
+# Each case of the corpus has its verdict. How far it is can be seen at a terminal.
 corpus_is_judged() {
-    tools/corpus.py "$RTE" check
+    if [ -t 3 ]; then
+        tools/corpus.py "$RTE" check 2>&3
+    else
+        tools/corpus.py "$RTE" check
+    fi
 }
 
 # So has the plan of each example that shows one.
@@ -70,46 +92,38 @@ plans_are_as_shown() {
 }
 
 lint_is_silent() {
-    local example
-    for example in examples/*/; do
-        tools/lint.py "$example/description.json" || return 1
-    done
+    tools/lint.py "$1/description.json"
 }
 
 draw() {
-    tools/timeline.py "$1/description.json" "$1/expected.txt" --to "$2" --output "$held/drawn" && [ -s "$held/drawn" ]
+    tools/timeline.py "$1/description.json" "$1/expected.txt" --to "$2" --output "$3" && [ -s "$3" ]
 }
 
 # Each as a page, and one in each format; the tests do the rest.
-timelines_are_drawn() {
-    local example form
-    for example in examples/*/; do
-        draw "$example" html || return 1
-    done
-    for form in btf vcd perfetto; do
-        draw examples/door_control "$form" || return 1
+is_drawn() {
+    local form forms=html
+    [ "$1" != examples/door_control ] || forms='html btf vcd perfetto'
+    for form in $forms; do
+        draw "$1" "$form" "$2/drawn.$form" || return 1
     done
 }
 
-diagrams_are_drawn() {
-    local example
-    for example in examples/*/; do
-        tools/diagram.py "$example/description.json" >"$held/drawn" && [ -s "$held/drawn" ] || return 1
-    done
+has_a_diagram() {
+    tools/diagram.py "$1/description.json" >"$2/diagram" && [ -s "$2/diagram" ]
 }
 
 try "tests" python3 -m unittest discover -s tools/tests
 try "schema" schema/check.py
-try "claims of the documents" tools/claims.py
-try "lint.py on the examples" lint_is_silent
-try "timeline.py on the examples" timelines_are_drawn
-try "diagram.py on the examples" diagrams_are_drawn
+try "claims of the documents" tools/dev/claims.py
+try "lint.py on the examples" on_each_example lint_is_silent
+try "timeline.py on the examples" on_each_example is_drawn
+try "diagram.py on the examples" on_each_example has_a_diagram
 if [ -n "${RTE:-}" ]; then
-    try "explain.py on the examples" explain_passes_through
+    try "explain.py on the examples" on_each_example explain_passes_through
     try "plans of the examples" plans_are_as_shown
     try "the corpus" corpus_is_judged
 else
-    echo "tools: explain.py and plans on the examples: skipped, since the program is not built"
+    echo "tools: explain.py and plans on the examples, and the corpus: skipped, since the program is not built"
 fi
 if ! python3 -c 'import jsonschema' 2>/dev/null; then
     echo "tools: schema by jsonschema: skipped, since Python's jsonschema is not installed"

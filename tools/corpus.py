@@ -4,7 +4,8 @@
     tools/corpus.py COMMAND..
 
 For each case it runs COMMAND DESCRIPTION TRACE SCRIPT, and compares the one line that is printed and the status with the
-verdict of the case. It prints the cases that differ, and how many there are.
+verdict of the case. It prints the cases that differ, and how many there are. The cases run side by side; how far it is goes to
+standard error, if that is a terminal.
 
 The status is 0 if none differs, else 1.
 """
@@ -14,6 +15,7 @@ from __future__ import annotations
 import argparse
 import subprocess
 import sys
+from concurrent.futures import ThreadPoolExecutor
 
 from rte_tools.cases import Case, all_cases
 
@@ -34,17 +36,34 @@ def difference(command: list[str], case: Case) -> str:
     return f"`{said}`, status {ended.returncode}, in place of `{case.verdict}`, status {case.status}"
 
 
+CLEARED = "\r\x1b[K"  # the line of a terminal, empty again
+
+
+def tell(done: int, of: int) -> None:
+    """Writes over the line that says how far it is, and clears it at the end."""
+    if sys.stderr.isatty():
+        print(f"{CLEARED}{done} of {of} cases" if done < of else CLEARED, end="", file=sys.stderr, flush=True)
+
+
+def differences(command: list[str], cases: list[Case]) -> list[str]:
+    """A line for each case of which the tool says something else, in the order of the cases."""
+    found = []
+    with ThreadPoolExecutor() as pool:
+        for number, said in enumerate(pool.map(lambda case: difference(command, case), cases)):
+            tell(number + 1, len(cases))
+            if said:
+                found.append(f"{cases[number].name}: {said}")
+    return found
+
+
 def main() -> int:
     words = arguments()
     cases = all_cases()
-    differing = 0
-    for case in cases:
-        said = difference(words.command, case)
-        if said:
-            print(f"{case.name}: {said}")
-            differing += 1
-    print(f"{len(cases)} cases, {differing} differ")
-    return 1 if differing else 0
+    found = differences(words.command, cases)
+    for line in found:
+        print(line)
+    print(f"{len(cases)} cases, {len(found)} differ")
+    return 1 if found else 0
 
 
 if __name__ == "__main__":

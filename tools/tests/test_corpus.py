@@ -4,7 +4,7 @@ from __future__ import annotations
 
 import unittest
 
-from support import DATA, run_tool
+from support import DATA, EXAMPLES, run_tool
 
 from rte_tools.cases import CORPUS, all_cases
 
@@ -32,7 +32,7 @@ class Corpus(unittest.TestCase):
 
     def test_each_example_is_changed_in_three_ways(self) -> None:
         names = {case.name for case in all_cases()}
-        for example in (DATA / "examples").iterdir():
+        for example in EXAMPLES:
             for way in ("exchanged", "left_out", "doubled"):
                 self.assertIn(f"{example.name}_{way}", names)
 

@@ -1,7 +1,7 @@
 #!/usr/bin/env python3
 """Says what each function of a crate cost when it was last checked, the dearest first.
 
-usage: tools/function_times.py CRATE [COUNT]      (COUNT functions are listed, 30 if none is given)
+usage: tools/dev/function_times.py CRATE [COUNT]      (COUNT functions are listed, 30 if none is given)
 
 The prover writes a file for each module as it ends, so the seconds since the file before are what the module took. That is true of
 one whole check at one job, with nothing kept from before:
@@ -10,6 +10,8 @@ one whole check at one job, with nothing kept from before:
 
 Each line says the seconds of a function, how many of them were spent on what it borrows and drops (`Lts`) and how many on what the
 prover had to find (`Proof`), and its path. Modules of lemmas stand between them, by their own names.
+
+The status is 0 if it was said, and 1 if the crate was not checked here.
 """
 import argparse
 import collections
@@ -17,7 +19,7 @@ import re
 import sys
 from pathlib import Path
 
-TOP = Path(__file__).resolve().parent.parent
+TOP = Path(__file__).resolve().parents[2]
 MODULE = re.compile(r"Rattle-(?P<crate>\w+?)-(?P<library>specs|proofs)\.(?P<path>.+)\.oantt")
 PARTS = ("Lts", "Proof")
 

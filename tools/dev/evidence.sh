@@ -1,27 +1,34 @@
 #!/usr/bin/env bash
 # Writes docs/EVIDENCE.md to standard output, from the log of a whole run of the gate, made in one of two ways:
 #
-#     tools/gate_times.py >gate.log 2>&1
+#     tools/dev/gate_times.py >gate.log 2>&1
 #     { time rt ci; } >gate.log 2>&1
 #
-# and then: tools/evidence.sh gate.log >evidence.md && mv evidence.md docs/EVIDENCE.md
+# and then: tools/dev/evidence.sh gate.log >evidence.md && mv evidence.md docs/EVIDENCE.md
 #
 # The log has to have the line 'N passed, 0 failed' of a run with no names, and its time: the minutes before the last line of rt,
 # or the line 'real XmYs'. What the gate read must be committed. The hash is that of the program that `./rte run` built, if it
-# is of this commit.
+# is of this commit. The status is 0, 1 where the log or the tree is not as it should be, and 2 without a log.
 set -euo pipefail
 
 top=$(dirname -- "$(dirname -- "$(readlink -f -- "${BASH_SOURCE[0]}")")")
-log=${1:?usage: tools/evidence.sh LOG}
 
 fail() {
     printf 'evidence: %s\n' "$1" >&2
     exit 1
 }
 
+case $#,${1-} in
+1,-h | 1,--help) sed -n '2,/^set /s/^# \{0,1\}//p' -- "${BASH_SOURCE[0]}"; exit 0 ;;
+1,*) log=$1 ;;
+*)
+    echo 'usage: tools/evidence.sh LOG, the log of a whole run of the gate; --help says how it is made' >&2
+    exit 2 ;;
+esac
+
 # ---- what the log says
 
-[ -r "$log" ] || fail "cannot read $log"
+[ -f "$log" ] && [ -r "$log" ] || fail "cannot read $log"
 result=$(grep -E '^[0-9]+ passed, [0-9]+ failed' -- "$log" | tail -n 1) || fail "no line 'N passed, M failed' in $log"
 [[ $result =~ ^([0-9]+)\ passed,\ 0\ failed$ ]] || fail "this is no whole run that passed: $result"
 passed=${BASH_REMATCH[1]}
@@ -35,6 +42,7 @@ done_in_run=$(sed -nE 's/^( *[0-9.]+ )?rt: ok; //p' -- "$log" | tail -n 1)
 
 # ---- what was tried, and where
 
+top=$(dirname -- "$top")
 [ -z "$(git -C "$top" status --porcelain -- crates crates.txt HANDLES)" ] || fail "crates/ has changes that are not committed"
 commit=$(git -C "$top" rev-parse HEAD)
 program=$top/crates/rte/out/rte
@@ -86,7 +94,7 @@ crates=$(find "$top"/crates/*/must-fail -name '*.edit' -printf '%h\n' | sort -u 
 cat <<END
 # Evidence
 
-What the last whole run of the gate said. \`tools/evidence.sh\` wrote this page from its log.
+What the last whole run of the gate said. \`tools/dev/evidence.sh\` wrote this page from its log.
 
 | | |
 |---|---|

@@ -1,13 +1,13 @@
 #!/usr/bin/env python3
 """Runs `rt ci` and says what each task of it cost, as a table in Markdown.
 
-usage: tools/gate_times.py [--table FILE] [WORD ...]      (the words go to `rt ci`: `--anew`, or names of crates)
+usage: tools/dev/gate_times.py [--table FILE] [WORD ...]      (the words go to `rt ci`: `--anew`, or names of crates)
 
 The log of `rt ci` passes through to standard output. At the end, or when it is interrupted, the table is written:
 for each crate the processor seconds of its proof, of its tests and of its must-fail edits, and the time from the first
 to the last of these. It is read from /proc, five times a second, so a figure may be short by a fifth of a second for
 each check. Only what this machine ran is counted: what `rt ci` kept from earlier runs costs nothing. Linux alone.
-Ends with the status of `rt ci`.
+Ends with the status of `rt ci`, and with 127 if `rt` is not found.
 """
 import argparse
 import collections
@@ -20,7 +20,7 @@ from dataclasses import dataclass, field
 from pathlib import Path
 
 TICKS = os.sysconf("SC_CLK_TCK")
-TOP = Path(__file__).resolve().parent.parent
+TOP = Path(__file__).resolve().parents[2]
 PAUSE = 0.2
 
 
@@ -142,7 +142,11 @@ def main() -> int:
     given, words = parser.parse_known_args()
     tasks: dict[tuple[str, str], Task] = collections.defaultdict(Task)
     begun = time.time()
-    gate = subprocess.Popen(["rt", "ci", *words], stdout=subprocess.PIPE, stderr=subprocess.STDOUT)
+    try:
+        gate = subprocess.Popen(["rt", "ci", *words], stdout=subprocess.PIPE, stderr=subprocess.STDOUT)
+    except OSError as error:
+        print(f"gate_times.py: `rt` is not run: {error.strerror}", file=sys.stderr)
+        return 127
 
     def pass_on() -> None:
         for line in gate.stdout:

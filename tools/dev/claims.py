@@ -1,7 +1,7 @@
 #!/usr/bin/env python3
 """Looks whether what the documents name as proof exists: functions, clauses, definitions and files.
 
-    tools/claims.py [DOCUMENT ..]
+    tools/dev/claims.py [DOCUMENT ..]
 
 Without a document it reads README.md and, if it is there, docs/PROVED.md. It looks at
 
@@ -16,16 +16,19 @@ Without a document it reads README.md and, if it is there, docs/PROVED.md. It lo
 The status is 0 where all of it exists, else 1.
 """
 
+# flake8: noqa: E402
 from __future__ import annotations
 
 import argparse
 import sys
 from pathlib import Path
 
+sys.path.insert(0, str(Path(__file__).resolve().parents[1]))
+
 from rte_tools.claims import Document
 from rte_tools.contracts import crates_in
 
-TOP = Path(__file__).resolve().parents[1]
+TOP = Path(__file__).resolve().parents[2]
 DOCUMENTS = ("README.md", "docs/PROVED.md")
 
 
