@@ -112,7 +112,17 @@ has_a_diagram() {
     tools/diagram.py "$1/description.json" >"$2/diagram" && [ -s "$2/diagram" ]
 }
 
-try "tests" python3 -m unittest discover -s tools/tests
+# The tests run beside all else; what is told of them is how long they were still waited for.
+python3 -m unittest discover -s tools/tests >"$held/tests" 2>&1 &
+tests=$!
+
+tests_pass() {
+    wait "$tests"
+    local status=$?
+    cat -- "$held/tests"
+    return $status
+}
+
 try "schema" schema/check.py
 try "claims of the documents" tools/dev/claims.py
 try "lint.py on the examples" on_each_example lint_is_silent
@@ -125,6 +135,7 @@ if [ -n "${RTE:-}" ]; then
 else
     echo "tools: explain.py and plans on the examples, and the corpus: skipped, since the program is not built"
 fi
+try "tests" tests_pass
 if ! python3 -c 'import jsonschema' 2>/dev/null; then
     echo "tools: schema by jsonschema: skipped, since Python's jsonschema is not installed"
 fi
