@@ -8,10 +8,11 @@
 #
 # The log has to have the line 'N passed, 0 failed' of a run with no names, and its time: the minutes before the last line of rt,
 # or the line 'real XmYs'. What the gate read must be committed. The hash is that of the program that `./rte run` built, if it
-# is of this commit. The status is 0, 1 where the log or the tree is not as it should be, and 2 without a log.
+# is of this commit. The status is 0, 1 if the log or the tree is not as it should be, and 2 without a log.
 set -euo pipefail
 
-top=$(dirname -- "$(dirname -- "$(readlink -f -- "${BASH_SOURCE[0]}")")")
+here=$(readlink -f -- "${BASH_SOURCE[0]}")
+top=${here%/tools/dev/*}
 
 fail() {
     printf 'evidence: %s\n' "$1" >&2
@@ -22,7 +23,7 @@ case $#,${1-} in
 1,-h | 1,--help) sed -n '2,/^set /s/^# \{0,1\}//p' -- "${BASH_SOURCE[0]}"; exit 0 ;;
 1,*) log=$1 ;;
 *)
-    echo 'usage: tools/evidence.sh LOG, the log of a whole run of the gate; --help says how it is made' >&2
+    echo 'usage: tools/dev/evidence.sh LOG, the log of a whole run of the gate; --help says how it is made' >&2
     exit 2 ;;
 esac
 
@@ -42,7 +43,6 @@ done_in_run=$(sed -nE 's/^( *[0-9.]+ )?rt: ok; //p' -- "$log" | tail -n 1)
 
 # ---- what was tried, and where
 
-top=$(dirname -- "$top")
 [ -z "$(git -C "$top" status --porcelain -- crates crates.txt HANDLES)" ] || fail "crates/ has changes that are not committed"
 commit=$(git -C "$top" rev-parse HEAD)
 program=$top/crates/rte/out/rte
