@@ -82,8 +82,11 @@ class SecondNode(WithFolder):
     def test_a_misspelt_variable_is_found(self) -> None:
         text = edited(self.page.by_data, [('["lt","limit","m"]', '["lt","limti","m"]')])
         path = self.write("description.json", text)
-        said = run_tool("lint.py", path).stdout.decode().replace(path, "greenhouse/description.json")
-        self.assertIn(self.page.after("tools/lint.py"), said)
+        said = run_tool("lint.py", path).stdout.decode().replace(path, "greenhouse/description.json").splitlines()
+        warnings = [line for line in said if line.startswith("greenhouse/")]
+        self.assertTrue(any("`limti` is read and never set" in line for line in warnings), said)
+        for line in warnings:
+            self.assertIn(f"{line}\n", self.page.after("tools/lint.py"))
 
     def test_a_type_that_is_too_narrow(self) -> None:
         trace = made(edited(self.page.by_data, [('"upper":25500', '"upper":50')]), self.page.morning())
