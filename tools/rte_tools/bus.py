@@ -103,11 +103,8 @@ class Bus:
     def receivers(self, name: Name) -> list[Name]:
         """The queues that a send reaches."""
         sender = self.plan.elements[name]
-        return [
-            held
-            for held, element in self.plan.elements.items()
-            if element.group == sender.group and not element.provided and sender.joined
-        ]
+        reached = self.plan.in_group[sender.group] if sender.joined else []
+        return [held for held in reached if not self.plan.elements[held].provided]
 
     def is_full(self, name: Name) -> bool:
         return len(self.queues[name]) == self.plan.elements[name].length
@@ -209,9 +206,9 @@ class Bus:
 
     def tick(self) -> None:
         self.ticks += 1
-        for name, event in self.plan.events.items():
-            if event.kind == "TimingEvent" and self.ticks % event.of == 0:
-                self.due.add(name)
+        for period in self.plan.periods:
+            if self.ticks % period == 0:
+                self.due.update(self.plan.events_of[period])
 
     def start(self, line: Line) -> None:
         instance, runnable, _ = split_actor(line.actor)
@@ -271,15 +268,12 @@ class Bus:
         group = self.plan.elements[name].group
         self.last_write[group] = (value, number)
         self.invalid.pop(group, None)
-        for held, element in self.plan.elements.items():
-            if element.group == group:
-                self.unread[held] = True
-                self.bring(held)
+        for held in self.plan.in_group[group]:
+            self.unread[held] = True
+            self.bring(held)
 
     def bring(self, element: Name) -> None:
-        for name, event in self.plan.events.items():
-            if event.kind == "DataReceivedEvent" and event.of == element:
-                self.due.add(name)
+        self.due.update(self.plan.events_of.get(element, ()))
 
     def send(self, name: Name, value: Value, number: int) -> None:
         for receiver in self.receivers(name):
@@ -305,8 +299,7 @@ class Bus:
             self.requests[self.counter(point)].append((point, value_of(line.part("value"))))
             server = self.plan.points[point].server
             if self.plan.servers[server].queue is None:
-                runnable = next(held for (path, held), of in self.plan.serves.items() if of == server)
-                self.waits_for[line.actor] = f"{server[0]}:{runnable}@{point}"
+                self.waits_for[line.actor] = f"{':'.join(self.plan.servants[server])}@{point}"
 
     def end(self, actor: str) -> None:
         del self.running[actor]
@@ -329,15 +322,14 @@ class Bus:
         else:
             self.mode[machine] = self.next_mode[machine]
             if machine in self.was_stable:
-                self.due |= {name for name, held in self.plan.events.items() if self.is_done(held, machine)}
+                events = self.plan.events_of.get(machine, ())
+                self.due.update(name for name in events if self.plan.events[name].kind == "ModeSwitchedAckEvent")
             self.was_stable.add(machine)
-
-    def is_done(self, event, machine: Name) -> bool:
-        return event.kind == "ModeSwitchedAckEvent" and event.of == machine
 
     def owe(self, machine: Name, moment: tuple) -> None:
         """A phase makes events pending, and the next phase waits for their activations."""
-        for name, event in self.plan.events.items():
-            if event.kind == "SwcModeSwitchEvent" and event.of == machine and event.moment == moment:
+        for name in self.plan.events_of.get(machine, ()):
+            event = self.plan.events[name]
+            if event.kind == "SwcModeSwitchEvent" and event.moment == moment:
                 self.owed[machine].add(name)
                 self.due.add(name)

@@ -6,13 +6,15 @@ The description breaks no rule. A name is the instance, which for the environmen
 from __future__ import annotations
 
 from dataclasses import dataclass, field
-from typing import Any
+from functools import cached_property
+from typing import Any, Callable, Hashable, Iterable, TypeVar
 
 from rte_tools.description import Component, Description, described
 from rte_tools.joins import End, Joins
 
 ENVIRONMENT = "env"
 Name = tuple[str, str]  # the instance, and `PORT.ITEM` or the name of a variable, an area, a runnable or an event
+Key = TypeVar("Key", bound=Hashable)
 
 
 @dataclass
@@ -83,9 +85,37 @@ class BusPlan:
     operations: dict[Name, dict] = field(default_factory=dict)
     types: dict[str, dict] = field(default_factory=dict)
 
+    # ---- the same by other keys, made at the first use: a long run looks at few of many
+
+    @cached_property
+    def in_group(self) -> dict[Name, list[Name]]:
+        """The elements of each group."""
+        return gathered(self.elements, lambda name: self.elements[name].group)
+
+    @cached_property
+    def events_of(self) -> dict[Any, list[Name]]:
+        """The events that are about each element, server, point, machine or period."""
+        return gathered(self.events, lambda name: self.events[name].of)
+
+    @cached_property
+    def periods(self) -> list[int]:
+        return sorted({event.of for event in self.events.values() if event.kind == "TimingEvent"})
+
+    @cached_property
+    def servants(self) -> dict[Name, Name]:
+        """The runnable that serves each operation."""
+        return {operation: runnable for runnable, operation in self.serves.items()}
+
     def limits(self, name: Name, direction: str) -> list[tuple[int, int]]:
         """The limits of the `in` or the `out` arguments of an operation."""
         return [limits_of(self.types[held["type"]]) for held in arguments(self.operations[name], direction)]
+
+
+def gathered(names: Iterable[Name], key: Callable[[Name], Key]) -> dict[Key, list[Name]]:
+    found: dict[Key, list[Name]] = {}
+    for name in names:
+        found.setdefault(key(name), []).append(name)
+    return found
 
 
 def arguments(operation: dict, direction: str) -> list[dict]:

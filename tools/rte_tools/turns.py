@@ -32,20 +32,37 @@ class Core:
         return [*range(self.first, len(self.slots)), *range(self.first)]
 
 
-class Node:
-    """The node of a description, which is given as the value of its JSON, and the lines of its trace so far."""
+class Layout:
+    """What a node is before a run: the plan of a description, which is given as the value of its JSON, and the tasks of each core.
+
+    It is made once, and each run begins from it.
+    """
 
     def __init__(self, value: dict[str, Any]):
         self.plan = plan_of(value)
+        mapping = value["mapping"]
+        placed: dict[str, list[Name]] = {task["shortName"]: [] for task in mapping.get("tasks", [])}
+        for held in sorted(mapping.get("events", []), key=lambda held: held["position"]):
+            placed[held["task"]].append((held["instance"], held["event"]))
+        self.tasks: list[list[list[Name]]] = [[] for _ in range(mapping["cores"])]
+        for task in mapping.get("tasks", []):
+            self.tasks[task["core"]].append(placed[task["shortName"]])
+
+    def cores(self) -> list[Core]:
+        """The cores with all tasks free; the machines are on the first one."""
+        made = [Core([Slot(events) for events in tasks]) for tasks in self.tasks]
+        made[0].slots += [Slot(machine=machine) for machine in self.plan.machines]
+        return made
+
+
+class Node:
+    """A node that runs, and the lines of its trace so far."""
+
+    def __init__(self, layout: Layout):
+        self.plan = layout.plan
         self.bus = Bus(self.plan, "2")
         self.lines = [f"{HEADER}2"]
-        mapping = value["mapping"]
-        self.cores = [Core() for _ in range(mapping["cores"])]
-        for task in mapping.get("tasks", []):
-            placed = [held for held in mapping.get("events", []) if held["task"] == task["shortName"]]
-            placed.sort(key=lambda held: held["position"])
-            self.cores[task["core"]].slots.append(Slot([(held["instance"], held["event"]) for held in placed]))
-        self.cores[0].slots += [Slot(machine=machine) for machine in self.plan.machines]
+        self.cores = layout.cores()
 
     def put(self, text: str) -> bool:
         self.lines.append(text)
@@ -80,7 +97,7 @@ class Node:
         if direct in self.bus.running:
             return self.call(direct, self.bus.running[direct].next)
         instance, runnable, point = split_actor(direct)
-        event = next(name for name, held in self.plan.events.items() if name[0] == instance and held.runnable == runnable)
+        (event,) = self.plan.events_of[self.plan.serves[instance, runnable]]
         return self.start(direct, event, point)
 
     def try_slot(self, slot: Slot) -> bool:
@@ -137,10 +154,13 @@ class Node:
             value = tuple(map(int, words[1].split(","))) if words[1:] and words[1] != "-" else ()
             self.call(ENVIRONMENT, Wish(verb, words[0], value))
 
+    def whole(self, script: str) -> str:
+        """The trace of a whole run."""
+        for _, text, _ in script_lines(script):
+            self.line(text)
+        return "\n".join(self.lines) + "\n"
+
 
 def taken(value: dict[str, Any], script: str) -> str:
     """The trace of a whole run."""
-    node = Node(value)
-    for _, text, _ in script_lines(script):
-        node.line(text)
-    return "\n".join(node.lines) + "\n"
+    return Node(Layout(value)).whole(script)
