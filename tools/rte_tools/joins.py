@@ -31,16 +31,32 @@ class Group:
         return str((self.provided + self.required)[0])
 
 
+Side = tuple[str, str]  # an instance or a composition by its path, and a port
+
+
 class Joins:
-    """The groups of a description."""
+    """The groups of a description.
+
+    Two ports are joined if a chain of connectors leads up over delegations, across one assembly, and down over delegations. That two
+    ports are delegated to one outer port joins nothing by itself.
+    """
 
     def __init__(self, description: Description):
         self.description = description
         self.parents: dict[End, End] = {}
         self.groups: dict[End, Group] = {}
+        self.up: dict[Side, list[Side]] = {}  # from an inner port to the outer ones of its composition
+        self.down: dict[Side, list[Side]] = {}
+        self.across: dict[Side, list[Side]] = {}  # from a requester to its providers
+        self.ports: dict[Side, Port] = {}
+        self.pairs = 0  # of joined items
         for node in description.nodes:
+            self.ports.update({(node.path, port.name): port for port in node.type.ports.values()})
             if isinstance(node.type, Composition):
                 self.connect(node, node.type)
+        for node in description.nodes:
+            if node.path == "" or not isinstance(node.type, Composition):
+                self.join_required(node)
         for node in description.nodes:
             self.gather(node)
 
@@ -69,10 +85,12 @@ class Joins:
     def connect(self, node: Instance, composition: Composition) -> None:
         for connector in composition.connectors:
             (first, first_port), (second, second_port) = connector.ends
-            one = self.port_of(composition, first, first_port)
-            other = self.port_of(composition, second, second_port)
-            if one and other:
-                self.join(below(node.path, first), one, below(node.path, second), other)
+            one, other = (below(node.path, first), first_port), (below(node.path, second), second_port)
+            if connector.kind == "AssemblySwConnector":
+                self.across.setdefault(other, []).append(one)
+            else:
+                self.up.setdefault(one, []).append(other)
+                self.down.setdefault(other, []).append(one)
 
     def port_of(self, composition: Composition, prototype: str, port: str) -> Port | None:
         """The port of a prototype, or the outer one where no prototype is named."""
@@ -82,12 +100,35 @@ class Joins:
         held = self.description.type_named(named.of) if named else None
         return held.ports.get(port) if held else None
 
-    def join(self, path: str, port: Port, other_path: str, other: Port) -> None:
-        """Joins the items that both ports have."""
-        items = self.description.items(other)
-        for item in self.description.items(port):
-            if item in items:
-                self.parents[self.top(End(other_path, other.name, item))] = self.top(End(path, port.name, item))
+    def join_required(self, node: Instance) -> None:
+        """Joins each port that requires with those that provide for it. The environment requires at P-ports of the root."""
+        for port in node.type.ports.values():
+            if port.provides == (node.path == ""):
+                for provider in self.providers((node.path, port.name)):
+                    self.join(provider, (node.path, port.name))
+
+    def providers(self, side: Side) -> list[Side]:
+        """The ports of components, and the outer ones of the root, that provide for a required port."""
+        if side[0] == "":
+            return self.ends_below([side])
+        outer = reached([side], self.up)
+        found = self.ends_below([provider for held in outer for provider in self.across.get(held, ())])
+        return found + [held for held in outer[1:] if held[0] == ""]
+
+    def ends_below(self, sides: list[Side]) -> list[Side]:
+        """The ports of components that are reached downwards."""
+        return [held for held in reached(sides, self.down) if held not in self.down and held[0]]
+
+    def join(self, provider: Side, requester: Side) -> None:
+        """Joins the items of one name. A mode element is the only one of its port, and its name makes no difference."""
+        if provider not in self.ports:
+            return
+        mine, theirs = (self.description.items(self.ports[side]) for side in (requester, provider))
+        for name, item in mine.items():
+            other = next(iter(theirs), "") if item.kind == "mode" else name
+            if other in theirs and theirs[other].kind == item.kind:
+                self.pairs += 1
+                self.parents[self.top(End(*requester, name))] = self.top(End(*provider, other))
 
     def gather(self, node: Instance) -> None:
         """Puts the ends of a component, or of the environment, into their groups."""
@@ -99,6 +140,18 @@ class Joins:
                 end = End(node.path, port.name, item)
                 group = self.groups.setdefault(self.top(end), Group())
                 (group.provided if port.provides != is_root else group.required).append(end)
+
+
+def reached(sides: list[Side], ways: dict[Side, list[Side]]) -> list[Side]:
+    """These and all to which the ways lead."""
+    found = list(dict.fromkeys(sides))
+    known = set(found)
+    for side in found:
+        for other in ways.get(side, ()):
+            if other not in known:
+                known.add(other)
+                found.append(other)
+    return found
 
 
 def below(path: str, prototype: str) -> str:
