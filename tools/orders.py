@@ -26,7 +26,7 @@ from pathlib import Path
 from rte_tools.bus_plan import BusPlan
 from rte_tools.differing import difference
 from rte_tools.ending import end_with
-from rte_tools.prepared import BROKEN, broken, program, read_layout, read_script
+from rte_tools.prepared import program, read_layout, read_script
 from rte_tools.shuffling import Outcome, Tried, parting, try_orders
 from rte_tools.trace import read_trace
 
@@ -152,10 +152,7 @@ def work() -> int:
     if words.keep:
         Path(words.keep).mkdir(parents=True, exist_ok=True)
     runs = words.runs if len(layout.tasks) > 1 else 1
-    try:
-        tried = try_orders(layout, script, runs, words.seed, Progress(runs).tell)
-    except BROKEN as error:
-        raise broken(words.description, error) from error
+    tried = try_orders(layout, script, runs, words.seed, Progress(runs).tell)
     print("\n".join(told(tried, layout.plan)), flush=True)
     if words.keep:
         refused = kept_and_checked(tried, words, Path(words.keep))

@@ -7,6 +7,7 @@ from pathlib import Path
 
 from rte_tools.bus_plan import BusPlan
 from rte_tools.files import Unfit, read_value
+from rte_tools.judging import judge
 from rte_tools.script_check import first_bad_line
 from rte_tools.source import read_text
 from rte_tools.strangers import stranger
@@ -14,23 +15,15 @@ from rte_tools.trace import NotATrace, Trace, read_trace
 from rte_tools.turns import Layout
 
 BUILT = Path(__file__).resolve().parents[2] / "crates" / "rte" / "out" / "rte"
-# How Python says that a name is not there, or that a value is not what a rule from 4 on asks for.
-BROKEN = (LookupError, StopIteration, AttributeError, TypeError, ValueError)
 
 
 def read_layout(path: str) -> Layout:
-    """The layout of a description. Raises Unfit where it is none by rules 1 to 3 or names what is not there, and OSError."""
+    """The layout of a description. Raises Unfit where it breaks a rule that is looked at, and OSError."""
     value = read_value(path)
-    try:
-        return Layout(value)
-    except BROKEN as error:
-        raise broken(path, error) from error
-
-
-def broken(path: str, error: BaseException) -> Unfit:
-    """What to say of a description with which Python cannot go on."""
-    said = f" ({error.args[0]!r} is looked for)" if isinstance(error, KeyError) else ""
-    return Unfit(f"{path} breaks a rule from 4 on{said}; tools/explain.py says which one, if the program is there")
+    refusal = judge(value)
+    if refusal:
+        raise Unfit(f"{path}: refused rule {refusal.number} at {refusal.place}; tools/dry_run.py shows where")
+    return Layout(value)
 
 
 def read_script(path: str, plan: BusPlan) -> str:
