@@ -1,8 +1,13 @@
 """Whether two traces of a description differ in more than the order of its cores.
 
-Two traces are the same but for that order if each actor (the environment, a runnable of an instance, a machine) has the same lines,
-and each object sees what changes it in the same order. An object is what calls share: a group of elements, a server, an area, a
-machine, the clock. What an entry is answered depends on the earlier entries of its object alone.
+They do not if each actor (the environment, a runnable of an instance, a machine) has the same lines in the same run lines, and at each
+object the order is the same as far as it matters. That is the order
+
+- of what writes a group or sends to it, and how the starts by its data stand between;
+- of the calls that a server accepts, and of the switches that a machine accepts;
+- of the phases of a machine, and how the activations that it waits for stand between.
+
+All else that an order changes, such as what a read gives or who is in an area first, is seen in the lines of actors.
 """
 
 from __future__ import annotations
@@ -15,9 +20,8 @@ from rte_tools.bus import split_actor
 from rte_tools.bus_plan import ENVIRONMENT, BusPlan, Name
 from rte_tools.trace import RUN, Line, Trace
 
-CLOCK = "the clock"
-# Of one object these change what others of them are answered; all other entries may stand in any order between two of these.
-CHANGES = {"write", "publish", "invalidate", "send", "tick", "ask", "return", "switch", "phase", "enter", "exit"}
+CHANGES = {"write", "publish", "invalidate", "send", "ask", "switch", "phase"}
+MODE_EVENTS = ("SwcModeSwitchEvent", "ModeSwitchedAckEvent")
 
 
 @dataclass(frozen=True)
@@ -111,68 +115,64 @@ def settled(entries: list[tuple[Line, Hashable]]) -> Iterator[tuple[Line, Hashab
 
 
 def of_objects(trace: Trace, plan: BusPlan) -> Iterator[tuple[str, Line, Hashable]]:
-    """Each line that touches an object, with what the object is called."""
+    """Each line whose order among others of an object matters, with what the object is called."""
     started: dict[str, Name] = {}
+    flagged = asked_whether_updated(plan)
     for line in trace.lines:
         owner = ENVIRONMENT if line.actor == ENVIRONMENT else split_actor(line.actor)[0]
         if line.verb == "start":
             started[line.actor] = (owner, line.part("event"))
-        name = object_of(line, owner, started.get(line.actor), plan) if line.actor else ""
-        if name:
-            yield name, line, line.text
+        name = (owner, line.part("target"))
+        if line.verb != "read" or name in flagged:
+            found = object_of(line, name, started.get(line.actor), plan)
+            if found:
+                yield found, line, line.text
 
 
-def object_of(line: Line, owner: str, event: Name | None, plan: BusPlan) -> str:
-    """The object that an entry touches, or nothing. The event is that by which its activation was started."""
-    name = (owner, line.part("target"))
-    if line.verb == "tick":
-        return CLOCK
-    if line.verb == "phase":
+def asked_whether_updated(plan: BusPlan) -> set[Name]:
+    """The elements of which a runnable asks whether they were updated: a read of these changes the answer."""
+    return {
+        (path, f"{access[1]}.{access[2]}")
+        for (path, _), runnable in plan.runnables.items()
+        for access in runnable.get("accesses", [])
+        if access[0] == "isUpdated"
+    }
+
+
+def object_of(line: Line, name: Name, event: Name | None, plan: BusPlan) -> str:
+    """The object at which the order of an entry matters, or nothing. The event is that by which its activation was started."""
+    if line.verb in ("write", "publish", "invalidate", "send", "read"):
+        return group_of(name, plan)
+    if line.verb == "phase" and line.part("step") != "close":
         return f"the machine {line.actor}"
-    if line.verb == "start":
-        return object_of_event(event, plan)
-    if line.verb in ("admit", "end"):
-        return f"the machine {'.'.join(machine)}" if event and (machine := machine_of(event, plan)) else ""
-    if line.verb in ("enter", "exit"):
-        return f"the area {':'.join(name)}"
-    if line.verb in ("switch", "mode"):
-        return f"the machine {'.'.join(plan.mode_ports.get(name, name))}"
-    if line.verb in ("ask", "answer", "result", "return"):
-        return object_of_server(server_of(line, name, plan))
+    if line.verb == "switch" and line.part("code") == "0":
+        return f"the switches of {'.'.join(name)}"
+    if line.verb == "ask" and line.part("code") == "0":
+        return f"the server {'.'.join(server_of(line, name, plan) or ())}"
+    machine = None
+    if event and line.verb == "start":
+        held = plan.events[event]
+        if held.kind == "DataReceivedEvent":
+            return group_of(held.of, plan)
+        machine = held.of if held.kind in MODE_EVENTS else None
+    elif event and (line.verb == "end" or line.text.endswith(" admit yes")):
+        machine = awaited_by(event, plan)
+    return f"the machine {'.'.join(machine)}" if machine else ""
+
+
+def group_of(name: Name, plan: BusPlan) -> str:
     return f"`{'.'.join(plan.elements[name].group)}`"
 
 
-def object_of_event(event: Name, plan: BusPlan) -> str:
-    """What a start by an event touches: that for which the event waits."""
-    held = plan.events[event]
-    if held.kind in ("TimingEvent", "InitEvent"):
-        return CLOCK
-    if held.kind == "DataReceivedEvent":
-        return f"`{'.'.join(plan.elements[held.of].group)}`"
-    if held.kind == "OperationInvokedEvent":
-        return object_of_server(held.of)
-    if held.kind == "AsynchronousServerCallReturnsEvent":
-        return object_of_server(plan.points[held.of].server)
-    return f"the machine {'.'.join(held.of)}"
-
-
-def object_of_server(server: Name | None) -> str:
-    return f"the server {'.'.join(server)}" if server else ""
-
-
 def server_of(line: Line, name: Name, plan: BusPlan) -> Name | None:
-    """The server of a call, of its answer or of a return."""
-    instance, runnable, _ = split_actor(line.actor)
-    if line.verb == "return":
-        return plan.serves[instance, runnable]
+    """The server of a call."""
     own = f"{line.actor.partition('@')[0]}.{name[1]}"
-    point = own if own in plan.points else plan.results[name]
-    return plan.points[point].server
+    return plan.points[own if own in plan.points else plan.results[name]].server
 
 
-def machine_of(event: Name, plan: BusPlan) -> Name | None:
-    """The machine to which an activation by an event matters: the one whose phase owes it, or that disables it."""
+def awaited_by(event: Name, plan: BusPlan) -> Name | None:
+    """The machine that may wait for an activation: the one whose phase makes its event due, or that disables it."""
     held = plan.events[event]
-    if held.kind == "SwcModeSwitchEvent":
+    if held.kind in MODE_EVENTS:
         return held.of
     return held.disabled[0] if held.disabled else None
