@@ -3,8 +3,8 @@
 from __future__ import annotations
 
 from collections import defaultdict
-from dataclasses import dataclass
-from typing import Any, Generator
+from dataclasses import dataclass, field
+from typing import Any, Generator, Iterable
 
 from rte_tools.bus_plan import BusPlan, arguments
 
@@ -21,6 +21,7 @@ class Wish:
     target: str = ""
     value: Value = ()
     number: int = 0  # the code of a return, the mode of a switch
+    computed: Value = field(default=(), compare=False)  # the words before they were clamped, of a value that was computed
 
 
 @dataclass(frozen=True)
@@ -36,6 +37,10 @@ Steps = Generator[Wish, Answer, None]
 
 def held_to(word: int, limits: tuple[int, int]) -> int:
     return max(limits[0], min(limits[1], word))
+
+
+def clamped(words: Iterable[int], limits: Iterable[tuple[int, int]]) -> Value:
+    return tuple(map(held_to, words, limits))
 
 
 def computed(expression: Any, variables: dict[str, int]) -> int:
@@ -62,7 +67,7 @@ class Activation:
         self.served = plan.serves.get((instance, runnable))
         self.variables: dict[str, int] = defaultdict(int)
         self.fetched: dict[str, Value] = {}
-        self.written: dict[str, Value] = {}
+        self.written: dict[str, Wish] = {}  # what is published at the end
         self.steps = self.whole(is_asked, given)
         self.next: Wish | None = next(self.steps, None)
 
@@ -88,7 +93,7 @@ class Activation:
         for access in accesses:
             target = ".".join(access[1:])
             if access[0] in IMPLICIT_WRITES and target in self.written:
-                yield Wish("publish", target, self.written[target])
+                yield self.written[target]
         if self.served:
             yield self.returned()
         yield Wish("end")
@@ -99,9 +104,8 @@ class Activation:
         error = self.variables["error"]
         code = error if error in [held["code"] for held in operation.get("errors", [])] else 0
         names = [held["shortName"] for held in arguments(operation, "out")]
-        limits = self.plan.limits(self.served, "out")
-        value = tuple(held_to(self.variables[name], limit) for name, limit in zip(names, limits))
-        return Wish("return", "", value, code)
+        words = tuple(self.variables[name] for name in names)
+        return Wish("return", "", clamped(words, self.plan.limits(self.served, "out")), code, words)
 
     def body(self, statements: list) -> Steps:
         for statement in statements:
@@ -126,30 +130,32 @@ class Activation:
             else:
                 yield from self.port_access(keyword, f"{statement[1]}.{statement[2]}", statement[3:])
 
-    def given(self, target: str, expressions: list) -> Value:
+    def giving(self, verb: str, target: str, expressions: list) -> Wish:
+        """The wish that gives the words of expressions to an element or a variable."""
         limits = self.plan.elements[self.instance, target].limits
-        return tuple(held_to(computed(held, self.variables), limits) for held in expressions)
+        words = tuple(computed(held, self.variables) for held in expressions)
+        return Wish(verb, target, clamped(words, [limits] * len(words)), computed=words)
 
     def take(self, names: list[str], value: Value) -> None:
         self.variables.update(zip(names, value))
 
     def variable_access(self, keyword: str, target: str, parts: list) -> Steps:
         if keyword == "irvWrite":
-            yield Wish("write", target, self.given(target, parts))
+            yield self.giving("write", target, parts)
         elif keyword == "irvRead":
             self.take(parts, (yield Wish("read", target)).value)
         elif keyword == "irvIWrite":
-            self.written[target] = self.given(target, parts)
+            self.written[target] = self.giving("publish", target, parts)
         else:
             self.take(parts, self.fetched[target])
 
     def port_access(self, keyword: str, target: str, parts: list) -> Steps:
         if keyword == "iwrite":
-            self.written[target] = self.given(target, parts[0])
+            self.written[target] = self.giving("publish", target, parts[0])
         elif keyword == "iread":
             self.take(parts[0], self.fetched[target])
         elif keyword in ("write", "send"):
-            self.variables[parts[1]] = (yield Wish(keyword, target, self.given(target, parts[0]))).code
+            self.variables[parts[1]] = (yield self.giving(keyword, target, parts[0])).code
         elif keyword in ("read", "receive"):
             answer = yield Wish(keyword, target)
             self.take(parts[0], answer.value)
@@ -161,9 +167,9 @@ class Activation:
         if keyword == "result":
             answer = yield Wish("result", target)
         else:
-            limits = self.plan.limits((self.instance, target), "in")
-            value = tuple(held_to(computed(held, self.variables), limit) for held, limit in zip(parts[0], limits))
-            answer = yield Wish("ask", target, value)
+            words = tuple(computed(held, self.variables) for held in parts[0])
+            value = clamped(words, self.plan.limits((self.instance, target), "in"))
+            answer = yield Wish("ask", target, value, computed=words)
             if keyword == "call" and answer.code == 0:
                 answer = yield Wish("answer", target)
         if keyword != "acall":

@@ -30,4 +30,5 @@ def end_with(name: str, work: Callable[[], int]) -> NoReturn:
 
 def forget_output() -> None:
     """What is still held for standard output goes nowhere, since Python would try again at its end and say so."""
-    os.dup2(os.open(os.devnull, os.O_WRONLY), sys.stdout.fileno())
+    if sys.stdout is sys.__stdout__:
+        os.dup2(os.open(os.devnull, os.O_WRONLY), sys.stdout.fileno())

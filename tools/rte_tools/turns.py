@@ -8,6 +8,7 @@ from typing import Any
 from rte_tools.activation import Wish
 from rte_tools.bus import ENVIRONMENT, Bus, Held, split_actor
 from rte_tools.bus_plan import Name, plan_of
+from rte_tools.description import described
 from rte_tools.trace import HEADER, read_line
 from rte_tools.verdicts import ENOUGH, script_lines, spelled, value_text
 
@@ -40,6 +41,7 @@ class Layout:
 
     def __init__(self, value: dict[str, Any]):
         self.plan = plan_of(value)
+        self.instances = len(described(value).instances())
         mapping = value["mapping"]
         placed: dict[str, list[Name]] = {task["shortName"]: [] for task in mapping.get("tasks", [])}
         for held in sorted(mapping.get("events", []), key=lambda held: held["position"]):

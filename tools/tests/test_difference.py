@@ -6,6 +6,7 @@ import json
 import random
 import unittest
 
+from calling import call_tool
 from support import DATA, EXAMPLES, WithFolder, edited, run_tool, text_of
 
 from difference import compared
@@ -37,8 +38,8 @@ class Differences(WithFolder):
         description, expected = (str(EXAMPLE / "two_cores" / name) for name in ("description.json", "expected.txt"))
         ended = run_tool("difference.py", description, expected, expected)
         self.assertEqual((ended.returncode, ended.stdout.decode(), ended.stderr), (0, SAME, b""))
-        ended = run_tool("difference.py", description, expected, str(CORPUS / "two_cores_left_out.txt"))
-        self.assertEqual((ended.returncode, ended.stdout.count(b"\n"), ended.stderr), (1, 3, b""))
+        ended = call_tool("difference", description, expected, str(CORPUS / "two_cores_left_out.txt"))
+        self.assertEqual((ended.status, ended.out.count("\n"), ended.err), (1, 3, ""))
 
     def test_orders_of_cores_that_share_nothing_at_the_same_time(self) -> None:
         for name in ("nested_delegations", "trip_computer"):
@@ -98,9 +99,9 @@ class Differences(WithFolder):
         description, expected = (str(EXAMPLE / "two_cores" / name) for name in ("description.json", "expected.txt"))
         other = str(EXAMPLE / "one_writer" / "expected.txt")
         for words in ([description, expected, other], [description, expected, "none"], [description, description, expected], ["none", expected, other]):
-            ended = run_tool("difference.py", *words)
-            self.assertEqual((ended.returncode, ended.stdout), (2, b""))
-            self.assertEqual(ended.stderr.count(b"\n"), 1, ended.stderr)
+            ended = call_tool("difference", *words)
+            self.assertEqual((ended.status, ended.out), (2, ""))
+            self.assertEqual(ended.err.count("\n"), 1, ended.err)
 
 
 class Steps(unittest.TestCase):

@@ -7,28 +7,27 @@ import subprocess
 import sys
 import unittest
 
+from calling import call_tool
 from support import DATA, EXAMPLES, TOOLS, WithFolder, edited, program, run, run_tool, text_of
 
 TWO_CORES = DATA / "examples" / "two_cores"
 DESCRIPTION, SCRIPT = str(TWO_CORES / "description.json"), str(TWO_CORES / "script.txt")
-SAID = b"dry_run.py: not proved, one order of the cores\n"
+SAID = "dry_run.py: not proved, one order of the cores\n"
 
 
 class DryRuns(WithFolder):
     def test_the_examples(self) -> None:
         for folder in EXAMPLES:
             with self.subTest(folder.name):
-                ended = run_tool("dry_run.py", str(folder / "description.json"), str(folder / "script.txt"))
-                self.assertEqual((ended.returncode, ended.stderr), (0, SAID))
-                self.assertEqual(ended.stdout, (folder / "expected.txt").read_bytes())
+                ended = call_tool("dry_run", str(folder / "description.json"), str(folder / "script.txt"))
+                self.assertEqual((ended.status, ended.err), (0, SAID))
+                self.assertEqual(ended.out, text_of(folder / "expected.txt"))
 
     def refused(self, description: str, script: str, status: int, *holds: str) -> None:
-        ended = run_tool("dry_run.py", description, script)
-        self.assertEqual((ended.returncode, ended.stdout), (status, b""), ended.stderr)
-        said = ended.stderr.decode()
-        self.assertNotIn("Traceback", said)
+        ended = call_tool("dry_run", description, script)
+        self.assertEqual((ended.status, ended.out), (status, ""), ended.err)
         for part in holds:
-            self.assertIn(part, said)
+            self.assertIn(part, ended.err)
 
     def changed(self, *edits: tuple[str, str]) -> str:
         return self.write("description.json", edited(text_of(TWO_CORES / "description.json"), list(edits)))
@@ -54,11 +53,11 @@ class DryRuns(WithFolder):
         os.close(reading)
         ended = subprocess.run(words, stdout=writing, stderr=subprocess.PIPE, check=False)
         os.close(writing)
-        self.assertEqual((ended.returncode, ended.stderr), (4, SAID))
+        self.assertEqual((ended.returncode, ended.stderr.decode()), (4, SAID))
 
     @unittest.skipUnless(program(), "the program is not built")
     def test_the_program_calls_it_legal(self) -> None:
-        for folder in (*EXAMPLES, DATA / "rows" / "mode_switch_on_three_cores"):
+        for folder in (TWO_CORES, DATA / "rows" / "mode_switch_on_three_cores"):
             description, script = str(folder / "description.json"), str(folder / "script.txt")
             trace = self.write("trace.txt", run_tool("dry_run.py", description, script).stdout)
             self.assertEqual(run([program(), "check", description, trace, script]).stdout, b"legal\n", folder.name)

@@ -7,13 +7,14 @@ import random
 import time
 import unittest
 
+from calling import call_tool
 from support import DATA, EXAMPLES, WithFolder, cores_of, program, run, run_tool, text_of
 
 from rte_tools.shuffling import ShuffledNode, try_orders
 from rte_tools.turns import Layout
 
 POWER_MODES = DATA / "examples" / "power_modes"
-LONGEST = 5.0  # seconds of an example
+LONGEST = 5.0  # seconds of a processor for an example
 
 
 def words(folder) -> list[str]:
@@ -25,15 +26,17 @@ class Orders(WithFolder):
         for folder in EXAMPLES:
             if cores_of(folder) > 1:
                 with self.subTest(folder.name):
-                    begun = time.monotonic()
-                    tried = run_tool("orders.py", *words(folder))
-                    self.assertLess(time.monotonic() - begun, LONGEST)
+                    begun = time.process_time()
+                    tried = call_tool("orders", *words(folder))
+                    self.assertLess(time.process_time() - begun, LONGEST)
                     count = 2 if folder == POWER_MODES else 1
-                    self.assertEqual(tried.returncode, count - 1, tried.stdout)
-                    self.assertIn(f"300 orders of the cores, {count} outcome".encode(), tried.stdout)
+                    self.assertEqual(tried.status, count - 1, tried.out)
+                    self.assertIn(f"300 orders of the cores, {count} outcome", tried.out)
 
     def test_where_two_outcomes_part(self) -> None:
-        said = run_tool("orders.py", *words(POWER_MODES)).stdout.decode()
+        ended = run_tool("orders.py", *words(POWER_MODES))
+        said = ended.stdout.decode()
+        self.assertEqual(ended.returncode, 1)
         for line in ("env read heat.level 0 1", "env read heat.level 0 5", "heater:Warm admit no", "heater:Warm admit yes"):
             self.assertIn(f": {line}\n", said)
 
@@ -42,23 +45,23 @@ class Orders(WithFolder):
         one, again, other = (try_orders(layout, script, 40, seed, lambda tried: None) for seed in (7, 7, 8))
         self.assertEqual(one.outcomes, again.outcomes)
         self.assertEqual(one.counts, again.counts)
-        self.assertNotEqual([held.first for held in one.outcomes] + [*one.counts.values()], [held.first for held in other.outcomes] + [*other.counts.values()])
+        self.assertNotEqual((one.outcomes, one.counts), (other.outcomes, other.counts))
 
     def test_one_core_has_one_order(self) -> None:
-        tried = run_tool("orders.py", *words(DATA / "examples" / "one_writer"))
-        self.assertEqual(tried.returncode, 0)
-        self.assertIn(b"1 order of the cores, 1 outcome\n", tried.stdout)
+        tried = call_tool("orders", *words(DATA / "examples" / "one_writer"))
+        self.assertEqual(tried.status, 0)
+        self.assertIn("1 order of the cores, 1 outcome\n", tried.out)
 
     def test_a_trace_of_each_outcome_is_kept(self) -> None:
         folder = self.folder / "kept"
-        tried = run_tool("orders.py", *words(POWER_MODES), "--keep", str(folder), "--runs", "20")
-        self.assertIn(f"kept in {folder}: outcome1.txt to outcome2.txt\n".encode(), tried.stdout)
+        tried = call_tool("orders", *words(POWER_MODES), "--keep", str(folder), "--runs", "20")
+        self.assertIn(f"kept in {folder}: outcome1.txt to outcome2.txt\n", tried.out)
         self.assertEqual(text_of(folder / "outcome1.txt"), text_of(POWER_MODES / "expected.txt"))
         self.assertIn("env read heat.level 0 5", text_of(folder / "outcome2.txt"))
 
     @unittest.skipUnless(program(), "the program is not built")
     def test_each_order_is_legal(self) -> None:
-        for folder in (*EXAMPLES, DATA / "rows" / "mode_switch_on_three_cores", DATA / "rows" / "chain_of_servers"):
+        for folder in (POWER_MODES, DATA / "rows" / "mode_switch_on_three_cores", DATA / "rows" / "chain_of_servers"):
             layout, script = Layout(json.loads(text_of(folder / "description.json"))), text_of(folder / "script.txt")
             for seed in range(3):
                 path = self.write("trace.txt", ShuffledNode(layout, random.Random(seed)).whole(script))
@@ -70,16 +73,17 @@ class Orders(WithFolder):
         folder, empty, bad = str(self.folder), self.write("empty", ""), self.write("bad.txt", "run\nRun\n")
         for given in ([description, folder], [folder, script], [empty, script], [description, bad], ["nothing", script]):
             with self.subTest(given):
-                ended = run_tool("orders.py", *given)
-                self.assertEqual((ended.returncode, ended.stdout), (2, b""))
-                self.assertEqual(ended.stderr.count(b"\n"), 1, ended.stderr)
-        self.assertEqual(run_tool("orders.py", description, script, "--runs", "0").returncode, 2)
+                ended = call_tool("orders", *given)
+                self.assertEqual((ended.status, ended.out), (2, ""))
+                self.assertEqual(ended.err.count("\n"), 1, ended.err)
+        self.assertEqual(call_tool("orders", description, script, "--runs", "0").status, 2)
 
     def test_a_name_that_is_not_there_is_one_line(self) -> None:
         text = text_of(POWER_MODES / "description.json").replace('"type":"Heater"', '"type":"Heator"')
-        ended = run_tool("orders.py", self.write("description.json", text), words(POWER_MODES)[1])
-        self.assertEqual(ended.returncode, 2)
-        self.assertEqual(ended.stderr.count(b"\n"), 1, ended.stderr)
+        ended = call_tool("orders", self.write("description.json", text), words(POWER_MODES)[1])
+        self.assertEqual(ended.status, 2)
+        self.assertIn("refused rule 5 at /compositions/0/prototypes/1/type", ended.err)
+        self.assertEqual(ended.err.count("\n"), 1, ended.err)
 
 
 if __name__ == "__main__":
