@@ -4,8 +4,9 @@
     tools/dry_run.py DESCRIPTION SCRIPT > trace.txt
 
 The trace is made in Python, apart from the program, and is that of one order of the cores: they take turns by their numbers. It is
-printed as the program prints one, and `./rte check` calls it legal. What is not a description, or not a script of it, is told on standard
-error with its line and its mend. Of the rules of docs/FORMAT.md all are looked at but rule 30, the size of the plan.
+printed as the program prints one, and `./rte check` calls it legal. What is not a description, or not a script of it, is refused as the
+program refuses it; its line and its mend are told on standard error. Of the rules of docs/FORMAT.md all are looked at but rule 30, the
+size of the plan.
 
 The status is that of the program: 0 if the script was run, 1 if the description breaks a rule, 3 if a file was not read, 4 if the output
 was not written, 5 if a line of the script is refused. It is 2 if the words are wrong.
@@ -40,13 +41,14 @@ def say(text: str) -> None:
     print(f"dry_run.py: {text}", file=sys.stderr)
 
 
-def read(path: str) -> str | None:
-    """The text of a file, or none where it is not read; then it is said why."""
+def read(path: str, number: int) -> str | None:
+    """The text of a file, the number of whose word is given, or none where it is not read; then it is said why."""
     try:
         text = read_text(path)
     except OSError:
         text = None
-    if text is None or len(text) > LONGEST:
+    if text is None or len(text.encode("utf-8", "surrogateescape")) > LONGEST:
+        print(f"not read {number}", flush=True)
         say(explain_unread(path)[0])
         return None
     return text
@@ -63,6 +65,10 @@ def refused(text: str) -> tuple[Refusal | None, dict]:
 
 def explained(refusal: Refusal, words: argparse.Namespace) -> int:
     """Says what is refused, with the line and the mend."""
+    if refusal.kind == "rule":
+        print(f"refused rule {refusal.number} at {refusal.place}", flush=True)
+    else:
+        print(f"script refused line {refusal.line} cause {refusal.number}", flush=True)
     for line in explain(refusal, words.description, words.script):
         print(line, file=sys.stderr)
     return refusal.status
@@ -83,7 +89,8 @@ def run(layout: Layout, script: str) -> int:
 
 def work() -> int:
     words = arguments()
-    text, script = read(words.description), read(words.script)
+    text = read(words.description, 1)
+    script = read(words.script, 2) if text is not None else None
     if text is None or script is None:
         return 3
     refusal, value = refused(text)

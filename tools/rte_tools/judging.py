@@ -59,4 +59,12 @@ def first_of_shape(faults: Iterable[Fault]) -> Refusal | None:
     shapes = [fault for fault in found if " is not a name; " not in fault.message]
     if not found:
         return None
-    return Refusal("rule", 2 if shapes else 3, (shapes or found)[0].place or "/")
+    places = [place_of(fault) for fault in shapes or found]
+    around = [place for place in places if places[0].startswith(f"{place}/")]  # an object comes before what it holds
+    return Refusal("rule", 2 if shapes else 3, min([*around, places[0]], key=len) or "/")
+
+
+def place_of(fault: Fault) -> str:
+    """The place of a fault. An unknown keyword is a fault of its statement, access or expression."""
+    above, _, part = fault.place.rpartition("/")
+    return above if part == "0" and " is none of " in fault.message else fault.place

@@ -9,7 +9,7 @@ import sys
 from dataclasses import dataclass
 from unittest import mock
 
-from support import TOOLS  # noqa: F401  (it also puts the tools on the path)
+import support  # noqa: F401  (it puts the tools on the path)
 
 from rte_tools.ending import end_with
 
