@@ -78,12 +78,16 @@ def seen_of(trace: str) -> Iterator[str]:
 
 
 def try_orders(layout: Layout, script: str, runs: int, seed: int, tell: Callable[[Tried], None]) -> Tried:
-    """Runs the script in so many orders. The first one is that of the cores' numbers, the others are by chance."""
+    """Runs the script in so many orders, or in fewer if the user interrupts it. The first one is that of the cores' numbers."""
     tried = Tried()
-    for number in range(1, runs + 1):
-        node = Node(layout) if number == 1 else ShuffledNode(layout, random.Random(f"{seed} {number}"))
-        tried.take(node.whole(script))
-        tell(tried)
+    try:
+        for number in range(1, runs + 1):
+            node = Node(layout) if number == 1 else ShuffledNode(layout, random.Random(f"{seed} {number}"))
+            tried.take(node.whole(script))
+            tell(tried)
+    except KeyboardInterrupt:
+        if not tried.outcomes:
+            raise
     return tried
 
 

@@ -7,7 +7,7 @@ import re
 import unittest
 from typing import Iterator
 
-from support import DATA, edited, text_of
+from support import DATA, edited, program, run, text_of
 from test_format import examples
 from test_turns import read_edits
 
@@ -92,6 +92,14 @@ class Joined(unittest.TestCase):
         self.assertIsNone(judge(value))
         group = Joins(described(value)).group(End("in/r", "i", "v"))
         self.assertEqual(group.provided, [End("in/w2", "o", "v")])
+
+    @unittest.skipUnless(program(), "the program is not built")
+    def test_the_plan_of_the_program(self) -> None:
+        for folder in ("bases/whole", "bases/kinds", "bases/nested", "examples/door_control"):
+            path = DATA / folder / "description.json"
+            shown = run([program(), "plan", str(path)]).stdout.decode()
+            pairs = Joins(described(json.loads(text_of(path)))).pairs
+            self.assertEqual(pairs, shown.count("\njoin "), folder)
 
     def test_mode_elements_are_joined_whatever_their_names(self) -> None:
         text = text_of(DATA / "bases" / "kinds" / "description.json")

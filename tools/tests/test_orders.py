@@ -10,7 +10,7 @@ import unittest
 from calling import call_tool
 from support import DATA, EXAMPLES, WithFolder, cores_of, program, run, run_tool, text_of
 
-from rte_tools.shuffling import ShuffledNode, try_orders
+from rte_tools.shuffling import ShuffledNode, Tried, try_orders
 from rte_tools.turns import Layout
 
 POWER_MODES = DATA / "examples" / "power_modes"
@@ -46,6 +46,14 @@ class Orders(WithFolder):
         self.assertEqual(one.outcomes, again.outcomes)
         self.assertEqual(one.counts, again.counts)
         self.assertNotEqual((one.outcomes, one.counts), (other.outcomes, other.counts))
+
+    def test_an_interrupt_gives_what_was_found(self) -> None:
+        def interrupt(tried: Tried) -> None:
+            if tried.runs == 5:
+                raise KeyboardInterrupt
+
+        layout, script = Layout(json.loads(text_of(POWER_MODES / "description.json"))), text_of(POWER_MODES / "script.txt")
+        self.assertEqual(try_orders(layout, script, 40, 1, interrupt).runs, 5)
 
     def test_one_core_has_one_order(self) -> None:
         tried = call_tool("orders", *words(DATA / "examples" / "one_writer"))
