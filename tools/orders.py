@@ -7,8 +7,9 @@ Runs the script in many orders of the cores: first in that of their numbers, the
 lines `env ..` of the trace but for ticks, and `unsettled`. Orders that give the same are one outcome. Of two outcomes the first line that
 the environment sees otherwise is told, and the first line in which they part at all, which often is the cause.
 
-Ctrl-C ends it with what was found so far. The runs are made here, apart from the program, and nothing is proved of them. If the program is there (the variable RTE names it, or it
+The runs are made here, apart from the program, and nothing is proved of them. If the program is there (the variable RTE names it, or it
 is built), it checks one trace of each outcome. More runs may find more outcomes; that there is one only is not shown by any number.
+Ctrl-C ends the runs, and what was found so far is told.
 
 The status is 0 if all orders give the same, 1 if they do not, 2 if a file is not read or is not what it should be, and 3 if the program
 refuses the description, the script or a trace.
