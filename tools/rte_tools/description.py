@@ -20,6 +20,7 @@ class DataType:
     lower: int
     upper: int
     words: int
+    base: str = ""  # the base type
 
 
 @dataclass(frozen=True)
@@ -31,6 +32,12 @@ class Item:
     type: str
     queued: bool = False
     arguments: dict[str, str] = field(default_factory=dict)  # of an operation: the data type of each argument
+    directions: dict[str, str] = field(default_factory=dict)  # of an operation: `in` or `out`, by argument
+    errors: dict[str, int] = field(default_factory=dict)  # of an operation: the code of each error
+
+    def names(self, direction: str) -> list[str]:
+        """The arguments of an operation that are `in` or `out`, in their order."""
+        return [name for name, held in self.directions.items() if held == direction]
 
 
 @dataclass(frozen=True)
@@ -46,6 +53,7 @@ class ComSpec:
     element: str
     keys: tuple[str, ...]  # those beside `element`
     place: str
+    values: dict[str, Any] = field(default_factory=dict)  # of these keys
 
 
 @dataclass(frozen=True)
@@ -55,6 +63,10 @@ class Port:
     interface: str
     place: str
     com_specs: tuple[ComSpec, ...]
+
+    def said_of(self, item: str, key: str, missing: Any) -> Any:
+        """What the com spec of an item says by a key, or what stands where it is missing."""
+        return next((spec.values.get(key, missing) for spec in self.com_specs if spec.element == item), missing)
 
 
 @dataclass(frozen=True)
@@ -72,6 +84,7 @@ class Runnable:
     place: str
     accesses: tuple[tuple[str, ...], ...]
     program: list
+    concurrent: bool = False
 
 
 @dataclass(frozen=True)
@@ -206,7 +219,7 @@ def by_name(items) -> dict:
 
 
 def data_type(place: str, held: dict) -> DataType:
-    return DataType(held["shortName"], place, held["lower"], held["upper"], held["words"])
+    return DataType(held["shortName"], place, held["lower"], held["upper"], held["words"], held["baseType"])
 
 
 def mode_group(place: str, held: dict) -> ModeGroup:
@@ -218,21 +231,27 @@ def interface(place: str, held: dict) -> Interface:
         Item(item["shortName"], "data", item["type"], item["swImplPolicy"] == "queued")
         for item in held.get("dataElements", [])
     ]
-    items += [
-        Item(item["shortName"], "operation", "", arguments=arguments_of(item)) for item in held.get("operations", [])
-    ]
+    items += [operation(item) for item in held.get("operations", [])]
     if "modeGroup" in held:
         items.append(Item(held["modeGroup"]["shortName"], "mode", held["modeGroup"]["type"]))
     return Interface(held["shortName"], held["kind"], place, by_name(items))
 
 
-def arguments_of(operation: dict) -> dict[str, str]:
-    return {argument["shortName"]: argument["type"] for argument in operation.get("arguments", [])}
+def operation(held: dict) -> Item:
+    arguments = held.get("arguments", [])
+    return Item(
+        held["shortName"],
+        "operation",
+        "",
+        arguments={argument["shortName"]: argument["type"] for argument in arguments},
+        directions={argument["shortName"]: argument["direction"] for argument in arguments},
+        errors={error["shortName"]: error["code"] for error in held.get("errors", [])},
+    )
 
 
 def port(place: str, held: dict) -> Port:
     specs = tuple(
-        ComSpec(spec["element"], tuple(key for key in spec if key != "element"), spec_place)
+        ComSpec(spec["element"], tuple(key for key in spec if key != "element"), spec_place, spec)
         for spec_place, spec in held_in(held, "comSpecs", place)
     )
     return Port(held["shortName"], held["kind"] == "PPortPrototype", held["interface"], place, specs)
@@ -255,7 +274,9 @@ def component(place: str, held: dict) -> Component:
 
 def runnable(place: str, held: dict) -> Runnable:
     accesses = tuple(tuple(access) for access in held.get("accesses", []))
-    return Runnable(held["shortName"], place, accesses, held.get("program", []))
+    return Runnable(
+        held["shortName"], place, accesses, held.get("program", []), held.get("canBeInvokedConcurrently", False)
+    )
 
 
 def event(place: str, held: dict) -> Event:

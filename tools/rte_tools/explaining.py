@@ -39,8 +39,9 @@ def explain(refusal: Refusal, description: str, script: str, trace: str = "") ->
     except NotJson as error:
         said = [error.message[0].upper() + error.message[1:] + "."]
         return explained(source, error.start, error.end, f"rule {refusal.number}: {rule.title}", said, rule.mend)
-    node, said = hints(refusal.number, source, root, refusal.place, read_schema())
-    return explained(source, node.start, node.end, f"rule {refusal.number}: {rule.title}", said, rule.mend)
+    said = hints(refusal.number, source, root, refusal.place, read_schema())
+    title = f"rule {refusal.number}: {rule.title}"
+    return explained(source, said.node.start, said.node.end, title, said.sentences, said.mend or rule.mend)
 
 
 def explained(source: Source, start: int, end: int, title: str, said: list[str], mend: str) -> list[str]:

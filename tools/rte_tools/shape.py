@@ -42,7 +42,8 @@ def wrong_type(value: Any, wanted: Any) -> str:
     kinds = wanted if isinstance(wanted, list) else [wanted]
     if any(is_of(value, kind) for kind in kinds):
         return ""
-    return f"{spelled(value)} is not {' or '.join(TYPES[kind][1] for kind in kinds)}"
+    said = f"the text {spelled(value)}" if isinstance(value, str) else spelled(value)
+    return f"{said} is not {' or '.join(TYPES[kind][1] for kind in kinds)}"
 
 
 def not_listed(value: Any, wanted: list) -> str:

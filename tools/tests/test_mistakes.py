@@ -44,21 +44,21 @@ IN_DESCRIPTIONS = {
     "a server that is not mapped": Mistake(
         "refused rule 28 at computer.OnSetMean",
         '{"kind":"OperationInvokedEvent","shortName":"OnSetMean","runnable":"SetMean","port":"service","operation":"setMean"}',
-        ("Mend: map the event to a task, or let the runnable be invoked concurrently.",),
+        ("The environment calls the operation", "Mend: map the event to a task."),
         (('{"instance":"computer","event":"OnSetMean","task":"Trip","position":0},\n   ', ""),),
         example="trip_computer",
     ),
     "a mode that the group has not": Mistake(
         "refused rule 17 at /components/0/behavior/runnables/0/program/1/3/0",
         '["switch","power","Parking","s"]',
-        ("Mend: declare the access",),
+        ("has no mode `Parking`; the nearest one is `Parked`.", "Mend: name a mode of the group: `Parked`, `Driving`."),
         (('["switch","power","Parked","s"]', '["switch","power","Parking","s"]'),),
         example="power_modes",
     ),
     "the wrong direction": Mistake(
         "refused rule 16 at /components/1/behavior/runnables/0/accesses/0",
         '["write","i","v"]',
-        ("`i` is an R-port, which requires the unqueued element `v`.", "Mend: use the access of the port's side"),
+        ("`i` is an R-port, which requires the unqueued element `v`.", "Mend: use `read` or "),
         ((READS, '"accesses":[["write","i","v"]],\n     "program":[["write","i","v",[7],"s"]]'),),
     ),
     "the wrong direction, in the statement alone": Mistake(
@@ -70,7 +70,7 @@ IN_DESCRIPTIONS = {
     "a connector turned round": Mistake(
         "refused rule 11 at /compositions/0/connectors/0",
         '"provider":["r","i"]',
-        ("Mend: name the P-port as `provider`",),
+        ("`r.i` is an R-port", "Mend: exchange `provider` and `requester`."),
         (('"provider":["w","o"],"requester":["r","i"]', '"provider":["r","i"],"requester":["w","o"]'),),
     ),
     "an event that is not mapped": Mistake(
