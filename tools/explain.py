@@ -2,14 +2,16 @@
 """Runs the program and explains its refusal.
 
     tools/explain.py DESCRIPTION SCRIPT
+    tools/explain.py DESCRIPTION
     tools/explain.py --trace TRACE DESCRIPTION SCRIPT
 
 What the program prints is printed unchanged. Where it refuses, the line that it names follows with a caret, the rule or
 cause and its mend, as docs/FORMAT.md has them, and what else can be said.
 
-The status is the program's. With --said the program is not run: what it printed is read from a file, and the status is
-the one that belongs to it. With --trace the program checks a trace: the line of a verdict such as `illegal 14 D6` or
-`bad line 20` follows, with what the bus would have answered there.
+The status is the program's, and 126 where the program cannot be run. Without SCRIPT the program prints the plan. With
+--trace it checks a trace: the line of a verdict such as `illegal 14 D6` or `bad line 20` follows, with what the bus would
+have answered there. With --said the program is not run: what it printed is read from a file, and the status is the one
+that belongs to it, or 2 where this file is not read.
 """
 
 from __future__ import annotations
@@ -23,6 +25,7 @@ from pathlib import Path
 from typing import IO
 
 from rte_tools.explaining import explain
+from rte_tools.files import Unfit, read_file
 from rte_tools.refusal import Refusal, read_refusal
 
 LAUNCHER = Path(__file__).resolve().parents[1] / "rte"
@@ -32,7 +35,7 @@ LONGEST_REFUSAL = 4096  # bytes of a first line that may be a refusal
 def arguments() -> argparse.Namespace:
     parser = argparse.ArgumentParser(description=__doc__, formatter_class=argparse.RawDescriptionHelpFormatter)
     parser.add_argument("description", help="the description, a JSON file")
-    parser.add_argument("script", help="the script")
+    parser.add_argument("script", nargs="?", default="", help="the script")
     parser.add_argument(
         "--program",
         default=os.environ.get("RTE", str(LAUNCHER)),
@@ -40,7 +43,10 @@ def arguments() -> argparse.Namespace:
     )
     parser.add_argument("--said", metavar="FILE", help="a file with what the program printed; - is standard input")
     parser.add_argument("--trace", metavar="TRACE", default="", help="check this trace, in place of running the script")
-    return parser.parse_args()
+    words = parser.parse_args()
+    if words.trace and not words.script:
+        parser.error("--trace needs DESCRIPTION and SCRIPT")
+    return words
 
 
 def pass_through(printed: IO[bytes]) -> Refusal | None:
@@ -64,18 +70,24 @@ def read_said(path: str) -> tuple[Refusal | None, int]:
     if path == "-":
         refusal = pass_through(sys.stdin.buffer)
     else:
+        read_file(path)
         with open(path, "rb") as file:
             refusal = pass_through(file)
     return refusal, refusal.status if refusal else 0
+
+
+def command(words: argparse.Namespace) -> list[str]:
+    """The words for the program."""
+    if words.trace:
+        return ["check", words.description, words.trace, words.script]
+    return ["run", words.description, words.script] if words.script else ["plan", words.description]
 
 
 def main() -> int:
     words = arguments()
     try:
         if words.said is None:
-            files = [words.description, words.script]
-            command = ["check", files[0], words.trace, files[1]] if words.trace else ["run", *files]
-            refusal, status = run([words.program, *command])
+            refusal, status = run([words.program, *command(words)])
         else:
             refusal, status = read_said(words.said)
         if refusal and refusal.status == status:
@@ -83,8 +95,11 @@ def main() -> int:
             sys.stdout.buffer.write(explained.encode("utf-8", errors="replace"))
     except BrokenPipeError:
         return 4
-    except OSError as error:
+    except Unfit as error:
         print(f"explain.py: {error}", file=sys.stderr)
+        return 2
+    except OSError as error:
+        print(f"explain.py: cannot run {words.program}: {error.strerror}", file=sys.stderr)
         return 126
     return status
 

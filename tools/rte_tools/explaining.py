@@ -2,46 +2,70 @@
 
 from __future__ import annotations
 
-import os
 import textwrap
 
 from rte_tools import reference, scripts, verdicts
-from rte_tools.bus_plan import plan_of
+from rte_tools.bus_plan import BusPlan, plan_of
 from rte_tools.description import Description
-from rte_tools.files import Unfit, read_description, read_schema
-from rte_tools.hints import hints
+from rte_tools.files import Unfit, kind_of, read_description, read_file, read_schema, why_unread
+from rte_tools.hints import CHANGED, NOT_THIS_ONE, hints
 from rte_tools.located import NotJson, read_json
 from rte_tools.refusal import Refusal
-from rte_tools.source import Source, read_text
+from rte_tools.source import Source
 from rte_tools.trace import HEADER, read_line
 
-LONGEST = 8_388_608  # bytes of a file
 WIDTH = 110  # of a line of an explanation
+MOST_NAMES = 3  # of those that a foreign trace names
 UNKNOWN = reference.Entry("docs/FORMAT.md does not tell it", "see whether the program and the documents fit together.")
+IS_XML = "This is XML. A description is JSON: docs/AUTOSAR.md leads from ARXML to its keys."
 
 
 def explain(refusal: Refusal, description: str, script: str, trace: str = "") -> list[str]:
-    """The lines that explain a refusal of these files. Without a trace there are two."""
+    """The lines that explain a refusal of these files. Without a trace there are two, or one if there is no script."""
+    try:
+        return explain_read(refusal, description, script, trace)
+    except Unfit as error:
+        return [str(error)]
+
+
+def explain_read(refusal: Refusal, description: str, script: str, trace: str) -> list[str]:
+    """The same. Raises Unfit where a file is not read."""
     if refusal.kind == "words":
         return ["The words were a command and paths, so a path is not UTF-8."]
     if refusal.kind == "not read":
         files = [description, trace, script] if trace else [description, script]
-        return explain_unread(files[refusal.number - 1])
+        return explain_unread(files[refusal.number - 1] if refusal.number <= len(files) else script)
     if refusal.kind in ("bad", "illegal"):
         return explain_trace(refusal, description, trace, script)
     format_text = reference.read_format()
     if refusal.kind == "script":
-        return explain_script(refusal, format_text, description, script)
+        return explain_script(refusal, format_text, description, script, bool(trace))
     rule = reference.rules(format_text).get(refusal.number, UNKNOWN)
-    source = Source.of(description, read_text(description))
+    title = f"rule {refusal.number}: {rule.title}"
+    source = Source.of(description, read_file(description))
     try:
         root = read_json(source.text)
     except NotJson as error:
+        other = exchanged("description", source.text, bool(trace))
+        if other:
+            return explained(source, error.start, error.end, title, *other)
         said = [error.message[0].upper() + error.message[1:] + "."]
-        return explained(source, error.start, error.end, f"rule {refusal.number}: {rule.title}", said, rule.mend)
+        return explained(source, error.start, error.end, title, said, rule.mend)
+    if refusal.number == 1:
+        return [f"{source.where(0)}: {title}", *wrapped(CHANGED)]
     said = hints(refusal.number, source, root, refusal.place, read_schema())
-    title = f"rule {refusal.number}: {rule.title}"
     return explained(source, said.node.start, said.node.end, title, said.sentences, said.mend or rule.mend)
+
+
+def exchanged(wanted: str, text: str, is_check: bool) -> tuple[list[str], str] | None:
+    """What is said, and the mend, where a file is another one than its word wants; else none."""
+    kind = kind_of(text)
+    if kind in ("", wanted):
+        return None
+    if kind == "XML":
+        return [IS_XML], "write the description as JSON."
+    order = "`check` takes DESCRIPTION TRACE SCRIPT" if is_check else "`run` takes DESCRIPTION SCRIPT"
+    return [f"This is a {kind}, and a {wanted} is wanted here."], f"give the words in their order: {order}."
 
 
 def explained(source: Source, start: int, end: int, title: str, said: list[str], mend: str) -> list[str]:
@@ -57,37 +81,41 @@ def wrapped(sentence: str) -> list[str]:
     )
 
 
-def explain_script(refusal: Refusal, format_text: str, description: str, script: str) -> list[str]:
+def explain_script(refusal: Refusal, format_text: str, description: str, script: str, is_check: bool) -> list[str]:
     """A script line, its cause and what is said of it."""
     cause = reference.causes(format_text).get(refusal.number, UNKNOWN)
-    source = Source.of(script, read_text(script))
+    source = Source.of(script, read_file(script))
     if refusal.line > len(source.starts):
         return [f"{script}: there is no line {refusal.line}"]
     line = source.line(refusal.line)
-    words = scripts.script_words(format_text)
-    remark = scripts.remark(refusal.number, line, script, words, typed(description))
     start = source.starts[refusal.line - 1]
-    said = [remark.text] if remark.text else []
     title = f"cause {refusal.number}: the line {cause.title}"
+    other = exchanged("script", source.text, is_check) if refusal.number == 1 else None
+    if other:
+        return explained(source, start, start + len(line), title.partition(":")[0] + ": the line has none of the forms", *other)
+    remark = scripts.remark(refusal.number, line, script, format_text, typed(description))
+    said = [remark.text] if remark.text else []
+    if said and refusal.number == 1:  # the cases that the page lists say no more than this one
+        title = ":".join(title.split(":")[:2])
     return explained(source, start + remark.start, start + remark.end, title, said, cause.mend)
 
 
 def explain_trace(refusal: Refusal, description: str, trace: str, script: str) -> list[str]:
     """A line of a trace, the clause that it breaks, and what the bus would have answered."""
-    source = Source.of(trace, read_text(trace))
-    plan = plan_of(read_json(read_text(description)).plain())
+    source = Source.of(trace, read_file(trace))
     is_there = refusal.line < len(source.starts) or not source.text.endswith("\n") and source.text != ""
     text = source.line(refusal.line) if is_there else None
-    if refusal.kind == "bad":
-        title = "the line is not the one spelling of an entry that fits the description"
-        ends = refusal.line < len(source.starts)
-        said = list(verdicts.explain_bad(text, ends, refusal.line, plan))
-    else:
+    title = "the line is not the one spelling of an entry that fits the description"
+    if refusal.kind == "illegal":
         title = f"D{refusal.number}: {verdicts.CLAUSES.get(refusal.number, UNKNOWN.title)}"
-        before = [source.line(number) for number in range(2, refusal.line)]
-        reading = verdicts.read_before(plan, source.line(1).removeprefix(HEADER), before)
-        line = read_line(refusal.line, text) if text is not None else None
-        said = list(verdicts.explain_illegal(refusal.number, line, reading, read_text(script)))
+    other = exchanged("trace", source.text, True) if refusal.line == 1 else None
+    if other:
+        return explained(source, 0, len(source.line(1)), title, *other)
+    try:
+        plan = plan_of(read_json(read_file(description)).plain())
+        said = [*foreign(source.text, plan), *said_of_trace(refusal, source, text, plan, script)]
+    except (NotJson, *NOT_THIS_ONE):
+        said = ["These are not the files that were checked: one was changed since, or another one was."]
     shown = [f"{trace}:{refusal.line}: {title}"]
     if text is not None:
         start = source.starts[refusal.line - 1]
@@ -95,24 +123,38 @@ def explain_trace(refusal: Refusal, description: str, trace: str, script: str) -
     return shown + [line for sentence in said for line in wrapped(sentence)]
 
 
+def said_of_trace(refusal: Refusal, source: Source, text: str | None, plan: BusPlan, script: str) -> list[str]:
+    """What is said of a line of a trace, or of its end where there is no line."""
+    version = source.line(1).removeprefix(HEADER)
+    if refusal.kind == "bad":
+        ends = refusal.line < len(source.starts)
+        return list(verdicts.explain_bad(text, ends, refusal.line, plan, version))
+    before = [source.line(number) for number in range(2, refusal.line)]
+    reading = verdicts.read_before(plan, version, before)
+    line = read_line(refusal.line, text) if text is not None else None
+    return list(verdicts.explain_illegal(refusal.number, line, reading, read_file(script)))
+
+
+def foreign(text: str, plan: BusPlan) -> list[str]:
+    """That the trace is perhaps one of another description: most of what acts in it is unknown."""
+    known = set(verdicts.actor_names(plan))
+    words = dict.fromkeys(line.split(" ", 1)[0].partition("@")[0] for line in text.split("\n")[1:])
+    actors = [word for word in words if ":" in word or word.count(".") == 2]
+    unknown = [word for word in actors if word not in known]
+    if 2 * len(unknown) <= len(actors):
+        return []
+    names = ", ".join(f"`{name}`" for name in unknown[:MOST_NAMES]) + (", .." if len(unknown) > MOST_NAMES else "")
+    return [f"This is perhaps the trace of another description: this one does not have {names}."]
+
+
 def typed(path: str) -> Description | None:
     """The description of a file, or none where it is not one."""
     try:
         return read_description(path)
-    except (Unfit, OSError):
+    except Unfit:
         return None
 
 
 def explain_unread(path: str) -> list[str]:
     """Why a file may not have been read."""
-    if not os.path.exists(path):
-        why = "there is no such file"
-    elif os.path.isdir(path):
-        why = "this is a folder"
-    elif not os.access(path, os.R_OK):
-        why = "the file may not be read by this user"
-    elif os.path.getsize(path) > LONGEST:
-        why = f"the file has {os.path.getsize(path):,} bytes, and at most {LONGEST:,} are read"
-    else:
-        why = "the file is there now; a read failed, or was interrupted"
-    return [f"{path}: {why}"]
+    return [f"{path}: {why_unread(path) or 'the file is there now; a read failed, or was interrupted'}"]

@@ -3,6 +3,7 @@
 from __future__ import annotations
 
 import json
+import os
 from pathlib import Path
 from typing import Any
 
@@ -10,7 +11,11 @@ from rte_tools.description import Description, described
 from rte_tools.located import NotJson, read_json
 from rte_tools.shape import Shape
 from rte_tools.source import read_text
+from rte_tools.trace import HEADER
 
+LONGEST = 8_388_608  # bytes of a file that the program reads
+BEGINNING = 4096  # characters by which it is seen what a text is
+SCRIPT_WORDS = ("tick", "run", "write", "send", "read", "receive", "ask", "result", "switch", "mode")
 SCHEMA = Path(__file__).resolve().parents[2] / "schema" / "description.schema.json"
 
 
@@ -24,16 +29,50 @@ def read_schema() -> Shape:
 
 
 def read_description(path: str) -> Description:
-    """The description of a file. Raises Unfit where the file is not one by rules 1 to 3, and OSError."""
+    """The description of a file. Raises Unfit where the file is not read, or is not one by rules 1 to 3."""
     return described(read_value(path))
 
 
 def read_value(path: str) -> dict[str, Any]:
     """The value of a file that is a description by rules 1 to 3. Raises as `read_description` does."""
     try:
-        value = read_json(read_text(path)).plain()
+        value = read_json(read_file(path)).plain()
     except NotJson as error:
         raise Unfit(f"{path} is not JSON: {error.message}") from error
     if not read_schema().accepts(value):
         raise Unfit(f"{path} is not a description; tools/lint.py says why")
     return value
+
+
+def why_unread(path: str) -> str:
+    """Why the program may not have read a file, or nothing where it is there, not too long and may be read."""
+    if not os.path.exists(path):
+        return "there is no such file"
+    if os.path.isdir(path):
+        return "this is a folder"
+    if not os.access(path, os.R_OK):
+        return "the file may not be read by this user"
+    if os.path.getsize(path) > LONGEST:
+        return f"the file has {os.path.getsize(path):,} bytes, and at most {LONGEST:,} are read"
+    return ""
+
+
+def read_file(path: str) -> str:
+    """The text of a file. Raises Unfit with one line that says why it is not read."""
+    try:
+        return read_text(path)
+    except OSError as error:
+        raise Unfit(f"cannot read {path}: {why_unread(path) or error.strerror}") from error
+
+
+def kind_of(text: str) -> str:
+    """What a text begins like: `description`, `trace`, `script` or `XML`; or nothing."""
+    if text.startswith(HEADER):
+        return "trace"
+    begin = text[:BEGINNING].lstrip(" \t\r\n\ufeff")
+    if begin.startswith(("{", "[")):
+        return "description"
+    if begin.startswith("<"):
+        return "XML"
+    words = [line.split(" ")[0] for line in begin.splitlines() if line and not line.startswith("#")]
+    return "script" if words and words[0].rstrip("\r") in SCRIPT_WORDS else ""

@@ -3,73 +3,81 @@
 from __future__ import annotations
 
 import re
-from dataclasses import dataclass
 from typing import Iterator
 
-from rte_tools.description import Description, Port
+from rte_tools.description import Description, Item, Port
+from rte_tools.hint_case import counted, quoted
 from rte_tools.names import nearest
 from rte_tools.reference import read_format, section
+from rte_tools.script_forms import Remark, form_remarks, forms
 
-WORD = re.compile(r"^\| `([a-z]+)[ `]", re.MULTILINE)
 NEED = re.compile(r"^\| `([a-z]+) P\.[EO][^|]*\| (an? [^|]+?) \|", re.MULTILINE)
-UNREADABLE = (
-    ("\ufeff", "The script begins with a byte order mark. Save it as UTF-8 without one."),
-    (
-        "\r",
-        "The line ends with a carriage return: the file has the line ends of Windows (CRLF). Save it with newlines "
-        "alone, for instance by `sed -i 's/\\r$//' {path}`.",
-    ),
-    ("\t", "There is a tab. Fields are separated by one space."),
-    ("  ", "There are two spaces. Fields are separated by one."),
-)
+# By whether the port provides and by the kind of the item: with which words a line may name it.
+VERBS = {
+    (False, "data"): ("write",),
+    (False, "queued"): ("send",),
+    (True, "data"): ("read",),
+    (True, "queued"): ("receive",),
+    (True, "operation"): ("ask", "result"),
+    (False, "mode"): ("switch",),
+    (True, "mode"): ("mode",),
+}
 
 
-@dataclass(frozen=True)
-class Remark:
-    """Where in a line, from 0, and what is to be said; the place may be missing."""
-
-    start: int
-    end: int
-    text: str
-
-
-def remark(cause: int, line: str, path: str, words: list[str], description: Description | None) -> Remark:
-    """What is to be said of a line that is refused with a cause."""
+def remark(cause: int, line: str, path: str, text: str, description: Description | None) -> Remark:
+    """What is to be said of a line that is refused with a cause. `text` is that of docs/FORMAT.md."""
     whole = Remark(0, len(line), "")
+    names = outer_items(description) if description else {}
     if cause == 1:
-        return next(form_remarks(line, path, words), whole)
+        return next(form_remarks(line, path, forms(text), names), whole)
     if not description or not re.match(r"[a-z]+ [^ ]+", line):
         return whole
-    start = line.index(" ") + 1
-    target = line[start:].split(" ")[0]
+    word, target, *rest = line.split(" ")
+    start = len(word) + 1
     if cause == 2:
-        return Remark(start, start + len(target), outer_ports(description, line[: start - 1], target))
-    if cause == 3:
-        begin = start + len(target) + 1
-        return Remark(begin, len(line), type_of(description, target))
+        return wrong_name(description, names, Remark(start, start + len(target), ""), line)
+    if cause == 3 and target in names and rest:
+        return wrong_value(description, names[target], Remark(start + len(target) + 1, len(line), ""), line)
     return whole
 
 
-def form_remarks(line: str, path: str, words: list[str]) -> Iterator[Remark]:
-    """Why a line has none of the forms."""
-    for found, text in UNREADABLE:
-        if found in line:
-            at = line.index(found)
-            yield Remark(at, at + len(found), text.format(path=path))
-    if line != line.strip():
-        at = 0 if line[0] == " " else len(line.rstrip())
-        yield Remark(at, at + 1, "There is a space before or after the fields.")
-    word = line.split(" ")[0]
-    if word == "tick" and line.count(" ") == 1:
-        yield Remark(len("tick "), len(line), "A tick is a millisecond, and N is a whole number from 1 to 100,000.")
-    if word not in words:
-        known = ", ".join(f"`{name}`" for name in words)
-        yield Remark(0, len(word), f"A line begins with one of {known}, or with `#`{nearest(word, words)}.")
+def outer_items(description: Description) -> dict[str, tuple[Port, Item]]:
+    """What stands at the outer ports of the root, by `PORT.ITEM`."""
+    root = description.compositions.get(description.root)
+    ports = root.ports.values() if root else []
+    return {f"{port.name}.{name}": (port, item) for port in ports for name, item in description.items(port).items()}
 
 
-def script_words(text: str) -> list[str]:
-    """The words with which a script line begins, by docs/FORMAT.md."""
-    return list(dict.fromkeys(WORD.findall(section(text, "The script"))))
+def verbs(port: Port, item: Item) -> tuple[str, ...]:
+    """The words with which a script line may name an item."""
+    return VERBS.get((port.provides, "queued" if item.queued else item.kind), ())
+
+
+# ---- cause 2
+
+
+def wrong_name(description: Description, names: dict[str, tuple[Port, Item]], place: Remark, line: str) -> Remark:
+    """Which names the script may use, or what the line needs."""
+    verb, target, *rest = line.split(" ")
+    if target not in names:
+        text = f"There is no `{target}`{nearest(target, names)}. {may(names)}"
+        return Remark(place.start, place.end, text)
+    port, item = names[target]
+    if verb == "switch" and verb in verbs(port, item) and rest:
+        group = description.mode_groups.get(item.type)
+        modes = group.modes if group else ()
+        text = f"`{target}` has no mode `{rest[0]}`{nearest(rest[0], modes)}. Its modes are {quoted(modes)}."
+        return Remark(place.end + 1, len(line), text)
+    need = needs(read_format()).get(verb)
+    fits = " or ".join(f"`{word}`" for word in verbs(port, item))
+    side = "a P-port" if port.provides else "an R-port"
+    text = f"`{target}` is {named(item)} of {side}" + (f", which is for {fits}." if fits else ".")
+    return Remark(place.start, place.end, text + (f" `{verb}` needs {need}." if need else ""))
+
+
+def named(item: Item) -> str:
+    kinds = {"data": "an unqueued element", "operation": "an operation", "mode": "a mode element"}
+    return "a queued element" if item.queued else kinds[item.kind]
 
 
 def needs(text: str) -> dict[str, str]:
@@ -77,32 +85,46 @@ def needs(text: str) -> dict[str, str]:
     return dict(NEED.findall(section(text, "The script")))
 
 
-def outer_ports(description: Description, verb: str, target: str) -> str:
-    """Which outer ports there are, or what the line needs."""
-    root = description.compositions.get(description.root)
-    names = {f"{port.name}.{item}": port for port in root.ports.values() for item in description.items(port)}
-    if target in names:
-        side = "a P-port, which is read" if names[target].provides else "an R-port, which is written"
-        need = needs(read_format()).get(verb)
-        return f"`{target}` belongs to {side}." + (f" `{verb}` needs {need}." if need else "")
-    return (
-        f"There is no `{target}`{nearest(target, names)}. {listed('write', names, False)} {listed('read', names, True)}"
-    )
+def may(names: dict[str, tuple[Port, Item]]) -> str:
+    """What the script may do: `write` of these, `read` of those."""
+    by_verb: dict[str, list[str]] = {}
+    for name, (port, item) in names.items():
+        for verb in verbs(port, item)[:1]:
+            by_verb.setdefault(verb, []).append(name)
+    said = "; ".join(f"{verb} {quoted(found)}" for verb, found in by_verb.items())
+    return f"The script may {said}." if said else "The root has no outer port, so the script may name nothing."
 
 
-def listed(verb: str, names: dict[str, Port], provides: bool) -> str:
-    """What the script may write or read."""
-    found = ", ".join(f"`{name}`" for name, port in names.items() if port.provides == provides)
-    return f"The script may {verb} {found or 'nothing'}."
+# ---- cause 3
 
 
-def type_of(description: Description, target: str) -> str:
-    """How many words an element has."""
-    port_name, _, item_name = target.partition(".")
-    port = description.compositions[description.root].ports.get(port_name)
-    item = description.items(port).get(item_name) if port else None
-    held = description.types.get(item.type) if item else None
-    if not held:
-        return ""
-    words = "one word" if held.words == 1 else f"{held.words} words"
-    return f"`{target}` has the type `{held.name}`: {words}, each from {held.lower} to {held.upper}."
+def wrong_value(description: Description, named_thing: tuple[Port, Item], place: Remark, line: str) -> Remark:
+    """How many words a value has to have, or which word is outside of its limits."""
+    _, target, value = line.split(" ")[:3]
+    port, item = named_thing
+    limits = list(limits_of(description, item))
+    words = [] if value == "-" else value.split(",")
+    what = "`in` argument" if item.kind == "operation" else "word"
+    text = f"`{target}` has {counted(len(limits), what)}" + (f": {'; '.join(spans(limits))}." if limits else ": its value is `-`.")
+    if len(words) != len(limits):
+        return Remark(place.start, place.end, f"{text} The line gives {len(words)}.")
+    at = place.start
+    for word, (_, low, high) in zip(words, limits):
+        if not low <= int(word) <= high:
+            return Remark(at, at + len(word), f"{text} {word} is {'less' if int(word) < low else 'more'} than that.")
+        at += len(word) + 1
+    return Remark(place.start, place.end, text)
+
+
+def limits_of(description: Description, item: Item) -> Iterator[tuple[str, int, int]]:
+    """The name of the argument, or of the type, and the limits of each word."""
+    arguments = item.names("in") if item.kind == "operation" else [""]
+    for argument in arguments:
+        held = description.types.get(item.arguments[argument] if argument else item.type)
+        for _ in range(held.words if held else 0):
+            yield argument or held.name, held.lower, held.upper
+
+
+def spans(limits: list[tuple[str, int, int]]) -> list[str]:
+    """`T` from 0 to 9; of a type its words are told once."""
+    return [f"`{name}` from {low} to {high}" for name, low, high in dict.fromkeys(limits)]

@@ -232,24 +232,36 @@ def not_due(event, bus: Bus) -> str:
 # ---- lines without a reading
 
 
-def explain_bad(text: str | None, ends: bool, number: int, plan: BusPlan) -> Iterator[str]:
+def explain_bad(text: str | None, ends: bool, number: int, plan: BusPlan, version: str = "2") -> Iterator[str]:
     """Sentences on a line that spells no entry of the description."""
     if text is None:
         yield "There is no such line."
+    elif "\r" in text:
+        yield "It ends with a carriage return: the file has the line ends of Windows (CRLF). Lines end by a newline alone."
+    elif text.startswith("\ufeff"):
+        yield "The trace begins with a byte order mark. Save it as UTF-8 without one."
     elif number == 1:
         yield f"The first line is `{HEADER}1` or `{HEADER}2`."
     elif not ends:
         yield "The line has no newline at its end: the trace was cut, or its last newline is missing."
     elif len(text.encode("utf-8", "surrogateescape")) > LONGEST_LINE:
         yield f"It has more than {LONGEST_LINE:,} bytes."
-    elif "\r" in text:
-        yield "It ends with a carriage return. Lines end by a newline alone."
     elif text == "":
         yield "It is empty. A trace has no empty lines."
     elif text != " ".join(text.split()):
         yield "Fields stand one space apart, with none before or behind them."
     else:
+        yield from of_version(read_line(number, text), version)
         yield from misfits(read_line(number, text), plan)
+
+
+def of_version(line: Line, version: str) -> Iterator[str]:
+    """That a mode is spelled as in the other version."""
+    mode = line.part("mode")
+    if mode and version == "1" and not mode.isdigit():
+        yield f"The header is `{HEADER}1`, in which a mode stands by its number. `{mode}` is that of `{HEADER}2`."
+    if mode and version == "2" and mode.isdigit():
+        yield f"The header is `{HEADER}2`, in which a mode stands by its name. `{mode}` is that of `{HEADER}1`."
 
 
 def misfits(line: Line, plan: BusPlan) -> Iterator[str]:

@@ -131,7 +131,7 @@ IN_SCRIPTS = {
     "a value outside the limits": Mistake(
         "script refused line 1 cause 3",
         "",
-        ("`key.locked` has the type `Flag`: one word, each from 0 to 1.", "Mend: "),
+        ("`key.locked` has one word: `Flag` from 0 to 1. 2 is more than that.", "Mend: "),
         script="write key.locked 2\n",
         example="door_control",
     ),

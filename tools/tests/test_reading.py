@@ -9,7 +9,8 @@ from rte_tools.files import read_schema
 from rte_tools.located import NotJson, read_json
 from rte_tools.reference import causes, read_format, rules
 from rte_tools.refusal import pointer_of, read_refusal
-from rte_tools.scripts import script_words
+from rte_tools.files import SCRIPT_WORDS
+from rte_tools.script_forms import forms
 from rte_tools.source import Source
 
 # Texts that are not JSON: what is said, and where.
@@ -92,7 +93,9 @@ class Format(unittest.TestCase):
         self.assertTrue(all(cause.title and cause.mend for cause in found.values()))
 
     def test_script_words(self) -> None:
-        self.assertTrue({"tick", "run", "write", "read", "send", "receive", "ask", "result", "switch", "mode"} <= set(script_words(read_format())))
+        found = forms(read_format())
+        self.assertEqual(set(found), set(SCRIPT_WORDS))
+        self.assertEqual((found["run"], found["switch"], found["tick"]), ((), ("P.O", "MODE"), ("N",)))
 
 
 class Places(unittest.TestCase):
