@@ -7,12 +7,13 @@ For each case it runs COMMAND DESCRIPTION TRACE SCRIPT, and compares the one lin
 verdict of the case. It prints the cases that differ, and how many there are. The cases run side by side; how far it is goes to
 standard error, if that is a terminal.
 
-The status is 0 if none differs, else 1.
+The status is 0 if none differs, 1 if one does, and 2 if COMMAND cannot be run.
 """
 
 from __future__ import annotations
 
 import argparse
+import shutil
 import subprocess
 import sys
 from concurrent.futures import ThreadPoolExecutor
@@ -58,6 +59,9 @@ def differences(command: list[str], cases: list[Case]) -> list[str]:
 
 def main() -> int:
     words = arguments()
+    if not shutil.which(words.command[0]):
+        print(f"corpus.py: cannot run {words.command[0]}: there is no such command", file=sys.stderr)
+        return 2
     cases = all_cases()
     found = differences(words.command, cases)
     for line in found:

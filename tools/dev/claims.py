@@ -13,7 +13,7 @@ Without a document it reads README.md and, if it is there, docs/PROVED.md. It lo
   - sentences with 'clause `c` of `f`', and with '`f` of `crate`'
   - files in backquotes that end in .rt, .antt, .py, .sh, .md, .json or .txt
 
-The status is 0 where all of it exists, else 1.
+The status is 0 where all of it exists, 1 where something does not, and 2 where a document is not read.
 """
 
 # flake8: noqa: E402
@@ -27,6 +27,7 @@ sys.path.insert(0, str(Path(__file__).resolve().parents[1]))
 
 from rte_tools.claims import Document
 from rte_tools.contracts import crates_in
+from rte_tools.files import Unfit, read_file
 
 TOP = Path(__file__).resolve().parents[2]
 DOCUMENTS = ("README.md", "docs/PROVED.md")
@@ -37,10 +38,15 @@ def main() -> int:
     parser.add_argument("documents", nargs="*", help="the documents; README.md and docs/PROVED.md without any")
     words = parser.parse_args()
     paths = [Path(path) for path in words.documents] or [TOP / name for name in DOCUMENTS if (TOP / name).exists()]
+    try:
+        texts = [read_file(str(path)) for path in paths]
+    except Unfit as error:
+        print(f"claims.py: {error}", file=sys.stderr)
+        return 2
     crates = crates_in(TOP / "crates")
     wrong = checked = 0
-    for path in paths:
-        document = Document(TOP, crates, path.read_text(encoding="utf-8"))
+    for path, text in zip(paths, texts):
+        document = Document(TOP, crates, text)
         for number, message in document.check():
             print(f"{path}:{number}: {message}")
             wrong += 1

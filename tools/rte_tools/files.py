@@ -16,7 +16,9 @@ from rte_tools.trace import HEADER
 LONGEST = 8_388_608  # bytes of a file that the program reads
 BEGINNING = 4096  # characters by which it is seen what a text is
 SCRIPT_WORDS = ("tick", "run", "write", "send", "read", "receive", "ask", "result", "switch", "mode")
-SCHEMA = Path(__file__).resolve().parents[2] / "schema" / "description.schema.json"
+TOP = Path(__file__).resolve().parents[2]
+SCHEMA = TOP / "schema" / "description.schema.json"
+BUILT = TOP / "crates" / "rte" / "out" / "rte"
 
 
 class Unfit(Exception):
@@ -76,3 +78,9 @@ def kind_of(text: str) -> str:
         return "XML"
     words = [line.split(" ")[0] for line in begin.splitlines() if line and not line.startswith("#")]
     return "script" if words and words[0].rstrip("\r") in SCRIPT_WORDS else ""
+
+
+def built_program() -> str | None:
+    """The program: what the variable RTE names, or what `./rte` built; or none. Nothing is built here."""
+    named = os.environ.get("RTE")
+    return named or (str(BUILT) if os.access(BUILT, os.X_OK) else None)

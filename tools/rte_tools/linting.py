@@ -2,16 +2,17 @@
 
 from __future__ import annotations
 
-from dataclasses import dataclass
 from typing import Iterator
 
 from rte_tools.description import ComSpec, Component, Composition, Description, Item, Port
+from rte_tools.finding import Finding
 from rte_tools.joins import Joins
+from rte_tools.linting_programs import SERVER_EVENT, program_values
+from rte_tools.linting_tasks import task_findings
 from rte_tools.names import nearest
 from rte_tools.programs import Use, use_of
 
 VALUE_KEYS = ("initValue", "handleNeverReceived")
-SERVER_EVENT = "OperationInvokedEvent"
 
 # What comes of a port that is not connected, by whether it provides and by the kind of its items.
 COMES_OF_NO_JOIN = {
@@ -24,18 +25,10 @@ COMES_OF_NO_JOIN = {
 }
 
 
-@dataclass(frozen=True)
-class Finding:
-    """A place and what is to be said of it."""
-
-    place: str
-    text: str
-
-
 def warnings(description: Description) -> list[Finding]:
     """All findings, by their kinds."""
     found: list[Finding] = []
-    for check in (unconnected_ports, idle_outer_ports, unstarted, empty_tasks, programs, results, com_specs, unused):
+    for check in CHECKS:
         found += check(description)
     return found
 
@@ -189,3 +182,17 @@ def not_named(kind: str, declared: dict, named: set[str]) -> Iterator[Finding]:
     for name, held in declared.items():
         if name not in named:
             yield Finding(held.place, f"nothing uses the {kind} `{name}`: take it out")
+
+
+CHECKS = (
+    unconnected_ports,
+    idle_outer_ports,
+    unstarted,
+    empty_tasks,
+    programs,
+    program_values,
+    task_findings,
+    results,
+    com_specs,
+    unused,
+)

@@ -37,7 +37,10 @@ CASES = {
     ),
     "a variable that is never set": (
         [('["write","o","v",[7],"s"]', '["set","value",7],["write","o","v",["valeu"],"s"]')],
-        [("the variable `valeu` is read and never set, so it is 0; the nearest one is `value`", '"valeu"')],
+        [
+            ("the variable `value` is set and never read; the nearest one is `valeu`", '"valeu"'),
+            ("the variable `valeu` is read and never set, so it is 0; the nearest one is `value`", '"valeu"'),
+        ],
     ),
     "a result that nobody takes": (
         [
@@ -82,8 +85,11 @@ class Lint(unittest.TestCase):
         for folder in EXAMPLES:
             self.assertEqual(lint(Source.of("d", text_of(folder / "description.json"))), ([], 0), folder.name)
 
-    def test_no_warning_on_the_description_with_everything(self) -> None:
-        self.assertEqual(lint(Source.of("d", text_of(DATA / "bases" / "whole" / "description.json"))), ([], 0))
+    def test_the_description_with_everything(self) -> None:
+        """Its giver sends two values at each start, and its taker receives one."""
+        found, status = lint(Source.of("d", text_of(DATA / "bases" / "whole" / "description.json")))
+        self.assertEqual((len(found), status), (1, 1))
+        self.assertIn("`Take` takes one value at each start", found[0])
 
     def test_each_warning(self) -> None:
         base = text_of(DATA / "examples" / "one_writer" / "description.json")
