@@ -159,7 +159,7 @@ def circle(case: Case) -> Iterator[str]:
     found = shortest_circle(list(waits(case)))
     if not found:
         return
-    yield Spot(found[0].place)
+    yield Spot(f"{found[0].place}/task")
     if len(found) == 1:
         edge = found[0]
         yield f"Task `{edge.task}` waits for itself: `{edge.caller}` calls `{edge.called}`, which `{edge.server}` serves in the same task."

@@ -169,9 +169,10 @@ def in_two_tasks(tasks: Tasks, node: Instance, variable: str, held: list[Touch])
             pair = next(((task, its) for task in sorted(one) for its in sorted(two) if task != its), None)
             if pair:
                 who = f"`{update.runnable}` reads and writes the variable `{variable}`"
-                also = "it" if other == update else f"`{other.runnable}` writes it"
-                where = f"may run in the tasks `{pair[0]}` and `{pair[1]}` at once" if other == update else f"in another task (`{pair[0]}`, `{pair[1]}`)"
-                text = f"{who}, and {also} {where}, outside of a common area, so a write may be lost"
+                also = f"`{other.runnable}` writes it in another task (`{pair[0]}`, `{pair[1]}`)"
+                if other == update:
+                    also = f"it may run in the tasks `{pair[0]}` and `{pair[1]}` at once"
+                text = f"{who}, and {also}, outside of a common area, so a write may be lost"
                 yield Finding(update.place, f"{text}: put the accesses of each into one `area`, explicit ones")
 
 

@@ -86,6 +86,12 @@ class Launcher(WithFolder):
         said = self.run_words("not read 1", 3, "plan", str(closed))
         self.assertIn("it may not be read by this user", said)
 
+    def test_words_that_are_refused(self) -> None:
+        for words in ((), ("walk",), ("run", self.description), ("soak", "0"), ("soak", "65")):
+            said = self.run_words("words refused", 2, *words)
+            self.assertIn("usage: ./rte run DESCRIPTION SCRIPT", said)
+            self.assertIn("./rte soak N                    runs N pairs of its own making, 1 to 64", said)
+
     def test_output_that_failed(self) -> None:
         said = self.run_words("cut", 4, "plan", self.description)
         self.assertEqual(said, "rte: the output could not be written to its end.\n")
