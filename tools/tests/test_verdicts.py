@@ -90,6 +90,12 @@ class Verdicts(WithFolder):
                 self.assertEqual(bus.may_step(), "")
             bus.note(read_line(line.number, line.text))
 
+    def test_a_trace_of_another_description(self) -> None:
+        case, other = CASES["foreign_value_read"], CASES["two_cores"]
+        lines = explain(read_refusal("bad line 13"), str(case.description), str(case.script), str(other.trace))
+        self.assertIn("This is perhaps the trace of another description: this one does not have `pump:Fill`, `gauge:Look`.", " ".join(lines))
+        self.assertNotIn("another description", " ".join(explained(case)))
+
     def test_the_tool_explains_a_verdict(self) -> None:
         case = CASES["foreign_value_read"]
         said = self.write("said", f"{case.verdict}\n")
