@@ -5,13 +5,14 @@
     tools/explain.py DESCRIPTION
     tools/explain.py --trace TRACE DESCRIPTION SCRIPT
 
-What the program prints is printed unchanged. Where it refuses, the line that it names follows with a caret, the rule or
-cause and its mend, as docs/FORMAT.md has them, and what else can be said.
+What the program prints is printed unchanged. If it refuses, the line that it names follows with a caret, the rule or cause,
+what can be said of this case, and how to mend it.
 
-The status is the program's, and 126 where the program cannot be run. Without SCRIPT the program prints the plan. With
---trace it checks a trace: the line of a verdict such as `illegal 14 D6` or `bad line 20` follows, with what the bus would
-have answered there. With --said the program is not run: what it printed is read from a file, and the status is the one
-that belongs to it, or 2 where this file is not read.
+Without SCRIPT the program prints the plan. With --trace it checks a trace: the line of a verdict such as `illegal 14 D6` or
+`bad line 20` follows, with what the bus would have answered there.
+
+The status is the program's, 126 if the program cannot be run, and 2 if the words are wrong. With --said the program is not
+run: what it printed is read from a file, and the status is the one that belongs to it.
 """
 
 from __future__ import annotations

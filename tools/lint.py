@@ -3,14 +3,20 @@
 
     tools/lint.py DESCRIPTION [SCRIPT]
 
-Each warning is a line `FILE:LINE:COLUMN: TEXT`: ports that are not connected, runnables without an event, tasks without
-events, variables that are read and never set or set and never read, `out` arguments that are never set, codes that an
-operation does not declare, values that are clamped in any case, events that are disabled in every mode, queues of which
-a start takes one value, variables of which a write may be lost, accesses, com specs and types that nothing uses, keys
-that stand twice. Of a script: that nothing runs. The program accepts all of these. What it refuses, tools/explain.py
-explains.
+Each warning is a line `FILE:LINE:COLUMN: TEXT`. It warns of
 
-The status is 0 without a warning, 1 with one, and 2 where a file is not read or is not a description.
+  - ports that are not connected, runnables without an event, tasks without events
+  - variables that are read and never set, or set and never read
+  - `out` arguments that are never set, and an `error` that the operation does not declare
+  - values that are clamped in any case
+  - events that are disabled in every mode
+  - a queue of which each start takes one value, and a variable of which a write may be lost
+  - accesses, com specs and types that nothing uses, and keys that stand twice
+  - a script that runs nothing, or nothing after a line
+
+The program accepts all of these. What it refuses, tools/explain.py explains.
+
+The status is 0 without a warning, 1 with one, and 2 if a file is not read or is not a description.
 """
 
 from __future__ import annotations

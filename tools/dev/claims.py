@@ -13,7 +13,7 @@ Without a document it reads README.md and, if it is there, docs/PROVED.md. It lo
   - sentences with 'clause `c` of `f`', and with '`f` of `crate`'
   - files in backquotes that end in .rt, .antt, .py, .sh, .md, .json or .txt
 
-The status is 0 where all of it exists, 1 where something does not, and 2 where a document is not read.
+The status is 0 if all of it exists, 1 if something does not, and 2 if a document is not read.
 """
 
 # flake8: noqa: E402

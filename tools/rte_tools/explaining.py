@@ -92,11 +92,11 @@ def explain_script(refusal: Refusal, format_text: str, description: str, script:
     title = f"cause {refusal.number}: the line {cause.title}"
     other = exchanged("script", source.text, is_check) if refusal.number == 1 else None
     if other:
-        return explained(source, start, start + len(line), title.partition(":")[0] + ": the line has none of the forms", *other)
+        return explained(source, start, start + len(line), f"cause 1: the line {cause.title.partition(':')[0]}", *other)
     remark = scripts.remark(refusal.number, line, script, format_text, typed(description))
     said = [remark.text] if remark.text else []
-    if said and refusal.number == 1:  # the cases that the page lists say no more than this one
-        title = ":".join(title.split(":")[:2])
+    if said and refusal.number == 1:  # the ways that the page lists say no more than this one
+        title = f"cause 1: the line {cause.title.partition(':')[0]}"
     return explained(source, start + remark.start, start + remark.end, title, said, cause.mend)
 
 

@@ -27,6 +27,10 @@ def event_at(case: Case) -> Event:
     return case.component().events[case.node.plain()["shortName"]]
 
 
+def article(kind: str) -> str:
+    return "an" if kind[0] in "AIO" else "a"
+
+
 def port_text(case: Case, port: Port) -> str:
     """`in` is an R-port with the queued element `v`."""
     side = "a P-port" if port.provides else "an R-port"
@@ -46,7 +50,7 @@ def wrong_port(case: Case) -> Iterator[str]:
     item = items.get(event.keys.get("element", event.keys.get("operation", ""))) or next(iter(items.values()), None)
     if port.provides != provides or not item or item.kind != kind:
         yield port_text(case, port)
-        yield f"A {event.kind} needs {wanted}." if not event.kind.startswith(("Op", "As")) else f"An {event.kind} needs {wanted}."
+        yield f"{article(event.kind).capitalize()} {event.kind} needs {wanted}."
         yield Mend("name such a port, or take another kind of event.")
         return
     yield from unknown_mode(case, port, event.keys.get("modes", []))
@@ -114,7 +118,7 @@ def not_disabled(case: Case) -> Iterator[str]:
     disabled = event.keys.get("disabledInModes", {})
     yield Spot(f"{case.place}/disabledInModes")
     if event.kind not in DISABLED:
-        yield f"Modes do not disable a {event.kind}." if event.kind[0] not in "AO" else f"Modes do not disable an {event.kind}."
+        yield f"Modes do not disable {article(event.kind)} {event.kind}."
         yield Mend("take `disabledInModes` out, and ask for the mode in the program.")
         return
     ports = case.component().ports

@@ -34,7 +34,8 @@ def contains_itself(case: Case) -> Iterator[str]:
         name, ways = own.name, []
         while not ways or name != own.name:
             name, prototype = above[name]
-            ways.append(f"`{name}` has the prototype `{prototype}` of `{case.description.compositions[name].prototypes[prototype].of}`")
+            of = case.description.compositions[name].prototypes[prototype].of
+            ways.append(f"`{name}` has the prototype `{prototype}` of `{of}`")
         yield ", and ".join(reversed(ways)) + "."
 
 
@@ -87,8 +88,8 @@ def wrong_ends(case: Case) -> Iterator[str]:
     if not all(ports):
         return
     is_assembly = connector.kind == "AssemblySwConnector"
-    fits = (ports[0].provides, ports[1].provides) == (True, False) if is_assembly else ports[0].provides == ports[1].provides
-    if fits:
+    provides = (ports[0].provides, ports[1].provides)
+    if provides == (True, False) if is_assembly else provides[0] == provides[1]:
         first = next(held for held in composition.connectors if same(held, connector))
         yield f"It joins what the connector at {case.line(first.place)} joins."
         yield Mend("drop it.")
@@ -173,7 +174,7 @@ def operation_difference(description: Description, held: Item, item: Item) -> It
         yield from type_difference(description, what, held.arguments[one], item.arguments[other])
     for error, code in held.errors.items():
         if item.errors.get(error) != code:
-            yield f"`{item.name}` may return the error `{error}` with the code {code}, which the required one does not declare."
+            yield f"`{item.name}` may return the error `{error}` (code {code}), which the required one does not declare."
 
 
 def mode_difference(description: Description, given: Interface, wanted: Interface) -> Iterator[str]:

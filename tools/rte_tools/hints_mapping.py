@@ -102,7 +102,8 @@ class Wait:
     may_be_direct: bool  # whether the server may run in its caller's task
 
     def text(self) -> str:
-        return f"Task `{self.task}` waits for `{self.other}`: `{self.caller}` calls `{self.called}`, which `{self.server}` serves."
+        calls = f"`{self.caller}` calls `{self.called}`, which `{self.server}` serves"
+        return f"Task `{self.task}` waits for `{self.other}`: {calls}."
 
 
 def waits(case: Case) -> Iterator[Wait]:
@@ -117,7 +118,7 @@ def waits(case: Case) -> Iterator[Wait]:
     for node in description.instances():
         for runnable in node.type.runnables.values():
             calls = [access for access in runnable.accesses if access[0] == "call"]
-            events = [held.name for held in node.type.events.values() if held.runnable == runnable.name] if calls else []
+            events = [held.name for held in node.type.events.values() if calls and held.runnable == runnable.name]
             tasks = {mapped[node.path, name].task for name in events if (node.path, name) in mapped}
             for access in calls:
                 group = case.joins.group(End(node.path, access[1], access[2]))
@@ -162,7 +163,8 @@ def circle(case: Case) -> Iterator[str]:
     yield Spot(f"{found[0].place}/task")
     if len(found) == 1:
         edge = found[0]
-        yield f"Task `{edge.task}` waits for itself: `{edge.caller}` calls `{edge.called}`, which `{edge.server}` serves in the same task."
+        calls = f"`{edge.caller}` calls `{edge.called}`, which `{edge.server}` serves in the same task"
+        yield f"Task `{edge.task}` waits for itself: {calls}."
         none = ", or to none" if edge.may_be_direct else ""
         yield Mend(f"map the server to another task than `{edge.task}`{none}; or call by `acall`.")
         return

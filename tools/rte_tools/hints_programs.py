@@ -108,7 +108,7 @@ def wrong_words(case: Case, statement: list) -> Iterator[str]:
     given = next((part for part in statement[2:] if isinstance(part, list)), None)
     if data_type and given is not None:
         has = counted(data_type.words, "word")
-        yield f"Its access is declared. The statement has {len(given)} in place of {has}, as its type `{data_type.name}` has."
+        yield f"Its access is declared. The statement has {len(given)} in place of {has}, as its type `{data_type.name}`."
         yield f"The type: {limits_text(data_type)}."
         yield Mend("give one expression or variable for each word.")
 
@@ -158,7 +158,7 @@ def too_costly(case: Case) -> Iterator[str]:
         return
     use = use_of(program, "")
     names = {*use.reads, *use.sets, *of_server(case)}
-    yield f"It has {len(names)} variables, those of the server's operation with it, and at most {MOST_VARIABLES} may be there."
+    yield f"It has {len(names)} variables, with those of the operation that it serves; {MOST_VARIABLES} may be there."
     yield Mend("use variables again.")
 
 

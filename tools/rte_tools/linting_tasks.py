@@ -35,8 +35,9 @@ def always_disabled(description: Description) -> Iterator[Finding]:
             item = next(iter(description.items(port).values()), None) if port else None
             group = description.mode_groups.get(item.type) if item and item.kind == "mode" else None
             if group and set(group.modes) <= set(disabled.get("modes", [])):
-                text = f"the event `{event.name}` is disabled in every mode of `{group.name}`, so it never lets `{event.runnable}` run"
-                yield Finding(f"{event.place}/disabledInModes", f"{text}: leave a mode out, or take the event out")
+                text = f"the event `{event.name}` is disabled in every mode of `{group.name}`"
+                comes = f"so it never lets `{event.runnable}` run: leave a mode out, or take the event out"
+                yield Finding(f"{event.place}/disabledInModes", f"{text}, {comes}")
 
 
 # ---- queues
@@ -79,8 +80,9 @@ def values_that_stay(description: Description) -> Iterator[Finding]:
 def stays(runnable: Runnable, name: tuple[str, str], length: int) -> Iterator[Finding]:
     """The same, of the queue that starts a runnable."""
     if length > 1 and most_receives(runnable.program, name) == 1:
-        text = f"`{runnable.name}` takes one value at each start from the queue of `{name[0]}`.`{name[1]}`, which holds {length}"
-        rest = "a start that waits is a flag, so several values may start it once, and the others stay"
+        queue = f"the queue of `{name[0]}`.`{name[1]}`, which holds {length}"
+        text = f"`{runnable.name}` takes one value at each start from {queue}"
+        rest = "a pending start is a flag, so several values may start it once, and the others stay"
         all_statements = statements(runnable.program, f"{runnable.place}/program")
         place = next(at for at, held in all_statements if held[:3] == ["receive", *name])
         yield Finding(place, f"{text}; {rest}: receive in a `repeat`")
@@ -200,13 +202,13 @@ class Tasks:
         return found
 
     def of_callers(self, node: Instance, event: Event) -> set[str]:
-        """The tasks of the runnables that call the operation of an event. They serve nothing without being mapped (rule 28)."""
+        """The tasks of the runnables that call the operation of an event. By rule 28 these are mapped."""
         group = self.joins.group(End(node.path, event.keys["port"], event.keys["operation"]))
         found = set()
         for end in group.required if group else []:
             caller = self.nodes.get(end.instance)
             for held in caller.type.runnables.values() if caller else []:
-                if any(access[0] in ("call", "acall") and access[1:] == (end.port, end.item) for access in held.accesses):
+                if {("call", end.port, end.item), ("acall", end.port, end.item)} & {*held.accesses}:
                     names = [one.name for one in self.events.get((caller.type.name, held.name), [])]
                     found |= {self.mapped[caller.path, name] for name in names if (caller.path, name) in self.mapped}
         return found

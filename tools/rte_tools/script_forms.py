@@ -98,13 +98,12 @@ def target(field: str, outer: Iterable[str]) -> Remark | None:
     parts = field.split(".")
     if len(parts) == 2 and all(NAME.fullmatch(part) for part in parts):
         return None
-    whole = Remark(0, len(field), "")
     names = f"The script names outer ports of the root, as PORT.ELEMENT or PORT.OPERATION{nearest(field, outer)}."
     if "/" in field:
         return Remark(0, field.rindex("/") + 1, f"`{field}` is within an instance. {names}")
     if len(parts) != 2:
-        points = "no point" if len(parts) == 1 else f"{len(parts) - 1} points"
-        return Remark(whole.start, whole.end, f"There {'are' if len(parts) > 2 else 'is'} {points} in `{field}`. {names}")
+        points = "is no point" if len(parts) == 1 else f"are {len(parts) - 1} points"
+        return Remark(0, len(field), f"There {points} in `{field}`. {names}")
     wrong = next(part for part in parts if not NAME.fullmatch(part))
     at = field.index(".") + 1 if wrong == parts[1] else 0
     said = f"`{wrong}` is no name" if wrong else "A name is missing here"
@@ -119,7 +118,8 @@ def value(field: str, outer: Iterable[str]) -> Remark | None:
     for word in field.split(","):
         if not WORD.fullmatch(word):
             said = f"`{word}` is no number as a value has it" if word else "A number is missing here"
-            return Remark(at, at + max(1, len(word)), f"{said}: decimal, no sign but a minus, no zeros before it{in_decimal(word)}.")
+            text = f"{said}: decimal, no sign but a minus, no zeros before it{in_decimal(word)}."
+            return Remark(at, at + max(1, len(word)), text)
         at += len(word) + 1
     return None
 

@@ -105,7 +105,7 @@ def wrong_value(description: Description, named_thing: tuple[Port, Item], place:
     limits = list(limits_of(description, item))
     words = [] if value == "-" else value.split(",")
     what = "`in` argument" if item.kind == "operation" else "word"
-    text = f"`{target}` has {counted(len(limits), what)}" + (f": {'; '.join(spans(limits))}." if limits else ": its value is `-`.")
+    text = f"`{target}` has {counted(len(limits), what)}: {'; '.join(spans(limits)) or 'its value is `-`'}."
     if len(words) != len(limits):
         return Remark(place.start, place.end, f"{text} The line gives {len(words)}.")
     at = place.start

@@ -42,7 +42,7 @@ PROGRAMS: dict[str, list[Mistake]] = {
         refused(
             "17 at /components/0/behavior/runnables/0/program/1/2/0",
             '["send","log","entry",["button",["eq","s",64],0],"t"]',
-            ("The statement has 3 in place of 2 words, as its type `Entry` has.", "Mend: give one expression or variable for each word."),
+            ("The statement has 3 in place of 2 words, as its type `Entry`.", "Mend: give one expression or variable for each word."),
             ('["eq","s",64]]', '["eq","s",64],0]'),
             example="lost_value",
         )
