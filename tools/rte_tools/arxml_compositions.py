@@ -27,6 +27,7 @@ class Held:
     made: dict
     prototypes: dict[str, str] = field(default_factory=dict)  # the path of the type, by the path of the prototype
     ports: list[Port] = field(default_factory=list)
+    sources: dict[str, Part] = field(default_factory=dict)  # of the connectors, by their text
 
 
 @dataclass
@@ -96,6 +97,7 @@ class Compositions:
                 self.work.report.left_out(part, str(why))
                 continue
             made[str(connector)] = connector
+            held.sources[str(connector)] = part
         return list(made.values())
 
     def assembly(self, held: Held, part: Part) -> dict:

@@ -59,7 +59,7 @@ class Reader:
                 self.said = self.number(part, "OsNumberOfCores") or 0
         numbers = self.renumbered()
         for part in containers:
-            if kind_of(part) == "OsTask":
+            if kind_of(part) == "OsTask" and part.path not in made.tasks:
                 self.passed(part, "PARAMETER-VALUES", "REFERENCE-VALUES")
                 name = self.work.names.declare("tasks", part.name, part.path)
                 made.tasks[part.path] = Task(name, numbers.get(self.cores.get(part.path, 0), 0), part)

@@ -84,7 +84,6 @@ class Interfaces:
         if policy not in ("standard", "queued"):
             raise LeftOut(f"the SW-IMPL-POLICY {policy} is neither standard nor queued")
         kind = self.types.of(part)
-        part.child("INIT-VALUE")  # that of a com spec counts
         name = self.work.names.item(part.name, part.path)
         return {"shortName": name, "type": kind["shortName"], "swImplPolicy": policy}
 

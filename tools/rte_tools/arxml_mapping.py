@@ -130,7 +130,8 @@ class Mapping:
             return self.instances.by_chain[chain]
         found = self.instances.by_last.get(mapped.prototypes[-1], [])
         if not found:
-            found = [each for path, held in self.instances.by_type.items() if mapped.event.startswith(f"{path}/") for each in held]
+            component = mapped.event.rsplit("/", 2)[0]  # around its internal behaviour
+            found = self.instances.by_type.get(component, [])
         if len(found) != 1:
             raise LeftOut(f"{mapped.prototypes[-1]} leads to {len(found)} instances, and not to one")
         return found[0]

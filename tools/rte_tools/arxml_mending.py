@@ -74,10 +74,10 @@ def drop_outer_calls(work: Work, root: Held) -> None:
         work.report.left_out(port.part, "the environment serves no operation; calls to it answer 134")
     root.ports = [port for port in root.ports if port.name not in names]
     root.made["ports"] = [port.made for port in root.ports]
-    kept = [each for each in root.made["connectors"] if each.get("outer") not in names]
-    for _ in range(len(root.made["connectors"]) - len(kept)):
-        work.report.added(root.part.path, "without a delegation to such a port")
-    root.made["connectors"] = kept
+    for each in root.made["connectors"]:
+        if each.get("outer") in names:
+            work.report.left_out(root.sources[str(each)], f"the outer port {each['outer']} is left out")
+    root.made["connectors"] = [each for each in root.made["connectors"] if each.get("outer") not in names]
 
 
 def made_root(work: Work, compositions: Compositions) -> Held | None:

@@ -21,6 +21,7 @@ class Names:
 
     known: set[str] = field(default_factory=set)
     forms: dict[str, str] = field(default_factory=dict)  # the short form of each name that does not fit
+    used: set[str] = field(default_factory=set)  # these short forms
     lists: dict[str, set[str]] = field(default_factory=dict)  # the names that each list declares
     given: dict[str, str] = field(default_factory=dict)  # by path
     rows: list[tuple[str, str, str]] = field(default_factory=list)
@@ -39,16 +40,17 @@ class Names:
             return name
         if name not in self.forms:
             self.forms[name] = self.shortened(name)
+            self.used.add(self.forms[name])
         return self.forms[name]
 
     def shortened(self, name: str) -> str:
         """The beginning of the name and eight digits of its hash, which no other name has."""
         head = re.sub(r"[^A-Za-z0-9_]", "_", name)[: MOST - DIGITS - 1]
         head = head if head[:1].isalpha() else f"x{head}"[: MOST - DIGITS - 1]
-        digest, used = hashlib.sha256(name.encode("utf-8", "replace")).hexdigest(), set(self.forms.values())
+        digest = hashlib.sha256(name.encode("utf-8", "replace")).hexdigest()
         for start in range(len(digest) - DIGITS):
             made = f"{head}_{digest[start : start + DIGITS]}"
-            if made not in used and made not in self.known:
+            if made not in self.used and made not in self.known:
                 return made
         raise AssertionError("a hash has no digits left")
 

@@ -16,6 +16,7 @@ REASONS = {
     "TRIGGER-INTERFACE": NOT_HERE,
     "PASS-THROUGH-SW-CONNECTOR": NOT_HERE,
     "MINIMUM-START-INTERVAL": "no time passes within a run line",
+    "INIT-VALUE": "the initial value of a receiver's com spec counts",
     "OFFSET": "a TimingEvent is first due after its period",
     "TIMEOUT": "nothing has a timeout",
     "ALIVE-TIMEOUT": "nothing has a timeout",
