@@ -49,6 +49,9 @@ def check_shape(made: Imported) -> None:
 
 
 def write(made: Imported, output: Path) -> None:
+    """Raises OSError, also of a device, since nothing can stand beside it."""
+    if output.exists() and not output.is_file():
+        raise OSError(f"{output} is no file, and two more are written beside the output")
     output.write_text(laid_out(made.value) + "\n", encoding="utf-8")
     output.with_suffix(".names.tsv").write_text(made.table, encoding="utf-8")
     output.with_suffix(".report.tsv").write_text(made.report.text(), encoding="utf-8")

@@ -18,6 +18,7 @@ SIDES = {
 OF_ELEMENT = ("DATA-ELEMENT-REF", "OPERATION-REF", "MODE-GROUP-REF")
 OF_QUEUE = ("QUEUED-RECEIVER-COM-SPEC", "SERVER-COM-SPEC", "MODE-SWITCH-SENDER-COM-SPEC")
 LONGEST_QUEUE = 1024
+OF_PROTOTYPES = ("TARGET-", "OUTER-")  # references of connectors, whose ports are not of the one that refers
 # What com specs of the root say here and no com spec of ARXML can, in special data of the port.
 SPECIAL = "rte-com-spec"
 SPECIAL_KEYS = ("initValue", "handleNeverReceived", "queueLength")
@@ -77,11 +78,17 @@ class Ports:
         return found
 
     def at(self, part: Part, *way: str) -> Port:
-        """The port that a reference names. Raises LeftOut."""
+        """The port that a reference names, on the side that its last tag says, if it says one. Raises LeftOut."""
         path = part.text(*way)
         if path not in self.made:
             raise LeftOut(f"its port {path or '(none)'} is not there, or left out")
-        return self.made[path]
+        port = self.made[path]
+        if ("-P-PORT-" in way[-1] and not port.provides) or ("-R-PORT-" in way[-1] and port.provides):
+            raise LeftOut(f"the port {path} is of the other side")
+        holder = path.rpartition("/")[0]
+        if not way[-1].startswith(OF_PROTOTYPES) and not part.path.startswith(f"{holder}/"):
+            raise LeftOut(f"the port {path} is of another component")
+        return port
 
     def item(self, part: Part, port: Port, key: str, *way: str) -> dict:
         """The item of a port that a reference names. Raises LeftOut."""

@@ -347,6 +347,7 @@ class Statuses(WithFolder):
         self.refused(3, arxml, str(self.folder), "-o", out)
         self.refused(3, arxml, str(FIXTURES / "composition.arxml"), "-o", out, "--root", "Nowhere")
         self.refused(4, arxml, str(FIXTURES / "mapping.ecuc.arxml"), "-o", str(self.folder / "none" / "d.json"))
+        self.refused(4, arxml, str(FIXTURES / "mapping.ecuc.arxml"), "-o", "/dev/null")
         self.assertEqual(called(arxml, out)[0], 2)
         self.assertEqual(called(arxml, "--help")[0], 0)
 
