@@ -102,7 +102,8 @@ class Components:
             kept = []
             for access in runnable["accesses"]:
                 if access[0] == "result" and tuple(access[1:]) not in runnables.asked:
-                    self.work.report.changed(part, f"{runnable['shortName']} takes no result of {access[1]}.{access[2]}, which nobody asks without waiting")
+                    what = f"{access[1]}.{access[2]}, which nobody asks without waiting"
+                    self.work.report.changed(part, f"{runnable['shortName']} takes no result of {what}")
                 else:
                     kept.append(access)
             runnable["accesses"] = kept
@@ -123,7 +124,8 @@ class Components:
                 kept = [access for access in runnable["accesses"] if access[0] != "acall"]
                 behaviour["runnables"].append({**runnable, "shortName": name, "accesses": kept})
                 event["runnable"] = name
-                self.work.report.changed(part, f"the event {event['shortName']} starts {name}, a copy of {runnable['shortName']}, which has other events")
+                what = f"starts {name}, a copy of {runnable['shortName']}, which has other events"
+                self.work.report.changed(part, f"the event {event['shortName']} {what}")
 
     def serve_all(self, part: Part, ports: list[Port], behaviour: dict) -> None:
         """An operation of a P-port that nobody serves gets a server, which returns 0; of two servers one stays."""

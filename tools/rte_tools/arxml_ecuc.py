@@ -48,7 +48,6 @@ class Reader:
     work: Work
     cores: dict[str, int] = field(default_factory=dict)  # of tasks, by path
     said: int = 0  # OsNumberOfCores
-    held: list[Part] = field(default_factory=list)
 
     def read(self) -> Configuration:
         made, containers = Configuration(), self.containers()

@@ -21,7 +21,6 @@ LONGEST_QUEUE = 1024
 OF_PROTOTYPES = ("TARGET-", "OUTER-")  # references of connectors, whose ports are not of the one that refers
 # What com specs of the root say here and no com spec of ARXML can, in special data of the port.
 SPECIAL = "rte-com-spec"
-SPECIAL_KEYS = ("initValue", "handleNeverReceived", "queueLength")
 
 
 @dataclass(frozen=True, eq=False)

@@ -214,7 +214,8 @@ class Behaviour:
         if operation not in self.results:
             listed = list_in(place.element, "ASYNCHRONOUS-SERVER-CALL-RESULT-POINTS")
             self.write_result(place, listed, operation)
-            self.written.notes.append(f"the runnable {event['runnable']} may take the result of {operation[0]}.{operation[1]}, since the event {event['shortName']} needs it")
+            what = f"may take the result of {operation[0]}.{operation[1]}"
+            self.written.notes.append(f"the runnable {event['runnable']} {what}, since the event {event['shortName']} needs it")
         return self.results[operation]
 
     def switch_point(self, event: dict) -> str:

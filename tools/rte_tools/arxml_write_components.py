@@ -5,6 +5,7 @@ from __future__ import annotations
 from dataclasses import dataclass, field
 from xml.etree.ElementTree import Element
 
+from rte_tools.arxml_ports import SPECIAL
 from rte_tools.arxml_skeleton import zeros
 from rte_tools.arxml_write_types import Written, write_value
 from rte_tools.arxml_writing import Place, add, list_in, refer
@@ -14,7 +15,6 @@ TAGS = {
     "ClientServerInterface": "CLIENT-SERVER-INTERFACE",
     "ModeSwitchInterface": "MODE-SWITCH-INTERFACE",
 }
-SPECIAL = "rte-com-spec"  # special data for what no com spec of ARXML says
 
 
 @dataclass
