@@ -55,6 +55,10 @@ class ComSpec:
     place: str
     values: dict[str, Any] = field(default_factory=dict)  # of these keys
 
+    @property
+    def queue_length(self) -> int:
+        return self.values.get("queueLength", 1)
+
 
 @dataclass(frozen=True)
 class Port:

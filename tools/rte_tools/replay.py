@@ -1,20 +1,22 @@
-"""What a trace shows: activations in tasks, calls, values, modes and run lines.
+"""What a trace shows: activations in tasks, calls, values, modes, queues and run lines, and what led to what.
 
 A moment is the number of a line in the trace.
 """
 
 from __future__ import annotations
 
+from bisect import bisect_left, bisect_right
 from dataclasses import dataclass, field, replace
 
-from rte_tools.description import Description, ModeGroup
-from rte_tools.joins import End, Joins
+from rte_tools.causes import Arrow, Causes, Queue, Wait
+from rte_tools.description import Description
 from rte_tools.trace import CLOSINGS, RUN, Line, Trace
+from rte_tools.wiring import ENVIRONMENT, Wiring
 
-ENVIRONMENT = "env"
 ELSEWHERE = ""  # the lane of what belongs to no task of the description
 CHANGES_VALUE = ("write", "publish", "send")
 TOUCHES_VALUE = ("read", "receive", "fetch", "invalidate", "isUpdated")
+CALLS = ("ask", "return", "answer", "result", "switch")
 
 
 @dataclass(frozen=True)
@@ -27,6 +29,8 @@ class Bar:
     event: str
     first: int
     last: int | None = None
+    due: int | None = None  # the moment at which its event became due, if that is known
+    is_admitted: bool = True
 
 
 @dataclass(frozen=True)
@@ -37,7 +41,7 @@ class Mark:
     moment: int
     verb: str
     text: str
-    code: str = ""
+    code: str = ""  # of an admission that is refused `no`
 
 
 @dataclass(frozen=True)
@@ -68,14 +72,18 @@ class Replay:
     marks: list[Mark] = field(default_factory=list)
     ticks: list[int] = field(default_factory=list)  # the moments of ticks
     runs: list[RunLine] = field(default_factory=list)
-    values: dict[str, list[Change]] = field(default_factory=dict)
+    values: dict[str, list[Change]] = field(default_factory=dict)  # of what is queued the last value that was sent
     modes: dict[str, list[Change]] = field(default_factory=dict)
+    queues: dict[str, Queue] = field(default_factory=dict)
+    arrows: list[Arrow] = field(default_factory=list)
+    waits: list[Wait] = field(default_factory=list)
+    queued: set[str] = field(default_factory=set)  # the names of values that are queued
 
     def window(self, first: int, last: int) -> Replay:
         """What is between two moments; what began before goes on from the first one."""
         first, last = max(first, self.first), min(last, self.last)
 
-        def overlaps(held: Bar | RunLine) -> bool:
+        def overlaps(held: Bar | RunLine | Wait | Arrow) -> bool:
             return held.first <= last and (held.last is None or held.last >= first)
 
         return Replay(
@@ -87,15 +95,22 @@ class Replay:
             [run for run in self.runs if overlaps(run)],
             {name: clipped(changes, first, last) for name, changes in self.values.items()},
             {name: clipped(changes, first, last) for name, changes in self.modes.items()},
+            {
+                name: Queue(queue.kind, queue.length, clipped(queue.fills, first, last))
+                for name, queue in self.queues.items()
+            },
+            [arrow for arrow in self.arrows if overlaps(arrow)],
+            [wait for wait in self.waits if overlaps(wait)],
+            self.queued,
         )
 
 
-def clipped(changes: list[Change], first: int, last: int) -> list[Change]:
+def clipped(changes: list, first: int, last: int) -> list:
     """The changes between two moments, with the one that holds at the first."""
-    before = [change for change in changes if change.moment < first]
-    inside = [change for change in changes if first <= change.moment <= last]
-    if before and (not inside or inside[0].moment > first):
-        inside.insert(0, replace(before[-1], moment=first))
+    begin = bisect_left(changes, first, key=lambda change: change.moment)
+    inside = changes[begin : bisect_right(changes, last, key=lambda change: change.moment)]
+    if begin and (not inside or inside[0].moment > first):
+        inside.insert(0, replace(changes[begin - 1], moment=first))
     return inside
 
 
@@ -111,33 +126,32 @@ class Player:
     """The state while a trace is gone through."""
 
     def __init__(self, description: Description, version: str):
-        self.description = description
         self.names_modes = version != "1"
-        self.joins = Joins(description)
-        self.tasks = {(held.instance, held.event): held.task for held in description.mapped}
-        self.replay = Replay(2, 2)
+        self.wiring = Wiring(description)
+        self.causes = Causes(self.wiring)
+        self.replay = Replay(2, 2, ticks=self.causes.ticks)
         self.running: dict[str, Bar] = {}  # by key
         self.run: RunLine | None = None
-        self.milliseconds = 0
+        self.verbs = {
+            "start": self.start,
+            "end": self.end,
+            "phase": self.phase,
+            "admit": self.admit,
+            **dict.fromkeys(CHANGES_VALUE + TOUCHES_VALUE, self.value),
+            **dict.fromkeys(CALLS, self.call),
+        }
 
     def step(self, line: Line) -> None:
         if line.is_tick:
-            self.milliseconds += 1
             self.replay.ticks.append(line.number)
         elif not line.actor:
             self.run_line(line)
-        elif line.verb == "start":
-            self.start(line)
-        elif line.verb == "end":
-            self.end(line)
         else:
-            self.entry(line)
-        if line.text.endswith(" admit no"):  # the activation ends so
-            self.end(line)
+            self.verbs.get(line.verb, self.mark)(line)
 
     def run_line(self, line: Line) -> None:
         if line.verb == RUN:
-            self.run = RunLine(len(self.replay.runs) + 1, line.number, self.milliseconds)
+            self.run = RunLine(len(self.replay.runs) + 1, line.number, len(self.replay.ticks))
             self.replay.runs.append(self.run)
         elif line.verb in CLOSINGS and self.run:
             closed = replace(self.run, last=line.number, closing=line.verb)
@@ -146,11 +160,12 @@ class Player:
             self.replay.marks.append(Mark(ENVIRONMENT, line.number, line.verb, line.text))
 
     def start(self, line: Line) -> None:
-        instance = line.actor.partition(":")[0]
+        instance, event = line.actor.partition(":")[0], line.part("event")
         caller = self.running.get(line.actor.partition("@")[2].partition(".")[0]) if "@" in line.actor else None
-        lane = caller.lane if caller else self.tasks.get((instance, line.part("event")), ELSEWHERE)
+        lane = caller.lane if caller else self.wiring.tasks.get((instance, event), ELSEWHERE)
         depth = sum(bar.lane == lane for bar in self.running.values())
-        self.running[line.actor] = Bar(lane, depth, line.actor, line.part("event"), line.number)
+        due = self.causes.started(line, (instance, event), lane, depth)
+        self.running[line.actor] = Bar(lane, depth, line.actor, event, line.number, None, due)
 
     def end(self, line: Line) -> None:
         bar = self.running.pop(line.actor, None)
@@ -159,64 +174,84 @@ class Player:
         else:
             self.replay.marks.append(Mark(ELSEWHERE, line.number, line.verb, line.text))
 
-    def entry(self, line: Line) -> None:
-        lane = line.actor if line.verb == "phase" or line.actor == ENVIRONMENT else self.lane_of(line.actor)
-        self.replay.marks.append(Mark(lane, line.number, line.verb, line.text, line.part("code")))
-        if line.verb in CHANGES_VALUE + TOUCHES_VALUE:
-            self.value(line)
-        if line.verb == "phase":
-            self.phase(line)
+    def mark(self, line: Line, code: str = "") -> str:
+        """Notes a call; gives its lane."""
+        lane = self.lane_of(line.actor)
+        self.replay.marks.append(Mark(lane, line.number, line.verb, line.text, code or line.part("code")))
+        return lane
+
+    def admit(self, line: Line) -> None:
+        """What is not admitted ends so."""
+        is_refused = line.part("answer") == "no"
+        self.mark(line, "no" if is_refused else "")
+        if is_refused:
+            if line.actor in self.running:
+                self.running[line.actor] = replace(self.running[line.actor], is_admitted=False)
+            self.end(line)
 
     def lane_of(self, key: str) -> str:
+        if key == ENVIRONMENT:
+            return ENVIRONMENT
         return self.running[key].lane if key in self.running else ELSEWHERE
 
     def value(self, line: Line) -> None:
-        changes = self.replay.values.setdefault(self.value_name(line), [])
+        lane, target = self.mark(line), line.part("target")
+        instance = line.actor.partition(":")[0]
+        group = self.wiring.group(instance, target)
+        changes = self.replay.values.setdefault(group, [])
         if line.verb in CHANGES_VALUE:
             changes.append(Change(line.number, line.part("value")))
+            (self.causes.sent if line.verb == "send" else self.causes.written)(group, line, lane)
         elif line.verb == "invalidate":
             changes.append(Change(line.number, changes[-1].text if changes else "", "invalid"))
+        elif line.verb == "receive":
+            self.causes.received(f"{instance}.{target}", line)
 
-    def value_name(self, line: Line) -> str:
-        """The first end of the group that is written or read, or the name of an inter-runnable variable."""
-        instance = "" if line.actor == ENVIRONMENT else line.actor.partition(":")[0]
-        port, dot, item = line.part("target").partition(".")
-        group = self.joins.group(End(instance, port, item)) if dot else None
-        return group.name if group else f"{instance or ENVIRONMENT}.{line.part('target')}"
+    def call(self, line: Line) -> None:
+        lane = self.mark(line)
+        if line.verb == "ask":
+            bar = self.running.get(line.actor)
+            self.causes.called(line, lane, bar.depth if bar else 0)
+        elif line.verb == "return":
+            self.causes.served(line, lane)
+        elif line.verb == "switch":
+            self.causes.switched(f"{line.actor.partition(':')[0]}.{line.part('target')}", line, lane)
+        else:
+            self.causes.answered(line, lane)
 
     def phase(self, line: Line) -> None:
-        if line.actor not in self.replay.modes:
-            self.replay.modes[line.actor] = [Change(self.replay.first, self.initial_mode(line.actor), "moving")]
-        changes = self.replay.modes[line.actor]
+        machine = line.actor
+        self.replay.marks.append(Mark(machine, line.number, line.verb, line.text))
+        if machine not in self.replay.modes:
+            self.replay.modes[machine] = [Change(self.replay.first, self.wiring.modes_of(machine)[1], "moving")]
+        changes, mode = self.replay.modes[machine], self.mode_name(machine, line.part("mode"))
+        self.causes.phase(machine, line, mode)
         if line.part("step") == "close":
-            changes.append(Change(line.number, self.mode_name(line.actor, line.part("mode")), "moving"))
+            changes.append(Change(line.number, mode, "moving"))
         elif line.part("step") == "stable":
             changes.append(Change(line.number, changes[-1].text))
 
-    def mode_group(self, machine: str) -> ModeGroup | None:
-        """The mode group of a machine, which is named by its provided mode element."""
-        parts = machine.split(".")
-        node = self.description.instance("" if parts[0] == ENVIRONMENT else parts[0])
-        port = node.type.ports.get(parts[1]) if node and len(parts) == 3 else None
-        item = self.description.items(port).get(parts[2]) if port else None
-        return self.description.mode_groups.get(item.type) if item else None
-
-    def initial_mode(self, machine: str) -> str:
-        group = self.mode_group(machine)
-        return group.initial if group else "?"
-
     def mode_name(self, machine: str, mode: str) -> str:
         """The name of a mode, which version 1 gives by its number."""
-        group = self.mode_group(machine)
-        if self.names_modes or not group or not mode.isdigit() or int(mode) >= len(group.modes):
+        modes = self.wiring.modes_of(machine)[0]
+        if self.names_modes or not mode.isdigit() or int(mode) >= len(modes):
             return mode
-        return group.modes[int(mode)]
+        return modes[int(mode)]
 
     def finish(self, last: int) -> Replay:
-        self.replay.last = max(last, self.replay.first)
-        self.replay.bars += self.running.values()
-        self.replay.bars.sort(key=lambda bar: bar.first)
-        return self.replay
+        """Values, modes and queues come in the order of the plan."""
+        made, order = self.replay, self.wiring.order
+        made.last = max(last, made.first)
+        made.bars += self.running.values()
+        made.bars.sort(key=lambda bar: bar.first)
+        self.causes.finish()
+        made.queues, made.arrows, made.waits = self.causes.queues, self.causes.arrows, self.causes.waits
+        made.values, made.modes = (
+            {name: held[name] for name in sorted(held, key=lambda name: order.get(name, len(order)))}
+            for held in (made.values, made.modes)
+        )
+        made.queued = {name for name in made.values if name in self.wiring.receivers}
+        return made
 
 
 def labels(key: str) -> list[str]:
