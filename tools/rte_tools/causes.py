@@ -12,7 +12,7 @@ from rte_tools.trace import Line
 from rte_tools.wiring import DATA as VALUES
 from rte_tools.wiring import ENVIRONMENT, Name, Wiring
 
-CALL, ANSWER, DATA, MODE, TIME = "call", "answer", "data", "mode", "time"  # why an event became due, and what an arrow shows
+CALL, ANSWER, DATA, MODE, TIME = "call", "answer", "data", "mode", "time"  # why an event became due
 SHOWN_WAITING = 4  # of what waits in a queue
 LOST = 64
 HEADER = 1  # the line of the header: from there on some events are due
@@ -163,14 +163,14 @@ class Causes:
         plan, held = self.wiring.queues[name], self.waiting[name]
         if name not in self.queues:
             self.queues[name] = Queue(plan.kind, plan.length, [Fill(HEADER, 0)])
-        shown = ", ".join(held[at] for at in range(min(len(held), SHOWN_WAITING)))
-        more = ", …" if len(held) > SHOWN_WAITING else ""
+        shown = "; ".join(held[at] for at in range(min(len(held), SHOWN_WAITING)))
+        more = "; …" if len(held) > SHOWN_WAITING else ""
         self.queues[name].fills.append(Fill(moment, len(held), shown + more, has_lost))
 
     # ---- calls
 
     def server_of(self, point: str) -> str:
-        """The name of the server that a point calls: a point is `INSTANCE:RUNNABLE.PORT.OPERATION`, or `env.PORT.OPERATION`."""
+        """The name of the server that a point calls, which is `INSTANCE:RUNNABLE.PORT.OPERATION` or `env.PORT.OPERATION`."""
         caller, port, operation = [*point.rsplit(".", 2), "", ""][:3]
         return self.wiring.group(caller.partition(":")[0], f"{port}.{operation}")
 
@@ -263,4 +263,5 @@ class Causes:
         self.waits += self.callers.values()
         self.arrows.sort(key=lambda arrow: arrow.first)
         shown = {name: held for name, held in self.queues.items() if held.kind == VALUES or held.length > 1}
-        self.queues = dict(sorted(shown.items(), key=lambda item: self.wiring.order.get(item[0], len(self.wiring.order))))
+        order = self.wiring.order
+        self.queues = {name: shown[name] for name in sorted(shown, key=lambda name: order.get(name, len(order)))}

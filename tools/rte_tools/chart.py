@@ -3,35 +3,16 @@
 from __future__ import annotations
 
 from rte_tools import svg
-from rte_tools.lanes import EVENTS, LINES, MODE, NESTED, RUNS, TASK, VALUE, Lane, height_of
+from rte_tools.causes import Arrow, Fill, Queue, Wait
+from rte_tools.lanes import EVENTS, LINES, MODE, NESTED, QUEUE, RUNS, TASK, VALUE, Lane, by_lane, height_of
+from rte_tools.marks import sign_of
 from rte_tools.replay import Bar, Change, Mark, Replay, RunLine, labels
 
 COLUMN = 26  # pixels
 PALETTE = 8  # how many colours bars have
 EVERY = 5  # how many columns have a number together
-SEGMENT = 18  # the height of a value
+BAR, MARK, SEGMENT = 20, 16, 18  # the heights of an activation, a mark and a value
 REPEATED = 600  # pixels after which a long segment shows its text again
-MARKS = {
-    "write": ("W", "out"),
-    "publish": ("P", "out"),
-    "send": ("S", "out"),
-    "switch": ("K", "out"),
-    "ask": ("A", "out"),
-    "return": ("B", "out"),
-    "read": ("R", "in"),
-    "fetch": ("F", "in"),
-    "receive": ("V", "in"),
-    "answer": ("N", "in"),
-    "result": ("T", "in"),
-    "mode": ("M", "in"),
-    "isUpdated": ("U", "in"),
-    "invalidate": ("I", "state"),
-    "enter": ("E", "state"),
-    "exit": ("X", "state"),
-    "admit": ("D", "state"),
-    "phase": ("H", "state"),
-}
-PLAIN = ("•", "plain")  # a verb that is not known here
 
 
 class Chart:
@@ -41,21 +22,30 @@ class Chart:
         self.replay = replay
         self.lanes = lanes
         self.colours = colours
+        self.bars, self.marks_in, self.waits = by_lane(replay.bars), by_lane(replay.marks), by_lane(replay.waits)
         self.column_of = columns(replay)
         self.width = (self.column_of[replay.last] + 1) * COLUMN
         self.parts: list[str] = []
 
-    def picture(self) -> str:
+    def draw(self) -> list[str]:
         for run in self.replay.runs:
             self.run(run)
         for lane in self.lanes:
             self.parts.append(svg.line(0, lane.y, self.width, lane.y, "rule"))
-        draw = {LINES: self.numbers, EVENTS: self.events, TASK: self.task, MODE: self.mode, VALUE: self.value}
+        draw = {LINES: self.numbers, EVENTS: self.events, TASK: self.task}
+        draw |= {MODE: self.mode, QUEUE: self.queue, VALUE: self.value}
         for lane in self.lanes:
             if lane.kind in draw:
                 draw[lane.kind](lane)
+        places = {lane.name: lane for lane in self.lanes if lane.kind in (EVENTS, TASK, MODE)}
+        for arrow in self.replay.arrows:
+            if arrow.source in places and arrow.target in places:
+                self.arrow(arrow, places[arrow.source], places[arrow.target])
+        return self.parts
+
+    def picture(self) -> str:
         name = f"lines {self.replay.first} to {self.replay.last}"
-        return svg.picture(self.width, height_of(self.lanes), self.parts, name)
+        return svg.picture(self.width, height_of(self.lanes), self.draw(), name)
 
     def left(self, moment: int) -> float:
         """Where the column of a moment begins. A moment before the first one is at the left edge."""
@@ -66,6 +56,11 @@ class Chart:
         if moment is None or moment > self.replay.last:
             return self.width
         return self.left(moment) + COLUMN
+
+    def middle(self, moment: int) -> float:
+        """The middle of a column, which for an arrow may be outside of the picture."""
+        outside = min(0, moment - self.replay.first) + max(0, moment - self.replay.last)
+        return self.left(min(moment, self.replay.last)) + (outside + 0.5) * COLUMN
 
     def numbers(self, lane: Lane) -> None:
         shown = -1
@@ -101,47 +96,96 @@ class Chart:
             self.parts.append(svg.rect(x + 1, lane.y + 5, COLUMN - 2, 16, "ticks", title, 4))
             shown = f"+{count}" if count < 1000 else "+…"
             self.parts.append(svg.text(x + COLUMN / 2, lane.y + 17, shown, "small middle"))
-        self.marks(lane.name, lane.y + 5)
+        self.marks(lane)
 
     def task(self, lane: Lane) -> None:
-        for bar in self.replay.bars:
-            if bar.lane == lane.name:
-                self.bar(bar, lane.y + 4 + bar.depth * NESTED)
-        self.marks(lane.name, lane.y + lane.height - 19)
+        """The activations, over them what waits, and then all texts."""
+        for bar in self.bars.get(lane.name, ()):
+            self.bar(bar, lane)
+        for wait in self.waits.get(lane.name, ()):
+            self.wait(wait, lane)
+        for bar in self.bars.get(lane.name, ()):
+            names = labels(bar.key)
+            y = bar_top(lane, bar.depth) + 14
+            self.spread([f"{names[0]} ({bar.event})", *names], self.left(bar.first), self.right(bar.last), y)
+        self.marks(lane)
 
-    def bar(self, bar: Bar, y: float) -> None:
+    def bar(self, bar: Bar, lane: Lane) -> None:
         x, end = self.left(bar.first), self.right(bar.last)
-        title = f"{bar.key} started by {bar.event}, lines {bar.first} to {bar.last or '?'}"
-        colour = f"bar c{self.colours[bar.key] % PALETTE}" + ("" if bar.last else " open")
-        self.parts.append(svg.rect(x + 1, y, end - x - 2, 20, colour, title, 4))
-        names = labels(bar.key)
-        self.spread([f"{names[0]} ({bar.event})", *names], x, end, y + 14)
+        since = f", due since line {bar.due}" if bar.due else ""
+        title = f"{bar.key} started by {bar.event}, lines {bar.first} to {bar.last or '?'}{since}"
+        state = "" if bar.is_admitted else " dropped"
+        colour = f"bar c{self.colours[bar.key] % PALETTE}{state}" + ("" if bar.last else " open")
+        self.parts.append(svg.rect(x + 1, bar_top(lane, bar.depth), end - x - 2, BAR, colour, title, 4))
 
-    def marks(self, name: str, y: float) -> None:
-        for mark in self.replay.marks:
-            if mark.lane == name:
-                self.mark(mark, y)
+    def wait(self, wait: Wait, lane: Lane) -> None:
+        """From behind the call to the answer."""
+        x = self.right(wait.first) if wait.first >= self.replay.first else 0
+        end = self.left(wait.last) if wait.last is not None and wait.last <= self.replay.last else self.width
+        if end > x:
+            until = f" until line {wait.last}" if wait.last else ""
+            title = f"{wait.key} waits for the answer to line {wait.first}{until}"
+            self.parts.append(svg.rect(x, bar_top(lane, wait.depth) + 1, end - x, BAR - 2, "wait", title))
+
+    def marks(self, lane: Lane) -> None:
+        for mark in self.marks_in.get(lane.name, ()):
+            self.mark(mark, marks_top(lane))
 
     def mark(self, mark: Mark, y: float) -> None:
-        letter, kind = MARKS.get(mark.verb, PLAIN)
-        x = self.left(mark.moment) + COLUMN / 2
+        sign, x = sign_of(mark.verb), self.middle(mark.moment)
         bad = " bad" if mark.code not in ("", "0") else ""
         title = f"line {mark.moment}: {mark.text}"
-        self.parts.append(svg.rect(x - 8, y, 16, 16, f"mark {kind}{bad}", title, 4))
-        self.parts.append(svg.text(x, y + 12, letter, "letter middle"))
+        self.parts.append(svg.rect(x - MARK / 2, y, MARK, MARK, f"mark {sign.kind}{bad}", title, 4))
+        self.parts.append(svg.text(x, y + 12, sign.letter, "letter middle"))
+
+    def arrow(self, arrow: Arrow, source: Lane, target: Lane) -> None:
+        """From the mark at its source to an activation that starts, or to a mark."""
+        if arrow.depth is None:
+            to_x, to_y = self.middle(arrow.last) - MARK / 2, marks_top(target) + MARK / 2
+        else:
+            to_x, to_y = self.middle(arrow.last) - COLUMN / 2 + 1, bar_top(target, arrow.depth) + BAR / 2
+        y = marks_top(source)
+        self.parts.append(
+            svg.arrow(self.middle(arrow.first), y + (MARK if to_y > y else 0), to_x, to_y, arrow.kind, arrow.text)
+        )
+
+    def queue(self, lane: Lane) -> None:
+        """How much waits: an area below the line of what it holds at most."""
+        queue = self.replay.queues[lane.name]
+        self.parts.append(svg.line(0, lane.y + 5, self.width, lane.y + 5, "limit"))
+        for number, fill in enumerate(queue.fills):
+            following = queue.fills[number + 1].moment if number + 1 < len(queue.fills) else None
+            x, end = self.left(fill.moment), self.left(following) if following else self.width
+            if end > x:
+                self.fill(lane, queue, fill, x, end)
+            if fill.has_lost:
+                title = f"line {fill.moment}: the queue is full, and what comes is lost"
+                self.parts.append(svg.rect(x + 3, lane.y + 3, 7, lane.height - 6, "lost", title, 2))
+
+    def fill(self, lane: Lane, queue: Queue, fill: Fill, x: float, end: float) -> None:
+        room = lane.height - 9
+        height = max(1.5, room * fill.count / queue.length)
+        waiting = f"{fill.count} of {queue.length}" + (f": {fill.text}" if fill.text else "")
+        title = f"{lane.name} from line {fill.moment} on: {waiting}"
+        kind = "empty" if fill.count == 0 else "fill full" if fill.count == queue.length else "fill"
+        self.parts.append(svg.rect(x, lane.y + 4 + room - height + 1, end - x, height, kind, title))
+        short = [f"{fill.count} of {queue.length}", f"{fill.count}/{queue.length}", str(fill.count)]
+        self.spread([waiting, *short], x + (10 if fill.has_lost else 0), end, lane.y + 20)
 
     def value(self, lane: Lane) -> None:
         self.segments(lane, self.replay.values[lane.name])
 
     def mode(self, lane: Lane) -> None:
         self.segments(lane, self.replay.modes[lane.name])
-        self.marks(lane.name, lane.y + lane.height - 20)
+        self.marks(lane)
 
     def segments(self, lane: Lane, changes: list[Change]) -> None:
         for number, change in enumerate(changes):
             x = self.left(change.moment)
             following = changes[number + 1].moment if number + 1 < len(changes) else None
             end = self.left(following) if following else self.width
+            if end <= x:
+                continue
             title = f"{lane.name} from line {change.moment} on: {change.text} {change.state}"
             self.parts.append(svg.rect(x + 1, lane.y + 4, end - x - 2, SEGMENT, change.state, title, 3))
             if change.state == "invalid":
@@ -149,6 +193,14 @@ class Chart:
                 self.spread([*longest, "invalid", "inv"], x, end, lane.y + 17)
             else:
                 self.spread([change.text], x, end, lane.y + 17)
+
+
+def bar_top(lane: Lane, depth: int) -> float:
+    return lane.y + 4 + depth * NESTED
+
+
+def marks_top(lane: Lane) -> float:
+    return lane.y + (5 if lane.kind == EVENTS else lane.height - MARK - 3)
 
 
 def columns(replay: Replay) -> dict[int, int]:

@@ -78,6 +78,7 @@ class Replay:
     arrows: list[Arrow] = field(default_factory=list)
     waits: list[Wait] = field(default_factory=list)
     queued: set[str] = field(default_factory=set)  # the names of values that are queued
+    passed: int = 0  # the milliseconds before the first moment
 
     def window(self, first: int, last: int) -> Replay:
         """What is between two moments; what began before goes on from the first one."""
@@ -102,6 +103,7 @@ class Replay:
             [arrow for arrow in self.arrows if overlaps(arrow)],
             [wait for wait in self.waits if overlaps(wait)],
             self.queued,
+            self.passed + bisect_left(self.ticks, first),
         )
 
 

@@ -1,7 +1,7 @@
-"""How the parts of a description lead to one another: who hears a write, which queue a send or a call reaches, what a phase starts.
+"""How parts of a description lead to one another: who hears a write, which queue a send reaches, what a phase starts.
 
-It is made once, in one walk over the instances, and is asked for each line of a trace. An instance is named by its path, and
-the environment by `env`.
+It is made once, in one walk over the instances, and is asked for each line of a trace. An instance is named by its
+path, and the environment by `env`.
 """
 
 from __future__ import annotations

@@ -8,10 +8,12 @@ import xml.etree.ElementTree as xml
 from support import DATA, EXAMPLES, WithFolder, description_of, replay_of, run_tool, trace_of
 
 from rte_tools.chart import columns
-from rte_tools.exports import btf, perfetto, vcd
+from rte_tools.btf import btf
 from rte_tools.page import page
+from rte_tools.perfetto import perfetto
 from rte_tools.replay import Change, replay
 from rte_tools.trace import NotATrace, read_trace
+from rte_tools.vcd import vcd
 
 TWO_CORES = DATA / "examples" / "two_cores"
 
@@ -138,7 +140,8 @@ class Pages(WithFolder):
             self.assertIn("not time", drawn)
             titles = [title.text for title in root.iter("title")]
             for bar in shown.bars:
-                self.assertIn(f"{bar.key} started by {bar.event}, lines {bar.first} to {bar.last}", titles)
+                since = f"due since line {bar.due}"
+                self.assertIn(f"{bar.key} started by {bar.event}, lines {bar.first} to {bar.last}, {since}", titles)
 
     def test_ticks_in_a_row_share_a_column(self) -> None:
         found = columns(replay_of(TWO_CORES))
@@ -192,7 +195,6 @@ class Exports(unittest.TestCase):
         )
         level, fill = identifiers["pump_out_level"], identifiers["pump_Fill"]
         self.assertIn(f"\n#13\n1{fill}\n", text)
-        self.assertIn("\n#15\n0", text)
         self.assertIn(f"b101000 {level}\n", text)  # 40
         self.assertIn(f"b1010000 {level}\n", text)  # 80
         self.assertEqual(text.count("$scope"), text.count("$upscope"))
