@@ -1,13 +1,14 @@
 #!/usr/bin/env python3
-"""Draws the compositions of a description as a Mermaid flowchart.
+"""Draws the compositions of a description as a Mermaid flowchart, or as a graph for Graphviz.
 
     tools/diagram.py DESCRIPTION > diagram.mmd
+    tools/diagram.py --to dot DESCRIPTION | dot -Tsvg > diagram.svg
 
-Many places that show Markdown draw it from a block of code that is marked `mermaid`; --markdown prints such a block. A
-box is an instance of a component, a frame a composition, and a round box one of its outer ports. An arrow leads from
-the port that provides to the one that requires.
+Many places that show Markdown draw Mermaid from a block of code that is marked `mermaid`; --markdown prints such a block.
+Graphviz is a package of most systems, and its command is dot. A box is an instance of a component, a frame a composition,
+and a round box one of its outer ports. An arrow leads from the port that provides to the one that requires.
 
-The status is 0, or 2 where the file is not read or is not a description.
+The status is 0, or 2 if the file is not read or is not a description, or the words do not fit.
 """
 
 from __future__ import annotations
@@ -15,19 +16,26 @@ from __future__ import annotations
 import argparse
 import sys
 
+from rte_tools.dot import Graph
+from rte_tools.failures import told
 from rte_tools.files import Unfit, read_description
 from rte_tools.mermaid import Flowchart
+
+FORMS = {"mermaid": Flowchart, "dot": Graph}
 
 
 def main() -> int:
     parser = argparse.ArgumentParser(description=__doc__, formatter_class=argparse.RawDescriptionHelpFormatter)
     parser.add_argument("description", help="the description, a JSON file")
-    parser.add_argument("--markdown", action="store_true", help="print it as a block of code for Markdown")
+    parser.add_argument("--to", choices=FORMS, default="mermaid", help="the form; mermaid without it")
+    parser.add_argument("--markdown", action="store_true", help="print Mermaid as a block of code for Markdown")
     words = parser.parse_args()
+    if words.markdown and words.to != "mermaid":
+        parser.error("--markdown is for mermaid alone")
     try:
-        lines = Flowchart(read_description(words.description)).lines()
+        lines = FORMS[words.to](read_description(words.description)).lines()
     except (Unfit, OSError) as error:
-        print(f"diagram.py: {error}", file=sys.stderr)
+        print(f"diagram.py: {told(error)}", file=sys.stderr)
         return 2
     print("\n".join(["```mermaid", *lines, "```"] if words.markdown else lines))
     return 0

@@ -29,6 +29,7 @@ from typing import Callable
 
 from rte_tools.btf import btf
 from rte_tools.description import Description
+from rte_tools.failures import told
 from rte_tools.files import Unfit, read_description
 from rte_tools.foreign import foreign
 from rte_tools.page import page
@@ -118,8 +119,9 @@ def main() -> int:
                 file.write(drawn)
         else:
             sys.stdout.write(drawn)
+            sys.stdout.flush()
     except (Unfit, OSError) as error:
-        print(f"timeline.py: {error}", file=sys.stderr)
+        print(f"timeline.py: {told(error)}", file=sys.stderr)
         return 2
     return 0
 

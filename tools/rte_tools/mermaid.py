@@ -19,6 +19,7 @@ class Flowchart:
     def __init__(self, description: Description):
         self.nodes = {node.path: node for node in description.nodes}
         self.identifiers: dict[tuple[str, str], str] = {}
+        self.taken: set[str] = set()
 
     def lines(self) -> list[str]:
         frames = {path: node.type for path, node in self.nodes.items() if isinstance(node.type, Composition)}
@@ -62,11 +63,12 @@ class Flowchart:
         return node is not None and isinstance(node.type, Component)
 
     def identifier(self, path: str, port: str = "") -> str:
-        """A name for Mermaid that nothing else has, of letters, digits and underscores."""
+        """A name that nothing else has, of letters, digits and underscores."""
         if (path, port) not in self.identifiers:
             name = "root" + "".join("__" + part for part in [*path.split("/"), port] if part)
-            while name in self.identifiers.values():
+            while name in self.taken:
                 name += "_"
+            self.taken.add(name)
             self.identifiers[path, port] = name
         return self.identifiers[path, port]
 

@@ -8,10 +8,11 @@ from __future__ import annotations
 import re
 from bisect import bisect_left
 from dataclasses import dataclass
+from math import ceil
 from pathlib import Path
 
 from rte_tools import svg
-from rte_tools.chart import Chart, columns
+from rte_tools.chart import COLUMN, Chart, columns
 from rte_tools.description import Description
 from rte_tools.lanes import Lane, height_of, lanes_of, names_parts, names_width
 from rte_tools.overview import Overview
@@ -19,7 +20,8 @@ from rte_tools.page import LEAST_OVERVIEW, colours_of, counted, legend_items
 from rte_tools.replay import Replay
 
 STYLE = Path(__file__).with_name("style.css")
-ROW = 36  # columns
+PAGE = 1150  # pixels that a row is wide
+OVER = 0.2  # of a row that may stand in the others, so that the last one is not nearly empty
 GAP, MARGIN = 22, 16  # pixels
 LETTER = 7.0  # the width of a letter of the legend, in pixels
 VARIABLE = re.compile(r"--([\w-]+): ([^;]+);")
@@ -100,8 +102,8 @@ def framed(lanes: list[Lane], left: float, chart: list[str], width: float) -> Ro
 def detail_rows(description: Description, replay: Replay) -> list[Row]:
     """Rows of equally many columns, one below the other, each with the lanes in which something is."""
     moments, held = zip(*columns(replay).items())
-    count = held[-1] + 1
-    each = -(-count // max(1, round(count / ROW)))
+    count, left = held[-1] + 1, names_width(lanes_of(description, replay))
+    each = ceil(count / max(1, ceil(count * COLUMN / (PAGE - left) - OVER)))
     windows = []
     for begin in range(0, count, each):
         first, behind = bisect_left(held, begin), bisect_left(held, begin + each)
