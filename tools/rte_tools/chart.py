@@ -139,11 +139,12 @@ class Chart:
         self.parts.append(svg.text(x, y + 12, sign.letter, "letter middle"))
 
     def arrow(self, arrow: Arrow, source: Lane, target: Lane) -> None:
-        """From the mark at its source to an activation that starts, or to a mark."""
+        """From the mark at its source to an activation that starts, or to a mark. Within a lane it stays below names."""
         if arrow.depth is None:
             to_x, to_y = self.middle(arrow.last) - MARK / 2, marks_top(target) + MARK / 2
         else:
-            to_x, to_y = self.middle(arrow.last) - COLUMN / 2 + 1, bar_top(target, arrow.depth) + BAR / 2
+            to_x, to_y = self.middle(arrow.last) - COLUMN / 2 + 1, bar_top(target, arrow.depth)
+            to_y += BAR - 3 if source == target else BAR / 2
         y = marks_top(source)
         self.parts.append(
             svg.arrow(self.middle(arrow.first), y + (MARK if to_y > y else 0), to_x, to_y, arrow.kind, arrow.text)
