@@ -4,9 +4,9 @@
     tools/diagram.py DESCRIPTION > diagram.mmd
     tools/diagram.py --to dot DESCRIPTION | dot -Tsvg > diagram.svg
 
-Many places that show Markdown draw Mermaid from a block of code that is marked `mermaid`; --markdown prints such a block.
-Graphviz is a package of most systems, and its command is dot. A box is an instance of a component, a frame a composition,
-and a round box one of its outer ports. An arrow leads from the port that provides to the one that requires.
+Many places that show Markdown draw Mermaid from a block of code that is marked `mermaid`; --markdown prints such a
+block. Graphviz is a package of most systems, and its command is dot. A box is an instance of a component, a frame a
+composition, and a round box one of its outer ports. An arrow leads from the port that provides to the one that requires.
 
 The status is 0, or 2 if the file is not read or is not a description, or the words do not fit.
 """

@@ -170,7 +170,7 @@ class Causes:
     # ---- calls
 
     def server_of(self, point: str) -> str:
-        """The name of the server that a point calls, which is `INSTANCE:RUNNABLE.PORT.OPERATION` or `env.PORT.OPERATION`."""
+        """The name of the server that a point calls: `INSTANCE:RUNNABLE.PORT.OPERATION`, or `env.PORT.OPERATION`."""
         caller, port, operation = [*point.rsplit(".", 2), "", ""][:3]
         return self.wiring.group(caller.partition(":")[0], f"{port}.{operation}")
 

@@ -139,7 +139,7 @@ class Chart:
         self.parts.append(svg.text(x, y + 12, sign.letter, "letter middle"))
 
     def arrow(self, arrow: Arrow, source: Lane, target: Lane) -> None:
-        """From the mark at its source to an activation that starts, or to a mark. Within a lane it stays below names."""
+        """From the mark at its source to an activation or a mark. Within a lane it stays below the names."""
         if arrow.depth is None:
             to_x, to_y = self.middle(arrow.last) - MARK / 2, marks_top(target) + MARK / 2
         else:

@@ -11,7 +11,7 @@ import json
 
 from rte_tools.causes import Arrow
 from rte_tools.description import Description
-from rte_tools.exports import NOTE, core_of, task_name
+from rte_tools.exports import NOTE, task_name
 from rte_tools.replay import Bar, Change, Mark, Replay
 from rte_tools.trace import PARTS, read_line
 from rte_tools.wiring import ENVIRONMENT

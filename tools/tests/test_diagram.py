@@ -68,7 +68,8 @@ class Graphs(WithFolder):
             self.assertEqual(sum(map(bool, map(FRAME.match, lines))), sum(line.strip() == "}" for line in lines) - 1)
 
     def test_calls_and_modes_look_unlike_data(self) -> None:
-        styles = [ARROW.fullmatch(line)[5] for line in Graph(description_of(DATA / "bases" / "whole")).lines() if "->" in line]
+        lines = Graph(description_of(DATA / "bases" / "whole")).lines()
+        styles = [ARROW.fullmatch(line)[5] for line in lines if "->" in line]
         self.assertEqual(set(styles), {"solid", "dashed", "dotted"})
 
     @unittest.skipUnless(shutil.which("dot"), "Graphviz is not installed")
@@ -87,7 +88,8 @@ class Graphs(WithFolder):
         self.assertTrue(run_tool("diagram.py", path).stdout.startswith(b"flowchart LR\n"))
         self.assertTrue(run_tool("diagram.py", "--markdown", path).stdout.startswith(b"```mermaid\n"))
         self.assertTrue(run_tool("diagram.py", "--to", "dot", path).stdout.startswith(b"digraph"))
-        for words in (["--to", "dot", "--markdown", path], ["--to", "png", path], [str(self.folder)], [str(self.folder / "none")]):
+        files = [[str(self.folder)], [str(self.folder / "none")]]
+        for words in (["--to", "dot", "--markdown", path], ["--to", "png", path], *files):
             refused = run_tool("diagram.py", *words)
             self.assertEqual((refused.returncode, refused.stdout), (2, b""))
             self.assertNotIn(b"Traceback", refused.stderr)

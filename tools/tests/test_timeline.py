@@ -83,7 +83,8 @@ class Replays(unittest.TestCase):
                 ("Trip", 0, "computer:Range", "OnRange"),
             ],
         )
-        calls = [(mark.lane, mark.verb, mark.code) for mark in shown.marks if mark.verb in ("ask", "answer", "return", "result")]
+        verbs = ("ask", "answer", "return", "result")
+        calls = [(mark.lane, mark.verb, mark.code) for mark in shown.marks if mark.verb in verbs]
         self.assertEqual(
             calls[:6],
             [
@@ -168,7 +169,7 @@ class Pages(WithFolder):
         self.assertLess(len(drawn), 500_000)
 
     def test_an_overview_leads_to_the_run_lines(self) -> None:
-        """From 300 columns on; each run line has its number, and each one that is shown a place to which its link leads."""
+        """From 300 columns on; each run line has its number, and a place to which its link leads."""
         description = description_of(TWO_CORES)
         for runs, expected in ((40, False), (80, True)):
             lines = ["rte-trace 2"]
@@ -256,20 +257,21 @@ class Pages(WithFolder):
 
     def test_a_trace_of_another_description(self) -> None:
         other = str(DATA / "examples" / "power_modes" / "expected.txt")
-        files = str(TWO_CORES / "description.json"), other
+        files, missing = (str(TWO_CORES / "description.json"), other), "which the description does not have"
         self.assertEqual(
             self.refused(*files),
-            f"{other} is not a trace of {files[0]}: line 2 names `power.state` of `env`, which the description does not have",
+            f"{other} is not a trace of {files[0]}: line 2 names `power.state` of `env`, {missing}",
         )
         lines = {
-            "pmup:Fill start Each10": "the instance `pmup`, which the description does not have; the nearest one is `pump`",
-            "pump:Flil start Each10": "the runnable `pump:Flil`, which the description does not have",
-            "pump:Fill start Each20": "the event `Each20` of `pump`, which the description does not have",
-            "pump:Fill write out.lvel 4 0": "`out.lvel` of `pump`, which the description does not have",
-            "pump.m.g phase stable": "`m.g` of `pump`, which the description does not have",
+            "pmup:Fill start Each10": f"the instance `pmup`, {missing}; the nearest one is `pump`",
+            "pump:Flil start Each10": f"the runnable `pump:Flil`, {missing}",
+            "pump:Fill start Each20": f"the event `Each20` of `pump`, {missing}",
+            "pump:Fill write out.lvel 4 0": f"`out.lvel` of `pump`, {missing}",
+            "pump.m.g phase stable": f"`m.g` of `pump`, {missing}",
         }
         for line, said in lines.items():
-            self.assertEqual(foreign(description_of(TWO_CORES), read_trace(["rte-trace 2", line])), f"line 2 names {said}")
+            found = foreign(description_of(TWO_CORES), read_trace(["rte-trace 2", line]))
+            self.assertEqual(found, f"line 2 names {said}")
 
     def test_each_trace_is_of_its_own_description(self) -> None:
         for path in [*DATA.glob("rows/*/expected.txt"), *DATA.glob("bases/*/expected.txt")]:
@@ -297,7 +299,8 @@ class Reports(WithFolder):
             self.assertLess(float(root.get("width")), 1400)
 
     def test_each_class_has_a_style(self) -> None:
-        drawn = report("t", "2", description_of(DATA / "examples" / "lost_value"), replay_of(DATA / "examples" / "lost_value"))
+        folder = DATA / "examples" / "lost_value"
+        drawn = report("t", "2", description_of(folder), replay_of(folder))
         used = {name for names in re.findall(r'class="([^"]+)"', drawn) for name in names.split()}
         styles = drawn[drawn.index("<style>") : drawn.index("</style>")]
         plain = {"idle", "label", "inside", "task", "bar", "mark"}
