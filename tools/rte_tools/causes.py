@@ -61,6 +61,10 @@ class Fill:
     text: str = ""
     has_lost: bool = False
 
+    def held_from(self, moment: int) -> Fill:
+        """What waits from a later moment on, at which nothing is lost."""
+        return replace(self, moment=moment, has_lost=False)
+
 
 @dataclass
 class Queue:

@@ -12,6 +12,7 @@ COLUMN = 26  # pixels
 PALETTE = 8  # how many colours bars have
 EVERY = 5  # how many columns have a number together
 BAR, MARK, SEGMENT = 20, 16, 18  # the heights of an activation, a mark and a value
+STUB = 22  # the length of an arrow whose source is not shown
 REPEATED = 600  # pixels after which a long segment shows its text again
 
 
@@ -39,8 +40,8 @@ class Chart:
                 draw[lane.kind](lane)
         places = {lane.name: lane for lane in self.lanes if lane.kind in (EVENTS, TASK, MODE)}
         for arrow in self.replay.arrows:
-            if arrow.source in places and arrow.target in places:
-                self.arrow(arrow, places[arrow.source], places[arrow.target])
+            if arrow.target in places:
+                self.arrow(arrow, places.get(arrow.source), places[arrow.target])
         return self.parts
 
     def picture(self) -> str:
@@ -138,17 +139,18 @@ class Chart:
         self.parts.append(svg.rect(x - MARK / 2, y, MARK, MARK, f"mark {sign.kind}{bad}", title, 4))
         self.parts.append(svg.text(x, y + 12, sign.letter, "letter middle"))
 
-    def arrow(self, arrow: Arrow, source: Lane, target: Lane) -> None:
-        """From the mark at its source to an activation or a mark. Within a lane it stays below the names."""
+    def arrow(self, arrow: Arrow, source: Lane | None, target: Lane) -> None:
+        """From the mark at its source, or from nearby if that lane is not shown, to an activation or a mark."""
         if arrow.depth is None:
             to_x, to_y = self.middle(arrow.last) - MARK / 2, marks_top(target) + MARK / 2
         else:
             to_x, to_y = self.middle(arrow.last) - COLUMN / 2 + 1, bar_top(target, arrow.depth)
-            to_y += BAR - 3 if source == target else BAR / 2
-        y = marks_top(source)
-        self.parts.append(
-            svg.arrow(self.middle(arrow.first), y + (MARK if to_y > y else 0), to_x, to_y, arrow.kind, arrow.text)
-        )
+            to_y += BAR - 3 if source == target else BAR / 2  # within a lane below the names
+        x, y = to_x - STUB, to_y
+        if source:
+            x, y = self.middle(arrow.first), marks_top(source)
+            y += MARK if to_y > y else 0
+        self.parts.append(svg.arrow(x, y, to_x, to_y, arrow.kind, arrow.text))
 
     def queue(self, lane: Lane) -> None:
         """How much waits: an area below the line of what it holds at most."""

@@ -7,6 +7,7 @@ from __future__ import annotations
 
 from bisect import bisect_left, bisect_right
 from dataclasses import dataclass, field, replace
+from typing import Any
 
 from rte_tools.causes import Arrow, Causes, Queue, Wait
 from rte_tools.description import Description
@@ -51,6 +52,9 @@ class Change:
     moment: int
     text: str
     state: str = "set"
+
+    def held_from(self, moment: int) -> Change:
+        return replace(self, moment=moment)
 
 
 @dataclass(frozen=True)
@@ -107,12 +111,12 @@ class Replay:
         )
 
 
-def clipped(changes: list, first: int, last: int) -> list:
+def clipped(changes: list[Any], first: int, last: int) -> list:
     """The changes between two moments, with the one that holds at the first."""
     begin = bisect_left(changes, first, key=lambda change: change.moment)
     inside = changes[begin : bisect_right(changes, last, key=lambda change: change.moment)]
     if begin and (not inside or inside[0].moment > first):
-        inside.insert(0, replace(changes[begin - 1], moment=first))
+        inside.insert(0, changes[begin - 1].held_from(first))
     return inside
 
 

@@ -83,6 +83,11 @@ class Queues(unittest.TestCase):
         )
         self.assertEqual([fill.moment for fill in queue.fills if fill.has_lost], [4])
 
+    def test_what_was_lost_before_a_window_is_not_lost_in_it(self) -> None:
+        shown = replay_of(ROWS / "queue_of_two_loses_the_third").window(5, 8)
+        fills = shown.queues["c.q.v"].fills
+        self.assertEqual([(fill.moment, fill.count, fill.has_lost) for fill in fills][:2], [(5, 2, False), (7, 1, False)])
+
     def test_each_receiver_has_its_own(self) -> None:
         queues = replay_of(ROWS / "two_receivers_one_full").queues
         self.assertEqual({name: queue.length for name, queue in queues.items()}, {"c.q.v": 2, "d.q.v": 1})

@@ -8,7 +8,7 @@ import xml.etree.ElementTree as xml
 
 from support import DATA, EXAMPLES, WithFolder, description_of, replay_of, run_tool, trace_of
 
-from rte_tools.chart import columns
+from rte_tools.chart import Chart, columns
 from rte_tools.btf import btf
 from rte_tools.foreign import foreign
 from rte_tools.lanes import lanes_of
@@ -314,6 +314,14 @@ class Reports(WithFolder):
         self.assertEqual(sum(text.count('<rect class="mark') for text in texts), len(shown.marks))
         self.assertEqual(len({row.width for row in rows[:-1]}), 1)
         self.assertEqual([">core 0<" in text for text in texts], [True, True, False])
+
+    def test_an_arrow_from_a_lane_that_is_not_shown(self) -> None:
+        """The end of a call from another row: its arrow comes from nearby."""
+        folder = DATA / "examples" / "power_modes"
+        shown = replay_of(folder).window(84, 86)  # the environment wrote in line 72
+        lanes = [lane for lane in lanes_of(description_of(folder), shown) if lane.kind != "events"]
+        drawn = "".join(Chart(shown, lanes, {bar.key: 0 for bar in shown.bars}).draw())
+        self.assertEqual(drawn.count('<g class="arrow data"><title>manager:Decide starts at line 84, since line 72'), 1)
 
     def test_a_long_one_is_shown_at_a_glance(self) -> None:
         lines = ["rte-trace 2", *["env tick", "run", "pump:Fill start Each10", "pump:Fill end", "idle"] * 80]
