@@ -26,7 +26,7 @@ from pathlib import Path
 from typing import IO
 
 from rte_tools.explaining import explain
-from rte_tools.files import Unfit, read_file
+from rte_tools.files import Unfit, read_file, why_unread
 from rte_tools.refusal import Refusal, read_refusal
 
 LAUNCHER = Path(__file__).resolve().parents[1] / "rte"
@@ -39,7 +39,7 @@ def arguments() -> argparse.Namespace:
     parser.add_argument("script", nargs="?", default="", help="the script")
     parser.add_argument(
         "--program",
-        default=os.environ.get("RTE", str(LAUNCHER)),
+        default=os.environ.get("RTE") or str(LAUNCHER),
         help="the program to run; otherwise the variable RTE names it, or it is ./rte of the repository",
     )
     parser.add_argument("--said", metavar="FILE", help="a file with what the program printed; - is standard input")
@@ -84,6 +84,13 @@ def command(words: argparse.Namespace) -> list[str]:
     return ["run", words.description, words.script] if words.script else ["plan", words.description]
 
 
+def is_told(refusal: Refusal, words: argparse.Namespace) -> bool:
+    """Whether the launcher ran and said already which file was not read, and why."""
+    if words.said is not None or refusal.kind != "not read" or Path(words.program).resolve() != LAUNCHER:
+        return False
+    return any(path and why_unread(path) for path in (words.description, words.trace, words.script))
+
+
 def main() -> int:
     words = arguments()
     try:
@@ -91,7 +98,7 @@ def main() -> int:
             refusal, status = run([words.program, *command(words)])
         else:
             refusal, status = read_said(words.said)
-        if refusal and refusal.status == status:
+        if refusal and refusal.status == status and not is_told(refusal, words):
             explained = "\n".join(explain(refusal, words.description, words.script, words.trace)) + "\n"
             sys.stdout.buffer.write(explained.encode("utf-8", errors="replace"))
     except BrokenPipeError:
