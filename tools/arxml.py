@@ -32,6 +32,7 @@ from pathlib import Path
 
 from rte_tools.arxml_import import Imported, Nothing, imported
 from rte_tools.arxml_tree import NotArxml
+from rte_tools.ending import told
 from rte_tools.files import read_schema
 from rte_tools.layout import laid_out
 
@@ -78,13 +79,13 @@ def main() -> int:
     try:
         made = imported(words.files, words.root)
     except (NotArxml, Nothing, OSError) as error:
-        say(str(error))
+        say(told(error))
         return 3
     check_shape(made)
     try:
         write(made, Path(words.output))
     except OSError as error:
-        say(str(error))
+        say(told(error))
         return 4
     summarize(made, Path(words.output))
     return 1 if made.report.notes else 0

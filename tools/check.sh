@@ -102,7 +102,7 @@ draw() {
 # Each as a page, and one in each format; the tests do the rest.
 is_drawn() {
     local form forms=html
-    [ "$1" != examples/door_control ] || forms='html btf vcd perfetto'
+    [ "$1" != examples/door_control ] || forms='html svg btf vcd perfetto'
     for form in $forms; do
         draw "$1" "$form" "$2/drawn.$form" || return 1
     done

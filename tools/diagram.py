@@ -14,17 +14,16 @@ The status is 0, or 2 if the file is not read or is not a description, or the wo
 from __future__ import annotations
 
 import argparse
-import sys
 
 from rte_tools.dot import Graph
-from rte_tools.failures import told
-from rte_tools.files import Unfit, read_description
+from rte_tools.ending import end_with
+from rte_tools.files import read_description
 from rte_tools.mermaid import Flowchart
 
 FORMS = {"mermaid": Flowchart, "dot": Graph}
 
 
-def main() -> int:
+def work() -> int:
     parser = argparse.ArgumentParser(description=__doc__, formatter_class=argparse.RawDescriptionHelpFormatter)
     parser.add_argument("description", help="the description, a JSON file")
     parser.add_argument("--to", choices=FORMS, default="mermaid", help="the form; mermaid without it")
@@ -32,14 +31,10 @@ def main() -> int:
     words = parser.parse_args()
     if words.markdown and words.to != "mermaid":
         parser.error("--markdown is for mermaid alone")
-    try:
-        lines = FORMS[words.to](read_description(words.description)).lines()
-    except (Unfit, OSError) as error:
-        print(f"diagram.py: {told(error)}", file=sys.stderr)
-        return 2
+    lines = FORMS[words.to](read_description(words.description)).lines()
     print("\n".join(["```mermaid", *lines, "```"] if words.markdown else lines))
     return 0
 
 
 if __name__ == "__main__":
-    sys.exit(main())
+    end_with("diagram.py", work)

@@ -18,8 +18,8 @@ import argparse
 import sys
 
 from rte_tools.ending import NOT_WRITTEN, end_with, forget_output
-from rte_tools.explaining import LONGEST, explain, explain_unread
-from rte_tools.files import read_schema
+from rte_tools.explaining import explain, explain_unread
+from rte_tools.files import LONGEST, read_schema
 from rte_tools.judging import first_of_shape, judge
 from rte_tools.located import NotJson, read_json
 from rte_tools.refusal import Refusal

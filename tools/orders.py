@@ -27,7 +27,8 @@ from pathlib import Path
 from rte_tools.bus_plan import BusPlan
 from rte_tools.differing import difference
 from rte_tools.ending import end_with
-from rte_tools.prepared import program, read_layout, read_script
+from rte_tools.files import built_program
+from rte_tools.prepared import read_layout, read_script
 from rte_tools.shuffling import Outcome, Tried, parting, try_orders
 from rte_tools.trace import read_trace
 
@@ -133,7 +134,7 @@ def check(checker: str, description: str, script: str, traces: list[Path]) -> li
 def kept_and_checked(tried: Tried, words: argparse.Namespace, folder: Path) -> int:
     """Writes the traces, lets the program check them, and says what it says."""
     paths = keep(tried, folder)
-    checker = program()
+    checker = built_program()
     refused = check(checker, words.description, words.script, paths) if checker else []
     for line in refused:
         print(line)

@@ -15,7 +15,7 @@ The other formats, those of other tools with line numbers of the trace in place 
   perfetto  a JSON file for ui.perfetto.dev
 
 The status is 0. It is 2 if a file is not read, is not a description or not a trace, or is the trace of another
-description, and if the lines or run lines are not there.
+description, and if the lines or run lines are not there. It is 4 if the output is not read to its end.
 """
 
 from __future__ import annotations
@@ -29,14 +29,13 @@ from typing import Callable
 
 from rte_tools.btf import btf
 from rte_tools.description import Description
-from rte_tools.failures import told
-from rte_tools.files import Unfit, read_description
+from rte_tools.ending import end_with
+from rte_tools.files import Unfit, read_description, read_trace_of
 from rte_tools.foreign import foreign
 from rte_tools.page import page
 from rte_tools.perfetto import perfetto
 from rte_tools.replay import Replay, replay
 from rte_tools.report import report
-from rte_tools.trace import NotATrace, Trace, read_trace
 from rte_tools.vcd import save_file, vcd
 
 EXPORTS: dict[str, Callable[[Description, Replay], str]] = {"btf": btf, "vcd": vcd, "perfetto": perfetto}
@@ -52,16 +51,6 @@ def arguments() -> argparse.Namespace:
     part.add_argument("--runs", metavar="A-B", help="only these run lines, counted from 1; A alone is one of them")
     parser.add_argument("--output", metavar="FILE", help="where to write; standard output without it")
     return parser.parse_args()
-
-
-def read_lines(path: str) -> Trace:
-    try:
-        if path == "-":
-            return read_trace(sys.stdin)
-        with open(path, encoding="utf-8", errors="replace", newline="\n") as file:
-            return read_trace(file)
-    except NotATrace as error:
-        raise Unfit(f"{path} is not a trace: {error}") from error
 
 
 def chosen(whole: Replay, lines: str | None, runs: str | None) -> Replay:
@@ -91,7 +80,7 @@ def between(option: str, words: str) -> tuple[int, int]:
 
 def draw(words: argparse.Namespace) -> str:
     description = read_description(words.description)
-    trace = read_lines(words.trace)
+    trace = read_trace_of(words.trace)
     if found := foreign(description, trace):
         raise Unfit(f"{words.trace} is not a trace of {words.description}: {found}")
     part = chosen(replay(description, trace), words.lines, words.runs)
@@ -109,22 +98,17 @@ def write_save_file(output: str, description: Description, part: Replay) -> None
     dump.with_suffix(".gtkw").write_text(save_file(description, part, dump.name), encoding="utf-8")
 
 
-def main() -> int:
+def work() -> int:
     words = arguments()
     gc.disable()  # all that is made is kept to the end, and looking for what is not takes a third of the time
-    try:
-        drawn = draw(words)
-        if words.output:
-            with open(words.output, "w", encoding="utf-8") as file:
-                file.write(drawn)
-        else:
-            sys.stdout.write(drawn)
-            sys.stdout.flush()
-    except (Unfit, OSError) as error:
-        print(f"timeline.py: {told(error)}", file=sys.stderr)
-        return 2
+    drawn = draw(words)
+    if words.output:
+        with open(words.output, "w", encoding="utf-8") as file:
+            file.write(drawn)
+    else:
+        sys.stdout.write(drawn)
     return 0
 
 
 if __name__ == "__main__":
-    sys.exit(main())
+    end_with("timeline.py", work)

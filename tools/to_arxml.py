@@ -21,24 +21,12 @@ import argparse
 import sys
 
 from rte_tools.arxml_write_system import exported
-from rte_tools.files import Unfit, read_schema
-from rte_tools.located import NotJson, read_json
-from rte_tools.source import read_text
+from rte_tools.ending import told
+from rte_tools.files import Unfit, read_value
 
 
 def say(text: str) -> None:
     print(f"to_arxml.py: {text}", file=sys.stderr)
-
-
-def read_value(path: str) -> dict:
-    """The value of a description. Raises Unfit and OSError."""
-    try:
-        value = read_json(read_text(path)).plain()
-    except NotJson as error:
-        raise Unfit(f"{path} is not JSON: {error.message}") from error
-    if not read_schema().accepts(value):
-        raise Unfit(f"{path} is not a description; tools/lint.py says why")
-    return value
 
 
 def main() -> int:
@@ -48,7 +36,7 @@ def main() -> int:
     words = parser.parse_args()
     try:
         text, notes = exported(read_value(words.description))
-    except (Unfit, OSError) as error:
+    except Unfit as error:
         say(str(error))
         return 3
     except KeyError as error:
@@ -58,7 +46,7 @@ def main() -> int:
         with open(words.output, "w", encoding="utf-8") as file:
             file.write(text)
     except OSError as error:
-        say(str(error))
+        say(told(error))
         return 4
     for note in notes:
         say(note)

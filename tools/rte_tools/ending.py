@@ -22,10 +22,15 @@ def end_with(name: str, work: Callable[[], int]) -> NoReturn:
     except KeyboardInterrupt:
         status = INTERRUPTED
     except (Unfit, OSError) as error:
-        print(f"{name}: {error}", file=sys.stderr)
+        print(f"{name}: {told(error)}", file=sys.stderr)
         status = NOT_USED
         forget_output()
     sys.exit(status)
+
+
+def told(error: Exception) -> str:
+    """What is said of an error. One of the system's names the file, or is of the output."""
+    return f"{error.filename or 'the output'}: {error.strerror}" if isinstance(error, OSError) and error.strerror else str(error)
 
 
 def forget_output() -> None:

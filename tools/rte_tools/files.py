@@ -11,7 +11,7 @@ from rte_tools.description import Description, described
 from rte_tools.located import NotJson, read_json
 from rte_tools.shape import Shape
 from rte_tools.source import read_text
-from rte_tools.trace import HEADER
+from rte_tools.trace import HEADER, NotATrace, Trace, read_trace
 
 LONGEST = 8_388_608  # bytes of a file that the program reads
 BEGINNING = 4096  # characters by which it is seen what a text is
@@ -64,7 +64,23 @@ def read_file(path: str) -> str:
     try:
         return read_text(path)
     except OSError as error:
-        raise Unfit(f"cannot read {path}: {why_unread(path) or error.strerror}") from error
+        raise Unfit(unread(path, error)) from error
+
+
+def read_trace_of(path: str) -> Trace:
+    """The trace of a file; - is standard input. Raises Unfit with one line if it is not read, or is none."""
+    try:
+        with open(0 if path == "-" else path, encoding="utf-8", errors="replace", newline="\n") as file:
+            return read_trace(file)
+    except NotATrace as error:
+        raise Unfit(f"{path} is not a trace: {error}") from error
+    except OSError as error:
+        raise Unfit(unread(path, error)) from error
+
+
+def unread(path: str, error: OSError) -> str:
+    """One line that names a file that the system does not give, and says why."""
+    return f"cannot read {path}: {why_unread(path) or error.strerror}"
 
 
 def kind_of(text: str) -> str:

@@ -137,7 +137,7 @@ class Summaries(WithFolder):
             ([description, altered], "may not come here: its program asks for `write out.level 40`"),
             ([description, description], "is not a trace"),
             ([expected, expected], "is not JSON"),
-            ([description, str(self.folder)], "Is a directory"),
+            ([description, str(self.folder)], "this is a folder"),
         ):
             ended = call_tool("summary", *words)
             self.assertEqual((ended.status, ended.out), (2, ""))

@@ -247,8 +247,8 @@ class Pages(WithFolder):
         self.assertEqual(self.refused(*files, "--lines", "10"), f"--lines 10: {form} --lines 10-40")
         self.assertEqual(self.refused(*files, "--runs", "x"), f"--runs x: {form} --runs 10-40")
         self.assertEqual(self.refused(*files, "--runs", "3"), "--runs 3: the trace has the run lines 1 to 2")
-        self.assertEqual(self.refused(str(self.folder), files[1]), f"{self.folder} is a folder")
-        self.assertEqual(self.refused(files[0], "none.txt"), "there is no file none.txt")
+        self.assertEqual(self.refused(str(self.folder), files[1]), f"cannot read {self.folder}: this is a folder")
+        self.assertEqual(self.refused(files[0], "none.txt"), "cannot read none.txt: there is no such file")
 
     def test_run_lines_are_chosen(self) -> None:
         files = str(TWO_CORES / "description.json"), str(TWO_CORES / "expected.txt")
