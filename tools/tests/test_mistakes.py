@@ -7,14 +7,13 @@ the program is there, it has to say so.
 from __future__ import annotations
 
 import importlib
-import os
 import unittest
 
 from mistakes import Elsewhere, Mistake, TraceMistake, folder_of
 from mistakes_in_descriptions import JOINS, MAPPING, SHAPES
 from mistakes_in_programs import PROGRAMS
 from mistakes_in_scripts import SCRIPTS, TRACES
-from support import TOOLS, WithFolder, edited, line_of, program, run, run_tool, text_of
+from support import WithFolder, edited, line_of, program, run, run_tool, text_of
 
 from rte_tools.explaining import explain
 from rte_tools.refusal import read_refusal
@@ -223,7 +222,6 @@ class Files(WithFolder):
 class WhatARunShows(WithFolder):
     """What no look at a description shows: values that are clamped in a run, results that depend on the order of cores."""
 
-    @unittest.skipUnless(os.access(TOOLS / "summary.py", os.X_OK), "tools/summary.py is not there")
     def test_a_value_that_is_clamped(self) -> None:
         example = folder_of("trip_computer")
         text = edited(
@@ -233,9 +231,10 @@ class WhatARunShows(WithFolder):
         trace = text_of(example / "expected.txt").replace("write panel.km 500 0", "write panel.km 2000 0")
         trace = self.write("t.txt", trace.replace("panel.km 0 500", "panel.km 0 2000"))
         ended = run_tool("summary.py", self.write("d.json", text), trace)
-        self.assertIn(b"clamped", ended.stdout)
+        clamped = ended.stdout.decode().partition("\nclamped values\n")[2].splitlines()
+        self.assertEqual(clamped, ["  display:Show write panel.km  1  2500 -> 2000, first in line 54"])
+        self.assertEqual((ended.stderr, ended.returncode), (b"", 0))
 
-    @unittest.skipUnless(os.access(TOOLS / "orders.py", os.X_OK), "tools/orders.py is not there")
     def test_a_result_that_depends_on_the_order(self) -> None:
         seen = '{"kind":"PPortPrototype","shortName":"seen","interface":"Levels"}'
         read, requester = '["read","in","level",["x"],"s"]', '"requester":["gauge","in"]}'
@@ -250,8 +249,11 @@ class WhatARunShows(WithFolder):
         text = edited(text_of(folder_of("two_cores") / "description.json"), edits)
         script = self.write("s.txt", "tick 10\nrun\nread seen.level\n")
         ended = run_tool("orders.py", self.write("d.json", text), script)
-        outcomes = {line for line in (b"seen.level 0 0", b"seen.level 0 40", b"seen.level 0 80") if line in ended.stdout}
-        self.assertGreaterEqual(len(outcomes), 2, ended.stdout)
+        lines = ended.stdout.decode().splitlines()
+        self.assertEqual((lines[0], ended.returncode), ("300 orders of the cores, 3 outcomes", 1))
+        seen = {line.partition(": env read seen.level ")[2] for line in lines} - {""}
+        self.assertEqual(seen, {"0 0", "0 40", "0 80"}, ended.stdout)
+        self.assertIn("  they part at gauge:Look", lines)
 
 
 if __name__ == "__main__":
