@@ -113,7 +113,7 @@ class Chart:
 
     def bar(self, bar: Bar, lane: Lane) -> None:
         x, end = self.left(bar.first), self.right(bar.last)
-        since = f", due since line {bar.due}" if bar.due else ""
+        since = f", pending since line {bar.due}" if bar.due else ""
         title = f"{bar.key} started by {bar.event}, lines {bar.first} to {bar.last or '?'}{since}"
         state = "" if bar.is_admitted else " dropped"
         colour = f"bar c{self.colours[bar.key] % PALETTE}{state}" + ("" if bar.last else " open")

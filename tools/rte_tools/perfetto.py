@@ -79,7 +79,7 @@ def slice_named(name: str, first: int, last: int, place: Place, given: dict) -> 
 
 def activation(bar: Bar, place: Place) -> list[dict]:
     held = {"name": bar.key, "pid": place[0], "tid": place[1]}
-    given = {"event": bar.event} | ({} if bar.due is None else {"due since line": bar.due})
+    given = {"event": bar.event} | ({} if bar.due is None else {"pending since line": bar.due})
     found = [{"ph": "B", "ts": bar.first, **held, "args": given}]
     return found + ([{"ph": "E", "ts": bar.last, **held}] if bar.last is not None else [])
 

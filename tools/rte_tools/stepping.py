@@ -55,7 +55,7 @@ class Stepper:
         if line.actor in self.bus.running:
             return "it runs already"
         if not self.bus.is_due((instance, line.part("event")), point):
-            return "its event is not due"
+            return "its event is not pending"
         if event.kind == "OperationInvokedEvent":
             oldest = self.bus.requests[point or event.of][0]
             if (line.fields[2], value_of(line.fields[3])) != oldest:

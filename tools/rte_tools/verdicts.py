@@ -20,7 +20,7 @@ CLAUSES = {
     10: "exclusive areas: an area is entered while nobody is in it",
     11: "modes: the phase may not come, or the answer is another",
     12: "admission: an event is admitted exactly if no mode disables it",
-    13: "the event is not due",
+    13: "the event is not pending",
     15: "the closing word does not hold",
     16: "this is not the script's next call or run mark, or it stands on the wrong side of one",
 }
@@ -215,18 +215,18 @@ def no_start(clause: int, line: Line, bus: Bus) -> Iterator[str]:
         first, value = bus.requests[point or event.of][0]
         yield f"The oldest request is that of `{first}` with the value `{value_text(value)}`."
     else:
-        yield not_due(event, bus)
+        yield not_pending(event, bus)
 
 
-def not_due(event, bus: Bus) -> str:
-    """Why an event is not due."""
+def not_pending(event, bus: Bus) -> str:
+    """Why an event is not pending."""
     if event.kind == "TimingEvent":
         return f"The period is {event.of:,}, and {bus.ticks:,} ticks have passed; a start clears what is pending."
     if event.kind == "OperationInvokedEvent":
         return "No request waits."
     if event.kind == "InitEvent":
         return "It starts its runnable once."
-    return "What makes it due has not come since its last start."
+    return "What makes it pending has not come since its last start."
 
 
 # ---- lines without a reading

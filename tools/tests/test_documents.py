@@ -62,10 +62,8 @@ class Documents(unittest.TestCase):
 
     def test_users_meet_one_vocabulary(self) -> None:
         for name in FOR_USERS:
-            for worn in (NOT_CONNECTED, NOT_CLAMPED):
+            for worn in (NOT_CONNECTED, NOT_CLAMPED, NOT_PENDING):
                 self.assertNotRegex(text_of(TOP / name), worn, name)
-        for name in ("README.md", "docs/FIRST_NODE.md", "docs/SECOND_NODE.md", "docs/FORMAT.md"):
-            self.assertNotRegex(text_of(TOP / name), NOT_PENDING, name)
 
 
 if __name__ == "__main__":

@@ -151,7 +151,7 @@ class Pages(WithFolder):
             self.assertIn("not time", drawn)
             titles = [title.text for title in root.iter("title")]
             for bar in shown.bars:
-                since = f"due since line {bar.due}"
+                since = f"pending since line {bar.due}"
                 self.assertIn(f"{bar.key} started by {bar.event}, lines {bar.first} to {bar.last}, {since}", titles)
 
     def test_ticks_in_a_row_share_a_column(self) -> None:
