@@ -17,7 +17,7 @@ from rte_tools.trace import HEADER, read_line
 WIDTH = 110  # of a line of an explanation
 MOST_NAMES = 3  # of those that a foreign trace names
 UNKNOWN = reference.Entry("docs/FORMAT.md does not tell it", "see whether the program and the documents fit together.")
-IS_XML = "This is XML. A description is JSON: docs/AUTOSAR.md leads from ARXML to its keys."
+IS_XML = "This is XML. A description is JSON: tools/arxml.py makes one of ARXML, and docs/AUTOSAR.md leads from ARXML to its keys."
 
 
 def explain(refusal: Refusal, description: str, script: str, trace: str = "") -> list[str]:
@@ -63,7 +63,7 @@ def exchanged(wanted: str, text: str, is_check: bool) -> tuple[list[str], str] |
     if kind in ("", wanted):
         return None
     if kind == "XML":
-        return [IS_XML], "write the description as JSON."
+        return [IS_XML], "give the description that tools/arxml.py makes, or write it as JSON."
     order = "`check` takes DESCRIPTION TRACE SCRIPT" if is_check else "`run` takes DESCRIPTION SCRIPT"
     return [f"This is a {kind}, and a {wanted} is wanted here."], f"give the words in their order: {order}."
 
