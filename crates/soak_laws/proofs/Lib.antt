@@ -1,0 +1,15 @@
+mod Lists
+mod Soaked
+mod Names
+mod Reading
+mod Held
+mod Flat
+mod Joins
+mod Programs
+mod Mapped
+mod Sizes
+mod Shapes
+mod Declared
+mod References
+mod Distinct
+mod Law
