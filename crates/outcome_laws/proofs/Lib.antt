@@ -1,0 +1,9 @@
+mod Values
+mod Programs
+mod Short
+mod Described
+mod Plans
+mod Waits
+mod Whole
+mod Scripts
+mod Traces

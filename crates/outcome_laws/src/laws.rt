@@ -1,0 +1,34 @@
+//! The laws.
+
+ghost use Rattle.std.specs.Prelude.{◌≤◌, ◌⊎◌, ℕ, List, length};
+ghost use Rattle.rte_text.specs.declared.shelf.TheConstants.{FILE_LIMIT};
+ghost use Rattle.bus_semantics.specs.declared.script.Line.{Line};
+ghost use Rattle.bus_semantics.specs.declared.script.Mapping.{Mapping};
+ghost use Rattle.bus_semantics.specs.Plan.{Plan};
+ghost use Rattle.outcome_laws.specs.Outcomes.{HasBadLine, HasPlan, HasRefusal, HasScript, HasVerdict};
+
+use check_laws::accepted_items_go_on;
+use description_laws::read_descriptions_are_well_formed;
+use description_stages::plans_are_sound;
+use flat_laws::descriptions_are_made_flat_or_refused;
+
+/// The bytes of a file have a plan or are refused by a rule.
+pub fn bytes_have_a_plan_or_a_refusal()
+    ensures { (bytes : List ℕ) → length bytes ≤ FILE_LIMIT → HasPlan bytes ⊎ HasRefusal bytes }
+{
+    read_descriptions_are_well_formed();
+    descriptions_are_made_flat_or_refused();
+    plans_are_sound();
+}
+
+/// Over any plan, bytes are a script or have a first bad line, with its cause.
+pub fn bytes_are_a_script_or_have_a_bad_line()
+    ensures { (p : Plan) (bytes : List ℕ) → HasScript p bytes ⊎ HasBadLine p bytes }
+{}
+
+/// No trace is without a verdict, whatever the plan and the script. That one is missing is refuted; which one it is the check finds.
+pub fn no_trace_is_without_a_verdict()
+    ensures { (p : Plan) (m : Mapping) (script : List Line) (trace : List ℕ) → ¬ (¬ HasVerdict p m script trace) }
+{
+    accepted_items_go_on();
+}
