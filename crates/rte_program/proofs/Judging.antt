@@ -1,111 +1,37 @@
--- What judging two files says, of the words that name them.
-use Rattle.std.proofs.Common.{◌≡◌, ℕ, ◌+◌, ◌<◌, ◌≤◌, List, [], ◌∷◌, ◌++◌, length, length-append, arith, refl, ap, inl, inr, slice_get, Option, Some, None, Ok, Err, Result, Bool, true, false, ◌==◌}
-use Rattle.std.specs.Prelude.{IfErr, IfOk}
-use Rattle.rte_text.specs.declared.shelf.TheConstants.{FILE_LIMIT}
-use Rattle.rte_text.specs.Shelves.{ToldFiles, ShelfCounts}
+-- What is found of files, and what a stop then says of the command.
+use Rattle.std.specs.Prelude.{◌⊎◌}
+use Rattle.std.proofs.Common.{◌≡◌, ℕ, ◌+◌, ◌≤◌, List, [], ◌∷◌, ◌++◌, length, length-append, arith, refl, ap, inl, inr, Option, Some, None, Bool, true, false, ◌==◌}
 use Rattle.bus_semantics.specs.Plan.{Plan, plan_of}
 use Rattle.bus_semantics.specs.Spelling.{Letters}
-use Rattle.script_reading.specs.Reading.{bad_or, cause_of, first_bad}
-use Rattle.line_fields.specs.Texts.{lines_of, onto_first}
-use Rattle.rte_program.specs.declared.stop.Stop.{Stop}
-use Rattle.rte_program.specs.declared.stop.Stop.TheVariants as stop
+use Rattle.check_definitions.specs.declared.checked.Checked.TheVariants.{Legal}
 use Rattle.description_stages.specs.declared.planning.PlannedDescription.{PlannedDescription}
 use Rattle.description_stages.specs.Plans.{IsPlannedOf}
-use Rattle.rte_program.specs.Inputs.{Texts, AreFetched, IsFetchStopped, IsFetched, IsForm, IsJudged, IsNotPlanned, IsNumbered, IsStopped, Names, NamesOne, NamesPlanned}
-use Rattle.rte_program.specs.Stops.{IsShort}
+use Rattle.plan_text.specs.Lines.{plan_text}
+use Rattle.script_reading.specs.Reading.{bad_or, cause_of, first_bad}
+use Rattle.line_fields.specs.Texts.{lines_of, onto_first}
+use Rattle.rte_program.specs.declared.status.Status.{Status}
+use Rattle.rte_program.specs.declared.status.Status.TheVariants as status
+use Rattle.rte_program.specs.declared.stop.Finding.{Finding}
+use Rattle.rte_program.specs.declared.stop.Finding.TheVariants as finding
+use Rattle.rte_program.specs.declared.stop.Stop.{Stop}
+use Rattle.rte_program.specs.declared.stop.Stop.TheVariants as stop
+use Rattle.rte_program.specs.Carrying.{CarriesOut}
+use Rattle.rte_program.specs.Commands.{Bytes, Command, check, plan}
+use Rattle.rte_program.specs.CheckCommand.{IsCheckedAs}
+use Rattle.rte_program.specs.Judging.{IsFound, IsNotPlanned, IsNotRun}
+use Rattle.rte_program.specs.PlanCommand.{IsPlanFinding}
+use Rattle.rte_program.specs.RunCommand.{IsRunFinding}
+use Rattle.rte_program.specs.Texts.{checked_text, finding_text, IsPut, IsShort, IsShortFinding, IsUnsaid, Says}
+use Rattle.rte_program.specs.Verdicts.{done, refused, IsFindingOn}
 
-stopped_by : (words : Texts) (files : ToldFiles) (before after : ShelfCounts) (d s : List ℕ) → Names words files d s → after ≡ before → (why : Stop) → IsJudged d s why → IsStopped words files before after why
-stopped_by words files before after d s names same (stop.Refused refusal) judged = (inl (record { description_bytes = d; script_bytes = s; names = names; refused = judged }), same)
-stopped_by words files before after d s names same (stop.Script line cause) judged = (record { description_bytes = d; script_bytes = s; names = names; bad = judged }, same)
-stopped_by words files before after d s names same stop.Memory judged = (inl (names.description_name, names.script_name, names.words_are), same)
-stopped_by words files before after d s names same stop.Words judged = absurd judged
-stopped_by words files before after d s names same (stop.NotRead word) judged = absurd judged
-
-pub judge_stopped : {X : Type 0} → (words : Texts) (files : ToldFiles) (before after : ShelfCounts) (d s : List ℕ) → Names words files d s → after ≡ before
-    → (r : Result X Stop) → IfErr r (IsJudged d s) → IfErr r (IsStopped words files before after)
-judge_stopped words files before after d s names same (Ok x) judged = tt
-judge_stopped words files before after d s names same (Err why) judged = stopped_by words files before after d s names same why judged
-
--- ---- the same of the one file of a plan
-
-unplanned_by : (words : Texts) (files : ToldFiles) (before after : ShelfCounts) (d : List ℕ) → NamesOne words files d → after ≡ before → (why : Stop) → IsNotPlanned d why → IsStopped words files before after why
-unplanned_by words files before after d names same (stop.Refused refusal) refused = (inr (record { description_bytes = d; names = names; refused = refused }), same)
-unplanned_by words files before after d names same stop.Memory refused = (inr (inl (names.name, names.words_are)), same)
-unplanned_by words files before after d names same (stop.Script line cause) refused = absurd refused
-unplanned_by words files before after d names same stop.Words refused = absurd refused
-unplanned_by words files before after d names same (stop.NotRead word) refused = absurd refused
-
-pub plan_stopped : {X : Type 0} → (words : Texts) (files : ToldFiles) (before after : ShelfCounts) (d : List ℕ) → NamesOne words files d → after ≡ before
-    → (r : Result X Stop) → IfErr r (IsNotPlanned d) → IfErr r (IsStopped words files before after)
-plan_stopped words files before after d names same (Ok x) refused = tt
-plan_stopped words files before after d names same (Err why) refused = unplanned_by words files before after d names same why refused
-
-pub planned_named : {E : Type 0} → (words : Texts) (files : ToldFiles) (d : List ℕ) → NamesOne words files d
-    → (r : Result PlannedDescription E) → IfOk r (IsPlannedOf d) → IfOk r (NamesPlanned words files)
-planned_named words files d names (Ok found) planned = record { description_bytes = d; names = names; planned = planned }
-planned_named words files d names (Err why) planned = tt
-
-pub plan_short : {X : Type 0} → (d : List ℕ) → (r : Result X Stop) → IfErr r (IsNotPlanned d) → IfErr r IsShort
-plan_short d (Ok x) refused = tt
-plan_short d (Err (stop.Refused refusal)) refused = tt
-plan_short d (Err stop.Memory) refused = tt
-plan_short d (Err (stop.Script line cause)) refused = absurd refused
-plan_short d (Err stop.Words) refused = absurd refused
-plan_short d (Err (stop.NotRead word)) refused = absurd refused
-
--- ---- a file that was not fetched
-
--- the word that names it
-pub unfetched : (words : Texts) (files : ToldFiles) (name : List ℕ) (word : ℕ) (before after : ShelfCounts) → IsForm words → 0 < word → slice_get words word ≡ Some name
-    → (why : Stop) → IsFetchStopped files name word before after why → IsStopped words files before after why
-unfetched words files name word before after form pos is (stop.NotRead n) stopped = record {
-  name = name;
-  is_form = form;
-  after_command = rw stopped.0 pos;
-  name_is = rw stopped.0 is;
-  unread = stopped.1;
-}
-unfetched words files name word before after form pos is stop.Memory stopped = (form, stopped)
-unfetched words files name word before after form pos is stop.Words stopped = absurd stopped
-unfetched words files name word before after form pos is (stop.Refused refusal) stopped = absurd stopped
-unfetched words files name word before after form pos is (stop.Script line cause) stopped = absurd stopped
-
--- the number of fetches
-pub one_fetched : (files : ToldFiles) (before after : ℕ) → IsFetched files before after → AreFetched files before after 1
-one_fetched None before after one = tt
-one_fetched (Some held) before after one = λ below. one (omega (arith, below))
-
-pub two_fetched : (files : ToldFiles) (before between after : ℕ) → IsFetched files before between → IsFetched files between after → AreFetched files before after 2
-two_fetched None before between after one two = tt
-two_fetched (Some held) before between after one two = λ below.
-    let first : between ≡ before + 1 = one (omega (arith, below)) in
-    let second : after ≡ between + 1 = two (omega (arith, below, first)) in
-    omega (arith, first, second)
-
-pub numbered_at : (files : ToldFiles) (name : List ℕ) (word : ℕ) (b a : ShelfCounts) (before after : ℕ) → AreFetched files before after word
-    → (why : Stop) → IsFetchStopped files name word b a why → IsNumbered files before after why
-numbered_at files name word b a before after fetched (stop.NotRead n) stopped = rw stopped.0 fetched
-numbered_at files name word b a before after fetched stop.Memory stopped = tt
-numbered_at files name word b a before after fetched stop.Words stopped = tt
-numbered_at files name word b a before after fetched (stop.Refused refusal) stopped = tt
-numbered_at files name word b a before after fetched (stop.Script line cause) stopped = tt
-
--- where all files were fetched no word is named
-pub judge_numbered : {X : Type 0} → (d s : List ℕ) (files : ToldFiles) (before after : ℕ) (r : Result X Stop) → IfErr r (IsJudged d s) → IfErr r (IsNumbered files before after)
-judge_numbered d s files before after (Ok x) judged = tt
-judge_numbered d s files before after (Err (stop.Refused refusal)) judged = tt
-judge_numbered d s files before after (Err (stop.Script line cause)) judged = tt
-judge_numbered d s files before after (Err stop.Memory) judged = tt
-judge_numbered d s files before after (Err stop.Words) judged = absurd judged
-judge_numbered d s files before after (Err (stop.NotRead word)) judged = absurd judged
-
-pub plan_numbered : {X : Type 0} → (d : List ℕ) (files : ToldFiles) (before after : ℕ) (r : Result X Stop) → IfErr r (IsNotPlanned d) → IfErr r (IsNumbered files before after)
-plan_numbered d files before after (Ok x) refused = tt
-plan_numbered d files before after (Err (stop.Refused refusal)) refused = tt
-plan_numbered d files before after (Err stop.Memory) refused = tt
-plan_numbered d files before after (Err (stop.Script line cause)) refused = absurd refused
-plan_numbered d files before after (Err stop.Words) refused = absurd refused
-plan_numbered d files before after (Err (stop.NotRead word)) refused = absurd refused
+pub stopped : (command : Command) (files : List Bytes) (finds : Finding → Type 0) → ((found : Finding) → finds found → IsFindingOn command files found)
+    → (answer : Status) (before after : Option Bytes) (f g : ℕ) (why : Stop) → IsFound finds why → Says why answer before after f g → CarriesOut command files answer before after f g
+stopped command files finds are answer before after f g (stop.Found found) is (inl put) =
+    inl (record { verdict = refused found; verdict_is = are found is; text = finding_text found; said = refl; put = put })
+stopped command files finds are answer before after f g (stop.Found found) is (inr unsaid) = inr (inr (record { status_is = unsaid.status_is; faults = unsaid.faults; put = inl unsaid.told }))
+stopped command files finds are answer before after f g stop.Memory is unsaid = inr (inr (record { status_is = unsaid.status_is; faults = unsaid.faults; put = inl unsaid.told }))
+stopped command files finds are answer before after f g stop.Words is says = absurd is
+stopped command files finds are answer before after f g (stop.NotRead place) is says = absurd is
 
 -- ---- the number of a bad line
 
@@ -134,13 +60,41 @@ bad_within p before (t ∷ ts) n cause e = by (cause_of p before t) e (λ later.
     by None later more = omega (arith, more later, length-append before (t ∷ []))
     by (Some k) now more = omega (arith, number_of (length before + 1, k) (n, cause) now)
 
-pub short_by : (d s : List ℕ) → length s ≤ FILE_LIMIT → (why : Stop) → IsJudged d s why → IsShort why
-short_by d s fits (stop.Script line cause) judged = omega (arith, bad_within (plan_of judged.found.plan) [] (lines_of s) line cause judged.bad, lines_fit s, fits)
-short_by d s fits (stop.Refused refusal) judged = tt
-short_by d s fits stop.Memory judged = tt
-short_by d s fits stop.Words judged = tt
-short_by d s fits (stop.NotRead word) judged = tt
+pub found_short : (d s : Bytes) → length s ≤ 8388608 → (found : Finding) → IsRunFinding d s found → IsShortFinding found
+found_short d s fits (finding.Refused refusal) is = tt
+found_short d s fits (finding.Script line cause) is = omega (arith, bad_within (plan_of is.found.plan) [] (lines_of s) line cause is.bad, lines_fit s, fits)
+found_short d s fits (finding.Trace checked) is = absurd is
 
-pub judge_short : {X : Type 0} → (d s : List ℕ) → length s ≤ FILE_LIMIT → (r : Result X Stop) → IfErr r (IsJudged d s) → IfErr r IsShort
-judge_short d s fits (Ok x) judged = tt
-judge_short d s fits (Err why) judged = short_by d s fits why judged
+pub short_by : (finds : Finding → Type 0) → ((found : Finding) → finds found → IsShortFinding found) → (why : Stop) → IsFound finds why → IsShort why
+short_by finds short (stop.Found found) is = short found is
+short_by finds short stop.Memory is = tt
+short_by finds short stop.Words is = absurd is
+short_by finds short (stop.NotRead place) is = absurd is
+
+pub run_short : (d s : Bytes) → length s ≤ 8388608 → (why : Stop) → IsNotRun d s why → IsShort why
+run_short d s fits why is = short_by (IsRunFinding d s) (found_short d s fits) why is
+
+pub plan_short : (d : Bytes) (why : Stop) → IsNotPlanned d why → IsShort why
+plan_short d why is = short_by (IsPlanFinding d) by why is
+  where
+    by : (found : Finding) → IsPlanFinding d found → IsShortFinding found
+    by (finding.Refused refusal) is = tt
+    by (finding.Script line cause) is = absurd is
+    by (finding.Trace checked) is = absurd is
+
+-- ---- what is said where nothing is found
+
+pub planned : (d description : Bytes) (found : PlannedDescription) → IsPlannedOf description found → (answer : Status) (before after : Option Bytes) (f g : ℕ)
+    → IsPut (plan_text found.description found.flat found.plan) status.Done answer before after f g ⊎ IsUnsaid answer before after f g → CarriesOut (plan d) (description ∷ []) answer before after f g
+planned d description found is answer before after f g (inl put) = inl (record {
+  verdict = done;
+  verdict_is = (found, is);
+  text = plan_text found.description found.flat found.plan;
+  said = record { found = found; planned = is; text_is = refl };
+  put = put;
+})
+planned d description found is answer before after f g (inr unsaid) = inr (inr (record { status_is = unsaid.status_is; faults = unsaid.faults; put = inl unsaid.told }))
+
+pub legal : (d t s description trace script : Bytes) → IsCheckedAs description trace script Legal → (answer : Status) (before after : Option Bytes) (f g : ℕ)
+    → IsPut (checked_text Legal) status.Done answer before after f g → CarriesOut (check d t s) (description ∷ trace ∷ script ∷ []) answer before after f g
+legal d t s description trace script is answer before after f g put = inl (record { verdict = done; verdict_is = is; text = checked_text Legal; said = refl; put = put })

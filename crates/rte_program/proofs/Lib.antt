@@ -1,12 +1,14 @@
-pub mod Answering
-pub mod Soaks
-pub mod Judging
-pub mod Ran
 pub mod Words
-pub mod Complete
+pub mod Fetched
+pub mod Puts
+pub mod Ending
+pub mod Coming
+pub mod Carried
+pub mod Judging
+pub mod Lines
+pub mod Ran
 pub mod Numbered
-mod LegalTraces
-mod Checks
-mod Scripts
-mod Apart
-mod SoakSizes
+pub mod Scripts
+pub mod OneVerdict
+pub mod SoakSizes
+pub mod Soaks

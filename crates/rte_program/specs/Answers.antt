@@ -1,139 +1,108 @@
 -- What each answer of the top call says of the words, of the files, and of what was put.
-use Rattle.std.specs.Prelude.{◌≡◌, ℕ, List, ◌++◌, codes, decimal, Option, Some, ◌⊎◌, ◌≤◌, length}
+use Rattle.std.specs.Prelude.{◌≡◌, ℕ, ◌≤◌, ◌⊎◌, List, [], ◌∷◌, length, Option, Some, None}
 use Rattle.rte_text.specs.Counts.{Rose}
-use Rattle.rte_text.specs.declared.refusal.Refusal.{Refusal}
-use Rattle.rte_text.specs.declared.shelf.TheConstants.{FILE_LIMIT}
 use Rattle.rte_text.specs.Shelves.{ToldFiles, ShelfCounts}
 use Rattle.rte_text.specs.Sinks.{AppendsWhereTold, AppendsPrefixWhereTold}
-use Rattle.bus_semantics.specs.declared.script.Line.{Line}
-use Rattle.bus_semantics.specs.Plan.{plan_of}
-use Rattle.script_reading.specs.Reading.{IsScript}
-use Rattle.description_stages.specs.declared.planning.PlannedDescription.{PlannedDescription}
-use Rattle.rte_program.specs.declared.stop.Stop.{Stop}
 use Rattle.rte_program.specs.declared.status.Status.{Status}
-use Rattle.rte_program.specs.declared.status.Status.TheVariants.{Done, Refused, Script, Memory}
-use Rattle.rte_program.specs.Stops.{stop_text, refusal_text, script_refusal_text}
-use Rattle.plan_text.specs.Lines.{plan_text}
-use Rattle.rte_program.specs.Inputs.{Texts, run_words, plan_words, AreFetched, IsNoForm, NamesInputs, NamesPlanned, NamesRefused, NamesBadLine, NamesUnread, IsStopped}
-use Rattle.rte_program.specs.Running.{PrintsRun, PrintsBeginning}
-use Rattle.rte_program.specs.Soaking.{SoaksWhatIsAsked, RefusesSoak, CutsSoak}
+use Rattle.rte_program.specs.declared.status.Status.TheVariants as status
+use Rattle.rte_program.specs.Commands.{Bytes, Words, Command, command_of, files_of}
+use Rattle.rte_program.specs.Fetching.{AreFetched, AreHeldWhereTold, IsUnreadAt}
+use Rattle.rte_program.specs.Texts.{unread_text, words_text}
+use Rattle.rte_program.specs.Verdicts.{Verdict, status_of, Begins, IsVerdictOn, SaysVerdict}
 
 -- ---- what each answer says
 
--- the headline: the words `run C S` name a description and a script, and the bytes put spell a run of that script over its plan
-pub record RunsWhatIsNamed (words : Texts) (files : ToldFiles) (before after : Option (List ℕ)) : Type 0 where
-  pub found : PlannedDescription
-  pub script : List Line
-  pub named : NamesInputs words files found script
-  pub printed : PrintsRun (plan_of found.plan) found.mapping script before after
+-- the words give this command, and the files that it reads hold these bytes where the shelf tells them
+pub record Names (words : Words) (told : ToldFiles) (command : Command) (files : List Bytes) : Type 0 where
+  pub given : command_of words ≡ Some command
+  pub held : AreHeldWhereTold told (files_of command) files
 
--- the words `plan C` name a description, and the bytes put are the text of its plan
-pub record PrintsPlan (words : Texts) (files : ToldFiles) (before after : Option (List ℕ)) : Type 0 where
-  pub found : PlannedDescription
-  pub named : NamesPlanned words files found
-  pub printed : AppendsWhereTold before after (plan_text found.description found.flat found.plan)
+-- the answer is that of a verdict
+abbrev pub IsOfVerdict : Status → Type 0
+IsOfVerdict answer = (verdict : Verdict) × (answer ≡ status_of verdict)
 
--- what the words ask for was run
-abbrev pub RunsWhatIsAsked : Texts → ToldFiles → Option (List ℕ) → Option (List ℕ) → Type 0
-RunsWhatIsAsked words files before after = RunsWhatIsNamed words files before after ⊎ SoaksWhatIsAsked words before after
+-- the headline: the words give a command, the answer is that of the verdict on its files, and the text was put that is said with this verdict
+pub record Answers (words : Words) (told : ToldFiles) (answer : Status) (before after : Option Bytes) : Type 0 where
+  pub command : Command
+  pub files : List Bytes
+  pub named : Names words told command files
+  pub verdict : Verdict
+  pub verdict_is : IsVerdictOn command files verdict
+  pub status_is : answer ≡ status_of verdict
+  pub text : Bytes
+  pub said : SaysVerdict command files verdict text
+  pub put : AppendsWhereTold before after text
 
--- the rule that is broken and its place
-pub record RefusesWhatIsNamed (words : Texts) (files : ToldFiles) (before after : Option (List ℕ)) : Type 0 where
-  pub refusal : Refusal
-  pub named : NamesRefused words files refusal
-  pub told : AppendsWhereTold before after (refusal_text refusal.rule refusal.place)
+-- the words give no command
+pub record RefusesWords (words : Words) (before after : Option Bytes) : Type 0 where
+  pub no_command : command_of words ≡ None
+  pub put : AppendsWhereTold before after words_text
 
--- of the description that the words name, or of the one that `soak N` makes
-abbrev pub RefusesWhatIsAsked : Texts → ToldFiles → Option (List ℕ) → Option (List ℕ) → Type 0
-RefusesWhatIsAsked words files before after = RefusesWhatIsNamed words files before after ⊎ RefusesSoak words before after
+-- the words give a command, and the file at this place of those that it reads, counted from 1, was not read
+pub record NamesUnread (words : Words) (told : ToldFiles) (shelf_before shelf_after : ShelfCounts) (place : ℕ) : Type 0 where
+  pub command : Command
+  pub given : command_of words ≡ Some command
+  pub unread : IsUnreadAt told (files_of command) shelf_before shelf_after place
 
-abbrev pub RefusesWords : Texts → Option (List ℕ) → Option (List ℕ) → Type 0
-RefusesWords words before after = IsNoForm words × AppendsWhereTold before after (codes "words refused\n")
+-- the place of the first file that was not read was put
+pub record SaysUnread (words : Words) (told : ToldFiles) (shelf_before shelf_after : ShelfCounts) (fetches_before fetches_after : ℕ) (before after : Option Bytes) : Type 0 where
+  pub place : ℕ
+  pub named : NamesUnread words told shelf_before shelf_after place
+  pub first : AreFetched told fetches_before fetches_after place
+  pub put : AppendsWhereTold before after (unread_text place)
 
-pub record RefusesScript (words : Texts) (files : ToldFiles) (before after : Option (List ℕ)) : Type 0 where
-  pub line : ℕ
-  pub cause : ℕ
-  pub named : NamesBadLine words files line cause
-  pub told : AppendsWhereTold before after (script_refusal_text line cause)
+-- a text that may be put: that of words, of a file, of a verdict, or of a begun run
+pub data MayBePut (words : Words) (told : ToldFiles) (shelf_before : ShelfCounts) (shelf_after : ShelfCounts) (text : Bytes) : Type 0 where
+  of_words : command_of words ≡ None → shelf_after ≡ shelf_before → text ≡ words_text → MayBePut words told shelf_before shelf_after text
+  of_file : (place : ℕ) → NamesUnread words told shelf_before shelf_after place → text ≡ unread_text place → MayBePut words told shelf_before shelf_after text
+  of_verdict : (command : Command) → (files : List Bytes) → Names words told command files → shelf_after ≡ shelf_before
+      → (verdict : Verdict) → IsVerdictOn command files verdict → SaysVerdict command files verdict text → MayBePut words told shelf_before shelf_after text
+  of_run : (command : Command) → (files : List Bytes) → Names words told command files → shelf_after ≡ shelf_before
+      → Begins command files text → MayBePut words told shelf_before shelf_after text
 
--- the number of the first word whose file was not read
-pub record SaysUnread (words : Texts) (files : ToldFiles) (shelf_before shelf_after : ShelfCounts) (fetches_before fetches_after : ℕ) (before after : Option (List ℕ)) : Type 0 where
-  pub word : ℕ
-  pub named : NamesUnread words files shelf_before shelf_after word
-  pub first : AreFetched files fetches_before fetches_after word
-  pub told : AppendsWhereTold before after (codes "not read " ++ decimal word ++ codes "\n")
+-- a prefix of such a text was put
+pub record CutsText (words : Words) (told : ToldFiles) (shelf_before shelf_after : ShelfCounts) (before after : Option Bytes) : Type 0 where
+  pub text : Bytes
+  pub may_be : MayBePut words told shelf_before shelf_after text
+  pub put : AppendsPrefixWhereTold before after text
 
--- the text of a refusal was cut, that of a run, or that of a plan
-pub record CutsRefusal (words : Texts) (files : ToldFiles) (shelf_before shelf_after : ShelfCounts) (before after : Option (List ℕ)) : Type 0 where
-  pub why : Stop
-  pub stopped : IsStopped words files shelf_before shelf_after why
-  pub told : AppendsPrefixWhereTold before after (stop_text why)
-
-pub record CutsRun (words : Texts) (files : ToldFiles) (before after : Option (List ℕ)) : Type 0 where
-  pub found : PlannedDescription
-  pub script : List Line
-  pub named : NamesInputs words files found script
-  pub printed : PrintsBeginning (plan_of found.plan) found.mapping script before after
-
-pub record CutsPlan (words : Texts) (files : ToldFiles) (before after : Option (List ℕ)) : Type 0 where
-  pub found : PlannedDescription
-  pub named : NamesPlanned words files found
-  pub printed : AppendsPrefixWhereTold before after (plan_text found.description found.flat found.plan)
-
-abbrev pub CutsRefusalOrPlan : Texts → ToldFiles → ShelfCounts → ShelfCounts → Option (List ℕ) → Option (List ℕ) → Type 0
-CutsRefusalOrPlan words files shelf_before shelf_after before after = CutsRefusal words files shelf_before shelf_after before after ⊎ CutsPlan words files before after
-
-abbrev pub CutsWhatIsPut : Texts → ToldFiles → ShelfCounts → ShelfCounts → Option (List ℕ) → Option (List ℕ) → Type 0
-CutsWhatIsPut words files shelf_before shelf_after before after =
-    CutsRefusalOrPlan words files shelf_before shelf_after before after ⊎ (CutsRun words files before after ⊎ CutsSoak words before after)
+-- a prefix of the text of a begun run was put
+pub record CutsRun (words : Words) (told : ToldFiles) (before after : Option Bytes) : Type 0 where
+  pub command : Command
+  pub files : List Bytes
+  pub named : Names words told command files
+  pub text : Bytes
+  pub begun : Begins command files text
+  pub put : AppendsPrefixWhereTold before after text
 
 -- for want of memory nothing was put, or a run was cut
-abbrev pub EndsForMemory : Texts → ToldFiles → Option (List ℕ) → Option (List ℕ) → Type 0
-EndsForMemory words files before after = (after ≡ before) ⊎ CutsRun words files before after
+abbrev pub EndsForMemory : Words → ToldFiles → Option Bytes → Option Bytes → Type 0
+EndsForMemory words told before after = (after ≡ before) ⊎ CutsRun words told before after
 
--- ---- when an answer comes: over files that are told, held and within the limit, where no fault came
+-- ---- when an answer comes
 
--- a file of this name is held, with these bytes, and may be read
-pub record IsHeld (files : ToldFiles) (name bytes : List ℕ) : Type 0 where
-  pub held : List ℕ → Option (List ℕ)
-  pub told : files ≡ Some held
+-- the file of this name is held, with these bytes, and may be read
+pub record IsHeld (told : ToldFiles) (name bytes : Bytes) : Type 0 where
+  pub held : Bytes → Option Bytes
+  pub told_is : told ≡ Some held
   pub bytes_are : held name ≡ Some bytes
-  pub within_limit : length bytes ≤ FILE_LIMIT
+  pub within_limit : length bytes ≤ 8388608
 
--- the words `run C S` name two files that are held
-pub record AreHeld (words : Texts) (files : ToldFiles) (description script : List ℕ) : Type 0 where
-  pub description_name : List ℕ
-  pub script_name : List ℕ
-  pub words_are : words ≡ run_words description_name script_name
-  pub description_held : IsHeld files description_name description
-  pub script_held : IsHeld files script_name script
+abbrev pub AreHeld : ToldFiles → (names : List Bytes) → (files : List Bytes) → Type 0
+AreHeld told [] [] = Unit {0}
+AreHeld told (name ∷ names) (file ∷ files) = IsHeld told name file × AreHeld told names files
+AreHeld told names files = ⊥
 
--- the words `plan C` name a file that is held
-pub record IsOneHeld (words : Texts) (files : ToldFiles) (description : List ℕ) : Type 0 where
-  pub name : List ℕ
-  pub words_are : words ≡ plan_words name
-  pub held : IsHeld files name description
+-- the answer is that of this verdict, with its text
+pub record AnswersWith (command : Command) (files : List Bytes) (verdict : Verdict) (answer : Status) (before after : Option Bytes) : Type 0 where
+  pub status_is : answer ≡ status_of verdict
+  pub text : Bytes
+  pub said : SaysVerdict command files verdict text
+  pub put : AppendsWhereTold before after text
 
--- no fetch and no put failed
-pub record NoFault (shelf_before shelf_after sink_before sink_after : ℕ) : Type 0 where
-  pub shelf : ¬ Rose shelf_before shelf_after
-  pub sink : ¬ Rose sink_before sink_after
-
--- this answer, or want of memory
-abbrev pub AnswersOrMemory : Status → Status → Type 0
-AnswersOrMemory answer status = (answer ≡ status) ⊎ (answer ≡ Memory)
-
--- ---- each answer with its text, or want of memory
-
-abbrev pub RefusesOrMemory : Refusal → Status → (before : Option (List ℕ)) → (after : Option (List ℕ)) → Type 0
-RefusesOrMemory r answer before after = ((answer ≡ Refused) × AppendsWhereTold before after (refusal_text r.rule r.place)) ⊎ (answer ≡ Memory)
-
-abbrev pub RefusesLineOrMemory : (line : ℕ) → (cause : ℕ) → Status → (before : Option (List ℕ)) → (after : Option (List ℕ)) → Type 0
-RefusesLineOrMemory line cause answer before after = ((answer ≡ Script) × AppendsWhereTold before after (script_refusal_text line cause)) ⊎ (answer ≡ Memory)
-
--- the run is one of the script that these bytes are over the plan
-abbrev pub RunsOrMemory : (script_bytes : List ℕ) → PlannedDescription → Status → (before : Option (List ℕ)) → (after : Option (List ℕ)) → Type 0
-RunsOrMemory s found answer before after = ((answer ≡ Done) × ((script : List Line) × IsScript (plan_of found.plan) s script × PrintsRun (plan_of found.plan) found.mapping script before after)) ⊎ (answer ≡ Memory)
-
-abbrev pub PrintsPlanOrMemory : PlannedDescription → Status → (before : Option (List ℕ)) → (after : Option (List ℕ)) → Type 0
-PrintsPlanOrMemory found answer before after = ((answer ≡ Done) × AppendsWhereTold before after (plan_text found.description found.flat found.plan)) ⊎ (answer ≡ Memory)
+-- so it is, unless there was no memory, a fetch failed or a put failed
+abbrev pub AnswersUnlessFault : Command → (files : List Bytes) → Verdict → Status → (before : Option Bytes) → (after : Option Bytes)
+    → (shelf_before : ℕ) → (shelf_after : ℕ) → (sink_before : ℕ) → (sink_after : ℕ) → Type 0
+AnswersUnlessFault command files verdict answer before after s t f g =
+    AnswersWith command files verdict answer before after
+    ⊎ ((answer ≡ status.Memory) ⊎ (((answer ≡ status.NotRead) × Rose s t) ⊎ ((answer ≡ status.NotWritten) × Rose f g)))

@@ -1,31 +1,30 @@
--- What was put spells a run of the script, or the beginning of one, in the version that is written.
-use Rattle.std.specs.Prelude.{◌≡◌, ℕ, List, [], true, Option}
-use Rattle.std.specs.List.{list_all}
-use Rattle.rte_text.specs.Sinks.{AppendsWhereTold, AppendsPrefixWhereTold}
+-- How the run of a script on a new node ends.
+use Rattle.std.specs.Prelude.{◌≡◌, ℕ, ◌⊎◌, List, Option}
+use Rattle.rte_text.specs.Counts.{Rose}
+use Rattle.rte_text.specs.Sinks.{AppendsPrefixWhereTold, AppendsWhereTold}
 use Rattle.bus_semantics.specs.declared.script.Line.{Line}
 use Rattle.bus_semantics.specs.declared.script.Mapping.{Mapping}
 use Rattle.bus_semantics.specs.Plan.{Plan}
-use Rattle.bus_semantics.specs.Reading.{item_fits}
-use Rattle.bus_semantics.specs.Run.{Session, IsRunOf, IsBegunRunOf}
-use Rattle.bus_semantics.specs.Spelling.{Spells}
-use Rattle.script_run.specs.Quieting.{IdlesAreQuiet}
-use Rattle.rte_program.specs.declared.run.TheConstants.{WRITTEN_VERSION}
+use Rattle.rte_program.specs.declared.status.Status.{Status}
+use Rattle.rte_program.specs.declared.status.Status.TheVariants as status
+use Rattle.rte_program.specs.Commands.{Bytes}
+use Rattle.rte_program.specs.RunCommand.{IsTextOfBeginning, IsTextOfRun}
 
--- The bytes put are the text of a run of the script over the plan, whose items fit it, and where a run line closes with `idle` all is quiet: no activation runs, no
--- event is due, and each mode machine has begun every accepted switch and is stable. Its last phase is a Stable, so what it began has ended.
-pub record PrintsRun (p : Plan) (m : Mapping) (script : List Line) (before after : Option (List ℕ)) : Type 0 where
-  pub session : Session
-  pub bytes : List ℕ
-  pub fit : list_all (item_fits p) session ≡ true
-  pub run : IsRunOf p m script session
-  pub quiet : IdlesAreQuiet p [] session
-  pub spelled : Spells WRITTEN_VERSION p bytes session
-  pub put : AppendsWhereTold before after bytes
+-- the text of a run was put
+pub record PrintsRun (p : Plan) (m : Mapping) (script : List Line) (before after : Option Bytes) : Type 0 where
+  pub text : Bytes
+  pub run : IsTextOfRun p m script text
+  pub put : AppendsWhereTold before after text
 
--- the bytes put are a prefix of the text of a begun run
-pub record PrintsBeginning (p : Plan) (m : Mapping) (script : List Line) (before after : Option (List ℕ)) : Type 0 where
-  pub session : Session
-  pub bytes : List ℕ
-  pub run : IsBegunRunOf p m script session
-  pub spelled : Spells WRITTEN_VERSION p bytes session
-  pub put : AppendsPrefixWhereTold before after bytes
+-- a prefix of the text of a begun run was put
+pub record PrintsBeginning (p : Plan) (m : Mapping) (script : List Line) (before after : Option Bytes) : Type 0 where
+  pub text : Bytes
+  pub begun : IsTextOfBeginning p m script text
+  pub put : AppendsPrefixWhereTold before after text
+
+-- a run ended, a put failed, or there was no memory, before the first line or in a run line
+abbrev pub IsRun : Plan → Mapping → (script : List Line) → Status → (before : Option Bytes) → (after : Option Bytes) → (faults_before : ℕ) → (faults_after : ℕ) → Type 0
+IsRun p m script answer before after f g =
+    ((answer ≡ status.Done) × (g ≡ f) × PrintsRun p m script before after)
+    ⊎ (((answer ≡ status.NotWritten) × Rose f g × PrintsBeginning p m script before after)
+    ⊎ ((answer ≡ status.Memory) × (g ≡ f) × ((after ≡ before) ⊎ PrintsBeginning p m script before after)))

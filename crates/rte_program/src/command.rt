@@ -1,60 +1,97 @@
-//! The commands that run something.
+//! The commands, and the words that give them.
 
-ghost use Rattle.std.specs.Prelude.{◌≡◌, ◌≢◌, ◌⊎◌, ℕ, List, map, string_bytes};
-ghost use Rattle.rte_text.specs.Counts.{Rose};
-ghost use Rattle.rte_program.specs.Inputs.{counts_of, AskForRun, AskForSoak, AsksForSoak, BreaksNoRule, HasNoPlan, IsNoScriptOver, IsScriptOver};
-ghost use Rattle.rte_program.specs.Answers.{AnswersOrMemory, AreHeld, CutsWhatIsPut, EndsForMemory, NoFault, RefusesScript, RefusesWhatIsAsked, RunsWhatIsAsked, SaysUnread};
-ghost use Rattle.rte_program.specs.Soaking.{SoakKeepsRules};
+ghost use Rattle.std.specs.Prelude.{◌≡◌, ◌∷◌, [], map, option_map, string_bytes, IfSome};
+ghost use Rattle.rte_program.specs.Commands.{command_of, meant, pairs_of, IsWell};
 
-use crate::run_named::run_named;
-use crate::soak::{pairs_in, soak_named};
-use crate::status::Status;
-use rte_text::{Gate, Shelf, Sink};
-use std::alloc::Global;
-use std::thread::Threads;
+use line_fields::{is_number, number_in};
 
-/// Carries out the command `run C S` or `soak N`.
-pub fn run_command<R: Threads + Sync, S: Shelf, K: Sink, G: Gate>(
-    rt: &R,
-    alloc: Global,
-    words: &[String],
-    shelf: &mut S,
-    out: &mut K,
-    gate: &G,
-) -> Status
-    requires asked { AskForRun (map string_bytes words.now) ⊎ AskForSoak (map string_bytes words.now) }
-    ensures done { result ≡ Status.Done
-        → RunsWhatIsAsked (map string_bytes words.now) (S.files shelf.old) (K.told out.old) (K.told out.new) }
-    ensures refused { result ≡ Status.Refused
-        → RefusesWhatIsAsked (map string_bytes words.now) (S.files shelf.old) (K.told out.old) (K.told out.new) }
-    ensures no_words { result ≢ Status.Words }
-    ensures script { result ≡ Status.Script
-        → RefusesScript (map string_bytes words.now) (S.files shelf.old) (K.told out.old) (K.told out.new) }
-    ensures not_read { result ≡ Status.NotRead
-        → SaysUnread (map string_bytes words.now) (S.files shelf.old) (counts_of (S.faults shelf.old) (S.long_files shelf.old))
-        (counts_of (S.faults shelf.new) (S.long_files shelf.new)) (S.fetches shelf.old) (S.fetches shelf.new) (K.told out.old) (K.told out.new) }
-    ensures not_written { result ≡ Status.NotWritten → Rose (K.faults out.old) (K.faults out.new) }
-    ensures cut { result ≡ Status.NotWritten
-        → CutsWhatIsPut (map string_bytes words.now) (S.files shelf.old) (counts_of (S.faults shelf.old) (S.long_files shelf.old))
-        (counts_of (S.faults shelf.new) (S.long_files shelf.new)) (K.told out.old) (K.told out.new) }
-    ensures memory { result ≡ Status.Memory
-        → EndsForMemory (map string_bytes words.now) (S.files shelf.old) (K.told out.old) (K.told out.new) }
-    ensures no_trace { result ≢ Status.Trace }
-    ensures no_write_fault { result ≢ Status.NotWritten → K.faults out.new ≡ K.faults out.old }
-    ensures no_read_fault { result ≢ Status.NotRead → result ≢ Status.NotWritten
-        → counts_of (S.faults shelf.new) (S.long_files shelf.new) ≡ counts_of (S.faults shelf.old) (S.long_files shelf.old) }
-    ensures files_stay { S.files shelf.new ≡ S.files shelf.old }
-    ensures always_refused { (d s : List ℕ) → AreHeld (map string_bytes words.now) (S.files shelf.old) d s → HasNoPlan d
-        → NoFault (S.faults shelf.old) (S.faults shelf.new) (K.faults out.old) (K.faults out.new) → AnswersOrMemory result Status.Refused }
-    ensures always_script { (d s : List ℕ) → AreHeld (map string_bytes words.now) (S.files shelf.old) d s → BreaksNoRule d → IsNoScriptOver d s
-        → NoFault (S.faults shelf.old) (S.faults shelf.new) (K.faults out.old) (K.faults out.new) → AnswersOrMemory result Status.Script }
-    ensures complete { (d s : List ℕ) → AreHeld (map string_bytes words.now) (S.files shelf.old) d s → BreaksNoRule d → IsScriptOver d s
-        → NoFault (S.faults shelf.old) (S.faults shelf.new) (K.faults out.old) (K.faults out.new) → AnswersOrMemory result Status.Done }
-    ensures soak_complete { (n : ℕ) → AsksForSoak (map string_bytes words.now) n → SoakKeepsRules n
-        → ¬ Rose (K.faults out.old) (K.faults out.new) → AnswersOrMemory result Status.Done }
+/// The most pairs of a producer and a consumer.
+const MOST_PAIRS: u32 = 64;
+
+/// What the words ask for.
+#[derive(Clone, Copy)]
+pub enum Command<'a> {
+    /// `run C S`: run the script S on the bus of the description C.
+    Run {
+        description: &'a str,
+        script: &'a str,
+    },
+    /// `plan C`: print the plan of the description C.
+    Plan {
+        description: &'a str,
+    },
+    /// `soak N`: run a description of N pairs of a producer and a consumer, and count what they do.
+    Soak {
+        pairs: u32,
+    },
+    /// `check C T S`: say whether T is the trace of a legal run of the script S on the bus of the description C.
+    Check {
+        description: &'a str,
+        trace: &'a str,
+        script: &'a str,
+    },
+}
+
+/// The number of pairs that the text is: from 1 to 64, in decimal without leading zeros.
+fn pairs_in(text: &[u8]) -> Option<u32>
+    ensures { result ≡ pairs_of text.now }
 {
-    match pairs_in(words) {
-        Some(pairs) => soak_named(rt, alloc, words, pairs, out, gate),
-        None => run_named(rt, alloc, words, shelf, out, gate),
+    if !is_number(text) {
+        return None;
+    }
+    let pairs = number_in(text)?;
+    if 1 <= pairs && pairs <= MOST_PAIRS {
+        Some(pairs)
+    } else {
+        None
+    }
+}
+
+/// The command that two words give.
+fn command_of_two<'a>(command: &str, word: &'a str) -> Option<Command<'a>>
+    ensures command { option_map meant result ≡ command_of (command.now ∷ word.now ∷ []) }
+    ensures well { IfSome result (λ command. IsWell (meant command)) }
+{
+    if command == "plan" {
+        return Some(Command::Plan { description: word });
+    }
+    if command != "soak" {
+        return None;
+    }
+    match pairs_in(word.as_bytes()) {
+        Some(pairs) => Some(Command::Soak { pairs }),
+        None => None,
+    }
+}
+
+/// The command that the words give, if they give one.
+pub fn command_in(words: &[String]) -> Option<Command<'_>>
+    ensures command { option_map meant result ≡ command_of (map string_bytes words.now) }
+    ensures well { IfSome result (λ command. IsWell (meant command)) }
+{
+    match words {
+        [command, word] => command_of_two(command.as_str(), word.as_str()),
+        [command, description, script] => {
+            if command.as_str() == "run" {
+                Some(Command::Run {
+                    description: description.as_str(),
+                    script: script.as_str(),
+                })
+            } else {
+                None
+            }
+        }
+        [command, description, trace, script] => {
+            if command.as_str() == "check" {
+                Some(Command::Check {
+                    description: description.as_str(),
+                    trace: trace.as_str(),
+                    script: script.as_str(),
+                })
+            } else {
+                None
+            }
+        }
+        _ => None,
     }
 }

@@ -1,27 +1,30 @@
-//! Running a script on a new node.
+//! The command `run C S`.
 
-ghost use Rattle.std.specs.Prelude.{◌≡◌, ◌≢◌, ◌⊎◌, ℕ, List, [], IfOk};
+ghost use Rattle.std.specs.Prelude.{◌≡◌, ◌≤◌, ◌⊎◌, ◌∷◌, ℕ, List, [], length, IfOk};
 ghost use Rattle.rte_text.specs.Counts.{Rose};
+ghost use Rattle.rte_text.specs.Sinks.{AppendsPrefixWhereTold, AppendsWhereTold};
 ghost use Rattle.bus_semantics.specs.Plan.{plan_of};
 ghost use Rattle.core_runtime.specs.Nodes.{IsLawfulNode};
 ghost use Rattle.description_stages.specs.Plans.{IsPlannedOf};
+ghost use Rattle.rte_program.specs.declared.status.Status.TheVariants as status;
+ghost use Rattle.rte_program.specs.Carrying.{world, CarriesOut, Ends};
+ghost use Rattle.rte_program.specs.Commands.{run};
 ghost use Rattle.rte_program.specs.Inputs.{AreInputs};
-ghost use Rattle.rte_program.specs.Running.{PrintsBeginning, PrintsRun};
+ghost use Rattle.rte_program.specs.Running.{IsRun};
 
-use crate::prepare::Prepared;
+use crate::fetch::fetch_all;
+use crate::judge::{Prepared, judge};
+use crate::report::report;
 use crate::status::Status;
 use bus_semantics::Version;
 use core_runtime::Node;
 use description_stages::PlannedDescription;
-use rte_text::{Gate, Sink};
+use rte_text::{Gate, Shelf, Sink};
 use script_reading::scripts_are_carriable;
 use script_run::{ScriptRun, run_script, runs_from_nothing_are_runs};
 use std::alloc::{AllocError, Global};
 use std::thread::Threads;
 use task_generator::generate;
-
-/// The version of the trace that a run writes: version two, in which modes have their names.
-pub const WRITTEN_VERSION: Version = Version::Two;
 
 /// A node of the plan to which nothing has happened, with the bodies of the plan's programs. The only error is that there is no memory.
 fn new_node(alloc: Global, found: PlannedDescription) -> Result<Node, AllocError>
@@ -46,15 +49,8 @@ pub fn run_prepared<R: Threads + Sync, K: Sink, G: Gate>(
     gate: &G,
 ) -> Status
     requires ready { (d s : List ℕ) × AreInputs d s prepared.found prepared.script.lines }
-    ensures done { result ≡ Status.Done
-        → PrintsRun (plan_of prepared.found.plan) prepared.found.mapping prepared.script.lines (K.told out.old) (K.told out.new) }
-    ensures cut { result ≡ Status.NotWritten
-        → PrintsBeginning (plan_of prepared.found.plan) prepared.found.mapping prepared.script.lines (K.told out.old) (K.told out.new) }
-    ensures memory { result ≡ Status.Memory → (K.told out.new ≡ K.told out.old)
-        ⊎ PrintsBeginning (plan_of prepared.found.plan) prepared.found.mapping prepared.script.lines (K.told out.old) (K.told out.new) }
-    ensures answers { (result ≡ Status.Done) ⊎ ((result ≡ Status.NotWritten) ⊎ (result ≡ Status.Memory)) }
-    ensures fault { result ≡ Status.NotWritten → Rose (K.faults out.old) (K.faults out.new) }
-    ensures no_fault { result ≢ Status.NotWritten → K.faults out.new ≡ K.faults out.old }
+    ensures { IsRun (plan_of prepared.found.plan) prepared.found.mapping prepared.script.lines result
+        (K.told out.old) (K.told out.new) (K.faults out.old) (K.faults out.new) }
 {
     scripts_are_carriable();
     runs_from_nothing_are_runs();
@@ -63,9 +59,58 @@ pub fn run_prepared<R: Threads + Sync, K: Sink, G: Gate>(
         Ok(node) => node,
         Err(_) => return Status::Memory,
     };
-    match run_script(rt, alloc, &mut node, &script, WRITTEN_VERSION, out, gate) {
+    match run_script(rt, alloc, &mut node, &script, Version::Two, out, gate) {
         ScriptRun::Finished => Status::Done,
         ScriptRun::Failed => Status::NotWritten,
         ScriptRun::Memory => Status::Memory,
+    }
+}
+
+/// Runs the script on the bus of the description, from their bytes, and puts the trace.
+fn run_files<R: Threads + Sync, K: Sink, G: Gate>(
+    rt: &R,
+    alloc: Global,
+    description: &[u8],
+    script: &[u8],
+    out: &mut K,
+    gate: &G,
+) -> Status
+    requires description { length description.now ≤ 8388608 }
+    requires script { length script.now ≤ 8388608 }
+    ensures { (d s : List ℕ) → CarriesOut (run d s) (description.now ∷ script.now ∷ []) result
+        (K.told out.old) (K.told out.new) (K.faults out.old) (K.faults out.new) }
+{
+    match judge(alloc, description, script) {
+        Ok(prepared) => run_prepared(rt, alloc, prepared, out, gate),
+        Err(stop) => report(alloc, &stop, out),
+    }
+}
+
+/// Carries out `run C S`: reads the description C and the script S from the shelf, runs the script on the bus of
+/// the description, and puts the trace, in version two.
+pub fn run_named<R: Threads + Sync, S: Shelf, K: Sink, G: Gate>(
+    rt: &R,
+    alloc: Global,
+    description: &str,
+    script: &str,
+    shelf: &mut S,
+    out: &mut K,
+    gate: &G,
+) -> Status
+    ensures files_stay { S.files shelf.new ≡ S.files shelf.old }
+    ensures ends { Ends (run description.now script.now) result
+        (world (S.files shelf.old) (S.faults shelf.old) (S.long_files shelf.old) (S.fetches shelf.old) (K.told out.old) (K.faults out.old))
+        (world (S.files shelf.new) (S.faults shelf.new) (S.long_files shelf.new) (S.fetches shelf.new) (K.told out.new) (K.faults out.new)) }
+{
+    match fetch_all(alloc, shelf, &[description, script]) {
+        Ok(files) => run_files(
+            rt,
+            alloc,
+            files[0].as_slice(),
+            files[1].as_slice(),
+            out,
+            gate,
+        ),
+        Err(stop) => report(alloc, &stop, out),
     }
 }

@@ -1,18 +1,28 @@
-//! Why nothing is carried out, and what is said of it.
+//! Why nothing is carried out.
 
+use check_definitions::Checked;
 use rte_text::Refusal;
+
+/// Why the files of a command are refused.
+#[derive(Drop)]
+pub enum Finding {
+    /// The description breaks a rule.
+    Refused(Refusal),
+    /// A line of the script is refused: its number, counted from 1, and the cause.
+    Script { line: u64, cause: u8 },
+    /// The trace is refused: the first line that is, with the clause that it breaks if it has a reading.
+    Trace(Checked),
+}
 
 /// Why nothing is carried out.
 #[derive(Drop)]
 pub enum Stop {
     /// The words are no command.
     Words,
-    /// A file could not be read. `word` is the number of its name among the words, the command being 0.
-    NotRead { word: u8 },
-    /// The description breaks a rule.
-    Refused(Refusal),
-    /// A line of the script is refused: its number, counted from 1, and the cause.
-    Script { line: u64, cause: u8 },
+    /// A file could not be read. `place` is its place among those that the command reads, counted from 1.
+    NotRead { place: u8 },
+    /// The files are refused.
+    Found(Finding),
     /// There was no memory.
     Memory,
 }

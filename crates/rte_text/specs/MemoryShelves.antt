@@ -2,7 +2,6 @@
 use Rattle.std.specs.Prelude.{◌≡◌, ℕ, ◌<◌, ◌≤◌, ◌==◌, ◌||◌, Bool, false, IsTrue, List, length, find, Option, Some, option_map, is_none, IsSomeAnd, bytes_eq}
 use Rattle.std.specs.List.{list_any}
 use Rattle.rte_text.specs.Counts.{raised}
-use Rattle.rte_text.specs.declared.shelf.TheConstants.{FILE_LIMIT}
 use Rattle.rte_text.specs.declared.shelf.Fetched.{Fetched}
 use Rattle.rte_text.specs.declared.shelf.Fetched.TheVariants.{Bytes, Failed, TooLong, Memory}
 
@@ -24,10 +23,10 @@ next_fails s = list_any (λ call. call == s.calls) s.fails
 
 -- an answer to the next call: the bytes or no memory for them, a fault exactly where the call fails or no file has the name
 abbrev pub Answers : HeldFiles → List ℕ → Fetched → Type 0
-Answers s name (Bytes given) = (next_fails s ≡ false) × (file_named s.files name ≡ Some given.items) × (length given.items ≤ FILE_LIMIT)
+Answers s name (Bytes given) = (next_fails s ≡ false) × (file_named s.files name ≡ Some given.items) × (length given.items ≤ 8388608)
 Answers s name Failed = IsTrue (next_fails s || is_none (file_named s.files name))
-Answers s name TooLong = (next_fails s ≡ false) × IsSomeAnd (file_named s.files name) (λ bytes. FILE_LIMIT < length bytes)
-Answers s name Memory = (next_fails s ≡ false) × IsSomeAnd (file_named s.files name) (λ bytes. length bytes ≤ FILE_LIMIT)
+Answers s name TooLong = (next_fails s ≡ false) × IsSomeAnd (file_named s.files name) (λ bytes. 8388608 < length bytes)
+Answers s name Memory = (next_fails s ≡ false) × IsSomeAnd (file_named s.files name) (λ bytes. length bytes ≤ 8388608)
 
 -- the shelf after an answer: one more call, and one more in the answer's count
 abbrev pub counted : HeldFiles → Fetched → HeldFiles

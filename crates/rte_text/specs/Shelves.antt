@@ -1,7 +1,6 @@
 -- What a shelf's answer to `fetch` says.
 use Rattle.std.specs.Prelude.{◌≡◌, ℕ, ◌<◌, List, length, Option, Some, None, IfSome, IsSomeAnd}
 use Rattle.rte_text.specs.Counts.{Rose}
-use Rattle.rte_text.specs.declared.shelf.TheConstants.{FILE_LIMIT}
 use Rattle.rte_text.specs.declared.shelf.Fetched.{Fetched}
 use Rattle.rte_text.specs.declared.shelf.Fetched.TheVariants.{Bytes, Failed, TooLong, Memory}
 
@@ -50,7 +49,7 @@ HeldWhereTold files name bytes = IfSome files (λ held. held name ≡ Some bytes
 
 -- where the files are told, the file of this name is longer than the limit
 abbrev pub LongWhereTold : ToldFiles → List ℕ → Type 0
-LongWhereTold files name = IfSome files (λ held. IsSomeAnd (held name) (λ bytes. FILE_LIMIT < length bytes))
+LongWhereTold files name = IfSome files (λ held. IsSomeAnd (held name) (λ bytes. 8388608 < length bytes))
 
 -- where the files are told and none has this name, the answer is a fault
 abbrev pub FailsWhereMissing : ToldFiles → List ℕ → Fetched → Type 0

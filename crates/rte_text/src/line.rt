@@ -37,8 +37,8 @@ impl LineBuf {
     /// Appends the text, and answers whether it fits. Where it does not, the line stays.
     pub fn text(&mut self, s: &[u8]) -> bool
         ensures line { self.new ≡ (if result then self.old ++ s.now else self.old) }
-        ensures fits { IsTrue result ↔ (length self.old + length s.now ≤ LINE_LIMIT) }
-        ensures room { length self.old + length s.now ≤ LINE_LIMIT → self.new ≡ self.old ++ s.now }
+        ensures fits { IsTrue result ↔ (length self.old + length s.now ≤ 2048) }
+        ensures room { length self.old + length s.now ≤ 2048 → self.new ≡ self.old ++ s.now }
     {
         self.held.try_extend_from_slice(s).is_ok()
     }
@@ -47,8 +47,8 @@ impl LineBuf {
     /// A number has at most 20 bytes.
     pub fn number(&mut self, n: i64) -> bool
         ensures line { self.new ≡ (if result then self.old ++ signed_decimal n else self.old) }
-        ensures fits { IsTrue result ↔ (length self.old + length (signed_decimal n) ≤ LINE_LIMIT) }
-        ensures room { length self.old + 20 ≤ LINE_LIMIT → self.new ≡ self.old ++ signed_decimal n }
+        ensures fits { IsTrue result ↔ (length self.old + length (signed_decimal n) ≤ 2048) }
+        ensures room { length self.old + 20 ≤ 2048 → self.new ≡ self.old ++ signed_decimal n }
         ensures longer { length self.new ≤ length self.old + 20 }
     {
         self.text(Buffer::new().format(n).as_bytes())
@@ -57,7 +57,7 @@ impl LineBuf {
     /// The bytes of the line.
     pub fn bytes(&self) -> &[u8]
         ensures bytes { result.now ≡ self.now }
-        ensures within_limit { length result.now ≤ LINE_LIMIT }
+        ensures within_limit { length result.now ≤ 2048 }
     {
         self.held.as_slice()
     }

@@ -19,9 +19,9 @@ const CHUNK: usize = 4_096;
 
 /// Reads to the end, which is where a read gives nothing, or until more than `FILE_LIMIT` bytes came.
 fn read_to_end<F: Read>(alloc: Global, file: &mut F) -> Fetched
-    ensures within_limit { IfBytes result (λ bytes. length bytes ≤ FILE_LIMIT) }
+    ensures within_limit { IfBytes result (λ bytes. length bytes ≤ 8388608) }
     ensures whole { IfBytes result (λ bytes. IfSome (F.remaining file.old) (λ rest. bytes ≡ rest)) }
-    ensures long { OnTooLong result (IfSome (F.remaining file.old) (λ rest. FILE_LIMIT < length rest)) }
+    ensures long { OnTooLong result (IfSome (F.remaining file.old) (λ rest. 8388608 < length rest)) }
 {
     let mut bytes = Vec::new(alloc);
     let mut chunk = [0; CHUNK];
@@ -93,7 +93,7 @@ impl<R: Files> FileShelf<R> {
 
     /// The bytes of the file at this path.
     fn read(&self, alloc: Global, path: &str) -> Fetched
-        ensures { IfBytes result (λ bytes. length bytes ≤ FILE_LIMIT) }
+        ensures { IfBytes result (λ bytes. length bytes ≤ 8388608) }
     {
         match fs::open(&self.rt, path) {
             Ok(mut file) => read_to_end(alloc, &mut file),

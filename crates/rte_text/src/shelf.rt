@@ -42,7 +42,7 @@ pub trait Shelf {
         ensures faults { FaultsAfter result (faults self.old) (faults self.new) }
         ensures long_files_never_fall { long_files self.old ≤ long_files self.new }
         ensures long_files { LongFilesAfter result (long_files self.old) (long_files self.new) }
-        ensures within_limit { IfBytes result (λ bytes. length bytes ≤ FILE_LIMIT) }
+        ensures within_limit { IfBytes result (λ bytes. length bytes ≤ 8388608) }
         ensures held { IfBytes result (HeldWhereTold (files self.old) name.now) }
         ensures long { OnTooLong result (LongWhereTold (files self.old) name.now) }
         ensures missing { FailsWhereMissing (files self.old) name.now result }

@@ -1,7 +1,6 @@
 //! Carrying out a row.
 
 ghost use Rattle.std.specs.Prelude.{◌≤◌, IfOk, length};
-ghost use Rattle.rte_text.specs.declared.shelf.TheConstants.{FILE_LIMIT};
 ghost use Rattle.bus_semantics.specs.Plan.{plan_of};
 ghost use Rattle.trace_reading.specs.Readable.{IsReadable};
 
@@ -33,7 +32,7 @@ fn file<R: Files + AllocGlobal + Clone + Drop>(
     folder: &str,
     name: &str,
 ) -> Result<Vec<u8>, Fault>
-    ensures { IfOk result (λ bytes. length bytes.items ≤ FILE_LIMIT) }
+    ensures { IfOk result (λ bytes. length bytes.items ≤ 8388608) }
 {
     let path = format!(in rt.alloc(); "{folder}/{name}")?;
     match FileShelf::new(rt.clone()?).fetch(rt.alloc(), path.as_str()) {

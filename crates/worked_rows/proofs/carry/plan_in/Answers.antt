@@ -1,5 +1,4 @@
 use Rattle.std.proofs.Common.{◌≤◌, arith, length, rules}
-use Rattle.rte_text.specs.declared.shelf.TheConstants.{FILE_LIMIT}
 use Rattle.bus_semantics.specs.Plan.{plan_of}
 use Rattle.declared_names.proofs.Reading.{short_few}
 use Rattle.worked_rows.proofs.carry.plan_in.Goals as goal
@@ -9,5 +8,5 @@ returns-in-Ok g c = c.sound_plans_are_readable.ensures (plan_of c.in-Ok.found.pl
 
 pub plan_description-requires : goal.plan_description-requires
 plan_description-requires g c =
-    let fits : length c.as_slice.result.now ≤ FILE_LIMIT = search rules in
+    let fits : length c.as_slice.result.now ≤ 8388608 = search rules in
     short_few c.as_slice.result.now (omega (arith, fits))
