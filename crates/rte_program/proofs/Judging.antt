@@ -1,6 +1,7 @@
 -- What is found of files, and what a stop then says of the command.
-use Rattle.std.specs.Prelude.{◌⊎◌}
-use Rattle.std.proofs.Common.{◌≡◌, ℕ, ◌+◌, ◌≤◌, List, [], ◌∷◌, ◌++◌, length, length-append, arith, refl, ap, inl, inr, Option, Some, None, Bool, true, false, ◌==◌}
+use Rattle.std.specs.Prelude.{◌⊎◌, IfErr, OnOk}
+use Rattle.std.proofs.Common.{◌≡◌, ℕ, ◌+◌, ◌≤◌, List, [], ◌∷◌, ◌++◌, length, length-append, arith, refl, ap, inl, inr, Option, Some, None, Result, Ok, Err, Bool, true, false, ◌==◌}
+use Rattle.bus_semantics.specs.declared.script.Line.{Line}
 use Rattle.bus_semantics.specs.Plan.{Plan, plan_of}
 use Rattle.bus_semantics.specs.Spelling.{Letters}
 use Rattle.check_definitions.specs.declared.checked.Checked.TheVariants.{Legal}
@@ -18,7 +19,9 @@ use Rattle.rte_program.specs.declared.stop.Stop.TheVariants as stop
 use Rattle.rte_program.specs.Carrying.{CarriesOut}
 use Rattle.rte_program.specs.Commands.{Bytes, Command, check, plan}
 use Rattle.rte_program.specs.CheckCommand.{IsCheckedAs}
-use Rattle.rte_program.specs.Judging.{IsFound, IsNotPlanned, IsNotRun}
+use Rattle.rte_program.specs.Inputs.{AreInputs}
+use Rattle.check_definitions.specs.Verdicts.{IsVerdict}
+use Rattle.rte_program.specs.Judging.{IsBadScript, IsFound, IsNotLegal, IsNotPlanned, IsNotRun, IsRefusedTrace}
 use Rattle.rte_program.specs.PlanCommand.{IsPlanFinding}
 use Rattle.rte_program.specs.RunCommand.{IsRunFinding}
 use Rattle.rte_program.specs.Texts.{checked_text, finding_text, IsPut, IsShort, IsShortFinding, IsUnsaid, Says}
@@ -81,6 +84,44 @@ plan_short d why is = short_by (IsPlanFinding d) by why is
     by (finding.Refused refusal) is = tt
     by (finding.Script line cause) is = absurd is
     by (finding.Trace checked) is = absurd is
+
+-- ---- over a plan
+
+-- a script that is refused over the plan of a description
+pub bad_script : (d s : Bytes) (found : PlannedDescription) → IsPlannedOf d found → (why : Stop) → IsBadScript (plan_of found.plan) s why → IsNotRun d s why
+bad_script d s found planned (stop.Found (finding.Script line cause)) bad = record { found = found; described = planned; bad = bad }
+bad_script d s found planned (stop.Found (finding.Refused refusal)) bad = absurd bad
+bad_script d s found planned (stop.Found (finding.Trace checked)) bad = absurd bad
+bad_script d s found planned stop.Memory bad = tt
+bad_script d s found planned stop.Words bad = absurd bad
+bad_script d s found planned (stop.NotRead place) bad = absurd bad
+
+-- a trace that is checked over the plan and the script of two files
+module _ (d t s : Bytes) (found : PlannedDescription) (lines : List Line) (inputs : AreInputs d s found lines) where
+  pub legal_trace : {E : Type 0} → (r : Result (Unit {0}) E) → OnOk r (IsVerdict (plan_of found.plan) found.mapping lines t Legal) → OnOk r (IsCheckedAs d t s Legal)
+  legal_trace (Ok x) verdict = record { found = found; lines = lines; inputs = inputs; verdict = verdict }
+  legal_trace (Err e) verdict = tt
+
+  refused_by : (why : Stop) → IsRefusedTrace (plan_of found.plan) found.mapping lines t why → IsNotLegal d t s why
+  refused_by (stop.Found (finding.Trace checked)) is = (is.0, record { found = found; lines = lines; inputs = inputs; verdict = is.1 })
+  refused_by (stop.Found (finding.Refused refusal)) is = absurd is
+  refused_by (stop.Found (finding.Script line cause)) is = absurd is
+  refused_by stop.Memory is = tt
+  refused_by stop.Words is = absurd is
+  refused_by (stop.NotRead place) is = absurd is
+
+  pub refused_trace : {X : Type 0} → (r : Result X Stop) → IfErr r (IsRefusedTrace (plan_of found.plan) found.mapping lines t) → IfErr r (IsNotLegal d t s)
+  refused_trace (Ok x) is = tt
+  refused_trace (Err why) is = refused_by why is
+
+-- a description or a script that is refused is so for a trace too
+pub not_run : (d t s : Bytes) (why : Stop) → IsNotRun d s why → IsNotLegal d t s why
+not_run d t s (stop.Found (finding.Refused refusal)) is = is
+not_run d t s (stop.Found (finding.Script line cause)) is = is
+not_run d t s (stop.Found (finding.Trace checked)) is = absurd is
+not_run d t s stop.Memory is = tt
+not_run d t s stop.Words is = absurd is
+not_run d t s (stop.NotRead place) is = absurd is
 
 -- ---- what is said where nothing is found
 

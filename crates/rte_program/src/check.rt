@@ -2,13 +2,16 @@
 
 ghost use Rattle.std.specs.Prelude.{◌≡◌, ◌≤◌, ◌∷◌, ℕ, List, [], length, IfErr, OnOk};
 ghost use Rattle.check_definitions.specs.declared.checked.Checked.TheVariants.{Legal};
+ghost use Rattle.bus_semantics.specs.Plan.{plan_of};
+ghost use Rattle.check_definitions.specs.Verdicts.{IsVerdict};
 ghost use Rattle.rte_program.specs.Carrying.{world, CarriesOut, Ends};
+ghost use Rattle.rte_program.specs.Inputs.{AreInputs};
 ghost use Rattle.rte_program.specs.CheckCommand.{IsCheckedAs};
 ghost use Rattle.rte_program.specs.Commands.{check};
-ghost use Rattle.rte_program.specs.Judging.{IsNotLegal};
+ghost use Rattle.rte_program.specs.Judging.{IsNotLegal, IsRefusedTrace};
 
 use crate::fetch::fetch_all;
-use crate::judge::judge;
+use crate::judge::{Prepared, judge};
 use crate::report::{put_text, report};
 use crate::status::Status;
 use crate::stop::{Finding, Stop};
@@ -18,21 +21,33 @@ use std::alloc::Global;
 use trace_check::check_trace;
 use trace_reading::items_have_one_line;
 
+/// Checks the trace as that of a run of the script. Ok if it is legal.
+fn check_over(alloc: Global, prepared: &Prepared, trace: &[u8]) -> Result<(), Stop>
+    requires { (d s : List ℕ) × AreInputs d s prepared.now.found prepared.now.script.lines }
+    ensures legal { OnOk result (IsVerdict (plan_of prepared.now.found.plan) prepared.now.found.mapping prepared.now.script.lines trace.now Legal) }
+    ensures stopped { IfErr result (IsRefusedTrace (plan_of prepared.now.found.plan) prepared.now.found.mapping prepared.now.script.lines trace.now) }
+{
+    let found = &prepared.found;
+    match check_trace(alloc, &found.plan, &found.mapping, &prepared.script, trace) {
+        Ok(Checked::Legal) => Ok(()),
+        Ok(checked) => Err(Stop::Found(Finding::Trace(checked))),
+        Err(_) => Err(Stop::Memory),
+    }
+}
+
 /// Judges the description, the script, and then the trace as that of a run of the script on the bus of the description. Ok if it is legal.
 fn judge_trace(alloc: Global, description: &[u8], trace: &[u8], script: &[u8]) -> Result<(), Stop>
     requires { length description.now ≤ 8388608 }
     ensures legal { OnOk result (IsCheckedAs description.now trace.now script.now Legal) }
     ensures stopped { IfErr result (IsNotLegal description.now trace.now script.now) }
 {
-    let prepared = match judge(alloc, description, script) {
-        Ok(prepared) => prepared,
-        Err(stop) => return Err(stop),
-    };
-    let found = &prepared.found;
-    match check_trace(alloc, &found.plan, &found.mapping, &prepared.script, trace) {
-        Ok(Checked::Legal) => Ok(()),
-        Ok(checked) => Err(Stop::Found(Finding::Trace(checked))),
-        Err(_) => Err(Stop::Memory),
+    match judge(alloc, description, script) {
+        Ok(prepared) => {
+            let answer = check_over(alloc, &prepared, trace);
+            drop(prepared);
+            answer
+        }
+        Err(stop) => Err(stop),
     }
 }
 

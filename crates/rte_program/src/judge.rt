@@ -1,10 +1,12 @@
 //! What is read before a run: the description and the script.
 
-ghost use Rattle.std.specs.Prelude.{IfErr, IfOk};
+ghost use Rattle.std.specs.Prelude.{ℕ, List, IfErr, IfOk};
+ghost use Rattle.bus_semantics.specs.Plan.{plan_of};
 ghost use Rattle.declared_names.specs.Sizes.{AreFew};
 ghost use Rattle.description_stages.specs.Plans.{IsPlannedOf};
+ghost use Rattle.script_reading.specs.Reading.{IsScript};
 ghost use Rattle.rte_program.specs.Inputs.{AreInputs};
-ghost use Rattle.rte_program.specs.Judging.{IsNotPlanned, IsNotRun};
+ghost use Rattle.rte_program.specs.Judging.{IsBadScript, IsNotPlanned, IsNotRun};
 
 use crate::stop::{Finding, Stop};
 use bus_semantics::Script;
@@ -33,6 +35,19 @@ pub fn plan_bytes(alloc: Global, bytes: &[u8]) -> Result<PlannedDescription, Sto
     }
 }
 
+/// The script that the bytes are over the plan.
+fn script_over(alloc: Global, found: &PlannedDescription, script: &[u8]) -> Result<Script, Stop>
+    requires { (d : List ℕ) × IsPlannedOf d found.now }
+    ensures scripted { IfOk result (λ x. IsScript (plan_of found.now.plan) script.now x.lines) }
+    ensures stopped { IfErr result (IsBadScript (plan_of found.now.plan) script.now) }
+{
+    match read_script(alloc, &found.plan, script) {
+        ScriptRead::Read(script) => Ok(script),
+        ScriptRead::BadLine { line, cause } => Err(Stop::Found(Finding::Script { line, cause })),
+        ScriptRead::Memory => Err(Stop::Memory),
+    }
+}
+
 /// Reads the description and then the script.
 pub fn judge(alloc: Global, description: &[u8], script: &[u8]) -> Result<Prepared, Stop>
     requires { AreFew description.now }
@@ -43,9 +58,11 @@ pub fn judge(alloc: Global, description: &[u8], script: &[u8]) -> Result<Prepare
         Ok(found) => found,
         Err(stop) => return Err(stop),
     };
-    match read_script(alloc, &found.plan, script) {
-        ScriptRead::Read(script) => Ok(Prepared { found, script }),
-        ScriptRead::BadLine { line, cause } => Err(Stop::Found(Finding::Script { line, cause })),
-        ScriptRead::Memory => Err(Stop::Memory),
+    match script_over(alloc, &found, script) {
+        Ok(script) => Ok(Prepared { found, script }),
+        Err(stop) => {
+            drop(found);
+            Err(stop)
+        }
     }
 }

@@ -35,7 +35,11 @@ fn plan_file<K: Sink>(alloc: Global, description: &[u8], out: &mut K) -> Status
         (K.told out.old) (K.told out.new) (K.faults out.old) (K.faults out.new) }
 {
     match plan_bytes(alloc, description) {
-        Ok(found) => print_plan(alloc, &found, out),
+        Ok(found) => {
+            let status = print_plan(alloc, &found, out);
+            drop(found);
+            status
+        }
         Err(stop) => report(alloc, &stop, out),
     }
 }

@@ -11,12 +11,13 @@ ghost use Rattle.rte_program.specs.Carrying.{world, CarriesOut, Ends};
 ghost use Rattle.rte_program.specs.Commands.{run};
 ghost use Rattle.rte_program.specs.Inputs.{AreInputs};
 ghost use Rattle.rte_program.specs.Running.{IsRun};
+ghost use Rattle.script_reading.specs.Reading.{IsScript};
 
 use crate::fetch::fetch_all;
 use crate::judge::{Prepared, judge};
 use crate::report::report;
 use crate::status::Status;
-use bus_semantics::Version;
+use bus_semantics::{Script, Version};
 use core_runtime::Node;
 use description_stages::PlannedDescription;
 use rte_text::{Gate, Shelf, Sink};
@@ -39,6 +40,29 @@ fn new_node(alloc: Global, found: PlannedDescription) -> Result<Node, AllocError
     }
 }
 
+/// Runs the script on a node to which nothing has happened, and puts the trace, in version two.
+fn run_node<R: Threads + Sync, K: Sink, G: Gate>(
+    rt: &R,
+    alloc: Global,
+    node: &mut Node,
+    script: &Script,
+    out: &mut K,
+    gate: &G,
+) -> Status
+    requires lawful { IsLawfulNode node.old [] }
+    requires scripted { (s : List ℕ) × IsScript (plan_of node.old.plan) s script.now.lines }
+    ensures { IsRun (plan_of node.old.plan) node.old.mapping script.now.lines result
+        (K.told out.old) (K.told out.new) (K.faults out.old) (K.faults out.new) }
+{
+    scripts_are_carriable();
+    runs_from_nothing_are_runs();
+    match run_script(rt, alloc, node, script, Version::Two, out, gate) {
+        ScriptRun::Finished => Status::Done,
+        ScriptRun::Failed => Status::NotWritten,
+        ScriptRun::Memory => Status::Memory,
+    }
+}
+
 /// Runs the script on a new node of the plan, and puts the trace, in version two. Want of memory may come before the first line is
 /// put or within a run line.
 pub fn run_prepared<R: Threads + Sync, K: Sink, G: Gate>(
@@ -52,17 +76,15 @@ pub fn run_prepared<R: Threads + Sync, K: Sink, G: Gate>(
     ensures { IsRun (plan_of prepared.found.plan) prepared.found.mapping prepared.script.lines result
         (K.told out.old) (K.told out.new) (K.faults out.old) (K.faults out.new) }
 {
-    scripts_are_carriable();
-    runs_from_nothing_are_runs();
     let script = prepared.script;
-    let mut node = match new_node(alloc, prepared.found) {
-        Ok(node) => node,
-        Err(_) => return Status::Memory,
-    };
-    match run_script(rt, alloc, &mut node, &script, Version::Two, out, gate) {
-        ScriptRun::Finished => Status::Done,
-        ScriptRun::Failed => Status::NotWritten,
-        ScriptRun::Memory => Status::Memory,
+    match new_node(alloc, prepared.found) {
+        Ok(mut node) => {
+            let status = run_node(rt, alloc, &mut node, &script, out, gate);
+            drop(node);
+            drop(script);
+            status
+        }
+        Err(_) => Status::Memory,
     }
 }
 

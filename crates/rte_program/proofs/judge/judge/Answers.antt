@@ -1,5 +1,5 @@
-use Rattle.rte_program.proofs.Numbered.{numbered}
+use Rattle.rte_program.proofs.Judging.{bad_script}
 use Rattle.rte_program.proofs.judge.judge.Goals as goal
 
-pub read_script-requires : goal.read_script-requires
-read_script-requires c = numbered c.args.description.now c.in-Ok.found c.in-Ok.ensures.planned
+pub returns-in-Err-script_over-clause-stopped : goal.returns-in-Err-script_over-clause-stopped
+returns-in-Err-script_over-clause-stopped c = bad_script c.args.description.now c.args.script.now c.in-Ok.found c.in-Ok.ensures.planned c.in-Err-script_over.stop c.in-Err-script_over.ensures.stopped
