@@ -35,8 +35,21 @@ fn new_node(alloc: Global, found: PlannedDescription) -> Result<Node, AllocError
     ensures lawful { IfOk result (λ n. IsLawfulNode n []) }
 {
     match generate(alloc, &found.plan, &found.mapping) {
-        Ok(bodies) => Node::new(alloc, found.plan, found.mapping, bodies),
-        Err(memory) => Err(memory),
+        Ok(bodies) => {
+            let PlannedDescription {
+                description,
+                flat,
+                plan,
+                mapping,
+            } = found;
+            drop(description);
+            drop(flat);
+            Node::new(alloc, plan, mapping, bodies)
+        }
+        Err(memory) => {
+            drop(found);
+            Err(memory)
+        }
     }
 }
 
