@@ -69,7 +69,7 @@ this holds in whatever order the cores took their turns|core_runtime/gives_entri
 `idle` holds only if nothing may step any more|task_slots/starts_nothing core_runtime/wakes_nobody_after_a_write core_runtime/wakes_no_caller core_runtime/begins_at_the_second_core script_run/closes_before_the_serial_pass
 `unsettled` holds only after 100,000 entries of runnables|script_run/gives_up_at_99_999
 status 0 comes only then|rte_program/done_after_a_failed_fetch rte_program/done_after_a_failed_put
-each other status comes only if its cause is there|rte_program/always_words rte_program/always_refused rte_program/always_script rte_program/always_not_read rte_program/always_not_written rte_program/always_trace
+each other status comes only if its cause is there|rte_program/always_words rte_program/always_refused rte_program/always_trace
 the least broken rule is named|compatibility/names_a_later_rule
 a trace is called legal exactly if it is the text of such a run, else its first line that is not, with the clause|trace_check/check_accepts_a_foreign_call trace_check/refuses_for_a_lower_clause trace_check/takes_an_open_end trace_check/closes_outside_a_run_line trace_reading/accepts_another_line
 END

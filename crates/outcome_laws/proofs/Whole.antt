@@ -5,7 +5,6 @@ use Rattle.std.specs.Prelude.{IsUtf8}
 use Rattle.std.specs.Str.{is_utf8}
 use Rattle.serde_json.specs.Data.{Data}
 use Rattle.serde_json.specs.Read.{read}
-use Rattle.rte_text.specs.declared.shelf.TheConstants.{FILE_LIMIT}
 use Rattle.rte_text.specs.declared.refusal.Refusal.{Refusal}
 use Rattle.bus_semantics.specs.declared.plan.BusPlan.{BusPlan}
 use Rattle.bus_semantics.specs.declared.script.Mapping.{Mapping}
@@ -105,7 +104,7 @@ module _ (sound : (d : Description) (f : Flat) (p : BusPlan) (m : Mapping) → I
 
 module _ (law : (bytes : List ℕ) (d : Description) → length bytes < 2 ^ 64 → IsRead bytes (description_of d) → IsWellFormed d)
     (flattened : (d : Description) → flat.HasFlat d ⊎ flat.HasRefusal d)
-    (sound : (d : Description) (f : Flat) (p : BusPlan) (m : Mapping) → IsWhole d f p m → IsSound (bus.plan_of p) m) (bytes : List ℕ) (short : length bytes ≤ FILE_LIMIT) where
+    (sound : (d : Description) (f : Flat) (p : BusPlan) (m : Mapping) → IsWhole d f p m → IsSound (bus.plan_of p) m) (bytes : List ℕ) (short : length bytes ≤ 8388608) where
   unreadable : ((d : Data) → ¬ Reads bytes d) → Outcome bytes
   unreadable none = inr (refused_by (1, codes "/"), inl (inl (inl (refl, refl, none))))
 

@@ -1,7 +1,6 @@
 //! The laws.
 
 ghost use Rattle.std.specs.Prelude.{◌≤◌, ◌⊎◌, ℕ, List, length};
-ghost use Rattle.rte_text.specs.declared.shelf.TheConstants.{FILE_LIMIT};
 ghost use Rattle.bus_semantics.specs.declared.script.Line.{Line};
 ghost use Rattle.bus_semantics.specs.declared.script.Mapping.{Mapping};
 ghost use Rattle.bus_semantics.specs.Plan.{Plan};
@@ -14,7 +13,7 @@ use flat_laws::descriptions_are_made_flat_or_refused;
 
 /// The bytes of a file have a plan or are refused by a rule.
 pub fn bytes_have_a_plan_or_a_refusal()
-    ensures { (bytes : List ℕ) → length bytes ≤ FILE_LIMIT → HasPlan bytes ⊎ HasRefusal bytes }
+    ensures { (bytes : List ℕ) → length bytes ≤ 8388608 → HasPlan bytes ⊎ HasRefusal bytes }
 {
     read_descriptions_are_well_formed();
     descriptions_are_made_flat_or_refused();
