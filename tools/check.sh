@@ -123,11 +123,19 @@ tests_pass() {
     return $status
 }
 
+has_headers() {
+    local name
+    for name in $(python3 -c 'import json,sys; [print(c["shortName"]) for c in json.load(open(sys.argv[1]))["components"]]' "$1/description.json"); do
+        tools/header.py "$1/description.json" "$name" >"$2/header" && [ -s "$2/header" ] || return 1
+    done
+}
+
 try "schema" schema/check.py
 try "claims of the documents" tools/dev/claims.py
 try "lint.py on the examples" on_each_example lint_is_silent
 try "timeline.py on the examples" on_each_example is_drawn
 try "diagram.py on the examples" on_each_example has_a_diagram
+try "header.py on the examples" on_each_example has_headers
 if [ -n "${RTE:-}" ]; then
     try "explain.py on the examples" on_each_example explain_passes_through
     try "plans of the examples" plans_are_as_shown

@@ -39,6 +39,11 @@ class Item:
         """The arguments of an operation that are `in` or `out`, in their order."""
         return [name for name, held in self.directions.items() if held == direction]
 
+    @property
+    def outs(self) -> frozenset[str]:
+        """Those of the arguments of an operation that it returns."""
+        return frozenset(self.names("out"))
+
 
 @dataclass(frozen=True)
 class Interface:
@@ -249,6 +254,11 @@ def operation(held: dict) -> Item:
         "",
         arguments={argument["shortName"]: argument["type"] for argument in arguments},
         directions={argument["shortName"]: argument["direction"] for argument in arguments},
+
+    @property
+    def outs(self) -> frozenset[str]:
+        """Those of the arguments of an operation that it returns."""
+        return frozenset(self.names("out"))
         errors={error["shortName"]: error["code"] for error in held.get("errors", [])},
     )
 
