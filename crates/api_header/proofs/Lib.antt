@@ -1,0 +1,5 @@
+pub mod Clashing
+pub mod Entries
+pub mod Names
+pub mod Unseen
+pub mod Walking

@@ -1,0 +1,17 @@
+-- What the code lists, as definitions see it.
+use Rattle.std.specs.Prelude.{List, [], ◌∷◌, map}
+use Rattle.api_header.specs.declared.calls.Call.{Call}
+use Rattle.api_header.specs.declared.calls.Parts.{Parts}
+use Rattle.api_header.specs.declared.calls.Parts.TheVariants.{One, Two, Three}
+use Rattle.api_header.specs.Targets.{Letters, Target}
+
+abbrev pub seen_parts : Parts → List Letters
+seen_parts (One a) = a.now ∷ []
+seen_parts (Two a b) = a.now ∷ b.now ∷ []
+seen_parts (Three a b c) = a.now ∷ b.now ∷ c.now ∷ []
+
+abbrev pub seen : Call → Target
+seen call = record { word = call.word.now; parts = seen_parts call.parts }
+
+abbrev pub all_seen : List Call → List Target
+all_seen calls = map seen calls

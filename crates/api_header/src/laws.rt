@@ -1,0 +1,18 @@
+//! What a header lists.
+
+ghost use Rattle.std.specs.Prelude.{◌≡◌, [], None, Some};
+ghost use Rattle.interface_types.specs.declared.interface.TypeTable.{TypeTable};
+ghost use Rattle.description_types.specs.declared.component.Component.{Component};
+ghost use Rattle.api_header.specs.Clashes.{HaveNamesOfTheirOwn, IsFirstClash};
+ghost use Rattle.api_header.specs.Listing.{first_clash, listed};
+ghost use Rattle.api_header.specs.Targets.{Letters};
+
+/// Where no names clash, each name is listed once.
+pub fn without_a_clash_each_name_stands_once()
+    ensures { (types : TypeTable) (c : Component) → first_clash [] (listed types c) ≡ None → HaveNamesOfTheirOwn (listed types c) }
+{}
+
+/// A name that clashes is that of two different calls, and no two calls have one name before the later of them.
+pub fn a_clash_is_of_two_calls()
+    ensures { (types : TypeTable) (c : Component) (name : Letters) → first_clash [] (listed types c) ≡ Some name → IsFirstClash (listed types c) name }
+{}
