@@ -254,11 +254,6 @@ def operation(held: dict) -> Item:
         "",
         arguments={argument["shortName"]: argument["type"] for argument in arguments},
         directions={argument["shortName"]: argument["direction"] for argument in arguments},
-
-    @property
-    def outs(self) -> frozenset[str]:
-        """Those of the arguments of an operation that it returns."""
-        return frozenset(self.names("out"))
         errors={error["shortName"]: error["code"] for error in held.get("errors", [])},
     )
 
