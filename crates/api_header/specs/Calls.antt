@@ -1,7 +1,12 @@
 -- What the code lists, as definitions see it.
 use Rattle.std.specs.Prelude.{List, [], ◌∷◌, map}
+use Rattle.interface_types.specs.declared.interface.TypeTable.{TypeTable}
+use Rattle.description_types.specs.declared.component.Access.{Access}
+use Rattle.description_types.specs.declared.component.Component.{Component}
+use Rattle.description_types.specs.declared.component.Runnable.{Runnable}
 use Rattle.api_header.specs.declared.calls.Call.{Call}
 use Rattle.api_header.specs.declared.calls.Parts.{Parts}
+use Rattle.api_header.specs.declared.calls.Site.{Site}
 use Rattle.api_header.specs.declared.calls.Parts.TheVariants.{One, Two, Three}
 use Rattle.api_header.specs.Targets.{Letters, Target}
 
@@ -12,6 +17,10 @@ seen_parts (Three a b c) = a.now ∷ b.now ∷ c.now ∷ []
 
 abbrev pub seen : Call → Target
 seen call = record { word = call.word.now; parts = seen_parts call.parts }
+
+-- what an access of a runnable is, by what its positions refer to
+abbrev pub at_site : {X : Type 0} → (TypeTable → Component → Runnable → Access → X) → Site → X
+at_site f s = f s.types.now s.component.now s.runnable.now s.access.now
 
 abbrev pub all_seen : List Call → List Target
 all_seen calls = map seen calls

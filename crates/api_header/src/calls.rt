@@ -2,7 +2,7 @@
 
 ghost use Rattle.std.specs.Prelude.{◌≡◌, ◌++◌, IfOk, OnOk, option_map};
 ghost use Rattle.std.specs.List.{flat_map};
-ghost use Rattle.api_header.specs.Calls.{all_seen, seen, seen_parts};
+ghost use Rattle.api_header.specs.Calls.{all_seen, at_site, seen, seen_parts};
 ghost use Rattle.api_header.specs.Listing.{given, given_by};
 ghost use Rattle.api_header.specs.Targets.{area_name, at_item, item_name_at, name_of, of_area, of_runnable, of_variable, port_name, target_by, targets_of, variable_name};
 ghost use Rattle.plan_definitions.specs.Ports.{item_name};
@@ -102,14 +102,14 @@ impl<'a> Site<'a> {
     }
 
     fn at_item(&self, word: &'a [u8]) -> Call<'a>
-        ensures { seen result ≡ at_item self.now.types.now self.now.component.now self.now.runnable.now self.now.access.now word.now }
+        ensures { seen result ≡ at_site at_item self.now word.now }
     {
         let parts = Parts::Two(self.port_name(), self.item_name());
         Call { word, parts }
     }
 
     fn of_runnable(&self, word: &'a [u8]) -> Call<'a>
-        ensures { seen result ≡ of_runnable self.now.types.now self.now.component.now self.now.runnable.now self.now.access.now word.now }
+        ensures { seen result ≡ at_site of_runnable self.now word.now }
     {
         let runnable = self.runnable.short_name.bytes();
         let parts = Parts::Three(runnable, self.port_name(), self.item_name());
@@ -117,14 +117,14 @@ impl<'a> Site<'a> {
     }
 
     fn of_variable(&self, word: &'a [u8]) -> Call<'a>
-        ensures { seen result ≡ of_variable self.now.types.now self.now.component.now self.now.runnable.now self.now.access.now word.now }
+        ensures { seen result ≡ at_site of_variable self.now word.now }
     {
         let parts = Parts::Two(self.runnable.short_name.bytes(), self.variable_name());
         Call { word, parts }
     }
 
     fn of_area(&self, word: &'a [u8]) -> Call<'a>
-        ensures { seen result ≡ of_area self.now.types.now self.now.component.now self.now.runnable.now self.now.access.now word.now }
+        ensures { seen result ≡ at_site of_area self.now word.now }
     {
         let parts = Parts::One(self.area_name());
         Call { word, parts }
@@ -132,7 +132,7 @@ impl<'a> Site<'a> {
 
     /// The call of the access; of an area that by which it is entered.
     fn call(&self) -> Call<'a>
-        ensures { seen result ≡ target_by self.now.types.now self.now.component.now self.now.runnable.now self.now.access.now self.now.access.now.kind }
+        ensures { seen result ≡ at_site target_by self.now self.now.access.now.kind }
     {
         match self.access.kind {
             AccessKind::Write => self.at_item(b"Rte_Write"),
@@ -156,7 +156,7 @@ impl<'a> Site<'a> {
     }
 
     fn add_calls(&self, calls: &mut Vec<Call<'a>>) -> Result<(), Memory>
-        ensures { OnOk result (all_seen calls.new.items ≡ all_seen calls.old.items ++ targets_of self.now.types.now self.now.component.now self.now.runnable.now self.now.access.now) }
+        ensures { OnOk result (all_seen calls.new.items ≡ all_seen calls.old.items ++ at_site targets_of self.now) }
     {
         calls.push(self.call())?;
         if matches!(self.access.kind, AccessKind::Enter) {
