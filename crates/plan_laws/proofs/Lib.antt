@@ -5,6 +5,7 @@ pub mod Components
 pub mod Parts
 pub mod Mapped
 pub mod Planned
+pub mod Headers
 pub mod Printed
 pub mod Sorted
 pub mod Refused

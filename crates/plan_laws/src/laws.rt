@@ -7,6 +7,7 @@ ghost use Rattle.plan_definitions.specs.Planned.{plan_of};
 ghost use Rattle.plan_definitions.specs.PlanRules.{is_too_large};
 ghost use Rattle.rte_text.specs.declared.refusal.Refusal.{Refusal};
 ghost use Rattle.rte_text.specs.declared.refusal.Refused.TheVariants.{Rule};
+ghost use Rattle.api_header.specs.Headers.{header_of};
 ghost use Rattle.description_stages.specs.declared.planning.PlannedDescription.{PlannedDescription};
 ghost use Rattle.description_stages.specs.Plans.{IsPlanRefusalOf, IsPlannedOf};
 ghost use Rattle.plan_laws.specs.Same.{IsSamePlan};
@@ -15,6 +16,11 @@ ghost use Rattle.plan_laws.specs.Sizes.{is_past};
 /// Bytes that have a plan have one plan, with one mapping and one text.
 pub fn plans_are_one()
     ensures { (bytes : List ℕ) (x y : PlannedDescription) → IsPlannedOf bytes x → IsPlannedOf bytes y → IsSamePlan x y }
+{}
+
+/// Bytes that have a plan have one header for each name of a component, or one reason why there is none.
+pub fn headers_are_one()
+    ensures { (bytes : List ℕ) (x y : PlannedDescription) (name : List ℕ) → IsPlannedOf bytes x → IsPlannedOf bytes y → header_of x.description name ≡ header_of y.description name }
 {}
 
 /// Bytes that are refused are refused by one rule, at one place.

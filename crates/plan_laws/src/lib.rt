@@ -8,5 +8,6 @@
 mod laws;
 
 pub use laws::{
-    no_refused_description_has_a_plan, plans_are_one, plans_count_what_is_listed, refusals_are_one,
+    headers_are_one, no_refused_description_has_a_plan, plans_are_one, plans_count_what_is_listed,
+    refusals_are_one,
 };
