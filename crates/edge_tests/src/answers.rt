@@ -17,6 +17,8 @@ fn ends_with_these_numbers(rt: HostRuntime) {
         (Status::Script, 5),
         (Status::Trace, 6),
         (Status::Memory, 7),
+        (Status::NoComponent, 8),
+        (Status::Clash, 9),
     ];
     for (status, number) in cases {
         assert_eq!(rt; status as u8, number);

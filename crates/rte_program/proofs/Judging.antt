@@ -17,11 +17,12 @@ use Rattle.rte_program.specs.declared.stop.Finding.TheVariants as finding
 use Rattle.rte_program.specs.declared.stop.Stop.{Stop}
 use Rattle.rte_program.specs.declared.stop.Stop.TheVariants as stop
 use Rattle.rte_program.specs.Carrying.{CarriesOut}
-use Rattle.rte_program.specs.Commands.{Bytes, Command, check, plan}
+use Rattle.rte_program.specs.Commands.{Bytes, Command, check, header, plan}
 use Rattle.rte_program.specs.CheckCommand.{IsCheckedAs}
 use Rattle.rte_program.specs.Inputs.{AreInputs}
 use Rattle.check_definitions.specs.Verdicts.{IsVerdict}
 use Rattle.rte_program.specs.Judging.{IsBadScript, IsFound, IsNotLegal, IsNotPlanned, IsNotRun, IsRefusedTrace}
+use Rattle.rte_program.specs.HeaderCommand.{SaysHeader}
 use Rattle.rte_program.specs.PlanCommand.{IsPlanFinding}
 use Rattle.rte_program.specs.RunCommand.{IsRunFinding}
 use Rattle.rte_program.specs.Texts.{checked_text, finding_text, IsPut, IsShort, IsShortFinding, IsUnsaid, Says}
@@ -67,6 +68,8 @@ pub found_short : (d s : Bytes) → length s ≤ 8388608 → (found : Finding) �
 found_short d s fits (finding.Refused refusal) is = tt
 found_short d s fits (finding.Script line cause) is = omega (arith, bad_within (plan_of is.found.plan) [] (lines_of s) line cause is.bad, lines_fit s, fits)
 found_short d s fits (finding.Trace checked) is = absurd is
+found_short d s fits finding.NoComponent is = absurd is
+found_short d s fits (finding.Clash name) is = absurd is
 
 pub short_by : (finds : Finding → Type 0) → ((found : Finding) → finds found → IsShortFinding found) → (why : Stop) → IsFound finds why → IsShort why
 short_by finds short (stop.Found found) is = short found is
@@ -84,6 +87,8 @@ plan_short d why is = short_by (IsPlanFinding d) by why is
     by (finding.Refused refusal) is = tt
     by (finding.Script line cause) is = absurd is
     by (finding.Trace checked) is = absurd is
+    by finding.NoComponent is = absurd is
+    by (finding.Clash name) is = absurd is
 
 -- ---- over a plan
 
@@ -92,6 +97,8 @@ pub bad_script : (d s : Bytes) (found : PlannedDescription) → IsPlannedOf d fo
 bad_script d s found planned (stop.Found (finding.Script line cause)) bad = record { found = found; described = planned; bad = bad }
 bad_script d s found planned (stop.Found (finding.Refused refusal)) bad = absurd bad
 bad_script d s found planned (stop.Found (finding.Trace checked)) bad = absurd bad
+bad_script d s found planned (stop.Found finding.NoComponent) bad = absurd bad
+bad_script d s found planned (stop.Found (finding.Clash name)) bad = absurd bad
 bad_script d s found planned stop.Memory bad = tt
 bad_script d s found planned stop.Words bad = absurd bad
 bad_script d s found planned (stop.NotRead place) bad = absurd bad
@@ -106,6 +113,8 @@ module _ (d t s : Bytes) (found : PlannedDescription) (lines : List Line) (input
   refused_by (stop.Found (finding.Trace checked)) is = (is.0, record { found = found; lines = lines; inputs = inputs; verdict = is.1 })
   refused_by (stop.Found (finding.Refused refusal)) is = absurd is
   refused_by (stop.Found (finding.Script line cause)) is = absurd is
+  refused_by (stop.Found finding.NoComponent) is = absurd is
+  refused_by (stop.Found (finding.Clash name)) is = absurd is
   refused_by stop.Memory is = tt
   refused_by stop.Words is = absurd is
   refused_by (stop.NotRead place) is = absurd is
@@ -119,6 +128,8 @@ pub not_run : (d t s : Bytes) (why : Stop) → IsNotRun d s why → IsNotLegal d
 not_run d t s (stop.Found (finding.Refused refusal)) is = is
 not_run d t s (stop.Found (finding.Script line cause)) is = is
 not_run d t s (stop.Found (finding.Trace checked)) is = absurd is
+not_run d t s (stop.Found finding.NoComponent) is = absurd is
+not_run d t s (stop.Found (finding.Clash name)) is = absurd is
 not_run d t s stop.Memory is = tt
 not_run d t s stop.Words is = absurd is
 not_run d t s (stop.NotRead place) is = absurd is
@@ -139,3 +150,7 @@ planned d description found is answer before after f g (inr unsaid) = inr (inr (
 pub legal : (d t s description trace script : Bytes) → IsCheckedAs description trace script Legal → (answer : Status) (before after : Option Bytes) (f g : ℕ)
     → IsPut (checked_text Legal) status.Done answer before after f g → CarriesOut (check d t s) (description ∷ trace ∷ script ∷ []) answer before after f g
 legal d t s description trace script is answer before after f g put = inl (record { verdict = done; verdict_is = is; text = checked_text Legal; said = refl; put = put })
+
+pub listed : (d description name text : Bytes) → SaysHeader description name text → (answer : Status) (before after : Option Bytes) (f g : ℕ)
+    → IsPut text status.Done answer before after f g → CarriesOut (header d name) (description ∷ []) answer before after f g
+listed d description name text says answer before after f g put = inl (record { verdict = done; verdict_is = (text, says); text = text; said = says; put = put })

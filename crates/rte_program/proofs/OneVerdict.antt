@@ -18,8 +18,10 @@ use Rattle.script_reading.specs.Reading.{IsScript, first_bad}
 use Rattle.rte_program.specs.declared.stop.Finding.{Finding}
 use Rattle.rte_program.specs.declared.stop.Finding.TheVariants as finding
 use Rattle.rte_program.specs.CheckCommand.{IsCheckedAs, IsCheckFinding}
-use Rattle.rte_program.specs.Commands.{Bytes, Command, run, plan, soak, check}
+use Rattle.rte_program.specs.Commands.{Bytes, Command, run, plan, header, soak, check}
 use Rattle.rte_program.specs.Inputs.{HaveBadLine}
+use Rattle.api_header.specs.Headers.{Header, clash, header_of, made, no_component}
+use Rattle.rte_program.specs.HeaderCommand.{CanList, HasHeader, IsHeaderFinding}
 use Rattle.rte_program.specs.PlanCommand.{CanPlan, IsPlanFinding}
 use Rattle.rte_program.specs.RunCommand.{CanRun, IsRunFinding}
 use Rattle.rte_program.specs.Verdicts.{Verdict, done, refused, CanBeDone, IsFindingOn, IsVerdictOn}
@@ -28,6 +30,9 @@ use Rattle.rte_program.proofs.Scripts.{same_orders, same_verdict}
 -- what the laws of plans and of traces say
 abbrev pub PlansAreOne : Type 0
 PlansAreOne = (bytes : List ℕ) (x y : PlannedDescription) → IsPlannedOf bytes x → IsPlannedOf bytes y → IsSamePlan x y
+
+abbrev pub HeadersAreOne : Type 0
+HeadersAreOne = (bytes : List ℕ) (x y : PlannedDescription) (name : List ℕ) → IsPlannedOf bytes x → IsPlannedOf bytes y → header_of x.description name ≡ header_of y.description name
 
 abbrev pub RefusalsAreOne : Type 0
 RefusalsAreOne = (bytes : List ℕ) (r s : Refusal) → IsPlanRefusalOf bytes (Rule r) → IsPlanRefusalOf bytes (Rule s) → r ≡ s
@@ -38,7 +43,7 @@ NotBoth = (bytes : List ℕ) (r : Refusal) (x : PlannedDescription) → IsPlanRe
 abbrev pub TracesAreOne : Type 0
 TracesAreOne = (p : Plan) (m : Mapping) → IsSound p m → TracesHaveOneVerdict p m
 
-module _ (plans : PlansAreOne) (refusals : RefusalsAreOne) (not_both : NotBoth) (traces : TracesAreOne) where
+module _ (plans : PlansAreOne) (headers : HeadersAreOne) (refusals : RefusalsAreOne) (not_both : NotBoth) (traces : TracesAreOne) where
   -- a script has no bad line
   good : (d s : Bytes) → CanRun d s → (line cause : ℕ) → HaveBadLine d s line cause → ⊥
   good d s can line cause bad =
@@ -61,6 +66,8 @@ module _ (plans : PlansAreOne) (refusals : RefusalsAreOne) (not_both : NotBoth) 
   run_apart d s can (finding.Refused refusal) is = not_both d refusal can.0 is can.2.described
   run_apart d s can (finding.Script line cause) is = good d s can line cause is
   run_apart d s can (finding.Trace checked) is = is
+  run_apart d s can finding.NoComponent is = is
+  run_apart d s can (finding.Clash name) is = is
 
   run_same : (d s : Bytes) (f g : Finding) → IsRunFinding d s f → IsRunFinding d s g → f ≡ g
   run_same d s (finding.Refused r) (finding.Refused q) a b = ap finding.Refused (refusals d r q a b)
@@ -68,6 +75,12 @@ module _ (plans : PlansAreOne) (refusals : RefusalsAreOne) (not_both : NotBoth) 
   run_same d s (finding.Script line cause) (finding.Refused q) a b = absurd (not_both d q a.found b a.described)
   run_same d s (finding.Script n k) (finding.Script m l) a b = same_line d s n k m l a b
   run_same d s (finding.Trace checked) g a b = absurd a
+  run_same d s finding.NoComponent g a b = absurd a
+  run_same d s (finding.Clash name) g a b = absurd a
+  run_same d s (finding.Refused r) finding.NoComponent a b = absurd b
+  run_same d s (finding.Refused r) (finding.Clash name) a b = absurd b
+  run_same d s (finding.Script line cause) finding.NoComponent a b = absurd b
+  run_same d s (finding.Script line cause) (finding.Clash name) a b = absurd b
   run_same d s (finding.Refused r) (finding.Trace checked) a b = absurd b
   run_same d s (finding.Script line cause) (finding.Trace checked) a b = absurd b
 
@@ -77,13 +90,54 @@ module _ (plans : PlansAreOne) (refusals : RefusalsAreOne) (not_both : NotBoth) 
   plan_apart d can (finding.Refused refusal) is = not_both d refusal can.0 is can.1
   plan_apart d can (finding.Script line cause) is = is
   plan_apart d can (finding.Trace checked) is = is
+  plan_apart d can finding.NoComponent is = is
+  plan_apart d can (finding.Clash name) is = is
 
   plan_same : (d : Bytes) (f g : Finding) → IsPlanFinding d f → IsPlanFinding d g → f ≡ g
   plan_same d (finding.Refused r) (finding.Refused q) a b = ap finding.Refused (refusals d r q a b)
   plan_same d (finding.Script line cause) g a b = absurd a
   plan_same d (finding.Trace checked) g a b = absurd a
+  plan_same d finding.NoComponent g a b = absurd a
+  plan_same d (finding.Clash name) g a b = absurd a
+  plan_same d (finding.Refused r) finding.NoComponent a b = absurd b
+  plan_same d (finding.Refused r) (finding.Clash name) a b = absurd b
   plan_same d (finding.Refused r) (finding.Script line cause) a b = absurd b
   plan_same d (finding.Refused r) (finding.Trace checked) a b = absurd b
+
+  -- ---- header
+
+  -- over two readings of the bytes what there is of a header is the same
+  header_once : (d name : Bytes) (x y : Header) → HasHeader d name x → HasHeader d name y → x ≡ y
+  header_once d name x y a b = sym a.header_is ∙ headers d a.found b.found name a.planned b.planned ∙ b.header_is
+
+  header_apart : (d name : Bytes) → CanList d name → (f : Finding) → IsHeaderFinding d name f → ⊥
+  header_apart d name can (finding.Refused refusal) is = let has = can.1 in not_both d refusal has.found is has.planned
+  header_apart d name can finding.NoComponent is = let same = header_once d name (made can.0) no_component can.1 is in cc
+  header_apart d name can (finding.Clash n) is = let same = header_once d name (made can.0) (clash n) can.1 is in cc
+  header_apart d name can (finding.Script line cause) is = is
+  header_apart d name can (finding.Trace checked) is = is
+
+  clash_once : (n m : Bytes) → clash n ≡ clash m → n ≡ m
+  clash_once n m e = cc
+
+  header_same : (d name : Bytes) (f g : Finding) → IsHeaderFinding d name f → IsHeaderFinding d name g → f ≡ g
+  header_same d name (finding.Refused r) (finding.Refused q) a b = ap finding.Refused (refusals d r q a b)
+  header_same d name (finding.Refused r) finding.NoComponent a b = absurd (not_both d r b.found a b.planned)
+  header_same d name (finding.Refused r) (finding.Clash m) a b = absurd (not_both d r b.found a b.planned)
+  header_same d name finding.NoComponent (finding.Refused q) a b = absurd (not_both d q a.found b a.planned)
+  header_same d name (finding.Clash n) (finding.Refused q) a b = absurd (not_both d q a.found b a.planned)
+  header_same d name finding.NoComponent finding.NoComponent a b = refl
+  header_same d name finding.NoComponent (finding.Clash m) a b = let same = header_once d name no_component (clash m) a b in absurd cc
+  header_same d name (finding.Clash n) finding.NoComponent a b = let same = header_once d name (clash n) no_component a b in absurd cc
+  header_same d name (finding.Clash n) (finding.Clash m) a b = ap finding.Clash (clash_once n m (header_once d name (clash n) (clash m) a b))
+  header_same d name (finding.Script line cause) g a b = absurd a
+  header_same d name (finding.Trace checked) g a b = absurd a
+  header_same d name (finding.Refused r) (finding.Script line cause) a b = absurd b
+  header_same d name (finding.Refused r) (finding.Trace checked) a b = absurd b
+  header_same d name finding.NoComponent (finding.Script line cause) a b = absurd b
+  header_same d name finding.NoComponent (finding.Trace checked) a b = absurd b
+  header_same d name (finding.Clash n) (finding.Script line cause) a b = absurd b
+  header_same d name (finding.Clash n) (finding.Trace checked) a b = absurd b
 
   -- ---- check
 
@@ -103,6 +157,8 @@ module _ (plans : PlansAreOne) (refusals : RefusalsAreOne) (not_both : NotBoth) 
   check_apart : (d t s : Bytes) → IsCheckedAs d t s Legal → (f : Finding) → IsCheckFinding d t s f → ⊥
   check_apart d t s legal (finding.Refused refusal) is = run_apart d s (can_run d t s Legal legal) (finding.Refused refusal) is
   check_apart d t s legal (finding.Script line cause) is = run_apart d s (can_run d t s Legal legal) (finding.Script line cause) is
+  check_apart d t s legal finding.NoComponent is = is
+  check_apart d t s legal (finding.Clash name) is = is
   check_apart d t s legal (finding.Trace checked) is = is.0 (checked_once d t s checked Legal is.1 legal)
 
   check_same : (d t s : Bytes) (f g : Finding) → IsCheckFinding d t s f → IsCheckFinding d t s g → f ≡ g
@@ -111,6 +167,14 @@ module _ (plans : PlansAreOne) (refusals : RefusalsAreOne) (not_both : NotBoth) 
   check_same d t s (finding.Trace v) (finding.Script line cause) a b = absurd (run_apart d s (can_run d t s v a.1) (finding.Script line cause) b)
   check_same d t s (finding.Refused r) (finding.Trace w) a b = absurd (run_apart d s (can_run d t s w b.1) (finding.Refused r) a)
   check_same d t s (finding.Script line cause) (finding.Trace w) a b = absurd (run_apart d s (can_run d t s w b.1) (finding.Script line cause) a)
+  check_same d t s finding.NoComponent g a b = absurd a
+  check_same d t s (finding.Clash name) g a b = absurd a
+  check_same d t s (finding.Trace v) finding.NoComponent a b = absurd b
+  check_same d t s (finding.Trace v) (finding.Clash name) a b = absurd b
+  check_same d t s (finding.Refused r) finding.NoComponent a b = absurd b
+  check_same d t s (finding.Refused r) (finding.Clash name) a b = absurd b
+  check_same d t s (finding.Script line cause) finding.NoComponent a b = absurd b
+  check_same d t s (finding.Script line cause) (finding.Clash name) a b = absurd b
   check_same d t s (finding.Refused r) (finding.Refused q) a b = run_same d s (finding.Refused r) (finding.Refused q) a b
   check_same d t s (finding.Refused r) (finding.Script line cause) a b = run_same d s (finding.Refused r) (finding.Script line cause) a b
   check_same d t s (finding.Script line cause) (finding.Refused q) a b = run_same d s (finding.Script line cause) (finding.Refused q) a b
@@ -121,6 +185,9 @@ module _ (plans : PlansAreOne) (refusals : RefusalsAreOne) (not_both : NotBoth) 
   apart : (command : Command) (files : List Bytes) → CanBeDone command files → (f : Finding) → IsFindingOn command files f → ⊥
   apart (run d s) (description ∷ script ∷ []) can f is = run_apart description script can f is
   apart (plan d) (description ∷ []) can f is = plan_apart description can f is
+  apart (header d name) (description ∷ []) can f is = header_apart description name can f is
+  apart (header d name) [] can f is = is
+  apart (header d name) (x ∷ y ∷ files) can f is = is
   apart (check d t s) (description ∷ trace ∷ script ∷ []) can f is = check_apart description trace script can f is
   apart (soak n) files can f is = is
   apart (run d s) [] can f is = is
@@ -136,6 +203,9 @@ module _ (plans : PlansAreOne) (refusals : RefusalsAreOne) (not_both : NotBoth) 
   same : (command : Command) (files : List Bytes) (f g : Finding) → IsFindingOn command files f → IsFindingOn command files g → f ≡ g
   same (run d s) (description ∷ script ∷ []) f g a b = run_same description script f g a b
   same (plan d) (description ∷ []) f g a b = plan_same description f g a b
+  same (header d name) (description ∷ []) f g a b = header_same description name f g a b
+  same (header d name) [] f g a b = absurd a
+  same (header d name) (x ∷ y ∷ files) f g a b = absurd a
   same (check d t s) (description ∷ trace ∷ script ∷ []) f g a b = check_same description trace script f g a b
   same (soak n) files f g a b = absurd a
   same (run d s) [] f g a b = absurd a

@@ -43,3 +43,5 @@ no_other done = record { words = λ e. cc; unread = λ e. cc; unwritten = λ e. 
 no_other (refused (finding.Refused refusal)) = record { words = λ e. cc; unread = λ e. cc; unwritten = λ e. cc; memory = λ e. cc }
 no_other (refused (finding.Script line cause)) = record { words = λ e. cc; unread = λ e. cc; unwritten = λ e. cc; memory = λ e. cc }
 no_other (refused (finding.Trace checked)) = record { words = λ e. cc; unread = λ e. cc; unwritten = λ e. cc; memory = λ e. cc }
+no_other (refused finding.NoComponent) = record { words = λ e. cc; unread = λ e. cc; unwritten = λ e. cc; memory = λ e. cc }
+no_other (refused (finding.Clash name)) = record { words = λ e. cc; unread = λ e. cc; unwritten = λ e. cc; memory = λ e. cc }

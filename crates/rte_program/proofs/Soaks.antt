@@ -56,6 +56,8 @@ only_memory_by n d s keeps is (stop.Found (finding.Script line cause)) found =
     let bad : first_bad (plan_of found.found.plan) [] (lines_of s) ≡ Some (line, cause) = found.bad in
     absurd cc
 only_memory_by n d s keeps is (stop.Found (finding.Trace checked)) found = absurd found
+only_memory_by n d s keeps is (stop.Found finding.NoComponent) found = absurd found
+only_memory_by n d s keeps is (stop.Found (finding.Clash name)) found = absurd found
 only_memory_by n d s keeps is stop.Memory found = refl
 only_memory_by n d s keeps is stop.Words found = absurd found
 only_memory_by n d s keeps is (stop.NotRead place) found = absurd found

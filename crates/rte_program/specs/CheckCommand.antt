@@ -25,3 +25,5 @@ abbrev pub IsCheckFinding : (description : Bytes) → (trace : Bytes) → (scrip
 IsCheckFinding d t s (finding.Refused refusal) = IsPlanRefusalOf d (Rule refusal)
 IsCheckFinding d t s (finding.Script line cause) = HaveBadLine d s line cause
 IsCheckFinding d t s (finding.Trace checked) = (checked ≢ Legal) × IsCheckedAs d t s checked
+IsCheckFinding d t s finding.NoComponent = ⊥
+IsCheckFinding d t s (finding.Clash name) = ⊥

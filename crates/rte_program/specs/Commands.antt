@@ -17,6 +17,7 @@ Words = List Bytes
 pub data Command : Type 0 where
   run : (description : Bytes) → (script : Bytes) → Command
   plan : (description : Bytes) → Command
+  header : (description : Bytes) → (name : Bytes) → Command
   soak : (pairs : ℕ) → Command
   check : (description : Bytes) → (trace : Bytes) → (script : Bytes) → Command
 
@@ -24,10 +25,10 @@ pub data Command : Type 0 where
 abbrev pub pairs_of : Bytes → Option ℕ
 pairs_of text = if is_number text && (nat_le 1 (number_in text) && nat_le (number_in text) 64) then Some (number_in text) else None
 
--- `plan C`, `soak N`, `run C S` and `check C T S`
+-- `plan C`, `soak N`, `run C S`, `header C name` and `check C T S`
 abbrev pub command_of : Words → Option Command
 command_of (w ∷ a ∷ []) = if bytes_eq w (codes "plan") then Some (plan a) else (if bytes_eq w (codes "soak") then option_map soak (pairs_of a) else None)
-command_of (w ∷ a ∷ b ∷ []) = if bytes_eq w (codes "run") then Some (run a b) else None
+command_of (w ∷ a ∷ b ∷ []) = if bytes_eq w (codes "run") then Some (run a b) else (if bytes_eq w (codes "header") then Some (header a b) else None)
 command_of (w ∷ a ∷ b ∷ c ∷ []) = if bytes_eq w (codes "check") then Some (check a b c) else None
 command_of words = None
 
@@ -35,6 +36,7 @@ command_of words = None
 abbrev pub files_of : Command → List Bytes
 files_of (run description script) = description ∷ script ∷ []
 files_of (plan description) = description ∷ []
+files_of (header description name) = description ∷ []
 files_of (soak pairs) = []
 files_of (check description trace script) = description ∷ trace ∷ script ∷ []
 
@@ -42,6 +44,7 @@ files_of (check description trace script) = description ∷ trace ∷ script ∷
 abbrev pub IsWell : Command → Type 0
 IsWell (run description script) = Unit {0}
 IsWell (plan description) = Unit {0}
+IsWell (header description name) = Unit {0}
 IsWell (soak pairs) = (1 ≤ pairs) × (pairs ≤ 64)
 IsWell (check description trace script) = Unit {0}
 
@@ -49,6 +52,7 @@ IsWell (check description trace script) = Unit {0}
 abbrev pub runs : Command → Bool
 runs (run description script) = true
 runs (plan description) = false
+runs (header description name) = false
 runs (soak pairs) = true
 runs (check description trace script) = false
 
@@ -60,5 +64,6 @@ ask_to_run words = option_map_or runs (command_of words) false
 abbrev pub meant : code.Command → Command
 meant (code_as.Run description script) = run description.now script.now
 meant (code_as.Plan description) = plan description.now
+meant (code_as.Header description name) = header description.now name.now
 meant (code_as.Soak pairs) = soak pairs
 meant (code_as.Check description trace script) = check description.now trace.now script.now

@@ -33,6 +33,8 @@ abbrev pub IsBadLine : Plan → (script : Bytes) → Finding → Type 0
 IsBadLine p s (finding.Script line cause) = first_bad p [] (lines_of s) ≡ Some (line, cause)
 IsBadLine p s (finding.Refused refusal) = ⊥
 IsBadLine p s (finding.Trace checked) = ⊥
+IsBadLine p s finding.NoComponent = ⊥
+IsBadLine p s (finding.Clash name) = ⊥
 
 abbrev pub IsBadScript : Plan → (script : Bytes) → Stop → Type 0
 IsBadScript p s why = IsFound (IsBadLine p s) why
@@ -42,6 +44,8 @@ abbrev pub IsNoTrace : Plan → Mapping → List Line → (trace : Bytes) → Fi
 IsNoTrace p m lines t (finding.Trace checked) = (checked ≢ Legal) × IsVerdict p m lines t checked
 IsNoTrace p m lines t (finding.Refused refusal) = ⊥
 IsNoTrace p m lines t (finding.Script line cause) = ⊥
+IsNoTrace p m lines t finding.NoComponent = ⊥
+IsNoTrace p m lines t (finding.Clash name) = ⊥
 
 abbrev pub IsRefusedTrace : Plan → Mapping → List Line → (trace : Bytes) → Stop → Type 0
 IsRefusedTrace p m lines t why = IsFound (IsNoTrace p m lines t) why

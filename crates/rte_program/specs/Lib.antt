@@ -3,6 +3,7 @@ pub mod Inputs
 pub mod Texts
 pub mod RunCommand
 pub mod PlanCommand
+pub mod HeaderCommand
 pub mod CheckCommand
 pub mod SoakCommand
 pub mod Verdicts

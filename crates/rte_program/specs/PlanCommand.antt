@@ -16,6 +16,8 @@ abbrev pub IsPlanFinding : (description : Bytes) → Finding → Type 0
 IsPlanFinding d (finding.Refused refusal) = IsPlanRefusalOf d (Rule refusal)
 IsPlanFinding d (finding.Script line cause) = ⊥
 IsPlanFinding d (finding.Trace checked) = ⊥
+IsPlanFinding d finding.NoComponent = ⊥
+IsPlanFinding d (finding.Clash name) = ⊥
 
 -- the text is that of the plan of the description
 pub record SaysPlan (description text : Bytes) : Type 0 where

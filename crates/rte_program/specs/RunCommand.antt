@@ -41,6 +41,8 @@ abbrev pub IsRunFinding : (description : Bytes) → (script : Bytes) → Finding
 IsRunFinding d s (finding.Refused refusal) = IsPlanRefusalOf d (Rule refusal)
 IsRunFinding d s (finding.Script line cause) = HaveBadLine d s line cause
 IsRunFinding d s (finding.Trace checked) = ⊥
+IsRunFinding d s finding.NoComponent = ⊥
+IsRunFinding d s (finding.Clash name) = ⊥
 
 -- the headline: the bytes are a description and a script over its plan, and the text spells a run of that script
 pub record SaysRun (description script text : Bytes) : Type 0 where

@@ -34,15 +34,23 @@ checked_text Legal = codes "legal\n"
 checked_text (BadLine line) = codes "bad line " ++ decimal line ++ codes "\n"
 checked_text (Illegal line clause) = codes "illegal " ++ decimal line ++ codes " D" ++ decimal clause ++ codes "\n"
 
+-- a name that two different calls have
+abbrev pub clash_text : Bytes → Bytes
+clash_text name = codes "clash " ++ name ++ codes "\n"
+
 abbrev pub finding_text : Finding → Bytes
 finding_text (finding.Refused refusal) = refusal_text refusal.rule refusal.place
 finding_text (finding.Script line cause) = script_refusal_text line cause
 finding_text (finding.Trace checked) = checked_text checked
+finding_text finding.NoComponent = codes "no component\n"
+finding_text (finding.Clash name) = clash_text name
 
 abbrev pub finding_status : Finding → Status
 finding_status (finding.Refused refusal) = status.Refused
 finding_status (finding.Script line cause) = status.Script
 finding_status (finding.Trace checked) = status.Trace
+finding_status finding.NoComponent = status.NoComponent
+finding_status (finding.Clash name) = status.Clash
 
 -- ---- the put of a text
 
@@ -81,6 +89,8 @@ abbrev pub IsShortFinding : Finding → Type 0
 IsShortFinding (finding.Refused refusal) = Unit {0}
 IsShortFinding (finding.Script line cause) = line < 2 ^ 63
 IsShortFinding (finding.Trace checked) = IsShortVerdict checked
+IsShortFinding finding.NoComponent = Unit {0}
+IsShortFinding (finding.Clash name) = Unit {0}
 
 abbrev pub IsShort : Stop → Type 0
 IsShort stop.Words = Unit {0}

@@ -4,10 +4,11 @@ use Rattle.rte_program.specs.declared.status.Status.{Status}
 use Rattle.rte_program.specs.declared.status.Status.TheVariants as status
 use Rattle.rte_program.specs.declared.stop.Finding.{Finding}
 use Rattle.check_definitions.specs.declared.checked.Checked.TheVariants.{Legal}
-use Rattle.rte_program.specs.Commands.{Bytes, Command, run, plan, soak, check}
+use Rattle.rte_program.specs.Commands.{Bytes, Command, run, plan, header, soak, check}
 use Rattle.rte_program.specs.Texts.{checked_text, finding_status, finding_text}
 use Rattle.rte_program.specs.RunCommand.{CanRun, IsRunFinding, SaysRun, BeginsRun}
 use Rattle.rte_program.specs.PlanCommand.{CanPlan, IsPlanFinding, SaysPlan}
+use Rattle.rte_program.specs.HeaderCommand.{CanList, IsHeaderFinding, SaysHeader}
 use Rattle.rte_program.specs.CheckCommand.{IsCheckedAs, IsCheckFinding}
 use Rattle.rte_program.specs.SoakCommand.{SaysNumbers}
 
@@ -25,6 +26,7 @@ status_of (refused finding) = finding_status finding
 abbrev pub CanBeDone : Command → (files : List Bytes) → Type 0
 CanBeDone (run d s) (description ∷ script ∷ []) = CanRun description script
 CanBeDone (plan d) (description ∷ []) = CanPlan description
+CanBeDone (header d name) (description ∷ []) = CanList description name
 CanBeDone (soak n) [] = Unit {0}
 CanBeDone (check d t s) (description ∷ trace ∷ script ∷ []) = IsCheckedAs description trace script Legal
 CanBeDone command files = ⊥
@@ -32,6 +34,7 @@ CanBeDone command files = ⊥
 abbrev pub IsFindingOn : Command → (files : List Bytes) → Finding → Type 0
 IsFindingOn (run d s) (description ∷ script ∷ []) finding = IsRunFinding description script finding
 IsFindingOn (plan d) (description ∷ []) finding = IsPlanFinding description finding
+IsFindingOn (header d name) (description ∷ []) finding = IsHeaderFinding description name finding
 IsFindingOn (check d t s) (description ∷ trace ∷ script ∷ []) finding = IsCheckFinding description trace script finding
 IsFindingOn command files finding = ⊥
 
@@ -43,6 +46,7 @@ IsVerdictOn command files (refused finding) = IsFindingOn command files finding
 abbrev pub SaysDone : Command → (files : List Bytes) → Bytes → Type 0
 SaysDone (run d s) (description ∷ script ∷ []) text = SaysRun description script text
 SaysDone (plan d) (description ∷ []) text = SaysPlan description text
+SaysDone (header d name) (description ∷ []) text = SaysHeader description name text
 SaysDone (soak n) [] text = SaysNumbers n text
 SaysDone (check d t s) (description ∷ trace ∷ script ∷ []) text = text ≡ checked_text Legal
 SaysDone command files text = ⊥

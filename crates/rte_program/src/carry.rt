@@ -6,6 +6,7 @@ ghost use Rattle.rte_program.specs.Commands.{meant, runs, IsWell};
 
 use crate::check::check_named;
 use crate::command::Command;
+use crate::header::header_named;
 use crate::plan::plan_named;
 use crate::run::run_named;
 use crate::soak::soak_named;
@@ -35,6 +36,7 @@ pub fn carry_out<R: Threads + Sync, S: Shelf, K: Sink, G: Gate>(
             script,
         } => run_named(rt, alloc, description, script, shelf, out, gate),
         Command::Plan { description } => plan_named(alloc, description, shelf, out),
+        Command::Header { description, name } => header_named(alloc, description, name, shelf, out),
         Command::Soak { pairs } => soak_named(rt, alloc, pairs, out, gate),
         Command::Check {
             description,
@@ -62,6 +64,9 @@ pub fn carry_out_quietly<S: Shelf, K: Sink>(
     match command {
         Command::Run { .. } => None,
         Command::Plan { description } => Some(plan_named(alloc, description, shelf, out)),
+        Command::Header { description, name } => {
+            Some(header_named(alloc, description, name, shelf, out))
+        }
         Command::Soak { .. } => None,
         Command::Check {
             description,

@@ -20,6 +20,11 @@ pub enum Command<'a> {
     Plan {
         description: &'a str,
     },
+    /// `header C name`: list the calls that the code of the component of this name may use.
+    Header {
+        description: &'a str,
+        name: &'a str,
+    },
     /// `soak N`: run a description of N pairs of a producer and a consumer, and count what they do.
     Soak {
         pairs: u32,
@@ -64,6 +69,27 @@ fn command_of_two<'a>(command: &str, word: &'a str) -> Option<Command<'a>>
     }
 }
 
+/// The command that three words give.
+fn command_of_three<'a>(command: &str, first: &'a str, second: &'a str) -> Option<Command<'a>>
+    ensures command { option_map meant result ≡ command_of (command.now ∷ first.now ∷ second.now ∷ []) }
+    ensures well { IfSome result (λ command. IsWell (meant command)) }
+{
+    if command == "run" {
+        return Some(Command::Run {
+            description: first,
+            script: second,
+        });
+    }
+    if command == "header" {
+        Some(Command::Header {
+            description: first,
+            name: second,
+        })
+    } else {
+        None
+    }
+}
+
 /// The command that the words give, if they give one.
 pub fn command_in(words: &[String]) -> Option<Command<'_>>
     ensures command { option_map meant result ≡ command_of (map string_bytes words.now) }
@@ -71,15 +97,8 @@ pub fn command_in(words: &[String]) -> Option<Command<'_>>
 {
     match words {
         [command, word] => command_of_two(command.as_str(), word.as_str()),
-        [command, description, script] => {
-            if command.as_str() == "run" {
-                Some(Command::Run {
-                    description: description.as_str(),
-                    script: script.as_str(),
-                })
-            } else {
-                None
-            }
+        [command, first, second] => {
+            command_of_three(command.as_str(), first.as_str(), second.as_str())
         }
         [command, description, trace, script] => {
             if command.as_str() == "check" {

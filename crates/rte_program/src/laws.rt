@@ -13,7 +13,9 @@ ghost use Rattle.rte_program.specs.RunCommand.{IsTextOfRun};
 ghost use Rattle.rte_program.specs.Verdicts.{IsVerdictOn, Verdict};
 
 use check_laws::traces_have_one_verdict;
-use plan_laws::{no_refused_description_has_a_plan, plans_are_one, refusals_are_one};
+use plan_laws::{
+    headers_are_one, no_refused_description_has_a_plan, plans_are_one, refusals_are_one,
+};
 
 /// What a run puts is a legal trace of its script, and no other verdict on it is right.
 pub fn runs_are_legal_traces()
@@ -29,6 +31,7 @@ pub fn verdicts_are_one()
     ensures { (command : Command) (files : List (List ℕ)) (v w : Verdict) → IsVerdictOn command files v → IsVerdictOn command files w → v ≡ w }
 {
     plans_are_one();
+    headers_are_one();
     refusals_are_one();
     no_refused_description_has_a_plan();
     traces_have_one_verdict();

@@ -5,6 +5,7 @@ mod carry;
 mod check;
 mod command;
 mod fetch;
+mod header;
 mod judge;
 mod laws;
 mod plan;

@@ -16,8 +16,8 @@ use rte_text::{Shelf, Sink};
 use std::alloc::Global;
 
 /// Carries out the command that the words give if no node runs for it, and answers words that are no command. `plan C` reads the
-/// description C from the shelf and puts its plan; `check C T S` reads the description C, the trace T and the script S and puts the
-/// verdict on the trace. None if the words are another command, `run C S` or `soak N`: then nothing was fetched and nothing put.
+/// description C from the shelf and puts its plan; `header C name` puts the header of its component of this name.
+/// `check C T S` reads the description C, the trace T and the script S and puts the verdict on the trace. None if the words are another command, `run C S` or `soak N`: then nothing was fetched and nothing put.
 ///
 /// Refusals come in this order: the words, the files in the order of the words, the description, by its rules, the script, the trace. Each
 /// line is one put.

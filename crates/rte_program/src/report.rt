@@ -2,12 +2,12 @@
 
 ghost use Rattle.std.specs.Prelude.{◌≡◌, ◌<◌, ◌^◌, [], IfOk};
 ghost use Rattle.rte_program.specs.declared.stop.Stop.TheVariants as stop;
-ghost use Rattle.rte_program.specs.Texts.{checked_text, refusal_text, script_refusal_text, unread_text, IsPut, IsShort, IsShortVerdict, Says};
+ghost use Rattle.rte_program.specs.Texts.{checked_text, clash_text, refusal_text, script_refusal_text, unread_text, IsPut, IsShort, IsShortVerdict, Says};
 
 use crate::status::Status;
 use crate::stop::{Finding, Stop};
 use check_definitions::Checked;
-use rte_text::{LineBuf, Put, Refusal, Sink};
+use rte_text::{LineBuf, Put, Refusal, Sink, Text};
 use std::alloc::{AllocError, Global};
 
 /// The text of a refusal, however long its place is.
@@ -85,6 +85,16 @@ pub fn put_text<K: Sink>(text: &[u8], status: Status, out: &mut K) -> Status
     }
 }
 
+/// The text of names that clash.
+fn write_clash(alloc: Global, name: &Text) -> Result<Vec<u8>, AllocError>
+    ensures { IfOk result (λ text. text.items ≡ clash_text name.now) }
+{
+    let mut text = Vec::from_slice(alloc, b"clash ")?;
+    text.extend_from_slice(name.bytes())?;
+    text.push(b'\n')?;
+    Ok(text)
+}
+
 /// Puts what is found of files that are refused, and answers its status. If there is no memory for the text, nothing is put.
 fn report_finding<K: Sink>(alloc: Global, found: &Finding, out: &mut K) -> Status
     requires { IsShort (stop.Found found.now) }
@@ -107,6 +117,11 @@ fn report_finding<K: Sink>(alloc: Global, found: &Finding, out: &mut K) -> Statu
             write_checked(*checked, &mut line);
             put_text(line.bytes(), Status::Trace, out)
         }
+        Finding::NoComponent => put_text(b"no component\n", Status::NoComponent, out),
+        Finding::Clash(name) => match write_clash(alloc, name) {
+            Ok(text) => put_text(text.as_slice(), Status::Clash, out),
+            Err(_) => Status::Memory,
+        },
     }
 }
 

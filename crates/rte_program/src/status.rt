@@ -19,4 +19,8 @@ pub enum Status {
     Trace = 6,
     /// There was no memory.
     Memory = 7,
+    /// No component has the name.
+    NoComponent = 8,
+    /// Two different calls of the component have one name.
+    Clash = 9,
 }

@@ -1,7 +1,7 @@
 //! Why nothing is carried out.
 
 use check_definitions::Checked;
-use rte_text::Refusal;
+use rte_text::{Refusal, Text};
 
 /// Why the files of a command are refused.
 #[derive(Drop)]
@@ -12,6 +12,10 @@ pub enum Finding {
     Script { line: u64, cause: u8 },
     /// The trace is refused: the first line that is, with the clause that it breaks if it has a reading.
     Trace(Checked),
+    /// No component has the name.
+    NoComponent,
+    /// Two different calls of the component have this name.
+    Clash(Text),
 }
 
 /// Why nothing is carried out.

@@ -22,6 +22,8 @@ use std::thread::Threads;
 /// description C and puts its plan. `soak N`, with N from 1 to 64, makes a description of N pairs of a producer and a consumer, which all
 /// call one server, and a script that ticks and runs twenty times; it runs this script and puts the numbers of the run alone.
 ///
+/// `header C name` reads the description C and puts the header of its component of this name: the calls that its code may use.
+///
 /// `check C T S` reads the description C, the trace T and the script S, and puts the verdict on the trace: `legal`, or the first line that
 /// is refused, with the clause that it breaks.
 ///
