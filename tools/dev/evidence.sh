@@ -63,15 +63,15 @@ S is a script over the plan of C|script_reading/accepts_a_word_past_the_limits
 the bytes are the text of a run|script_run/puts_no_run_mark script_run/puts_no_entries_of_the_round rte_text/drops_the_last_byte
 the run has the script's calls and run lines, all of them, in order|script_reading/skips_a_line script_run/hides_a_call script_run/skips_run_lines
 each entry is one that may come after those before it|data_objects/starts_what_is_not_pending area_objects/enters_a_held_area area_objects/leaves_for_another task_slots/appends_what_was_not_made
-an entry of an activation is the next call of its program, given the answers before|task_slots/forgets_the_answer task_slots/caller_goes_on_too_early task_machine/hears_a_refused_call task_generator/jumps_one_short
+an entry of an activation is the next call of its program, given the answers before|task_slots/forgets_the_answer task_slots/caller_goes_on_too_early task_machine/hears_a_refused_call task_generator/reads_port_at_each_use task_generator/publishes_at_once
 each answer is what the bus gives from the earlier entries|data_objects/keeps_another_value data_objects/answers_invalid_where_it_is_valid queued_ports/overwrites_oldest server_objects/crosses_results mode_machine/enters_before_exits_end
-this holds in whatever order the cores took their turns|core_runtime/gives_entries_in_another_order core_runtime/keeps_no_entry core_lanes/counts_no_entry cross_core_table/stamps_under_a_foreign_lock cross_core_table/skips_a_stamp
-`idle` holds only if nothing may step any more|task_slots/starts_nothing core_runtime/wakes_nobody_after_a_write core_runtime/wakes_no_caller core_runtime/begins_at_the_second_core script_run/closes_before_the_serial_pass
+this holds in whatever order the cores took their turns|cross_core_table/stamps_under_a_foreign_lock cross_core_table/stamps_another_answer
+`idle` holds only if nothing may step any more|task_slots/starts_nothing script_run/closes_before_the_serial_pass
 `unsettled` holds only after 100,000 entries of runnables|script_run/gives_up_at_99_999
 status 0 comes only then|rte_program/done_after_a_failed_fetch rte_program/done_after_a_failed_put
 each other status comes only if its cause is there|rte_program/always_words rte_program/always_refused rte_program/always_trace
 the least broken rule is named|compatibility/names_a_later_rule
-a trace is called legal exactly if it is the text of such a run, else its first line that is not, with the clause|trace_check/check_accepts_a_foreign_call trace_check/refuses_for_a_lower_clause trace_check/takes_an_open_end trace_check/closes_outside_a_run_line trace_reading/accepts_another_line
+a trace is called legal exactly if it is the text of such a run, else its first line that is not, with the clause|trace_check/check_accepts_a_foreign_call trace_check/refuses_for_a_lower_clause trace_check/takes_an_open_end trace_check/closes_outside_a_run_line
 END
 }
 
@@ -88,7 +88,37 @@ table() {
     done < <(wrong_bodies)
 }
 
+# ---- which clause refuses a wrong body that is tried no more: what it does, the crate, the function and its clause, and why
+
+covered_bodies() {
+    cat <<'END'
+a turn gives its entries in another order|core_runtime|run_round|stamps|the stamps of what is given count from 0
+a turn keeps no entry|core_runtime|run_round|lawful|the objects stand for a history that has each entry
+the serial pass begins at the second core|core_runtime|serial_pass|rest|a pass without an entry is rest of all cores
+a write, a return or a leave wakes nobody|core_runtime|serial_pass|rest|what sleeps may not start
+a core counts no entry that it made|core_lanes|turn_once|taken|without an entry the core and its bench are as they were
+a round has room for 1,025 entries of a core|core_lanes|run_together|its one clause|each core makes at most 1,024
+an object is acted on whose lock another core has|cross_core_table|act_at|knows|an entry comes only of a try that took the object
+an entry is stamped after its object was given back|core_lanes|run_together|its one clause|in the order of their stamps the entries lead from the old objects to the new
+a stamp is left out|core_lanes|run_together|its one clause|the stamps of what was made count from 0
+arguments are exchanged, a jump is one short, nested loops share a counter, a server returns before it publishes|task_generator|generate|its one clause|what a body asks equals what the actor rule wants
+a line is read as an entry that has another line, or that does not fit|trace_reading|is_read_as|its one clause|the answer equals both tests
+an entry's line is called bad|trace_reading|read_entry|reads|a bad line is that of no item
+END
+}
+
+covered() {
+    local body crate function clause why named
+    while IFS='|' read -r body crate function clause why; do
+        grep -rqE "fn $function\\b" -- "$top/crates/$crate/src" || fail "there is no function $function of $crate"
+        named=$clause
+        [ "$clause" = 'its one clause' ] || named="\`$clause\`"
+        printf '| %s | `%s` | `%s` | %s | %s |\n' "$body" "$crate" "$function" "$named" "$why"
+    done < <(covered_bodies)
+}
+
 rows=$(table)
+covers=$(covered)
 crates=$(find "$top"/crates/*/must-fail -name '*.edit' -printf '%h\n' | sort -u | wc -l)
 
 cat <<END
@@ -120,4 +150,12 @@ to refuse it; if it did not, the gate would fail.
 $rows
 
 Other wrong bodies stand in the folders \`must-fail\`, which $crates crates have.
+
+## Which clause refuses what is tried no more
+
+These wrong bodies were tried once. A clause that says what the function does refuses each of them, and the proofs above rest on it.
+
+| Wrong body | Crate | Function | Clause | Why it is refused |
+|---|---|---|---|---|
+$covers
 END

@@ -20,8 +20,8 @@ use Rattle.cross_core_table.specs.Logs.{plan_in}
 use Rattle.cross_core_table.specs.OpenRounds.{OpenRound}
 use Rattle.cross_core_table.specs.Opened.{IsOpened}
 use Rattle.cross_core_table.specs.Seats.{IsSeatOf, AreSeatsOf, made_of}
-use Rattle.round_merging.specs.After.{after, are_within}
-use Rattle.round_merging.specs.Taking.{TakesTurns, TakeTurns}
+use Rattle.core_lanes.specs.After.{after, are_within}
+use Rattle.core_lanes.specs.Taking.{TakesTurns, TakeTurns}
 use Rattle.core_lanes.specs.declared.lanes.Lane.{Lane}
 use Rattle.core_lanes.specs.Lanes.{lanes_of, core_in, seats_in, AreSeated, HaveGone}
 use Rattle.core_lanes.specs.Rooms.{HasRoom, HaveRoom}

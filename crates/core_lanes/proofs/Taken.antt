@@ -11,8 +11,8 @@ use Rattle.core_turn.specs.Cores.{CoreState}
 use Rattle.core_turn.specs.Ready.{IsReady}
 use Rattle.core_turn.specs.Turning.{StepsApart, Steps, NothingFound, IsContended}
 use Rattle.cross_core_table.specs.OpenRounds.{Sitting, told_of}
-use Rattle.round_merging.specs.Taking.{IsSameCore, TakesTurns}
-use Rattle.round_merging.proofs.Turns.{turn_taken, taken_on}
+use Rattle.core_lanes.specs.Taking.{IsSameCore, TakesTurns}
+use Rattle.core_lanes.proofs.MergedTurns.{turn_taken, taken_on}
 use Rattle.core_lanes.specs.Benching.{IsLonger, IsTaken}
 use Rattle.core_lanes.specs.Rooms.{HasRoom}
 

@@ -4,7 +4,7 @@ use Rattle.bus_semantics.specs.declared.entries.Stamped.{Stamped}
 use Rattle.bus_semantics.specs.Plan.{Plan}
 use Rattle.task_machine.specs.declared.instr.TaskSet.{TaskSet}
 use Rattle.core_turn.specs.Cores.{CoreState}
-use Rattle.round_merging.specs.Taking.{IsSameCore, TakesTurn}
+use Rattle.core_lanes.specs.Taking.{IsSameCore, TakesTurn}
 
 -- it made an entry, the last of what the core made; and the core's trace was cleared
 pub record IsLonger (p : Plan) (t : TaskSet) (old new : CoreState) (before after : List Stamped) : Type 0 where

@@ -9,7 +9,7 @@ use Rattle.cross_core_table.specs.declared.seats.CoreSeat.{CoreSeat}
 use Rattle.cross_core_table.specs.OpenRounds.{OpenRound}
 use Rattle.cross_core_table.specs.Opened.{IsFresh}
 use Rattle.cross_core_table.specs.Seats.{IsSeatOf, view_of, made_of}
-use Rattle.round_merging.specs.Taking.{TakesTurns}
+use Rattle.core_lanes.specs.Taking.{TakesTurns}
 use Rattle.core_lanes.specs.declared.lanes.Lane.{Lane}
 use Rattle.core_lanes.specs.Rooms.{HasRoom}
 

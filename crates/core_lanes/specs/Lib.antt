@@ -1,5 +1,7 @@
-pub mod Rooms
+pub mod After
 pub mod Benching
-pub mod Lanes
-pub mod Together
 pub mod Guiding
+pub mod Lanes
+pub mod Rooms
+pub mod Taking
+pub mod Together

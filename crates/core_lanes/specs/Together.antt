@@ -14,7 +14,7 @@ use Rattle.core_turn.specs.Cores.{CoreState}
 use Rattle.core_turn.specs.Lawful.{IsLawful}
 use Rattle.core_turn.specs.Ready.{IsReady}
 use Rattle.cross_core_table.specs.Opened.{IsOpened}
-use Rattle.round_merging.specs.After.{after, are_within}
+use Rattle.core_lanes.specs.After.{after, are_within}
 use Rattle.core_lanes.specs.declared.together.Begun.{Begun}
 use Rattle.core_lanes.specs.declared.together.Changing.{Changing}
 use Rattle.core_lanes.specs.declared.together.Places.{Places}

@@ -13,11 +13,11 @@ ghost use Rattle.core_lanes.specs.Together.{AllReady, HasPlaces, HasBegun, HasRu
 use crate::benching::{part_all, seat_all};
 use crate::guesses::Guesses;
 use crate::lanes::{Lane, go_all};
+use crate::laws::rounds_on_threads_keep_the_law;
 use bus_semantics::{BusPlan, Stamped};
 use core_turn::Core;
 use cross_core_table::{CoreSeat, Opened, Round, Spare};
 use port_objects::Object;
-use round_merging::rounds_on_threads_keep_the_law;
 use rte_text::Gate;
 use std::alloc::{AllocError, Global};
 use std::thread::Threads;

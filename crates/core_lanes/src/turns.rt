@@ -6,7 +6,7 @@ ghost use Rattle.bus_semantics.specs.Plan.{plan_of};
 ghost use Rattle.task_generator.specs.Promise.{AsksAsPlanned};
 ghost use Rattle.core_turn.specs.Ready.{IsReady};
 ghost use Rattle.cross_core_table.specs.Logs.{plan_in};
-ghost use Rattle.round_merging.specs.Taking.{TakesTurns};
+ghost use Rattle.core_lanes.specs.Taking.{TakesTurns};
 ghost use Rattle.core_lanes.specs.Rooms.{HasRoom};
 ghost use Rattle.core_lanes.specs.Benching.{IsTaken};
 

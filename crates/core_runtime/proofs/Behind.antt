@@ -18,7 +18,7 @@ use Rattle.core_turn.specs.Awake.{AwakeState}
 use Rattle.core_runtime.specs.Turns.{AreReady}
 use Rattle.core_runtime.specs.Watching.{owners_of, AreBehind, AreWatched, AreWoken, AreRoused}
 use Rattle.core_runtime.proofs.NewNodes.{Last, earlier, last, last_or}
-use Rattle.round_merging.proofs.Places.{Placed, here, there, placed}
+use Rattle.core_lanes.proofs.Places.{Placed, here, there, placed}
 use Rattle.core_runtime.proofs.Watched.{mapped_found}
 
 -- ---- new cores

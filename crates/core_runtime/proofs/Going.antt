@@ -13,9 +13,9 @@ use Rattle.core_turn.specs.Ready.{IsReady}
 use Rattle.core_turn.specs.Standing.{CoreStands}
 use Rattle.core_runtime.specs.After.{after}
 use Rattle.core_runtime.specs.Turns.{GoesOn}
-use Rattle.round_merging.specs.Taking.{IsSameCore}
-use Rattle.round_merging.proofs.Turns.{same_ready, same_stands}
-use Rattle.round_merging.proofs.Places.{Placed, here, there, placed, set_here, set_there}
+use Rattle.core_lanes.specs.Taking.{IsSameCore}
+use Rattle.core_lanes.proofs.MergedTurns.{same_ready, same_stands}
+use Rattle.core_lanes.proofs.Places.{Placed, here, there, placed, set_here, set_there}
 
 pub after_on : (xs ys : List Stamped) (h : History) → after (xs ++ ys) h ≡ after ys (after xs h)
 after_on [] ys h = refl

@@ -40,7 +40,7 @@ use Rattle.core_turn.specs.Lawful.{IsLawful}
 use Rattle.core_turn.specs.Standing.{CoreStands}
 use Rattle.core_runtime.specs.Nodes.{IsNode}
 use Rattle.core_runtime.specs.Watching.{Touches}
-use Rattle.round_merging.proofs.Places.{Placed, here, there, placed, found_at}
+use Rattle.core_lanes.proofs.Places.{Placed, here, there, placed, found_at}
 use Rattle.core_runtime.proofs.Turned.{made_touches}
 
 -- ---- what the environment may want

@@ -15,9 +15,9 @@ use Rattle.core_turn.specs.Ready.{IsReady}
 use Rattle.core_turn.specs.Turning.{StepsApart, NothingFound}
 use Rattle.core_lanes.specs.Rooms.{HasRoom}
 use Rattle.core_runtime.specs.Turns.{Makes, Rests}
-use Rattle.round_merging.specs.Taking.{IsSameCore}
-use Rattle.round_merging.proofs.Parts.{own_within}
-use Rattle.round_merging.proofs.Turns.{same_ready}
+use Rattle.core_lanes.specs.Taking.{IsSameCore}
+use Rattle.core_lanes.proofs.Parts.{own_within}
+use Rattle.core_lanes.proofs.MergedTurns.{same_ready}
 use Rattle.core_runtime.proofs.Going.{same_lawful}
 
 -- what a plain bench tells

@@ -17,7 +17,7 @@ use Rattle.task_slots.specs.Slots.{table_of, listed_in, events_of_slot}
 use Rattle.core_turn.specs.Cores.{CoreState, tables_of_core}
 use Rattle.core_turn.specs.Awake.{AwakeState, Fits, AreHeld}
 use Rattle.core_turn.specs.Lawful.{IsLawful}
-use Rattle.round_merging.proofs.Places.{Placed, here, there, placed}
+use Rattle.core_lanes.proofs.Places.{Placed, here, there, placed}
 use Rattle.core_lanes.specs.Together.{HasRun}
 use Rattle.core_runtime.specs.After.{after}
 use Rattle.core_runtime.specs.Nodes.{IsNode}

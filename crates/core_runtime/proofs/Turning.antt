@@ -19,7 +19,7 @@ use Rattle.core_runtime.specs.After.{is_within, are_within}
 use Rattle.core_lanes.specs.Rooms.{HasRoom, HaveRoom}
 use Rattle.core_runtime.specs.Turns.{GoesOn, AreReady, Makes, Rests, IsStep, Made}
 use Rattle.core_runtime.proofs.Going.{goes_then}
-use Rattle.round_merging.proofs.Places.{Placed, here, there, placed}
+use Rattle.core_lanes.proofs.Places.{Placed, here, there, placed}
 
 -- ---- lists
 

@@ -1,2 +1,2 @@
 -- A history and entries that follow it, as the law of rounds on threads has them.
-pub use Rattle.round_merging.specs.After.{after, is_within, are_within}
+pub use Rattle.core_lanes.specs.After.{after, is_within, are_within}

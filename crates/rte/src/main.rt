@@ -1,9 +1,7 @@
 //! The program: it reads a description and a script, runs them on the bus and prints the trace.
 #![tactic(auto)]
 
-mod gathering;
-
-use gathering::GatheringSink;
+use gathered_output::GatheringSink;
 use rte_program::{Status, rte_top};
 use rte_text::{FileShelf, OpenGate, Put, Sink, StdSink};
 use std::env;

@@ -1,28 +1,21 @@
 //! Carrying out a row.
 
 ghost use Rattle.std.specs.Prelude.{◌≤◌, IfOk, length};
-ghost use Rattle.bus_semantics.specs.Plan.{plan_of};
-ghost use Rattle.trace_reading.specs.Readable.{IsReadable};
 
-use crate::edit::edited;
-use crate::fault::Fault;
-use crate::notation::{HashSign, expanded};
-use crate::readings::{read_back, readings};
-use crate::row::Row;
 use crate::runs::{
-    Answer, Case, DESCRIPTION, SCRIPT, plan, run, run_and_check_often, run_and_check_repeated,
-    words_of,
+    Answer, Case, DESCRIPTION, Failing, SCRIPT, pass_alone, plan, run, run_and_check_often,
+    run_and_check_repeated, run_counted, run_together, tell_failing, words_of,
 };
-use crate::summary::{comparison, ends, last_with, times_with};
 use bus_semantics::Version;
-use description_stages::{PlannedDescription, plan_description};
+use row_texts::{
+    Fault, HashSign, Row, Shown, edited, expanded, numbers_of, pairs_of, read_back, read_lines,
+};
 use rte_program::{Status, rte_top};
-use rte_text::{Fetched, FileShelf, OpenGate, Refused, Shelf, StdSink};
+use rte_text::{Fetched, FileShelf, OpenGate, Shelf, StdSink};
 use std::alloc::AllocError;
 use std::rt::Files;
 use std::sync::Wait;
 use std::thread::Threads;
-use trace_reading::sound_plans_are_readable;
 
 const EXPECTED: &str = "expected.txt";
 
@@ -104,43 +97,153 @@ fn case_of<R: Files + AllocGlobal + Clone + Drop>(rt: &R, row: &str) -> Result<C
     }
 }
 
-/// The plan of a folder's description, which rules 1 to 30 accept.
-fn plan_in<R: Files + AllocGlobal + Clone + Drop>(
+/// Runs the case, and shows this of what is told.
+fn run_and_show<R: AllocGlobal + Threads + Wait + Sync>(
     rt: &R,
-    folder: &str,
-) -> Result<PlannedDescription, Fault>
-    ensures { IfOk result (λ found. IsReadable (plan_of found.plan)) }
-{
-    sound_plans_are_readable();
-    let description = file(rt, folder, DESCRIPTION)?;
-    match plan_description(rt.alloc(), description.as_slice()) {
-        Ok(found) => Ok(found),
-        Err(Refused::Rule(_)) => Err(Fault::NoPlan),
-        Err(Refused::Memory) => Err(Fault::Memory(AllocError)),
+    case: Case,
+    shown: &Shown,
+) -> Result<Answer, Fault> {
+    let told = run(rt, &case);
+    drop(case);
+    match told {
+        Ok(answer) => answer.shown(rt.alloc(), shown),
+        Err(fault) => Err(fault),
     }
 }
 
+/// Compares what is told of the folder's case with its `expected.txt`.
+fn expect<R: Files + AllocGlobal + Clone + Drop + Threads + Wait + Sync>(
+    rt: &R,
+    folder: &str,
+) -> Result<Answer, Fault> {
+    let expected = file(rt, folder, EXPECTED)?;
+    let case = own(rt, folder)?;
+    run_and_show(rt, case, &Shown::Against(expected.as_slice()))
+}
+
+fn change<R: Files + AllocGlobal + Clone + Drop + Threads + Wait + Sync>(
+    rt: &R,
+    folder: &str,
+    edits: &str,
+) -> Result<Answer, Fault> {
+    let case = changed(rt, folder, edits)?;
+    run(rt, &case)
+}
+
+fn edited_plan<R: Files + AllocGlobal + Clone + Drop + Threads + Wait + Sync>(
+    rt: &R,
+    folder: &str,
+    edits: &str,
+) -> Result<Answer, Fault> {
+    let description = edited(rt.alloc(), file(rt, folder, DESCRIPTION)?, edits)?;
+    plan(rt, description.as_slice())
+}
+
+fn script<R: Files + AllocGlobal + Clone + Drop + Threads + Wait + Sync>(
+    rt: &R,
+    folder: &str,
+    text: &str,
+    shown: &Shown,
+) -> Result<Answer, Fault> {
+    let case = scripted(rt, folder, text)?;
+    run_and_show(rt, case, shown)
+}
+
+fn legal<R: Files + AllocGlobal + Clone + Drop + Threads + Wait + Sync>(
+    rt: &R,
+    times: u32,
+    row: &str,
+) -> Result<Answer, Fault> {
+    let case = case_of(rt, row)?;
+    run_and_check_often(rt, &case, times)
+}
+
+fn held<R: Files + AllocGlobal + Clone + Drop + Threads + Wait + Sync>(
+    rt: &R,
+    runs: u32,
+    times: u32,
+    row: &str,
+) -> Result<Answer, Fault> {
+    let case = case_of(rt, row)?;
+    run_and_check_repeated(rt, case, runs, times)
+}
+
+fn passes<R: Files + AllocGlobal + Clone + Drop + Threads + Wait + Sync>(
+    rt: &R,
+    folder: &str,
+    text: &str,
+) -> Result<Answer, Fault> {
+    let case = scripted(rt, folder, text)?;
+    run_counted(rt, &case)
+}
+
+fn together<R: Files + AllocGlobal + Clone + Drop + Threads + Wait + Sync>(
+    rt: &R,
+    folder: &str,
+    text: &str,
+) -> Result<Answer, Fault> {
+    let case = scripted(rt, folder, text)?;
+    run_together(rt, &case)
+}
+
+fn alone<R: AllocGlobal>(rt: &R, order: &str) -> Result<Answer, Fault> {
+    match order {
+        "after" => pass_alone(rt.alloc(), false),
+        "turns" => pass_alone(rt.alloc(), true),
+        _ => Err(Fault::NoRow),
+    }
+}
+
+/// What fails of a row's lists of numbers.
+fn failing<R: AllocGlobal>(rt: &R, fetches: &str, puts: &str, room: u64) -> Result<Failing, Fault> {
+    let fetches = numbers_of(rt.alloc(), fetches)?;
+    let puts = pairs_of(rt.alloc(), puts)?;
+    Ok(Failing {
+        fetches,
+        puts,
+        room,
+    })
+}
+
+fn fail<R: Files + AllocGlobal + Clone + Drop + Threads + Wait + Sync>(
+    rt: &R,
+    folder: &str,
+    failing: Failing,
+    words: &str,
+) -> Result<Answer, Fault> {
+    let case = own(rt, folder)?;
+    tell_failing(rt, words, &case, failing)
+}
+
+/// Runs an empty script on the description of this text.
+fn run_text<R: AllocGlobal + Threads + Wait + Sync>(rt: &R, text: &str) -> Result<Answer, Fault> {
+    let description = expanded(rt.alloc(), text, HashSign::Number)?;
+    let script = Vec::new(rt.alloc());
+    let case = Case {
+        description,
+        script,
+    };
+    run(rt, &case)
+}
+
 /// Shows what the lines of the text are read as over the plan of the folder's description.
-fn show_readings<R: Files + AllocGlobal + Clone + Drop>(
+fn show_lines<R: Files + AllocGlobal + Clone + Drop>(
     rt: &R,
     folder: &str,
     version: Version,
     text: &str,
 ) -> Result<Answer, Fault> {
-    let alloc = rt.alloc();
-    let found = plan_in(rt, folder)?;
-    let lines = expanded(alloc, text, HashSign::Number)?;
-    let text = readings(alloc, &found.plan, version, lines.as_slice())?;
+    let description = file(rt, folder, DESCRIPTION)?;
+    let text = read_lines(rt.alloc(), description.as_slice(), version, text)?;
     let status = Status::Done;
     Ok(Answer { text, status })
 }
 
 /// Shows whether the lines of the folder's trace come back as they are.
 fn show_back<R: Files + AllocGlobal + Clone + Drop>(rt: &R, folder: &str) -> Result<Answer, Fault> {
-    let alloc = rt.alloc();
-    let found = plan_in(rt, folder)?;
+    let description = file(rt, folder, DESCRIPTION)?;
     let trace = file(rt, folder, EXPECTED)?;
-    let text = read_back(alloc, &found.plan, trace.as_slice())?;
+    let text = read_back(rt.alloc(), description.as_slice(), trace.as_slice())?;
     let status = Status::Done;
     Ok(Answer { text, status })
 }
@@ -150,64 +253,41 @@ pub fn carry_out<R: Files + Print + AllocGlobal + Clone + Drop + Threads + Wait 
     rt: &R,
     row: Row,
 ) -> Result<Answer, Fault> {
-    let alloc = rt.alloc();
     match row {
         Row::Words(words) => run_words(rt, words),
-        Row::Expect(folder) => {
-            let told = run(rt, &own(rt, folder)?)?;
-            let expected = file(rt, folder, EXPECTED)?;
-            let text = comparison(alloc, told.text.as_slice(), expected.as_slice())?;
-            Ok(Answer { text, ..told })
-        }
-        Row::Change { folder, edits } => run(rt, &changed(rt, folder, edits)?),
-        Row::Plan { folder, edits } => {
-            let description = edited(alloc, file(rt, folder, DESCRIPTION)?, edits)?;
-            plan(rt, description.as_slice())
-        }
-        Row::Script { folder, text } => run(rt, &scripted(rt, folder, text)?),
-        Row::Count { folder, text } => {
-            let told = run(rt, &scripted(rt, folder, text)?)?;
-            let text = ends(alloc, told.text.as_slice())?;
-            Ok(Answer { text, ..told })
-        }
+        Row::Expect(folder) => expect(rt, folder),
+        Row::Change { folder, edits } => change(rt, folder, edits),
+        Row::Plan { folder, edits } => edited_plan(rt, folder, edits),
+        Row::Script { folder, text } => script(rt, folder, text, &Shown::All),
+        Row::Count { folder, text } => script(rt, folder, text, &Shown::Ends),
         Row::Last {
             folder,
             piece,
             text,
-        } => {
-            let told = run(rt, &scripted(rt, folder, text)?)?;
-            let text = last_with(alloc, told.text.as_slice(), piece.as_bytes())?;
-            Ok(Answer { text, ..told })
-        }
+        } => script(rt, folder, text, &Shown::LastWith(piece.as_bytes())),
         Row::Times {
             folder,
             piece,
             text,
-        } => {
-            let told = run(rt, &scripted(rt, folder, text)?)?;
-            let text = times_with(alloc, told.text.as_slice(), piece.as_bytes())?;
-            Ok(Answer { text, ..told })
-        }
-        Row::Legal { times, row } => run_and_check_often(rt, &case_of(rt, row)?, times),
-        Row::Held { runs, times, row } => {
-            run_and_check_repeated(rt, case_of(rt, row)?, runs, times)
-        }
-        Row::Text(text) => {
-            let description = expanded(alloc, text, HashSign::Number)?;
-            let script = Vec::new(alloc);
-            run(
-                rt,
-                &Case {
-                    description,
-                    script,
-                },
-            )
-        }
+        } => script(rt, folder, text, &Shown::TimesWith(piece.as_bytes())),
+        Row::Legal { times, row } => legal(rt, times, row),
+        Row::Held { runs, times, row } => held(rt, runs, times, row),
+        Row::Passes { folder, text } => passes(rt, folder, text),
+        Row::Together { folder, text } => together(rt, folder, text),
+        Row::Alone(order) => alone(rt, order),
+        Row::Fails {
+            folder,
+            fetches,
+            puts,
+            room,
+            words,
+        } => fail(rt, folder, failing(rt, fetches, puts, room)?, words),
+        Row::Text(text) => run_text(rt, text),
         Row::Lines {
             folder,
             version,
             text,
-        } => show_readings(rt, folder, version, text),
+        } => show_lines(rt, folder, version, text),
         Row::Back(folder) => show_back(rt, folder),
     }
 }

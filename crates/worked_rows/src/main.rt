@@ -5,18 +5,11 @@
 #![tactic(auto)]
 
 mod carry;
-mod edit;
-mod fault;
-mod holds;
-mod notation;
-mod readings;
-mod row;
+mod gates;
 mod runs;
-mod summary;
 
 use carry::carry_out;
-use fault::Fault;
-use row::Row;
+use row_texts::{Fault, Row};
 use runs::Answer;
 use std::io::{self, BufRead, BufReader, Write};
 use std::rt::Files;

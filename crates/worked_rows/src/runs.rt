@@ -1,7 +1,7 @@
 //! Commands that are carried out in memory.
 
-use crate::fault::Fault;
-use crate::holds::RandomHolds;
+use crate::gates::{Passes, RandomHolds, Staggered};
+use row_texts::{Fault, Shown, summarized};
 use rte_program::{Status, rte_top};
 use rte_text::{Gate, MemoryShelf, MemorySink, OpenGate};
 use std::alloc::{AllocError, Global};
@@ -10,6 +10,14 @@ use std::thread::Threads;
 
 /// How many bytes may be told in memory: 16 MiB.
 const ROOM: u64 = 16_777_216;
+
+/// How often a core looks at most in one hold of `Staggered`, while another one runs, and where none does.
+const MOST_LOOKS: u32 = 100_000_000;
+
+const FEW_LOOKS: u32 = 1_000;
+
+/// A core without work makes so many turns and leaves the round.
+const QUIET_TURNS: u32 = 64;
 
 pub const DESCRIPTION: &str = "description.json";
 
@@ -24,6 +32,41 @@ pub struct Answer {
     pub status: Status,
 }
 
+impl Answer {
+    /// The answer with what is shown of its text in place of it.
+    pub fn shown(self, alloc: Global, shown: &Shown) -> Result<Answer, Fault> {
+        let status = self.status;
+        let text = summarized(alloc, self.text.as_slice(), shown);
+        drop(self);
+        match text {
+            Ok(text) => Ok(Answer { text, status }),
+            Err(memory) => Err(Fault::Memory(memory)),
+        }
+    }
+
+    /// The answer with this line before its own text.
+    fn behind(self, alloc: Global, line: &str) -> Result<Answer, Fault> {
+        let status = self.status;
+        let text = joined(alloc, line.as_bytes(), self.text.as_slice());
+        drop(self);
+        match text {
+            Ok(text) => Ok(Answer { text, status }),
+            Err(memory) => Err(Fault::Memory(memory)),
+        }
+    }
+
+    /// The answer with a bar behind its text.
+    fn barred(self, alloc: Global) -> Result<Answer, Fault> {
+        let status = self.status;
+        let text = joined(alloc, self.text.as_slice(), b"|\n");
+        drop(self);
+        match text {
+            Ok(text) => Ok(Answer { text, status }),
+            Err(memory) => Err(Fault::Memory(memory)),
+        }
+    }
+}
+
 /// A description and a script.
 #[derive(Drop)]
 pub struct Case {
@@ -32,7 +75,13 @@ pub struct Case {
 }
 
 /// A file of this name with these bytes.
-pub type Named = (String, Vec<u8>);
+type Named = (String, Vec<u8>);
+
+fn joined(alloc: Global, first: &[u8], second: &[u8]) -> Result<Vec<u8>, AllocError> {
+    let mut all = Vec::from_slice(alloc, first)?;
+    all.extend_from_slice(second)?;
+    Ok(all)
+}
 
 /// The words between the blanks of a text.
 pub fn words_of(alloc: Global, text: &str) -> Result<Vec<String>, AllocError> {
@@ -41,28 +90,57 @@ pub fn words_of(alloc: Global, text: &str) -> Result<Vec<String>, AllocError> {
         .try_collect(alloc)
 }
 
-/// A file of this name with a copy of these bytes.
-fn named(alloc: Global, name: &str, bytes: &[u8]) -> Result<Named, AllocError> {
-    Ok((
-        String::from_str(alloc, name)?,
-        Vec::from_slice(alloc, bytes)?,
-    ))
+/// Adds a file of this name with a copy of these bytes.
+fn add_file(
+    alloc: Global,
+    files: &mut Vec<Named>,
+    name: &str,
+    bytes: &[u8],
+) -> Result<(), AllocError> {
+    let name = String::from_str(alloc, name)?;
+    let bytes = Vec::from_slice(alloc, bytes)?;
+    files.push((name, bytes))?;
+    Ok(())
 }
 
-/// Carries out the words over files in memory, and shows all that is told.
+/// Adds the two files of a case.
+fn add_case(alloc: Global, files: &mut Vec<Named>, case: &Case) -> Result<(), AllocError> {
+    add_file(alloc, files, DESCRIPTION, case.description.as_slice())?;
+    add_file(alloc, files, SCRIPT, case.script.as_slice())
+}
+
+/// Carries out the words over files and output in memory, and shows all that is told.
 fn tell<R: AllocGlobal + Threads + Wait + Sync, G: Gate>(
+    rt: &R,
+    words: &str,
+    shelf: MemoryShelf,
+    out: MemorySink,
+    gate: &G,
+) -> Result<Answer, Fault> {
+    let alloc = rt.alloc();
+    let (mut shelf, mut out) = (shelf, out);
+    let words = words_of(alloc, words)?;
+    let status = rte_top(rt, alloc, words.as_slice(), &mut shelf, &mut out, gate);
+    let text = Vec::from_slice(alloc, out.told())?;
+    Ok(Answer { text, status })
+}
+
+/// The same over files and output that do not fail.
+fn tell_of<R: AllocGlobal + Threads + Wait + Sync, G: Gate>(
     rt: &R,
     words: &str,
     files: Vec<Named>,
     gate: &G,
 ) -> Result<Answer, Fault> {
     let alloc = rt.alloc();
-    let words = words_of(alloc, words)?;
-    let mut shelf = MemoryShelf::new(files, Vec::new(alloc));
-    let mut out = MemorySink::new(alloc, ROOM, Vec::new(alloc))?;
-    let status = rte_top(rt, alloc, words.as_slice(), &mut shelf, &mut out, gate);
-    let text = Vec::from_slice(alloc, out.told())?;
-    Ok(Answer { text, status })
+    let out = MemorySink::new(alloc, ROOM, Vec::new(alloc))?;
+    tell(
+        rt,
+        words,
+        MemoryShelf::new(files, Vec::new(alloc)),
+        out,
+        gate,
+    )
 }
 
 /// Prints the plan of the description.
@@ -71,8 +149,9 @@ pub fn plan<R: AllocGlobal + Threads + Wait + Sync>(
     description: &[u8],
 ) -> Result<Answer, Fault> {
     let alloc = rt.alloc();
-    let files = vec![in alloc; named(alloc, DESCRIPTION, description)?]?;
-    tell(rt, "plan description.json", files, &OpenGate)
+    let mut files = Vec::new(alloc);
+    add_file(alloc, &mut files, DESCRIPTION, description)?;
+    tell_of(rt, "plan description.json", files, &OpenGate)
 }
 
 /// Runs the script on the description; its cores pass this gate.
@@ -82,10 +161,9 @@ fn run_through<R: AllocGlobal + Threads + Wait + Sync, G: Gate>(
     gate: &G,
 ) -> Result<Answer, Fault> {
     let alloc = rt.alloc();
-    let description = named(alloc, DESCRIPTION, case.description.as_slice())?;
-    let script = named(alloc, SCRIPT, case.script.as_slice())?;
-    let files = vec![in alloc; description, script]?;
-    tell(rt, "run description.json script.txt", files, gate)
+    let mut files = Vec::new(alloc);
+    add_case(alloc, &mut files, case)?;
+    tell_of(rt, "run description.json script.txt", files, gate)
 }
 
 /// Runs the script on the description.
@@ -100,11 +178,10 @@ fn check<R: AllocGlobal + Threads + Wait + Sync>(
     trace: &[u8],
 ) -> Result<Answer, Fault> {
     let alloc = rt.alloc();
-    let description = named(alloc, DESCRIPTION, case.description.as_slice())?;
-    let script = named(alloc, SCRIPT, case.script.as_slice())?;
-    let trace = named(alloc, TRACE, trace)?;
-    let files = vec![in alloc; description, script, trace]?;
-    tell(
+    let mut files = Vec::new(alloc);
+    add_case(alloc, &mut files, case)?;
+    add_file(alloc, &mut files, TRACE, trace)?;
+    tell_of(
         rt,
         "check description.json trace.txt script.txt",
         files,
@@ -175,4 +252,83 @@ pub fn run_and_check_repeated<R: AllocGlobal + Threads + Wait + Sync>(
     let case = Case { script, ..case };
     let answer = run_and_check(rt, &case, &RandomHolds::new(0))?;
     run_and_check_held(rt, &case, answer, runs)
+}
+
+/// How often each of two cores passed.
+fn times_passed(alloc: Global, counts: (u64, u64)) -> Result<String, AllocError> {
+    let (first, second) = counts;
+    format!(in alloc; "core 0 passes {first} times, core 1 {second} times\n")
+}
+
+/// Runs the script on the description. Behind how often each of two cores passed the gate come the first lines and the last.
+pub fn run_counted<R: AllocGlobal + Threads + Wait + Sync>(
+    rt: &R,
+    case: &Case,
+) -> Result<Answer, Fault> {
+    let alloc = rt.alloc();
+    let gate = Passes::none();
+    let told = run_through(rt, case, &gate)?;
+    let ends = told.shown(alloc, &Shown::Ends)?;
+    let line = times_passed(alloc, gate.counts())?;
+    ends.behind(alloc, line.as_str())
+}
+
+/// Runs the script on the description; each of two cores is held until the other has begun its eighth pass. What is told comes behind how
+/// many holds ended otherwise, and how often each core passed.
+pub fn run_together<R: AllocGlobal + Threads + Wait + Sync>(
+    rt: &R,
+    case: &Case,
+) -> Result<Answer, Fault> {
+    let alloc = rt.alloc();
+    let gate = Staggered::new(MOST_LOOKS);
+    let told = run_through(rt, case, &gate)?;
+    let passed = times_passed(alloc, gate.counts())?;
+    let counted = told.behind(alloc, passed.as_str())?;
+    let line = spent_text(alloc, gate.spent())?;
+    counted.behind(alloc, line.as_str())
+}
+
+fn spent_text(alloc: Global, spent: u64) -> Result<String, AllocError> {
+    format!(in alloc; "{spent} holds end without the other core\n")
+}
+
+/// One thread passes the gate of `run_together` for two cores, by turns or for one after the other. How many holds end otherwise.
+pub fn pass_alone(alloc: Global, by_turns: bool) -> Result<Answer, Fault> {
+    let gate = Staggered::new(FEW_LOOKS);
+    for pass in 0..2 * QUIET_TURNS {
+        let core = if by_turns {
+            pass % 2
+        } else {
+            pass / QUIET_TURNS
+        };
+        gate.pass(core);
+    }
+    let line = spent_text(alloc, gate.spent())?;
+    let text = Vec::from_slice(alloc, line.as_bytes())?;
+    let status = Status::Done;
+    Ok(Answer { text, status })
+}
+
+/// What fails: fetches and puts by number, from 0 on, puts after so many bytes, and what goes beyond the room.
+#[derive(Drop)]
+pub struct Failing {
+    pub fetches: Vec<u64>,
+    pub puts: Vec<(u64, u64)>,
+    pub room: u64,
+}
+
+/// Carries out the words over the two files of a case. A bar stands behind what is told.
+pub fn tell_failing<R: AllocGlobal + Threads + Wait + Sync>(
+    rt: &R,
+    words: &str,
+    case: &Case,
+    failing: Failing,
+) -> Result<Answer, Fault> {
+    let alloc = rt.alloc();
+    let mut files = Vec::new(alloc);
+    add_case(alloc, &mut files, case)?;
+    let out = MemorySink::new(alloc, failing.room, failing.puts)?;
+    let shelf = MemoryShelf::new(files, failing.fetches);
+    let told = tell(rt, words, shelf, out, &OpenGate)?;
+    told.barred(alloc)
 }

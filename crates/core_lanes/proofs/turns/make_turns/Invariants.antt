@@ -2,7 +2,7 @@ use Rattle.std.proofs.Common.{◌≡◌, length}
 use Rattle.bus_semantics.specs.declared.script.Mapping.{Mapping}
 use Rattle.bus_semantics.specs.Plan.{plan_of}
 use Rattle.core_turn.specs.Ready.{IsReady}
-use Rattle.round_merging.specs.Taking.{TakesTurns}
+use Rattle.core_lanes.specs.Taking.{TakesTurns}
 use Rattle.core_lanes.specs.Rooms.{HasRoom}
 use Rattle.core_lanes.proofs.turns.make_turns.Given as goal
 

@@ -2,7 +2,7 @@ use Rattle.std.proofs.Common.{sym, subst}
 use Rattle.bus_semantics.specs.Plan.{plan_of}
 use Rattle.core_lanes.specs.Rooms.{HasRoom}
 use Rattle.core_lanes.proofs.Taken.{stepped_taken, none_taken, lost_taken, cleared_room}
-use Rattle.round_merging.proofs.Turns.{same_ready}
+use Rattle.core_lanes.proofs.MergedTurns.{same_ready}
 use Rattle.core_lanes.proofs.turns.turn_once.Goals as goal
 
 pub returns-in-Stepped-clause-ready : goal.returns-in-Stepped-clause-ready

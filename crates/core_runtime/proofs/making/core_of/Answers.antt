@@ -1,7 +1,7 @@
 use Rattle.std.proofs.Common.{[], ◌∙◌, arith}
 use Rattle.bus_semantics.specs.Plan.{plan_of}
-use Rattle.round_merging.specs.Taking.{IsSameCore}
-use Rattle.round_merging.proofs.Turns.{same_ready, same_stands}
+use Rattle.core_lanes.specs.Taking.{IsSameCore}
+use Rattle.core_lanes.proofs.MergedTurns.{same_ready, same_stands}
 use Rattle.core_runtime.proofs.making.core_of.Goals as goal
 
 pub returns : goal.returns

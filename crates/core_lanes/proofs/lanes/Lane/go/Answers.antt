@@ -3,7 +3,7 @@ use Rattle.std.proofs.lemmas.Option.{same_Some}
 use Rattle.bus_semantics.specs.Plan.{plan_of}
 use Rattle.cross_core_table.specs.OpenRounds.{OpenRound}
 use Rattle.cross_core_table.specs.Seats.{IsSeatOf, made_of, core_of}
-use Rattle.round_merging.specs.Taking.{TakesTurns}
+use Rattle.core_lanes.specs.Taking.{TakesTurns}
 use Rattle.core_lanes.proofs.lanes.Lane.go.Goals as goal
 
 pub returns : goal.returns

@@ -1,0 +1,2 @@
+pub mod FewPoints
+pub mod TwoSeats

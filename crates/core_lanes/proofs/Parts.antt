@@ -1,0 +1,182 @@
+-- The closed round: what the parts say of its log.
+use Rattle.std.proofs.Common.{◌≡◌, ◌≢◌, ◌<◌, ◌≤◌, ◌+◌, ◌*◌, ℕ, zero, suc, Bool, true, false, not, ◌==◌, if◌then◌else◌, refl, sym, ◌∙◌, ap, subst, arith, suc-mul, zero-mul, List, [], ◌∷◌, ◌++◌, length, Some}
+use Rattle.std.specs.Prelude.{nat_lt, nat_le, filter, IfSome}
+use Rattle.std.specs.List.{list_all, slice_get}
+use Rattle.std.proofs.lemmas.Bool.{and_from, and_parts, eqb-true, ltb-true}
+use mathlib.Core.Logic.{dite}
+use native.Mathlib.Decide.{ℕ_discrete}
+use Rattle.bus_semantics.specs.declared.entries.Actor.{Actor}
+use Rattle.bus_semantics.specs.declared.entries.Entry.{Entry}
+use Rattle.bus_semantics.specs.declared.entries.Stamped.{Stamped}
+use Rattle.bus_semantics.specs.declared.script.Mapping.{Mapping}
+use Rattle.bus_semantics.specs.Plan.{Plan, positions, every_from}
+use Rattle.bus_semantics.specs.History.{History, Noted, Past, noted, is_environment}
+use Rattle.bus_semantics.specs.Objects.{touched_by, touches, entries_of, IsObject, clock}
+use Rattle.bus_semantics.specs.Fitting.{fits}
+use Rattle.bus_semantics.specs.Legal.{IsLegal}
+use Rattle.bus_semantics.specs.Locality.{is_proper, SameAnswers}
+use Rattle.bus_semantics.specs.Pasts.{IsPastOf}
+use Rattle.bus_semantics.specs.Sound.{IsSound}
+use Rattle.bus_semantics.specs.Interleaving.{Logged, part_of, IsInterleaved}
+use Rattle.port_objects.specs.declared.object.Object.{Object}
+use Rattle.port_objects.specs.Objects.{kept_of, ArePlans}
+use Rattle.port_objects.specs.Standing.{Stands}
+use Rattle.task_machine.specs.declared.instr.TaskSet.{TaskSet}
+use Rattle.task_slots.specs.declared.slot.Slot.{Slot}
+use Rattle.task_slots.specs.declared.slot.Slot.TheVariants as of
+use Rattle.task_slots.specs.Stepping.{IsOwn}
+use Rattle.core_turn.specs.Cores.{CoreState}
+use Rattle.core_turn.specs.Lawful.{IsLawful}
+use Rattle.core_turn.specs.Ready.{IsReady}
+use Rattle.core_turn.specs.Standing.{CoreStands}
+use Rattle.cross_core_table.specs.declared.views.Opening.{Opening}
+use Rattle.cross_core_table.specs.Logs.{plan_in}
+use Rattle.cross_core_table.specs.Closing.{touching, IsClosed}
+use Rattle.core_lanes.specs.After.{after, is_within, are_within}
+use Rattle.core_lanes.specs.Taking.{TakesTurns, TakeTurns}
+use Rattle.core_lanes.proofs.Places.{mapped_at, position_at}
+use Rattle.core_lanes.proofs.Merging.{found_there, entries_in, part_mine, part_other, Stage, Merged, merge}
+
+-- a part is what its core made
+part_is : (entries : List Stamped) (parts : List (List Stamped)) (w : IsInterleaved entries parts) (c : ℕ) → c < length parts → slice_get parts c ≡ Some (part_of c w.log)
+part_is entries parts w c below = subst (λ (ps : List (List Stamped)). slice_get ps c ≡ Some (part_of c w.log)) w.each (mapped_at (λ d. part_of d w.log) (positions (length parts)) c c (position_at (length parts) c below))
+
+-- ---- runnables and machines made them all
+
+-- an actor of a slot is not the environment
+pub own_within : (p : Plan) (slot : Slot) (a : Actor) → IsOwn p slot a → not (is_environment a) ≡ true
+own_within p (of.Task s) a own = ap (λ b. not (is_environment b)) own.is
+own_within p (of.Machine n) a own = ap (λ b. not (is_environment b)) own
+
+turns_within : (p : Plan) (t : TaskSet) (old new : CoreState) (part : List Stamped) → TakesTurns p t old part new → are_within part ≡ true
+turns_within p t old new [] turns = refl
+turns_within p t old new (s ∷ part) turns = and_from (is_within s) (are_within part) (own_within p turns.1.slot s.entry.actor turns.1.step.own) (turns_within p t turns.0 new part turns.2)
+
+log_within : (i n : ℕ) (log : List Logged) → every_from i (λ k (l : Logged). nat_lt l.core n) log ≡ true → ((j : ℕ) → j < n → are_within (part_of j log) ≡ true) → are_within (entries_in log) ≡ true
+log_within i n [] below each = refl
+log_within i n (l ∷ log) below each =
+    let parts = and_parts (nat_lt l.core n) (every_from (i + 1) (λ k (x : Logged). nat_lt x.core n) log) below in
+    let mine = each l.core (ltb-true l.core n parts.0) in
+    let here = and_parts (is_within l.stamped) (are_within (part_of l.core log)) (ap are_within (sym (part_mine l log)) ∙ mine) in
+    and_from (is_within l.stamped) (are_within (entries_in log)) here.0 (log_within (i + 1) n log parts.1 (λ j less. by_core j (l.core == j) (each j less)))
+  where
+    by_core : (j : ℕ) (b : Bool) → are_within (if b then l.stamped ∷ part_of j log else part_of j log) ≡ true → are_within (part_of j log) ≡ true
+    by_core j true all = (and_parts (is_within l.stamped) (are_within (part_of j log)) all).1
+    by_core j false all = all
+
+pub all_within : (p : Plan) (t : TaskSet) (cores now : List CoreState) (parts : List (List Stamped)) (entries : List Stamped) → TakeTurns p t cores now parts → IsInterleaved entries parts → are_within entries ≡ true
+all_within p t cores now parts entries turns w = subst (λ es. are_within es ≡ true) w.whole (log_within 0 (length parts) w.log w.cores each)
+  where
+    each : (j : ℕ) → j < length parts → are_within (part_of j w.log) ≡ true
+    each j less =
+        let c = found_there cores j (omega (arith, less, turns.parts_are)) in
+        let d = found_there now j (omega (arith, less, turns.parts_are, turns.count)) in
+        turns_within p t c.0 d.0 (part_of j w.log) (turns.each j c.0 d.0 (part_of j w.log) c.1 d.1 (part_is entries parts w j less))
+
+-- ---- how many they are
+
+-- the lengths of the parts of the cores below a number
+abbrev sum_parts : ℕ → List Logged → ℕ
+sum_parts zero log = 0
+sum_parts (suc n) log = sum_parts n log + length (part_of n log)
+
+sum_none : (n : ℕ) → sum_parts n [] ≡ 0
+sum_none zero = refl
+sum_none (suc n) = omega (arith, sum_none n)
+
+sum_under : (n : ℕ) (l : Logged) (log : List Logged) → n ≤ l.core → sum_parts n (l ∷ log) ≡ sum_parts n log
+sum_under zero l log less = refl
+sum_under (suc n) l log less =
+    let e : part_of n (l ∷ log) ≡ part_of n log = part_other n l log (λ q. omega arith) in
+    omega (arith, sum_under n l log (omega arith), ap (λ (xs : List Stamped). length xs) e)
+
+sum_over : (n : ℕ) (l : Logged) (log : List Logged) → l.core < n → sum_parts n (l ∷ log) ≡ suc (sum_parts n log)
+sum_over zero l log less = absurd (omega arith)
+sum_over (suc n) l log less = dite (ℕ_discrete n l.core)
+    (λ is.
+    let e : part_of n (l ∷ log) ≡ l.stamped ∷ part_of n log = subst (λ (c : ℕ). part_of c (l ∷ log) ≡ l.stamped ∷ part_of c log) (sym is) (part_mine l log) in
+    omega (arith, sum_under n l log (omega arith), ap (λ (xs : List Stamped). length xs) e))
+    (λ ne.
+    let e : part_of n (l ∷ log) ≡ part_of n log = part_other n l log ne in
+    omega (arith, sum_over n l log (omega arith), ap (λ (xs : List Stamped). length xs) e))
+
+sum_all : (i n : ℕ) (log : List Logged) → every_from i (λ k (l : Logged). nat_lt l.core n) log ≡ true → sum_parts n log ≡ length (entries_in log)
+sum_all i n [] below = sum_none n
+sum_all i n (l ∷ log) below =
+    let parts = and_parts (nat_lt l.core n) (every_from (i + 1) (λ k (x : Logged). nat_lt x.core n) log) below in
+    omega (arith, sum_over n l log (ltb-true l.core n parts.0), sum_all (i + 1) n log parts.1)
+
+sum_room : (n room : ℕ) (log : List Logged) → ((j : ℕ) → j < n → length (part_of j log) ≤ room) → sum_parts n log ≤ n * room
+sum_room zero room log each = omega (arith, zero-mul room)
+sum_room (suc n) room log each = omega (arith, sum_room n room log (λ j less. each j (omega arith)), each n (omega arith), suc-mul n room)
+
+pub few_entries : (parts : List (List Stamped)) (entries : List Stamped) (room : ℕ) → ((i : ℕ) (part : List Stamped) → slice_get parts i ≡ Some part → length part ≤ room) → IsInterleaved entries parts → length entries ≤ length parts * room
+few_entries parts entries room each w =
+    let whole : length (entries_in w.log) ≡ length entries = ap (λ (xs : List Stamped). length xs) w.whole in
+    omega (arith, whole, sum_all 0 (length parts) w.log w.cores, sum_room (length parts) room w.log (λ j less. each j (part_of j w.log) (part_is entries parts w j less)))
+
+-- ---- the law
+
+module _ (k : Opening) (m : Mapping) (t : TaskSet) (cores now : List CoreState) (parts : List (List Stamped)) (objects : List Object) (entries : List Stamped) (h : History)
+    (sound : IsSound (plan_in k) m) (planned : ArePlans (plan_in k) k.objects.value.items) (lawful : IsLawful (plan_in k) m t cores k.objects.value.items h)
+    (turns : TakeTurns (plan_in k) t cores now parts) (closed : IsClosed k parts objects entries)
+    (local_law : (h : Past) (n : Noted) (object : ℕ) → list_all (is_proper (plan_in k)) h ≡ true → is_proper (plan_in k) n ≡ true → touched_by (plan_in k) n ≡ Some object → SameAnswers (plan_in k) n h (filter (touches (plan_in k) object) h))
+    (proper_law : (h : History) → IsLegal (plan_in k) h → list_all (is_proper (plan_in k)) (noted h) ≡ true)
+    (there_law : (n : Noted) → fits (plan_in k) n.entry ≡ true → IfSome (touched_by (plan_in k) n) (IsObject (plan_in k)))
+    (beside_law : (g : History) (one other : CoreState) (at : ℕ) (slot : Slot) (e : Entry) → IsReady (plan_in k) m t one → IsReady (plan_in k) m t other → one.number ≢ other.number → slice_get one.slots at ≡ Some slot → IsOwn (plan_in k) slot e.actor → CoreStands (plan_in k) t g other → CoreStands (plan_in k) t (e ∷ g) other) where
+  abbrev p : Plan
+  p = plan_in k
+
+  abbrev log : List Logged
+  log = closed.interleaved.log
+
+  counted : p.objects ≡ clock p + 1
+  counted = eqb-true p.objects (clock p + 1) (and_parts (p.objects == clock p + 1) (nat_le p.objects 16384) sound.objects).0
+
+  -- each object stands for the entries that touch it
+  standing : (o : ℕ) (x : Object) → slice_get objects o ≡ Some x → Stands p o (kept_of x) (touching p o entries ++ entries_of p h o)
+  standing o x found =
+      let less = inside objects o x found in
+      let before = found_there k.objects.value.items o (omega (arith, less, closed.planned.count, planned.count)) in
+      (closed.led o before.0 x before.1 found).stands (entries_of p h o) (lawful.stand o before.0 before.1)
+    where
+      inside : (xs : List Object) (j : ℕ) (y : Object) → slice_get xs j ≡ Some y → j < length xs
+      inside [] j y found = absurd (cc found)
+      inside (z ∷ xs) zero y found = omega arith
+      inside (z ∷ xs) (suc j) y found = let less = inside xs j y found in omega arith
+
+  past : (o : ℕ) → o < p.objects → IsPastOf p o (touching p o entries ++ entries_of p h o)
+  past o less =
+      let x = found_there objects o (omega (arith, less, closed.planned.count, counted)) in
+      (standing o x.0 x.1).past
+
+  opened : Stage p m t sound now local_law proper_law there_law beside_law cores log h
+  opened = record {
+    legal = lawful.legal;
+    count = turns.count;
+    number = lawful.number;
+    ready = lawful.ready;
+    stands = lawful.stands;
+    turns = λ j c d found made. turns.each j c d (part_of j log) found made (part_is entries parts closed.interleaved j (below j c found));
+    past = λ o less. subst (λ es. IsPastOf p o (touching p o es ++ entries_of p h o)) (sym closed.interleaved.whole) (past o less);
+  }
+    where
+      inside : (xs : List CoreState) (j : ℕ) (y : CoreState) → slice_get xs j ≡ Some y → j < length xs
+      inside [] j y found = absurd (cc found)
+      inside (z ∷ xs) zero y found = omega arith
+      inside (z ∷ xs) (suc j) y found = let less = inside xs j y found in omega arith
+
+      below : (j : ℕ) (c : CoreState) → slice_get cores j ≡ Some c → j < length parts
+      below j c found = let less = inside cores j c found in omega (arith, less, turns.parts_are)
+
+  merged : Merged p m t sound now local_law proper_law there_law beside_law log h
+  merged = merge p m t sound now local_law proper_law there_law beside_law 0 (length parts) log cores h closed.interleaved.cores turns.parts_are opened
+
+  pub keeps_lawful : IsLawful p m t now objects (after entries h)
+  keeps_lawful = subst (λ es. IsLawful p m t now objects (after es h)) closed.interleaved.whole (record {
+    legal = merged.legal;
+    stand = λ o x found. subst (Stands p o (kept_of x)) (ap (λ es. touching p o es ++ entries_of p h o) (sym closed.interleaved.whole) ∙ sym (merged.parted o)) (standing o x found);
+    number = merged.number;
+    ready = merged.ready;
+    stands = merged.stands;
+  })

@@ -1,4 +1,0 @@
-pub mod Places
-pub mod Turns
-pub mod Merging
-pub mod Parts

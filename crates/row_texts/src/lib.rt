@@ -1,0 +1,19 @@
+//! What rows of the table of cases are made of: how a row is written, the edits of a description, what lines of a trace are read as,
+//! and what a row shows of what was told. The rows themselves are tried: nothing is claimed of this crate but that it is safe.
+#![tactic(auto)]
+
+mod edit;
+mod fault;
+mod notation;
+mod numbers;
+mod readings;
+mod row;
+mod summary;
+
+pub use edit::edited;
+pub use fault::Fault;
+pub use notation::{HashSign, expanded};
+pub use numbers::{numbers_of, pairs_of};
+pub use readings::{read_back, read_lines};
+pub use row::Row;
+pub use summary::{Shown, summarized};
