@@ -117,6 +117,12 @@ covered() {
     done < <(covered_bodies)
 }
 
+# ---- what was refused once, as the page has it: the tool that says it is run by hand
+
+refused() {
+    awk '/^## / { held = /^## What was refused once$/ } held' "$top/docs/EVIDENCE.md"
+}
+
 rows=$(table)
 covers=$(covered)
 crates=$(find "$top"/crates/*/must-fail -name '*.edit' -printf '%h\n' | sort -u | wc -l)
@@ -139,6 +145,8 @@ What the last whole run of the gate said. \`tools/dev/evidence.sh\` wrote this p
 The $passed that passed are the crates, each proved with its tests, and the wrong bodies, each refused. Two compilers built the
 programs, and what each printed was compared byte for byte. To see it yourself, check out the commit and run \`rt ci\`; its last
 line has to be the same.
+
+$(refused)
 
 ## Which wrong body stands for which sentence
 

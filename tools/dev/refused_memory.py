@@ -1,0 +1,209 @@
+#!/usr/bin/env python3
+"""Refuses memory to the program, and reading and writing: one call after the other, a run for each.
+
+    tools/dev/refused_memory.py [--run NAME] [--call CALL] [--most N]
+
+A library that stands before the C library (tools/dev/refuse.c, built here by `cc` or the compiler that CC names) counts the calls of
+a run and refuses one. Numbers go up from 1 to the first at which nothing was refused: then each call of the run was refused once.
+What is refused is an allocation, an open, a read or a write; of a `short_read` and a `short_write` one byte is read or written.
+
+A run without memory has to end with status 7, one that cannot read with 3, one that cannot write with 4. A run that manages without
+has to end as it does when nothing is refused. What it printed has to be the beginning of the whole text, or all of it. Where the cores of
+a node may take their turns in several orders, `check` says whether it is.
+
+The program is the one that the variable RTE names, or the one that was built. What is wrong is printed, and then a table of how many
+calls were refused.
+
+The status is 0 if nothing is wrong, 1 if something is, and 2 if it cannot be tried here.
+"""
+
+from __future__ import annotations
+
+import argparse
+import os
+import subprocess
+import sys
+import tempfile
+from collections import Counter
+from dataclasses import dataclass
+from pathlib import Path
+
+TOP = Path(__file__).resolve().parents[2]
+BUILT = TOP / "crates" / "rte" / "out" / "rte"
+DATA = TOP / "crates" / "worked_rows" / "data"
+LONGEST = 60  # seconds that a run may take
+DONE, NOT_READ, NOT_WRITTEN, TRACE_REFUSED, MEMORY = 0, 3, 4, 6, 7
+CALLS = {"allocation": MEMORY, "open": NOT_READ, "read": NOT_READ, "write": NOT_WRITTEN, "short_read": DONE, "short_write": DONE}
+
+
+@dataclass(frozen=True)
+class Run:
+    """A run of the program: its words, and the folder of its session if its trace is one of several."""
+
+    name: str
+    words: tuple[str, ...]
+    session: Path | None = None
+
+
+@dataclass(frozen=True)
+class Ended:
+    """How a run ended, what it printed, and whether a call was refused."""
+
+    status: int
+    text: bytes
+    refused: bool
+
+
+def session(folder: Path) -> tuple[str, str]:
+    return str(folder / "description.json"), str(folder / "script.txt")
+
+
+def run_of(name: str, folder: str, several: bool = False) -> Run:
+    path = DATA / folder
+    return Run(name, ("run", *session(path)), path if several else None)
+
+
+def check_of(name: str, folder: str) -> Run:
+    description, script = session(DATA / folder)
+    return Run(name, ("check", description, str(DATA / folder / "expected.txt"), script))
+
+
+RUNS = (
+    run_of("a first path", "rows/ten_ticks_write_then_read"),
+    run_of("a queue", "rows/queue_of_two_loses_the_third"),
+    run_of("modes", "rows/mode_switch_that_waits"),
+    run_of("modes on three cores", "rows/mode_switch_on_three_cores"),
+    run_of("two cores at once", "rows/two_counters_in_one_area", several=True),
+    run_of("three cores with everything", "examples/door_control", several=True),
+    Run("`soak 1`", ("soak", "1")),
+    Run("a plan", ("plan", str(DATA / "examples/door_control/description.json"))),
+    check_of("a check", "examples/door_control"),
+    run_of("a refused description", "rows/many_to_many"),
+    run_of("a refused script", "rows/script_tick_zero"),
+)
+
+
+class Program:
+    """The program, with the library before it."""
+
+    def __init__(self, path: str, library: str, folder: Path) -> None:
+        self.path = path
+        self.library = library
+        self.folder = folder
+
+    def run(self, words: tuple[str, ...], call: str = "", number: int = 0) -> Ended:
+        """Runs the words with one call refused, or with none."""
+        with tempfile.TemporaryFile(dir=self.folder) as mark:
+            names = {"LD_PRELOAD": self.library, "REFUSE_CALL": call, "REFUSE_NUMBER": str(number), "REFUSE_MARK": str(mark.fileno())}
+            held = [self.path, *words]
+            try:
+                ended = subprocess.run(
+                    held, stdin=subprocess.DEVNULL, capture_output=True, check=False, timeout=LONGEST,
+                    env={**os.environ, **names}, pass_fds=[mark.fileno()],
+                )  # fmt: skip
+            except subprocess.TimeoutExpired as late:
+                return Ended(-1, late.stdout or b"", True)
+            mark.seek(0)
+            return Ended(ended.returncode, ended.stdout, mark.read() != b"")
+
+    def says(self, folder: Path, trace: bytes) -> str:
+        """What `check` says of a trace of the session."""
+        file = self.folder / "trace.txt"
+        file.write_bytes(trace)
+        description, script = session(folder)
+        return self.run(("check", description, str(file), script)).text.decode().strip()
+
+
+def begins(program: Program, run: Run, text: bytes, whole: bytes) -> bool:
+    """Whether the text is a beginning of what the run may print. What is cut is cut at a line's end, if `check` has to say it."""
+    if run.session is None or whole.startswith(text):
+        return whole.startswith(text)
+    lines = text[: text.rfind(b"\n") + 1]
+    behind = lines.count(b"\n") + 1
+    return program.says(run.session, lines) in ("legal", f"illegal {behind} D16")
+
+
+def is_whole(program: Program, run: Run, text: bytes, whole: bytes) -> bool:
+    return text == whole or run.session is not None and program.says(run.session, text) == "legal"
+
+
+def wrong(program: Program, run: Run, call: str, ended: Ended, usual: Ended) -> str:
+    """What is wrong with how a run ended, or nothing."""
+    if ended.status == usual.status:
+        return "" if is_whole(program, run, ended.text, usual.text) else "the text is another one"
+    if ended.status != CALLS[call]:
+        return f"status {ended.status}" if ended.status >= 0 else "it was stopped, or did not end"
+    if ended.status == NOT_READ:
+        return "" if ended.text in (b"not read 1\n", b"not read 2\n", b"not read 3\n") else "it does not say what was not read"
+    return "" if begins(program, run, ended.text, usual.text) else "what was printed is no beginning of the text"
+
+
+def try_run(program: Program, run: Run, call: str, most: int) -> tuple[Counter[int], list[str]]:
+    """Refuses one call of a run after the other: how often each status came, and what is wrong."""
+    usual = program.run(run.words)
+    statuses: Counter[int] = Counter()
+    found = []
+    for number in range(1, most + 1):
+        ended = program.run(run.words, call, number)
+        if not ended.refused:
+            break
+        statuses[ended.status] += 1
+        if said := wrong(program, run, call, ended, usual):
+            found.append(f"{run.name}, {call} {number}: {said}")
+    return statuses, found
+
+
+def told(statuses: Counter[int]) -> str:
+    """How many calls were refused, and how each ended, for the table."""
+    ended = ", ".join(f"{count} with {status}" for status, count in sorted(statuses.items(), reverse=True))
+    return f"{statuses.total()}: {ended}" if len(statuses) > 1 else ended or "0"
+
+
+def compiled(folder: Path) -> str:
+    """The library, built in a folder."""
+    library = folder / "refuse.so"
+    words = [os.environ.get("CC", "cc"), "-O2", "-shared", "-fPIC", "-o", str(library), str(Path(__file__).with_name("refuse.c"))]
+    subprocess.run(words, check=True, capture_output=True)
+    return str(library)
+
+
+def arguments() -> argparse.Namespace:
+    parser = argparse.ArgumentParser(description=__doc__, formatter_class=argparse.RawDescriptionHelpFormatter)
+    parser.add_argument("--run", action="append", choices=[run.name for run in RUNS], help="this run alone; may stand several times")
+    parser.add_argument("--call", action="append", choices=CALLS, help="this call alone; may stand several times")
+    parser.add_argument("--most", type=int, default=1_000_000, metavar="N", help="refuse none after the first N calls")
+    parser.add_argument("--program", default=os.environ.get("RTE", str(BUILT)), help="the program; otherwise RTE names it, or it is what was built")
+    return parser.parse_args()
+
+
+def main() -> int:
+    words = arguments()
+    if not os.access(words.program, os.X_OK):
+        print(f"refused_memory: there is no program {words.program}", file=sys.stderr)
+        return 2
+    calls = words.call or list(CALLS)
+    found: list[str] = []
+    with tempfile.TemporaryDirectory() as held:
+        try:
+            program = Program(words.program, compiled(Path(held)), Path(held))
+        except (OSError, subprocess.CalledProcessError) as error:
+            print(f"refused_memory: refuse.c is not built: {error}", file=sys.stderr)
+            return 2
+        print(f"| Run | {' | '.join(calls)} |")
+        print(f"|---{'|---' * len(calls)}|")
+        for run in RUNS:
+            if words.run and run.name not in words.run:
+                continue
+            cells = []
+            for call in calls:
+                statuses, wrongs = try_run(program, run, call, words.most)
+                cells.append(told(statuses))
+                found += wrongs
+            print(f"| {run.name} | {' | '.join(cells)} |", flush=True)
+    for line in found:
+        print(line)
+    return 1 if found else 0
+
+
+if __name__ == "__main__":
+    sys.exit(main())
