@@ -1,10 +1,10 @@
 #!/usr/bin/env python3
-"""Writes a description that is hard to make flat to standard output.
+"""Writes a description, a script or a trace that is hard for the program to standard output.
 
     make_hostile.py CASE [MEBIBYTES]
 
-It is of nearly the given number of MiB, 8 where none is given.
-The functions below that take one number are the cases; their first lines say what each description is.
+It is of nearly the given number of MiB, 8 where none is given. The functions below that take one number, and which CASES, SCRIPTS and
+TRACES list, are the cases; their first lines say what each is. Scripts and traces are over the example `door_control`.
 """
 
 import json
@@ -348,25 +348,130 @@ def points_inside(n):
     return whole([calls(n)], [component], [top([prototype(f"w{k}", "W") for k in range(1022)], [])])
 
 
+def programs(n):
+    """A program of as many statements, and an event for it, of each of 1,024 instances. It costs little, since it is in a loop of no turns."""
+    runnable = {"shortName": "r", "program": [["repeat", 0, [["set", "x", 0]] * n]]}
+    event = {"kind": "InitEvent", "shortName": "e", "runnable": "r"}
+    components = [{"shortName": "W", "behavior": {"runnables": [runnable], "events": [event]}}]
+    made = whole([], components, [top([prototype(f"w{k}", "W") for k in range(1024)], [])])
+    made["mapping"]["tasks"] = [{"shortName": "T", "core": 0}]
+    made["mapping"]["events"] = [{"instance": f"w{k}", "event": "e", "task": "T", "position": k} for k in range(1024)]
+    return made
+
+
+def lists(n):
+    """Lists that each hold one other, 120 within one another."""
+    held = []
+    for _ in range(119):
+        held = [held]
+    return [held] * n
+
+
+def objects(n):
+    """Objects of one member each."""
+    return [{"": 0}] * n
+
+
+def members(n):
+    """One object of many members, each with a name of its own."""
+    return {f"{k:x}": 0 for k in range(n)}
+
+
 CASES = [
     connectors, connectors_apart, near, hubs_own, both_hubs, overlaps, ways, instances_apart, equal, names, names_own,
     names_split, names_split_own, alternate, instances, instances_joined, inner, outers, hub_joined, levels, above_cycle,
-    between_cycles, points, points_inside,
+    between_cycles, points, points_inside, programs, lists, objects, members,
 ]
+
+MOST_LINES = 99_999  # a script may have one more
+HEADER = "rte-trace 2\n"
+BAD = "walk\n"  # a line that no script may have, so that nothing is run
+
+
+def repeated(line, size):
+    """A script with the line as often as it may stand there, and with one comment that fills the rest of the size."""
+    rest = size - len(BAD)
+    count = min(MOST_LINES - 2, rest // len(line))
+    return line * count + "#" * (rest - count * len(line) - 1) + "\n" + BAD
+
+
+def comments(size):
+    """A script of as many comments as it may have lines."""
+    return repeated("#" * max(1, size // MOST_LINES - 1) + "\n", size)
+
+
+def ticks(size):
+    """A script of as many ticks as it may have lines."""
+    return repeated("tick 1\n", size)
+
+
+def writes(size):
+    """A script of as many writes of four words as it may have lines."""
+    return repeated("write wheels.speeds 20,21,22,21\n", size)
+
+
+def one_value(size):
+    """A script of one line, with a value of as many words as it has room for."""
+    head = "write wheels.speeds 0"
+    return head + ",0" * ((size - len(head) - 1) // 2) + "\n"
+
+
+def one_name(size):
+    """A script of one line, with a name that is as long as the file."""
+    head, tail = "write ", ".v 0\n"
+    return head + "a" * (size - len(head) - len(tail)) + tail
+
+
+def one_line(size):
+    """A trace of one line."""
+    return "a" * size
+
+
+def one_entry(size):
+    """A trace with one line behind its first, as of an entry with a value of very many words."""
+    head = HEADER + "env write wheels.speeds 0"
+    return head + ",0" * ((size - len(head)) // 2)
+
+
+def empty_lines(size):
+    """A trace of empty lines alone."""
+    return "\n" * size
+
+
+def empty_lines_behind(size):
+    """A trace of empty lines behind its first."""
+    return HEADER + "\n" * (size - len(HEADER))
+
+
+def run_marks(size):
+    """A trace of nothing but run marks, each closed."""
+    return HEADER + "run\nidle\n" * ((size - len(HEADER)) // len("run\nidle\n"))
+
+
+SCRIPTS = [comments, ticks, writes, one_value, one_name]
+TRACES = [one_line, one_entry, empty_lines, empty_lines_behind, run_marks]
 
 
 def text(case, count):
     return json.dumps(case(count), separators=(",", ":"))
 
 
-def main():
-    case = next(case for case in CASES if case.__name__ == sys.argv[1])
-    wanted = int(float(sys.argv[2] if len(sys.argv) > 2 else 8) * 1048576)
+def described(case, wanted):
+    """The text of a description's case, of nearly so many bytes and not more."""
     few, many = len(text(case, 1000)), len(text(case, 2000))
-    count = 1000 + (wanted - few) * 1000 // (many - few)
-    while len(text(case, count)) > wanted:
+    count = max(1, 1000 + (wanted - few) * 1000 // (many - few))
+    while count > 1 and len(text(case, count)) > wanted:
         count -= max(1, count // 100)
-    sys.stdout.write(text(case, count))
+    return text(case, count)
 
 
-main()
+def main():
+    case = next((case for case in CASES + SCRIPTS + TRACES if [case.__name__] == sys.argv[1:2]), None)
+    if case is None or len(sys.argv) > 3:
+        sys.exit(__doc__)
+    wanted = int(float(sys.argv[2] if len(sys.argv) > 2 else 8) * 1048576)
+    sys.stdout.write(described(case, wanted) if case in CASES else case(wanted))
+
+
+if __name__ == "__main__":
+    main()

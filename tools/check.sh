@@ -1,6 +1,7 @@
 #!/usr/bin/env bash
-# Tries the tools: their tests, each of them on the examples, the schema, and whether what README.md and docs/PROVED.md
-# name as proof exists. It takes half a minute on a quiet machine and proves nothing.
+# Tries the tools: their tests, each of them on the examples, the schema, whether what README.md and docs/PROVED.md
+# name as proof exists, and whether the program is quick on small files that are hard for it. It takes half a minute on a
+# quiet machine and proves nothing.
 #
 # What cannot be tried because something is not installed or not built is skipped, and said. The program is the one that
 # the variable RTE names, or the one that was built; nothing is built here. The status is 1 if something is wrong, else 0.
@@ -140,8 +141,10 @@ if [ -n "${RTE:-}" ]; then
     try "explain.py on the examples" on_each_example explain_passes_through
     try "plans of the examples" plans_are_as_shown
     try "the corpus" corpus_is_judged
+    try "hostile files of 256 KiB" bench/hostile.py --mebibytes 0.25
+    sed -nE 's/^([a-z_]+) .*  (known to .*)$/tools: hostile files: `\1` is \2/p' "$held/said"
 else
-    echo "tools: explain.py and plans on the examples, and the corpus: skipped, since the program is not built"
+    echo "tools: explain.py and plans on the examples, the corpus and hostile files: skipped, since the program is not built"
 fi
 try "tests" tests_pass
 if ! python3 -c 'import jsonschema' 2>/dev/null; then
