@@ -8,7 +8,8 @@ says the MiB of the file, the seconds of the processor, the peak of memory in Mi
 
 A file of 8 MiB, which is usual here, may take 3 seconds of a processor and 512 MiB. A smaller one may take as large a part of these as it
 has of 8 MiB, and what any run may take besides, 0.1 seconds and 32 MiB. A case that takes more than half of its part is tried with a
-file four times as large, up to 8 MiB. So a walk that is quadratic is seen at once with `--mebibytes 0.25`, which takes some seconds.
+file four times as large, up to 8 MiB. So a walk that is quadratic, and would take half a minute or more with 8 MiB, is seen at once with
+`--mebibytes 0.25`, which takes some seconds.
 
 What is known to take more than it may with 8 MiB is said to be known, and why. It does not fail; but once it takes no more, that fails,
 so that it is no longer called known.

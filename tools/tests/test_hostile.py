@@ -11,6 +11,12 @@ from support import TOP, WithFolder, program, run
 HOSTILE = str(TOP / "bench" / "hostile.py")
 SLOW = "#!/bin/sh\nexec {python} -c 'import time\nwhile time.process_time() < 0.3: pass'\n"
 
+# It takes 60 seconds for 8 MiB, a quarter of that for 4, and so on.
+SQUARE = """#!/bin/sh
+exec {python} -c 'import os, sys, time
+while time.process_time() < 60 * (os.path.getsize(sys.argv[3]) / 8388608) ** 2: pass' "$@"
+"""
+
 
 def tried(*words: str) -> tuple[int, list[str]]:
     ended = run([sys.executable, HOSTILE, *words])
@@ -20,8 +26,8 @@ def tried(*words: str) -> tuple[int, list[str]]:
 class Hostile(WithFolder):
     """The lines and the status."""
 
-    def slow(self) -> str:
-        path = self.write("slow", SLOW.format(python=sys.executable))
+    def slow(self, text: str = SLOW) -> str:
+        path = self.write("slow", text.format(python=sys.executable))
         os.chmod(path, 0o755)
         return path
 
@@ -49,6 +55,12 @@ class Hostile(WithFolder):
         self.assertEqual(status, 1)
         self.assertIn("TOO MUCH", lines[1])
         self.assertEqual(lines[-1], "1 cases, 1 not as they should be: empty_lines")
+
+    def test_a_quadratic_walk_is_seen_in_small_files(self) -> None:
+        status, lines = tried("--program", self.slow(SQUARE), "--mebibytes", "0.25", "empty_lines")
+        self.assertEqual((status, len(lines)), (1, 4))
+        self.assertNotIn("TOO MUCH", lines[1])
+        self.assertIn("TOO MUCH", lines[2])
 
     def test_what_is_known_is_said(self) -> None:
         status, lines = tried("--program", self.slow(), "--mebibytes", "0.0625", "programs")
