@@ -104,6 +104,9 @@ a stamp is left out|core_lanes|run_together|its one clause|the stamps of what wa
 arguments are exchanged, a jump is one short, nested loops share a counter, a server returns before it publishes|task_generator|generate|its one clause|what a body asks equals what the actor rule wants
 a line is read as an entry that has another line, or that does not fit|trace_reading|is_read_as|its one clause|the answer equals both tests
 an entry's line is called bad|trace_reading|read_entry|reads|a bad line is that of no item
+a file that was read is called unread|rte_program|fetch_one|stopped|a file is unread only if a count of the shelf rose
+a text that was put is called cut|rte_program|put_text|its one clause|a text is cut only if a put failed
+a good script is refused|rte_program|script_over|stopped|the line that is named is the first bad one
 END
 }
 
