@@ -219,11 +219,23 @@ fn planned(alloc: Global) -> Option<PlannedDescription>
     }
 }
 
+/// What is told over a description's plan.
+fn run_planned(
+    alloc: Global,
+    found: PlannedDescription,
+) -> Result<(String, String, String), AllocError>
+    requires sound { IsSound (plan_of found.plan) found.mapping }
+    requires points { length found.plan.points < 2 ^ 32 }
+{
+    let told = run(alloc, &found.plan, &found.mapping);
+    drop(found);
+    told
+}
+
 #[test]
 fn two_seats_share_a_round(rt: HostRuntime) -> Result<(), Fail> {
     let alloc = rt.alloc();
-    let found = planned(alloc).expect(&rt, "a plan");
-    let (first, second, all) = run(alloc, &found.plan, &found.mapping)?;
+    let (first, second, all) = run_planned(alloc, planned(alloc).expect(&rt, "a plan"))?;
     assert_eq!(rt; first.as_str(), FIRST);
     assert_eq!(rt; second.as_str(), SECOND);
     assert_eq!(rt; all.as_str(), ALL);

@@ -1,6 +1,6 @@
 //! What a bench that counts its work tells of turns. What is wanted was found by hand.
 
-ghost use Rattle.std.specs.Prelude.{◌≡◌, ◌+◌, ◌<◌, ◌≤◌, ◌^◌, length, IfSome};
+ghost use Rattle.std.specs.Prelude.{◌≡◌, ◌+◌, ◌<◌, ◌≤◌, ◌^◌, length, IfOk, IfSome};
 ghost use Rattle.bus_semantics.specs.declared.script.Mapping.{Mapping};
 ghost use Rattle.bus_semantics.specs.Plan.{plan_of};
 ghost use Rattle.task_generator.specs.Promise.{AsksAsPlanned};
@@ -53,8 +53,8 @@ const TURNS: &str = "true 2;true 4;true 5;true 5;true 5;true 6;false 9;false 12;
 /// How many turns are made.
 const COUNT: u32 = 8;
 
-/// The stamp of an entry and the kind of its deed.
-fn told(alloc: Global, made: &Stamped) -> Result<String, AllocError> {
+/// Appends the stamp of an entry and the kind of its deed.
+fn push_entry(alloc: Global, text: &mut String, made: &Stamped) -> Result<(), AllocError> {
     let kind = match made.entry.deed {
         Deed::Start { .. } => "start",
         Deed::Write { .. } => "write",
@@ -62,7 +62,8 @@ fn told(alloc: Global, made: &Stamped) -> Result<String, AllocError> {
         Deed::End => "end",
         _ => "another",
     };
-    format!(in alloc; "{} {kind};", made.stamp)
+    let told = format!(in alloc; "{} {kind};", made.stamp)?;
+    text.push_str(told.as_str())
 }
 
 /// Makes a turn, and answers whether it made an entry.
@@ -84,7 +85,106 @@ fn step<L: Ledger>(p: &BusPlan, t: &TaskSet, c: &mut Core, b: &mut CountingBench
     }
 }
 
-/// What is told of turns of the first core over a new bench: its entries, and what came of each turn.
+/// The first core, with room for the entries of all turns.
+fn ready_core(alloc: Global, p: &BusPlan, m: &Mapping, t: &TaskSet) -> Result<Core, AllocError>
+    requires sound { IsSound (plan_of p.now) m.now }
+    ensures room { IfOk result (λ c. 8 ≤ c.room) }
+    ensures ready { IfOk result (IsReady (plan_of p.now) m.now t.now) }
+{
+    let mut core = Core::new(alloc, p, m, t, 0)?;
+    match core.make_room(alloc, COUNT) {
+        Ok(()) => Ok(core),
+        Err(memory) => {
+            drop(core);
+            Err(memory)
+        }
+    }
+}
+
+/// A bench of new objects, with room for the entries of all turns.
+fn new_bench<'a, L: Ledger>(
+    alloc: Global,
+    p: &'a BusPlan,
+    m: &Mapping,
+    blank: Blank,
+) -> Result<CountingBench<'a, L>, AllocError>
+    requires sound { IsSound (plan_of p.now) m.now }
+    requires points { length p.now.points < 2 ^ 32 }
+    requires name { blank.name ≡ L.name }
+    requires parts { blank.parts ≡ L.parts }
+    requires one_part { blank.parts ≡ 1 }
+    ensures room { IfOk result (λ b. 8 ≤ b.bench.room) }
+    ensures plan { IfOk result (λ b. plan_of b.bench.plan ≡ plan_of p.now) }
+{
+    sound_plans_have_objects();
+    let objects = make_objects(alloc, p)?;
+    CountingBench::<L>::new(alloc, p, objects, COUNT, blank)
+}
+
+/// Appends whether a turn made an entry, and how often the bench has answered `NotYet` by then.
+fn push_turn(
+    alloc: Global,
+    turns: &mut String,
+    stepped: bool,
+    not_yet: u64,
+) -> Result<(), AllocError> {
+    let told = format!(in alloc; "{stepped} {not_yet};")?;
+    turns.push_str(told.as_str())
+}
+
+/// Makes the turns, and tells what came of each.
+fn make_turns<L: Ledger>(
+    alloc: Global,
+    p: &BusPlan,
+    m: &Mapping,
+    t: &TaskSet,
+    core: &mut Core,
+    bench: &mut CountingBench<L>,
+) -> Result<String, AllocError>
+    requires bodies { AsksAsPlanned (plan_of p.now) t.now }
+    requires core_room { 8 ≤ core.old.room }
+    requires bench_room { 8 ≤ bench.old.bench.room }
+    requires plan { plan_of bench.old.bench.plan ≡ plan_of p.now }
+    requires ready { IsReady (plan_of p.now) m.now t.now core.old }
+{
+    let mut turns = String::new(alloc);
+    for _turn in 0..COUNT {
+        let stepped = step(p, t, core, bench);
+        push_turn(alloc, &mut turns, stepped, bench.not_yet())?;
+    }
+    Ok(turns)
+}
+
+/// What is told of the entries that were made.
+fn told_of(alloc: Global, entries: &[Stamped]) -> Result<String, AllocError> {
+    let mut made = String::new(alloc);
+    for entry in entries {
+        push_entry(alloc, &mut made, entry)?;
+    }
+    Ok(made)
+}
+
+/// The turns of a core over a bench: its entries, and what came of each turn.
+fn run_over<L: Ledger>(
+    alloc: Global,
+    p: &BusPlan,
+    m: &Mapping,
+    t: &TaskSet,
+    core: &mut Core,
+    bench: &mut CountingBench<L>,
+) -> Result<(String, String), AllocError>
+    requires bodies { AsksAsPlanned (plan_of p.now) t.now }
+    requires core_room { 8 ≤ core.old.room }
+    requires bench_room { 8 ≤ bench.old.bench.room }
+    requires plan { plan_of bench.old.bench.plan ≡ plan_of p.now }
+    requires ready { IsReady (plan_of p.now) m.now t.now core.old }
+{
+    let turns = make_turns(alloc, p, m, t, core, bench)?;
+    let made = told_of(alloc, bench.made())?;
+    Ok((made, turns))
+}
+
+/// What is told of turns of the first core over a new bench.
 fn run<L: Ledger>(
     alloc: Global,
     p: &BusPlan,
@@ -99,21 +199,18 @@ fn run<L: Ledger>(
     requires parts { blank.parts ≡ L.parts }
     requires one_part { blank.parts ≡ 1 }
 {
-    sound_plans_have_objects();
-    let objects = make_objects(alloc, p)?;
-    let mut core = Core::new(alloc, p, m, t, 0)?;
-    core.make_room(alloc, COUNT)?;
-    let mut bench = CountingBench::<L>::new(alloc, p, objects, COUNT, blank)?;
-    let mut turns = String::new(alloc);
-    for _turn in 0..COUNT {
-        let stepped = step(p, t, &mut core, &mut bench);
-        turns.push_str(format!(in alloc; "{stepped} {};", bench.not_yet())?.as_str())?;
-    }
-    let mut made = String::new(alloc);
-    for entry in bench.made() {
-        made.push_str(told(alloc, entry)?.as_str())?;
-    }
-    Ok((made, turns))
+    let mut core = ready_core(alloc, p, m, t)?;
+    let told = match new_bench::<L>(alloc, p, m, blank) {
+        Ok(made) => {
+            let mut bench = made;
+            let told = run_over(alloc, p, m, t, &mut core, &mut bench);
+            drop(bench);
+            told
+        }
+        Err(memory) => Err(memory),
+    };
+    drop(core);
+    told
 }
 
 /// The description with its plan, if it breaks no rule.
@@ -127,12 +224,43 @@ fn planned(alloc: Global) -> Option<PlannedDescription>
     }
 }
 
+/// What is told over a plan, with its bodies.
+fn run_bodies(
+    alloc: Global,
+    p: &BusPlan,
+    m: &Mapping,
+    blank: Blank,
+) -> Result<(String, String), AllocError>
+    requires sound { IsSound (plan_of p.now) m.now }
+    requires points { length p.now.points < 2 ^ 32 }
+    requires one_part { blank.parts ≡ 1 }
+{
+    let bodies = generate(alloc, p, m)?;
+    let told = run::<Brand>(alloc, p, m, &bodies, blank);
+    drop(bodies);
+    told
+}
+
+/// What is told over a description's plan.
+fn run_planned(
+    alloc: Global,
+    found: PlannedDescription,
+    blank: Blank,
+) -> Result<(String, String), AllocError>
+    requires sound { IsSound (plan_of found.plan) found.mapping }
+    requires points { length found.plan.points < 2 ^ 32 }
+    requires one_part { blank.parts ≡ 1 }
+{
+    let told = run_bodies(alloc, &found.plan, &found.mapping, blank);
+    drop(found);
+    told
+}
+
 #[test]
 fn counts_entries_and_looks(rt: HostRuntime) -> Result<(), Fail> {
     let alloc = rt.alloc();
     let found = planned(alloc).expect(&rt, "a plan");
-    let bodies = generate(alloc, &found.plan, &found.mapping)?;
-    let (made, turns) = run::<Brand>(alloc, &found.plan, &found.mapping, &bodies, Blank::new(1))?;
+    let (made, turns) = run_planned(alloc, found, Blank::new(1))?;
     assert_eq!(rt; made.as_str(), MADE);
     assert_eq!(rt; turns.as_str(), TURNS);
     Ok(())
