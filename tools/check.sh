@@ -28,6 +28,10 @@ fi
 if [ -z "${RTE:-}" ] && [ -x crates/rte/out/rte ]; then
     export RTE=$top/crates/rte/out/rte
 fi
+if [ -n "${RTE:-}" ] && [ ! -x "$RTE" ]; then
+    echo "tools: FAILED, since there is no program $RTE"
+    exit 1
+fi
 
 exec 3>&1
 failed=0
@@ -147,6 +151,7 @@ else
     echo "tools: explain.py and plans on the examples, the corpus and hostile files: skipped, since the program is not built"
 fi
 try "tests" tests_pass
+skipped=$(grep -o 'skipped=[0-9]*' "$held/tests") && echo "tools: tests: $skipped, for want of what they need"
 if ! python3 -c 'import jsonschema' 2>/dev/null; then
     echo "tools: schema by jsonschema: skipped, since Python's jsonschema is not installed"
 fi

@@ -14,6 +14,9 @@ from pathlib import Path
 from support import EXAMPLES, WithFolder, cores_of, program
 
 FULL = "/dev/full"
+NOTHING = '{"compositions":[{"shortName":"Top"}],"root":"Top","mapping":{"cores":1}}'
+TICKS = 10_000
+LONG = b"rte-trace 2\n" + b"env tick\n" * TICKS + b"run\nidle\n"
 
 
 @unittest.skipUnless(program(), "the program is not built")
@@ -56,6 +59,54 @@ class Output(WithFolder):
         ended = subprocess.run(self.words(EXAMPLES[0]), stdout=writing, check=False)
         os.close(writing)
         self.assertEqual(ended.returncode, 4)
+
+    def long_words(self) -> list[str]:
+        """The words of a run that tells more than is gathered at once, which is 64 KiB."""
+        description = self.write("description.json", NOTHING)
+        return [program(), "run", description, self.write("script.txt", f"tick {TICKS}\nrun\n")]
+
+    def test_a_long_trace_is_whole(self) -> None:
+        ended = subprocess.run(self.long_words(), capture_output=True, check=False)
+        self.assertEqual((ended.returncode, ended.stdout), (0, LONG))
+
+    @unittest.skipUnless(os.path.exists(FULL), "there is no device that is always full")
+    def test_a_long_trace_on_a_full_device_is_status_4(self) -> None:
+        with open(FULL, "wb") as full:
+            ended = subprocess.run(self.long_words(), stdout=full, check=False)
+        self.assertEqual(ended.returncode, 4)
+
+    def test_a_pipe_that_closes_has_the_beginning(self) -> None:
+        child = subprocess.Popen(self.long_words(), stdout=subprocess.PIPE)
+        first = child.stdout.read(20)
+        child.stdout.close()
+        self.assertEqual((child.wait(), first), (4, LONG[:20]))
+
+    def test_each_refusal_has_its_status(self) -> None:
+        whole = self.write("whole.json", NOTHING)
+        broken = self.write("broken.json", "{")
+        script = self.write("script.txt", "tick 1\nrun\n")
+        wrong = self.write("wrong.txt", "walk\n")
+        trace = self.write("trace.txt", "rte-trace 2\nenv tick\nrun\nidle\n")
+        early = self.write("early.txt", "rte-trace 2\nidle\n")
+        absent = str(self.folder / "absent")
+        cases = [
+            (["check", whole, trace, script], 0, b"legal\n"),
+            (["run", broken, script], 1, b"refused rule 1 at /\n"),
+            ([], 2, b"words refused\n"),
+            (["run", whole], 2, b"words refused\n"),
+            # Words that are no text are no command.
+            ([b"run", b"\xff", script], 2, b"words refused\n"),
+            (["run", absent, script], 3, b"not read 1\n"),
+            (["run", whole, absent], 3, b"not read 2\n"),
+            (["check", whole, trace, absent], 3, b"not read 3\n"),
+            (["run", whole, wrong], 5, b"script refused line 1 cause 1\n"),
+            (["check", whole, script, script], 6, b"bad line 1\n"),
+            (["check", whole, early, script], 6, b"illegal 2 D15\n"),
+        ]
+        for words, status, told in cases:
+            with self.subTest(words=words):
+                ended = subprocess.run([program(), *words], capture_output=True, check=False)
+                self.assertEqual((ended.returncode, ended.stdout), (status, told))
 
     def test_a_terminal_has_all_of_it(self) -> None:
         ours, theirs = pty.openpty()
