@@ -11,9 +11,10 @@ import subprocess
 import unittest
 from pathlib import Path
 
-from support import EXAMPLES, WithFolder, cores_of, program
+from support import DATA, EXAMPLES, WithFolder, cores_of, program
 
 FULL = "/dev/full"
+CLASHES = DATA / "rows" / "header_clashes" / "description.json"
 NOTHING = '{"compositions":[{"shortName":"Top"}],"root":"Top","mapping":{"cores":1}}'
 TICKS = 10_000
 LONG = b"rte-trace 2\n" + b"env tick\n" * TICKS + b"run\nidle\n"
@@ -102,6 +103,8 @@ class Output(WithFolder):
             (["run", whole, wrong], 5, b"script refused line 1 cause 1\n"),
             (["check", whole, script, script], 6, b"bad line 1\n"),
             (["check", whole, early, script], 6, b"illegal 2 D15\n"),
+            (["header", whole, "Absent"], 8, b"no component\n"),
+            (["header", str(CLASHES), "Ports"], 9, b"clash Rte_Write_a_b_c\n"),
         ]
         for words, status, told in cases:
             with self.subTest(words=words):

@@ -1,9 +1,12 @@
-//! The program: it reads a description and a script, runs them on the bus and prints the trace.
+//! The program: it makes the shelf of real files, the sink and the gate, and carries out the command that its words give.
 #![tactic(auto)]
+
+mod running;
 
 use gathered_output::GatheringSink;
 use rte_program::{Status, rte_top};
-use rte_text::{FileShelf, OpenGate, Put, Sink, StdSink};
+use rte_text::{FileShelf, OpenGate, StdSink};
+use running::run_gathered;
 use std::env;
 use std::io::{self, ErrorKind, IsTerminal};
 use std::process::ExitCode;
@@ -20,40 +23,19 @@ fn words_of<R: Env + AllocGlobal>(rt: &R) -> io::Result<Vec<String>> {
     Ok(words)
 }
 
-/// Carries out the command over real files and the sink.
-fn run_words<R: Files + AllocGlobal + Clone + Drop + Threads + Wait + Sync, K: Sink>(
-    rt: &R,
-    words: &[String],
-    out: &mut K,
-) -> io::Result<Status> {
-    let mut shelf = FileShelf::new(rt.clone()?);
-    Ok(rte_top(rt, rt.alloc(), words, &mut shelf, out, &OpenGate))
-}
-
-/// Carries out the command, and writes the output 64 KiB at a time. What could not be written at the end was not written.
-fn run_gathered<R: Files + Print + AllocGlobal + Clone + Drop + Threads + Wait + Sync>(
-    rt: &R,
-    words: &[String],
-) -> io::Result<Status> {
-    let mut out = GatheringSink::new(rt.alloc(), io::writer(rt))?;
-    let status = run_words(rt, words, &mut out)?;
-    match out.finish() {
-        Put::Done => Ok(status),
-        Put::Failed => Ok(Status::NotWritten),
-    }
-}
-
-/// Carries out the command. Who reads at a terminal sees each line as it comes.
+/// Carries out the command over real files. Who reads at a terminal sees each line as it comes.
 fn run<R: Files + Print + AllocGlobal + Clone + Drop + Threads + Wait + Sync>(
     rt: &R,
     words: &[String],
     at_terminal: bool,
 ) -> io::Result<Status> {
+    let mut shelf = FileShelf::new(rt.clone()?);
     if at_terminal {
-        run_words(rt, words, &mut StdSink::new(rt.clone()?))
-    } else {
-        run_gathered(rt, words)
+        let mut out = StdSink::new(rt.clone()?);
+        return Ok(rte_top(rt, rt.alloc(), words, &mut shelf, &mut out, &OpenGate));
     }
+    let mut out = GatheringSink::new(rt.alloc(), io::writer(rt))?;
+    Ok(run_gathered(rt, rt.alloc(), words, &mut shelf, &mut out, &OpenGate))
 }
 
 fn main(rt: HostRuntime) -> ExitCode {
