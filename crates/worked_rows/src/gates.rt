@@ -2,6 +2,7 @@
 
 use rte_text::Gate;
 use std::sync::atomic::{AtomicU64, Ordering};
+use std::thread;
 
 /// The pass at which core 0 is held, and up to which each core goes on before the other does.
 const HELD: u64 = 8;
@@ -102,12 +103,14 @@ impl Staggered {
         }
     }
 
-    /// Looks until 8 passes of a core have begun, or the looks are used up.
+    /// Looks until 8 passes of a core have begun, or the looks are used up. The thread of that core may not have begun yet for want of a
+    /// processor, so the one that is held gives way to it.
     fn hold(&self, passes: &AtomicU64) {
         for _look in 0..self.most_looks {
             if passes.load(Ordering::SeqCst) >= HELD {
                 return;
             }
+            thread::yield_now();
         }
         self.spent.fetch_add(1, Ordering::SeqCst);
     }
