@@ -104,6 +104,7 @@ class Output(WithFolder):
             (["check", whole, script, script], 6, b"bad line 1\n"),
             (["check", whole, early, script], 6, b"illegal 2 D15\n"),
             (["header", whole, "Absent"], 8, b"no component\n"),
+            (["header", whole, ""], 8, b"no component\n"),
             (["header", str(CLASHES), "Ports"], 9, b"clash Rte_Write_a_b_c\n"),
         ]
         for words, status, told in cases:
