@@ -107,6 +107,7 @@ an entry's line is called bad|trace_reading|read_entry|reads|a bad line is that 
 a file that was read is called unread|rte_program|fetch_one|stopped|a file is unread only if a count of the shelf rose
 a text that was put is called cut|rte_program|put_text|its one clause|a text is cut only if a put failed
 a good script is refused|rte_program|script_over|stopped|the line that is named is the first bad one
+output that is left is not written at the end|gathered_output|finish|whole|where the answer is Done nothing is left
 END
 }
 

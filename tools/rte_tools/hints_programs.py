@@ -82,7 +82,7 @@ def unknown_mode(case: Case, port: Port | None, modes: list[str]) -> Iterator[st
     unknown = [mode for mode in modes if group and mode not in group.modes]
     if unknown:
         yield f"The mode group `{group.name}` has no mode `{unknown[0]}`{nearest(unknown[0], group.modes)}."
-        yield Mend(f"name a mode of the group: {quoted(group.modes)}.")
+        yield Mend(f"name a mode of the group: {quoted(group.modes)}, or add one to its `modes`.")
 
 
 def wrong_arguments(case: Case, statement: list) -> Iterator[str]:

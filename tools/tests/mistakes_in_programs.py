@@ -73,7 +73,7 @@ PROGRAMS: dict[str, list[Mistake]] = {
         refused(
             "17 at /components/0/behavior/runnables/0/program/1/3/0",
             '["switch","power","Parking","s"]',
-            ("has no mode `Parking`; the nearest one is `Parked`.", "Mend: name a mode of the group: `Parked`, `Driving`."),
+            ("has no mode `Parking`; the nearest one is `Parked`.", "Mend: name a mode of the group: `Parked`, `Driving`, or add one to its `modes`."),
             (SWITCH, '["switch","power","Parking","s"]'),
             example="power_modes",
         )
@@ -82,14 +82,14 @@ PROGRAMS: dict[str, list[Mistake]] = {
         refused(
             "24 at /components/1/behavior/events/0",
             '"modes":["Parking"]}}',
-            ("has no mode `Parking`; the nearest one is `Parked`.", "Mend: name a mode of the group: `Parked`, `Driving`."),
+            ("has no mode `Parking`; the nearest one is `Parked`.", "Mend: name a mode of the group: `Parked`, `Driving`, or add one to its `modes`."),
             (DISABLED, DISABLED.replace("Parked", "Parking")),
             example="power_modes",
         ),
         refused(
             "21 at /components/1/behavior/events/1",
             '"modes":["Drive"]',
-            ("has no mode `Drive`; the nearest one is `Driving`.", "Mend: name a mode of the group: `Parked`, `Driving`."),
+            ("has no mode `Drive`; the nearest one is `Driving`.", "Mend: name a mode of the group: `Parked`, `Driving`, or add one to its `modes`."),
             ('"onEntry","modes":["Driving"]', '"onEntry","modes":["Drive"]'),
             example="power_modes",
         ),
