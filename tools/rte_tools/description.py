@@ -11,6 +11,16 @@ from typing import Any, Iterator
 MOST_INSTANCES = 1024  # by rule 10; what is larger is not made flat to its end
 MOST_NODES = 20_000
 DEEPEST = 8
+# The least and the greatest value of each base type.
+BASES = {
+    "boolean": (0, 1),
+    "uint8": (0, 2**8 - 1),
+    "uint16": (0, 2**16 - 1),
+    "uint32": (0, 2**32 - 1),
+    "sint8": (-(2**7), 2**7 - 1),
+    "sint16": (-(2**15), 2**15 - 1),
+    "sint32": (-(2**31), 2**31 - 1),
+}
 
 
 @dataclass(frozen=True)

@@ -12,16 +12,6 @@ from rte_tools.located import Node
 from rte_tools.refusal import pointer_of
 from rte_tools.source import Source
 
-BASES = {
-    "boolean": (0, 1),
-    "uint8": (0, 2**8 - 1),
-    "uint16": (0, 2**16 - 1),
-    "uint32": (0, 2**32 - 1),
-    "sint8": (-(2**7), 2**7 - 1),
-    "sint16": (-(2**15), 2**15 - 1),
-    "sint32": (-(2**31), 2**31 - 1),
-}
-
 
 class Mend(str):
     """The mend of this case, in place of that of the page, which is for all cases of the rule."""

@@ -4,7 +4,8 @@ from __future__ import annotations
 
 from typing import Any, Iterator
 
-from rte_tools.hint_case import BASES, Case, Mend, counted, limits_text
+from rte_tools.description import BASES
+from rte_tools.hint_case import Case, Mend, counted, limits_text
 from rte_tools.names import candidates, nearest
 
 MOST_ARGUMENTS = 16

@@ -4,21 +4,12 @@ from __future__ import annotations
 
 from typing import Any, Iterable, Iterator
 
-from rte_tools.description import MOST_INSTANCES, DEEPEST, Component, Composition, Port
+from rte_tools.description import BASES, DEEPEST, MOST_INSTANCES, Component, Composition, Port
 from rte_tools.joins import End
 from rte_tools.judged import Judged, unless
 from rte_tools.programs import needed_access, statements
 
 MOST_ARGUMENTS, MOST_PAIRS = 16, 65_536
-BASES = {
-    "boolean": (0, 1),
-    "uint8": (0, 2**8 - 1),
-    "uint16": (0, 2**16 - 1),
-    "uint32": (0, 2**32 - 1),
-    "sint8": (-(2**7), 2**7 - 1),
-    "sint16": (-(2**15), 2**15 - 1),
-    "sint32": (-(2**31), 2**31 - 1),
-}
 
 
 # ---- rule 4: distinct names

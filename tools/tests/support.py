@@ -69,6 +69,14 @@ def program() -> str | None:
     return os.environ.get("RTE") or (str(built) if os.access(built, os.X_OK) else None)
 
 
+def read_of(terminal: int) -> bytes:
+    """What a terminal shows next, and nothing once it is closed."""
+    try:
+        return os.read(terminal, 4096)
+    except OSError:
+        return b""
+
+
 class WithFolder(unittest.TestCase):
     """A test with a folder of its own."""
 

@@ -12,7 +12,7 @@ import subprocess
 import unittest
 from pathlib import Path
 
-from support import TOP, WithFolder
+from support import TOP, WithFolder, read_of
 
 STAND_IN = "#!/bin/sh\nprintf '%s\\n' \"$SAYS\"\nexit \"$STATUS\"\n"
 READABLE = '{"root":"Top"}'
@@ -95,14 +95,6 @@ class Launcher(WithFolder):
     def test_output_that_failed(self) -> None:
         said = self.run_words("cut", 4, "plan", self.description)
         self.assertEqual(said, "rte: the output could not be written to its end.\n")
-
-
-def read_of(terminal: int) -> bytes:
-    """What a terminal shows next, and nothing once it is closed."""
-    try:
-        return os.read(terminal, 4096)
-    except OSError:
-        return b""
 
 
 if __name__ == "__main__":

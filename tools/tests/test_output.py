@@ -11,7 +11,7 @@ import subprocess
 import unittest
 from pathlib import Path
 
-from support import DATA, EXAMPLES, WithFolder, cores_of, program
+from support import DATA, EXAMPLES, WithFolder, cores_of, program, read_of
 
 FULL = "/dev/full"
 CLASHES = DATA / "rows" / "header_clashes" / "description.json"
@@ -122,14 +122,6 @@ class Output(WithFolder):
         os.close(ours)
         self.assertEqual(child.wait(), 0)
         self.assertEqual(shown.replace(b"\r\n", b"\n"), (EXAMPLES[0] / "expected.txt").read_bytes())
-
-
-def read_of(terminal: int) -> bytes:
-    """What a terminal shows next, and nothing once it is closed."""
-    try:
-        return os.read(terminal, 4096)
-    except OSError:
-        return b""
 
 
 if __name__ == "__main__":
