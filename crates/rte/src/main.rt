@@ -1,12 +1,10 @@
 //! The program: it makes the shelf of real files, the sink and the gate, and carries out the command that its words give.
 #![tactic(auto)]
 
-mod running;
-
 use gathered_output::GatheringSink;
+use gathered_run::run_gathered;
 use rte_program::{Status, rte_top};
 use rte_text::{FileShelf, OpenGate, StdSink};
-use running::run_gathered;
 use std::env;
 use std::io::{self, ErrorKind, IsTerminal};
 use std::process::ExitCode;
