@@ -68,8 +68,8 @@ each answer is what the bus gives from the earlier entries|data_objects/keeps_an
 this holds in whatever order the cores took their turns|cross_core_table/stamps_under_a_foreign_lock cross_core_table/stamps_another_answer
 `idle` holds only if nothing may step any more|task_slots/starts_nothing script_run/closes_before_the_serial_pass
 `unsettled` holds only after 100,000 entries of runnables|script_run/gives_up_at_99_999
-status 0 comes only then|rte_program/done_after_a_failed_fetch gathered_run/passes_over_a_failed_finish
-each other status comes only if its cause is there|rte_program/always_refused rte_program/always_trace
+status 0 comes only then|commands/done_after_a_failed_fetch commands/done_after_a_failed_put gathered_run/passes_over_a_failed_finish
+each other status comes only if its cause is there|commands/always_words commands/always_refused
 the least broken rule is named|compatibility/names_a_later_rule
 a trace is called legal exactly if it is the text of such a run, else its first line that is not, with the clause|trace_check/check_accepts_a_foreign_call trace_check/refuses_for_a_lower_clause trace_check/takes_an_open_end trace_check/closes_outside_a_run_line
 END
@@ -104,11 +104,10 @@ a stamp is left out|core_lanes|run_together|its one clause|the stamps of what wa
 arguments are exchanged, a jump is one short, nested loops share a counter, a server returns before it publishes|task_generator|generate|its one clause|what a body asks equals what the actor rule wants
 a line is read as an entry that has another line, or that does not fit|trace_reading|is_read_as|its one clause|the answer equals both tests
 an entry's line is called bad|trace_reading|read_entry|reads|a bad line is that of no item
-a file that was read is called unread|rte_program|fetch_one|stopped|a file is unread only if a count of the shelf rose
-a text that was put is called cut|rte_program|put_text|its one clause|a text is cut only if a put failed
-a text that could not be put is called done|rte_program|put_text|its one clause|where it is done, the whole text was put
-a plan's words are called wrong|rte_program|carry_out|ends|a command that the words give ends as that command may
-a good script is refused|rte_program|script_over|stopped|the line that is named is the first bad one
+a file that was read is called unread|commands|fetch_one|stopped|a file is unread only if a count of the shelf rose
+a text that was put is called cut|commands|put_text|its one clause|a text is cut only if a put failed
+a good script is refused|commands|script_over|stopped|the line that is named is the first bad one
+a legal trace is refused|rte_program|check_over|stopped|the verdict that is named is right, and not legal
 output that is left is not written at the end|gathered_output|finish|whole|where the answer is Done nothing is left
 END
 }

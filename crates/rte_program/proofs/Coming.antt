@@ -3,12 +3,12 @@ use Rattle.std.proofs.Common.{◌≡◌, ℕ, zero, suc, ◌<◌, List, [], ◌�
 use Rattle.std.specs.Prelude.{IsSomeAnd}
 use Rattle.rte_text.specs.Counts.{Rose}
 use Rattle.rte_text.specs.Shelves.{ToldFiles, HeldWhereTold, LongWhereTold, ShelfCounts}
-use Rattle.rte_program.specs.declared.status.Status.{Status}
+use Rattle.commands.specs.declared.status.Status.{Status}
 use Rattle.rte_program.specs.Answers.{AnswersUnlessFault, AreHeld, IsHeld}
-use Rattle.rte_program.specs.Carrying.{Ends, World}
-use Rattle.rte_program.specs.Commands.{Bytes, Words, Command, command_of, files_of}
-use Rattle.rte_program.specs.Fetching.{AreHeldWhereTold, IsUnread}
-use Rattle.rte_program.specs.Verdicts.{Verdict, IsVerdictOn, SaysVerdict, status_of}
+use Rattle.commands.specs.Carrying.{Ends, World}
+use Rattle.commands.specs.Commands.{Bytes, Words, Command, command_of, files_of}
+use Rattle.commands.specs.Fetching.{AreHeldWhereTold, IsUnread}
+use Rattle.commands.specs.Verdicts.{Verdict, IsVerdictOn, SaysVerdict, status_of}
 use Rattle.rte_program.proofs.Ending.{Ending, ending, unread, unread_cut, unfetched, told, told_cut, broke_off, no_memory}
 
 -- what the law of verdicts says

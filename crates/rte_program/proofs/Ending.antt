@@ -2,14 +2,14 @@
 use Rattle.std.proofs.Common.{◌≡◌, Some, refl, sym, ◌∙◌, inl, inr}
 use Rattle.std.specs.Prelude.{◌≢◌, ◌⊎◌}
 use Rattle.rte_text.specs.Counts.{Rose}
-use Rattle.rte_program.specs.declared.status.Status.{Status}
-use Rattle.rte_program.specs.declared.status.Status.TheVariants as status
+use Rattle.commands.specs.declared.status.Status.{Status}
+use Rattle.commands.specs.declared.status.Status.TheVariants as status
 use Rattle.rte_program.specs.Answers.{Answers, CutsText, EndsForMemory, IsOfVerdict, of_file, of_run, of_verdict, SaysUnread}
-use Rattle.rte_program.specs.Carrying.{BreaksOff, CarriesOut, Ends, FetchesNot, PutsBeginning, ReadsAll, ReadsNot, TellsVerdict, WantsMemory, World}
-use Rattle.rte_program.specs.Commands.{Words, Command, command_of}
-use Rattle.rte_program.specs.Texts.{unread_text}
-use Rattle.rte_program.specs.Verdicts.{status_of}
-use Rattle.rte_program.proofs.Puts.{IsCut, IsWhole, no_other, whole_or_cut}
+use Rattle.commands.specs.Carrying.{BreaksOff, CarriesOut, Ends, FetchesNot, PutsBeginning, ReadsAll, ReadsNot, TellsVerdict, WantsMemory, World}
+use Rattle.commands.specs.Commands.{Words, Command, command_of}
+use Rattle.commands.specs.Texts.{unread_text}
+use Rattle.commands.specs.Verdicts.{status_of}
+use Rattle.commands.proofs.Puts.{IsCut, IsWhole, no_other, whole_or_cut}
 
 -- one of the ways in which it ended
 pub data Ending (command : Command) (answer : Status) (b : World) (a : World) : Type 0 where

@@ -1,14 +1,5 @@
-pub mod Words
-pub mod Fetched
-pub mod Puts
 pub mod Ending
 pub mod Coming
-pub mod Carried
-pub mod Judging
-pub mod Lines
 pub mod Ran
-pub mod Numbered
-pub mod Scripts
-pub mod OneVerdict
 pub mod SoakSizes
 pub mod Soaks

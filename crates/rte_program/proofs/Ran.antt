@@ -11,13 +11,13 @@ use Rattle.core_runtime.specs.Nodes.{NodeState}
 use Rattle.description_stages.specs.declared.planning.PlannedDescription.{PlannedDescription}
 use Rattle.script_run.specs.Legal.{IsLegalFrom}
 use Rattle.script_run.specs.Running as session
-use Rattle.rte_program.specs.declared.status.Status.{Status}
-use Rattle.rte_program.specs.Carrying.{CarriesOut, PutsBeginning}
-use Rattle.rte_program.specs.Commands.{Bytes, run}
-use Rattle.rte_program.specs.Inputs.{AreInputs}
-use Rattle.rte_program.specs.RunCommand.{IsTextOfRun}
+use Rattle.commands.specs.declared.status.Status.{Status}
+use Rattle.commands.specs.Carrying.{CarriesOut, PutsBeginning}
+use Rattle.commands.specs.Commands.{Bytes, run}
+use Rattle.commands.specs.Inputs.{AreInputs}
+use Rattle.commands.specs.RunCommand.{IsTextOfRun}
 use Rattle.rte_program.specs.Running.{IsRun, PrintsRun, PrintsBeginning}
-use Rattle.rte_program.specs.Verdicts.{done}
+use Rattle.commands.specs.Verdicts.{done}
 use Rattle.rte_text.specs.declared.sink.Put.TheVariants as put
 
 abbrev AreRuns : Type 0

@@ -21,21 +21,21 @@ use Rattle.soak_maker.specs.Script.{soak_lines}
 use Rattle.soak_maker.specs.Soak.{soak_value}
 use Rattle.trace_counts.specs.Sessions.{numbers_of}
 use Rattle.trace_counts.specs.Tallies.{numbers_in}
-use Rattle.rte_program.specs.declared.judge.Prepared.{Prepared}
-use Rattle.rte_program.specs.declared.status.Status.{Status}
-use Rattle.rte_program.specs.declared.status.Status.TheVariants as status
-use Rattle.rte_program.specs.declared.stop.Finding.TheVariants as finding
-use Rattle.rte_program.specs.declared.stop.Stop.{Stop}
-use Rattle.rte_program.specs.declared.stop.Stop.TheVariants as stop
-use Rattle.rte_program.specs.Carrying.{CarriesOut}
-use Rattle.rte_program.specs.Commands.{Bytes, soak}
-use Rattle.rte_program.specs.Inputs.{AreInputs}
-use Rattle.rte_program.specs.Judging.{IsNotRun}
-use Rattle.rte_program.specs.RunCommand.{IsTextOfRun}
+use Rattle.commands.specs.declared.preparing.Prepared.{Prepared}
+use Rattle.commands.specs.declared.status.Status.{Status}
+use Rattle.commands.specs.declared.status.Status.TheVariants as status
+use Rattle.commands.specs.declared.stop.Finding.TheVariants as finding
+use Rattle.commands.specs.declared.stop.Stop.{Stop}
+use Rattle.commands.specs.declared.stop.Stop.TheVariants as stop
+use Rattle.commands.specs.Carrying.{CarriesOut}
+use Rattle.commands.specs.Commands.{Bytes, soak}
+use Rattle.commands.specs.Inputs.{AreInputs}
+use Rattle.commands.specs.Judging.{IsNotRun}
+use Rattle.commands.specs.RunCommand.{IsTextOfRun}
 use Rattle.rte_program.specs.Running.{IsRun, PrintsRun}
-use Rattle.rte_program.specs.SoakCommand.{summary_text, IsSoaked}
-use Rattle.rte_program.specs.Texts.{IsPut}
-use Rattle.rte_program.specs.Verdicts.{done}
+use Rattle.commands.specs.SoakCommand.{summary_text, IsSoaked}
+use Rattle.commands.specs.Texts.{IsPut}
+use Rattle.commands.specs.Verdicts.{done}
 
 pub soaked : (n : ℕ) (d s : Bytes) → Reads d (soak_value n) → ((p : Plan) (lines : List Line) → IsScript p s lines → lines ≡ soak_lines)
     → (r : Result Prepared Stop) → IfOk r (λ x. AreInputs d s x.found x.script.lines) → IfOk r (λ x. IsSoaked n x.found x.script.lines)

@@ -3,12 +3,12 @@ use Rattle.std.specs.Prelude.{◌≡◌, ℕ, ◌≤◌, ◌⊎◌, List, [], �
 use Rattle.rte_text.specs.Counts.{Rose}
 use Rattle.rte_text.specs.Shelves.{ToldFiles, ShelfCounts}
 use Rattle.rte_text.specs.Sinks.{AppendsWhereTold, AppendsPrefixWhereTold}
-use Rattle.rte_program.specs.declared.status.Status.{Status}
-use Rattle.rte_program.specs.declared.status.Status.TheVariants as status
-use Rattle.rte_program.specs.Commands.{Bytes, Words, Command, command_of, files_of}
-use Rattle.rte_program.specs.Fetching.{AreFetched, AreHeldWhereTold, IsUnreadAt}
-use Rattle.rte_program.specs.Texts.{unread_text, words_text}
-use Rattle.rte_program.specs.Verdicts.{Verdict, status_of, Begins, IsVerdictOn, SaysVerdict}
+use Rattle.commands.specs.declared.status.Status.{Status}
+use Rattle.commands.specs.declared.status.Status.TheVariants as status
+use Rattle.commands.specs.Commands.{Bytes, Words, Command, command_of, files_of}
+use Rattle.commands.specs.Fetching.{AreFetched, AreHeldWhereTold, IsUnreadAt}
+use Rattle.commands.specs.Texts.{unread_text, words_text}
+use Rattle.commands.specs.Verdicts.{Verdict, status_of, Begins, IsVerdictOn, SaysVerdict}
 
 -- ---- what each answer says
 

@@ -5,10 +5,10 @@ use Rattle.rte_text.specs.Sinks.{AppendsPrefixWhereTold, AppendsWhereTold}
 use Rattle.bus_semantics.specs.declared.script.Line.{Line}
 use Rattle.bus_semantics.specs.declared.script.Mapping.{Mapping}
 use Rattle.bus_semantics.specs.Plan.{Plan}
-use Rattle.rte_program.specs.declared.status.Status.{Status}
-use Rattle.rte_program.specs.declared.status.Status.TheVariants as status
-use Rattle.rte_program.specs.Commands.{Bytes}
-use Rattle.rte_program.specs.RunCommand.{IsTextOfBeginning, IsTextOfRun}
+use Rattle.commands.specs.declared.status.Status.{Status}
+use Rattle.commands.specs.declared.status.Status.TheVariants as status
+use Rattle.commands.specs.Commands.{Bytes}
+use Rattle.commands.specs.RunCommand.{IsTextOfBeginning, IsTextOfRun}
 
 -- the text of a run was put
 pub record PrintsRun (p : Plan) (m : Mapping) (script : List Line) (before after : Option Bytes) : Type 0 where

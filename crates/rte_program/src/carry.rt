@@ -1,16 +1,15 @@
 //! Carrying out a command.
 
 ghost use Rattle.std.specs.Prelude.{◌≡◌, ◌↔◌, true, IfSome, None};
-ghost use Rattle.rte_program.specs.Carrying.{world, Ends};
-ghost use Rattle.rte_program.specs.Commands.{meant, runs, IsWell};
+ghost use Rattle.commands.specs.Carrying.{world, Ends};
+ghost use Rattle.commands.specs.Commands.{meant, runs, IsWell};
 
 use crate::check::check_named;
-use crate::command::Command;
 use crate::header::header_named;
 use crate::plan::plan_named;
 use crate::run::run_named;
 use crate::soak::soak_named;
-use crate::status::Status;
+use commands::{Command, Status};
 use rte_text::{Gate, Shelf, Sink};
 use std::alloc::Global;
 use std::thread::Threads;

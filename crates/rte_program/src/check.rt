@@ -4,18 +4,14 @@ ghost use Rattle.std.specs.Prelude.{◌≡◌, ◌≤◌, ◌∷◌, ℕ, List, 
 ghost use Rattle.check_definitions.specs.declared.checked.Checked.TheVariants.{Legal};
 ghost use Rattle.bus_semantics.specs.Plan.{plan_of};
 ghost use Rattle.check_definitions.specs.Verdicts.{IsVerdict};
-ghost use Rattle.rte_program.specs.Carrying.{world, CarriesOut, Ends};
-ghost use Rattle.rte_program.specs.Inputs.{AreInputs};
-ghost use Rattle.rte_program.specs.CheckCommand.{IsCheckedAs};
-ghost use Rattle.rte_program.specs.Commands.{check};
-ghost use Rattle.rte_program.specs.Judging.{IsNotLegal, IsRefusedTrace};
+ghost use Rattle.commands.specs.Carrying.{world, CarriesOut, Ends};
+ghost use Rattle.commands.specs.Inputs.{AreInputs};
+ghost use Rattle.commands.specs.CheckCommand.{IsCheckedAs};
+ghost use Rattle.commands.specs.Commands.{check};
+ghost use Rattle.commands.specs.Judging.{IsNotLegal, IsRefusedTrace};
 
-use crate::fetch::fetch_all;
-use crate::judge::{Prepared, judge};
-use crate::report::{put_text, report};
-use crate::status::Status;
-use crate::stop::{Finding, Stop};
 use check_definitions::Checked;
+use commands::{Finding, Prepared, Status, Stop, fetch_all, judge, put_text, report};
 use rte_text::{Shelf, Sink};
 use std::alloc::Global;
 use trace_check::check_trace;

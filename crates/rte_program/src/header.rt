@@ -2,17 +2,13 @@
 
 ghost use Rattle.std.specs.Prelude.{◌≡◌, ◌≤◌, ◌∷◌, ℕ, List, [], length, IfErr, IfOk};
 ghost use Rattle.description_stages.specs.Plans.{IsPlannedOf};
-ghost use Rattle.rte_program.specs.Carrying.{world, CarriesOut, Ends};
-ghost use Rattle.rte_program.specs.Commands.{header};
-ghost use Rattle.rte_program.specs.HeaderCommand.{IsHeaderFinding, SaysHeader};
-ghost use Rattle.rte_program.specs.Judging.{IsFound};
+ghost use Rattle.commands.specs.Carrying.{world, CarriesOut, Ends};
+ghost use Rattle.commands.specs.Commands.{header};
+ghost use Rattle.commands.specs.HeaderCommand.{IsHeaderFinding, SaysHeader};
+ghost use Rattle.commands.specs.Judging.{IsFound};
 
-use crate::fetch::fetch_all;
-use crate::judge::plan_bytes;
-use crate::report::{put_text, report};
-use crate::status::Status;
-use crate::stop::{Finding, Stop};
 use api_header::{HeaderMade, header};
+use commands::{Finding, Status, Stop, fetch_all, plan_bytes, put_text, report};
 use description_stages::PlannedDescription;
 use rte_text::{Shelf, Sink};
 use std::alloc::Global;

@@ -2,14 +2,11 @@
 
 ghost use Rattle.std.specs.Prelude.{◌≡◌, ◌≤◌, ◌⊎◌, ◌∷◌, ℕ, List, [], length};
 ghost use Rattle.plan_text.specs.Lines.{plan_text};
-ghost use Rattle.rte_program.specs.Carrying.{world, CarriesOut, Ends};
-ghost use Rattle.rte_program.specs.Commands.{plan};
-ghost use Rattle.rte_program.specs.Texts.{IsPut, IsUnsaid};
+ghost use Rattle.commands.specs.Carrying.{world, CarriesOut, Ends};
+ghost use Rattle.commands.specs.Commands.{plan};
+ghost use Rattle.commands.specs.Texts.{IsPut, IsUnsaid};
 
-use crate::fetch::fetch_all;
-use crate::judge::plan_bytes;
-use crate::report::report;
-use crate::status::Status;
+use commands::{Status, fetch_all, plan_bytes, report};
 use description_stages::PlannedDescription;
 use plan_text::put_plan;
 use rte_text::{Put, Shelf, Sink};

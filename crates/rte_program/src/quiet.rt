@@ -3,15 +3,12 @@
 ghost use Rattle.std.specs.Prelude.{◌≡◌, ◌≢◌, ◌↔◌, List, ℕ, map, string_bytes, true, IfSome, Some, None};
 ghost use Rattle.rte_text.specs.Counts.{Rose};
 ghost use Rattle.rte_program.specs.Answers.{AnswersUnlessFault, Answers, AreHeld, CutsText, IsOfVerdict, RefusesWords, SaysUnread};
-ghost use Rattle.rte_program.specs.Commands.{ask_to_run, command_of, files_of, Command};
-ghost use Rattle.rte_program.specs.Fetching.{counts_of};
-ghost use Rattle.rte_program.specs.Verdicts.{IsVerdictOn, Verdict};
+ghost use Rattle.commands.specs.Commands.{ask_to_run, command_of, files_of, Command};
+ghost use Rattle.commands.specs.Fetching.{counts_of};
+ghost use Rattle.commands.specs.Verdicts.{IsVerdictOn, Verdict};
 
 use crate::carry::carry_out_quietly;
-use crate::command::command_in;
-use crate::laws::verdicts_are_one;
-use crate::report::put_text;
-use crate::status::Status;
+use commands::{Status, command_in, put_text, verdicts_are_one};
 use rte_text::{Shelf, Sink};
 use std::alloc::Global;
 

@@ -6,18 +6,15 @@ ghost use Rattle.rte_text.specs.Sinks.{AppendsPrefixWhereTold, AppendsWhereTold}
 ghost use Rattle.bus_semantics.specs.Plan.{plan_of};
 ghost use Rattle.core_runtime.specs.Nodes.{IsLawfulNode};
 ghost use Rattle.description_stages.specs.Plans.{IsPlannedOf};
-ghost use Rattle.rte_program.specs.declared.status.Status.TheVariants as status;
-ghost use Rattle.rte_program.specs.Carrying.{world, CarriesOut, Ends};
-ghost use Rattle.rte_program.specs.Commands.{run};
-ghost use Rattle.rte_program.specs.Inputs.{AreInputs};
+ghost use Rattle.commands.specs.declared.status.Status.TheVariants as status;
+ghost use Rattle.commands.specs.Carrying.{world, CarriesOut, Ends};
+ghost use Rattle.commands.specs.Commands.{run};
+ghost use Rattle.commands.specs.Inputs.{AreInputs};
 ghost use Rattle.rte_program.specs.Running.{IsRun};
 ghost use Rattle.script_reading.specs.Reading.{IsScript};
 
-use crate::fetch::fetch_all;
-use crate::judge::{Prepared, judge};
-use crate::report::report;
-use crate::status::Status;
 use bus_semantics::{Script, Version};
+use commands::{Prepared, Status, fetch_all, judge, report};
 use core_runtime::Node;
 use description_stages::PlannedDescription;
 use rte_text::{Gate, Shelf, Sink};

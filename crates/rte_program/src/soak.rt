@@ -2,15 +2,12 @@
 
 ghost use Rattle.std.specs.Prelude.{◌≡◌, ◌⊎◌, ◌++◌, ◌+◌, ◌≤◌, ℕ, [], decimal, length, IfErr, IfOk};
 ghost use Rattle.bus_semantics.specs.Plan.{plan_of};
-ghost use Rattle.rte_program.specs.Carrying.{CarriesOut};
-ghost use Rattle.rte_program.specs.Commands.{soak};
-ghost use Rattle.rte_program.specs.SoakCommand.{summary_text, IsSoaked};
+ghost use Rattle.commands.specs.Carrying.{CarriesOut};
+ghost use Rattle.commands.specs.Commands.{soak};
+ghost use Rattle.commands.specs.SoakCommand.{summary_text, IsSoaked};
 
-use crate::judge::{Prepared, judge};
-use crate::report::put_text;
 use crate::run::run_prepared;
-use crate::status::Status;
-use crate::stop::Stop;
+use commands::{Prepared, Status, Stop, judge, put_text};
 use rte_text::{Gate, LineBuf, Sink};
 use soak_laws::soaks_break_no_rule;
 use soak_maker::make_soak;

@@ -3,15 +3,12 @@
 ghost use Rattle.std.specs.Prelude.{◌≡◌, ◌≢◌, ℕ, List, map, string_bytes, Some, None};
 ghost use Rattle.rte_text.specs.Counts.{Rose};
 ghost use Rattle.rte_program.specs.Answers.{Answers, AnswersUnlessFault, AreHeld, CutsText, EndsForMemory, IsOfVerdict, RefusesWords, SaysUnread};
-ghost use Rattle.rte_program.specs.Commands.{command_of, files_of, Command};
-ghost use Rattle.rte_program.specs.Fetching.{counts_of};
-ghost use Rattle.rte_program.specs.Verdicts.{IsVerdictOn, Verdict};
+ghost use Rattle.commands.specs.Commands.{command_of, files_of, Command};
+ghost use Rattle.commands.specs.Fetching.{counts_of};
+ghost use Rattle.commands.specs.Verdicts.{IsVerdictOn, Verdict};
 
 use crate::carry::carry_out;
-use crate::command::command_in;
-use crate::laws::verdicts_are_one;
-use crate::report::put_text;
-use crate::status::Status;
+use commands::{Status, command_in, put_text, verdicts_are_one};
 use rte_text::{Gate, Shelf, Sink};
 use std::alloc::Global;
 use std::sync::Wait;

@@ -1,7 +1,7 @@
-use Rattle.rte_program.specs.CheckCommand.{IsCheckFinding}
-use Rattle.rte_program.specs.Commands.{check}
-use Rattle.rte_program.proofs.Judging as by
-use Rattle.rte_program.proofs.Lines.{check_short}
+use Rattle.commands.specs.CheckCommand.{IsCheckFinding}
+use Rattle.commands.specs.Commands.{check}
+use Rattle.commands.proofs.Judging as by
+use Rattle.commands.proofs.Lines.{check_short}
 use Rattle.rte_program.proofs.check.check_files.Goals as goal
 
 pub report-requires : goal.report-requires

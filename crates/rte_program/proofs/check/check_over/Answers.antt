@@ -1,4 +1,4 @@
-use Rattle.rte_program.proofs.Numbered.{numbered}
+use Rattle.commands.proofs.Numbered.{numbered}
 use Rattle.rte_program.proofs.check.check_over.Goals as goal
 
 pub check_trace-requires : goal.check_trace-requires

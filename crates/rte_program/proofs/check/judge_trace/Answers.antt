@@ -1,6 +1,6 @@
 use Rattle.std.proofs.Common.{arith}
 use Rattle.declared_names.proofs.Reading.{short_few}
-use Rattle.rte_program.proofs.Judging as by
+use Rattle.commands.proofs.Judging as by
 use Rattle.rte_program.proofs.check.judge_trace.Goals as goal
 
 pub judge-requires : goal.judge-requires

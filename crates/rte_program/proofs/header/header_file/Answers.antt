@@ -1,7 +1,7 @@
 use Rattle.std.proofs.Common.{List, ℕ, subst, sym}
-use Rattle.rte_program.specs.Commands.{header}
-use Rattle.rte_program.specs.HeaderCommand.{IsHeaderFinding, SaysHeader}
-use Rattle.rte_program.proofs.Judging as by
+use Rattle.commands.specs.Commands.{header}
+use Rattle.commands.specs.HeaderCommand.{IsHeaderFinding, SaysHeader}
+use Rattle.commands.proofs.Judging as by
 use Rattle.rte_program.proofs.header.header_file.Goals as goal
 
 pub returns-in-Ok : goal.returns-in-Ok

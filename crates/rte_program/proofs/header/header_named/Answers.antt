@@ -1,7 +1,7 @@
 use Rattle.std.proofs.Common.{ℕ, Global, Vec, map}
-use Rattle.rte_program.specs.Carrying.{world}
-use Rattle.rte_program.specs.Commands.{header}
-use Rattle.rte_program.proofs.Carried as by
+use Rattle.commands.specs.Carrying.{world}
+use Rattle.commands.specs.Commands.{header}
+use Rattle.commands.proofs.Carried as by
 use Rattle.rte_program.proofs.header.header_named.Goals as goal
 
 pub returns-in-Ok-clause-ends : goal.returns-in-Ok-clause-ends

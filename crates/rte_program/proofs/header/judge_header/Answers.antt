@@ -1,8 +1,8 @@
 use Rattle.std.proofs.Common.{arith}
 use Rattle.std.proofs.lemmas.Result.{IfErr-weaker}
 use Rattle.declared_names.proofs.Reading.{short_few}
-use Rattle.rte_program.specs.HeaderCommand.{IsHeaderFinding}
-use Rattle.rte_program.specs.Judging.{IsFound}
+use Rattle.commands.specs.HeaderCommand.{IsHeaderFinding}
+use Rattle.commands.specs.Judging.{IsFound}
 use Rattle.rte_program.proofs.header.judge_header.Goals as goal
 
 pub plan_bytes-requires : goal.plan_bytes-requires

@@ -1,8 +1,8 @@
 use Rattle.std.proofs.Common.{arith}
 use Rattle.declared_names.proofs.Reading.{short_few}
-use Rattle.rte_program.specs.Commands.{plan}
-use Rattle.rte_program.specs.PlanCommand.{IsPlanFinding}
-use Rattle.rte_program.proofs.Judging as by
+use Rattle.commands.specs.Commands.{plan}
+use Rattle.commands.specs.PlanCommand.{IsPlanFinding}
+use Rattle.commands.proofs.Judging as by
 use Rattle.rte_program.proofs.plan.plan_file.Goals as goal
 
 pub plan_bytes-requires : goal.plan_bytes-requires

@@ -1,7 +1,7 @@
 use Rattle.std.proofs.Common.{ap, map, option_map, string_bytes, sym, ◌∙◌}
 use Rattle.std.proofs.lemmas.Option.{IfSome_then}
-use Rattle.rte_program.specs.Carrying.{world}
-use Rattle.rte_program.specs.Commands.{meant}
+use Rattle.commands.specs.Carrying.{world}
+use Rattle.commands.specs.Commands.{meant}
 use Rattle.rte_program.proofs.Coming.{comes}
 use Rattle.rte_program.proofs.Ending as by
 use Rattle.rte_program.proofs.quiet.rte_quiet.Goals as goal

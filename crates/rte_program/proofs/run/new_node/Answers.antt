@@ -1,4 +1,4 @@
-use Rattle.rte_program.proofs.Numbered.{numbered}
+use Rattle.commands.proofs.Numbered.{numbered}
 use Rattle.rte_program.proofs.run.new_node.Goals as goal
 
 pub new-requires-clause-sound : goal.new-requires-clause-sound

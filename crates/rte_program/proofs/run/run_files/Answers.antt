@@ -1,8 +1,8 @@
 use Rattle.std.proofs.Common.{arith}
 use Rattle.declared_names.proofs.Reading.{short_few}
-use Rattle.rte_program.specs.Commands.{run}
-use Rattle.rte_program.specs.RunCommand.{IsRunFinding}
-use Rattle.rte_program.proofs.Judging as by
+use Rattle.commands.specs.Commands.{run}
+use Rattle.commands.specs.RunCommand.{IsRunFinding}
+use Rattle.commands.proofs.Judging as by
 use Rattle.rte_program.proofs.Ran.{carried}
 use Rattle.rte_program.proofs.run.run_files.Goals as goal
 

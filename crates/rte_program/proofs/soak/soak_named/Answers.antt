@@ -2,7 +2,7 @@ use Rattle.std.proofs.Common.{◌≡◌, List, ℕ, [], Some, ap, subst, ◌∙�
 use Rattle.bus_semantics.specs.Plan.{plan_of}
 use Rattle.trace_counts.specs.Tallies.{numbers_in}
 use Rattle.rte_program.specs.Running.{PrintsRun}
-use Rattle.rte_program.specs.SoakCommand.{summary_text}
+use Rattle.commands.specs.SoakCommand.{summary_text}
 use Rattle.rte_program.proofs.Soaks as by
 use Rattle.rte_program.proofs.soak.soak_named.Goals as goal
 

@@ -1,0 +1,9 @@
+pub mod Words
+pub mod Fetched
+pub mod Puts
+pub mod Carried
+pub mod Judging
+pub mod Lines
+pub mod Numbered
+pub mod Scripts
+pub mod OneVerdict

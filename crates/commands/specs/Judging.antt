@@ -1,0 +1,54 @@
+-- Why the bytes of files are not run: what is found of them, or want of memory, which says nothing of them.
+use Rattle.std.specs.Prelude.{◌≡◌, ◌≢◌, List, [], Some}
+use Rattle.bus_semantics.specs.declared.script.Line.{Line}
+use Rattle.bus_semantics.specs.declared.script.Mapping.{Mapping}
+use Rattle.bus_semantics.specs.Plan.{Plan}
+use Rattle.check_definitions.specs.declared.checked.Checked.TheVariants.{Legal}
+use Rattle.check_definitions.specs.Verdicts.{IsVerdict}
+use Rattle.line_fields.specs.Texts.{lines_of}
+use Rattle.script_reading.specs.Reading.{first_bad}
+use Rattle.commands.specs.declared.stop.Finding.{Finding}
+use Rattle.commands.specs.declared.stop.Finding.TheVariants as finding
+use Rattle.commands.specs.declared.stop.Stop.{Stop}
+use Rattle.commands.specs.declared.stop.Stop.TheVariants as stop
+use Rattle.commands.specs.Commands.{Bytes}
+use Rattle.commands.specs.CheckCommand.{IsCheckFinding}
+use Rattle.commands.specs.PlanCommand.{IsPlanFinding}
+use Rattle.commands.specs.RunCommand.{IsRunFinding}
+
+abbrev pub IsFound : (Finding → Type 0) → Stop → Type 0
+IsFound finds (stop.Found finding) = finds finding
+IsFound finds stop.Memory = Unit {0}
+IsFound finds stop.Words = ⊥
+IsFound finds (stop.NotRead place) = ⊥
+
+abbrev pub IsNotPlanned : (description : Bytes) → Stop → Type 0
+IsNotPlanned d why = IsFound (IsPlanFinding d) why
+
+abbrev pub IsNotRun : (description : Bytes) → (script : Bytes) → Stop → Type 0
+IsNotRun d s why = IsFound (IsRunFinding d s) why
+
+-- of a script alone, over a plan
+abbrev pub IsBadLine : Plan → (script : Bytes) → Finding → Type 0
+IsBadLine p s (finding.Script line cause) = first_bad p [] (lines_of s) ≡ Some (line, cause)
+IsBadLine p s (finding.Refused refusal) = ⊥
+IsBadLine p s (finding.Trace checked) = ⊥
+IsBadLine p s finding.NoComponent = ⊥
+IsBadLine p s (finding.Clash name) = ⊥
+
+abbrev pub IsBadScript : Plan → (script : Bytes) → Stop → Type 0
+IsBadScript p s why = IsFound (IsBadLine p s) why
+
+-- of a trace alone, over a plan, a mapping and a script
+abbrev pub IsNoTrace : Plan → Mapping → List Line → (trace : Bytes) → Finding → Type 0
+IsNoTrace p m lines t (finding.Trace checked) = (checked ≢ Legal) × IsVerdict p m lines t checked
+IsNoTrace p m lines t (finding.Refused refusal) = ⊥
+IsNoTrace p m lines t (finding.Script line cause) = ⊥
+IsNoTrace p m lines t finding.NoComponent = ⊥
+IsNoTrace p m lines t (finding.Clash name) = ⊥
+
+abbrev pub IsRefusedTrace : Plan → Mapping → List Line → (trace : Bytes) → Stop → Type 0
+IsRefusedTrace p m lines t why = IsFound (IsNoTrace p m lines t) why
+
+abbrev pub IsNotLegal : (description : Bytes) → (trace : Bytes) → (script : Bytes) → Stop → Type 0
+IsNotLegal d t s why = IsFound (IsCheckFinding d t s) why

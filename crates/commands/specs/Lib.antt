@@ -1,0 +1,12 @@
+pub mod Commands
+pub mod Inputs
+pub mod Texts
+pub mod RunCommand
+pub mod PlanCommand
+pub mod HeaderCommand
+pub mod CheckCommand
+pub mod SoakCommand
+pub mod Verdicts
+pub mod Fetching
+pub mod Judging
+pub mod Carrying

@@ -1,0 +1,21 @@
+//! A law of verdicts.
+
+ghost use Rattle.std.specs.Prelude.{◌≡◌, ℕ, List};
+ghost use Rattle.commands.specs.Commands.{Command};
+ghost use Rattle.commands.specs.Verdicts.{IsVerdictOn, Verdict};
+
+use check_laws::traces_have_one_verdict;
+use plan_laws::{
+    headers_are_one, no_refused_description_has_a_plan, plans_are_one, refusals_are_one,
+};
+
+/// Of a command there is at most one verdict on the same files.
+pub fn verdicts_are_one()
+    ensures { (command : Command) (files : List (List ℕ)) (v w : Verdict) → IsVerdictOn command files v → IsVerdictOn command files w → v ≡ w }
+{
+    plans_are_one();
+    headers_are_one();
+    refusals_are_one();
+    no_refused_description_has_a_plan();
+    traces_have_one_verdict();
+}
