@@ -6,6 +6,9 @@
 #
 # and then: tools/dev/evidence.sh gate.log >evidence.md && mv evidence.md docs/EVIDENCE.md
 #
+# Where the log is of a run that found much kept from earlier runs, the log of the last run from nothing may stand behind it, with the
+# commit of that run: tools/dev/evidence.sh gate.log whole.log COMMIT. The page then says of that run, too.
+#
 # The log has to have the line 'N passed, 0 failed' of a run with no names, and its time: the minutes before the last line of rt,
 # or the line 'real XmYs'. What the gate read must be committed. The hash is that of the program that `./rte run` built, if it
 # is of this commit. The status is 0, 1 if the log or the tree is not as it should be, and 2 without a log.
@@ -21,24 +24,40 @@ fail() {
 
 case $#,${1-} in
 1,-h | 1,--help) sed -n '2,/^set /s/^# \{0,1\}//p' -- "${BASH_SOURCE[0]}"; exit 0 ;;
-1,*) log=$1 ;;
+1,*) log=$1 whole='' ;;
+3,*) log=$1 whole=$2 whole_commit=$3 ;;
 *)
-    echo 'usage: tools/dev/evidence.sh LOG, the log of a whole run of the gate; --help says how it is made' >&2
+    echo 'usage: tools/dev/evidence.sh LOG [WHOLE_LOG COMMIT], logs of whole runs of the gate; --help says how they are made' >&2
     exit 2 ;;
 esac
 
 # ---- what the log says
 
-[ -f "$log" ] && [ -r "$log" ] || fail "cannot read $log"
-result=$(grep -E '^[0-9]+ passed, [0-9]+ failed' -- "$log" | tail -n 1) || fail "no line 'N passed, M failed' in $log"
-[[ $result =~ ^([0-9]+)\ passed,\ 0\ failed$ ]] || fail "this is no whole run that passed: $result"
-passed=${BASH_REMATCH[1]}
-time=$(grep -E '^real[[:space:]]+[0-9]+m|^ *[0-9]+\.[0-9]+ rt: ' -- "$log" | tail -n 1) || fail "$log tells no time"
-if [[ $time =~ ^real[[:space:]]+([0-9]+)m([0-9]+) ]]; then
-    minutes=$(((10#${BASH_REMATCH[1]} * 60 + 10#${BASH_REMATCH[2]} + 30) / 60))
-else
-    minutes=$(awk '{ printf "%.0f", $1 }' <<<"$time")
+# What the log of a whole run says: how many passed, in how many minutes.
+read_log() {
+    local result time
+    [ -f "$1" ] && [ -r "$1" ] || fail "cannot read $1"
+    result=$(grep -E '^[0-9]+ passed, [0-9]+ failed' -- "$1" | tail -n 1) || fail "no line 'N passed, M failed' in $1"
+    [[ $result =~ ^([0-9]+)\ passed,\ 0\ failed$ ]] || fail "this is no whole run that passed: $result"
+    passed=${BASH_REMATCH[1]}
+    time=$(grep -E '^real[[:space:]]+[0-9]+m|^ *[0-9]+\.[0-9]+ rt: ' -- "$1" | tail -n 1) || fail "$1 tells no time"
+    if [[ $time =~ ^real[[:space:]]+([0-9]+)m([0-9]+) ]]; then
+        minutes=$(((10#${BASH_REMATCH[1]} * 60 + 10#${BASH_REMATCH[2]} + 30) / 60))
+    else
+        minutes=$(awk '{ printf "%.0f", $1 }' <<<"$time")
+    fi
+}
+
+from_nothing=''
+if [ -n "$whole" ]; then
+    read_log "$whole"
+    git -C "$top" merge-base --is-ancestor "$whole_commit" HEAD || fail "$whole_commit is no commit before this one"
+    grep -q 'every proof and must-fail edit was done in this run' -- "$whole" || fail "$whole is of no run from nothing"
+    from_nothing="
+| The last run from nothing | commit \`$(git -C "$top" rev-parse --short=8 "$whole_commit")\`: \`$passed passed, 0 failed\` in $minutes min |"
 fi
+read_log "$log"
+result="$passed passed, 0 failed"
 done_in_run=$(sed -nE 's/^( *[0-9.]+ )?rt: ok; //p' -- "$log" | tail -n 1)
 
 # ---- what was tried, and where
@@ -143,7 +162,7 @@ What the last whole run of the gate said. \`tools/dev/evidence.sh\` wrote this p
 | Toolchain | \`$(rt version)\` |
 | Result | \`$result\` |
 | Done in this run | ${done_in_run:-not told} |
-| Time | $minutes min |
+| Time | $minutes min |$from_nothing
 | Machine | $(nproc) processors ($processor), $memory GB of memory |
 | Program | $hash |
 
