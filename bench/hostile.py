@@ -11,8 +11,8 @@ has of 8 MiB, and what any run may take besides, 0.1 seconds and 32 MiB. A case 
 file four times as large, up to 8 MiB. So a walk that is quadratic, and would take half a minute or more with 8 MiB, is seen at once with
 `--mebibytes 0.25`, which takes some seconds.
 
-What is known to take more than it may with 8 MiB is said to be known, and why. It does not fail; but once it takes no more, that fails,
-so that it is no longer called known.
+Of some cases it is known that they take more than they may with 8 MiB. That is said of each, and why. They fail with files of 8 MiB, and
+with smaller ones they do not. One that takes no more than it may with 8 MiB fails too, so that it is no longer called known.
 
 The program is the one that the variable RTE names, or the one that was built. The status is 0 if no case takes more than it may, 1 if one
 does, and 2 if they cannot be run here.
@@ -105,6 +105,13 @@ def show(case, took, remark):
     print(f"{name:18} {took.mebibytes:5.2f} MiB {took.seconds:6.2f} s {took.memory:7.0f} MiB  {said}{remark}", flush=True)
 
 
+def remark_on_known(known, mebibytes, much):
+    """What is said of a case of which it is known that it takes more than it may with 8 MiB."""
+    if mebibytes < WHOLE:
+        return f"  known to take too much with {WHOLE} MiB: {known}"
+    return f"  TOO MUCH, as is known: {known}" if much else "  NO LONGER TO BE CALLED KNOWN"
+
+
 def is_wrong(program, case, mebibytes, folder):
     """Runs a case, shows it, and says whether it is not as it should be."""
     known = KNOWN.get(case.__name__)
@@ -112,9 +119,8 @@ def is_wrong(program, case, mebibytes, folder):
         took = measured(program, case, mebibytes, folder)
         much = takes_too_much(took)
         if known is not None:
-            mended = mebibytes == WHOLE and not much
-            show(case, took, "  NO LONGER TO BE CALLED KNOWN" if mended else f"  known to take too much with {WHOLE} MiB: {known}")
-            return mended
+            show(case, took, remark_on_known(known, mebibytes, much))
+            return mebibytes == WHOLE
         show(case, took, "  TOO MUCH" if much else "")
         if much or mebibytes >= WHOLE or not is_to_be_tried_larger(took):
             return much

@@ -67,6 +67,14 @@ class Hostile(WithFolder):
         self.assertEqual(status, 0)
         self.assertIn("  known to take too much with 8 MiB: ", lines[1])
 
+    def test_what_is_known_fails_with_eight_mebibytes(self) -> None:
+        for text, remark in (("#!/bin/sh\nexit 7\n", "  TOO MUCH, as is known: "), ("#!/bin/sh\n", "  NO LONGER TO BE CALLED KNOWN")):
+            with self.subTest(text):
+                status, lines = tried("--program", self.slow(text), "objects")
+                self.assertEqual(status, 1)
+                self.assertIn(remark, lines[1])
+                self.assertEqual(lines[-1], "1 cases, 1 not as they should be: objects")
+
     def test_no_program_no_case_and_no_size_are_status_2(self) -> None:
         for words in (["--program", str(self.folder / "nothing")], ["nothing"], ["--mebibytes", "9"], ["--mebibytes", "0"]):
             with self.subTest(words):
