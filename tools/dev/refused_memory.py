@@ -4,7 +4,8 @@
     tools/dev/refused_memory.py [--run NAME] [--call CALL] [--most N]
 
 A library that stands before the C library (tools/dev/refuse.c, built here by `cc` or the compiler that CC names) counts the calls of
-a run and refuses one. Numbers go up from 1 to the first at which nothing was refused: then each call of the run was refused once.
+a run and refuses one. Numbers go up from 1 until nothing is refused at eight in a row: then each call of the run was refused once. (One is
+enough where no threads run. Where cores are on threads, a run makes a few calls more or fewer than another.)
 What is refused is an allocation, an open, a read or a write; of a `short_read` and a `short_write` one byte is read or written.
 
 A run without memory has to end with status 7, one that cannot read with 3, one that cannot write with 4. A run that manages without
@@ -32,6 +33,7 @@ TOP = Path(__file__).resolve().parents[2]
 BUILT = TOP / "crates" / "rte" / "out" / "rte"
 DATA = TOP / "crates" / "worked_rows" / "data"
 LONGEST = 60  # seconds that a run may take
+PAST = 8  # so many numbers in a row at which nothing is refused are past the last call
 DONE, NOT_READ, NOT_WRITTEN, TRACE_REFUSED, MEMORY = 0, 3, 4, 6, 7
 CALLS = {"allocation": MEMORY, "open": NOT_READ, "read": NOT_READ, "write": NOT_WRITTEN, "short_read": DONE, "short_write": DONE}
 
@@ -77,6 +79,7 @@ RUNS = (
     run_of("three cores with everything", "examples/door_control", several=True),
     Run("`soak 1`", ("soak", "1")),
     Run("a plan", ("plan", str(DATA / "examples/door_control/description.json"))),
+    Run("a header", ("header", str(DATA / "examples/door_control/description.json"), "Latch")),
     check_of("a check", "examples/door_control"),
     run_of("a refused description", "rows/many_to_many"),
     run_of("a refused script", "rows/script_tick_zero"),
@@ -143,10 +146,14 @@ def try_run(program: Program, run: Run, call: str, most: int) -> tuple[Counter[i
     usual = program.run(run.words)
     statuses: Counter[int] = Counter()
     found = []
+    past = 0
     for number in range(1, most + 1):
         ended = program.run(run.words, call, number)
-        if not ended.refused:
+        past = 0 if ended.refused else past + 1
+        if past == PAST:
             break
+        if past:
+            continue
         statuses[ended.status] += 1
         if said := wrong(program, run, call, ended, usual):
             found.append(f"{run.name}, {call} {number}: {said}")
