@@ -1,6 +1,6 @@
 /* A library that stands before the C library (LD_PRELOAD) and refuses one call of a program. tools/dev/refused_memory.py builds it.
 
-   REFUSE_CALL    which calls are counted: allocation, open, read, write; or short_read, short_write, which are not refused but
+   REFUSE_CALL    which calls are counted: allocation, open, read, write, thread; or short_read, short_write, which are not refused but
                   answered with one byte
    REFUSE_NUMBER  the number of the one that is refused, from 1
    REFUSE_MARK    the descriptor of a file into which a byte is written when it is
@@ -8,8 +8,10 @@
    The calls of all threads are counted together. */
 
 #define _GNU_SOURCE
+#include <dlfcn.h>
 #include <errno.h>
 #include <fcntl.h>
+#include <pthread.h>
 #include <stdarg.h>
 #include <stdatomic.h>
 #include <stdlib.h>
@@ -22,6 +24,12 @@ extern void *__libc_malloc(size_t size);
 extern void *__libc_calloc(size_t count, size_t size);
 extern void *__libc_realloc(void *old, size_t size);
 
+typedef void *body(void *);
+typedef int creating(pthread_t *thread, const pthread_attr_t *how, body *run, void *with);
+
+/* Of threads it has no such name: it is looked up before anything is counted. */
+static creating *create;
+
 static atomic_long made;
 static long refused_number;
 static int mark = -1;
@@ -32,6 +40,7 @@ __attribute__((constructor)) static void begin(void)
     const char *call = getenv("REFUSE_CALL");
     const char *number = getenv("REFUSE_NUMBER");
     const char *file = getenv("REFUSE_MARK");
+    create = (creating *)dlsym(RTLD_NEXT, "pthread_create");
     if (call && number && file) {
         refused_call = call;
         refused_number = atol(number);
@@ -95,4 +104,9 @@ ssize_t write(int file, const void *from, size_t size)
     if (is_refused("write"))
         return failed();
     return syscall(SYS_write, file, from, size > 1 && is_refused("short_write") ? 1 : size);
+}
+
+int pthread_create(pthread_t *thread, const pthread_attr_t *how, body *run, void *with)
+{
+    return is_refused("thread") ? EAGAIN : create(thread, how, run, with);
 }

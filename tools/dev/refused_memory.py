@@ -1,16 +1,16 @@
 #!/usr/bin/env python3
-"""Refuses memory to the program, and reading and writing: one call after the other, a run for each.
+"""Refuses memory to the program, reading, writing and threads: one call after the other, a run for each.
 
     tools/dev/refused_memory.py [--run NAME] [--call CALL] [--most N]
 
 A library that stands before the C library (tools/dev/refuse.c, built here by `cc` or the compiler that CC names) counts the calls of
-a run and refuses one. Numbers go up from 1 until nothing is refused at eight in a row: then each call of the run was refused once. (One is
-enough where no threads run. Where cores are on threads, a run makes a few calls more or fewer than another.)
-What is refused is an allocation, an open, a read or a write; of a `short_read` and a `short_write` one byte is read or written.
+a run and refuses one. Numbers go up from 1 until nothing is refused at eight in a row: then each call of the run was refused once. (One
+would be enough if no threads ran. If cores are on threads, a run makes a few calls more or fewer than another.) What is refused is an
+allocation, an open, a read, a write or a thread; of a `short_read` and a `short_write` one byte is read or written.
 
-A run without memory has to end with status 7, one that cannot read with 3, one that cannot write with 4. A run that manages without
-has to end as it does when nothing is refused. What it printed has to be the beginning of the whole text, or all of it. Where the cores of
-a node may take their turns in several orders, `check` says whether it is.
+A run without memory has to end with status 7, one that cannot read with 3, one that cannot write with 4. A run that manages without, as
+one has to that gets no thread, has to end as it does when nothing is refused. What it printed has to be the beginning of the whole text,
+or all of it. Where the cores of a node may take their turns in several orders, `check` says whether it is.
 
 The program is the one that the variable RTE names, or the one that was built. What is wrong is printed, and then a table of how many
 calls were refused.
@@ -35,7 +35,9 @@ DATA = TOP / "crates" / "worked_rows" / "data"
 LONGEST = 60  # seconds that a run may take
 PAST = 8  # so many numbers in a row at which nothing is refused are past the last call
 DONE, NOT_READ, NOT_WRITTEN, TRACE_REFUSED, MEMORY = 0, 3, 4, 6, 7
-CALLS = {"allocation": MEMORY, "open": NOT_READ, "read": NOT_READ, "write": NOT_WRITTEN, "short_read": DONE, "short_write": DONE}
+CALLS = {
+    "allocation": MEMORY, "open": NOT_READ, "read": NOT_READ, "write": NOT_WRITTEN, "thread": DONE, "short_read": DONE, "short_write": DONE,
+}  # fmt: skip
 
 
 @dataclass(frozen=True)

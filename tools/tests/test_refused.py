@@ -1,4 +1,4 @@
-"""Refused memory, reading and writing: what the tool says of the program, and of programs that lose or break something."""
+"""Refused memory, reading, writing and threads: what the tool says of the program, and of programs that lose or break something."""
 
 from __future__ import annotations
 
@@ -53,6 +53,12 @@ class Refused(WithFolder):
             with self.subTest(call):
                 status, text = self.tried(program(), call)
                 self.assertEqual((status, text.splitlines()[2:]), (0, [f"| a first path | {cell} |"]))
+
+    @unittest.skipUnless(program(), "the program is not built")
+    def test_cores_without_a_thread_lose_nothing(self) -> None:
+        ended = run_tool(TOOL, "--program", program(), "--run", "two cores at once", "--call", "thread")
+        self.assertEqual(ended.returncode, 0)
+        self.assertRegex(ended.stdout.decode().splitlines()[2], r"^\| two cores at once \| [1-9]\d* with 0 \|$")
 
     def test_a_crash_is_found(self) -> None:
         status, text = self.tried(self.compiled(CRASHES), "allocation")
