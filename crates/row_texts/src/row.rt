@@ -84,6 +84,11 @@ pub enum Row<'a> {
         room: u64,
         words: &'a str,
     },
+    /// `check FOLDER TEXT` has this text for a trace, and shows what `check` says of it.
+    Check {
+        folder: &'a str,
+        text: &'a str,
+    },
     /// `text TEXT` has this text for the description, and an empty script.
     Text(&'a str),
     /// `lines FOLDER VERSION TEXT` shows what each line of the text is read as in a trace of the version, 1 or 2, over the plan of the
@@ -178,6 +183,7 @@ fn row_in<'a>(kind: &str, folder: &'a str, text: &'a str) -> Option<Row<'a>> {
         }),
         "script" => Some(Row::Script { folder, text }),
         "count" => Some(Row::Count { folder, text }),
+        "check" => Some(Row::Check { folder, text }),
         "passes" => Some(Row::Passes { folder, text }),
         "together" => Some(Row::Together { folder, text }),
         "last" => last(folder, text),

@@ -3,7 +3,7 @@
 ghost use Rattle.std.specs.Prelude.{◌≤◌, IfOk, length};
 
 use crate::runs::{
-    Answer, Case, DESCRIPTION, Failing, SCRIPT, pass_alone, plan, run, run_and_check_often,
+    Answer, Case, DESCRIPTION, Failing, SCRIPT, check, pass_alone, plan, run, run_and_check_often,
     run_and_check_repeated, run_counted, run_together, tell_failing, words_of,
 };
 use bus_semantics::Version;
@@ -215,6 +215,26 @@ fn fail<R: Files + AllocGlobal + Clone + Drop + Threads + Wait + Sync>(
     tell_failing(rt, words, &case, failing)
 }
 
+/// Checks a trace of these bytes against the folder's description and script.
+fn check_bytes<R: Files + AllocGlobal + Clone + Drop + Threads + Wait + Sync>(
+    rt: &R,
+    folder: &str,
+    trace: &[u8],
+) -> Result<Answer, Fault> {
+    let case = own(rt, folder)?;
+    check(rt, &case, trace)
+}
+
+/// The same of a trace of this text.
+fn check_text<R: Files + AllocGlobal + Clone + Drop + Threads + Wait + Sync>(
+    rt: &R,
+    folder: &str,
+    text: &str,
+) -> Result<Answer, Fault> {
+    let trace = expanded(rt.alloc(), text, HashSign::Number)?;
+    check_bytes(rt, folder, trace.as_slice())
+}
+
 /// Runs an empty script on the description of this text.
 fn run_text<R: AllocGlobal + Threads + Wait + Sync>(rt: &R, text: &str) -> Result<Answer, Fault> {
     let description = expanded(rt.alloc(), text, HashSign::Number)?;
@@ -282,6 +302,7 @@ pub fn carry_out<R: Files + Print + AllocGlobal + Clone + Drop + Threads + Wait 
             room,
             words,
         } => fail(rt, folder, failing(rt, fetches, puts, room)?, words),
+        Row::Check { folder, text } => check_text(rt, folder, text),
         Row::Text(text) => run_text(rt, text),
         Row::Lines {
             folder,

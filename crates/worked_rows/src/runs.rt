@@ -172,7 +172,7 @@ pub fn run<R: AllocGlobal + Threads + Wait + Sync>(rt: &R, case: &Case) -> Resul
 }
 
 /// Checks the trace.
-fn check<R: AllocGlobal + Threads + Wait + Sync>(
+pub fn check<R: AllocGlobal + Threads + Wait + Sync>(
     rt: &R,
     case: &Case,
     trace: &[u8],
