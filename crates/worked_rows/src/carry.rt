@@ -35,17 +35,26 @@ fn file<R: Files + AllocGlobal + Clone + Drop>(
     }
 }
 
+/// Carries out the words over the real files and standard output.
+fn status_of<R: Files + Print + AllocGlobal + Clone + Drop + Threads + Wait + Sync>(
+    rt: &R,
+    words: &[String],
+) -> Result<Status, AllocError> {
+    let mut shelf = FileShelf::new(rt.clone()?);
+    let mut out = StdSink::new(rt.clone()?);
+    Ok(rte_top(rt, rt.alloc(), words, &mut shelf, &mut out, &OpenGate))
+}
+
 /// Carries out the words over the real files and standard output, to which all goes that is told.
 fn run_words<R: Files + Print + AllocGlobal + Clone + Drop + Threads + Wait + Sync>(
     rt: &R,
     words: &str,
 ) -> Result<Answer, Fault> {
-    let alloc = rt.alloc();
-    let words = words_of(alloc, words)?;
-    let mut shelf = FileShelf::new(rt.clone()?);
-    let mut out = StdSink::new(rt.clone()?);
-    let status = rte_top(rt, alloc, words.as_slice(), &mut shelf, &mut out, &OpenGate);
-    let text = Vec::new(alloc);
+    let words = words_of(rt.alloc(), words)?;
+    let status = status_of(rt, words.as_slice());
+    drop(words);
+    let status = status?;
+    let text = Vec::new(rt.alloc());
     Ok(Answer { text, status })
 }
 
@@ -208,11 +217,16 @@ fn failing<R: AllocGlobal>(rt: &R, fetches: &str, puts: &str, room: u64) -> Resu
 fn fail<R: Files + AllocGlobal + Clone + Drop + Threads + Wait + Sync>(
     rt: &R,
     folder: &str,
-    failing: Failing,
+    fetches: &str,
+    puts: &str,
+    room: u64,
     words: &str,
 ) -> Result<Answer, Fault> {
     let case = own(rt, folder)?;
-    tell_failing(rt, words, &case, failing)
+    match failing(rt, fetches, puts, room) {
+        Ok(failing) => tell_failing(rt, words, &case, failing),
+        Err(fault) => Err(fault),
+    }
 }
 
 /// Checks a trace of these bytes against the folder's description and script.
@@ -301,7 +315,7 @@ pub fn carry_out<R: Files + Print + AllocGlobal + Clone + Drop + Threads + Wait 
             puts,
             room,
             words,
-        } => fail(rt, folder, failing(rt, fetches, puts, room)?, words),
+        } => fail(rt, folder, fetches, puts, room, words),
         Row::Check { folder, text } => check_text(rt, folder, text),
         Row::Text(text) => run_text(rt, text),
         Row::Lines {

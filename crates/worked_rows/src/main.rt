@@ -21,8 +21,16 @@ fn answer_line<R: Files + Print + AllocGlobal + Clone + Drop + Threads + Wait + 
     rt: &R,
     line: &str,
 ) -> Result<Answer, Fault> {
-    let row = Row::read(line).ok_or(Fault::NoRow)?;
-    carry_out(rt, row)
+    match Row::read(line) {
+        Some(row) => carry_out(rt, row),
+        None => Err(Fault::NoRow),
+    }
+}
+
+/// Prints what a row tells and its status.
+fn print_answer<R: Print>(rt: &R, answer: &Answer) -> io::Result<()> {
+    io::writer(rt).write_all(answer.text.as_slice())?;
+    println!(rt; "status {}", answer.status as u8)
 }
 
 /// Prints a row, what it tells and its status, or why it was not carried out.
@@ -33,8 +41,9 @@ fn print_row<R: Files + Print + AllocGlobal + Clone + Drop + Threads + Wait + Sy
     println!(rt; "$ {line}")?;
     match answer_line(rt, line) {
         Ok(answer) => {
-            io::writer(rt).write_all(answer.text.as_slice())?;
-            println!(rt; "status {}", answer.status as u8)
+            let printed = print_answer(rt, &answer);
+            drop(answer);
+            printed
         }
         Err(fault) => println!(rt; "{fault}"),
     }
