@@ -1,18 +1,20 @@
 -- What an activation of a runnable may ask after a trail, and what is kept in its state.
-use Rattle.std.proofs.Common.{◌≡◌, ℕ, ◌≤◌, ℤ, Bool, true, ◌&&◌, ◌||◌, not, if◌then◌else◌, List, [], ◌∷◌, length, Some, is_some}
+use Rattle.std.proofs.Common.{◌≡◌, ℕ, ◌≤◌, ℤ, Bool, true, false, ◌&&◌, ◌||◌, not, if◌then◌else◌, List, [], ◌∷◌, length, Some, is_some}
 use Rattle.std.specs.Prelude.{nat_lt}
 use Rattle.std.specs.List.{list_all, list_any}
 use Rattle.runnable_lang.specs.declared.program.AccessKind.TheVariants as kind
 use Rattle.runnable_lang.specs.declared.program.AccessSig.{AccessSig}
 use Rattle.bus_semantics.specs.declared.entries.Deed.{Deed}
 use Rattle.bus_semantics.specs.Plan.{Plan, Runnable, disabling_of}
-use Rattle.bus_semantics.specs.Wanted.{Wanted, to_tick, to_start, to_admit, to_fetch, to_write, to_read, to_invalidate, to_see_updated, to_send, to_receive, to_ask, to_hear, to_take_result, to_return, to_enter, to_leave, to_switch, to_see_mode, to_move_on, to_publish, to_end}
+use Rattle.bus_semantics.specs.Wanted.{Wanted, to_tick, to_start, to_admit, to_fetch, to_write, to_read, to_invalidate, to_see_updated, to_send, to_receive, to_ask, to_hear, to_take_result, to_return, to_enter, to_leave, to_switch, to_see_mode, to_move_on, to_publish, to_fetch_all, to_publish_all, to_end}
+use Rattle.bus_semantics.specs.Lists.{elems_of, marked, marks_fit, list_fits}
 use Rattle.bus_semantics.specs.Owners.{elem_fits, is_writable, is_readable, is_unqueued, is_queued, own_point, result_point, area_fits, switch_fits, mode_port_fits}
 use Rattle.bus_semantics.specs.State.{State, same_kind, found_under, code_in}
 use Rattle.bus_semantics.specs.Activations.{arguments_of}
 use Rattle.bus_semantics.specs.SoundElements.{argument_limits}
+use Rattle.bus_semantics.specs.SoundLists.{list_sound}
 use Rattle.activation_laws.specs.OpenAreas.{innermost}
-use Rattle.activation_laws.specs.Given.{are_within, elem_takes, point_gets}
+use Rattle.activation_laws.specs.Given.{are_within, elem_takes, elems_take, point_gets}
 use Rattle.activation_laws.specs.Wishes.{is_awaited}
 use Rattle.activation_laws.proofs.Trails.{Trail, open_of, returns_of}
 
@@ -37,6 +39,10 @@ returns_wanted r = if is_some r.server then 1 else 0
 abbrev pub IsWritten : Plan → Runnable → ℕ → List ℤ → Type 0
 IsWritten p r x ws = (elem_fits p (Some r.instance) is_writable x ≡ true) × (elem_takes p x ws ≡ true)
 
+-- a list of the runnable, of reads or of writes
+abbrev pub IsListed : Plan → (i : ℕ) → Runnable → (reads : Bool) → ℕ → Type 0
+IsListed p i r reads l = (list_fits p i reads l ≡ true) × (list_sound p i r l ≡ true)
+
 abbrev pub MayAsk : (p : Plan) (i : ℕ) (r : Runnable) (event : ℕ) → Trail → Wanted → Type 0
 MayAsk p i r event t to_tick = ⊥
 MayAsk p i r event t (to_start e) = ⊥
@@ -58,6 +64,8 @@ MayAsk p i r event t (to_switch m mode) = (returns_of t ≡ 0) × (switch_fits p
 MayAsk p i r event t (to_see_mode port) = (returns_of t ≡ 0) × (mode_port_fits p (Some r.instance) port ≡ true)
 MayAsk p i r event t to_move_on = ⊥
 MayAsk p i r event t (to_publish x ws) = (returns_of t ≡ 0) × (open_of t ≡ []) × IsWritten p r x ws
+MayAsk p i r event t (to_fetch_all l) = (returns_of t ≡ 0) × IsListed p i r true l
+MayAsk p i r event t (to_publish_all l written ws) = (returns_of t ≡ 0) × (open_of t ≡ []) × IsListed p i r false l × (marks_fit written (elems_of p l) ≡ true) × (elems_take p (marked written (elems_of p l)) ws ≡ true)
 MayAsk p i r event t (to_end e) = (returns_of t ≡ returns_wanted r) × (open_of t ≡ []) × (e ≡ event)
 
 -- there is a variable for each argument, and what was written implicitly may be published

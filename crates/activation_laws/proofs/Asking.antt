@@ -12,7 +12,7 @@ use Rattle.bus_semantics.specs.declared.entries.Deed.TheVariants as deed
 use Rattle.bus_semantics.specs.declared.plan.Disabling.{Disabling}
 use Rattle.bus_semantics.specs.declared.script.Mapping.{Mapping}
 use Rattle.bus_semantics.specs.Plan.{Plan, Runnable, queue_of, disabling_of, instance_of}
-use Rattle.bus_semantics.specs.Wanted.{Wanted, to_tick, to_start, to_admit, to_fetch, to_write, to_read, to_invalidate, to_see_updated, to_send, to_receive, to_ask, to_hear, to_take_result, to_return, to_enter, to_leave, to_switch, to_see_mode, to_move_on, to_publish, to_end, wanted_by}
+use Rattle.bus_semantics.specs.Wanted.{Wanted, to_tick, to_start, to_admit, to_ask, to_hear, to_return, to_enter, to_leave, to_move_on, to_publish, to_publish_all, to_end, wanted_by}
 use Rattle.bus_semantics.specs.History.{count, is_over}
 use Rattle.bus_semantics.specs.Objects.{object_of, served_by}
 use Rattle.bus_semantics.specs.Owners.{key_fits, serves_directly}
@@ -40,7 +40,7 @@ stopped (Go s ds) w e = absurd (cc e)
 
 pub admission_first : (p : Plan) (r : Runnable) (event : ℕ) (start : List ℤ) (d : Disabling) → disabling_of p event ≡ Some d → next_of_activity p r event start [] ≡ Some (to_admit event)
 admission_first p r event start d is =
-    let rest : Running = both (fetching r.accesses r.targets) (both (run_program r r.program.body) (both (publishing r.accesses r.targets) (both (returning p r) (ending event)))) in
+    let rest : Running = both (fetching p r) (both (run_program r r.program.body) (both (publishing p r) (both (returning p r) (ending event)))) in
     ap (λ o. wanted_next (goes_on rest o)) (admits_some p event d (state_at_start p r start) [] is)
 
 direct_none : (p : Plan) (k : ActKey) → served_by p (Act k) ≡ None → serves_directly p k ≡ false
@@ -130,26 +130,7 @@ module _ (p : Plan) (m : Mapping) (k : ActKey) (r : Runnable) (event : ℕ) (of 
       -- an end is over
       end_is_over : (d : Deed) → wanted_by event d ≡ to_end event → is_over d ≡ true
       end_is_over deed.End e = refl
-      end_is_over deed.Tick e = absurd (cc e)
-      end_is_over (deed.Start x q v) e = absurd (cc e)
-      end_is_over (deed.Admit y) e = absurd (cc e)
-      end_is_over (deed.Fetch x v) e = absurd (cc e)
-      end_is_over (deed.Write x v) e = absurd (cc e)
-      end_is_over (deed.Read x c v) e = absurd (cc e)
-      end_is_over (deed.Invalidate x) e = absurd (cc e)
-      end_is_over (deed.IsUpdated x y) e = absurd (cc e)
-      end_is_over (deed.Send x v c) e = absurd (cc e)
-      end_is_over (deed.Receive x c v) e = absurd (cc e)
-      end_is_over (deed.Ask q v c) e = absurd (cc e)
-      end_is_over (deed.Answer q c v) e = absurd (cc e)
-      end_is_over (deed.TakeResult q c v) e = absurd (cc e)
-      end_is_over (deed.Return c v) e = absurd (cc e)
-      end_is_over (deed.Enter x) e = absurd (cc e)
-      end_is_over (deed.Leave x) e = absurd (cc e)
-      end_is_over (deed.Switch n x c) e = absurd (cc e)
-      end_is_over (deed.Mode x n) e = absurd (cc e)
-      end_is_over (deed.Phase s) e = absurd (cc e)
-      end_is_over (deed.Publish x v) e = absurd (cc e)
+      end_is_over d e = absurd (cc e)
 
       pub goes_on_asking : list_all (λ d. not (is_over d)) answers ≡ true → (w : Wanted) × (next_of_activity p r event start answers ≡ Some w)
       goes_on_asking none = by_now (runs.now May event (Ended p m of.sound k.runnable r of.runnable event) [] run obeys answers follows)
@@ -200,6 +181,7 @@ module _ (p : Plan) (m : Mapping) (k : ActKey) (r : Runnable) (event : ℕ) (of 
       none_open (to_ask q ws) out may = may.1
       none_open (to_hear q) out may = may.1
       none_open (to_publish x ws) out may = may.1
+      none_open (to_publish_all l written ws) out may = may.1
       none_open (to_return code ws) out may = may.1
       none_open (to_end other) out may = may.1
       none_open w out may = absurd (false≢true out)
@@ -212,23 +194,7 @@ module _ (p : Plan) (m : Mapping) (k : ActKey) (r : Runnable) (event : ℕ) (of 
       none_returned (to_start e) before may = absurd may
       none_returned to_move_on before may = absurd may
       none_returned (to_end e) before may = absurd (true≢false before)
-      none_returned (to_admit e) before may = may.0
-      none_returned (to_fetch x) before may = may.0
-      none_returned (to_write x ws) before may = may.0
-      none_returned (to_read x) before may = may.0
-      none_returned (to_invalidate x) before may = may.0
-      none_returned (to_see_updated x) before may = may.0
-      none_returned (to_send x ws) before may = may.0
-      none_returned (to_receive x) before may = may.0
-      none_returned (to_ask q ws) before may = may.0
-      none_returned (to_hear q) before may = may.0
-      none_returned (to_take_result q) before may = may.0
-      none_returned (to_return code ws) before may = may.0
-      none_returned (to_enter x) before may = may.0
-      none_returned (to_leave x) before may = may.0
-      none_returned (to_switch n mode) before may = may.0
-      none_returned (to_see_mode port) before may = may.0
-      none_returned (to_publish x ws) before may = may.0
+      none_returned w before may = may.0
 
       pub not_returned : (w : Wanted) → next_of_activity p r event start answers ≡ Some w → is_the_end w ≡ false → count is_return answers ≡ 0
       not_returned w next before = sym (returns_of_trail event answers) ∙ none_returned w before (here w next)
@@ -245,26 +211,7 @@ module _ (p : Plan) (m : Mapping) (k : ActKey) (r : Runnable) (event : ℕ) (of 
 
       asked_by : (q : ℕ) (d : Deed) → WasAccepted q (wanted_by event d) d → (value : Value) × (d ≡ deed.Ask q value 0)
       asked_by q (deed.Ask point value code) was = (value, λ j. deed.Ask (was.0 j) value (was.1 j))
-      asked_by q deed.Tick was = absurd was
-      asked_by q (deed.Start x y v) was = absurd was
-      asked_by q (deed.Admit y) was = absurd was
-      asked_by q (deed.Fetch x v) was = absurd was
-      asked_by q (deed.Write x v) was = absurd was
-      asked_by q (deed.Read x c v) was = absurd was
-      asked_by q (deed.Invalidate x) was = absurd was
-      asked_by q (deed.IsUpdated x y) was = absurd was
-      asked_by q (deed.Send x v c) was = absurd was
-      asked_by q (deed.Receive x c v) was = absurd was
-      asked_by q (deed.Answer x c v) was = absurd was
-      asked_by q (deed.TakeResult x c v) was = absurd was
-      asked_by q (deed.Return c v) was = absurd was
-      asked_by q (deed.Enter x) was = absurd was
-      asked_by q (deed.Leave x) was = absurd was
-      asked_by q (deed.Switch n x c) was = absurd was
-      asked_by q (deed.Mode x n) was = absurd was
-      asked_by q (deed.Phase s) was = absurd was
-      asked_by q (deed.Publish x v) was = absurd was
-      asked_by q deed.End was = absurd was
+      asked_by q d was = absurd was
 
       pub accepted : (point : ℕ) → next_of_activity p r event start answers ≡ Some (to_hear point) → HasJustAsked point answers
       accepted point next = by_last (last_of answers) (here (to_hear point) next).4

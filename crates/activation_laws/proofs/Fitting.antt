@@ -1,6 +1,6 @@
 -- What may be asked fits, touches an object, and gives short values.
-use Rattle.std.proofs.Common.{◌≡◌, ℕ, ◌+◌, ◌<◌, ◌≤◌, ℤ, Bool, true, false, ◌&&◌, ◌||◌, not, refl, sym, ◌∙◌, ap, subst, arith, List, [], ◌∷◌, length, replicate, Option, Some, None, is_some, zero, suc, option_map}
-use Rattle.std.specs.Prelude.{nat_lt, nat_le}
+use Rattle.std.proofs.Common.{◌≡◌, ℕ, ◌+◌, ◌<◌, ◌≤◌, ℤ, Bool, true, false, ◌&&◌, ◌||◌, not, ◌==◌, refl, sym, ◌∙◌, ap, subst, arith, List, [], ◌∷◌, length, replicate, Option, Some, None, is_some, zero, suc, option_map}
+use Rattle.std.specs.Prelude.{nat_lt, nat_le, flat_map}
 use Rattle.std.specs.List.{list_all, list_any, slice_get}
 use Rattle.std.proofs.lemmas.Bool.{and_from, and_parts, eq-eqb, eqb-true, false≢true, true≢false, ltb-true, leb-true, le-leb, not-true}
 use Rattle.std.proofs.lemmas.Bool.Decides.{nat_tests}
@@ -17,8 +17,10 @@ use Rattle.bus_semantics.specs.declared.plan.ModePortPlan.{ModePortPlan}
 use Rattle.bus_semantics.specs.declared.plan.EventPlan.{EventPlan}
 use Rattle.bus_semantics.specs.declared.plan.Disabling.{Disabling}
 use Rattle.bus_semantics.specs.declared.script.Mapping.{Mapping}
-use Rattle.bus_semantics.specs.Plan.{Plan, Runnable, look, group_of, queue_of, disabling_of, runnable_of_event, instance_of, machine_of_port}
-use Rattle.bus_semantics.specs.Wanted.{Wanted, to_tick, to_start, to_admit, to_fetch, to_write, to_read, to_invalidate, to_see_updated, to_send, to_receive, to_ask, to_hear, to_take_result, to_return, to_enter, to_leave, to_switch, to_see_mode, to_move_on, to_publish, to_end}
+use Rattle.bus_semantics.specs.Plan.{Plan, Runnable, look, queue_of, disabling_of, runnable_of_event, instance_of, machine_of_port}
+use Rattle.bus_semantics.specs.Wanted.{Wanted, to_tick, to_start, to_admit, to_fetch, to_write, to_read, to_invalidate, to_see_updated, to_send, to_receive, to_ask, to_hear, to_take_result, to_return, to_enter, to_leave, to_switch, to_see_mode, to_move_on, to_publish, to_fetch_all, to_publish_all, to_end}
+use Rattle.bus_semantics.specs.Lists.{elems_of, words_of_all, marked, marks_fit, list_fits}
+use Rattle.bus_semantics.specs.Bundles.{bundle_of}
 use Rattle.bus_semantics.specs.Objects.{machine_object, first_server, first_machine, disabler_of, served_by, object_of}
 use Rattle.bus_semantics.specs.Owners.{elem_fits, is_writable, is_readable, is_unqueued, is_queued, holds, event_fits}
 use Rattle.bus_semantics.specs.Fitting.{activation_may_want}
@@ -27,8 +29,9 @@ use Rattle.bus_semantics.specs.Activations.{arguments_of}
 use Rattle.bus_semantics.specs.SoundPlan.{is_in}
 use Rattle.bus_semantics.specs.SoundElements.{argument_limits}
 use Rattle.bus_semantics.specs.SoundEvents.{direct_sound}
+use Rattle.bus_semantics.specs.SoundLists.{list_sound}
 use Rattle.bus_semantics.specs.Sound.{IsSound}
-use Rattle.activation_laws.specs.Given.{are_within, elem_takes, point_gets, gives_what_fits, words_given}
+use Rattle.activation_laws.specs.Given.{are_within, elem_takes, limits_at, elems_take, point_gets, gives_what_fits, words_given}
 use Rattle.activation_laws.specs.Wishes.{is_of_a_call, is_the_end}
 use Rattle.activation_laws.specs.LookUps.{clash, sought, looked, at_place, none_of}
 use Rattle.activation_laws.proofs.Words.{as_many, arguments_few}
@@ -36,6 +39,8 @@ use Rattle.activation_laws.proofs.Trails.{Trail}
 use Rattle.activation_laws.proofs.Asked.{is_calling, MayAsk}
 use Rattle.activation_laws.proofs.Accesses.{fits_on, elem_is, point_is}
 use Rattle.activation_laws.proofs.SoundServers.{server_is, server_fits}
+use Rattle.activation_laws.proofs.Lists.{fit_bundled, list_short, list_bundled}
+use Rattle.activation_laws.proofs.Marks.{limits_count, marked_fewer}
 
 -- an event that starts a runnable is there
 event_known : (p : Plan) (e i : ℕ) → runnable_of_event p e ≡ Some i → nat_lt e (length p.events) ≡ true
@@ -68,6 +73,14 @@ module _ (p : Plan) (m : Mapping) (sound : IsSound p m) (k : ActKey) (r : Runnab
       fits_on p (Some r.instance) test (λ e. test e && holds ws e) x fit
       (λ e here is. let same : at.item ≡ e = cc (at.found, here) in and_from (test e) (holds ws e) is (eq-eqb (length ws) e.words (count ∙ ap (λ (v : ElemPlan). v.words) same)))
 
+  list_words : (l written : ℕ) (ws : List ℤ) → list_fits p k.runnable false l ≡ true → marks_fit written (elems_of p l) ≡ true → elems_take p (marked written (elems_of p l)) ws ≡ true
+      → activation_may_want p k (Some r.instance) (to_publish_all l written ws) ≡ true
+  list_words l written ws fit marks takes =
+      let xs = marked written (elems_of p l) in
+      let count : length ws ≡ words_of_all p xs = as_many (flat_map (limits_at p) xs) ws takes ∙ limits_count p xs in
+      and_from (list_fits p k.runnable false l) (marks_fit written (elems_of p l) && (length ws == words_of_all p xs)) fit
+      (and_from (marks_fit written (elems_of p l)) (length ws == words_of_all p xs) marks (eq-eqb (length ws) (words_of_all p xs) count))
+
   pub may_want : (w : Wanted) → May w → activation_may_want p k (Some r.instance) w ≡ true
   may_want to_tick may = absurd may
   may_want (to_start e) may = absurd may
@@ -89,6 +102,8 @@ module _ (p : Plan) (m : Mapping) (sound : IsSound p m) (k : ActKey) (r : Runnab
   may_want (to_see_mode port) may = may.1
   may_want to_move_on may = absurd may
   may_want (to_publish x ws) may = elem_words is_writable x ws may.2.0 may.2.1
+  may_want (to_fetch_all l) may = may.1.0
+  may_want (to_publish_all l written ws) may = list_words l written ws may.2.0 may.3 may.4
   may_want (to_end e) may = subst (λ n. event_fits p (Some r.instance) n ≡ true) (sym may.2) own_event
 
   names_own : (e : ℕ) → e ≡ event → same_number (runnable_of_event p e) (Some k.runnable) ≡ true
@@ -110,6 +125,7 @@ module _ (p : Plan) (m : Mapping) (sound : IsSound p m) (k : ActKey) (r : Runnab
   may_give (to_write x ws) may = may.1.1
   may_give (to_send x ws) may = may.2
   may_give (to_publish x ws) may = may.2.1
+  may_give (to_publish_all l written ws) may = may.4
   may_give (to_ask q ws) may = may.3
   may_give (to_return code ws) may = may.4
   may_give w may = refl
@@ -120,6 +136,14 @@ module _ (p : Plan) (m : Mapping) (sound : IsSound p m) (k : ActKey) (r : Runnab
       let count : length ws ≡ at.item.words = as_many (replicate at.item.words at.item.limits) ws at.holds ∙ length-replicate at.item.words at.item.limits in
       let few : nat_le at.item.words 16 ≡ true = (and_parts (nat_le 1 at.item.words) (nat_le at.item.words 16) (and_parts (is_in 1 16 at.item.words) _ (elem_is p m sound x at.item at.found)).0).1 in
       subst (λ n. nat_le n 16 ≡ true) (sym count) few
+
+  words_short : (l written : ℕ) (ws : List ℤ) → list_sound p k.runnable r l ≡ true → elems_take p (marked written (elems_of p l)) ws ≡ true → nat_le (length ws) 16 ≡ true
+  words_short l written ws fit takes =
+      let xs = marked written (elems_of p l) in
+      let count : length ws ≡ words_of_all p xs = as_many (flat_map (limits_at p) xs) ws takes ∙ limits_count p xs in
+      let fewer : words_of_all p xs ≤ words_of_all p (elems_of p l) = marked_fewer p written (elems_of p l) in
+      let few : words_of_all p (elems_of p l) ≤ 16 = leb-true (words_of_all p (elems_of p l)) 16 (list_short p m sound k.runnable r there l fit) in
+      le-leb (length ws) 16 (omega arith)
 
   point_short : (q : ℕ) (ws : List ℤ) → point_gets p q ws ≡ true → nat_le (length ws) 16 ≡ true
   point_short q ws gets =
@@ -145,16 +169,15 @@ module _ (p : Plan) (m : Mapping) (sound : IsSound p m) (k : ActKey) (r : Runnab
   may_be_short (to_write x ws) may = elem_short x ws may.1.1
   may_be_short (to_send x ws) may = elem_short x ws may.2
   may_be_short (to_publish x ws) may = elem_short x ws may.2.1
+  may_be_short (to_publish_all l written ws) may = words_short l written ws may.2.1 may.4
   may_be_short (to_ask q ws) may = point_short q ws may.3
   may_be_short (to_return code ws) may = return_short ws may.2 may.4
   may_be_short w may = refl
 
   -- ---- objects
 
-  elem_touches : {X : Type 0} (test : ElemPlan → Bool) (x : ℕ) → elem_fits p (Some r.instance) test x ≡ true → group_of p x ≡ None → X
-  elem_touches test x fit none =
-      let at = sought p.elements x (λ (e : ElemPlan). same_number e.instance (Some r.instance) && test e) fit in
-      absurd (cc (looked p.elements x at.item (λ (e : ElemPlan). Some e.group) None at.found, none))
+  elem_touches : {X : Type 0} (test : ElemPlan → Bool) (x : ℕ) → elem_fits p (Some r.instance) test x ≡ true → bundle_of p x ≡ None → X
+  elem_touches test x fit none = fit_bundled p m sound (Some r.instance) test x fit none
 
   mapped : {X : Type 0} (o : Option ℕ) (f : ℕ → ℕ) → is_some o ≡ true → option_map f o ≡ None → X
   mapped None f some none = absurd (false≢true some)
@@ -196,6 +219,8 @@ module _ (p : Plan) (m : Mapping) (sound : IsSound p m) (k : ActKey) (r : Runnab
   may_touch (to_see_mode port) may none = port_touches port may.1 none
   may_touch to_move_on may none = absurd may
   may_touch (to_publish x ws) may none = elem_touches is_writable x may.2.0 none
+  may_touch (to_fetch_all l) may none = list_bundled p m sound k.runnable r there l may.1.1 none
+  may_touch (to_publish_all l written ws) may none = list_bundled p m sound k.runnable r there l may.2.1 none
   may_touch (to_end e) may none = refl
 
   -- ---- direct servers

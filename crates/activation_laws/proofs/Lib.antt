@@ -5,6 +5,8 @@ pub mod Words
 pub mod Asked
 pub mod Accesses
 pub mod Entering
+pub mod Lists
+pub mod Marks
 pub mod Statements
 pub mod Wholes
 pub mod Fitting

@@ -41,27 +41,9 @@ abbrev pub trail_of : (event : ℕ) → List Deed → Trail
 trail_of event ds = trail_on event [] ds
 
 opens_as_answered : (event : ℕ) (d : Deed) (areas : List ℕ) → open_on (wanted_by event d) areas ≡ open_after d areas
-opens_as_answered event deed.Tick areas = refl
-opens_as_answered event (deed.Start e q v) areas = refl
-opens_as_answered event (deed.Admit y) areas = refl
-opens_as_answered event (deed.Fetch x v) areas = refl
-opens_as_answered event (deed.Write x v) areas = refl
-opens_as_answered event (deed.Read x c v) areas = refl
-opens_as_answered event (deed.Invalidate x) areas = refl
-opens_as_answered event (deed.IsUpdated x y) areas = refl
-opens_as_answered event (deed.Send x v c) areas = refl
-opens_as_answered event (deed.Receive x c v) areas = refl
-opens_as_answered event (deed.Ask q v c) areas = refl
-opens_as_answered event (deed.Answer q c v) areas = refl
-opens_as_answered event (deed.TakeResult q c v) areas = refl
-opens_as_answered event (deed.Return c v) areas = refl
 opens_as_answered event (deed.Enter x) areas = refl
 opens_as_answered event (deed.Leave x) areas = refl
-opens_as_answered event (deed.Switch m n c) areas = refl
-opens_as_answered event (deed.Mode t n) areas = refl
-opens_as_answered event (deed.Phase s) areas = refl
-opens_as_answered event (deed.Publish x v) areas = refl
-opens_as_answered event deed.End areas = refl
+opens_as_answered event d areas = refl
 
 pub open_on_trail : (event : ℕ) (ds : List Deed) (t : Trail) → open_of (trail_on event t ds) ≡ opened_on (open_of t) ds
 open_on_trail event [] t = refl
@@ -71,27 +53,8 @@ pub open_of_trail : (event : ℕ) (ds : List Deed) → open_of (trail_of event d
 open_of_trail event ds = open_on_trail event ds []
 
 returns_as_answered : (event : ℕ) (d : Deed) (n : ℕ) → returned_on (wanted_by event d) n ≡ (if is_return d then suc n else n)
-returns_as_answered event deed.Tick n = refl
-returns_as_answered event (deed.Start e q v) n = refl
-returns_as_answered event (deed.Admit y) n = refl
-returns_as_answered event (deed.Fetch x v) n = refl
-returns_as_answered event (deed.Write x v) n = refl
-returns_as_answered event (deed.Read x c v) n = refl
-returns_as_answered event (deed.Invalidate x) n = refl
-returns_as_answered event (deed.IsUpdated x y) n = refl
-returns_as_answered event (deed.Send x v c) n = refl
-returns_as_answered event (deed.Receive x c v) n = refl
-returns_as_answered event (deed.Ask q v c) n = refl
-returns_as_answered event (deed.Answer q c v) n = refl
-returns_as_answered event (deed.TakeResult q c v) n = refl
-returns_as_answered event (deed.Return c v) n = refl
-returns_as_answered event (deed.Enter x) n = refl
-returns_as_answered event (deed.Leave x) n = refl
-returns_as_answered event (deed.Switch m k c) n = refl
-returns_as_answered event (deed.Mode t k) n = refl
-returns_as_answered event (deed.Phase s) n = refl
-returns_as_answered event (deed.Publish x v) n = refl
-returns_as_answered event deed.End n = refl
+returns_as_answered event (deed.Return code value) n = refl
+returns_as_answered event d n = refl
 
 pub returns_on_trail : (event : ℕ) (ds : List Deed) (t : Trail) → returns_of (trail_on event t ds) ≡ count is_return ds + returns_of t
 returns_on_trail event [] t = omega arith

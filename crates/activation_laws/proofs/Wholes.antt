@@ -1,7 +1,7 @@
 -- A whole activation of a sound plan asks what it may, whatever is answered, and last its end.
 use Rattle.std.proofs.Common.{◌≡◌, ℕ, suc, ◌-◌, ◌≤◌, ℤ, pos, Bool, true, false, ◌&&◌, if◌then◌else◌, refl, sym, ◌∙◌, ap, subst, arith, List, [], ◌∷◌, ◌++◌, length, replicate, get_or, Option, Some, None, is_some, length-append}
-use Rattle.std.specs.Prelude.{not}
-use Rattle.std.specs.List.{slice_get}
+use Rattle.std.specs.Prelude.{not, ◌==◌, filter, flat_map, option_to_list}
+use Rattle.std.specs.List.{list_any, slice_get}
 use Rattle.std.proofs.lemmas.Bool.{and_parts, false≢true}
 use Rattle.runnable_lang.specs.declared.program.AccessKind.{AccessKind}
 use Rattle.runnable_lang.specs.declared.program.AccessKind.TheVariants as kind
@@ -12,24 +12,27 @@ use Rattle.bus_semantics.specs.declared.plan.Disabling.{Disabling}
 use Rattle.bus_semantics.specs.declared.entries.Deed.{Deed}
 use Rattle.bus_semantics.specs.declared.script.Mapping.{Mapping}
 use Rattle.bus_semantics.specs.Plan.{Plan, Runnable, look, disabling_of}
-use Rattle.bus_semantics.specs.Wanted.{Wanted, to_admit, to_fetch, to_publish, to_return, to_end}
+use Rattle.bus_semantics.specs.Wanted.{Wanted, to_admit, to_fetch, to_publish, to_fetch_all, to_publish_all, to_return, to_end}
+use Rattle.bus_semantics.specs.Lists.{elems_of, marked, marks_fit, mask_of, split}
 use Rattle.bus_semantics.specs.Owners.{elem_fits, is_readable, is_unqueued}
-use Rattle.bus_semantics.specs.State.{State, found_under, keep_fetched, words_in}
+use Rattle.bus_semantics.specs.State.{State, found_under, words_under, keep_fetched, keep_each, words_in}
 use Rattle.bus_semantics.specs.Programs.{Go, Running, both, nothing, calling, takes_nothing, run_program}
-use Rattle.bus_semantics.specs.Activations.{is_read_early, is_written_late, arguments_at_start, arguments_of, state_at_start, admitting, fetching, publishing_one, publishing, declared_code, results, returning, ending, activity}
+use Rattle.bus_semantics.specs.Activations.{is_read_early, is_written_late, arguments_at_start, arguments_of, state_at_start, admitting, Implicit, one, all_of, list_with, met_now, in_order, each, fetches_of, fetching_it, fetching, publications_of, publishing_one, is_written, publishing_all, publishing_it, publishing, declared_code, results, returning, ending, activity}
 use Rattle.bus_semantics.specs.SoundPlan.{is_variable}
 use Rattle.bus_semantics.specs.SoundElements.{argument_limits}
 use Rattle.bus_semantics.specs.SoundAccesses.{access_sound, each_access}
 use Rattle.bus_semantics.specs.Sound.{IsSound}
-use Rattle.activation_laws.specs.Given.{are_within}
+use Rattle.activation_laws.specs.Given.{are_within, elems_take}
 use Rattle.activation_laws.specs.LookUps.{looked}
 use Rattle.activation_laws.proofs.SoundServers.{server_is, server_fits}
 use Rattle.activation_laws.proofs.Served.{sound_of_kind}
 use Rattle.activation_laws.proofs.Words.{results_within, code_fits}
 use Rattle.activation_laws.proofs.Trails.{Trail, open_of, returns_of}
 use Rattle.activation_laws.proofs.Runs.{AtEnd, Obeys, over, same_run, in_turn, called}
-use Rattle.activation_laws.proofs.Asked.{MayAsk, IsKept, returns_wanted}
+use Rattle.activation_laws.proofs.Asked.{MayAsk, IsKept, IsListed, returns_wanted}
 use Rattle.activation_laws.proofs.Accesses.{accesses_sound, readable, variable_readable}
+use Rattle.activation_laws.proofs.Lists.{listed_early, listed_late}
+use Rattle.activation_laws.proofs.Marks.{marks_those, mask_fits, take_more}
 use Rattle.activation_laws.proofs.Statements.{Between, program}
 
 -- ---- the parts of an activation, by what the plan has
@@ -60,8 +63,8 @@ arguments_count (a ∷ args) (w ∷ ws) = by_out a.out (arguments_count args (w 
   where
     by_out : (out : Bool) → length (arguments_at_start args (w ∷ ws)) ≡ length args → length (arguments_at_start args ws) ≡ length args
         → length (if out then pos 0 ∷ arguments_at_start args (w ∷ ws) else w ∷ arguments_at_start args ws) ≡ length (a ∷ args)
-    by_out true one other = omega arith
-    by_out false one other = omega arith
+    by_out true kept taken = omega arith
+    by_out false kept taken = omega arith
 
 pub kept_at_start : (p : Plan) (r : Runnable) (ws : List ℤ) → IsKept p r (state_at_start p r ws)
 kept_at_start p r ws = record {
@@ -71,6 +74,20 @@ kept_at_start p r ws = record {
   where
     enough : (begun : List ℤ) → length begun ≡ length (arguments_of p r) → length (arguments_of p r) ≤ length (begun ++ replicate (r.program.vars - length begun) (pos 0))
     enough begun count = simp length-append (omega arith)
+
+-- ---- what is fetched or published
+
+abbrev Each : (Implicit → Type 0) → List Implicit → Type 0
+Each Good [] = Unit {0}
+Each Good (it ∷ its) = Good it × Each Good its
+
+each_more : (Good : Implicit → Type 0) (its more : List Implicit) → Each Good its → Each Good more → Each Good (its ++ more)
+each_more Good [] more first second = second
+each_more Good (it ∷ its) more first second = (first.0, each_more Good its more first.1 second)
+
+each_kept : (p : Plan) (r : Runnable) (pairs : List (ℕ × List ℤ)) (s : State) → IsKept p r s → IsKept p r (keep_each pairs s)
+each_kept p r [] s kept = kept
+each_kept p r (pair ∷ pairs) s kept = each_kept p r pairs (keep_fetched pair.0 pair.1 s) (record { vars = kept.vars; written = kept.written })
 
 -- ---- the whole
 
@@ -90,6 +107,38 @@ module _ (p : Plan) (m : Mapping) (sound : IsSound p m) (i : ℕ) (r : Runnable)
           same_run May Kept [] (admitting p event s) (calling (to_admit event) takes_nothing s) (λ ds. admits_some p event d s ds is)
           (called May Kept (to_admit event) takes_nothing [] s (refl, refl, refl, ap is_some is) (λ x. ((refl, refl), kept)))
 
+  -- ---- what is fetched or published, one after the other
+
+  each_obeys : (Good : Implicit → Type 0) (f : Implicit → Running) → ((it : Implicit) → Good it → (t : Trail) (s : State) → Kept t s → Obeys May Kept t (f it s))
+      → (its : List Implicit) → Each Good its → (t : Trail) (s : State) → Kept t s → Obeys May Kept t (each f its s)
+  each_obeys Good f once [] good t s q = over s q (λ ds. refl)
+  each_obeys Good f once (it ∷ its) good t s q = in_turn May Kept Kept (f it) (each f its) t s (once it good.0 t s q) (λ u v w. each_obeys Good f once its good.1 u v w)
+
+  -- what holds of each access that passes, and of the list of each, holds of what is asked in order
+  module _ (Good : Implicit → Type 0) (test : AccessKind → Bool)
+      (single : (a : AccessSig) (x : ℕ) → access_sound p i (Some r.instance) a x ≡ true → test a.kind ≡ true → Good (one x))
+      (together : (a : AccessSig) (x l : ℕ) → access_sound p i (Some r.instance) a x ≡ true → test a.kind ≡ true → list_with p r.lists x ≡ Some l → Good (all_of l)) where
+    met_good : (met : List ℕ) (a : AccessSig) (x : ℕ) → access_sound p i (Some r.instance) a x ≡ true → test a.kind ≡ true → (o : Option ℕ) → list_with p r.lists x ≡ o → Each Good (met_now met x o)
+    met_good met a x fine passes None is = (single a x fine passes, tt)
+    met_good met a x fine passes (Some l) is = by_met (list_any (λ n. n == l) met)
+      where
+        by_met : (b : Bool) → Each Good (if b then [] else all_of l ∷ [])
+        by_met true = tt
+        by_met false = (together a x l fine passes is, tt)
+
+    ordered : (met : List ℕ) (sigs : List AccessSig) (xs : List ℕ) → each_access (access_sound p i (Some r.instance)) sigs xs ≡ true → Each Good (in_order p r.lists test met sigs xs)
+    ordered met [] xs ok = tt
+    ordered met (a ∷ sigs) [] ok = tt
+    ordered met (a ∷ sigs) (x ∷ xs) ok =
+        let parts = and_parts (access_sound p i (Some r.instance) a x) (each_access (access_sound p i (Some r.instance)) sigs xs) ok in
+        by_test (test a.kind) refl parts.0 (λ more. ordered more sigs xs parts.1)
+      where
+        by_test : (b : Bool) → test a.kind ≡ b → access_sound p i (Some r.instance) a x ≡ true → ((more : List ℕ) → Each Good (in_order p r.lists test more sigs xs))
+            → Each Good (if b then met_now met x (list_with p r.lists x) ++ in_order p r.lists test (option_to_list (list_with p r.lists x) ++ met) sigs xs else in_order p r.lists test met sigs xs)
+        by_test false is fine rest = rest met
+        by_test true is fine rest = each_more Good (met_now met x (list_with p r.lists x)) (in_order p r.lists test (option_to_list (list_with p r.lists x) ++ met) sigs xs)
+            (met_good met a x fine is (list_with p r.lists x) refl) (rest (option_to_list (list_with p r.lists x) ++ met))
+
   -- ---- fetches
 
   fetch_may : (a : AccessSig) (x : ℕ) (k : AccessKind) → a.kind ≡ k → is_read_early k ≡ true → access_sound p i (Some r.instance) a x ≡ true → elem_fits p (Some r.instance) is_readable x ≡ true
@@ -97,20 +146,19 @@ module _ (p : Plan) (m : Mapping) (sound : IsSound p m) (i : ℕ) (r : Runnable)
   fetch_may a x kind.IrvIRead is early ok = variable_readable p (Some r.instance) x (and_parts (elem_fits p (Some r.instance) is_variable x) _ (sound_of_kind p i (Some r.instance) a kind.IrvIRead x is ok)).0
   fetch_may a x k is early ok = absurd (false≢true early)
 
-  fetches : (sigs : List AccessSig) (xs : List ℕ) → each_access (access_sound p i (Some r.instance)) sigs xs ≡ true → (t : Trail) (s : State) → Kept t s → Obeys May Kept t (fetching sigs xs s)
-  fetches [] xs ok t s q = over s q (λ ds. refl)
-  fetches (a ∷ sigs) [] ok t s q = over s q (λ ds. refl)
-  fetches (a ∷ sigs) (x ∷ xs) ok t s q =
-      let parts = and_parts (access_sound p i (Some r.instance) a x) (each_access (access_sound p i (Some r.instance)) sigs xs) ok in
-      by_early (is_read_early a.kind) refl parts.0 (λ u v w. fetches sigs xs parts.1 u v w)
-    where
-      by_early : (b : Bool) → is_read_early a.kind ≡ b → access_sound p i (Some r.instance) a x ≡ true → ((u : Trail) (v : State) → Kept u v → Obeys May Kept u (fetching sigs xs v))
-          → Obeys May Kept t ((if b then both (calling (to_fetch x) (λ d. keep_fetched x (words_in d))) (fetching sigs xs) else fetching sigs xs) s)
-      by_early false is one rest = rest t s q
-      by_early true is one rest =
-          in_turn May Kept Kept (calling (to_fetch x) (λ d. keep_fetched x (words_in d))) (fetching sigs xs) t s
-          (called May Kept (to_fetch x) (λ d. keep_fetched x (words_in d)) t s (q.0.1, fetch_may a x a.kind refl is one) (λ d. (q.0, record { vars = q.1.vars; written = q.1.written })))
-          (λ u v w. rest u v w)
+  abbrev MayFetch : Implicit → Type 0
+  MayFetch (one x) = elem_fits p (Some r.instance) is_readable x ≡ true
+  MayFetch (all_of l) = IsListed p i r true l
+
+  fetches_it : (it : Implicit) → MayFetch it → (t : Trail) (s : State) → Kept t s → Obeys May Kept t (fetching_it p it s)
+  fetches_it (one x) may t s q =
+      called May Kept (to_fetch x) (λ d. keep_fetched x (words_in d)) t s (q.0.1, may) (λ d. (q.0, record { vars = q.1.vars; written = q.1.written }))
+  fetches_it (all_of l) may t s q =
+      called May Kept (to_fetch_all l) (λ d. keep_each (split p (elems_of p l) (words_in d))) t s (q.0.1, may) (λ d. (q.0, each_kept p r (split p (elems_of p l) (words_in d)) s q.1))
+
+  fetches : (t : Trail) (s : State) → Kept t s → Obeys May Kept t (fetching p r s)
+  fetches t s q = each_obeys MayFetch (fetching_it p) fetches_it (fetches_of p r)
+      (ordered MayFetch is_read_early (λ a x ok early. fetch_may a x a.kind refl early ok) (listed_early p m sound i r there) [] r.accesses r.targets (accesses_sound p m sound i r there)) t s q
 
   -- ---- publications
 
@@ -124,14 +172,40 @@ module _ (p : Plan) (m : Mapping) (sound : IsSound p m) (i : ℕ) (r : Runnable)
           same_run May Kept t (publishing_one x s) (calling (to_publish x ws) takes_nothing s) (λ ds. publishes_some x ws s ds is)
           (called May Kept (to_publish x ws) takes_nothing t s (q.0.1, q.0.0, may) (λ d. q))
 
-  publishes : (sigs : List AccessSig) (xs : List ℕ) (t : Trail) (s : State) → Kept t s → Obeys May Kept t (publishing sigs xs s)
-  publishes [] xs t s q = over s q (λ ds. refl)
-  publishes (a ∷ sigs) [] t s q = over s q (λ ds. refl)
-  publishes (a ∷ sigs) (x ∷ xs) t s q = by_late (is_written_late a.kind) (λ u v w. publishes sigs xs u v w)
+  -- the last words of each element that was written, one after the other
+  words_taken : (s : State) → IsKept p r s → (xs : List ℕ) → elems_take p (filter (is_written s) xs) (flat_map (λ x. words_under x s.written) xs) ≡ true
+  words_taken s kept [] = refl
+  words_taken s kept (x ∷ xs) = by_last (words_taken s kept xs) (found_under x s.written) refl
     where
-      by_late : (b : Bool) → ((u : Trail) (v : State) → Kept u v → Obeys May Kept u (publishing sigs xs v)) → Obeys May Kept t ((if b then both (publishing_one x) (publishing sigs xs) else publishing sigs xs) s)
-      by_late false rest = rest t s q
-      by_late true rest = in_turn May Kept Kept (publishing_one x) (publishing sigs xs) t s (publishes_one x t s q) (λ u v w. rest u v w)
+      by_last : elems_take p (filter (is_written s) xs) (flat_map (λ y. words_under y s.written) xs) ≡ true → (o : Option (List ℤ)) → found_under x s.written ≡ o
+          → elems_take p (filter (is_written s) (x ∷ xs)) (flat_map (λ y. words_under y s.written) (x ∷ xs)) ≡ true
+      by_last rest None is = rw is rest
+      by_last rest (Some ws) is = rw is (take_more p x (filter (is_written s) xs) ws (flat_map (λ y. words_under y s.written) xs) (kept.written x ws is).1 rest)
+
+  publishes_all : (l : ℕ) → IsListed p i r false l → (t : Trail) (s : State) → Kept t s → Obeys May Kept t (publishing_all l (elems_of p l) s)
+  publishes_all l may t s q =
+      let xs = elems_of p l in
+      let words = flat_map (λ x. words_under x s.written) xs in
+      let takes : elems_take p (marked (mask_of (is_written s) xs) xs) words ≡ true =
+      subst (λ ys. elems_take p ys words ≡ true) (sym (marks_those (is_written s) xs)) (words_taken s q.1 xs) in
+      by_any (mask_of (is_written s) xs) words (mask_fits (is_written s) xs) takes (list_any (is_written s) xs)
+    where
+      by_any : (marks : ℕ) (words : List ℤ) → marks_fit marks (elems_of p l) ≡ true → elems_take p (marked marks (elems_of p l)) words ≡ true → (b : Bool)
+          → Obeys May Kept t (λ ds. if b then calling (to_publish_all l marks words) takes_nothing s ds else nothing s ds)
+      by_any marks words fit takes false = over s q (λ ds. refl)
+      by_any marks words fit takes true = called May Kept (to_publish_all l marks words) takes_nothing t s (q.0.1, q.0.0, may, fit, takes) (λ d. q)
+
+  abbrev MayPublish : Implicit → Type 0
+  MayPublish (one x) = Unit {0}
+  MayPublish (all_of l) = IsListed p i r false l
+
+  publishes_it : (it : Implicit) → MayPublish it → (t : Trail) (s : State) → Kept t s → Obeys May Kept t (publishing_it p it s)
+  publishes_it (one x) may t s q = publishes_one x t s q
+  publishes_it (all_of l) may t s q = publishes_all l may t s q
+
+  publishes : (t : Trail) (s : State) → Kept t s → Obeys May Kept t (publishing p r s)
+  publishes t s q = each_obeys MayPublish (publishing_it p) publishes_it (publications_of p r)
+      (ordered MayPublish is_written_late (λ a x ok late. tt) (listed_late p m sound i r there) [] r.accesses r.targets (accesses_sound p m sound i r there)) t s q
 
   -- ---- the return and the end
 
@@ -171,10 +245,9 @@ module _ (p : Plan) (m : Mapping) (sound : IsSound p m) (i : ℕ) (r : Runnable)
 
   pub activity_obeys : (s : State) → IsKept p r s → Obeys (MayAsk p i r event) Ended [] (activity p r event s)
   activity_obeys s kept =
-      in_turn May Kept Ended (admitting p event) (both (fetching r.accesses r.targets) (both (run_program r r.program.body) (both (publishing r.accesses r.targets) (both (returning p r) (ending event))))) [] s (admits s kept)
-      (λ t1 s1 q1. in_turn May Kept Ended (fetching r.accesses r.targets) (both (run_program r r.program.body) (both (publishing r.accesses r.targets) (both (returning p r) (ending event)))) t1 s1
-      (fetches r.accesses r.targets (accesses_sound p m sound i r there) t1 s1 q1)
-      (λ t2 s2 q2. in_turn May Kept Ended (run_program r r.program.body) (both (publishing r.accesses r.targets) (both (returning p r) (ending event))) t2 s2 (program p m sound i r there event t2 s2 q2)
-      (λ t3 s3 q3. in_turn May Kept Ended (publishing r.accesses r.targets) (both (returning p r) (ending event)) t3 s3 (publishes r.accesses r.targets t3 s3 q3)
+      in_turn May Kept Ended (admitting p event) (both (fetching p r) (both (run_program r r.program.body) (both (publishing p r) (both (returning p r) (ending event))))) [] s (admits s kept)
+      (λ t1 s1 q1. in_turn May Kept Ended (fetching p r) (both (run_program r r.program.body) (both (publishing p r) (both (returning p r) (ending event)))) t1 s1 (fetches t1 s1 q1)
+      (λ t2 s2 q2. in_turn May Kept Ended (run_program r r.program.body) (both (publishing p r) (both (returning p r) (ending event))) t2 s2 (program p m sound i r there event t2 s2 q2)
+      (λ t3 s3 q3. in_turn May Kept Ended (publishing p r) (both (returning p r) (ending event)) t3 s3 (publishes t3 s3 q3)
       (λ t4 s4 q4. in_turn May Returned Ended (returning p r) (ending event) t4 s4 (returns t4 s4 q4)
       (λ t5 s5 q5. called May Ended (to_end event) takes_nothing t5 s5 (q5.1, q5.0, refl) (λ d. refl))))))

@@ -4,7 +4,7 @@ use Rattle.std.specs.Prelude.{ℕ, List, [], ◌∷◌, Bool, true, false, ◌&&
 use Rattle.std.specs.List.{list_all}
 use Rattle.bus_semantics.specs.declared.entries.Deed.{Deed}
 use Rattle.bus_semantics.specs.declared.entries.Deed.TheVariants as deed
-use Rattle.bus_semantics.specs.Wanted.{Wanted, to_ask, to_hear, to_publish, to_return, to_end}
+use Rattle.bus_semantics.specs.Wanted.{Wanted, to_ask, to_hear, to_publish, to_publish_all, to_return, to_end}
 
 abbrev pub all_but_innermost : List ℕ → List ℕ
 all_but_innermost [] = []
@@ -38,6 +38,7 @@ abbrev pub comes_outside : Wanted → Bool
 comes_outside (to_ask q ws) = true
 comes_outside (to_hear q) = true
 comes_outside (to_publish x ws) = true
+comes_outside (to_publish_all l written ws) = true
 comes_outside (to_return code ws) = true
 comes_outside (to_end event) = true
 comes_outside w = false

@@ -8,13 +8,15 @@ use Rattle.bus_semantics.specs.declared.entries.Actor.{Actor}
 use Rattle.bus_semantics.specs.declared.entries.Actor.TheVariants.{Act}
 use Rattle.bus_semantics.specs.declared.entries.Deed.{Deed}
 use Rattle.bus_semantics.specs.declared.entries.Deed.TheVariants as deed
-use Rattle.bus_semantics.specs.Plan.{Plan}
+use Rattle.bus_semantics.specs.Plan.{Plan, kind_of}
 use Rattle.bus_semantics.specs.History.{Past}
 use Rattle.bus_semantics.specs.Areas.{is_held}
 use Rattle.bus_semantics.specs.Matching.{is_open, enters_by}
 use Rattle.bus_semantics.specs.Pasts.{Follows, IsPastOf}
 use Rattle.bus_semantics.specs.Sound.{IsSound}
 use Rattle.exclusive_areas.specs.Kept.{is_held_by}
+use Rattle.object_kinds.proofs.Classes.{On}
+use Rattle.object_kinds.proofs.Numbers.{an_area}
 use Rattle.object_kinds.proofs.Options.{given_where}
 use Rattle.object_kinds.proofs.Proper.{noting}
 use Rattle.area_objects.specs.Layout.{area_of}
@@ -22,7 +24,7 @@ use Rattle.area_objects.specs.Kept.{Kept}
 use Rattle.area_objects.specs.Leading.{lead_of_area}
 use Rattle.area_objects.specs.Standing.{Keeps}
 use Rattle.area_objects.proofs.Holders.{State, key_itself, open_is_held, one_open, the_area, entered_by, left_by, state_of}
-use Rattle.area_objects.proofs.Touching.{OnArea, touches_area}
+use Rattle.area_objects.proofs.Touching.{no_start, touches_area}
 
 free_none : (o : Option ActKey) → not (is_some o) ≡ true → is_none o ≡ true
 free_none None free = refl
@@ -54,9 +56,10 @@ module _ (p : Plan) (object : ℕ) (k : Kept) (l : Past) (past : IsPastOf p obje
           let same : holder ≡ key = one_open (area_of p object) l holder key state (keeps.holder holder is) opens in
           subst (λ j. is_held_by key (Some j) ≡ true) (sym same) (key_itself key)
 
-  comes : (a : Actor) (d : Deed) → OnArea d → Follows p object l (noting a d event) → is_some (lead_of_area k d a) ≡ true
+  comes : (a : Actor) (d : Deed) → On p (an_area (area_of p object)) a event d → Follows p object l (noting a d event) → is_some (lead_of_area k d a) ≡ true
   comes a (deed.Enter x) on follows = enter_comes a x follows
   comes a (deed.Leave x) on follows = leave_comes a x follows
+  comes a (deed.Start e point value) on follows = absurd (no_start p (area_of p object) (kind_of p e) on)
   comes a d on follows = absurd on
 
   pub missed_none : (m : Mapping) → IsSound p m → (a : Actor) (d : Deed) → Follows p object l (noting a d event) → is_some (lead_of_area k d a) ≡ true

@@ -1,2 +1,1 @@
-pub mod FewPoints
 pub mod TwoSeats

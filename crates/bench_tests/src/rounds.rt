@@ -1,6 +1,6 @@
 //! Two seats of one round, on one thread. What is wanted was found by hand.
 
-ghost use Rattle.std.specs.Prelude.{◌≡◌, ◌<◌, ◌^◌, [], length, true, IfOk, IfSome};
+ghost use Rattle.std.specs.Prelude.{◌≡◌, ◌<◌, [], length, true, IfOk, IfSome};
 ghost use Rattle.bus_semantics.specs.Asked.{asks_its_own};
 ghost use Rattle.bus_semantics.specs.Fitting.{wish_fits};
 ghost use Rattle.bus_semantics.specs.Plan.{plan_of};
@@ -198,7 +198,6 @@ fn share(
 /// What is told of a round of two cores over new objects of the plan.
 fn run(alloc: Global, p: &BusPlan, m: &Mapping) -> Result<(String, String, String), AllocError>
     requires sound { IsSound (plan_of p.now) m.now }
-    requires points { length p.now.points < 2 ^ 32 }
 {
     sound_plans_have_objects();
     let objects = make_objects(alloc, p)?;
@@ -211,7 +210,6 @@ fn run(alloc: Global, p: &BusPlan, m: &Mapping) -> Result<(String, String, Strin
 /// The description with its plan, if it breaks no rule.
 fn planned(alloc: Global) -> Option<PlannedDescription>
     ensures sound { IfSome result (λ x. IsSound (plan_of x.plan) x.mapping) }
-    ensures points { IfSome result (λ x. length x.plan.points < 2 ^ 32) }
 {
     match plan_description(alloc, DESCRIPTION) {
         Ok(found) => Some(found),
@@ -225,7 +223,6 @@ fn run_planned(
     found: PlannedDescription,
 ) -> Result<(String, String, String), AllocError>
     requires sound { IsSound (plan_of found.plan) found.mapping }
-    requires points { length found.plan.points < 2 ^ 32 }
 {
     let told = run(alloc, &found.plan, &found.mapping);
     drop(found);

@@ -1,6 +1,6 @@
 //! What a bench that counts its work tells of turns. What is wanted was found by hand.
 
-ghost use Rattle.std.specs.Prelude.{◌≡◌, ◌+◌, ◌<◌, ◌≤◌, ◌^◌, length, IfOk, IfSome};
+ghost use Rattle.std.specs.Prelude.{◌≡◌, ◌+◌, ◌<◌, ◌≤◌, IfOk, IfSome};
 ghost use Rattle.bus_semantics.specs.declared.script.Mapping.{Mapping};
 ghost use Rattle.bus_semantics.specs.Plan.{plan_of};
 ghost use Rattle.task_generator.specs.Promise.{AsksAsPlanned};
@@ -109,7 +109,6 @@ fn new_bench<'a, L: Ledger>(
     blank: Blank,
 ) -> Result<CountingBench<'a, L>, AllocError>
     requires sound { IsSound (plan_of p.now) m.now }
-    requires points { length p.now.points < 2 ^ 32 }
     requires name { blank.name ≡ L.name }
     requires parts { blank.parts ≡ L.parts }
     requires one_part { blank.parts ≡ 1 }
@@ -193,7 +192,6 @@ fn run<L: Ledger>(
     blank: Blank,
 ) -> Result<(String, String), AllocError>
     requires sound { IsSound (plan_of p.now) m.now }
-    requires points { length p.now.points < 2 ^ 32 }
     requires bodies { AsksAsPlanned (plan_of p.now) t.now }
     requires name { blank.name ≡ L.name }
     requires parts { blank.parts ≡ L.parts }
@@ -216,7 +214,6 @@ fn run<L: Ledger>(
 /// The description with its plan, if it breaks no rule.
 fn planned(alloc: Global) -> Option<PlannedDescription>
     ensures sound { IfSome result (λ x. IsSound (plan_of x.plan) x.mapping) }
-    ensures points { IfSome result (λ x. length x.plan.points < 2 ^ 32) }
 {
     match plan_description(alloc, DESCRIPTION) {
         Ok(found) => Some(found),
@@ -232,7 +229,6 @@ fn run_bodies(
     blank: Blank,
 ) -> Result<(String, String), AllocError>
     requires sound { IsSound (plan_of p.now) m.now }
-    requires points { length p.now.points < 2 ^ 32 }
     requires one_part { blank.parts ≡ 1 }
 {
     let bodies = generate(alloc, p, m)?;
@@ -248,7 +244,6 @@ fn run_planned(
     blank: Blank,
 ) -> Result<(String, String), AllocError>
     requires sound { IsSound (plan_of found.plan) found.mapping }
-    requires points { length found.plan.points < 2 ^ 32 }
     requires one_part { blank.parts ≡ 1 }
 {
     let told = run_bodies(alloc, &found.plan, &found.mapping, blank);

@@ -1,4 +1,5 @@
 pub mod Accepted
+pub mod Bundling
 pub mod Computing
 pub mod Costs
 pub mod DoneLaws
@@ -11,9 +12,10 @@ pub mod LocalMachines
 pub mod LocalPhases
 pub mod LocalReturns
 pub mod LocalServers
+pub mod OneBundle
 pub mod OneEvent
 pub mod QueueLaws
 pub mod Resting
-pub mod Runs
+pub mod ReturnLaws
 pub mod Thinning
 pub mod WaitingLaws

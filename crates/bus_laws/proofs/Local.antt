@@ -25,8 +25,8 @@ use Rattle.bus_laws.proofs.LocalDue.{due_local, areas_local, due_free, areas_fre
 pub touching : (p : Plan) (m : Mapping) (h : Past) (n : Noted) (object : ℕ) → IsSound p m → list_all (is_proper p) h ≡ true → is_proper p n ≡ true → touched_by p n ≡ Some object
     → SameAnswers p n h (filter (touches p object) h)
 touching p m h n object sound fine proper touched = record {
-  unqueued = unqueued_local p h fine n.entry.actor n.entry.deed n.event object touched;
-  queued = queued_local p h fine n.entry.actor n.entry.deed n.event object touched;
+  unqueued = unqueued_local p m sound h fine n.entry.actor n.entry.deed n.event object touched;
+  queued = queued_local p m sound h fine n.entry.actor n.entry.deed n.event object touched;
   calls = calls_local p m h sound fine n.entry.actor n.entry.deed n.event object proper touched;
   areas = areas_local p m h sound fine n.entry.actor n.entry.deed n.event object touched;
   modes = modes_local p m h sound fine n.entry.actor n.entry.deed n.event object touched;
@@ -36,8 +36,8 @@ touching p m h n object sound fine proper touched = record {
 
 pub free : (p : Plan) (m : Mapping) (h : Past) (n : Noted) → IsSound p m → list_all (is_proper p) h ≡ true → is_proper p n ≡ true → touched_by p n ≡ None → SameAnswers p n h []
 free p m h n sound fine proper untouched = record {
-  unqueued = unqueued_free p h [] n.entry.actor n.entry.deed n.event untouched;
-  queued = queued_free p h [] n.entry.actor n.entry.deed n.event untouched;
+  unqueued = unqueued_free p m sound h [] n.entry.actor n.entry.deed n.event untouched;
+  queued = queued_free p m sound h [] n.entry.actor n.entry.deed n.event untouched;
   calls = calls_free p n.entry.actor n.entry.deed n.event h fine proper untouched;
   areas = areas_free p m h sound fine n.entry.actor n.entry.deed n.event untouched;
   modes = modes_free p h [] n.entry.actor n.entry.deed n.event untouched;

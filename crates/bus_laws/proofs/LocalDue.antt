@@ -2,7 +2,7 @@
 use Rattle.std.proofs.Common.{◌≡◌, ℕ, suc, ◌+◌, ◌%◌, Bool, true, false, ◌&&◌, ◌||◌, not, ◌==◌, if◌then◌else◌, refl, sym, ◌∙◌, ap, subst, [], ◌∷◌, length, Option, Some, None, is_some}
 use Rattle.std.proofs.lemmas.Bool.{and_from, and_parts, eqb-true}
 use Rattle.std.proofs.lemmas.Option.{same_Some}
-use Rattle.std.specs.Prelude.{filter, nat_lt}
+use Rattle.std.specs.Prelude.{filter, nat_lt, option_and_then}
 use Rattle.std.specs.List.{list_all, list_any, slice_get}
 use Rattle.std.specs.Option.{option_map_or}
 use Rattle.rte_value.specs.declared.kinds.ActKey.{ActKey}
@@ -17,6 +17,7 @@ use Rattle.bus_semantics.specs.declared.entries.Actor.TheVariants.{Env, Machine,
 use Rattle.bus_semantics.specs.declared.entries.Deed.{Deed}
 use Rattle.bus_semantics.specs.declared.entries.Deed.TheVariants as deed
 use Rattle.bus_semantics.specs.Plan.{Plan, server_of, kind_of, instance_of}
+use Rattle.bus_semantics.specs.Bundles.{home_of}
 use Rattle.bus_semantics.specs.Wanted.{wanted_by}
 use Rattle.bus_semantics.specs.History.{Past, Noted, count}
 use Rattle.bus_semantics.specs.Objects.{first_server, first_area, first_machine, clock, server_object, object_of_kind, served_by, touched_by, touches}
@@ -34,7 +35,8 @@ use Rattle.bus_semantics.specs.Sound.{IsSound}
 use Rattle.bus_semantics.specs.Locality.{starts_its_own, is_proper}
 use Rattle.bus_laws.proofs.Thinning.{noting, clash, differs, same_test, option_same, option_test, count_thin, any_thin, follows_thin}
 use Rattle.bus_laws.proofs.OneEvent.{invoked_serves}
-use Rattle.bus_laws.proofs.LocalGroups.{stands, accepts_thin, brings_quiet}
+use Rattle.bus_laws.proofs.Bundling.{no_bundle}
+use Rattle.bus_laws.proofs.LocalGroups.{accepts_thin, brings_quiet}
 use Rattle.bus_laws.proofs.LocalServers.{start_owned, unstarted_thin}
 use Rattle.bus_laws.proofs.LocalReturns.{returned_by_thin, returned_by_quiet}
 use Rattle.bus_laws.proofs.LocalCalls.{of_server, no_server, nobody_returns}
@@ -72,20 +74,20 @@ timing_thin p e period ours = follows_thin (touches p (clock p)) (is_proper p) (
 
 -- ---- data
 
-module _ (p : Plan) (x : ℕ) (v : ElemPlan) (there : slice_get p.elements x ≡ Some v) where
+module _ (p : Plan) (m : Mapping) (sound : IsSound p m) (x : ℕ) (v : ElemPlan) (there : slice_get p.elements x ≡ Some v) (o : ℕ) (home : home_of p v.group ≡ Some o) where
   brings_to : (n : Noted) (h : Past) → brings_data p x n h ≡ (is_some (stored_in p v.group n.entry.deed) || accepts_next p x h n.entry.deed)
-  brings_to n h = ap (λ (o : Option ElemPlan). option_map_or (λ (e : ElemPlan). is_some (stored_in p e.group n.entry.deed) || accepts_next p x h n.entry.deed) o false) there
+  brings_to n h = ap (λ (s : Option ElemPlan). option_map_or (λ (e : ElemPlan). is_some (stored_in p e.group n.entry.deed) || accepts_next p x h n.entry.deed) s false) there
 
-  brings_thin : (n : Noted) (h : Past) → list_all (is_proper p) h ≡ true → brings_data p x n (filter (touches p v.group) h) ≡ brings_data p x n h
-  brings_thin n h fine = brings_to n (filter (touches p v.group) h) ∙ (accepts_thin p x v there n h fine ∙ sym (brings_to n h))
+  brings_thin : (n : Noted) (h : Past) → list_all (is_proper p) h ≡ true → brings_data p x n (filter (touches p o) h) ≡ brings_data p x n h
+  brings_thin n h fine = brings_to n (filter (touches p o) h) ∙ (accepts_thin p m sound x v there o home n h fine ∙ sym (brings_to n h))
 
-  brings_off : (n : Noted) (h : Past) → touches p v.group n ≡ false → brings_data p x n h ≡ false
-  brings_off n h off = brings_to n h ∙ brings_quiet p x v there n h off
+  brings_off : (n : Noted) (h : Past) → touches p o n ≡ false → brings_data p x n h ≡ false
+  brings_off n h off = brings_to n h ∙ brings_quiet p m sound x v there o home n h off
 
-  data_thin : (e : ℕ) → object_of_kind p (kind_of p e) ≡ Some v.group → (h : Past) → list_all (is_proper p) h ≡ true
-      → follows_last (is_start_by e) (brings_data p x) (filter (touches p v.group) h) ≡ follows_last (is_start_by e) (brings_data p x) h
-  data_thin e ours = follows_thin (touches p v.group) (is_proper p) (is_start_by e) (brings_data p x)
-      (λ n o off. start_quiet p v.group e ours n off) (λ n h o fine off. brings_off n h off) (λ n h o fine. brings_thin n h fine)
+  data_thin : (e : ℕ) → object_of_kind p (kind_of p e) ≡ Some o → (h : Past) → list_all (is_proper p) h ≡ true
+      → follows_last (is_start_by e) (brings_data p x) (filter (touches p o) h) ≡ follows_last (is_start_by e) (brings_data p x) h
+  data_thin e ours = follows_thin (touches p o) (is_proper p) (is_start_by e) (brings_data p x)
+      (λ n ok off. start_quiet p o e ours n off) (λ n h ok fine off. brings_off n h off) (λ n h ok fine. brings_thin n h fine)
 
 -- ---- servers
 
@@ -166,12 +168,10 @@ module _ (p : Plan) (m : Mapping) (sound : IsSound p m) (e s : ℕ) (kind : kind
   counts_server (Act k) proper q counts = counts_key k proper k.point refl q counts
 
 module _ (p : Plan) (m : Mapping) (h : Past) (sound : IsSound p m) (fine : list_all (is_proper p) h ≡ true) where
-  data_local : (e x o : ℕ) → kind_of p e ≡ DataReceived x → (v : Option ElemPlan) → slice_get p.elements x ≡ v → option_map_or (λ (w : ElemPlan). Some w.group) v None ≡ Some o
+  data_local : (e x o : ℕ) → object_of_kind p (kind_of p e) ≡ Some o → (v : Option ElemPlan) → slice_get p.elements x ≡ v → option_and_then (home_of p) (option_map_or (λ (w : ElemPlan). Some w.group) v None) ≡ Some o
       → follows_last (is_start_by e) (brings_data p x) h ≡ follows_last (is_start_by e) (brings_data p x) (filter (touches p o) h)
-  data_local e x o kind None there touched = absurd (cc touched)
-  data_local e x o kind (Some v) there touched =
-      sym (subst (λ k. follows_last (is_start_by e) (brings_data p x) (filter (touches p k) h) ≡ follows_last (is_start_by e) (brings_data p x) h) (same_Some v.group o touched)
-      (data_thin p x v there e (ap (object_of_kind p) kind ∙ stands p x v there) h fine))
+  data_local e x o ours None there touched = absurd (cc touched)
+  data_local e x o ours (Some v) there touched = sym (data_thin p m sound x v there o touched e ours h fine)
 
   kind_local : (a : Actor) (e : ℕ) (point : Option ℕ) (value : _) (event : Option ℕ) (o : ℕ) → is_proper p (noting a (deed.Start e point value) event) ≡ true
       → (k : EventKind) → kind_of p e ≡ k → object_of_kind p k ≡ Some o → is_due_kind p a e k h ≡ is_due_kind p a e k (filter (touches p o) h)
@@ -179,7 +179,7 @@ module _ (p : Plan) (m : Mapping) (h : Past) (sound : IsSound p m) (fine : list_
       sym (subst (λ k. follows_last (is_start_by e) (ticks_period period) (filter (touches p k) h) ≡ follows_last (is_start_by e) (ticks_period period) h) (same_Some (clock p) o touched)
       (timing_thin p e period (ap (object_of_kind p) is) h fine))
   kind_local a e point value event o proper Init is touched = sym (never_thin p o e (ap (object_of_kind p) is ∙ touched) h fine)
-  kind_local a e point value event o proper (DataReceived x) is touched = data_local e x o is (slice_get p.elements x) refl touched
+  kind_local a e point value event o proper (DataReceived x) is touched = data_local e x o (ap (object_of_kind p) is ∙ touched) (slice_get p.elements x) refl touched
   kind_local a e point value event o proper (Invoked s) is touched =
       sym (subst (λ k. has_unstarted (counts_for p s (key_point_of a)) (filter (touches p k) h) ≡ has_unstarted (counts_for p s (key_point_of a)) h) (same_Some (first_server p + s) o touched)
       (unstarted_thin p s (counts_for p s (key_point_of a)) (counts_server p m sound e s is point value event a proper) h fine))
@@ -216,7 +216,7 @@ module _ (p : Plan) (m : Mapping) (h : Past) (sound : IsSound p m) (fine : list_
   kind_free : (a : Actor) (e : ℕ) (k : EventKind) → object_of_kind p k ≡ None → is_due_kind p a e k h ≡ is_due_kind p a e k []
   kind_free a e (Timing period) free = absurd (cc free)
   kind_free a e Init free = absurd (cc free)
-  kind_free a e (DataReceived x) free = never_follows (is_start_by e) (brings_data p x) (λ n l f. no_data x (slice_get p.elements x) refl free n l) h fine
+  kind_free a e (DataReceived x) free = never_follows (is_start_by e) (brings_data p x) (λ n l f. no_data x (slice_get p.elements x) refl (no_bundle p sound.bundles sound.groups x free) n l) h fine
   kind_free a e (Invoked s) free = absurd (cc free)
   kind_free a e (Returns q) free = never_follows (is_start_by_return_of p q) (returns_to q)
       (λ n l f. ap is_some (nobody_returns p q (no_server p (server_of p q) free) n.entry.actor n.entry.deed l f)) h fine

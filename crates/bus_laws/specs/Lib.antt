@@ -1,4 +1,4 @@
 pub mod Bounds
 pub mod Happened
-pub mod Interpreted
+pub mod Returned
 pub mod Waiting

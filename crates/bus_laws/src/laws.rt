@@ -8,14 +8,14 @@ ghost use Rattle.bus_semantics.specs.declared.entries.Actor.{Actor};
 ghost use Rattle.bus_semantics.specs.declared.entries.Deed.{Deed};
 ghost use Rattle.bus_semantics.specs.declared.plan.EventKind.TheVariants.{Timing};
 ghost use Rattle.bus_semantics.specs.declared.script.Mapping.{Mapping};
-ghost use Rattle.bus_semantics.specs.Plan.{Plan, Runnable, kind_of};
+ghost use Rattle.bus_semantics.specs.Plan.{Plan, Runnable, kind_of, server_of};
 ghost use Rattle.bus_semantics.specs.State.{State};
 ghost use Rattle.bus_semantics.specs.Programs.{run_program};
 ghost use Rattle.bus_laws.specs.Bounds.{UsesAtMost};
 ghost use Rattle.bus_semantics.specs.SoundPrograms.{is_well_formed, body_sound};
 ghost use Rattle.bus_semantics.specs.History.{History, Noted, Past, noted};
 ghost use Rattle.bus_semantics.specs.Wanted.{to_start, to_enter, to_hear};
-ghost use Rattle.bus_semantics.specs.Calls.{answer_to};
+ghost use Rattle.bus_semantics.specs.Calls.{answer_to, result_of};
 ghost use Rattle.bus_semantics.specs.Areas.{is_held};
 ghost use Rattle.bus_semantics.specs.Rest.{IsStuck};
 ghost use Rattle.bus_semantics.specs.Due.{is_due, follows_last};
@@ -23,6 +23,7 @@ ghost use Rattle.bus_semantics.specs.Owed.{is_done};
 ghost use Rattle.bus_semantics.specs.Queued.{accepted_at, taken_at, places_at};
 ghost use Rattle.bus_semantics.specs.Sound.{IsSound};
 ghost use Rattle.bus_laws.specs.Happened.{HappenedSince, TickedSince, DoneInPhase, IsAccepted};
+ghost use Rattle.bus_laws.specs.Returned.{IsAnswered};
 ghost use Rattle.bus_laws.specs.Waiting.{Chain};
 ghost use Rattle.bus_semantics.specs.Legal.{IsLegal, is_legal};
 
@@ -57,6 +58,18 @@ pub fn accepted_values_found_room()
     ensures accepted { (p : Plan) (elem place : ℕ) (words : List ℤ) (h : Past) →
         (slice_get (accepted_at p elem h) place ≡ Some words) ↔ IsAccepted p elem place words h }
     ensures bounded { (p : Plan) (elem : ℕ) (h : Past) → length (accepted_at p elem h) ≤ taken_at elem h + places_at p elem }
+{}
+
+/// A point has an answer exactly if the activation that serves its last request has returned and no reply was taken since:
+/// it is what that activation returned. Without one a result is 131 RTE_E_NO_DATA at a joined point, and in a legal history 131
+/// comes at no other time (SWS_RTE: Rte_Call, Rte_Result).
+pub fn answers_are_returns()
+    ensures some { (point code : ℕ) (words : List ℤ) (h : Past) → answer_to point h ≡ Some (code, words) → IsAnswered point code words h }
+    ensures none { (point code : ℕ) (words : List ℤ) (h : Past) → answer_to point h ≡ None → IsAnswered point code words h → ⊥ }
+    ensures no_data { (p : Plan) (point server : ℕ) (h : Past) → server_of p point ≡ Some server →
+        ((code : ℕ) (words : List ℤ) → IsAnswered point code words h → ⊥) → result_of p point h ≡ (131, []) }
+    ensures only_then { (p : Plan) (point code : ℕ) (words : List ℤ) (h : History) → IsLegal p h →
+        (result_of p point (noted h)).0 ≡ 131 → IsAnswered point code words (noted h) → ⊥ }
 {}
 
 /// No chain of waiting calls leads from a task of a sound plan back to it, since the ranks of the tasks rise along each call

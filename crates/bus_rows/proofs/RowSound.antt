@@ -1,6 +1,6 @@
 -- A plan with its mapping is sound exactly if no fact that is computed is broken and the tasks have an order; and a way to have one.
-use Rattle.std.specs.Prelude.{◌≡◌, ℕ, ◌+◌, List, [], ◌∷◌, Bool, true, false, ◌&&◌, if◌then◌else◌, nat_le, Some, refl}
-use Rattle.std.proofs.lemmas.Bool.{and_parts, and_from, false≢true}
+use Rattle.std.specs.Prelude.{◌≡◌, ℕ, ◌+◌, List, [], ◌∷◌, Bool, true, false, ◌&&◌, if◌then◌else◌, length, nat_le, Some, refl}
+use Rattle.std.proofs.lemmas.Bool.{and_parts, and_from, eqb-true, eq-eqb, false≢true}
 use Rattle.runnable_lang.specs.Costs.{body_cost}
 use Rattle.bus_semantics.specs.declared.script.Mapping.{Mapping}
 use Rattle.bus_semantics.specs.Plan.{Plan, Runnable, every_from}
@@ -8,7 +8,7 @@ use Rattle.bus_semantics.specs.Sound.{IsSound, WaitOrder, waits_for}
 use Rattle.bus_semantics.specs.SoundNames.{names_fit, names_distinct, none_is_env, ports_agree}
 use Rattle.bus_semantics.specs.SoundAccesses.{access_sound, each_access, accesses_distinct, areas_rise}
 use Rattle.bus_semantics.specs.SoundPrograms.{body_sound, has_arguments}
-use Rattle.bus_rows.specs.SoundFacts.{Fact, facts, broken, broken_facts}
+use Rattle.bus_rows.specs.SoundFacts.{Fact, facts, broken, broken_facts, LacksOnly}
 
 -- ---- facts
 
@@ -114,6 +114,10 @@ sound_of p m e order =
       direct = w.1.1.0;
       lengths = w.1.1.1.0;
       tasks = w.1.1.1.1.0;
+      few_points = w.1.1.1.1.1.0;
+      lists = w.1.1.1.1.1.1.0;
+      bundles = w.1.1.1.1.1.1.1.0;
+      none_listed = eqb-true (length p.lists) 0 w.1.1.1.1.1.1.1.1.0;
       order = order;
     }
 
@@ -128,7 +132,15 @@ none_broken p m s =
     let f = apart programs (bounded p) 0 p.runnables b.1 in
     let g = apart costs (few p) 0 p.runnables f.1 in
     let h = apart variables (arguments p) 0 p.runnables g.1 in
-    none (facts p m) (n.0, (d.0, (k.0, (k.1, (s.ports, (s.arranged, (s.instances, (s.groups, (s.objects, (s.elements, (s.joins, (s.machines, (s.mode_ports, (s.points, (s.operations, (a.0, (c.0, (c.1, (f.0, (g.0, (h.0, (h.1, (s.events, (s.servers, (s.direct, (s.lengths, (s.tasks, tt)))))))))))))))))))))))))))
+    none (facts p m) (n.0, (d.0, (k.0, (k.1, (s.ports, (s.arranged, (s.instances, (s.groups, (s.objects, (s.elements, (s.joins, (s.machines, (s.mode_ports, (s.points, (s.operations, (a.0, (c.0, (c.1, (f.0, (g.0, (h.0, (h.1, (s.events, (s.servers, (s.direct, (s.lengths, (s.tasks, (s.few_points, (s.lists, (s.bundles, (eq-eqb (length p.lists) 0 s.none_listed, tt)))))))))))))))))))))))))))))))
+
+-- ---- what a plan lacks
+
+other : (name : Fact) (names found : List Fact) → found ≡ name ∷ names → found ≡ [] → ⊥
+other name names found e n = cc
+
+pub lacks : (fact : Fact) (p : Plan) (m : Mapping) → broken_facts p m ≡ fact ∷ [] → WaitOrder p m → LacksOnly fact p m
+lacks fact p m e order = record { unsound = λ s. other fact [] (broken_facts p m) e (none_broken p m s); broken = e; order = order }
 
 -- ---- no task waits for another
 

@@ -25,6 +25,7 @@ to_and_fro = record {
   accesses = naming kind.Switch 0 2 ∷ [];
   targets = 0 ∷ [];
   server = None;
+  lists = [];
 }
 
 abbrev pub one_provider : Plan
@@ -39,6 +40,9 @@ one_provider = record {
   mode_ports = [];
   events = starting 0 (codes "I") Init ∷ starting 1 (codes "A") (Ack 0) ∷ [];
   runnables = to_and_fro ∷ doing_nothing (codes "Told") ∷ [];
+  lists = [];
+  homes = [];
+  bundles = [];
   objects = 2;
 }
 

@@ -24,6 +24,7 @@ counter name = record {
   accesses = naming kind.Enter 0 0 ∷ taking kind.IrvRead 0 ∷ giving kind.IrvWrite 0 ∷ [];
   targets = 0 ∷ 0 ∷ 0 ∷ [];
   server = None;
+  lists = [];
 }
 
 abbrev pub two_counters : Plan
@@ -38,6 +39,9 @@ two_counters = record {
   mode_ports = [];
   events = starting 0 (codes "E0") (Timing 10) ∷ starting 1 (codes "E1") (Timing 10) ∷ [];
   runnables = counter (codes "R0") ∷ counter (codes "R1") ∷ [];
+  lists = [];
+  homes = 0 ∷ [];
+  bundles = (0 ∷ []) ∷ [];
   objects = 3;
 }
 

@@ -23,6 +23,7 @@ client = record {
   accesses = record { kind = kind.Call; port = 0; item = 0; ins = one_limit; outs = one_limit; modes = 0 } ∷ [];
   targets = 0 ∷ [];
   server = None;
+  lists = [];
 }
 
 abbrev pub direct_server : Plan
@@ -37,6 +38,9 @@ direct_server = record {
   mode_ports = [];
   events = starting 0 (codes "E") (Timing 10) ∷ starting 1 (codes "O") (Invoked 0) ∷ [];
   runnables = client ∷ adder 1 ∷ [];
+  lists = [];
+  homes = [];
+  bundles = [];
   objects = 2;
 }
 

@@ -25,6 +25,7 @@ copier = record {
   accesses = taking kind.IRead 1 ∷ giving kind.Write 0 ∷ [];
   targets = 1 ∷ 0 ∷ [];
   server = None;
+  lists = [];
 }
 
 -- `o.v` of `u` is not joined
@@ -40,6 +41,9 @@ early_reader = record {
   mode_ports = [];
   events = starting 0 (codes "E") (Timing 10) ∷ starting 1 (codes "E") (Timing 10) ∷ [];
   runnables = copier ∷ writer 1 2 ∷ [];
+  lists = [];
+  homes = 0 ∷ 1 ∷ [];
+  bundles = (0 ∷ []) ∷ (1 ∷ []) ∷ [];
   objects = 3;
 }
 
@@ -82,6 +86,7 @@ late_writer = record {
   accesses = giving kind.IWrite 0 ∷ giving kind.IrvWrite 0 ∷ [];
   targets = 0 ∷ 1 ∷ [];
   server = None;
+  lists = [];
 }
 
 abbrev pub late_publisher : Plan
@@ -96,6 +101,9 @@ late_publisher = record {
   mode_ports = [];
   events = starting 0 (codes "E") (Timing 10) ∷ starting 1 (codes "E") (Timing 10) ∷ [];
   runnables = late_writer ∷ reader 2 ∷ [];
+  lists = [];
+  homes = 0 ∷ 1 ∷ [];
+  bundles = (0 ∷ []) ∷ (1 ∷ []) ∷ [];
   objects = 3;
 }
 

@@ -3,6 +3,7 @@ pub mod SoundFacts
 pub mod OneWriter
 pub mod Queues
 pub mod ImplicitAccess
+pub mod CoherentLists
 pub mod AreaHeld
 pub mod OutsideCall
 pub mod DirectCall

@@ -36,7 +36,7 @@ owed r name moment = starting r name (ModeSwitch 0 moment)
 
 -- a runnable of instance `u` with an empty program
 abbrev pub doing_nothing : (name : List ℕ) → Runnable
-doing_nothing name = record { instance = 0; name = name; program = record { vars = 0; body = done }; accesses = []; targets = []; server = None }
+doing_nothing name = record { instance = 0; name = name; program = record { vars = 0; body = done }; accesses = []; targets = []; server = None; lists = [] }
 
 abbrev pub phase_close : Deed
 phase_close = deed.Phase (step.Close 1)
@@ -67,6 +67,9 @@ one_machine = record {
   mode_ports = mode_port 0 (codes "p.g") 0 ∷ [];
   events = disabled_in_on 0 ∷ owed 1 (codes "X1") (OnExit 0) ∷ owed 2 (codes "Y1") (OnTransition 0 1) ∷ owed 3 (codes "Z1") (OnEntry 1) ∷ [];
   runnables = doing_nothing (codes "F") ∷ doing_nothing (codes "X") ∷ doing_nothing (codes "Y") ∷ doing_nothing (codes "Z") ∷ [];
+  lists = [];
+  homes = [];
+  bundles = [];
   objects = 2;
 }
 

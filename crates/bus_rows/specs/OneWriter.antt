@@ -24,6 +24,7 @@ writer i x = record {
   accesses = giving kind.Write 0 ∷ [];
   targets = x ∷ [];
   server = None;
+  lists = [];
 }
 
 -- runnable `Look` of instance `r`, the second one: it reads its element `i.v`
@@ -35,6 +36,7 @@ reader x = record {
   accesses = taking kind.Read 0 ∷ [];
   targets = x ∷ [];
   server = None;
+  lists = [];
 }
 
 abbrev pub one_writer : Plan
@@ -49,6 +51,9 @@ one_writer = record {
   mode_ports = [];
   events = starting 0 (codes "E") (Timing 10) ∷ starting 1 (codes "E") (Timing 10) ∷ [];
   runnables = writer 0 0 ∷ reader 1 ∷ [];
+  lists = [];
+  homes = 0 ∷ [];
+  bundles = (0 ∷ []) ∷ [];
   objects = 2;
 }
 

@@ -27,6 +27,7 @@ adder i = record {
   accesses = [];
   targets = [];
   server = Some 0;
+  lists = [];
 }
 
 -- operation `op` of port `s`, with `in` argument `a`, `out` argument `b` and the error 5
@@ -71,6 +72,9 @@ outside_caller = record {
   mode_ports = [];
   events = starting 0 (codes "O") (Invoked 0) ∷ [];
   runnables = adder 0 ∷ [];
+  lists = [];
+  homes = [];
+  bundles = [];
   objects = 2;
 }
 

@@ -24,6 +24,7 @@ asker = record {
   accesses = giving kind.ACall 0 ∷ [];
   targets = 1 ∷ [];
   server = None;
+  lists = [];
 }
 
 -- runnable `Hear` of instance `j`: it takes the result of `d.op`
@@ -35,6 +36,7 @@ hearer = record {
   accesses = taking kind.TakeResult 0 ∷ [];
   targets = 1 ∷ [];
   server = None;
+  lists = [];
 }
 
 abbrev pub two_clients : Plan
@@ -49,6 +51,9 @@ two_clients = record {
   mode_ports = [];
   events = starting 0 (codes "E") (Timing 10) ∷ starting 1 (codes "E") (Timing 10) ∷ starting 2 (codes "R") (Returns 1) ∷ starting 3 (codes "O") (Invoked 0) ∷ [];
   runnables = client ∷ asker ∷ hearer ∷ adder 2 ∷ [];
+  lists = [];
+  homes = [];
+  bundles = [];
   objects = 2;
 }
 

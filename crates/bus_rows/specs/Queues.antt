@@ -26,6 +26,7 @@ taker i x = record {
   accesses = taking kind.Receive 0 ∷ [];
   targets = x ∷ [];
   server = None;
+  lists = [];
 }
 
 abbrev pub send : (elem : ℕ) → (value : ℕ) → Line
@@ -55,6 +56,9 @@ one_queue = record {
   mode_ports = [];
   events = starting 0 (codes "D") (DataReceived 0) ∷ [];
   runnables = taker 0 0 ∷ [];
+  lists = [];
+  homes = 0 ∷ [];
+  bundles = (0 ∷ []) ∷ [];
   objects = 2;
 }
 
@@ -111,6 +115,9 @@ two_queues = record {
   mode_ports = [];
   events = starting 0 (codes "D") (DataReceived 0) ∷ starting 1 (codes "D") (DataReceived 1) ∷ [];
   runnables = taker 0 0 ∷ taker 1 1 ∷ [];
+  lists = [];
+  homes = 0 ∷ [];
+  bundles = (0 ∷ []) ∷ [];
   objects = 2;
 }
 

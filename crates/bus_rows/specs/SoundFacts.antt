@@ -1,5 +1,5 @@
 -- What a plan with its mapping lacks to be sound: the facts that are computed, each by a name of its own.
-use Rattle.std.specs.Prelude.{◌≡◌, List, [], ◌∷◌, Bool, ◌&&◌, nat_lt, nat_le, length, if◌then◌else◌, Some}
+use Rattle.std.specs.Prelude.{◌≡◌, List, [], ◌∷◌, Bool, ◌&&◌, ◌==◌, nat_lt, nat_le, length, if◌then◌else◌, Some}
 use Rattle.std.specs.List.{list_all}
 use Rattle.runnable_lang.specs.Costs.{body_cost}
 use Rattle.bus_semantics.specs.declared.plan.ModePortPlan.{ModePortPlan}
@@ -12,6 +12,7 @@ use Rattle.bus_semantics.specs.SoundNames.{names_fit, names_distinct, none_is_en
 use Rattle.bus_semantics.specs.SoundAccesses.{access_sound, each_access, accesses_distinct, areas_rise, points_arranged, points_fit}
 use Rattle.bus_semantics.specs.SoundPrograms.{body_sound, has_arguments}
 use Rattle.bus_semantics.specs.SoundEvents.{event_sound, server_served, serves_back, direct_sound}
+use Rattle.bus_semantics.specs.SoundLists.{lists_sound, bundles_fit}
 
 -- the facts of `IsSound` and of its runnables, except the order of waiting calls
 pub data Fact : Type 0 where
@@ -42,6 +43,10 @@ pub data Fact : Type 0 where
   DirectSound : Fact
   QueuesFit : Fact
   TasksFit : Fact
+  PointsFew : Fact
+  ListsSound : Fact
+  BundlesFit : Fact
+  NothingListed : Fact
 
 abbrev pub facts : Plan → Mapping → List (Fact × Bool)
 facts p m =
@@ -72,6 +77,10 @@ facts p m =
     ∷ (DirectSound, every_from 0 (direct_sound p) p.servers)
     ∷ (QueuesFit, nat_le (queue_lengths p) 65536)
     ∷ (TasksFit, mapping_fits p m)
+    ∷ (PointsFew, nat_le (length p.points) 262144)
+    ∷ (ListsSound, lists_sound p)
+    ∷ (BundlesFit, bundles_fit p)
+    ∷ (NothingListed, length p.lists == 0)
     ∷ []
 
 -- those that do not hold

@@ -24,6 +24,7 @@ observer = record {
   accesses = naming kind.Mode 0 2 ∷ naming kind.Mode 1 2 ∷ [];
   targets = 0 ∷ 1 ∷ [];
   server = None;
+  lists = [];
 }
 
 -- `Z` starts on entry of `On` of the first machine, whose port is `p`
@@ -39,6 +40,9 @@ two_machines = record {
   mode_ports = mode_port 0 (codes "p.g") 0 ∷ mode_port 0 (codes "q.g") 1 ∷ [];
   events = owed 0 (codes "Z1") (OnEntry 1) ∷ [];
   runnables = observer ∷ [];
+  lists = [];
+  homes = [];
+  bundles = [];
   objects = 3;
 }
 

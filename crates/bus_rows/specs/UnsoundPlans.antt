@@ -11,6 +11,7 @@ use Rattle.bus_semantics.specs.declared.plan.EventKind.TheVariants.{Timing, Invo
 use Rattle.bus_semantics.specs.declared.script.Mapping.{Mapping}
 use Rattle.bus_semantics.specs.Plan.{Plan, Runnable}
 use Rattle.bus_rows.specs.RowParts.{to_1000, one_limit, provided, naming, starting, task}
+use Rattle.bus_rows.specs.OneWriter.{writer, reader, one_writer}
 use Rattle.bus_rows.specs.OutsideCall.{operation, call_point}
 use Rattle.bus_rows.specs.WaitingSwitch.{three_writes, flipper, waiting}
 
@@ -25,6 +26,7 @@ nesting name outer inner = record {
   accesses = naming kind.Enter 0 0 ∷ record (naming kind.Enter 0 0) { item = 1 } ∷ [];
   targets = outer ∷ inner ∷ [];
   server = None;
+  lists = [];
 }
 
 -- the first runnable enters area 1 within area 0, and the second one enters `inner` within `outer`
@@ -40,6 +42,9 @@ nested_areas outer inner = record {
   mode_ports = [];
   events = starting 0 (codes "E0") (Timing 10) ∷ starting 1 (codes "E1") (Timing 10) ∷ [];
   runnables = nesting (codes "R0") 0 1 ∷ nesting (codes "R1") outer inner ∷ [];
+  lists = [];
+  homes = [];
+  bundles = [];
   objects = 3;
 }
 
@@ -73,7 +78,11 @@ two_points name n = record {
     accesses = calling 0 1 ∷ calling 1 n ∷ [];
     targets = 0 ∷ 1 ∷ [];
     server = None;
+    lists = [];
   } ∷ [];
+  lists = [];
+  homes = [];
+  bundles = [];
   objects = 1;
 }
 
@@ -99,11 +108,23 @@ three_elements name = record {
   mode_ports = [];
   events = [];
   runnables = [];
+  lists = [];
+  homes = 0 ∷ 1 ∷ 2 ∷ [];
+  bundles = (0 ∷ []) ∷ (1 ∷ []) ∷ (2 ∷ []) ∷ [];
   objects = 4;
 }
 
 abbrev pub no_task : Mapping
 no_task = record { cores = 1; tasks = [] }
+
+-- the same, with all groups in one bundle, though no list connects them
+abbrev pub in_one_bundle : Plan
+in_one_bundle = record (three_elements (codes "p.w")) { homes = 0 ∷ 0 ∷ 0 ∷ []; bundles = (0 ∷ 1 ∷ 2 ∷ []) ∷ []; objects = 2 }
+
+-- ---- lists: a writer and a reader, where the writer has these lists and the plan has none
+
+abbrev pub writer_lists : List ℕ → Plan
+writer_lists ls = record one_writer { runnables = record (writer 0 0) { lists = ls } ∷ reader 1 ∷ [] }
 
 -- ---- calls: two servers with queues, whose runnables call, and wait
 
@@ -116,6 +137,7 @@ serving_and_calling i = record {
   accesses = record { kind = kind.Call; port = 0; item = 0; ins = one_limit; outs = one_limit; modes = 0 } ∷ [];
   targets = i ∷ [];
   server = Some i;
+  lists = [];
 }
 
 -- the first one calls the second server, and the second one calls this server; the environment calls the first
@@ -134,6 +156,9 @@ servers_that_call second_calls = record {
   mode_ports = [];
   events = starting 0 (codes "O") (Invoked 0) ∷ starting 1 (codes "O") (Invoked 1) ∷ [];
   runnables = serving_and_calling 0 ∷ serving_and_calling 1 ∷ [];
+  lists = [];
+  homes = [];
+  bundles = [];
   objects = 3;
 }
 

@@ -29,6 +29,7 @@ three_writes = record {
   accesses = giving kind.IrvWrite 0 ∷ [];
   targets = 0 ∷ [];
   server = None;
+  lists = [];
 }
 
 -- runnable `Flip` of instance `b`: it switches to `On`
@@ -40,6 +41,7 @@ flipper = record {
   accesses = naming kind.Switch 0 2 ∷ [];
   targets = 0 ∷ [];
   server = None;
+  lists = [];
 }
 
 -- the plan, by whether the machine waits
@@ -55,6 +57,9 @@ user_and_boss waits = record {
   mode_ports = mode_port 0 (codes "p.g") 0 ∷ [];
   events = disabled_in_on 0 ∷ starting 1 (codes "E") (Timing 10) ∷ [];
   runnables = three_writes ∷ flipper ∷ [];
+  lists = [];
+  homes = 0 ∷ [];
+  bundles = (0 ∷ []) ∷ [];
   objects = 3;
 }
 

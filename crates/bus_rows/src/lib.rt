@@ -7,6 +7,7 @@ mod unsound;
 
 pub use rows::{
     acknowledged_mode_switch, area_is_held_until_it_is_left, asynchronous_mode_switch,
+    coherent_list_is_fetched_at_one_moment, coherent_list_publishes_what_was_written,
     direct_server_runs_within_its_call, environment_asks_a_server,
     implicit_read_keeps_the_fetched_value, implicit_write_is_published_at_the_end,
     mode_switch_on_three_cores, mode_switch_that_waits, queue_of_two_loses_the_third,

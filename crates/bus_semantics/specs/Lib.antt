@@ -1,5 +1,7 @@
 pub mod Plan
 pub mod Wanted
+pub mod Lists
+pub mod Bundles
 pub mod History
 pub mod Objects
 pub mod Owners
@@ -35,4 +37,5 @@ pub mod SoundNames
 pub mod SoundAccesses
 pub mod SoundPrograms
 pub mod SoundEvents
+pub mod SoundLists
 pub mod Sound

@@ -1,5 +1,5 @@
--- What a line of a trace of some version is read as: an item that fits and has this text. Codes are bytes, words have
--- 64 bits, and positions in the lists of a plan 32.
+-- What a line of a trace of some version is read as: an item that fits and has this text. Codes are bytes, masks have 16 bits, words
+-- 64, and positions in the lists of a plan 32.
 use Rattle.std.specs.Prelude.{◌≡◌, ℕ, pos, negsuc, Bool, true, ◌&&◌, nat_lt, int_le, Option, Some, None}
 use Rattle.std.specs.List.{list_all}
 use Rattle.rte_value.specs.declared.kinds.Step.TheVariants as step
@@ -51,6 +51,8 @@ is_sized (deed.Mode port mode) = is_index port && is_index mode
 is_sized (deed.Phase (step.Close mode)) = is_index mode
 is_sized (deed.Phase s) = true
 is_sized (deed.Publish x value) = is_index x && are_words value
+is_sized (deed.FetchAll l value) = is_index l && are_words value
+is_sized (deed.PublishAll l written value) = is_index l && (nat_lt written 65536 && are_words value)
 is_sized deed.End = true
 
 abbrev pub is_sized_actor : Actor → Bool

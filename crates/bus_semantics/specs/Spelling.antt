@@ -1,6 +1,6 @@
 -- The spelling of a session in a trace, which is this project's own: a header, then one line for each item. A session has its newest item
 -- first, and a trace its oldest; so each new line stands at the end. The versions differ in the header and in how modes are spelled.
-use Rattle.std.specs.Prelude.{◌≡◌, ℕ, ℤ, List, [], ◌∷◌, ◌++◌, codes, decimal, if◌then◌else◌, Option, Some, None}
+use Rattle.std.specs.Prelude.{◌≡◌, ℕ, ℤ, List, [], ◌∷◌, ◌++◌, codes, decimal, position, ◌/◌, ◌%◌, ◌==◌, if◌then◌else◌, Option, Some, None, unwrap_or}
 use Rattle.std.specs.Fmt.{signed_decimal}
 use Rattle.rte_value.specs.declared.kinds.ActKey.{ActKey}
 use Rattle.rte_value.specs.declared.kinds.Step.{Step}
@@ -13,6 +13,7 @@ use Rattle.bus_semantics.specs.declared.plan.AreaPlan.{AreaPlan}
 use Rattle.bus_semantics.specs.declared.plan.MachinePlan.{MachinePlan}
 use Rattle.bus_semantics.specs.declared.plan.ModePortPlan.{ModePortPlan}
 use Rattle.bus_semantics.specs.declared.plan.EventPlan.{EventPlan}
+use Rattle.bus_semantics.specs.declared.plan.CoherentList.{CoherentList}
 use Rattle.bus_semantics.specs.declared.entries.Actor.{Actor}
 use Rattle.bus_semantics.specs.declared.entries.Actor.TheVariants.{Env, Machine, Act}
 use Rattle.bus_semantics.specs.declared.entries.Deed.{Deed}
@@ -21,6 +22,7 @@ use Rattle.bus_semantics.specs.declared.entries.Entry.{Entry}
 use Rattle.bus_semantics.specs.declared.version.Version.{Version}
 use Rattle.bus_semantics.specs.declared.version.Version.TheVariants.{One, Two}
 use Rattle.bus_semantics.specs.Plan.{Plan, Runnable, look, machine_of_port}
+use Rattle.bus_semantics.specs.Lists.{elems_of}
 use Rattle.bus_semantics.specs.Objects.{machine_itself}
 use Rattle.bus_semantics.specs.Run.{Closing, idle, unsettled, Item, made, run_begins, run_closes, Session}
 
@@ -95,6 +97,15 @@ mode_port_name p port = look p.mode_ports port (λ (t : ModePortPlan). t.name) [
 abbrev pub event_name : Plan → ℕ → Letters
 event_name p e = look p.events e (λ (v : EventPlan). v.name) []
 
+-- a coherent list has no name: its place among the lists of its runnable, from 0
+abbrev pub position_of : Plan → (list : ℕ) → ℕ
+position_of p l = look p.lists l (λ (c : CoherentList). look p.runnables c.runnable (λ (r : Runnable). unwrap_or (position (λ n. n == l) r.lists) 0) 0) 0
+
+-- one digit for each element of a list, the first one's first: 1 where it is marked
+abbrev pub mask_text : (mask : ℕ) → (elems : List ℕ) → Letters
+mask_text w [] = []
+mask_text w (x ∷ xs) = (if w % 2 == 1 then codes "1" else codes "0") ++ mask_text (w / 2) xs
+
 -- ---- deeds
 
 abbrev pub from_text : Plan → Option ℕ → Value → Letters
@@ -139,6 +150,8 @@ deed_text v p a (deed.Switch m mode code) = codes "switch " ++ machine_name p m 
 deed_text v p a (deed.Mode port mode) = codes "mode " ++ mode_port_name p port ++ spaced (mode_text v p (machine_of_port p port) mode)
 deed_text v p a (deed.Phase s) = phase_text v p a s
 deed_text v p a (deed.Publish x value) = codes "publish " ++ elem_name p x ++ spaced (value_text value)
+deed_text v p a (deed.FetchAll l value) = codes "fetchAll " ++ decimal (position_of p l) ++ spaced (value_text value)
+deed_text v p a (deed.PublishAll l written value) = codes "publishAll " ++ decimal (position_of p l) ++ spaced (mask_text written (elems_of p l)) ++ spaced (value_text value)
 deed_text v p a deed.End = codes "end"
 
 -- ---- lines

@@ -28,6 +28,7 @@ pub fn words_of_answer(answer: &Deed) -> &[Word]
 {
     match answer {
         Deed::Fetch { value, .. }
+        | Deed::FetchAll { value, .. }
         | Deed::Read { value, .. }
         | Deed::Receive { value, .. }
         | Deed::Answer { value, .. }

@@ -2,6 +2,8 @@
 
 ghost use Rattle.std.specs.Prelude.{◌≡◌};
 ghost use Rattle.bus_semantics.specs.Plan.{plan_of, group_of, kind_of, server_of, machine_of_port};
+ghost use Rattle.bus_semantics.specs.Lists.{elems_of, words_at};
+ghost use Rattle.bus_semantics.specs.Bundles.{home_of, bundle_of, bundle_of_list};
 
 use crate::plan::{BusPlan, EventKind};
 
@@ -13,6 +15,56 @@ impl BusPlan {
         match self.elements.items().get(elem as usize) {
             Some(element) => Some(element.group),
             None => None,
+        }
+    }
+
+    /// The bundle of a group.
+    pub fn home_of(&self, group: u32) -> Option<u32>
+        ensures { result ≡ home_of (plan_of self.now) group }
+    {
+        match self.homes.items().get(group as usize) {
+            Some(bundle) => Some(*bundle),
+            None => None,
+        }
+    }
+
+    /// The bundle of an element's group.
+    pub fn bundle_of(&self, elem: u32) -> Option<u32>
+        ensures { result ≡ bundle_of (plan_of self.now) elem }
+    {
+        match self.group_of(elem) {
+            Some(group) => self.home_of(group),
+            None => None,
+        }
+    }
+
+    /// The elements of a coherent list, in declared order; none of one that there is not.
+    pub fn elems_of(&self, list: u32) -> &[u32]
+        ensures { result.now ≡ elems_of (plan_of self.now) list }
+    {
+        match self.lists.items().get(list as usize) {
+            Some(coherent) => coherent.elems.items(),
+            None => &[],
+        }
+    }
+
+    /// The bundle of the elements of a coherent list, which all have one.
+    pub fn bundle_of_list(&self, list: u32) -> Option<u32>
+        ensures { result ≡ bundle_of_list (plan_of self.now) list }
+    {
+        match self.elems_of(list).get(0) {
+            Some(elem) => self.bundle_of(*elem),
+            None => None,
+        }
+    }
+
+    /// How many words an element has; 0 for one that there is not.
+    pub fn words_at(&self, elem: u32) -> u8
+        ensures { result ≡ words_at (plan_of self.now) elem }
+    {
+        match self.elements.items().get(elem as usize) {
+            Some(element) => element.words,
+            None => 0,
         }
     }
 

@@ -32,6 +32,16 @@ pub fn wish_of(e: &Entry, event: Option<u32>) -> Wish
         Deed::Mode { port, .. } => Wish::Mode { port },
         Deed::Phase(_) => Wish::Phase,
         Deed::Publish { elem, value } => Wish::Publish { elem, value },
+        Deed::FetchAll { list, .. } => Wish::FetchAll { list },
+        Deed::PublishAll {
+            list,
+            written,
+            value,
+        } => Wish::PublishAll {
+            list,
+            written,
+            value,
+        },
         Deed::End => Wish::End { event: by },
     }
 }

@@ -21,9 +21,11 @@ use Rattle.tick_events.specs.Kept as clock_kept
 use Rattle.object_kinds.specs.Flags.{is_set}
 use Rattle.object_kinds.specs.Kinds.{StandsFor}
 use Rattle.object_kinds.specs.Layout.{place}
+use Rattle.object_kinds.proofs.Classes.{On}
 use Rattle.object_kinds.proofs.Events.{started_placed}
 use Rattle.object_kinds.proofs.Flags.{flag_there}
 use Rattle.object_kinds.proofs.Lists.{mapped_at}
+use Rattle.object_kinds.proofs.Numbers.{the_clock}
 use Rattle.object_kinds.proofs.Options.{given_where, mapped_where}
 use Rattle.object_kinds.proofs.Placing.{place_at, place_none}
 use Rattle.object_kinds.proofs.Proper.{noting, wish_part}
@@ -33,7 +35,7 @@ use Rattle.clock_objects.specs.Leading.{lead, lead_of_clock, with_clock}
 use Rattle.clock_objects.specs.Standing.{due_after, Keeps}
 use Rattle.clock_objects.proofs.Keeping.{timed, timer_at}
 use Rattle.clock_objects.proofs.Timed.{Timed, at_init, at_time}
-use Rattle.clock_objects.proofs.Touching.{OnClock, touches_clock}
+use Rattle.clock_objects.proofs.Touching.{start_on, touches_clock}
 
 module _ (p : Plan) (object : ℕ) (k : Kept) (l : Past) (keeps : Keeps p object k l) (a : Actor) (event : Option ℕ) where
   start_comes : (e : ℕ) (point : Option ℕ) (value : Value) → wish_fits p a (to_start e) ≡ true → is_due p a e l ≡ true → Timed (kind_of p e) → is_some (lead_of_clock k.timings k.inits k.clock (deed.Start e point value)) ≡ true
@@ -52,9 +54,9 @@ module _ (p : Plan) (object : ℕ) (k : Kept) (l : Past) (keeps : Keeps p object
       let flag : slice_get k.clock.unstarted there.at ≡ Some (due_after p l e) = ap (λ us. slice_get us there.at) keeps.unstarted ∙ mapped_at (due_after p l) k.inits there.at e (place_at e k.inits there.at here) in
       rw (none, here) (given_where (is_set k.clock.unstarted there.at) (clock_kept.after_init there.at k.clock) (flag_there k.clock.unstarted there.at (due_after p l e) flag on))
 
-  clock_comes : (d : Deed) → OnClock p d → is_proper p (noting a d event) ≡ true → Answers p l (noting a d event) → is_some (lead_of_clock k.timings k.inits k.clock d) ≡ true
+  clock_comes : (d : Deed) → On p the_clock a event d → is_proper p (noting a d event) ≡ true → Answers p l (noting a d event) → is_some (lead_of_clock k.timings k.inits k.clock d) ≡ true
   clock_comes deed.Tick on proper answers = refl
-  clock_comes (deed.Start e point value) on proper answers = start_comes e point value (wish_part p a (deed.Start e point value) event refl proper) answers.due on
+  clock_comes (deed.Start e point value) on proper answers = start_comes e point value (wish_part p a (deed.Start e point value) event refl proper) answers.due (start_on p (kind_of p e) on)
   clock_comes d on proper answers = absurd on
 
 pub leads_on : (p : Plan) (m : Mapping) (object : ℕ) → IsSound p m → (k : Kept) (l : Past) (n : Noted) → StandsFor p object (Keeps p object) k l → Follows p object l n → is_some (lead k n) ≡ true

@@ -29,9 +29,10 @@ pub numbered : (bytes : List ℕ) (x : PlannedDescription) → IsPlannedOf bytes
 numbered bytes x planned =
     let whole = planned.is_whole in
     let few = few_numbers x.plan x.description x.flat whole.is_plan (keeps_size x.description x.flat whole.keeps_rules) (few_joins x.description x.flat whole.is_flat) in
+    let points = leb-true (length x.plan.points) 262144 planned.is_sound.few_points in
     record {
       elements = few.elements;
-      points = few.points;
+      points = omega (arith, points);
       machines = few.machines;
       mode_ports = few.mode_ports;
       modes = all_few_modes x.plan.machines planned.is_sound.machines;

@@ -1,5 +1,6 @@
 -- What the programs of runnables are read as, and the components that hold them.
 use Rattle.std.specs.Prelude.{ℕ, List, [], ◌∷◌, ◌++◌, map, filter, slice_get, slice_index_or, Bool, bytes_eq, codes, Option, Some, None, unwrap_or}
+use Rattle.std.specs.Arc.{arc_value}
 use Rattle.serde_json.specs.Data.{Data, null}
 use Rattle.serde_json.specs.Find.{get}
 use Rattle.runnable_lang.specs.Trees.{ProgramTree, program_tree}
@@ -44,7 +45,7 @@ runnable_tree r = record {
   short_name = r.short_name;
   can_be_invoked_concurrently = r.can_be_invoked_concurrently;
   accesses = r.accesses;
-  program = program_tree r.program;
+  program = program_tree (arc_value r.program);
 }
 
 abbrev pub behavior_tree : Behavior → BehaviorTree

@@ -1,6 +1,7 @@
 //! Components, read from JSON.
 
 ghost use Rattle.std.specs.Prelude.{◌≡◌, IfOk, map, option_map};
+ghost use Rattle.std.specs.Arc.{arc_value};
 ghost use Rattle.runnable_lang.specs.Trees.{program_tree};
 ghost use Rattle.serde_json.specs.View.{view};
 ghost use Rattle.declared_names.specs.Components.{component_names};
@@ -21,6 +22,7 @@ use rte_text::{Memory, Seq};
 use runnable_lang::Program;
 use serde_json::Value;
 use std::alloc::Global;
+use std::sync::Arc;
 
 /// The program of the statements, which such an event starts.
 fn started_by(
@@ -38,20 +40,23 @@ fn started_by(
     read_program(alloc, scope, &first, statements)
 }
 
+/// The program of a runnable, to be shared by the plans of its instances.
 fn program(
     alloc: Global,
     scope: &InComponent,
     servers: &Servers,
     value: &Value,
-) -> Result<Program, Memory>
+) -> Result<Arc<Program, Global>, Memory>
     requires value { IsSmall (view value.now) }
     requires arguments { HaveFewArguments scope.now.interfaces.now }
-    ensures { IfOk result (λ p. program_tree p
+    ensures { IfOk result (λ p. program_tree (arc_value p)
         ≡ (runnable_reading scope.now.interfaces.now scope.now.names.now (map seen servers.now.events.items) servers.now.runnables (view value.now)).program) }
 {
     let nothing = Value::Null;
     let event = servers.event_of(text_at(value, "shortName"));
-    started_by(alloc, scope, event, value_at(value, "program", &nothing))
+    let program = started_by(alloc, scope, event, value_at(value, "program", &nothing))?;
+    let shared = Arc::new(alloc, program)?;
+    Ok(shared)
 }
 
 fn read_runnable(

@@ -1,6 +1,6 @@
 -- The closed round: what the parts say of its log.
 use Rattle.std.proofs.Common.{◌≡◌, ◌≢◌, ◌<◌, ◌≤◌, ◌+◌, ◌*◌, ℕ, zero, suc, Bool, true, false, not, ◌==◌, if◌then◌else◌, refl, sym, ◌∙◌, ap, subst, arith, suc-mul, zero-mul, List, [], ◌∷◌, ◌++◌, length, Some}
-use Rattle.std.specs.Prelude.{nat_lt, nat_le, filter, IfSome}
+use Rattle.std.specs.Prelude.{nat_lt, filter, IfSome}
 use Rattle.std.specs.List.{list_all, slice_get}
 use Rattle.std.proofs.lemmas.Bool.{and_from, and_parts, eqb-true, ltb-true}
 use mathlib.Core.Logic.{dite}
@@ -131,7 +131,7 @@ module _ (k : Opening) (m : Mapping) (t : TaskSet) (cores now : List CoreState) 
   log = closed.interleaved.log
 
   counted : p.objects ≡ clock p + 1
-  counted = eqb-true p.objects (clock p + 1) (and_parts (p.objects == clock p + 1) (nat_le p.objects 16384) sound.objects).0
+  counted = eqb-true p.objects (clock p + 1) (and_parts (p.objects == clock p + 1) _ sound.objects).0
 
   -- each object stands for the entries that touch it
   standing : (o : ℕ) (x : Object) → slice_get objects o ≡ Some x → Stands p o (kept_of x) (touching p o entries ++ entries_of p h o)
@@ -175,6 +175,8 @@ module _ (k : Opening) (m : Mapping) (t : TaskSet) (cores now : List CoreState) 
   pub keeps_lawful : IsLawful p m t now objects (after entries h)
   keeps_lawful = subst (λ es. IsLawful p m t now objects (after es h)) closed.interleaved.whole (record {
     legal = merged.legal;
+    objects_are = closed.planned.count;
+    cores_are = turns.count ∙ lawful.cores_are;
     stand = λ o x found. subst (Stands p o (kept_of x)) (ap (λ es. touching p o es ++ entries_of p h o) (sym closed.interleaved.whole) ∙ sym (merged.parted o)) (standing o x found);
     number = merged.number;
     ready = merged.ready;

@@ -59,6 +59,7 @@ fn is_heard(deed: &Deed) -> bool {
     match deed {
         Deed::Write { .. }
         | Deed::Publish { .. }
+        | Deed::PublishAll { .. }
         | Deed::Send { .. }
         | Deed::Ask { .. }
         | Deed::Return { .. }

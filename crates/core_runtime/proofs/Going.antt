@@ -1,6 +1,7 @@
 -- Entries that follow one another, and cores whose trace is cleared.
 use Rattle.std.proofs.Common.{◌≡◌, ℕ, refl, sym, ◌∙◌, ap, subst, List, [], ◌∷◌, ◌++◌, set, Some}
 use Rattle.std.specs.List.{slice_get}
+use Rattle.std.proofs.lemmas.List.{length-set}
 use Rattle.bus_semantics.specs.declared.entries.Stamped.{Stamped}
 use Rattle.bus_semantics.specs.declared.script.Mapping.{Mapping}
 use Rattle.bus_semantics.specs.Plan.{Plan}
@@ -46,6 +47,8 @@ module _ (p : Plan) (m : Mapping) (t : TaskSet) (c k : CoreState) (same : IsSame
     pub same_lawful : IsLawful p m t (set cores at k) objects h
     same_lawful = record {
       legal = lawful.legal;
+      objects_are = lawful.objects_are;
+      cores_are = length-set cores at k ∙ sym (length-set cores at c) ∙ lawful.cores_are;
       stand = lawful.stand;
       number = λ j x found. number_of j x (placed cores at k j x found);
       ready = λ j x found. ready_of j x (placed cores at k j x found);

@@ -3,6 +3,7 @@ use Rattle.std.proofs.Common.{◌≡◌, ℕ, zero, suc, refl, sym, ◌∙◌, a
 use Rattle.std.specs.List.{slice_get}
 use Rattle.bus_semantics.specs.declared.script.Mapping.{Mapping}
 use Rattle.bus_semantics.specs.Plan.{Plan}
+use Rattle.bus_semantics.specs.Objects.{clock}
 use Rattle.port_objects.specs.declared.object.Object.{Object}
 use Rattle.port_objects.specs.Objects.{kept_of}
 use Rattle.port_objects.specs.Standing.{Stands}
@@ -35,10 +36,12 @@ one_more p m t cores number c count are new = λ i x found. of_place i x (last_o
     of_place i x (last at same) = subst (λ n. IsNewCore p m t n x) (sym (at ∙ count)) (subst (IsNewCore p m t number) (sym same) new)
 
 module _ (p : Plan) (m : Mapping) (t : TaskSet) (cores : List CoreState) (objects : List Object) (built : IsSound p m) (are : AreNewCores p m t cores)
-    (standing : (i : ℕ) (o : Object) → slice_get objects i ≡ Some o → Stands p i (kept_of o) []) where
+    (objects_are : length objects ≡ suc (clock p)) (cores_are : length cores ≡ m.cores) (standing : (i : ℕ) (o : Object) → slice_get objects i ≡ Some o → Stands p i (kept_of o) []) where
   pub new_lawful : IsLawful p m t cores objects []
   new_lawful = record {
     legal = tt;
+    objects_are = objects_are;
+    cores_are = cores_are;
     stand = standing;
     number = λ i c found. (are i c found).is_number;
     ready = λ i c found. (are i c found).is_ready built;

@@ -1,6 +1,6 @@
 -- The entry of a wish of the environment keeps a node lawful.
 use Rattle.std.proofs.Common.{◌≡◌, ◌≢◌, ◌<◌, ◌+◌, ℕ, suc, Bool, true, false, ◌&&◌, if◌then◌else◌, refl, sym, ◌∙◌, ap, subst, arith, List, ◌∷◌, length, set, get_or, Option, Some, None}
-use Rattle.std.specs.Prelude.{◌==◌, IfSome, unwrap_or, not}
+use Rattle.std.specs.Prelude.{◌==◌, IfSome, unwrap_or, not, option_and_then}
 use Rattle.std.specs.Option.{option_map, option_map_or}
 use Rattle.std.specs.List.{slice_get}
 use Rattle.std.specs.Cmp.{unsigned_Decides}
@@ -15,8 +15,9 @@ use Rattle.bus_semantics.specs.declared.entries.Deed.TheVariants as deed
 use Rattle.bus_semantics.specs.declared.plan.ElemPlan.{ElemPlan}
 use Rattle.bus_semantics.specs.declared.plan.ModePortPlan.{ModePortPlan}
 use Rattle.bus_semantics.specs.declared.script.Mapping.{Mapping}
-use Rattle.bus_semantics.specs.Plan.{Plan}
-use Rattle.bus_semantics.specs.Wanted.{Wanted, to_tick, to_start, to_admit, to_fetch, to_write, to_read, to_invalidate, to_see_updated, to_send, to_receive, to_ask, to_hear, to_take_result, to_return, to_enter, to_leave, to_switch, to_see_mode, to_move_on, to_publish, to_end, wanted_by}
+use Rattle.bus_semantics.specs.Plan.{Plan, look, group_of}
+use Rattle.bus_semantics.specs.Bundles.{home_of, bundle_of}
+use Rattle.bus_semantics.specs.Wanted.{Wanted, to_tick, to_start, to_admit, to_write, to_read, to_send, to_receive, to_ask, to_hear, to_take_result, to_return, to_enter, to_leave, to_switch, to_see_mode, to_move_on, to_end, wanted_by}
 use Rattle.bus_semantics.specs.History.{History, Noted, Past, is_environment, needs_event, started_before, note, noted}
 use Rattle.bus_semantics.specs.Objects.{clock, first_machine, object_of, touched_by, touches, entries_of, touched, IsObject}
 use Rattle.bus_semantics.specs.Fitting.{wish_fits, answer_fits, activation_fits}
@@ -27,6 +28,8 @@ use Rattle.bus_semantics.specs.Sound.{IsSound}
 use Rattle.bus_semantics.specs.Pasts.{Follows}
 use Rattle.bus_semantics.specs.Asked.{event_of, noted_for, MayCome}
 use Rattle.history_laws.specs.Coming.{may_be_held}
+use Rattle.object_kinds.proofs.Members.{group_within}
+use Rattle.object_kinds.proofs.Ranges.{sought}
 use Rattle.port_objects.specs.declared.object.Object.{Object}
 use Rattle.port_objects.specs.Objects.{kept_of, IsOfPlan}
 use Rattle.port_objects.specs.Standing.{Stands}
@@ -40,6 +43,7 @@ use Rattle.core_turn.specs.Lawful.{IsLawful}
 use Rattle.core_turn.specs.Standing.{CoreStands}
 use Rattle.core_runtime.specs.Nodes.{IsNode}
 use Rattle.core_runtime.specs.Watching.{Touches}
+use Rattle.core_lanes.proofs.Merging.{found_there}
 use Rattle.core_lanes.proofs.Places.{Placed, here, there, placed, found_at}
 use Rattle.core_runtime.proofs.Turned.{made_touches}
 
@@ -182,6 +186,8 @@ module _ {p : Plan} {m : Mapping} {t : TaskSet} {cores : List CoreState} {object
         pub lawful_on : IsLawful p m t cores (set objects object new) (e ∷ h)
         lawful_on = record {
           legal = (lawful.legal, may_follow);
+          objects_are = length-set objects object new ∙ lawful.objects_are;
+          cores_are = lawful.cores_are;
           stand = λ i o is. of_place i o (placed objects object new i o is);
           number = lawful.number;
           ready = lawful.ready;
@@ -206,39 +212,35 @@ module _ {p : Plan} {m : Mapping} {t : TaskSet} {cores : List CoreState} {object
 
 -- ---- a wish that touches no object
 
--- what is looked up is held
-looked_up : {X Y : Type 0} (o : Option X) (test : X → Bool) (give : X → Y) → option_map_or test o false ≡ true → option_map_or (λ x. Some (give x)) o None ≡ None → ⊥
-looked_up None test give held none = false≢true held
-looked_up (Some x) test give held none = absurd (cc none)
+module _ (p : Plan) (m : Mapping) (sound : IsSound p m) where
+  -- each element of a sound plan is in a bundle
+  bundled : (x : ℕ) (test : ElemPlan → Bool) → look p.elements x test false ≡ true → bundle_of p x ≡ None → ⊥
+  bundled x test held none =
+      let at = sought p.elements x test held in
+      let group : group_of p x ≡ Some at.item.group = ap (λ o. option_map_or (λ (e : ElemPlan). Some e.group) o None) at.found in
+      let within : at.item.group < length p.groups = group_within p x at.item.group sound.groups group in
+      let homes : length p.homes ≡ length p.groups = (unsigned_Decides (length p.homes) (length p.groups)).0 (and_parts (length p.homes == length p.groups) _ sound.bundles).0 in
+      let home = found_there p.homes at.item.group (omega arith) in
+      let is : bundle_of p x ≡ Some home.0 = ap (option_and_then (home_of p)) group ∙ ap (λ o. option_map_or (λ (b : ℕ). Some b) o None) home.1 in
+      cc (sym none ∙ is)
 
--- it is an ask or the taking of a result
-pub is_free_one : (p : Plan) (w : Wanted) → wish_fits p Env w ≡ true → object_of p Env w ≡ None → is_free w ≡ true
-is_free_one p to_tick may_want none = absurd (cc none)
-is_free_one p (to_write x ws) may_want none = absurd (looked_up (slice_get p.elements x) (λ (e : ElemPlan). same_number e.instance None && ((is_unqueued e && e.provided) && holds ws e)) (λ (e : ElemPlan). e.group) may_want none)
-is_free_one p (to_read x) may_want none = absurd (looked_up (slice_get p.elements x) (λ (e : ElemPlan). same_number e.instance None && (is_unqueued e && not e.provided)) (λ (e : ElemPlan). e.group) may_want none)
-is_free_one p (to_send x ws) may_want none = absurd (looked_up (slice_get p.elements x) (λ (e : ElemPlan). same_number e.instance None && ((is_queued e && e.provided) && holds ws e)) (λ (e : ElemPlan). e.group) may_want none)
-is_free_one p (to_receive x) may_want none = absurd (looked_up (slice_get p.elements x) (λ (e : ElemPlan). same_number e.instance None && (is_queued e && not e.provided)) (λ (e : ElemPlan). e.group) may_want none)
-is_free_one p (to_switch m mode) may_want none = absurd (cc none)
-is_free_one p (to_see_mode port) may_want none = absurd (machine_found (slice_get p.mode_ports port) may_want none)
-  where
-    machine_found : (o : Option ModePortPlan) → option_map_or (λ (t : ModePortPlan). same_number t.instance None) o false ≡ true
-        → option_map (λ n. first_machine p + n) (option_map_or (λ (v : ModePortPlan). Some v.machine) o None) ≡ None → ⊥
-    machine_found None held none = false≢true held
-    machine_found (Some t) held none = absurd (cc none)
-is_free_one p (to_ask q ws) may_want none = refl
-is_free_one p (to_take_result q) may_want none = refl
-is_free_one p (to_start event) may_want none = absurd (false≢true may_want)
-is_free_one p (to_admit event) may_want none = absurd (false≢true may_want)
-is_free_one p (to_fetch x) may_want none = absurd (false≢true may_want)
-is_free_one p (to_invalidate x) may_want none = absurd (false≢true may_want)
-is_free_one p (to_see_updated x) may_want none = absurd (false≢true may_want)
-is_free_one p (to_hear q) may_want none = absurd (false≢true may_want)
-is_free_one p (to_return code ws) may_want none = absurd (false≢true may_want)
-is_free_one p (to_enter x) may_want none = absurd (false≢true may_want)
-is_free_one p (to_leave x) may_want none = absurd (false≢true may_want)
-is_free_one p to_move_on may_want none = absurd (false≢true may_want)
-is_free_one p (to_publish x ws) may_want none = absurd (false≢true may_want)
-is_free_one p (to_end event) may_want none = absurd (false≢true may_want)
+  -- it is an ask or the taking of a result
+  pub is_free_one : (w : Wanted) → wish_fits p Env w ≡ true → object_of p Env w ≡ None → is_free w ≡ true
+  is_free_one to_tick may_want none = absurd (cc none)
+  is_free_one (to_write x ws) may_want none = absurd (bundled x (λ (e : ElemPlan). same_number e.instance None && ((is_unqueued e && e.provided) && holds ws e)) may_want none)
+  is_free_one (to_read x) may_want none = absurd (bundled x (λ (e : ElemPlan). same_number e.instance None && (is_unqueued e && not e.provided)) may_want none)
+  is_free_one (to_send x ws) may_want none = absurd (bundled x (λ (e : ElemPlan). same_number e.instance None && ((is_queued e && e.provided) && holds ws e)) may_want none)
+  is_free_one (to_receive x) may_want none = absurd (bundled x (λ (e : ElemPlan). same_number e.instance None && (is_queued e && not e.provided)) may_want none)
+  is_free_one (to_switch n mode) may_want none = absurd (cc none)
+  is_free_one (to_see_mode port) may_want none = absurd (machine_found (slice_get p.mode_ports port) may_want none)
+    where
+      machine_found : (o : Option ModePortPlan) → option_map_or (λ (t : ModePortPlan). same_number t.instance None) o false ≡ true
+          → option_map (λ n. first_machine p + n) (option_map_or (λ (v : ModePortPlan). Some v.machine) o None) ≡ None → ⊥
+      machine_found None held none = false≢true held
+      machine_found (Some t) held none = absurd (cc none)
+  is_free_one (to_ask q ws) may_want none = refl
+  is_free_one (to_take_result q) may_want none = refl
+  is_free_one w may_want none = absurd (false≢true may_want)
 
 -- what it is answered names nothing
 names_nothing : (p : Plan) (a : Actor) (w : Wanted) (d : Deed) (by : ℕ) → is_free w ≡ true → wanted_by by d ≡ w → answer_fits p a d ≡ true
@@ -278,6 +280,8 @@ module _ {p : Plan} {m : Mapping} {t : TaskSet} {cores : List CoreState} {object
         answers = subst (Answers p (noted h)) (sym (alone h)) (answers p m Env w d (noted h) node.sound may_want none frees.1 frees.0);
       },
     );
+    objects_are = lawful.objects_are;
+    cores_are = lawful.cores_are;
     stand = λ i o is. subst (Stands p i (kept_of o)) (sym (parted p h e i false (ap (λ v. same_number v (Some i)) (untouched h)))) (lawful.stand i o is);
     number = lawful.number;
     ready = lawful.ready;

@@ -8,14 +8,14 @@ use core_lanes::{Guesses, Spot};
 use core_turn::Core;
 use std::alloc::Global;
 
-/// The object of a server: those of servers stand behind those of groups.
+/// The object of a server: those of servers stand behind those of bundles.
 fn server_object(p: &BusPlan, server: u32) -> usize {
-    p.groups.len().saturating_add(server as usize)
+    p.bundles.len().saturating_add(server as usize)
 }
 
-/// The object of a mode machine: those of machines stand behind those of groups, servers and areas.
+/// The object of a mode machine: those of machines stand behind those of bundles, servers and areas.
 fn machine_object(p: &BusPlan, machine: usize) -> usize {
-    let before = p.groups.len().saturating_add(p.servers.len());
+    let before = p.bundles.len().saturating_add(p.servers.len());
     let first = before.saturating_add(p.areas.len());
     first.saturating_add(machine)
 }
@@ -36,8 +36,8 @@ fn called_object(p: &BusPlan, point: u32) -> Option<usize> {
 fn starting_object(p: &BusPlan, kind: &EventKind) -> Option<usize> {
     match kind {
         EventKind::Timing(_) | EventKind::Init => None,
-        EventKind::DataReceived(element) => match p.elements.items().get(*element as usize) {
-            Some(element) => Some(element.group as usize),
+        EventKind::DataReceived(element) => match p.bundle_of(*element) {
+            Some(bundle) => Some(bundle as usize),
             None => None,
         },
         EventKind::Invoked(server) => Some(server_object(p, *server)),

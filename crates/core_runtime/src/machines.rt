@@ -11,16 +11,7 @@ ghost use Rattle.core_runtime.specs.Watching.{AreBehind, AreEven, AreRoused, Are
 
 use bus_semantics::{BusPlan, Entry};
 use core_turn::Awake;
-use port_objects::touched_object;
-
-/// The number of the machine whose object this is. Objects are groups, servers, areas, machines and the clock, in this order.
-fn machine_of(p: &BusPlan, object: u32) -> Option<usize>
-    ensures { (machine : ℕ) → object ≡ first_machine (plan_of p.now) + machine → result ≡ Some machine }
-{
-    let server = (object as usize).checked_sub(p.groups.len())?;
-    let area = server.checked_sub(p.servers.len())?;
-    area.checked_sub(p.areas.len())
-}
+use port_objects::{machine_of, touched_object};
 
 /// The slot of the machine whose object this is, on a core with so many slots. Machines stand behind the tasks.
 fn slot_of_machine(p: &BusPlan, object: u32, slots: usize) -> Option<usize>

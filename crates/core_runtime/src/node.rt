@@ -1,6 +1,6 @@
 //! The node.
 
-ghost use Rattle.std.specs.Prelude.{◌≡◌, ◌<◌, ◌^◌, [], IfOk, length, min};
+ghost use Rattle.std.specs.Prelude.{◌≡◌, [], IfOk, min};
 ghost use Rattle.bus_semantics.specs.Plan.{plan_of};
 ghost use Rattle.bus_semantics.specs.Sound.{IsSound};
 ghost use Rattle.task_generator.specs.Promise.{AsksAsPlanned};
@@ -51,12 +51,11 @@ impl Model for Node {
 }
 
 impl Node {
-    /// A node to which nothing has happened. The plan is sound with the mapping, the bodies are those that `generate` makes of it, and 32
-    /// bits number the points. The only error is that there is no memory.
+    /// A node to which nothing has happened. The plan is sound with the mapping, and the bodies are those that `generate` makes
+    /// of it. The only error is that there is no memory.
     pub fn new(alloc: Global, p: BusPlan, m: Mapping, t: TaskSet) -> Result<Node, Memory>
         requires sound { IsSound (plan_of p) m }
         requires bodies { AsksAsPlanned (plan_of p) t }
-        requires points { length p.points < 2 ^ 32 }
         ensures plan { IfOk result (λ n. n.plan ≡ p) }
         ensures mapping { IfOk result (λ n. n.mapping ≡ m) }
         ensures entries { IfOk result (λ n. n.entries ≡ []) }

@@ -6,7 +6,6 @@ ghost use Rattle.bus_semantics.specs.Objects.{touched_by, IsObject};
 ghost use Rattle.bus_semantics.specs.Plan.{plan_of};
 ghost use Rattle.port_objects.specs.declared.object.Object.{Object};
 ghost use Rattle.port_objects.specs.Objects.{kept_of};
-ghost use Rattle.port_objects.specs.Waking.{wakes};
 ghost use Rattle.task_machine.specs.declared.instr.TaskSet.{TaskSet};
 ghost use Rattle.core_turn.specs.Cores.{CoreState};
 ghost use Rattle.core_runtime.specs.Watching.{AreAnswered, AreRoused, AreSeated, AreWatched, AreWoken, IsAfter, IsAt, IsSeen, IsThere, IsWatch, tables_of};
@@ -16,11 +15,11 @@ use crate::machines::wake_machine;
 use crate::seats::Seat;
 use crate::waiting::wake_waiting;
 use crate::watch::Watch;
-use bus_semantics::{BusPlan, Deed, Entry};
+use bus_semantics::{BusPlan, Entry};
 use core_turn::Awake;
 use port_objects::{
     Object, answers_go_by_flags, held_starts_lead_nowhere, may_start, other_entries_wake_nothing,
-    touched_object, woken,
+    touched_object, wakes, woken,
 };
 
 /// Wakes an event at a seat, where it sleeps and may start now.
@@ -69,23 +68,6 @@ fn wake_events(object: &Object, events: &[u32], w: &mut Watch)
 {
     for event in events {
         wake_event(object, *event, w);
-    }
-}
-
-/// Whether an entry of this deed can make a start come.
-fn wakes(deed: &Deed) -> bool
-    ensures { result ≡ wakes deed.now }
-{
-    match deed {
-        Deed::Write { .. }
-        | Deed::Publish { .. }
-        | Deed::Send { .. }
-        | Deed::Tick
-        | Deed::Ask { .. }
-        | Deed::Return { .. }
-        | Deed::Phase(_)
-        | Deed::End => true,
-        _ => false,
     }
 }
 

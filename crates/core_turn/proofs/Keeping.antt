@@ -1,5 +1,6 @@
 -- The entry of a turn keeps cores and objects lawful.
-use Rattle.std.proofs.Common.{zero, suc, [], ◌≡◌, ◌≢◌, ◌⊎◌, inl, inr, ℕ, Bool, true, false, ◌&&◌, not, if◌then◌else◌, refl, sym, ◌∙◌, ap, subst, List, ◌∷◌, set, Option, Some, None}
+use Rattle.std.proofs.Common.{zero, suc, [], ◌≡◌, ◌≢◌, ◌⊎◌, inl, inr, ℕ, Bool, true, false, ◌&&◌, not, if◌then◌else◌, refl, sym, ◌∙◌, ap, subst, List, ◌∷◌, length, set, Option, Some, None}
+use Rattle.std.proofs.lemmas.List.{length-set}
 use Rattle.std.specs.Prelude.{is_none, unwrap_or}
 use Rattle.std.specs.List.{slice_get}
 use Rattle.std.proofs.lemmas.Bool.{and_parts, eq-eqb, eqb-true, false≢true, ne_eqb}
@@ -72,24 +73,7 @@ own_asked p (Machine n) d by free own = refl
 own_asked p (Act k) (deed.Start event point value) by free own = own
 own_asked p (Act k) (deed.Admit admitted) by free own = absurd (false≢true (sym free))
 own_asked p (Act k) deed.End by free own = absurd (false≢true (sym free))
-own_asked p (Act k) deed.Tick by free own = refl
-own_asked p (Act k) (deed.Fetch x value) by free own = refl
-own_asked p (Act k) (deed.Write x value) by free own = refl
-own_asked p (Act k) (deed.Read x code value) by free own = refl
-own_asked p (Act k) (deed.Invalidate x) by free own = refl
-own_asked p (Act k) (deed.IsUpdated x updated) by free own = refl
-own_asked p (Act k) (deed.Send x value code) by free own = refl
-own_asked p (Act k) (deed.Receive x code value) by free own = refl
-own_asked p (Act k) (deed.Ask q value code) by free own = refl
-own_asked p (Act k) (deed.Answer q code value) by free own = refl
-own_asked p (Act k) (deed.TakeResult q code value) by free own = refl
-own_asked p (Act k) (deed.Return code value) by free own = refl
-own_asked p (Act k) (deed.Enter x) by free own = refl
-own_asked p (Act k) (deed.Leave x) by free own = refl
-own_asked p (Act k) (deed.Switch x mode code) by free own = refl
-own_asked p (Act k) (deed.Mode port mode) by free own = refl
-own_asked p (Act k) (deed.Phase step) by free own = refl
-own_asked p (Act k) (deed.Publish x value) by free own = refl
+own_asked p (Act k) d by free own = refl
 
 -- an Admit or End that follows its program is what its activation wants next
 pub rule_next : (p : Plan) (h : History) (k : ActKey) (d : Deed) (n : ℕ) → needs_event d ≡ true → starts_or_goes_on p h k d ≡ true → last_started k h ≡ Some n → next_wish p h k ≡ Some (wanted_by n d)
@@ -168,6 +152,7 @@ module _ (p : Plan) (m : Mapping) (t : TaskSet) (cores : List CoreState) (i : �
 
   record Kept : Type 0 where
     may : MayFollow p h s.entry
+    count : length after ≡ length objects
     stand : (j : ℕ) (o : Object) → slice_get after j ≡ Some o → Stands p j (kept_of o) (entries_of p (s.entry ∷ h) j)
 
   -- the entries of an object with this one
@@ -177,6 +162,7 @@ module _ (p : Plan) (m : Mapping) (t : TaskSet) (cores : List CoreState) (i : �
   untouched : (a : Actor) (w : Wanted) → IsEntryOf p a w s → object_of p a w ≡ None → after ≡ objects → Kept
   untouched a w entry none same = record {
     may = record { fit = (and_parts (fits p s.entry) (starts_its_own p s.entry.actor s.entry.deed) steps.step.proper).0; actor = follows.rule; answers = follows.free touching };
+    count = ap length same;
     stand = λ j o found. subst (Stands p j (kept_of o)) (sym (parted j false (ap (λ x. same_number x (Some j)) touching))) (lawful.stand j o (subst (λ os. slice_get os j ≡ Some o) same found));
   }
     where
@@ -298,6 +284,7 @@ module _ (p : Plan) (m : Mapping) (t : TaskSet) (cores : List CoreState) (i : �
         subst (λ n. Stands p n (kept_of made.now) (note h s.entry ∷ entries_of p h object)) number (subst (λ x. Stands p (touched p a w) (kept_of made.now) (x ∷ entries_of p h object)) noted_same one.stands) in
         record {
           may = follows_legally comes;
+          count = ap length (same_Some _ _ made.others) ∙ length-set objects object made.now;
           stand = λ j o found. of_place made.now standing j o (placed objects object made.now j o (subst (λ (os : List Object). slice_get os j ≡ Some o) (same_Some _ _ made.others) found));
         }
       where
@@ -328,6 +315,8 @@ module _ (p : Plan) (m : Mapping) (t : TaskSet) (cores : List CoreState) (i : �
       let k = kept told tells in
       record {
         legal = (lawful.legal, k.may);
+        objects_are = k.count ∙ lawful.objects_are;
+        cores_are = length-set cores i new ∙ lawful.cores_are;
         stand = k.stand;
         number = λ j c found. cores_numbered j c (placed cores i new j c found);
         ready = λ j c found. cores_ready j c (placed cores i new j c found);

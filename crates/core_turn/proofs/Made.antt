@@ -12,6 +12,7 @@ use Rattle.bus_semantics.specs.Plan.{Plan, positions}
 use Rattle.bus_semantics.specs.History.{count}
 use Rattle.bus_semantics.specs.Rest.{gathered}
 use Rattle.bus_semantics.specs.SoundNames.{is_name}
+use Rattle.bus_semantics.specs.SoundPlan.{things}
 use Rattle.bus_semantics.specs.Sound.{IsSound}
 use Rattle.task_machine.specs.declared.instr.TaskSet.{TaskSet}
 use Rattle.task_slots.specs.declared.slot.Slot.{Slot}
@@ -53,9 +54,9 @@ machines_new t (n ∷ ns) = (refl, machines_new t ns)
 -- a sound plan has few machines
 pub few_machines : (p : Plan) (m : Mapping) → IsSound p m → length p.machines < 2 ^ 32
 few_machines p m sound =
-    let both = and_parts (p.objects == clock p + 1) (nat_le p.objects 16384) sound.objects in
+    let both = and_parts (p.objects == clock p + 1) (nat_le p.objects 16384 && nat_le (things p) 16384) sound.objects in
     let counted : p.objects ≡ clock p + 1 = eqb-true p.objects (clock p + 1) both.0 in
-    let few : p.objects ≤ 16384 = leb-true p.objects 16384 both.1 in
+    let few : p.objects ≤ 16384 = leb-true p.objects 16384 (and_parts (nat_le p.objects 16384) (nat_le (things p) 16384) both.1).0 in
     omega arith
 
 -- core 0 has the machines, and the others have none

@@ -1,5 +1,5 @@
 -- How a round is opened.
-use Rattle.std.proofs.Common.{◌≡◌, ◌≤◌, ◌*◌, ◌+◌, ◌==◌, ℕ, zero, suc, true, nat_le, List, [], ◌∷◌, ◌++◌, length, length-append, replicate, get_or, set, slice_get, refl, sym, ◌∙◌, ap, subst, arith, eqb-true, Some, Vec}
+use Rattle.std.proofs.Common.{◌≡◌, ◌≤◌, ◌*◌, ◌+◌, ◌==◌, ℕ, zero, suc, true, List, [], ◌∷◌, ◌++◌, length, length-append, replicate, get_or, set, slice_get, refl, sym, ◌∙◌, ap, subst, arith, eqb-true, Some, Vec}
 use Rattle.std.proofs.lemmas.List.{length-replicate}
 use Rattle.std.proofs.lemmas.Bool.{and_parts}
 use Rattle.std.specs.Vec.{vec_capacity}
@@ -132,7 +132,7 @@ pub is_ready : (t : TableId) (key : Opening) (p : BusPlan) (objects : List Objec
     → t.words ≡ suc (length objects) → t.slots ≡ length objects → key.plan.value ≡ p → key.objects.value.items ≡ objects → key.room ≡ room
     → rooms.items ≡ [] → vec_capacity rooms ≡ vec_capacity space.rooms → IsReady t key cores space.entries rooms space.returned
 is_ready t key p objects cores room space rooms sound planned some-core had words slots plan items limit none capacity =
-    let counted = and_parts ((plan_of p).objects == clock (plan_of p) + 1) (nat_le (plan_of p).objects 16384) sound.counted in
+    let counted = and_parts ((plan_of p).objects == clock (plan_of p) + 1) _ sound.counted in
     let many : (plan_of p).objects ≡ clock (plan_of p) + 1 = eqb-true (plan_of p).objects (clock (plan_of p) + 1) counted.0 in
     let all : t.slots ≡ (plan_of p).objects = omega (arith, slots, planned.count, many) in
     record {

@@ -28,6 +28,7 @@ use Rattle.object_kinds.proofs.Members.{member_of, members_all}
 use Rattle.object_kinds.proofs.Options.{given_some, then_some, mapped_some}
 use Rattle.object_kinds.proofs.Placing.{place_at}
 use Rattle.object_kinds.proofs.Proper.{noting, answer_part, admitted}
+use Rattle.object_kinds.proofs.Touching.{touched_inside}
 use Rattle.data_objects.specs.Kept.{Kept}
 use Rattle.data_objects.specs.Standing.{due_after, Keeps}
 use Rattle.data_objects.specs.Leading.{read_code_in, has_value, has_flag, lead_of_group, lead}
@@ -50,7 +51,7 @@ module _ (p : Plan) (g : ℕ) (k : Kept) (after : data_kept.Kept) (l : Past) (ke
       let r = at_place.item in
       let gives = given_some ((code == read_code_in p x k.unqueued) && has_value value r k.unqueued) (after_read r k.unqueued) after at_place.gives in
       let tests = and_parts (code == read_code_in p x k.unqueued) (has_value value r k.unqueued) gives.holds in
-      let m = member_of p g x touching in
+      let m = member_of p g x (touched_inside p g x keeps.is_group.alone touching) in
       let code_is : (code == read_code p x l) ≡ true = subst (λ c. (code == c) ≡ true) (code_in p g k l keeps x m.elem m.found m.group) tests.0 in
       let value_is : same_words (words_of value) (value_at p x l) ≡ true = value_in p g k l keeps x r m.elem m.found m.group at_place.is value tests.1 in
       record {
@@ -68,7 +69,7 @@ module _ (p : Plan) (g : ℕ) (k : Kept) (after : data_kept.Kept) (l : Past) (ke
   fetch_led x value touching proper leads =
       let at_place = then_some (λ r. given (has_value value r k.unqueued) k.unqueued) (place x (members_of p g)) after leads in
       let gives = given_some (has_value value at_place.item k.unqueued) k.unqueued after at_place.gives in
-      let m = member_of p g x touching in record {
+      let m = member_of p g x (touched_inside p g x keeps.is_group.alone touching) in record {
         follows = record {
           touching = touching;
           proper = proper;
@@ -148,7 +149,7 @@ module _ (p : Plan) (g : ℕ) (k : Kept) (after : data_kept.Kept) (l : Past) (ke
       answers = record { unqueued = refl; queued = refl; calls = refl; areas = refl; modes = refl; admission = admitted p l event (deed.Write x value) refl; due = refl };
       matching = refl;
     };
-    keeps = subst (λ z. Keeps p g (leading k z) (noting a (deed.Write x value) event ∷ l)) (same_Some (after_write value k.unqueued) after leads) (write_keeps p g k l keeps a event x value touching);
+    keeps = subst (λ z. Keeps p g (leading k z) (noting a (deed.Write x value) event ∷ l)) (same_Some (after_write value k.unqueued) after leads) (write_keeps p g k l keeps a event x value (touched_inside p g x keeps.is_group.alone touching));
   }
   group_led (deed.Publish x value) touching proper leads = record {
     follows = record {
@@ -157,7 +158,7 @@ module _ (p : Plan) (g : ℕ) (k : Kept) (after : data_kept.Kept) (l : Past) (ke
       answers = record { unqueued = refl; queued = refl; calls = refl; areas = refl; modes = refl; admission = admitted p l event (deed.Publish x value) refl; due = refl };
       matching = refl;
     };
-    keeps = subst (λ z. Keeps p g (leading k z) (noting a (deed.Publish x value) event ∷ l)) (same_Some (after_write value k.unqueued) after leads) (publish_keeps p g k l keeps a event x value touching);
+    keeps = subst (λ z. Keeps p g (leading k z) (noting a (deed.Publish x value) event ∷ l)) (same_Some (after_write value k.unqueued) after leads) (publish_keeps p g k l keeps a event x value (touched_inside p g x keeps.is_group.alone touching));
   }
   group_led (deed.Invalidate x) touching proper leads = record {
     follows = record {
@@ -166,7 +167,7 @@ module _ (p : Plan) (g : ℕ) (k : Kept) (after : data_kept.Kept) (l : Past) (ke
       answers = record { unqueued = refl; queued = refl; calls = refl; areas = refl; modes = refl; admission = admitted p l event (deed.Invalidate x) refl; due = refl };
       matching = refl;
     };
-    keeps = subst (λ z. Keeps p g (leading k z) (noting a (deed.Invalidate x) event ∷ l)) (same_Some (after_invalidation k.unqueued) after leads) (invalidate_keeps p g k l keeps a event x touching);
+    keeps = subst (λ z. Keeps p g (leading k z) (noting a (deed.Invalidate x) event ∷ l)) (same_Some (after_invalidation k.unqueued) after leads) (invalidate_keeps p g k l keeps a event x (touched_inside p g x keeps.is_group.alone touching));
   }
   group_led (deed.Read x code value) touching proper leads = read_led x code value touching proper leads
   group_led (deed.Fetch x value) touching proper leads = fetch_led x value touching proper leads

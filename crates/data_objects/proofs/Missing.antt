@@ -95,4 +95,4 @@ pub misses_nothing : (p : Plan) (m : Mapping) (g : ℕ) → IsSound p m → Miss
 misses_nothing p m g sound k l n stands follows =
     mapped_where (λ d. leading k d) (lead_of_group p g k.events k.unqueued n.entry.deed)
     (group_comes p g k l stands.kept n.entry.actor n.event n.entry.deed
-    (touches_group p m g n.entry.actor n.event n.entry.deed sound stands.kept.is_group.number follows.touching follows.proper) follows.proper follows.answers)
+    (touches_group p m g n.entry.actor n.event n.entry.deed sound stands.kept.is_group.alone follows.touching follows.proper) follows.proper follows.answers)

@@ -1,7 +1,6 @@
 -- The whole of a description that is read keeps what its parts do.
-use Rattle.std.proofs.Common.{◌≡◌, ◌≢◌, ℕ, ◌+◌, ◌≤◌, ◌<◌, ◌^◌, List, [], ◌∷◌, length, Bool, true, false, not, leb, bytes_eq, Option, Some, None, refl, ap, arith, ◌∙◌}
+use Rattle.std.proofs.Common.{◌≡◌, ◌≢◌, ℕ, ◌+◌, ◌≤◌, ◌<◌, ◌^◌, List, [], ◌∷◌, length, Bool, true, false, not, leb, bytes_eq, Some, None, refl, ap, arith, ◌∙◌}
 use Rattle.std.specs.List.{All, AllPairs, list_all}
-use Rattle.std.specs.Option.{option_or}
 use Rattle.std.proofs.lemmas.Bool.{and_parts, and_from, cond_both, leb-true, lt-ltb}
 use Rattle.std.proofs.lemmas.List.Elements.{All-head, All-tail}
 use Rattle.std.proofs.lemmas.List.Folds.{list_all-append}
@@ -28,6 +27,7 @@ use Rattle.component_model.specs.Refusals.{IsRead, typed_refusal}
 use Rattle.description_laws.proofs.Kept.{Kept, Differ, is_narrow, passes}
 use Rattle.description_laws.proofs.Lists.{apart_from}
 use Rattle.description_laws.proofs.Widths.{narrow, narrow_items, narrow_members, bytes_narrow}
+use Rattle.plan_definitions.proofs.Firsts.{or_none}
 
 -- what `unbroken_descriptions` says
 pub record Unbroken : Type 0 where
@@ -94,13 +94,6 @@ whole_kept laws bytes d low reads unbroken = record {
 }
 
 -- no rule is broken
-some_none : {X : Type 0} {x : X} → ◌≡◌ {A = Option X} (Some x) None → ⊥
-some_none e = cc
-
-pub first_none : {X : Type 0} (a b : Option X) → option_or a b ≡ None → (a ≡ None) × (b ≡ None)
-first_none None b h = (refl, h)
-first_none (Some x) b h = absurd (some_none h)
-
 -- what the typed reading of a description that is read comes from
 pub record Whole (tree : DescriptionTree) : Type 0 where
   pub value : Data
@@ -111,8 +104,8 @@ pub record Whole (tree : DescriptionTree) : Type 0 where
 
 pub whole_of : Unbroken → (bytes : List ℕ) (tree : DescriptionTree) → length bytes < 2 ^ 64 → IsRead bytes tree → Whole tree
 whole_of laws bytes tree low r =
-    let parts = first_none (base.refusal r.value) (typed_refusal (reading r.value)) r.is_unbroken in
-    let typed = first_none (type_refusal (reading r.value).types) (first (of_rule 8 initial_place (broken_initials (reading r.value)))) parts.1 in
+    let parts = or_none (base.refusal r.value) (typed_refusal (reading r.value)) r.is_unbroken in
+    let typed = or_none (type_refusal (reading r.value).types) (first (of_rule 8 initial_place (broken_initials (reading r.value)))) parts.1 in
     record {
       value = r.value;
       is_reading = r.is_reading;

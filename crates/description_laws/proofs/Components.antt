@@ -1,5 +1,6 @@
 -- What the components of a description keep.
 use Rattle.std.proofs.Common.{◌≡◌, ℕ, suc, List, [], ◌∷◌, map, length, Bool, true, false, ◌&&◌, ◌||◌, eqb, ltb, codes, Some, refl, sym, ap, subst, ◌∙◌, inl, Option}
+use Rattle.std.specs.Arc.{arc_value}
 use Rattle.std.specs.List.{list_all, list_any, slice_get}
 use Rattle.std.specs.Option.{option_map_or, unwrap_or}
 use Rattle.std.proofs.lemmas.Bool.{and_parts, and_from}
@@ -90,7 +91,7 @@ module _ (t : TypeTable) (c : Component) where
 
   runnable_so : (r : Runnable) → runnable_low t c.ports (length c.behavior.variables) (length c.behavior.exclusive_areas) (runnable_tree r) ≡ true → runnable_fits t c r ≡ true
   runnable_so r h =
-      let first = and_parts (list_all (access_low t c.ports (length c.behavior.variables) (length c.behavior.exclusive_areas)) r.accesses && accesses_distinct r.accesses) (is_well_formed (program_tree r.program)) h in
+      let first = and_parts (list_all (access_low t c.ports (length c.behavior.variables) (length c.behavior.exclusive_areas)) r.accesses && accesses_distinct r.accesses) (is_well_formed (program_tree (arc_value r.program))) h in
       let parts = and_parts (list_all (access_low t c.ports (length c.behavior.variables) (length c.behavior.exclusive_areas)) r.accesses) (accesses_distinct r.accesses) first.0 in
       and_from _ _
       (list_all_more (access_low t c.ports (length c.behavior.variables) (length c.behavior.exclusive_areas)) (access_fits t c) (λ a h. sym (access_so a.kind a.port a.item) ∙ h) r.accesses parts.0)

@@ -20,7 +20,8 @@ use Rattle.description_places.specs.Keys.{Key, keys_of}
 use Rattle.description_places.specs.Shape.{fits}
 use Rattle.description_places.specs.Spots.{Spot, inside, inside_part}
 use Rattle.description_places.specs.Visits.{Visit, visit_at, visits, items_visits, members_visits, part_of, in_parts, at_key, under_keys}
-use Rattle.description_laws.proofs.Kept.{Part, Kept, left_part, right_part, visits_at, at_key_found, parts_kept, shape_here}
+use Rattle.description_places.proofs.Walks.{at_key_found, visits_at}
+use Rattle.description_laws.proofs.Kept.{Part, Kept, left_part, right_part, parts_kept, shape_here}
 use Rattle.description_laws.proofs.Prefixes.{begins, begins_self, level, Reaches, reaches_inside, none_with}
 use Rattle.description_laws.proofs.Reach.{reach, is_plain, begin_so}
 

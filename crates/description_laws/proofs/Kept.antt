@@ -1,15 +1,12 @@
 -- What a part of a description keeps: each of its values passes the rules, and what it declares is apart and among what the
 -- whole declares.
-use Rattle.std.proofs.Common.{◌≡◌, ◌≢◌, ℕ, zero, suc, ◌+◌, ◌<◌, ◌^◌, ltb, List, [], ◌∷◌, ◌++◌, Bool, true, false, not, ◌&&◌, cond, Option, Some, None, is_eq, nat_cmp, Ordering, Less, Equal, Greater, refl, sym, ap, subst, arith, ◌∙◌}
-use Rattle.std.specs.Cmp.Lexicographic.{slice_cmp}
+use Rattle.std.proofs.Common.{◌≡◌, ◌≢◌, ℕ, zero, suc, ◌+◌, ◌<◌, ◌^◌, ltb, List, [], ◌∷◌, ◌++◌, Bool, true, false, not, ◌&&◌, Some, refl, sym, subst, arith, ◌∙◌}
 use Rattle.std.specs.List.{list_all, slice_get}
-use Rattle.std.specs.Ordering.{match_ordering}
 use Rattle.std.proofs.lemmas.Bool.{and_parts, not-true, ltb-true}
 use Rattle.std.proofs.lemmas.Grind.{flat_map-append}
 use Rattle.std.proofs.lemmas.List.Folds.{list_all-append}
-use Rattle.std.proofs.lemmas.Map.Text.{is_eq-slice_cmp}
 use Rattle.std.proofs.lemmas.Option.{none-some, same_Some}
-use Rattle.serde_json.specs.Data.{Data, null, boolean, number, string, array, object, Items, no_items, item, Members, no_members, member}
+use Rattle.serde_json.specs.Data.{Data, null, boolean, number, string, array, object, Items, no_items, item, Members}
 use Rattle.serde_json.specs.Events.{items_len}
 use Rattle.serde_json.specs.Find.{get_item, get_member}
 use Rattle.description_places.specs.declared.kind.Kind.{Kind}
@@ -22,6 +19,7 @@ use Rattle.description_places.specs.Rules.{breaks_shape, breaks_names}
 use Rattle.description_places.specs.Shape.{has_shape}
 use Rattle.description_places.specs.Spots.{Spot, inside, inside_part}
 use Rattle.description_places.specs.Visits.{Visit, visit_at, visits, items_visits, members_visits, part_of, in_parts, at_key, under_keys}
+use Rattle.description_places.proofs.Walks.{at_key_found, visits_at}
 use Rattle.description_laws.proofs.Lists.{IsIn, in_left, in_right, Apart, apart_left, apart_right}
 
 -- an array has fewer parts than a place tells apart
@@ -106,23 +104,6 @@ part_within ds ps kind s i x h is =
   where
     lt-trans : (a b c : ℕ) → a < b → b < c → a < c
     lt-trans a b c h k = omega arith
-
--- what stands at a key
-abbrev pub visits_at : Key → (List ℕ → Spot) → Option Data → List Visit
-visits_at k spots None = []
-visits_at k spots (Some d) = visits d k.kind (spots k.name)
-
-at_one : (k : Key) (spots : List ℕ → Spot) (o : Ordering) (d : Data) (rest : List Visit) (later : Option Data) → rest ≡ visits_at k spots later
-    → cond (is_eq o) (visits d k.kind (spots k.name)) rest ≡ visits_at k spots (match_ordering o later (Some d) later)
-at_one k spots Less d rest later e = e
-at_one k spots Equal d rest later e = refl
-at_one k spots Greater d rest later e = e
-
-pub at_key_found : (k : Key) (spots : List ℕ → Spot) (ms : Members) → at_key k spots (members_visits ms) ≡ visits_at k spots (get_member k.name ms)
-at_key_found k spots no_members = refl
-at_key_found k spots (member l d ms) =
-    ap (λ b. cond b (visits d k.kind (spots k.name)) (at_key k spots (members_visits ms))) (sym (is_eq-slice_cmp k.name l))
-    ∙ at_one k spots (slice_cmp nat_cmp k.name l) d _ _ (at_key_found k spots ms)
 
 under : (ds : List Declared) (ks : List Key) (spots : List ℕ → Spot) (ms : Members) (n : ℕ) (k : Key) (x : Data)
     → Part ds (under_keys ks spots (members_visits ms)) → slice_get ks n ≡ Some k → get_member k.name ms ≡ Some x → Part ds (visits x k.kind (spots k.name))

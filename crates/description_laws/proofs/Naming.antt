@@ -2,7 +2,7 @@
 use Rattle.std.proofs.Common.{◌≡◌, ℕ, zero, suc, ◌+◌, ◌≤◌, List, [], ◌∷◌, map, length, Bool, true, false, not, ◌&&◌, ◌||◌, leb, eqb, codes, Some, None, is_some, refl, sym, ap, subst, arith, ◌∙◌, ◌⊎◌, inl, inr}
 use Rattle.std.specs.List.{list_all, list_any, slice_get}
 use Rattle.std.specs.Option.{option_and_then}
-use Rattle.std.proofs.lemmas.Bool.{and_parts, and_from, or_cases, or_from, or_left, or_right, false≢true, eqb-true, false_from_ne_true, leb-true, le-leb}
+use Rattle.std.proofs.lemmas.Bool.{and_parts, and_from, or_cases, or_from, or_left, or_right, false≢true, false_from_ne_true, leb-true, le-leb}
 use Rattle.std.proofs.lemmas.Grind.{flat_map-append}
 use Rattle.std.proofs.lemmas.Option.{none-some, same_Some}
 use Rattle.serde_json.specs.Data.{Data, array, Items, no_items, item}
@@ -22,6 +22,7 @@ use Rattle.description_places.specs.Visits.{visits, items_visits, part_of, in_pa
 use Rattle.bus_semantics.specs.SoundNames as bus
 use Rattle.bus_semantics.specs.SoundPlan.{is_in, same_numbers}
 use Rattle.plan_definitions.specs.WellFormed.{distinct, names_fit}
+use Rattle.plan_definitions.proofs.Lists.{same_numbers_is}
 use Rattle.description_laws.proofs.Hits.{is_object}
 use Rattle.description_laws.proofs.Kept.{Part, Kept, Differ, right_part, parts_kept, kept_part, shape_here}
 use Rattle.description_laws.proofs.Lists.{IsIn, in_left, in_right, Apart, apart_across}
@@ -54,15 +55,6 @@ name_fits (c ∷ t) h =
     let wide : length (c ∷ t) ≤ 32 = leb-true _ _ (and_parts (leb 1 (length (c ∷ t))) _ start.0).1 in
     and_from _ _ start.1 (and_from _ _ (parts_fit t (and_parts _ _ front.1).1) (le-leb (length t) 31 (omega arith)))
 
-pub numbers_same : (a b : List ℕ) → same_numbers a b ≡ true → a ≡ b
-numbers_same [] [] h = refl
-numbers_same [] (y ∷ b) h = absurd (false≢true h)
-numbers_same (x ∷ a) [] h = absurd (false≢true h)
-numbers_same (x ∷ a) (y ∷ b) h =
-    let one = eqb-true x y (and_parts _ _ h).0 in
-    let rest = numbers_same a b (and_parts _ _ h).1 in
-    (λ i. one i ∷ rest i)
-
 -- ---- lists
 
 pub all_listed : {X : Type 0} (test : X → Bool) (f : Data → X) (ps : Items) → ((i : ℕ) (x : Data) → get_item i ps ≡ Some x → test (f x) ≡ true) → list_all test (map f (listed ps)) ≡ true
@@ -72,7 +64,7 @@ all_listed test f (item x ps) h = and_from _ _ (h 0 x refl) (all_listed test f p
 none_same : (text : Data → List ℕ) (t : List ℕ) (ps : Items) → ((i : ℕ) (x : Data) → get_item i ps ≡ Some x → t ≡ text x → ⊥) → list_any (same_numbers t) (map text (listed ps)) ≡ false
 none_same text t no_items h = refl
 none_same text t (item x ps) h =
-    or_from _ _ (false_from_ne_true _ (λ e. h 0 x refl (numbers_same t (text x) e))) (none_same text t ps (λ i y is. h (suc i) y is))
+    or_from _ _ (false_from_ne_true _ (λ e. h 0 x refl (same_numbers_is t (text x) e))) (none_same text t ps (λ i y is. h (suc i) y is))
 
 pub in_parts_of : (y : Declared) (kinds : ℕ → Kind) (spots : ℕ → Spot) (j : ℕ) (ps : Items) (i : ℕ) (x : Data) → get_item i ps ≡ Some x
     → IsIn y (declarations (visits x (kinds (j + i)) (spots (j + i)))) → IsIn y (declarations (in_parts kinds spots j (items_visits ps)))

@@ -21,8 +21,9 @@ use Rattle.description_places.specs.Names.{is_name, is_name_form}
 use Rattle.description_places.specs.Shape.{fits, holds, has_needed, has_only}
 use Rattle.description_places.specs.Spots.{Spot, inside}
 use Rattle.description_places.specs.Visits.{Visit, visit_at, visits, members_visits, at_key, under_keys}
+use Rattle.description_places.proofs.Walks.{at_key_found, visits_at}
 use Rattle.description_laws.proofs.Lists.{IsIn, in_left, in_right, list_all_in}
-use Rattle.description_laws.proofs.Kept.{Kept, kept_key, visits_at, at_key_found, shape_here, name_here}
+use Rattle.description_laws.proofs.Kept.{Kept, kept_key, shape_here, name_here}
 use Rattle.description_laws.proofs.Hits.{is_object, is_short_name, short_kind, object_from_shape, on_object, own_key}
 
 -- what is declared within is declared

@@ -13,8 +13,10 @@ use sound_behavior::{
     points_stand_by_caller, runnables_fit, servers_serve, tasks_fit, waits_are_ordered,
 };
 use sound_elements::{
-    elements_of_plans_are_sound, groups_of_plans_fit, joined_elements_of_plans_agree,
-    machines_of_plans_are_sound, objects_of_plans_are_counted, queues_of_plans_are_bounded,
+    bundles_of_plans_fit, elements_of_plans_are_sound, groups_of_plans_fit,
+    joined_elements_of_plans_agree, lists_of_plans_are_sound, machines_of_plans_are_sound,
+    objects_of_plans_are_counted, plans_have_no_lists, points_of_plans_are_few,
+    queues_of_plans_are_bounded,
 };
 use sound_names::{
     mode_ports_have_machines, names_of_plans_fit, plans_are_arranged, plans_name_their_instances,
@@ -44,6 +46,10 @@ pub fn plans_are_sound()
     servers_serve();
     direct_servers_fit();
     queues_of_plans_are_bounded();
+    points_of_plans_are_few();
+    lists_of_plans_are_sound();
+    bundles_of_plans_fit();
+    plans_have_no_lists();
     tasks_fit();
     waits_are_ordered();
 }

@@ -4,6 +4,8 @@ use interface_types::ComSpec;
 use rte_text::{Seq, Text};
 use rte_value::Word;
 use runnable_lang::{AccessKind, Program};
+use std::alloc::Global;
+use std::sync::Arc;
 
 /// A component (ApplicationSwComponentType).
 #[derive(Drop)]
@@ -60,7 +62,8 @@ pub struct Runnable {
     /// False where the description does not say.
     pub can_be_invoked_concurrently: bool,
     pub accesses: Seq<Access>,
-    pub program: Program,
+    /// Its program, which the plan of each instance shares.
+    pub program: Arc<Program, Global>,
 }
 
 /// What a runnable may do: an access, as `AccessSig` numbers it.

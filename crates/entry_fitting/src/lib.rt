@@ -3,6 +3,7 @@
 #![tactic(auto)]
 
 mod entries;
+mod lists;
 mod looking;
 mod owners;
 mod wishes;

@@ -5,6 +5,7 @@ ghost use Rattle.bus_semantics.specs.Fitting.{activation_may_want, environment_m
 ghost use Rattle.bus_semantics.specs.Plan.{plan_of};
 ghost use Rattle.bus_semantics.specs.Wanted.{wanted_of};
 
+use crate::lists::{list_fits, may_be_published};
 use crate::looking::instance_of;
 use crate::owners::{
     area_fits, event_fits, is_provided, is_required, key_fits, may_be_read, may_be_received,
@@ -39,6 +40,12 @@ fn activation_may_want(p: &BusPlan, key: ActKey, home: Option<u32>, wish: &Wish)
         Wish::Leave { area } => area_fits(p, home, *area),
         Wish::Switch { machine, mode } => switch_fits(p, home, *machine, *mode),
         Wish::Mode { port } => mode_port_fits(p, home, *port),
+        Wish::FetchAll { list } => list_fits(p, key.runnable, true, *list),
+        Wish::PublishAll {
+            list,
+            written,
+            value,
+        } => may_be_published(p, key.runnable, *list, *written, value),
     }
 }
 
@@ -67,6 +74,8 @@ fn environment_may_want(p: &BusPlan, wish: &Wish) -> bool
         | Wish::Return { .. }
         | Wish::Enter { .. }
         | Wish::Leave { .. }
+        | Wish::FetchAll { .. }
+        | Wish::PublishAll { .. }
         | Wish::Phase => false,
     }
 }

@@ -1,61 +1,24 @@
 -- Elements that no join names: each leads a group of its own. Each join names two at most.
-use Rattle.std.proofs.Common.{◌≡◌, ℕ, zero, suc, ◌+◌, ◌≤◌, List, [], ◌∷◌, ◌++◌, length, map, filter, Bool, true, false, cond, not, ◌&&◌, ◌||◌, nat_eq, Option, Some, None, option_map, unwrap_or, inl, inr, refl, sym, ap, subst, ◌∙◌, true≢false, arith, slice_get}
-use Rattle.std.proofs.lemmas.Bool.{and_from, and_parts, eq-eqb, eqb-true, or_parts}
+use Rattle.std.proofs.Common.{◌≡◌, ℕ, zero, suc, ◌+◌, ◌≤◌, List, [], ◌∷◌, ◌++◌, length, map, filter, Bool, true, false, cond, not, ◌||◌, nat_eq, Option, Some, None, unwrap_or, inl, inr, refl, sym, ap, subst, ◌∙◌, true≢false, arith, slice_get}
+use Rattle.std.proofs.lemmas.Bool.{eq-eqb, or_parts}
 use Rattle.std.proofs.lemmas.List.Filters.{length-filter_both}
 use Rattle.std.specs.List.{position_from}
-use Rattle.std.specs.Option.{option_eq, option_map_or}
+use Rattle.std.specs.Option.{option_map_or}
 use Rattle.flat_descriptions.specs.declared.flat.End.{End}
 use Rattle.flat_descriptions.specs.declared.flat.Join.{Join}
 use Rattle.flat_descriptions.specs.Members.{Among}
 use Rattle.plan_definitions.specs.declared.site.Site.{Site}
 use Rattle.plan_definitions.specs.Joined.{end_at, end_of, is_joined, partners, same_end}
 use Rattle.plan_definitions.specs.Keys.{Key, end_key, key_of, keys_of, number_in, same_key}
-use Rattle.plan_definitions.specs.Lists.{from, positions}
+use Rattle.plan_definitions.specs.Lists.{from}
 use Rattle.plan_definitions.specs.Sites.{site}
 use Rattle.plan_definitions.specs.ElementGroups.{groups, group_number, head_at, heads, leader, leader_of, least, members, nearest, own_number}
-use Rattle.event_mapping.proofs.Apart.{Apart}
-
--- ---- keys and ends
-
-same_number : (a b : Option ℕ) → option_eq nat_eq a b ≡ true → a ≡ b
-same_number None None h = refl
-same_number None (Some y) h = cc
-same_number (Some x) None h = cc
-same_number (Some x) (Some y) h = ap (λ n. Some n) (eqb-true x y h)
-
-same_number_refl : (a : Option ℕ) → option_eq nat_eq a a ≡ true
-same_number_refl None = refl
-same_number_refl (Some x) = eq-eqb x x refl
-
-same_key_is : (a b : Key) → same_key a b ≡ true → a ≡ b
-same_key_is a b h =
-    let outer = and_parts (option_eq nat_eq a.0 b.0 && option_eq nat_eq a.1 b.1) (nat_eq a.2 b.2) h in
-    let inner = and_parts (option_eq nat_eq a.0 b.0) (option_eq nat_eq a.1 b.1) outer.0 in
-    (λ j. (same_number a.0 b.0 inner.0 j, same_number a.1 b.1 inner.1 j, eqb-true a.2 b.2 outer.1 j))
-
-same_key_refl : (a : Key) → same_key a a ≡ true
-same_key_refl a = and_from (option_eq nat_eq a.0 a.0 && option_eq nat_eq a.1 a.1) (nat_eq a.2 a.2)
-    (and_from (option_eq nat_eq a.0 a.0) (option_eq nat_eq a.1 a.1) (same_number_refl a.0) (same_number_refl a.1)) (eq-eqb a.2 a.2 refl)
-
-same_end_is : (a b : End) → same_end a b ≡ true → a ≡ b
-same_end_is a b h =
-    let outer = and_parts (option_eq nat_eq a.instance b.instance && nat_eq a.port b.port) (nat_eq a.element b.element) h in
-    let inner = and_parts (option_eq nat_eq a.instance b.instance) (nat_eq a.port b.port) outer.0 in
-    (λ j. record { instance = same_number a.instance b.instance inner.0 j; port = eqb-true a.port b.port inner.1 j; element = eqb-true a.element b.element outer.1 j })
-
-key_is : (s : Site) (e : End) → end_of s ≡ Some e → end_key e ≡ key_of s
-key_is s e is = by s.port refl is
-  where
-    by : (o : Option ℕ) → s.port ≡ o → option_map (λ port. end_at s.owner port s.item) o ≡ Some e → end_key e ≡ key_of s
-    by None none h = cc
-    by (Some k) some h = let same : end_at s.owner k s.item ≡ e = cc in sym (ap end_key same) ∙ (λ j. (s.owner, sym some j, s.item))
+use Rattle.plan_definitions.proofs.Apart.{Apart}
+use Rattle.plan_definitions.proofs.Keys.{key_is, same_end_is, same_key_is, same_key_refl}
+use Rattle.plan_definitions.proofs.Lists.{as_many, at}
+use Rattle.plan_definitions.proofs.Sites.{with_port}
 
 -- ---- the number of an element is its position
-
-at : {X : Type 0} (xs : List X) (n : ℕ) (x : X) → slice_get xs n ≡ Some x → Among x xs
-at [] n x h = cc
-at (y ∷ xs) zero x h = inl cc
-at (y ∷ xs) (suc n) x h = inr (at xs n x h)
 
 positioned : (i : ℕ) (xs : List Site) → Apart key_of xs → (n : ℕ) (s : Site) → slice_get xs n ≡ Some s → position_from (same_key (key_of s)) i (keys_of xs) ≡ Some (i + n)
 positioned i [] apart n s is = cc
@@ -91,9 +54,6 @@ leads_alone : (joins : List Join) (keys : List Key) (e : End) → partners joins
 leads_alone joins keys e none = ap (λ ends. least (nearest joins keys e) (map (nearest joins keys) ends)) none
     ∙ ap (λ ends. least (own_number keys e) (map (own_number keys) ends)) none
 
-with_port : (P : Site → Type 0) (s : Site) (o : Option ℕ) → s.port ≡ o → P (site s.owner o s.item s.kind) → P s
-with_port P s o is h = subst (λ q. P (site s.owner q s.item s.kind)) (sym is) h
-
 leads_itself : (joins : List Join) (keys : List Key) (s : Site) → named joins s ≡ false → leader_of joins keys s ≡ number_in keys (key_of s)
 leads_itself joins keys s apart = by s.port refl
   where
@@ -121,10 +81,6 @@ module _ (lead : Site → ℕ) (test : Site → Bool) where
       by true passes false is rest = rest
       by false fails true is rest = omega (arith, rest)
       by false fails false is rest = let z : i + 0 ≡ i = omega arith in absurd (true≢false (sym (eq-eqb (lead x) i (each 0 x refl fails ∙ z)) ∙ is))
-
-pub as_many : {Y : Type 0} (F : ℕ → Y) (i n : ℕ) → length (map F (positions i n)) ≡ n
-as_many F i zero = refl
-as_many F i (suc n) = ap (λ m. suc m) (as_many F (i + 1) n)
 
 -- ---- how many the joins name
 

@@ -21,9 +21,11 @@ use Rattle.plan_definitions.specs.Services.{point_of, points}
 use Rattle.plan_definitions.specs.Sites.{sites}
 use Rattle.plan_definitions.specs.Sizes.{HasFewParts, HasFewThings}
 use Rattle.plan_definitions.specs.Things.{has_machine, mode_ports_of}
+use Rattle.plan_definitions.proofs.Apart.{apart_filter}
+use Rattle.plan_definitions.proofs.Sites.{sites_apart}
+use Rattle.plan_definitions.proofs.Lists.{as_many}
 use Rattle.event_mapping.specs.Foretold.{AreShort}
-use Rattle.event_mapping.proofs.Alone.{as_many, named, named_few}
-use Rattle.event_mapping.proofs.Apart.{apart_filter, sites_apart}
+use Rattle.event_mapping.proofs.Alone.{named, named_few}
 use Rattle.event_mapping.proofs.Foretelling.{elements_listed, machines_listed, servers_listed}
 
 -- ---- what instances have

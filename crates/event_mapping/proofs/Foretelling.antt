@@ -18,12 +18,13 @@ use Rattle.plan_definitions.specs.Started.{event_of, events, events_of_component
 use Rattle.plan_definitions.specs.Modes.{machine_at, machines}
 use Rattle.plan_definitions.specs.Callings.{callings}
 use Rattle.plan_definitions.specs.Services.{point_of, points, server_of, servers}
+use Rattle.plan_definitions.proofs.Apart.{apart_filter}
+use Rattle.plan_definitions.proofs.Sites.{sites_apart}
 use Rattle.event_mapping.specs.Foretold.{IsForetold, listed}
 use Rattle.event_mapping.specs.Guard.{event_count, events_of_instance, is_counted, item_count, point_count}
 use Rattle.plan_definitions.specs.Planned.{area_of, areas, areas_at, named_areas, plan_of}
 use Rattle.plan_definitions.specs.PlanRules.{is_too_large, queue_lengths}
 use Rattle.event_mapping.proofs.Alone.{groups_most}
-use Rattle.event_mapping.proofs.Apart.{apart_filter, sites_apart}
 use Rattle.event_mapping.proofs.Spending.{some_left}
 use Rattle.event_mapping.proofs.Totals.{areas_in, by_kind, callings_counted, length_from, sites_counted}
 

@@ -1,7 +1,6 @@
 pub mod Listing
 pub mod Telling
 pub mod Summing
-pub mod Apart
 pub mod Alone
 pub mod Totals
 pub mod Spending

@@ -1,52 +1,16 @@
 -- The turns of the loops that list.
-use Rattle.std.proofs.Common.{◌≡◌, ℕ, zero, suc, ◌+◌, ◌<◌, ◌≤◌, List, [], ◌∷◌, ◌++◌, map, length, get_or, drop, ◌-◌, refl, sym, ap, ◌∙◌, arith, add-one, append_assoc, subst}
+use Rattle.std.proofs.Common.{◌≡◌, ℕ, ◌+◌, ◌<◌, ◌≤◌, List, ◌++◌, length, get_or, drop, sym, ap, subst, ◌∙◌}
 use Rattle.std.proofs.lemmas.List.{append-nil}
-use Rattle.plan_definitions.specs.Lists.{positions, from}
-
-module _ {Y : Type 0} (f : ℕ → Y) where
-  pub one_more : (whole old new : List Y) (i n : ℕ) → i < n → new ≡ old ++ f i ∷ [] → whole ≡ old ++ map f (positions i (n - i)) → whole ≡ new ++ map f (positions (i + 1) (n - (i + 1)))
-  one_more whole old new i n within pushed so_far = so_far ∙ ap (λ k. old ++ map f (positions i k)) one_less ∙ sym (append_assoc old (f i ∷ []) rest) ∙ (λ j. sym pushed j ++ rest)
-    where
-      rest : List Y
-      rest = map f (positions (i + 1) (n - (i + 1)))
-
-      one_less : n - i ≡ suc (n - (i + 1))
-      one_less = omega arith
-
-  pub none_more : (i n : ℕ) → n ≤ i → map f (positions i (n - i)) ≡ []
-  none_more i n past = ap (λ k. map f (positions i k)) none
-    where
-      none : n - i ≡ 0
-      none = omega arith
+use Rattle.plan_definitions.specs.Lists.{from}
+use Rattle.plan_numbers.proofs.Listing.{from_more, from_none}
 
 module _ {X Y : Type 0} (f : ℕ → X → List Y) where
-  from_next : (xs : List X) (n i : ℕ) (x : X) → i < length xs → x ≡ get_or xs i x → from n f (drop i xs) ≡ f n x ++ from (n + 1) f (drop (suc i) xs)
-  from_next [] n i x within is = absurd (omega arith)
-  from_next (y ∷ xs) n zero x within is = ap (λ z. f n z ++ from (n + 1) f xs) (sym is)
-  from_next (y ∷ xs) n (suc i) x within is = from_next xs n i x (omega arith) is
-
-  pub from_none : (xs : List X) (n i : ℕ) → length xs ≤ i → from n f (drop i xs) ≡ []
-  from_none [] n zero past = refl
-  from_none [] n (suc i) past = refl
-  from_none (y ∷ xs) n zero past = absurd (omega arith)
-  from_none (y ∷ xs) n (suc i) past = from_none xs n i (omega arith)
-
-  pub from_more : (xs : List X) (whole old : List Y) (i : ℕ) (x : X) → i < length xs → x ≡ get_or xs i x → whole ≡ old ++ from i f (drop i xs)
-      → whole ≡ (old ++ f i x) ++ from (i + 1) f (drop (i + 1) xs)
-  from_more xs whole old i x within is so_far = so_far ∙ ap (λ ys. old ++ ys) (from_next xs i i x within is)
-      ∙ sym (append_assoc old (f i x) (from (i + 1) f (drop (suc i) xs))) ∙ (λ j. (old ++ f i x) ++ from (i + 1) f (drop (sym (add-one i) j) xs))
-
   -- the turn and the end of a loop over the same list
   pub from_pushed : (xs js : List X) → js ≡ xs → (whole old new : List Y) (i : ℕ) (x : X) → i < length js → x ≡ get_or js i x → new ≡ old ++ f i x
       → whole ≡ old ++ from i f (drop i xs) → whole ≡ new ++ from (i + 1) f (drop (i + 1) xs)
   from_pushed xs js are whole old new i x within is pushed so_far =
-      from_more xs whole old i x (subst (λ l. i < length l) are within) (is ∙ ap (λ l. get_or l i x) are) so_far
+      from_more f xs whole old i x (subst (λ l. i < length l) are within) (is ∙ ap (λ l. get_or l i x) are) so_far
       ∙ (λ j. sym pushed j ++ from (i + 1) f (drop (i + 1) xs))
 
   pub from_all : (xs js : List X) → js ≡ xs → (whole old : List Y) (i : ℕ) → length js ≤ i → whole ≡ old ++ from i f (drop i xs) → old ≡ whole
-  from_all xs js are whole old i past so_far = sym (so_far ∙ ap (λ l. old ++ l) (from_none xs i i (subst (λ l. length l ≤ i) are past)) ∙ append-nil old)
-
--- nothing is added
-pub nothing : {Y : Type 0} (ys zs : List Y) → zs ≡ [] → ys ≡ ys ++ zs
-nothing [] zs none = sym none
-nothing (y ∷ ys) zs none = ap (λ xs. y ∷ xs) (nothing ys zs none)
+  from_all xs js are whole old i past so_far = sym (so_far ∙ ap (λ l. old ++ l) (from_none f xs i i (subst (λ l. length l ≤ i) are past)) ∙ append-nil old)

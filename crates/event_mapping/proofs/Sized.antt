@@ -1,7 +1,7 @@
 -- A plan with too many objects, or with few.
-use Rattle.std.proofs.Common.{◌≡◌, ℕ, Bool, true, false, cond, ◌||◌, nat_le, nat_lt, length, Some, None, refl, subst, arith}
-use Rattle.std.proofs.lemmas.Bool.{leb-false, lt-ltb, or_left}
-use Rattle.plan_definitions.specs.Planned.{Planned}
+use Rattle.std.proofs.Common.{◌≡◌, ◌<◌, ◌^◌, ℕ, List, Bool, true, false, cond, ◌||◌, nat_le, nat_lt, length, Some, None, refl, ap, subst, arith}
+use Rattle.std.proofs.lemmas.Bool.{leb-false, leb-true, lt-ltb, or_left}
+use Rattle.plan_definitions.specs.Planned.{Planned, object_count}
 use Rattle.plan_definitions.specs.PlanRules.{is_too_large, queue_lengths}
 use Rattle.event_mapping.specs.Sized.{few_objects}
 
@@ -11,6 +11,14 @@ few n c is = by (nat_le n 16384) is
     by : (b : Bool) → Some c ≡ cond b (Some n) None → c ≡ n
     by true is = cc
     by false is = cc
+
+-- then 32 bits number its groups
+pub few_groups : {X : Type 0} (xs ys : List X) (s a m c : ℕ) → Some c ≡ few_objects (object_count (length ys) s a m) → xs ≡ ys → length xs < 2 ^ 32
+few_groups xs ys s a m c is same = by (nat_le (object_count (length ys) s a m) 16384) refl is
+  where
+    by : (b : Bool) → nat_le (object_count (length ys) s a m) 16384 ≡ b → Some c ≡ cond b (Some (object_count (length ys) s a m)) None → length xs < 2 ^ 32
+    by true h is = let most = leb-true (object_count (length ys) s a m) 16384 h in let long : length xs ≡ length ys = ap length same in omega (arith, most, long)
+    by false h is = absurd cc
 
 many : (n : ℕ) → None ≡ few_objects n → nat_lt 16384 n ≡ true
 many n is = by (nat_le n 16384) refl is

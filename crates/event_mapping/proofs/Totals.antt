@@ -29,8 +29,8 @@ use Rattle.plan_definitions.specs.Keys.{is_element, is_machine, is_server}
 use Rattle.plan_definitions.specs.Lists.{from, positions}
 use Rattle.plan_definitions.specs.Parts.{of_instances}
 use Rattle.plan_definitions.specs.Sites.{count_at, kind_at, root_ports, shape_at, site, sites, sites_at, sites_of_component, sites_of_instance, sites_of_ports, sites_with, variables_of}
+use Rattle.plan_definitions.proofs.Lists.{as_many}
 use Rattle.event_mapping.specs.Guard.{counted_with, is_counted, items_at, items_in, items_of_instance, items_of_ports, item_count, outer_points, point_count, points_at, points_in, points_of_instance, points_of_runnable}
-use Rattle.event_mapping.proofs.Alone.{as_many}
 
 -- ---- lists that are made of others
 

@@ -1,6 +1,6 @@
 //! The whole plan.
 
-ghost use Rattle.std.specs.Prelude.{◌≡◌, IfOk, map, true};
+ghost use Rattle.std.specs.Prelude.{◌≡◌, IfOk, length, map, true};
 ghost use Rattle.plan_definitions.specs.Mapped.{is_mapped};
 ghost use Rattle.plan_definitions.specs.Parts.{events_of};
 ghost use Rattle.plan_definitions.specs.Callings.{callings as all_callings};
@@ -9,7 +9,8 @@ ghost use Rattle.plan_definitions.specs.Sizes.{HasFewThings};
 ghost use Rattle.plan_definitions.specs.WellFormed.{types_fit};
 ghost use Rattle.event_mapping.specs.Sized.{IsPlan, few_objects};
 
-use crate::pieces::{behavior_of, items_of, modes_of, services_of};
+use crate::bundling::bundling_of;
+use crate::pieces::{Items, Modes, Services, behavior_of, items_of, modes_of, services_of};
 use crate::size::OBJECTS;
 use bus_semantics::BusPlan;
 use description_types::Description;
@@ -19,7 +20,8 @@ use plan_services::Callings;
 use rte_text::Memory;
 use std::alloc::Global;
 
-/// How many objects a plan has: its groups, servers, areas and machines, and the clock. None where it may not have so many.
+/// How many objects a plan has: its groups, each a bundle, servers, areas and machines, and the clock. None where it may not have
+/// so many.
 fn object_count(groups: usize, servers: usize, areas: usize, machines: usize) -> Option<u32>
     ensures { result ≡ few_objects (object_count groups servers areas machines) }
 {
@@ -28,6 +30,17 @@ fn object_count(groups: usize, servers: usize, areas: usize, machines: usize) ->
     let room = room.checked_sub(areas)?;
     let room = room.checked_sub(machines)?;
     Some(OBJECTS - room as u32)
+}
+
+fn objects_of(items: &Items, services: &Services, modes: &Modes) -> Option<u32>
+    ensures { result ≡ few_objects (object_count (length items.now.groups) (length services.now.servers) (length services.now.areas) (length modes.now.machines)) }
+{
+    object_count(
+        items.groups.len(),
+        services.servers.len(),
+        services.areas.len(),
+        modes.machines.len(),
+    )
 }
 
 fn plan_over(
@@ -45,25 +58,26 @@ fn plan_over(
     let services = services_of(alloc, source, callings, mapped)?;
     let modes = modes_of(alloc, source)?;
     let behavior = behavior_of(alloc, source, callings)?;
-    match object_count(
-        items.groups.len(),
-        services.servers.len(),
-        services.areas.len(),
-        modes.machines.len(),
-    ) {
-        Some(objects) => Ok(Some(BusPlan {
-            names: items.names,
-            elements: items.elements,
-            groups: items.groups,
-            points: services.points,
-            servers: services.servers,
-            areas: services.areas,
-            machines: modes.machines,
-            mode_ports: modes.mode_ports,
-            events: behavior.events,
-            runnables: behavior.runnables,
-            objects,
-        })),
+    match objects_of(&items, &services, &modes) {
+        Some(objects) => {
+            let bundling = bundling_of(alloc, items.groups.items())?;
+            Ok(Some(BusPlan {
+                names: items.names,
+                elements: items.elements,
+                groups: items.groups,
+                points: services.points,
+                servers: services.servers,
+                areas: services.areas,
+                machines: modes.machines,
+                mode_ports: modes.mode_ports,
+                events: behavior.events,
+                runnables: behavior.runnables,
+                lists: bundling.lists,
+                homes: bundling.homes,
+                bundles: bundling.bundles,
+                objects,
+            }))
+        }
         None => Ok(None),
     }
 }

@@ -3,6 +3,7 @@
 
 mod areas;
 mod build;
+mod bundling;
 mod check;
 mod guard;
 mod pieces;

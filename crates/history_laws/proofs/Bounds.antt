@@ -33,7 +33,7 @@ pub proper_past : (p : Plan) (object : ℕ) (l : Past) → IsPastOf p object l �
 proper_past p object [] past = refl
 proper_past p object (n ∷ l) past = λ i. past.1.proper i && proper_past p object l past.0 i
 
-wish_part : (p : Plan) (n : Noted) → is_proper p n ≡ true → (if needs_event n.entry.deed then activation_fits p n.entry.actor else wish_fits p n.entry.actor (wanted_by 0 n.entry.deed)) ≡ true
+pub wish_part : (p : Plan) (n : Noted) → is_proper p n ≡ true → (if needs_event n.entry.deed then activation_fits p n.entry.actor else wish_fits p n.entry.actor (wanted_by 0 n.entry.deed)) ≡ true
 wish_part p n proper =
     let wish = if needs_event n.entry.deed then activation_fits p n.entry.actor else wish_fits p n.entry.actor (wanted_by 0 n.entry.deed) in
     (and_parts wish (answer_fits p n.entry.actor n.entry.deed) (and_parts (fits p n.entry) (starts_its_own p n.entry.actor n.entry.deed) proper).0).0

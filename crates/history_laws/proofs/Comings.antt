@@ -26,7 +26,8 @@ use Rattle.bus_semantics.specs.History.{Noted, Past, needs_event}
 use Rattle.bus_semantics.specs.Objects.{object_of, touched_by, touches, touched, machine_object}
 use Rattle.bus_semantics.specs.Owners.{key_fits, event_fits, modes_of}
 use Rattle.bus_semantics.specs.Fitting.{wish_fits, start_fits, activation_fits, answer_fits}
-use Rattle.bus_semantics.specs.Unqueued.{value_at, read_code, is_updated}
+use Rattle.bus_semantics.specs.Lists.{elems_of}
+use Rattle.bus_semantics.specs.Unqueued.{value_at, moment_of, read_code, is_updated}
 use Rattle.bus_semantics.specs.Queued.{send_code, received_at}
 use Rattle.bus_semantics.specs.Areas.{is_held}
 use Rattle.bus_semantics.specs.Calls.{ask_code, answer_to, result_of, next_request, is_key_point, is_request, requests_of, starts_of, has_unstarted}
@@ -40,6 +41,7 @@ use Rattle.bus_semantics.specs.Matching.{is_open, enters_by, serves_by, runs_by,
 use Rattle.bus_semantics.specs.Asked.{event_of, asks_its_own}
 use Rattle.bus_laws.proofs.Thinning.{noting, option_same}
 use Rattle.history_laws.specs.Coming.{IsAsked, Comes, may_be_held}
+use Rattle.history_laws.proofs.Moments.{moment_words}
 use Rattle.history_laws.proofs.Values.{element_words, received_words, answer_words, result_words}
 use Rattle.history_laws.proofs.Bounds.{proper_past, mode_small, phase_small}
 use Rattle.history_laws.proofs.Requests.{request_made, Serving, by_queue, directly, serving, counts_same, unstarted}
@@ -125,6 +127,12 @@ always p m a (wish.Fetch x) l asked free =
 always p m a (wish.Write x value) l asked free = coming p m a (wish.Write x value) l asked (deed.Write x value) refl refl
     (record { unqueued = refl; queued = refl; calls = refl; areas = refl; modes = refl; admission = refl; due = refl }) refl
 always p m a (wish.Publish x value) l asked free = coming p m a (wish.Publish x value) l asked (deed.Publish x value) refl refl
+    (record { unqueued = refl; queued = refl; calls = refl; areas = refl; modes = refl; admission = refl; due = refl }) refl
+always p m a (wish.FetchAll x) l asked free =
+    let v = moment_words p m asked.sound x l (proper_past p _ l asked.past) in
+    coming p m a (wish.FetchAll x) l asked (deed.FetchAll x v.value) refl refl
+    (record { unqueued = same_itself (words_of v.value) (moment_of p (elems_of p x) l) v.is; queued = refl; calls = refl; areas = refl; modes = refl; admission = refl; due = refl }) refl
+always p m a (wish.PublishAll x written value) l asked free = coming p m a (wish.PublishAll x written value) l asked (deed.PublishAll x written value) refl refl
     (record { unqueued = refl; queued = refl; calls = refl; areas = refl; modes = refl; admission = refl; due = refl }) refl
 always p m a (wish.Read x) l asked free =
     let v = element_words p x l in

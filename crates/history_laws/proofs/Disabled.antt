@@ -1,6 +1,7 @@
--- No admitted activation runs whose event the machine's next mode disables.
-use Rattle.std.proofs.Common.{◌≡◌, ℕ, suc, ◌+◌, Bool, true, false, ◌||◌, not, ◌==◌, if◌then◌else◌, refl, sym, ◌∙◌, ap, subst, arith, List, [], ◌∷◌, Option, Some, None}
-use Rattle.std.proofs.lemmas.Bool.{and_from, and_parts, or_right, eqb-true, false≢true}
+-- No admitted activation runs whose event is disabled: by the machine's next mode, or by its settled one.
+use Rattle.std.proofs.Common.{◌≡◌, ℕ, suc, Bool, true, false, ◌||◌, not, ◌==◌, if◌then◌else◌, refl, sym, ◌∙◌, ap, subst, arith, [], ◌∷◌, Option, Some, None}
+use Rattle.std.proofs.lemmas.Bool.{and_parts, or_left, or_right, eqb-true, false≢true}
+use Rattle.std.proofs.lemmas.Option.{same_Some}
 use Rattle.std.specs.List.{slice_get}
 use Rattle.std.specs.Option.{option_map_or}
 use Rattle.rte_value.specs.declared.kinds.Step.{Step}
@@ -12,22 +13,22 @@ use Rattle.bus_semantics.specs.declared.entries.Actor.{Actor}
 use Rattle.bus_semantics.specs.declared.entries.Actor.TheVariants.{Env, Machine, Act}
 use Rattle.bus_semantics.specs.declared.entries.Deed.{Deed}
 use Rattle.bus_semantics.specs.declared.entries.Deed.TheVariants as deed
-use Rattle.bus_semantics.specs.Plan.{Plan, every_from, disabling_of}
+use Rattle.bus_semantics.specs.Plan.{Plan, disabling_of}
+use Rattle.bus_semantics.specs.Objects.{disabler_of}
 use Rattle.bus_semantics.specs.History.{History, Noted, Past, noted, note}
-use Rattle.bus_semantics.specs.Modes.{phase_of, stage_of, waits_of, closes_of, is_close, is_stable, next_of, settled_of}
+use Rattle.bus_semantics.specs.Modes.{phase_of, stage_of, waits_of, closes_of, is_close, is_stable, is_stable_phase, initial_of, next_of, settled_of}
 use Rattle.bus_semantics.specs.Admission.{disables, admitted_runs, mode_disables, none_runs_disabled, is_disabled_by, is_disabled}
 use Rattle.bus_semantics.specs.Phases.{phase_after}
 use Rattle.bus_semantics.specs.Legal.{modes_allow, admission_allows, IsLegal}
 use Rattle.bus_laws.proofs.Thinning.{noting, option_same, every_at}
 
-every_made : {X : Type 0} (f : ℕ → X → Bool) (i : ℕ) (xs : List X) → ((j k : ℕ) (x : X) → k ≡ i + j → slice_get xs j ≡ Some x → f k x ≡ true) → every_from i f xs ≡ true
-every_made f i [] each = refl
-every_made f i (x ∷ xs) each = and_from (f i x) (every_from (i + 1) f xs) (each 0 i x (omega arith) refl) (every_made f (i + 1) xs (λ j k y at found. each (suc j) k y (omega arith) found))
-
 module _ (p : Plan) (m : ℕ) where
-  -- of each event that the next mode disables no admitted activation runs
+  -- of each event that a mode disables no admitted activation runs
+  abbrev QuietIn : (mode : ℕ) → Past → Type 0
+  QuietIn mode l = (e : ℕ) (v : EventPlan) → slice_get p.events e ≡ Some v → mode_disables v.disabled m mode ≡ true → admitted_runs e l ≡ false
+
   abbrev Quiet : Past → Type 0
-  Quiet l = (e : ℕ) (v : EventPlan) → slice_get p.events e ≡ Some v → mode_disables v.disabled m (next_of p m l) ≡ true → admitted_runs e l ≡ false
+  Quiet l = QuietIn (next_of p m l) l
 
   quiet_of : (l : Past) → none_runs_disabled p m l ≡ true → Quiet l
   quiet_of l none e v there disables = by_test (mode_disables v.disabled m (next_of p m l)) (admitted_runs e l) disables
@@ -37,14 +38,6 @@ module _ (p : Plan) (m : ℕ) where
       by_test true true d n = absurd (false≢true n)
       by_test true false d n = refl
       by_test false c d n = absurd (false≢true d)
-
-  all_quiet : (l : Past) → Quiet l → none_runs_disabled p m l ≡ true
-  all_quiet l quiet = every_made (λ e (v : EventPlan). not (mode_disables v.disabled m (next_of p m l)) || not (admitted_runs e l)) 0 p.events
-      (λ j k v at found. by_test (mode_disables v.disabled m (next_of p m l)) (admitted_runs k l) (quiet k v (subst (λ n. slice_get p.events n ≡ Some v) (omega arith) found)))
-    where
-      by_test : (b c : Bool) → (b ≡ true → c ≡ false) → (not b || not c) ≡ true
-      by_test true c none = ap not (none refl)
-      by_test false c none = refl
 
   -- ---- an event that the next mode disables is not admitted
 
@@ -66,6 +59,20 @@ module _ (p : Plan) (m : ℕ) where
       by_stable : (b : Bool) → is_stable m l ≡ b → (if b then disables d m (settled_of p m l) else disables d m (settled_of p m l) || disables d m (next_of p m l)) ≡ true
       by_stable true is = ap (disables d m) (settled_is_next l is) ∙ by_next
       by_stable false is = or_right (disables d m (settled_of p m l)) (disables d m (next_of p m l)) by_next
+
+  disabled_by_settled : (d : Disabling) (l : Past) → m ≡ d.machine → disables d m (settled_of p m l) ≡ true → is_disabled_by p d l ≡ true
+  disabled_by_settled d l same by_mode = subst (λ n. (if is_stable n l then disables d n (settled_of p n l) else disables d n (settled_of p n l) || disables d n (next_of p n l)) ≡ true) same (by_stable (is_stable m l))
+    where
+      by_stable : (b : Bool) → (if b then disables d m (settled_of p m l) else disables d m (settled_of p m l) || disables d m (next_of p m l)) ≡ true
+      by_stable true = by_mode
+      by_stable false = or_left (disables d m (settled_of p m l)) (disables d m (next_of p m l)) by_mode
+
+  disabled_settled : (e : ℕ) (v : EventPlan) (l : Past) → slice_get p.events e ≡ Some v → mode_disables v.disabled m (settled_of p m l) ≡ true → is_disabled p e l ≡ true
+  disabled_settled e v l there disabling = by_disabled v.disabled disabling (ap (λ (o : Option EventPlan). option_map_or (λ (w : EventPlan). w.disabled) o None) there)
+    where
+      by_disabled : (o : Option Disabling) → mode_disables o m (settled_of p m l) ≡ true → disabling_of p e ≡ o → is_disabled p e l ≡ true
+      by_disabled None never is = absurd (false≢true never)
+      by_disabled (Some d) by_mode is = let same : d.machine ≡ m = eqb-true d.machine m (and_parts (d.machine == m) _ by_mode).0 in rw is (disabled_by_settled d l (sym same) by_mode)
 
   disabled_next : (e : ℕ) (v : EventPlan) (l : Past) → slice_get p.events e ≡ Some v → mode_disables v.disabled m (next_of p m l) ≡ true → is_disabled p e l ≡ true
   disabled_next e v l there disabling = by_disabled v.disabled disabling (ap (λ (o : Option EventPlan). option_map_or (λ (w : EventPlan). w.disabled) o None) there)
@@ -92,11 +99,14 @@ module _ (p : Plan) (m : ℕ) where
       by_event true is = rw is refl
   admitted_more a d event l e f allows disabled before = before
 
+  quiet_in_more : (mode : ℕ) (n : Noted) (l : Past) → ((e : ℕ) (v : EventPlan) → slice_get p.events e ≡ Some v → mode_disables v.disabled m mode ≡ true → is_disabled p e l ≡ true)
+      → admission_allows p l n.event n.entry.deed ≡ true → QuietIn mode l → QuietIn mode (n ∷ l)
+  quiet_in_more mode n l are_disabled allows quiet e v there by_mode =
+      let disabled = are_disabled e v there by_mode in
+      admitted_more n.entry.actor n.entry.deed n.event l e (λ _. disabled) allows disabled (quiet e v there by_mode)
+
   quiet_more : (n : Noted) (l : Past) → next_of p m (n ∷ l) ≡ next_of p m l → admission_allows p l n.event n.entry.deed ≡ true → Quiet l → Quiet (n ∷ l)
-  quiet_more n l same allows quiet e v there by_next =
-      let before : mode_disables v.disabled m (next_of p m l) ≡ true = subst (λ x. mode_disables v.disabled m x ≡ true) same by_next in
-      let disabled = disabled_next e v l there before in
-      admitted_more n.entry.actor n.entry.deed n.event l e (λ _. disabled) allows disabled (quiet e v there before)
+  quiet_more n l same allows quiet = subst (λ mode. QuietIn mode (n ∷ l)) (sym same) (quiet_in_more (next_of p m l) n l (λ e v there by_next. disabled_next e v l there by_next) allows quiet)
 
   next_same : (n : Noted) (l : Past) → is_close (phase_of m n) ≡ false → next_of p m (n ∷ l) ≡ next_of p m l
   next_same n l other = by_phase (phase_of m n) refl
@@ -157,8 +167,82 @@ module _ (p : Plan) (m : ℕ) where
           quiet_more (note h e) (noted h) (next_same (note h e) (noted h) (ap is_close is ∙ left)) legal.1.answers.admission
           (after (noted h) waits before (stage_of m (noted h)) s refl (phase_comes (noted h) e.actor e.deed (note h e).event s is legal.1.answers.modes) left)
 
-pub waiting : (p : Plan) (h : History) (m : ℕ) → IsLegal p h → waits_of p m ≡ true → is_close (Some (stage_of m (noted h))) ≡ false → none_runs_disabled p m (noted h) ≡ true
-waiting p h m legal waits other = all_quiet p m (noted h) (quiet_waiting p m waits h legal other)
+  -- ---- the settled mode
 
-pub before_the_first : (p : Plan) (h : History) (m : ℕ) → IsLegal p h → closes_of m (noted h) ≡ 0 → none_runs_disabled p m (noted h) ≡ true
-before_the_first p h m legal none = all_quiet p m (noted h) (quiet_first p m h legal none)
+  settled_at : (n : Noted) (l : Past) (b : Bool) → is_stable_phase (phase_of m n) ≡ b → settled_of p m (n ∷ l) ≡ (if b then next_of p m l else settled_of p m l)
+  settled_at n l b is = ap (λ c. if c then next_of p m l else settled_of p m l) is
+
+  -- no Close ends what was so of the settled mode, and a Stable makes the next mode the settled one
+  settled_quiet : waits_of p m ≡ true → (h : History) → IsLegal p h → QuietIn (settled_of p m (noted h)) (noted h)
+  settled_quiet waits [] legal = λ e v there by_mode. refl
+  settled_quiet waits (e ∷ h) legal = by_phase (settled_quiet waits h legal.0) (phase_of m (note h e)) refl
+    where
+      goes_on : QuietIn (settled_of p m (noted h)) (noted h) → is_stable_phase (phase_of m (note h e)) ≡ false → QuietIn (settled_of p m (noted (e ∷ h))) (noted (e ∷ h))
+      goes_on before other = subst (λ mode. QuietIn mode (noted (e ∷ h))) (sym (settled_at (note h e) (noted h) false other))
+          (quiet_in_more (settled_of p m (noted h)) (note h e) (noted h) (λ i v there by_mode. disabled_settled i v (noted h) there by_mode) legal.1.answers.admission before)
+
+      by_phase : QuietIn (settled_of p m (noted h)) (noted h) → (o : Option Step) → phase_of m (note h e) ≡ o → QuietIn (settled_of p m (noted (e ∷ h))) (noted (e ∷ h))
+      by_phase before (Some step.Stable) is = subst (λ mode. QuietIn mode (noted (e ∷ h))) (sym (settled_at (note h e) (noted h) true (ap is_stable_phase is)))
+          (quiet_in_more (next_of p m (noted h)) (note h e) (noted h) (λ i v there by_mode. disabled_next i v (noted h) there by_mode) legal.1.answers.admission
+          (after (noted h) waits (quiet_waiting waits h legal.0) (stage_of m (noted h)) step.Stable refl (phase_comes (noted h) e.actor e.deed (note h e).event step.Stable is legal.1.answers.modes) refl))
+      by_phase before (Some (step.Close mode)) is = goes_on before (ap is_stable_phase is)
+      by_phase before (Some step.Exit) is = goes_on before (ap is_stable_phase is)
+      by_phase before (Some step.Transition) is = goes_on before (ap is_stable_phase is)
+      by_phase before (Some step.Entry) is = goes_on before (ap is_stable_phase is)
+      by_phase before None is = goes_on before (ap is_stable_phase is)
+
+  -- ---- before the first Close both modes are the initial one
+
+  unclosed : (n : Noted) (l : Past) → closes_of m (n ∷ l) ≡ 0 → (is_close (phase_of m n) ≡ false) × (closes_of m l ≡ 0)
+  unclosed n l none = by_test (is_close (phase_of m n)) refl none
+    where
+      by_test : (b : Bool) → is_close (phase_of m n) ≡ b → (if b then suc (closes_of m l) else closes_of m l) ≡ 0 → (is_close (phase_of m n) ≡ false) × (closes_of m l ≡ 0)
+      by_test true is zeroes = absurd (cc zeroes)
+      by_test false is zeroes = (is, zeroes)
+
+  first_next : (l : Past) → closes_of m l ≡ 0 → next_of p m l ≡ initial_of p m
+  first_next [] none = refl
+  first_next (n ∷ l) none = let parts = unclosed n l none in next_same n l parts.0 ∙ first_next l parts.1
+
+  first_settled : (l : Past) → closes_of m l ≡ 0 → settled_of p m l ≡ initial_of p m
+  first_settled [] none = refl
+  first_settled (n ∷ l) none = by_test (first_next l (unclosed n l none).1) (first_settled l (unclosed n l none).1) (is_stable_phase (phase_of m n)) refl
+    where
+      by_test : next_of p m l ≡ initial_of p m → settled_of p m l ≡ initial_of p m → (b : Bool) → is_stable_phase (phase_of m n) ≡ b → settled_of p m (n ∷ l) ≡ initial_of p m
+      by_test next settled true is = settled_at n l true is ∙ next
+      by_test next settled false is = settled_at n l false is ∙ settled
+
+  -- ---- a disabled event is disabled by the one mode or the other
+
+  module _ (l : Past) (settled : QuietIn (settled_of p m l) l) (next : QuietIn (next_of p m l) l) where
+    none_disabled : (e : ℕ) → disabler_of p e ≡ Some m → is_disabled p e l ≡ true → admitted_runs e l ≡ false
+    none_disabled e owner disabled = by_event (slice_get p.events e) refl
+      where
+        by_mode : (v : EventPlan) (d : Disabling) → slice_get p.events e ≡ Some v → v.disabled ≡ Some d → (stable a b : Bool) → disables d m (settled_of p m l) ≡ a → disables d m (next_of p m l) ≡ b
+            → (if stable then a else a || b) ≡ true → admitted_runs e l ≡ false
+        by_mode v d there is true true b by_settled by_next one = settled e v there (ap (λ o. mode_disables o m (settled_of p m l)) is ∙ by_settled)
+        by_mode v d there is false true b by_settled by_next one = settled e v there (ap (λ o. mode_disables o m (settled_of p m l)) is ∙ by_settled)
+        by_mode v d there is false false true by_settled by_next one = next e v there (ap (λ o. mode_disables o m (next_of p m l)) is ∙ by_next)
+        by_mode v d there is true false b by_settled by_next one = absurd (false≢true one)
+        by_mode v d there is false false false by_settled by_next one = absurd (false≢true one)
+
+        by_disabling : (v : EventPlan) (o : Option Disabling) → slice_get p.events e ≡ Some v → v.disabled ≡ o → disabling_of p e ≡ o → admitted_runs e l ≡ false
+        by_disabling v None there is found = absurd (cc (rw found at owner))
+        by_disabling v (Some d) there is found =
+            let machine : d.machine ≡ m = same_Some d.machine m (rw found at owner) in
+            let by_plan : is_disabled_by p d l ≡ true = rw found at disabled in
+            by_mode v d there is (is_stable m l) (disables d m (settled_of p m l)) (disables d m (next_of p m l)) refl refl
+            (subst (λ n. (if is_stable n l then disables d n (settled_of p n l) else disables d n (settled_of p n l) || disables d n (next_of p n l)) ≡ true) machine by_plan)
+
+        by_event : (o : Option EventPlan) → slice_get p.events e ≡ o → admitted_runs e l ≡ false
+        by_event None there = let found : disabling_of p e ≡ None = ap (λ (o : Option EventPlan). option_map_or (λ (w : EventPlan). w.disabled) o None) there in absurd (cc (rw found at owner))
+        by_event (Some v) there = by_disabling v v.disabled there refl (ap (λ (o : Option EventPlan). option_map_or (λ (w : EventPlan). w.disabled) o None) there)
+
+pub waiting : (p : Plan) (h : History) (m e : ℕ) → IsLegal p h → waits_of p m ≡ true → is_close (Some (stage_of m (noted h))) ≡ false → disabler_of p e ≡ Some m
+    → is_disabled p e (noted h) ≡ true → admitted_runs e (noted h) ≡ false
+waiting p h m e legal waits other = none_disabled p m (noted h) (settled_quiet p m waits h legal) (quiet_waiting p m waits h legal other) e
+
+pub before_the_first : (p : Plan) (h : History) (m e : ℕ) → IsLegal p h → closes_of m (noted h) ≡ 0 → disabler_of p e ≡ Some m → is_disabled p e (noted h) ≡ true → admitted_runs e (noted h) ≡ false
+before_the_first p h m e legal none =
+    let first = quiet_first p m h legal none in
+    none_disabled p m (noted h) (subst (λ mode. QuietIn p m mode (noted h)) (first_next p m (noted h) none ∙ sym (first_settled p m (noted h) none)) first) first e

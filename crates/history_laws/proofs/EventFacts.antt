@@ -3,12 +3,11 @@ use Rattle.std.proofs.Common.{◌≡◌, ℕ, ◌+◌, ◌<◌, Bool, true, fals
 use Rattle.std.proofs.lemmas.Bool.{and_parts, eqb-true, ltb-true, false≢true}
 use Rattle.std.proofs.lemmas.Option.{same_Some}
 use Rattle.std.proofs.lemmas.Bool.Decides.{nat_tests}
-use Rattle.std.specs.Prelude.{nat_lt, nat_le, option_map}
+use Rattle.std.specs.Prelude.{nat_lt, nat_le, option_map, option_and_then}
 use Rattle.std.specs.List.{list_all, list_any, slice_get}
 use Rattle.std.specs.Option.{option_map_or}
 use Rattle.rte_value.specs.declared.kinds.ActKey.{ActKey}
 use Rattle.rte_value.specs.Values.{same_number}
-use Rattle.bus_semantics.specs.declared.plan.ElemPlan.{ElemPlan}
 use Rattle.bus_semantics.specs.declared.plan.PointPlan.{PointPlan}
 use Rattle.bus_semantics.specs.declared.plan.ModePortPlan.{ModePortPlan}
 use Rattle.bus_semantics.specs.declared.plan.EventPlan.{EventPlan}
@@ -18,6 +17,7 @@ use Rattle.bus_semantics.specs.declared.plan.Disabling.{Disabling}
 use Rattle.bus_semantics.specs.declared.script.Mapping.{Mapping}
 use Rattle.bus_semantics.specs.declared.entries.Actor.TheVariants.{Act}
 use Rattle.bus_semantics.specs.Plan.{Plan, every_from, group_of, server_of, kind_of, disabling_of, runnable_of_event, instance_of}
+use Rattle.bus_semantics.specs.Bundles.{home_of, bundle_of}
 use Rattle.bus_semantics.specs.Objects.{first_server, first_machine, clock, object_of_kind, server_object, disabler_of, owing, machine_of_event, served_by}
 use Rattle.bus_semantics.specs.Owners.{serves_directly, key_fits}
 use Rattle.bus_semantics.specs.SoundElements.{limits_fit}
@@ -70,17 +70,21 @@ module _ (p : Plan) (m : Mapping) (sound : IsSound p m) where
       by_disabling None is = refl
       by_disabling (Some d) is = absurd (false≢true (sym never ∙ (can_be_disabled e d is).kind))
 
-  -- ---- numbers of groups and servers
+  -- ---- numbers of bundles and servers
 
-  pub group_small : (x g : ℕ) → group_of p x ≡ Some g → g < length p.groups
-  group_small x g is = by_element (slice_get p.elements x) refl is
+  pub bundle_small : (x b : ℕ) → bundle_of p x ≡ Some b → b < length p.bundles
+  bundle_small x b is = by_group (group_of p x) is
     where
-      by_element : (o : Option ElemPlan) → slice_get p.elements x ≡ o → option_map_or (λ (e : ElemPlan). Some e.group) o None ≡ Some g → g < length p.groups
-      by_element None there is = absurd (cc is)
-      by_element (Some e) there is =
-          let all = (and_parts (list_all (λ (e : ElemPlan). nat_lt e.group (length p.groups)) p.elements) _ sound.groups).0 in
-          let small = all_at (λ (e : ElemPlan). nat_lt e.group (length p.groups)) p.elements x e all there in
-          subst (λ n. n < length p.groups) (same_Some e.group g is) (ltb-true e.group (length p.groups) small)
+      all : list_all (λ n. nat_lt n (length p.bundles)) p.homes ≡ true
+      all = (and_parts (list_all (λ n. nat_lt n (length p.bundles)) p.homes) _ (and_parts (length p.homes == length p.groups) _ sound.bundles).1).0
+
+      by_home : (g : ℕ) (o : Option ℕ) → slice_get p.homes g ≡ o → option_map_or (λ (n : ℕ). Some n) o None ≡ Some b → b < length p.bundles
+      by_home g None there is = absurd (cc is)
+      by_home g (Some n) there is = subst (λ k. k < length p.bundles) (same_Some n b is) (ltb-true n (length p.bundles) (all_at (λ k. nat_lt k (length p.bundles)) p.homes g n all there))
+
+      by_group : (o : Option ℕ) → option_and_then (home_of p) o ≡ Some b → b < length p.bundles
+      by_group None is = absurd (cc is)
+      by_group (Some g) is = by_home g (slice_get p.homes g) refl is
 
   abbrev few : PointPlan → Bool
   few t = nat_le (length t.ins + length t.outs) 16 && (list_all limits_fit t.ins && list_all limits_fit t.outs)
@@ -105,9 +109,9 @@ module _ (p : Plan) (m : Mapping) (sound : IsSound p m) where
       above : (x y : ℕ) → y < x → (x == y) ≡ false
       above x y less = grind (arith, nat_tests)
 
-      by_group : (x : ℕ) (o : Option ℕ) → group_of p x ≡ o → same_number o (Some (first_machine p + n)) ≡ false
-      by_group x None is = refl
-      by_group x (Some g) is = let less = group_small x g is in apart g (first_machine p + n) (omega arith)
+      by_bundle : (x : ℕ) (o : Option ℕ) → bundle_of p x ≡ o → same_number o (Some (first_machine p + n)) ≡ false
+      by_bundle x None is = refl
+      by_bundle x (Some b) is = let less = bundle_small x b is in apart b (first_machine p + n) (omega arith)
 
       by_server : (q : ℕ) (o : Option ℕ) → server_of p q ≡ o → same_number (server_object p o) (Some (first_machine p + n)) ≡ false
       by_server q None is = refl
@@ -116,7 +120,7 @@ module _ (p : Plan) (m : Mapping) (sound : IsSound p m) where
       by_kind : (k : EventKind) → may_be_disabled k ≡ true → same_number (object_of_kind p k) (Some (first_machine p + n)) ≡ false
       by_kind (Timing period) may = above (clock p) (first_machine p + n) (omega arith)
       by_kind Init may = above (clock p) (first_machine p + n) (omega arith)
-      by_kind (DataReceived x) may = by_group x (group_of p x) refl
+      by_kind (DataReceived x) may = by_bundle x (bundle_of p x) refl
       by_kind (Returns q) may = by_server q (server_of p q) refl
       by_kind (Invoked s) may = absurd (false≢true may)
       by_kind (ModeSwitch k moment) may = absurd (false≢true may)

@@ -1,21 +1,21 @@
 -- What an entry is to a key: another's, the start of its activation, or what its activation asked next.
-use Rattle.std.proofs.Common.{◌≡◌, ℕ, ℤ, Bool, true, false, ◌&&◌, not, ◌==◌, if◌then◌else◌, refl, sym, ◌∙◌, ap, subst, List, [], ◌∷◌, ◌++◌, Option, Some, None}
-use Rattle.std.proofs.lemmas.Bool.{and_parts, eqb-true, ltb-true, false≢true}
+use Rattle.std.proofs.Common.{◌≡◌, ℕ, Bool, true, false, ◌&&◌, not, if◌then◌else◌, refl, sym, ◌∙◌, ap, subst, [], ◌∷◌, ◌++◌, Option, Some, None}
+use Rattle.std.proofs.lemmas.Bool.{and_parts, ltb-true, false≢true}
 use Rattle.std.specs.Option.{option_or}
 use Rattle.std.specs.Prelude.{nat_lt, length, unwrap_or}
 use Rattle.std.specs.List.{slice_get, list_all}
 use Rattle.rte_value.specs.declared.kinds.ActKey.{ActKey}
 use Rattle.rte_value.specs.declared.value.Value.{Value}
-use Rattle.rte_value.specs.Values.{words_of, same_words, same_number, same_key}
+use Rattle.rte_value.specs.Values.{words_of, same_number, same_key}
 use Rattle.rte_value.specs.EqualKeys.{same_key-Decides}
-use Rattle.rte_value.specs.EqualValues.{same_words-Decides}
 use Rattle.bus_semantics.specs.declared.entries.Actor.{Actor}
 use Rattle.bus_semantics.specs.declared.entries.Actor.TheVariants.{Env, Machine, Act}
 use Rattle.bus_semantics.specs.declared.entries.Deed.{Deed}
 use Rattle.bus_semantics.specs.declared.entries.Deed.TheVariants as deed
 use Rattle.bus_semantics.specs.declared.entries.Entry.{Entry}
 use Rattle.bus_semantics.specs.Plan.{Plan, Runnable, runnable_of_event, instance_of}
-use Rattle.bus_semantics.specs.Wanted.{Wanted, to_tick, to_start, to_admit, to_fetch, to_write, to_read, to_invalidate, to_see_updated, to_send, to_receive, to_ask, to_hear, to_take_result, to_return, to_enter, to_leave, to_switch, to_see_mode, to_move_on, to_publish, to_end, wanted_by, same_wanted}
+use Rattle.bus_semantics.proofs.SameWanted.{same_wish}
+use Rattle.bus_semantics.specs.Wanted.{Wanted, wanted_by}
 use Rattle.bus_semantics.specs.History.{History, is_of, made_by, is_over, event_started, runs, last_started, needs_event}
 use Rattle.bus_semantics.specs.Owners.{key_fits}
 use Rattle.bus_semantics.specs.Fitting.{activation_may_want, answer_fits, fits}
@@ -29,44 +29,6 @@ use Rattle.bus_laws.proofs.Thinning.{option_same}
 use Rattle.history_laws.proofs.Lists.{there_is, all_more}
 
 -- ---- wishes that are the same
-
-same_value : (a b : ℕ) (v w : List ℤ) (f : ℕ → List ℤ → Wanted) → ((a == b) && same_words v w) ≡ true → f a v ≡ f b w
-same_value a b v w f e =
-    let parts = and_parts (a == b) (same_words v w) e in
-    let numbers : a ≡ b = eqb-true a b parts.0 in
-    let words : v ≡ w = (same_words-Decides v w).0 parts.1 in
-    λ i. f (numbers i) (words i)
-
-same_one : (a b : ℕ) (f : ℕ → Wanted) → (a == b) ≡ true → f a ≡ f b
-same_one a b f e = ap f (eqb-true a b e)
-
-same_wish : (v w : Wanted) → same_wanted v w ≡ true → v ≡ w
-same_wish to_tick to_tick e = refl
-same_wish (to_start a) (to_start b) e = same_one a b to_start e
-same_wish (to_admit a) (to_admit b) e = same_one a b to_admit e
-same_wish (to_fetch a) (to_fetch b) e = same_one a b to_fetch e
-same_wish (to_write a v) (to_write b w) e = same_value a b v w to_write e
-same_wish (to_read a) (to_read b) e = same_one a b to_read e
-same_wish (to_invalidate a) (to_invalidate b) e = same_one a b to_invalidate e
-same_wish (to_see_updated a) (to_see_updated b) e = same_one a b to_see_updated e
-same_wish (to_send a v) (to_send b w) e = same_value a b v w to_send e
-same_wish (to_receive a) (to_receive b) e = same_one a b to_receive e
-same_wish (to_ask a v) (to_ask b w) e = same_value a b v w to_ask e
-same_wish (to_hear a) (to_hear b) e = same_one a b to_hear e
-same_wish (to_take_result a) (to_take_result b) e = same_one a b to_take_result e
-same_wish (to_return a v) (to_return b w) e = same_value a b v w to_return e
-same_wish (to_enter a) (to_enter b) e = same_one a b to_enter e
-same_wish (to_leave a) (to_leave b) e = same_one a b to_leave e
-same_wish (to_switch a m) (to_switch b n) e =
-    let parts = and_parts (a == b) (m == n) e in
-    let machines : a ≡ b = eqb-true a b parts.0 in
-    let modes : m ≡ n = eqb-true m n parts.1 in
-    λ i. to_switch (machines i) (modes i)
-same_wish (to_see_mode a) (to_see_mode b) e = same_one a b to_see_mode e
-same_wish to_move_on to_move_on e = refl
-same_wish (to_publish a v) (to_publish b w) e = same_value a b v w to_publish e
-same_wish (to_end a) (to_end b) e = same_one a b to_end e
-same_wish v w e = absurd (false≢true e)
 
 -- ---- an entry of a key
 

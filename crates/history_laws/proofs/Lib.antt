@@ -4,6 +4,7 @@ pub mod Unjoined
 pub mod Requests
 pub mod OneEntry
 pub mod Values
+pub mod Moments
 pub mod Bounds
 pub mod Comings
 pub mod Keys

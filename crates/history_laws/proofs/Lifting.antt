@@ -1,17 +1,17 @@
 -- What may come after the entries of an object may follow the whole history.
-use Rattle.std.proofs.Common.{◌≡◌, ℕ, Bool, true, false, ◌&&◌, not, ◌==◌, if◌then◌else◌, refl, sym, ◌∙◌, ap, subst, Option, Some, None}
+use Rattle.std.proofs.Common.{◌≡◌, ℕ, Bool, true, false, ◌&&◌, not, if◌then◌else◌, refl, sym, ◌∙◌, ap, subst, Option, Some, None}
 use Rattle.std.proofs.lemmas.Bool.{and_from, and_parts, eq-eqb, false≢true}
 use Rattle.std.specs.Prelude.{unwrap_or}
 use Rattle.rte_value.specs.declared.kinds.ActKey.{ActKey}
-use Rattle.rte_value.specs.Values.{same_words, same_number}
-use Rattle.rte_value.specs.EqualValues.{same_words-Decides}
+use Rattle.rte_value.specs.Values.{same_number}
 use Rattle.bus_semantics.specs.declared.script.Mapping.{Mapping}
 use Rattle.bus_semantics.specs.declared.entries.Actor.{Actor}
 use Rattle.bus_semantics.specs.declared.entries.Actor.TheVariants.{Act}
 use Rattle.bus_semantics.specs.declared.entries.Deed.{Deed}
 use Rattle.bus_semantics.specs.declared.entries.Deed.TheVariants as deed
 use Rattle.bus_semantics.specs.Plan.{Plan, kind_of, runnable_of_event}
-use Rattle.bus_semantics.specs.Wanted.{Wanted, to_tick, to_start, to_admit, to_fetch, to_write, to_read, to_invalidate, to_see_updated, to_send, to_receive, to_ask, to_hear, to_take_result, to_return, to_enter, to_leave, to_switch, to_see_mode, to_move_on, to_publish, to_end, wanted_by, same_wanted}
+use Rattle.bus_semantics.proofs.SameWanted.{wish_itself}
+use Rattle.bus_semantics.specs.Wanted.{Wanted, to_start, wanted_by}
 use Rattle.bus_semantics.specs.History.{History, Noted, Past, noted, note, needs_event, started_before, runs, last_started}
 use Rattle.bus_semantics.specs.Objects.{object_of, touched, touched_by, touches, entries_of}
 use Rattle.bus_semantics.specs.Owners.{key_fits}
@@ -100,29 +100,6 @@ entry_follows p m h a w n sound legal other program may = record {
 }
 
 -- ---- an activation's wish
-
-wish_itself : (w : Wanted) → same_wanted w w ≡ true
-wish_itself to_tick = refl
-wish_itself (to_start a) = eq-eqb a a refl
-wish_itself (to_admit a) = eq-eqb a a refl
-wish_itself (to_fetch a) = eq-eqb a a refl
-wish_itself (to_write a v) = and_from (a == a) (same_words v v) (eq-eqb a a refl) ((same_words-Decides v v).1 refl)
-wish_itself (to_read a) = eq-eqb a a refl
-wish_itself (to_invalidate a) = eq-eqb a a refl
-wish_itself (to_see_updated a) = eq-eqb a a refl
-wish_itself (to_send a v) = and_from (a == a) (same_words v v) (eq-eqb a a refl) ((same_words-Decides v v).1 refl)
-wish_itself (to_receive a) = eq-eqb a a refl
-wish_itself (to_ask a v) = and_from (a == a) (same_words v v) (eq-eqb a a refl) ((same_words-Decides v v).1 refl)
-wish_itself (to_hear a) = eq-eqb a a refl
-wish_itself (to_take_result a) = eq-eqb a a refl
-wish_itself (to_return a v) = and_from (a == a) (same_words v v) (eq-eqb a a refl) ((same_words-Decides v v).1 refl)
-wish_itself (to_enter a) = eq-eqb a a refl
-wish_itself (to_leave a) = eq-eqb a a refl
-wish_itself (to_switch a b) = and_from (a == a) (b == b) (eq-eqb a a refl) (eq-eqb b b refl)
-wish_itself (to_see_mode a) = eq-eqb a a refl
-wish_itself to_move_on = refl
-wish_itself (to_publish a v) = and_from (a == a) (same_words v v) (eq-eqb a a refl) ((same_words-Decides v v).1 refl)
-wish_itself (to_end a) = eq-eqb a a refl
 
 module _ (p : Plan) (m : Mapping) (h : History) (k : ActKey) (w : Wanted) (sound : IsSound p m) (legal : IsLegal p h) (next : next_wish p h k ≡ Some w) (free : is_held_back p h k ≡ false) where
   living : Alive p k h

@@ -24,7 +24,8 @@ use Rattle.bus_semantics.specs.History.{Noted, Past}
 use Rattle.bus_semantics.specs.Owners.{key_fits, event_fits}
 use Rattle.bus_semantics.specs.Fitting.{start_fits, answer_fits, fits}
 use Rattle.bus_semantics.specs.Calls.{is_key_point, is_request, starts_request, next_request, answer_to, ask_code, result_of, starts_of, requests_of, has_unstarted}
-use Rattle.bus_semantics.specs.Unqueued.{value_at, read_code, is_updated}
+use Rattle.bus_semantics.specs.Lists.{elems_of}
+use Rattle.bus_semantics.specs.Unqueued.{value_at, moment_of, read_code, is_updated}
 use Rattle.bus_semantics.specs.Queued.{send_code, received_at}
 use Rattle.bus_semantics.specs.Modes.{stage_of, switch_code, mode_at_port}
 use Rattle.bus_semantics.specs.Admission.{is_disabled}
@@ -256,6 +257,25 @@ module _ (p : Plan) (m : Mapping) (sound : IsSound p m) (l : Past) where
           let words : words_of held ≡ words_of value = cc e in
           let is : held ≡ value = Value-by_words held value words in
           λ i. deed.Publish (at i) (is i)
+      of_deed d f t e = absurd (cc e)
+  one_deed a (deed.FetchAll x value) d v u proper fit here there same = of_deed d fit there same
+    where
+      of_deed : (d : Deed) → is_proper p (noting a d u) ≡ true → Answers p l (noting a d u) → wanted_by (unwrap_or u 0) d ≡ wanted_by (unwrap_or v 0) (deed.FetchAll x value) → d ≡ deed.FetchAll x value
+      of_deed (deed.FetchAll y held) f t e =
+          let at : y ≡ x = cc e in
+          let words : same_words (words_of held) (moment_of p (elems_of p x) l) ≡ true = subst (λ z. same_words (words_of held) (moment_of p (elems_of p z) l) ≡ true) at t.unqueued in
+          let is : held ≡ value = same_value held value (moment_of p (elems_of p x) l) words here.unqueued in
+          λ i. deed.FetchAll (at i) (is i)
+      of_deed d f t e = absurd (cc e)
+  one_deed a (deed.PublishAll x written value) d v u proper fit here there same = of_deed d fit there same
+    where
+      of_deed : (d : Deed) → is_proper p (noting a d u) ≡ true → Answers p l (noting a d u) → wanted_by (unwrap_or u 0) d ≡ wanted_by (unwrap_or v 0) (deed.PublishAll x written value) → d ≡ deed.PublishAll x written value
+      of_deed (deed.PublishAll y marks held) f t e =
+          let at : y ≡ x = cc e in
+          let marked : marks ≡ written = cc e in
+          let words : words_of held ≡ words_of value = cc e in
+          let is : held ≡ value = Value-by_words held value words in
+          λ i. deed.PublishAll (at i) (marked i) (is i)
       of_deed d f t e = absurd (cc e)
   one_deed a (deed.Read x code value) d v u proper fit here there same = of_deed d fit there same
     where

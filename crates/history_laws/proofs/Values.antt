@@ -1,5 +1,7 @@
 -- What the bus answers gives values: its words are those of a value that an entry has, or of none.
-use Rattle.std.proofs.Common.{◌≡◌, ℕ, ℤ, Bool, true, false, if◌then◌else◌, refl, sym, ◌∙◌, ap, List, [], ◌∷◌, length, Option, Some, None}
+use Rattle.std.proofs.Common.{◌≡◌, ℕ, ◌+◌, ◌≤◌, ℤ, Bool, true, false, if◌then◌else◌, refl, sym, ◌∙◌, ap, arith, List, [], ◌∷◌, length, take, drop, Option, Some, None}
+use Rattle.std.proofs.lemmas.Bool.{le-leb}
+use Rattle.std.proofs.lemmas.List.{length-append, take-append-drop}
 use Rattle.std.proofs.lemmas.Option.{same_Some}
 use Rattle.std.specs.Option.{option_or, option_map_or}
 use Rattle.std.specs.List.{slice_get}
@@ -7,16 +9,19 @@ use Rattle.std.specs.Prelude.{unwrap_or}
 use Rattle.rte_value.specs.declared.value.Value.{Value}
 use Rattle.rte_value.specs.Values.{words_of}
 use Rattle.rte_value.specs.ShortValues.{empty_value}
+use Rattle.rte_value.specs.EqualValues.{length-words_of}
 use Rattle.bus_semantics.specs.declared.plan.ElemPlan.{ElemPlan}
 use Rattle.bus_semantics.specs.declared.entries.Actor.{Actor}
 use Rattle.bus_semantics.specs.declared.entries.Actor.TheVariants.{Act}
 use Rattle.bus_semantics.specs.declared.entries.Deed.{Deed}
 use Rattle.bus_semantics.specs.declared.entries.Deed.TheVariants as deed
 use Rattle.bus_semantics.specs.Plan.{Plan, server_of}
+use Rattle.bus_semantics.specs.Lists.{elems_of, words_at, marked, split}
 use Rattle.bus_semantics.specs.History.{Noted, Past, newest}
-use Rattle.bus_semantics.specs.Unqueued.{is_in_group, stored_in, last_stored, value_at}
+use Rattle.bus_semantics.specs.Unqueued.{is_in_group, last_in, stored_in, last_stored, value_at}
 use Rattle.bus_semantics.specs.Queued.{sent_in, sent_to, is_room, taken_at, places_at, accepted_at, received_at}
 use Rattle.bus_semantics.specs.Calls.{is_request_at, serves, returned_by, returned_to, is_outstanding, answer_to, result_of}
+use Rattle.activation_laws.specs.ValuesOfWords.{value_of}
 use Rattle.bus_laws.proofs.LocalReturns.{newer_returned}
 use Rattle.history_laws.proofs.Lists.{AtEnd, earlier, last, at_end}
 
@@ -30,6 +35,10 @@ no_words = record { value = empty_value; is = refl }
 
 of_words : (v : Value) (ws : List ℤ) → words_of v ≡ ws → Words ws
 of_words v ws is = record { value = v; is = is }
+
+-- at most 16 words are those of a value
+pub few_words : (ws : List ℤ) → length ws ≤ 16 → Words ws
+few_words ws few = let v = value_of ws (le-leb (length ws) 16 few) in of_words v.0 ws v.1
 
 where_given : (b : Bool) (v : Value) (ws : List ℤ) → (if b then Some (words_of v) else None) ≡ Some ws → Words ws
 where_given true v ws e = of_words v ws (same_Some (words_of v) ws e)
@@ -46,9 +55,31 @@ newest_gives {B} P f each (n ∷ l) b e = by_first (newest_gives P f each l b) (
 
 -- ---- unqueued data
 
+-- what some words give to a group is a part of them
+part_short : (p : Plan) (g : ℕ) (xs : List ℕ) (us ws : List ℤ) → last_in p g (split p xs us) ≡ Some ws → length ws ≤ length us
+part_short p g [] us ws e = absurd (cc e)
+part_short p g (x ∷ xs) us ws e =
+    let whole : length (take (words_at p x) us) + length (drop (words_at p x) us) ≡ length us = sym (length-append (take (words_at p x) us) (drop (words_at p x) us)) ∙ ap length (take-append-drop (words_at p x) us) in
+    by_rest whole (part_short p g xs (drop (words_at p x) us) ws) (last_in p g (split p xs (drop (words_at p x) us))) refl e
+  where
+    by_group : length (take (words_at p x) us) + length (drop (words_at p x) us) ≡ length us → (b : Bool) → (if b then Some (take (words_at p x) us) else None) ≡ Some ws → length ws ≤ length us
+    by_group whole true e = let same : length (take (words_at p x) us) ≡ length ws = ap length (same_Some (take (words_at p x) us) ws e) in omega arith
+    by_group whole false e = absurd (cc e)
+
+    by_rest : length (take (words_at p x) us) + length (drop (words_at p x) us) ≡ length us
+        → (last_in p g (split p xs (drop (words_at p x) us)) ≡ Some ws → length ws ≤ length (drop (words_at p x) us))
+        → (o : Option (List ℤ)) → last_in p g (split p xs (drop (words_at p x) us)) ≡ o → option_or o (if is_in_group p g x then Some (take (words_at p x) us) else None) ≡ Some ws → length ws ≤ length us
+    by_rest whole before None is e = by_group whole (is_in_group p g x) e
+    by_rest whole before (Some vs) is e = let less = before (is ∙ e) in omega arith
+
 stored_words : (p : Plan) (g : ℕ) (d : Deed) (ws : List ℤ) → stored_in p g d ≡ Some ws → Words ws
 stored_words p g (deed.Write x value) ws e = where_given (is_in_group p g x) value ws e
 stored_words p g (deed.Publish x value) ws e = where_given (is_in_group p g x) value ws e
+stored_words p g (deed.PublishAll l written value) ws e =
+    let less = part_short p g (marked written (elems_of p l)) (words_of value) ws e in
+    let count = length-words_of value in
+    let short = value.short in
+    few_words ws (omega arith)
 stored_words p g d ws e = absurd (cc e)
 
 pub element_words : (p : Plan) (x : ℕ) (l : Past) → Words (value_at p x l)

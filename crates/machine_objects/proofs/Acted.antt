@@ -1,5 +1,5 @@
 -- What a call answers is what a kind owes, and what is of a plan stays so.
-use Rattle.std.proofs.Common.{◌≡◌, ◌≤◌, ◌+◌, ℕ, ℤ, Bool, true, false, ◌&&◌, ◌==◌, if◌then◌else◌, refl, sym, ◌∙◌, ap, subst, arith, le-leb, List, [], ◌∷◌, ◌++◌, length, drop, set, Option, Some, None}
+use Rattle.std.proofs.Common.{◌≡◌, ◌≤◌, ◌<◌, ◌+◌, ℕ, ℤ, Bool, true, false, ◌&&◌, ◌==◌, if◌then◌else◌, refl, sym, ◌∙◌, ap, subst, arith, le-leb, List, [], ◌∷◌, ◌++◌, length, drop, set, Option, Some, None}
 use Rattle.std.specs.Prelude.{is_none, nat_le, nat_lt, option_map, position, unwrap_or}
 use Rattle.std.specs.List.{Contains, list_all, slice_get}
 use Rattle.std.specs.Option.{option_map_or}
@@ -44,6 +44,7 @@ use Rattle.machine_objects.specs.Layout.{IsMachine, machine_of, waits_for_phase,
 use Rattle.machine_objects.specs.Leading.{same_step, is_made, is_answered, started_at, ended_at, lead_of_machine, with_machine, lead, why_held}
 use Rattle.machine_objects.specs.Plans.{IsOfPlan, IsAskedOf}
 use Rattle.machine_objects.proofs.Touches.{switching, acked_kind}
+use Rattle.machine_objects.proofs.Fixing.{fixed_by}
 
 -- ---- a Close takes the oldest switch that waits
 
@@ -104,7 +105,7 @@ module _ (p : Plan) (object : ℕ) (is : IsMachine p object) where
     mode_within = by_test (machines.is_stable k.machine.stage)
       where
         by_test : (b : Bool) → (if b then k.machine.settled else k.machine.modes) ≤ modes_of p (machine_of p object)
-        by_test true = planned.settled
+        by_test true = let settled = planned.settled in omega arith
         by_test false = let same = planned.modes in omega arith
 
     mode_fit : (port mode : ℕ) → machine_object p (machine_of_port p port) ≡ Some object → mode ≡ machines.mode_of k.machine → look p.mode_ports port (λ (t : ModePortPlan). nat_le mode (modes_of p t.machine)) false ≡ true
@@ -151,8 +152,8 @@ module _ (p : Plan) (object : ℕ) (is : IsMachine p object) where
 -- as many modes, and none past them
 record Bounds (modes : ℕ) (k : machines.Kept) : Type 0 where
   same : k.modes ≡ modes
-  settled : k.settled ≤ modes
-  next : k.next ≤ modes
+  settled : k.settled < modes
+  next : k.next < modes
   unbegun : list_all (λ mode. nat_lt mode modes) k.unbegun ≡ true
 
 one_off : (t : ℕ → Bool) (xs : List ℕ) → list_all t xs ≡ true → list_all t (drop 1 xs) ≡ true
@@ -171,7 +172,7 @@ module _ (modes : ℕ) (k : Kept) (bounds : Bounds modes k.machine) where
   phase_bounds (step.Close mode) made =
       let small = all_at (λ j. nat_lt j modes) k.machine.unbegun 0 mode bounds.unbegun (close_waits k.machine mode made) in
       let less = ltb-true mode modes small in
-      record { same = bounds.same; settled = bounds.settled; next = omega arith; unbegun = one_off (λ j. nat_lt j modes) k.machine.unbegun bounds.unbegun }
+      record { same = bounds.same; settled = bounds.settled; next = less; unbegun = one_off (λ j. nat_lt j modes) k.machine.unbegun bounds.unbegun }
   phase_bounds step.Exit made = record { same = bounds.same; settled = bounds.settled; next = bounds.next; unbegun = bounds.unbegun }
   phase_bounds step.Transition made = record { same = bounds.same; settled = bounds.settled; next = bounds.next; unbegun = bounds.unbegun }
   phase_bounds step.Entry made = record { same = bounds.same; settled = bounds.settled; next = bounds.next; unbegun = bounds.unbegun }
@@ -275,12 +276,18 @@ module _ (p : Plan) (object : ℕ) (a : Actor) (w : Wanted) (old new : MachineSt
       subst (λ j. nat_lt mode (modes_of p j) ≡ true) own (switch_small p a n mode (ap (wish_fits p a) wish ∙ asked.fits)) in
       let bounds : Bounds (modes_of p (machine_of p object)) of.item = led_bounds (modes_of p (machine_of p object)) old.kept
       (record { same = planned.modes; settled = planned.settled; next = planned.next; unbegun = planned.unbegun }) of.item (event_of w) e.deed small of.is in
+      let fixed = fixed_by old.kept of.item (event_of w) e.deed of.is in
       subst (IsOfPlan p object) of.gives (record {
         is_machine = planned.is_machine;
         owed = planned.owed;
         acks = planned.acks;
         disabled = planned.disabled;
         modes = bounds.same;
+        queue = fixed.queue ∙ planned.queue;
+        waits = fixed.waits ∙ planned.waits;
+        moments = fixed.moments ∙ planned.moments;
+        acked = fixed.acked ∙ planned.acked;
+        disablings = fixed.disablings ∙ planned.disablings;
         settled = bounds.settled;
         next = bounds.next;
         unbegun = bounds.unbegun;

@@ -12,5 +12,6 @@ mod Starting
 mod Telling
 mod Acting
 mod Ending
+mod Fixing
 mod Acted
 mod Made

@@ -1,5 +1,5 @@
 -- How the parts of a machine are made of a plan.
-use Rattle.std.proofs.Common.{◌≡◌, ◌≤◌, ◌+◌, ℕ, Bool, true, false, ◌||◌, refl, ◌∙◌, ap, subst, arith, List, length, map}
+use Rattle.std.proofs.Common.{◌≡◌, ◌≤◌, ◌+◌, ℕ, zero, suc, Bool, true, false, ◌||◌, refl, ◌∙◌, ap, subst, arith, List, [], ◌∷◌, length, map, replicate}
 use Rattle.std.specs.Prelude.{filter, is_none}
 use Rattle.std.specs.List.{list_all}
 use Rattle.std.proofs.lemmas.Bool.{false≢true}
@@ -7,6 +7,11 @@ use Rattle.bus_semantics.specs.Plan.{Plan, kind_of, positions}
 use Rattle.bus_semantics.specs.Objects.{first_machine}
 use Rattle.bus_semantics.specs.Owners.{modes_of}
 use Rattle.bus_semantics.specs.Modes.{initial_of, waits_of}
+use Rattle.rte_value.specs.declared.kinds.Step.TheVariants as step
+use Rattle.mode_machine.specs.declared.owed.ModeEvent.{ModeEvent}
+use Rattle.mode_machine.specs.declared.owed.OwedEvent.{OwedEvent}
+use Rattle.mode_machine.specs.Disabling.{Dependency, idle_dependency}
+use Rattle.mode_machine.specs.Owed.{never_owed, owed_by}
 use Rattle.mode_machine.specs.Kept as machines
 use Rattle.object_kinds.specs.Layout.{place}
 use Rattle.object_kinds.specs.Rising.{is_rising}
@@ -65,9 +70,35 @@ module _ (p : Plan) (m : ℕ) where
     machine = (fresh ∙ (λ j. machines.fresh (modes_of p m) (initial_of p m) (places_of p m) (map (moment_at p) ((events_given ∙ owed_is) j)) ((many ∙ ap length acks_is) j) (map (disabling_modes p) ((disabled_given ∙ disabled_is) j)) (waits_of p m))) i;
   }
 
+moments_opened : (initial : ℕ) (moments : List ModeEvent) → map (λ (e : OwedEvent). e.moment) (map (owed_by step.Entry initial initial) (map never_owed moments)) ≡ moments
+moments_opened initial [] = refl
+moments_opened initial (m ∷ moments) = ap (λ ms. m ∷ ms) (moments_opened initial moments)
+
+modes_opened : (disablings : List (List ℕ)) → map (λ (d : Dependency). d.modes) (map idle_dependency disablings) ≡ disablings
+modes_opened [] = refl
+modes_opened (ms ∷ disablings) = ap (λ more. ms ∷ more) (modes_opened disablings)
+
+length-replicate : (n : ℕ) → length (replicate n false) ≡ n
+length-replicate zero = refl
+length-replicate (suc n) = ap suc (length-replicate n)
+
 -- a machine is of its plan before anything has happened
 pub opens_planned : (p : Plan) (m : ℕ) → IsMachine p (first_machine p + m) → IsOfPlan p (first_machine p + m) (opening p m)
 opens_planned p m is =
     let object = first_machine p + m in
     let own : machine_of p object ≡ m = omega arith in
-    subst (λ j. IsOfPlan p object (opening p j)) own (record { is_machine = is; owed = refl; acks = refl; disabled = refl; modes = refl; settled = is.initial; next = is.initial; unbegun = refl })
+    subst (λ j. IsOfPlan p object (opening p j)) own (record {
+      is_machine = is;
+      owed = refl;
+      acks = refl;
+      disabled = refl;
+      modes = refl;
+      queue = refl;
+      waits = refl;
+      moments = moments_opened (initial_of p (machine_of p object)) (map (moment_at p) (owed_events p (machine_of p object)));
+      acked = length-replicate (length (ack_events p (machine_of p object)));
+      disablings = modes_opened (map (disabling_modes p) (disabled_events p (machine_of p object)));
+      settled = is.initial;
+      next = is.initial;
+      unbegun = refl;
+    })

@@ -1,6 +1,6 @@
 -- A machine of a sound plan misses no entry that may follow its past.
 use Rattle.std.proofs.Common.{◌≡◌, ◌<◌, ◌+◌, ◌⊎◌, inl, inr, ℕ, Bool, true, false, not, ◌&&◌, ◌==◌, refl, sym, ◌∙◌, ap, subst, arith, length, Option, Some, None}
-use Rattle.std.specs.Prelude.{set, is_some, option_map}
+use Rattle.std.specs.Prelude.{set, is_some}
 use Rattle.std.proofs.lemmas.Bool.{eq-eqb, false≢true}
 use Rattle.std.specs.List.{slice_get}
 use Rattle.std.specs.Option.{option_map_or}
@@ -33,10 +33,11 @@ use Rattle.mode_machine.specs.Owed as owed
 use Rattle.object_kinds.specs.Kinds.{MissesNothing}
 use Rattle.object_kinds.specs.Layout.{place}
 use Rattle.object_kinds.specs.Flags.{given, is_set}
+use Rattle.object_kinds.proofs.Classes.{On, StartsOn, touching_on}
 use Rattle.object_kinds.proofs.Events.{event_placed, events_all, started_within}
 use Rattle.object_kinds.proofs.Flags.{flag_there}
-use Rattle.object_kinds.proofs.Numbers.{a_group, a_server, a_machine, which_of, which_starts, touched_which}
-use Rattle.object_kinds.proofs.Options.{given_where, then_where, mapped_where, mapped_some}
+use Rattle.object_kinds.proofs.Numbers.{a_machine}
+use Rattle.object_kinds.proofs.Options.{given_where, then_where, mapped_where}
 use Rattle.object_kinds.proofs.Placing.{Placed, placed, place_none}
 use Rattle.object_kinds.proofs.Proper.{noting, wish_part}
 use Rattle.machine_objects.specs.Layout.{IsMachine, machine_of, waits_for_phase, waits_for_end, owed_events, ack_events, moment_in, may_disable, disabled_events}
@@ -51,66 +52,23 @@ use Rattle.machine_objects.proofs.Leading.{elsewhere}
 
 -- ---- what touches a machine
 
-abbrev pub OnMachine : Plan → (machine : ℕ) → (event : Option ℕ) → Deed → Type 0
-OnMachine p m event (deed.Switch n mode code) = Unit {0}
-OnMachine p m event (deed.Mode port mode) = Unit {0}
-OnMachine p m event (deed.Phase s) = Unit {0}
-OnMachine p m event (deed.Start e point value) = which_starts p (kind_of p e) ≡ Some (a_machine m)
-OnMachine p m event (deed.Admit answer) = Unit {0}
-OnMachine p m event deed.End = Unit {0}
-OnMachine p m event _ = ⊥
+-- what a machine starts is a mode switch or an acknowledgement of its own
+pub record Started (m : ℕ) (k : EventKind) : Type 0 where
+  pub either : (waits_for_phase m k ≡ true) ⊎ (waits_for_end m k ≡ true)
 
-module _ (p : Plan) (x : ℕ) where
-  no_group : {X : Type 0} (o : Option ℕ) → option_map a_group o ≡ Some (a_machine x) → X
-  no_group o is = let at = mapped_some a_group o (a_machine x) is in absurd (cc at.gives)
-
-  no_server : {X : Type 0} (o : Option ℕ) → option_map a_server o ≡ Some (a_machine x) → X
-  no_server o is = let at = mapped_some a_server o (a_machine x) is in absurd (cc at.gives)
-
-  on_machine : (a : Actor) (event : Option ℕ) (d : Deed) → which_of p a event d ≡ Some (a_machine x) → OnMachine p x event d
-  on_machine a event deed.Tick is = absurd (cc is)
-  on_machine a event (deed.Start e point value) is = is
-  on_machine a event (deed.Admit answer) is = tt
-  on_machine a event (deed.Fetch y value) is = no_group _ is
-  on_machine a event (deed.Write y value) is = no_group _ is
-  on_machine a event (deed.Read y code value) is = no_group _ is
-  on_machine a event (deed.Invalidate y) is = no_group _ is
-  on_machine a event (deed.IsUpdated y updated) is = no_group _ is
-  on_machine a event (deed.Send y value code) is = no_group _ is
-  on_machine a event (deed.Receive y code value) is = no_group _ is
-  on_machine a event (deed.Ask q value code) is = no_server _ is
-  on_machine a event (deed.Answer q code value) is = no_server _ is
-  on_machine a event (deed.TakeResult q code value) is = no_server _ is
-  on_machine a event (deed.Return code value) is = no_server _ is
-  on_machine a event (deed.Enter y) is = absurd (cc is)
-  on_machine a event (deed.Leave y) is = absurd (cc is)
-  on_machine a event (deed.Switch n mode code) is = tt
-  on_machine a event (deed.Mode port mode) is = tt
-  on_machine a event (deed.Phase step) is = tt
-  on_machine a event (deed.Publish y value) is = no_group _ is
-  on_machine a event deed.End is = tt
-
-  -- what a machine starts is a mode switch or an acknowledgement of its own
-  pub record Started (k : EventKind) : Type 0 where
-    pub either : (waits_for_phase x k ≡ true) ⊎ (waits_for_end x k ≡ true)
-
-  started_by : (k : EventKind) → which_starts p k ≡ Some (a_machine x) → Started k
-  started_by (ModeSwitch n at) is = let here : x ≡ n = cc in record { either = inl (eq-eqb x n here) }
-  started_by (Ack n) is = let here : x ≡ n = cc in record { either = inr (eq-eqb x n here) }
-  started_by (Timing period) is = absurd (cc is)
-  started_by Init is = absurd (cc is)
-  started_by (DataReceived y) is = no_group _ is
-  started_by (Invoked s) is = absurd (cc is)
-  started_by (Returns q) is = no_server _ is
+started_by : (p : Plan) (m : ℕ) (k : EventKind) → StartsOn p (a_machine m) k → Started m k
+started_by p m (ModeSwitch n at) on = record { either = inl (eq-eqb m n (sym (same_Some n m on))) }
+started_by p m (Ack n) on = record { either = inr (eq-eqb m n (sym (same_Some n m on))) }
+started_by p m k on = absurd on
 
 pub touches_machine : (p : Plan) (mapping : Mapping) (object : ℕ) (a : Actor) (event : Option ℕ) (d : Deed) → IsSound p mapping → IsMachine p object
-    → touches p object (noting a d event) ≡ true → is_proper p (noting a d event) ≡ true → OnMachine p (machine_of p object) event d
+    → touches p object (noting a d event) ≡ true → is_proper p (noting a d event) ≡ true → On p (a_machine (machine_of p object)) a event d
 touches_machine p mapping object a event d sound is touching proper =
     let from = is.from in
     let below = is.below in
     let within : machine_of p object < length p.machines = omega arith in
     let number : object ≡ first_machine p + machine_of p object = omega arith in
-    on_machine p (machine_of p object) a event d (touched_which p mapping sound (a_machine (machine_of p object)) within a event d (subst (λ n. touches p n (noting a d event) ≡ true) number touching) proper)
+    touching_on p mapping sound (a_machine (machine_of p object)) within a event d (subst (λ n. touches p n (noting a d event) ≡ true) number touching) proper
 
 -- an event of a mode switch is one of the plan's
 event_within : (p : Plan) (e n : ℕ) (at : Moment) → kind_of p e ≡ ModeSwitch n at → e < length p.events
@@ -176,7 +134,7 @@ module _ (p : Plan) (object : ℕ) (is : IsMachine p object) (l : Past) (past : 
         (λ i. is_some (started_at k (none i) (there.is i)))
         ∙ given_where (is_set k.acks there.at) (machines.with_acks (set k.acks there.at false) k) (flag_there k.acks there.at (acked_after m l e) (acked_at_is p m l e there.at there.is) due)
 
-    start_comes : Started p m (kind_of p e) → is_some (lead_of_machine kept event (deed.Start e point value)) ≡ true
+    start_comes : Started m (kind_of p e) → is_some (lead_of_machine kept event (deed.Start e point value)) ≡ true
     start_comes started = elim started.either [ inl waits ↦ owed_comes waits | inr waits ↦ acked_comes waits ]
 
   -- ---- admissions and ends
@@ -228,7 +186,7 @@ module _ (p : Plan) (object : ℕ) (is : IsMachine p object) (l : Past) (past : 
   end_of_comes a None follows = absurd (false≢true follows.touching)
   end_of_comes a (Some e) follows = end_comes e (kind_of p e) refl (end_matters p object is a e follows.touching) follows.matching
 
-  machine_comes : (a : Actor) (event : Option ℕ) (d : Deed) → OnMachine p m event d → Follows p object l (noting a d event) → is_some (lead_of_machine kept event d) ≡ true
+  machine_comes : (a : Actor) (event : Option ℕ) (d : Deed) → On p (a_machine m) a event d → Follows p object l (noting a d event) → is_some (lead_of_machine kept event d) ≡ true
   machine_comes a event (deed.Switch n mode code) on follows = switch_comes a event n mode code follows
   machine_comes a event (deed.Mode port mode) on follows = mode_comes a event port mode follows
   machine_comes a event (deed.Phase s) on follows = phase_comes a event s follows

@@ -128,25 +128,7 @@ module _ (p : Plan) (object : ℕ) (is : IsMachine p object) where
       let itself : Machine m ≡ a = sym (phase_itself p object is a s event follows.touching) in
       let comes : phase_may_come p (Machine m) l s ≡ true = ap (λ k. phase_may_come p k l s) itself ∙ follows.answers.modes in
       subst (λ k. InOrder p m (noting k (deed.Phase s) event ∷ l)) itself (moved s event l order comes)
-  follows_order a deed.Tick event l order follows = stays a deed.Tick event l order refl refl
-  follows_order a (deed.Start e point value) event l order follows = stays a (deed.Start e point value) event l order refl refl
-  follows_order a (deed.Admit answer) event l order follows = stays a (deed.Admit answer) event l order refl refl
-  follows_order a (deed.Fetch x value) event l order follows = stays a (deed.Fetch x value) event l order refl refl
-  follows_order a (deed.Write x value) event l order follows = stays a (deed.Write x value) event l order refl refl
-  follows_order a (deed.Read x code value) event l order follows = stays a (deed.Read x code value) event l order refl refl
-  follows_order a (deed.Invalidate x) event l order follows = stays a (deed.Invalidate x) event l order refl refl
-  follows_order a (deed.IsUpdated x b) event l order follows = stays a (deed.IsUpdated x b) event l order refl refl
-  follows_order a (deed.Send x value code) event l order follows = stays a (deed.Send x value code) event l order refl refl
-  follows_order a (deed.Receive x code value) event l order follows = stays a (deed.Receive x code value) event l order refl refl
-  follows_order a (deed.Ask q value code) event l order follows = stays a (deed.Ask q value code) event l order refl refl
-  follows_order a (deed.Answer q code value) event l order follows = stays a (deed.Answer q code value) event l order refl refl
-  follows_order a (deed.TakeResult q code value) event l order follows = stays a (deed.TakeResult q code value) event l order refl refl
-  follows_order a (deed.Return code value) event l order follows = stays a (deed.Return code value) event l order refl refl
-  follows_order a (deed.Enter x) event l order follows = stays a (deed.Enter x) event l order refl refl
-  follows_order a (deed.Leave x) event l order follows = stays a (deed.Leave x) event l order refl refl
-  follows_order a (deed.Mode port mode) event l order follows = stays a (deed.Mode port mode) event l order refl refl
-  follows_order a (deed.Publish x value) event l order follows = stays a (deed.Publish x value) event l order refl refl
-  follows_order a deed.End event l order follows = stays a deed.End event l order refl refl
+  follows_order a d event l order follows = stays a d event l order refl refl
 
   pub past_in_order : (l : Past) → IsPastOf p object l → InOrder p m l
   past_in_order [] past = record { begun = omega arith; waiting = omega arith }
@@ -172,25 +154,7 @@ module _ (p : Plan) (object : ℕ) (is : IsMachine p object) where
       by_event : (b : Bool) → same_number event (Some e) ≡ b → RunsAdmitted e (noting a deed.End event ∷ l)
       by_event true it = rw it refl
       by_event false it = rw it same
-  follows_admitted e elsewhere a (deed.Admit false) event l same follows = same
-  follows_admitted e elsewhere a (deed.Switch n mode code) event l same follows = same
-  follows_admitted e elsewhere a (deed.Phase s) event l same follows = same
-  follows_admitted e elsewhere a deed.Tick event l same follows = same
-  follows_admitted e elsewhere a (deed.Fetch x value) event l same follows = same
-  follows_admitted e elsewhere a (deed.Write x value) event l same follows = same
-  follows_admitted e elsewhere a (deed.Read x code value) event l same follows = same
-  follows_admitted e elsewhere a (deed.Invalidate x) event l same follows = same
-  follows_admitted e elsewhere a (deed.IsUpdated x b) event l same follows = same
-  follows_admitted e elsewhere a (deed.Send x value code) event l same follows = same
-  follows_admitted e elsewhere a (deed.Receive x code value) event l same follows = same
-  follows_admitted e elsewhere a (deed.Ask q value code) event l same follows = same
-  follows_admitted e elsewhere a (deed.Answer q code value) event l same follows = same
-  follows_admitted e elsewhere a (deed.TakeResult q code value) event l same follows = same
-  follows_admitted e elsewhere a (deed.Return code value) event l same follows = same
-  follows_admitted e elsewhere a (deed.Enter x) event l same follows = same
-  follows_admitted e elsewhere a (deed.Leave x) event l same follows = same
-  follows_admitted e elsewhere a (deed.Mode port mode) event l same follows = same
-  follows_admitted e elsewhere a (deed.Publish x value) event l same follows = same
+  follows_admitted e elsewhere a d event l same follows = same
 
   pub past_admitted : (e : ℕ) → starts_elsewhere p object e ≡ true → (l : Past) → IsPastOf p object l → RunsAdmitted e l
   past_admitted e elsewhere [] past = refl

@@ -11,15 +11,15 @@ use Rattle.bus_semantics.specs.declared.plan.EventKind.{EventKind}
 use Rattle.bus_semantics.specs.declared.plan.EventKind.TheVariants.{Timing, Init, DataReceived, Invoked, Returns, ModeSwitch, Ack}
 use Rattle.bus_semantics.specs.declared.plan.Disabling.{Disabling}
 use Rattle.bus_semantics.specs.declared.script.Mapping.{Mapping}
-use Rattle.bus_semantics.specs.Plan.{Plan, every_from, kind_of, instance_of, group_of, server_of}
+use Rattle.bus_semantics.specs.Plan.{Plan, every_from, kind_of, instance_of, server_of}
+use Rattle.bus_semantics.specs.Bundles.{bundle_of}
 use Rattle.bus_semantics.specs.Objects.{first_machine, clock, server_object, object_of_kind, disabler_of}
 use Rattle.bus_semantics.specs.SoundPlan.{is_in}
 use Rattle.bus_semantics.specs.SoundElements.{machine_sound}
 use Rattle.bus_semantics.specs.SoundEvents.{kind_sound, disabling_sound, may_be_disabled, is_invoked, event_sound}
 use Rattle.bus_semantics.specs.Sound.{IsSound}
 use Rattle.object_kinds.proofs.Lists.{all_at, every_at}
-use Rattle.object_kinds.proofs.Members.{group_within}
-use Rattle.object_kinds.proofs.Ranges.{joined_server, switching_machine, acked_machine, disabling_machine}
+use Rattle.object_kinds.proofs.Ranges.{bundle_within, joined_server, switching_machine, acked_machine, disabling_machine}
 use Rattle.machine_objects.specs.Layout.{IsMachine, machine_of, waits_for_phase, waits_for_end, may_disable, starts_elsewhere, mattering}
 use Rattle.machine_objects.specs.Plans.{AreTheirs}
 use Rattle.machine_objects.proofs.Picking.{by_both, item_at, all_picked}
@@ -97,12 +97,12 @@ module _ (p : Plan) (mapping : Mapping) (sound : IsSound p mapping) where
     elsewhere : (k : EventKind) → may_be_disabled k ≡ true → not (same_number (object_of_kind p k) (Some object)) ≡ true
     elsewhere (Timing period) may = apart_from (Some (clock p)) (λ n is same. let here : clock p ≡ n = cc in absurd (omega arith))
     elsewhere Init may = apart_from (Some (clock p)) (λ n is same. let here : clock p ≡ n = cc in absurd (omega arith))
-    elsewhere (DataReceived x) may = apart_from (group_of p x) (λ n is same. let within = group_within p x n sound.groups is in absurd (omega arith))
+    elsewhere (DataReceived x) may = apart_from (bundle_of p x) (λ n is same. let within = bundle_within p mapping sound x n is in absurd (omega arith))
     elsewhere (Returns q) may = of_server (server_of p q) (joined_server p mapping sound q)
       where
         of_server : (o : Option ℕ) → ((s : ℕ) → o ≡ Some s → s < length p.servers) → not (same_number (server_object p o) (Some object)) ≡ true
         of_server None within = refl
-        of_server (Some s) within = apart_from (server_object p (Some s)) (λ n is same. let here : length p.groups + s ≡ n = cc in let less = within s refl in absurd (omega arith))
+        of_server (Some s) within = apart_from (server_object p (Some s)) (λ n is same. let here : length p.bundles + s ≡ n = cc in let less = within s refl in absurd (omega arith))
     elsewhere (Invoked s) may = absurd (false≢true may)
     elsewhere (ModeSwitch n at) may = absurd (false≢true may)
     elsewhere (Ack n) may = absurd (false≢true may)

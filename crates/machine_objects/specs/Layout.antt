@@ -95,11 +95,11 @@ machine_for p e = mattering (kind_of p e) (disabler_of p e)
 abbrev pub starts_elsewhere : Plan → (object : ℕ) → (event : ℕ) → Bool
 starts_elsewhere p object e = not (same_number (object_of_kind p (kind_of p e)) (Some object))
 
--- the object is one of the plan's machines; its initial mode is none past its modes, of which there are not too many to count; and what it
+-- the object is one of the plan's machines; its initial mode is one of its modes, of which there are not too many to count; and what it
 -- disables it does not start itself
 pub record IsMachine (p : Plan) (object : ℕ) : Type 0 where
   pub from : first_machine p ≤ object
   pub below : object < clock p
-  pub initial : initial_of p (machine_of p object) ≤ modes_of p (machine_of p object)
+  pub initial : initial_of p (machine_of p object) < modes_of p (machine_of p object)
   pub few_modes : modes_of p (machine_of p object) < 2 ^ 32
   pub apart : list_all (starts_elsewhere p object) (disabled_events p (machine_of p object)) ≡ true

@@ -1,14 +1,17 @@
 -- A machine as it is of a plan: what no call changes, and that each mode in it is one of the plan's.
-use Rattle.std.specs.Prelude.{◌≡◌, ℕ, ◌≤◌, ◌<◌, length, true, nat_lt, Some}
+use Rattle.std.specs.Prelude.{◌≡◌, ℕ, ◌<◌, length, map, true, nat_lt, Some}
 use Rattle.std.specs.List.{list_all}
 use Rattle.rte_value.specs.Values.{same_number}
 use Rattle.bus_semantics.specs.declared.entries.Actor.{Actor}
 use Rattle.bus_semantics.specs.Plan.{Plan}
 use Rattle.bus_semantics.specs.Owners.{modes_of}
+use Rattle.bus_semantics.specs.Modes.{waits_of}
 use Rattle.bus_semantics.specs.Objects.{object_of}
 use Rattle.bus_semantics.specs.Fitting.{wish_fits}
 use Rattle.bus_semantics.specs.Wanted.{Wanted}
-use Rattle.machine_objects.specs.Layout.{IsMachine, machine_of, owed_events, ack_events, disabled_events, matters, machine_for}
+use Rattle.mode_machine.specs.declared.owed.OwedEvent.{OwedEvent}
+use Rattle.mode_machine.specs.Disabling.{Dependency}
+use Rattle.machine_objects.specs.Layout.{IsMachine, machine_of, places_of, owed_events, ack_events, disabled_events, moment_at, disabling_modes, matters, machine_for}
 use Rattle.machine_objects.specs.Kept.{Kept}
 
 pub record IsOfPlan (p : Plan) (object : ℕ) (k : Kept) : Type 0 where
@@ -17,8 +20,13 @@ pub record IsOfPlan (p : Plan) (object : ℕ) (k : Kept) : Type 0 where
   pub acks : k.acks ≡ ack_events p (machine_of p object)
   pub disabled : k.disabled ≡ disabled_events p (machine_of p object)
   pub modes : k.machine.modes ≡ modes_of p (machine_of p object)
-  pub settled : k.machine.settled ≤ modes_of p (machine_of p object)
-  pub next : k.machine.next ≤ modes_of p (machine_of p object)
+  pub queue : k.machine.queue ≡ places_of p (machine_of p object)
+  pub waits : k.machine.waits ≡ waits_of p (machine_of p object)
+  pub moments : map (λ (e : OwedEvent). e.moment) k.machine.owed ≡ map (moment_at p) (owed_events p (machine_of p object))
+  pub acked : length k.machine.acks ≡ length (ack_events p (machine_of p object))
+  pub disablings : map (λ (d : Dependency). d.modes) k.machine.disablings ≡ map (disabling_modes p) (disabled_events p (machine_of p object))
+  pub settled : k.machine.settled < modes_of p (machine_of p object)
+  pub next : k.machine.next < modes_of p (machine_of p object)
   pub unbegun : list_all (λ mode. nat_lt mode (modes_of p (machine_of p object))) k.machine.unbegun ≡ true
 
 -- the wish fits its actor and touches the machine

@@ -1,12 +1,10 @@
 -- Of what a running activation wants next an entry may follow, unless its area is held or its answer has not been returned.
-use Rattle.std.proofs.Common.{◌≡◌, ℕ, ◌≤◌, ◌-◌, ℤ, pos, Bool, true, false, ◌&&◌, not, ◌==◌, refl, sym, ◌∙◌, ap, subst, List, length, take, replicate, nat_le, Option, Some, None}
+use Rattle.std.proofs.Common.{◌≡◌, ℕ, ℤ, Bool, true, false, ◌&&◌, not, ◌==◌, refl, sym, ◌∙◌, ap, subst, List, length, nat_le, Option, Some, None}
 use Rattle.std.specs.Prelude.{unwrap_or}
 use Rattle.std.specs.List.{slice_get}
 use Rattle.std.specs.Option.{option_map_or}
-use Rattle.std.proofs.Math.Seq.{take-append_seam}
 use Rattle.std.proofs.lemmas.Bool.{and_from, and_parts, eq-eqb, leb-true, false≢true}
 use Rattle.rte_value.specs.declared.kinds.ActKey.{ActKey}
-use Rattle.rte_value.specs.Padding.{padded}
 use Rattle.rte_value.specs.Values.{words_of, same_words, same_number}
 use Rattle.rte_value.specs.EqualValues.{same_words-Decides}
 use Rattle.bus_semantics.specs.declared.plan.ModePortPlan.{ModePortPlan}
@@ -15,11 +13,13 @@ use Rattle.bus_semantics.specs.declared.entries.Deed.{Deed}
 use Rattle.bus_semantics.specs.declared.entries.Deed.TheVariants as deed
 use Rattle.bus_semantics.specs.declared.entries.Entry.{Entry}
 use Rattle.bus_semantics.specs.Plan.{Plan, instance_of}
-use Rattle.bus_semantics.specs.Wanted.{Wanted, to_tick, to_start, to_admit, to_fetch, to_write, to_read, to_invalidate, to_see_updated, to_send, to_receive, to_ask, to_hear, to_take_result, to_return, to_enter, to_leave, to_switch, to_see_mode, to_move_on, to_publish, to_end, wanted_by, same_wanted}
+use Rattle.bus_semantics.proofs.SameWanted.{wish_itself}
+use Rattle.bus_semantics.specs.Wanted.{Wanted, to_tick, to_start, to_admit, to_fetch, to_write, to_read, to_invalidate, to_see_updated, to_send, to_receive, to_ask, to_hear, to_take_result, to_return, to_enter, to_leave, to_switch, to_see_mode, to_move_on, to_publish, to_fetch_all, to_publish_all, to_end, wanted_by, same_wanted}
+use Rattle.bus_semantics.specs.Lists.{elems_of}
 use Rattle.bus_semantics.specs.History.{History, event_started, last_started, noted, note}
 use Rattle.bus_semantics.specs.Owners.{key_fits, modes_of, mode_port_fits}
 use Rattle.bus_semantics.specs.Fitting.{activation_may_want, wish_fits, answer_fits, fits}
-use Rattle.bus_semantics.specs.Unqueued.{value_at, read_code, is_updated}
+use Rattle.bus_semantics.specs.Unqueued.{value_at, moment_of, read_code, is_updated}
 use Rattle.bus_semantics.specs.Queued.{send_code, received_at}
 use Rattle.bus_semantics.specs.Calls.{ask_code, answer_to, result_of}
 use Rattle.bus_semantics.specs.Areas.{is_held}
@@ -30,13 +30,7 @@ use Rattle.bus_semantics.specs.Actor.{next_wish, is_held_back, is_this, starts_o
 use Rattle.bus_semantics.specs.Asked.{is_start}
 use Rattle.bus_semantics.specs.Rest.{try_of, IsStuck}
 use Rattle.activation_laws.specs.Given.{words_given}
-use Rattle.history_laws.proofs.Values.{Words, element_words, received_words, answer_words, result_words}
-
--- at most 16 words are those of a value
-few_words : (ws : List ℤ) → length ws ≤ 16 → Words ws
-few_words ws few =
-    let own : take (length ws) (padded ws) ≡ ws = take-append_seam ws (replicate (16 - length ws) (pos 0)) in
-    record { value = record { words = padded ws; len = length ws; short = few; padded = ap padded (sym own) }; is = own }
+use Rattle.history_laws.proofs.Values.{Words, few_words, element_words, received_words, answer_words, result_words}
 
 pub same_list : (ws us : List ℤ) → ws ≡ us → same_words ws us ≡ true
 same_list ws us e = (same_words-Decides ws us).1 e
@@ -53,29 +47,6 @@ both_same n x ws us e = and_from (n == n) ((x == x) && same_words ws us) (same_c
 
 word_same : (n : ℕ) (ws us : List ℤ) → ws ≡ us → ((n == n) && same_words ws us) ≡ true
 word_same n ws us e = and_from (n == n) (same_words ws us) (same_code n) (same_list ws us e)
-
-same_wish : (w : Wanted) → same_wanted w w ≡ true
-same_wish to_tick = refl
-same_wish (to_start e) = same_code e
-same_wish (to_admit e) = same_code e
-same_wish (to_fetch x) = same_code x
-same_wish (to_write x ws) = word_same x ws ws refl
-same_wish (to_read x) = same_code x
-same_wish (to_invalidate x) = same_code x
-same_wish (to_see_updated x) = same_code x
-same_wish (to_send x ws) = word_same x ws ws refl
-same_wish (to_receive x) = same_code x
-same_wish (to_ask q ws) = word_same q ws ws refl
-same_wish (to_hear q) = same_code q
-same_wish (to_take_result q) = same_code q
-same_wish (to_return code ws) = word_same code ws ws refl
-same_wish (to_enter x) = same_code x
-same_wish (to_leave x) = same_code x
-same_wish (to_switch m mode) = and_from (m == m) (mode == mode) (same_code m) (same_code mode)
-same_wish (to_see_mode port) = same_code port
-same_wish to_move_on = refl
-same_wish (to_publish x ws) = word_same x ws ws refl
-same_wish (to_end e) = same_code e
 
 -- an admission and an end are of the event that started the activation
 abbrev pub IsOwn : (event : ℕ) → Wanted → Type 0
@@ -98,7 +69,7 @@ module _ (p : Plan) (h : History) (k : ActKey) (event : ℕ) (started : last_sta
       ap (λ (o : Option ℕ). is_this (wanted_by (unwrap_or o 0) d) (next_wish p h k)) started
       ∙ ap (is_this (wanted_by event d)) next
       ∙ ap (λ v. same_wanted v w) is
-      ∙ same_wish w
+      ∙ wish_itself w
 
   fit_so : (w : Wanted) → wish_fits p (Act k) w ≡ true → (d : Deed) → wanted_by event d ≡ w → answer_fits p (Act k) d ≡ true → fits p (entry d) ≡ true
   fit_so w fit (deed.Admit admitted) is answer = and_from (key_fits p k) true (and_parts (key_fits p k) (activation_may_want p k (instance_of p k.runnable) w) fit).0 refl
@@ -122,10 +93,14 @@ module _ (p : Plan) (h : History) (k : ActKey) (event : ℕ) (started : last_sta
   abbrev ModesFit : Type 0
   ModesFit = (port : ℕ) (t : ModePortPlan) → slice_get p.mode_ports port ≡ Some t → nat_le (mode_at_port p port (noted h)) (modes_of p t.machine) ≡ true
 
-  pub held : ModesFit → (w : Wanted) → next_wish p h k ≡ Some w → wish_fits p (Act k) w ≡ true → is_start w ≡ false → IsOwn event w → nat_le (length (words_given w)) 16 ≡ true → IsStuck p h (Act k, w) → Held h w
-  held modes to_tick next fit begun own few stuck = unwanted to_tick next fit stuck refl
-  held modes (to_start e) next fit begun own few stuck = absurd (false≢true (sym begun))
-  held modes (to_admit e) next fit begun own few stuck = let admitted = not (is_disabled p event (noted h)) in
+  -- the values of a list's elements are together a value
+  abbrev MomentsFit : Type 0
+  MomentsFit = (l : ℕ) → Words (moment_of p (elems_of p l) (noted h))
+
+  pub held : ModesFit → MomentsFit → (w : Wanted) → next_wish p h k ≡ Some w → wish_fits p (Act k) w ≡ true → is_start w ≡ false → IsOwn event w → nat_le (length (words_given w)) 16 ≡ true → IsStuck p h (Act k, w) → Held h w
+  held modes moments to_tick next fit begun own few stuck = unwanted to_tick next fit stuck refl
+  held modes moments (to_start e) next fit begun own few stuck = absurd (false≢true (sym begun))
+  held modes moments (to_admit e) next fit begun own few stuck = let admitted = not (is_disabled p event (noted h)) in
       never (to_admit e) next fit stuck (deed.Admit admitted) refl (ap to_admit (sym own)) refl
       (record {
         unqueued = refl;
@@ -136,52 +111,52 @@ module _ (p : Plan) (h : History) (k : ActKey) (event : ℕ) (started : last_sta
         admission = subst (λ o. admission_allows p (noted h) o (deed.Admit admitted) ≡ true) (sym started) (same_flag admitted);
         due = refl;
       })
-  held modes (to_fetch x) next fit begun own few stuck = let v = element_words p x (noted h) in
+  held modes moments (to_fetch x) next fit begun own few stuck = let v = element_words p x (noted h) in
       never (to_fetch x) next fit stuck (deed.Fetch x v.value) refl refl refl
       (record { unqueued = same_list (words_of v.value) (value_at p x (noted h)) v.is; queued = refl; calls = refl; areas = refl; modes = refl; admission = refl; due = refl })
-  held modes (to_write x ws) next fit begun own few stuck = let v = few_words ws (leb-true (length ws) 16 few) in
+  held modes moments (to_write x ws) next fit begun own few stuck = let v = few_words ws (leb-true (length ws) 16 few) in
       never (to_write x ws) next fit stuck (deed.Write x v.value) refl (ap (to_write x) v.is) refl
       (record { unqueued = refl; queued = refl; calls = refl; areas = refl; modes = refl; admission = refl; due = refl })
-  held modes (to_read x) next fit begun own few stuck = let v = element_words p x (noted h) in
+  held modes moments (to_read x) next fit begun own few stuck = let v = element_words p x (noted h) in
       never (to_read x) next fit stuck (deed.Read x (read_code p x (noted h)) v.value) refl refl refl
       (record { unqueued = word_same (read_code p x (noted h)) (words_of v.value) (value_at p x (noted h)) v.is; queued = refl; calls = refl; areas = refl; modes = refl; admission = refl; due = refl })
-  held modes (to_invalidate x) next fit begun own few stuck = never (to_invalidate x) next fit stuck (deed.Invalidate x) refl refl refl
+  held modes moments (to_invalidate x) next fit begun own few stuck = never (to_invalidate x) next fit stuck (deed.Invalidate x) refl refl refl
       (record { unqueued = refl; queued = refl; calls = refl; areas = refl; modes = refl; admission = refl; due = refl })
-  held modes (to_see_updated x) next fit begun own few stuck = never (to_see_updated x) next fit stuck (deed.IsUpdated x (is_updated p x (noted h))) refl refl refl
+  held modes moments (to_see_updated x) next fit begun own few stuck = never (to_see_updated x) next fit stuck (deed.IsUpdated x (is_updated p x (noted h))) refl refl refl
       (record { unqueued = same_flag (is_updated p x (noted h)); queued = refl; calls = refl; areas = refl; modes = refl; admission = refl; due = refl })
-  held modes (to_send x ws) next fit begun own few stuck = let v = few_words ws (leb-true (length ws) 16 few) in
+  held modes moments (to_send x ws) next fit begun own few stuck = let v = few_words ws (leb-true (length ws) 16 few) in
       never (to_send x ws) next fit stuck (deed.Send x v.value (send_code p x (noted h))) refl (ap (to_send x) v.is) refl
       (record { unqueued = refl; queued = same_code (send_code p x (noted h)); calls = refl; areas = refl; modes = refl; admission = refl; due = refl })
-  held modes (to_receive x) next fit begun own few stuck = let v = received_words p x (noted h) in let o = received_at p x (noted h) in
+  held modes moments (to_receive x) next fit begun own few stuck = let v = received_words p x (noted h) in let o = received_at p x (noted h) in
       never (to_receive x) next fit stuck (deed.Receive x o.0 v.value) refl refl refl
       (record { unqueued = refl; queued = word_same o.0 (words_of v.value) o.1 v.is; calls = refl; areas = refl; modes = refl; admission = refl; due = refl })
-  held modes (to_ask q ws) next fit begun own few stuck = let v = few_words ws (leb-true (length ws) 16 few) in
+  held modes moments (to_ask q ws) next fit begun own few stuck = let v = few_words ws (leb-true (length ws) 16 few) in
       never (to_ask q ws) next fit stuck (deed.Ask q v.value (ask_code p q (noted h))) refl (ap (to_ask q) v.is) refl
       (record { unqueued = refl; queued = refl; calls = same_code (ask_code p q (noted h)); areas = refl; modes = refl; admission = refl; due = refl })
-  held modes (to_hear q) next fit begun own few stuck = by_answer (answer_to q (noted h)) refl
+  held modes moments (to_hear q) next fit begun own few stuck = by_answer (answer_to q (noted h)) refl
     where
       by_answer : (o : Option (ℕ × List ℤ)) → answer_to q (noted h) ≡ o → Held h (to_hear q)
       by_answer None is = hearing q refl is
       by_answer (Some x) is = let v = answer_words q (noted h) x is in
           never (to_hear q) next fit stuck (deed.Answer q x.0 v.value) refl refl refl
           (record { unqueued = refl; queued = refl; calls = rw is (word_same x.0 (words_of v.value) x.1 v.is); areas = refl; modes = refl; admission = refl; due = refl })
-  held modes (to_take_result q) next fit begun own few stuck = let v = result_words p q (noted h) in let o = result_of p q (noted h) in
+  held modes moments (to_take_result q) next fit begun own few stuck = let v = result_words p q (noted h) in let o = result_of p q (noted h) in
       never (to_take_result q) next fit stuck (deed.TakeResult q o.0 v.value) refl refl refl
       (record { unqueued = refl; queued = refl; calls = word_same o.0 (words_of v.value) o.1 v.is; areas = refl; modes = refl; admission = refl; due = refl })
-  held modes (to_return code ws) next fit begun own few stuck = let v = few_words ws (leb-true (length ws) 16 few) in
+  held modes moments (to_return code ws) next fit begun own few stuck = let v = few_words ws (leb-true (length ws) 16 few) in
       never (to_return code ws) next fit stuck (deed.Return code v.value) refl (ap (to_return code) v.is) refl
       (record { unqueued = refl; queued = refl; calls = refl; areas = refl; modes = refl; admission = refl; due = refl })
-  held modes (to_enter x) next fit begun own few stuck = by_held (is_held x (noted h)) refl
+  held modes moments (to_enter x) next fit begun own few stuck = by_held (is_held x (noted h)) refl
     where
       by_held : (b : Bool) → is_held x (noted h) ≡ b → Held h (to_enter x)
       by_held true is = entering x refl is
       by_held false is = never (to_enter x) next fit stuck (deed.Enter x) refl refl refl
           (record { unqueued = refl; queued = refl; calls = refl; areas = ap not is; modes = refl; admission = refl; due = refl })
-  held modes (to_leave x) next fit begun own few stuck = never (to_leave x) next fit stuck (deed.Leave x) refl refl refl
+  held modes moments (to_leave x) next fit begun own few stuck = never (to_leave x) next fit stuck (deed.Leave x) refl refl refl
       (record { unqueued = refl; queued = refl; calls = refl; areas = refl; modes = refl; admission = refl; due = refl })
-  held modes (to_switch m mode) next fit begun own few stuck = never (to_switch m mode) next fit stuck (deed.Switch m mode (switch_code p m (noted h))) refl refl refl
+  held modes moments (to_switch m mode) next fit begun own few stuck = never (to_switch m mode) next fit stuck (deed.Switch m mode (switch_code p m (noted h))) refl refl refl
       (record { unqueued = refl; queued = refl; calls = refl; areas = refl; modes = same_code (switch_code p m (noted h)); admission = refl; due = refl })
-  held modes (to_see_mode port) next fit begun own few stuck = never (to_see_mode port) next fit stuck (deed.Mode port (mode_at_port p port (noted h))) refl refl answer
+  held modes moments (to_see_mode port) next fit begun own few stuck = never (to_see_mode port) next fit stuck (deed.Mode port (mode_at_port p port (noted h))) refl refl answer
       (record { unqueued = refl; queued = refl; calls = refl; areas = refl; modes = same_code (mode_at_port p port (noted h)); admission = refl; due = refl })
     where
       by_port : (o : Option ModePortPlan) → slice_get p.mode_ports port ≡ o → option_map_or (λ (t : ModePortPlan). same_number t.instance (instance_of p k.runnable)) o false ≡ true
@@ -191,11 +166,17 @@ module _ (p : Plan) (h : History) (k : ActKey) (event : ℕ) (started : last_sta
 
       answer : answer_fits p (Act k) (deed.Mode port (mode_at_port p port (noted h))) ≡ true
       answer = by_port (slice_get p.mode_ports port) refl (and_parts (key_fits p k) (mode_port_fits p (instance_of p k.runnable) port) fit).1
-  held modes to_move_on next fit begun own few stuck = unwanted to_move_on next fit stuck refl
-  held modes (to_publish x ws) next fit begun own few stuck = let v = few_words ws (leb-true (length ws) 16 few) in
+  held modes moments to_move_on next fit begun own few stuck = unwanted to_move_on next fit stuck refl
+  held modes moments (to_publish x ws) next fit begun own few stuck = let v = few_words ws (leb-true (length ws) 16 few) in
       never (to_publish x ws) next fit stuck (deed.Publish x v.value) refl (ap (to_publish x) v.is) refl
       (record { unqueued = refl; queued = refl; calls = refl; areas = refl; modes = refl; admission = refl; due = refl })
-  held modes (to_end e) next fit begun own few stuck = never (to_end e) next fit stuck deed.End refl (ap to_end (sym own)) refl
+  held modes moments (to_fetch_all l) next fit begun own few stuck = let v = moments l in
+      never (to_fetch_all l) next fit stuck (deed.FetchAll l v.value) refl refl refl
+      (record { unqueued = same_list (words_of v.value) (moment_of p (elems_of p l) (noted h)) v.is; queued = refl; calls = refl; areas = refl; modes = refl; admission = refl; due = refl })
+  held modes moments (to_publish_all l written ws) next fit begun own few stuck = let v = few_words ws (leb-true (length ws) 16 few) in
+      never (to_publish_all l written ws) next fit stuck (deed.PublishAll l written v.value) refl (ap (to_publish_all l written) v.is) refl
+      (record { unqueued = refl; queued = refl; calls = refl; areas = refl; modes = refl; admission = refl; due = refl })
+  held modes moments (to_end e) next fit begun own few stuck = never (to_end e) next fit stuck deed.End refl (ap to_end (sym own)) refl
       (record {
         unqueued = refl;
         queued = refl;

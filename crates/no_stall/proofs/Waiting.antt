@@ -35,6 +35,7 @@ use Rattle.activation_laws.specs.Followed.{AsksNext, HasJustAsked}
 use Rattle.activation_laws.specs.OpenAreas.{open_areas}
 use Rattle.activation_laws.specs.Wishes.{is_awaited}
 use Rattle.history_laws.proofs.Bounds.{mode_small}
+use Rattle.history_laws.proofs.Moments.{moment_words}
 use Rattle.history_laws.specs.Running.{GoesOn}
 use Rattle.history_laws.specs.Holding.{HasHolder}
 use Rattle.history_laws.specs.Serving.{IsOpen, IsQueuedOrServed, queued, served, IsBegunOrServed, begins}
@@ -101,7 +102,7 @@ module _ (p : Plan) (m : Mapping) (sound : IsSound p m) (laws : Laws p m) (h : H
 
   -- what is not held back is stuck at an area or at an answer
   stuck_on : (k : ActKey) (g : GoesOn p h k) → is_held_back p h k ≡ false → Held h g.wish
-  stuck_on k g free = held p h k g.activation.event g.started free modes_fit g.wish g.next g.fits
+  stuck_on k g free = held p h k g.activation.event g.started free modes_fit (λ l. moment_words p m sound l (noted h) (proper_legal p h legal)) g.wish g.next g.fits
       (laws.begun k g.runnable g.activation.event g.activation.start g.activation.deeds g.wish (activity p m sound laws h k g) g.asks.next)
       (own_event g.activation.event g.wish
       (λ f is. laws.admits k g.runnable g.activation.event f g.activation.start g.activation.deeds (activity p m sound laws h k g) (g.asks.next ∙ ap (λ (w : Wanted). Some w) is))

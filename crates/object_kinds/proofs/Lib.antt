@@ -9,4 +9,6 @@ pub mod Events
 pub mod Ranges
 pub mod Proper
 pub mod Numbers
+pub mod Classes
 pub mod Touching
+pub mod Alone

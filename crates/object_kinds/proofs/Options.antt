@@ -1,12 +1,22 @@
--- What a test, a step and a map of options gave, and when they give something.
-use Rattle.std.proofs.Common.{◌≡◌, Bool, true, false, refl, sym, ◌∙◌, Option, Some, None, is_some}
+-- What a test, a step and a map of options gave, when they give something, and whether a number was given.
+use Rattle.std.proofs.Common.{◌≡◌, ℕ, Bool, true, false, refl, sym, ◌∙◌, ap, Option, Some, None, is_some}
 use Rattle.std.specs.Prelude.{option_map, option_and_then}
-use Rattle.std.proofs.lemmas.Bool.{false≢true}
+use Rattle.std.proofs.lemmas.Bool.{eq-eqb, eqb-true, false≢true}
+use Rattle.rte_value.specs.Values.{same_number}
 use Rattle.object_kinds.specs.Flags.{given}
 
 -- no test gives both
 pub clash : {X : Type 0} (b : Bool) → b ≡ true → b ≡ false → X
 clash b t f = absurd (false≢true (sym f ∙ t))
+
+-- ---- a number that is this one
+
+pub number_is : (o : Option ℕ) (n : ℕ) → same_number o (Some n) ≡ true → o ≡ Some n
+number_is None n e = absurd (false≢true e)
+number_is (Some k) n e = ap (λ i. Some i) (eqb-true k n e)
+
+pub is_number : (o : Option ℕ) (n : ℕ) → o ≡ Some n → same_number o (Some n) ≡ true
+is_number o n is = ap (λ (q : Option ℕ). same_number q (Some n)) is ∙ eq-eqb n n refl
 
 -- ---- what was given
 

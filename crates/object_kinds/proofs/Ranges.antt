@@ -17,12 +17,14 @@ use Rattle.bus_semantics.specs.declared.plan.Disabling.{Disabling}
 use Rattle.bus_semantics.specs.declared.script.Mapping.{Mapping}
 use Rattle.bus_semantics.specs.declared.entries.Actor.{Actor}
 use Rattle.bus_semantics.specs.declared.entries.Actor.TheVariants.{Env, Machine, Act}
-use Rattle.bus_semantics.specs.Plan.{Plan, Runnable, look, every_from, kind_of, server_of, machine_of_port, instance_of}
+use Rattle.bus_semantics.specs.Plan.{Plan, Runnable, look, every_from, kind_of, group_of, server_of, machine_of_port, instance_of}
+use Rattle.bus_semantics.specs.Lists.{elems_of}
+use Rattle.bus_semantics.specs.Bundles.{home_of, bundle_of, bundle_of_list}
 use Rattle.bus_semantics.specs.Objects.{disabler_of, served_by}
 use Rattle.bus_semantics.specs.SoundEvents.{requires_machine, kind_sound, disabling_sound, is_invoked, event_sound, server_served, serves_back}
 use Rattle.bus_semantics.specs.Sound.{IsSound}
 use Rattle.object_kinds.proofs.Lists.{all_at, every_at}
-use Rattle.object_kinds.proofs.Options.{clash}
+use Rattle.object_kinds.proofs.Options.{clash, then_some}
 
 -- ---- what is looked up
 
@@ -149,6 +151,23 @@ module _ (p : Plan) (m : Mapping) (sound : IsSound p m) where
               let same : d.machine ≡ n = same_Some d.machine n (sym here ∙ is) in
               let fits : disabling_sound p (instance_of p v.runnable) v.kind (Some d) ≡ true = subst (λ o. disabling_sound p (instance_of p v.runnable) v.kind o ≡ true) some (disabling_fits e v there) in
               subst (λ k. k < length p.machines) same (machine_required (instance_of p v.runnable) d.machine (and_parts _ _ (and_parts _ _ fits).1).0)
+
+  -- bundles
+
+  pub home_within : (g b : ℕ) → home_of p g ≡ Some b → b < length p.bundles
+  home_within g b is =
+      let at = given_at p.homes g (λ (n : ℕ). Some n) b is in
+      let same : at.item ≡ b = same_Some at.item b at.gives in
+      let all : list_all (λ n. nat_lt n (length p.bundles)) p.homes ≡ true = (and_parts _ _ (and_parts _ _ sound.bundles).1).0 in
+      subst (λ n. n < length p.bundles) same (ltb-true at.item (length p.bundles) (all_at (λ n. nat_lt n (length p.bundles)) p.homes g at.item all at.found))
+
+  pub bundle_within : (x b : ℕ) → bundle_of p x ≡ Some b → b < length p.bundles
+  bundle_within x b is = let at = then_some (home_of p) (group_of p x) b is in home_within at.item b at.gives
+
+  pub list_within : (l b : ℕ) → bundle_of_list p l ≡ Some b → b < length p.bundles
+  list_within l b is = let at = then_some (bundle_of p) (slice_get (elems_of p l) 0) b is in bundle_within at.item b at.gives
+
+  -- servers and machines
 
   pub joined_server : (q s : ℕ) → server_of p q ≡ Some s → s < length p.servers
   joined_server q s is =

@@ -1,31 +1,32 @@
 -- What touches a group: a deed with an element of it, or a start by a DataReceivedEvent of one. And which deeds are of queued elements.
-use Rattle.std.proofs.Common.{◌≡◌, ◌<◌, ℕ, Bool, true, false, ◌&&◌, not, refl, sym, ◌∙◌, ap, length, Option, Some}
-use Rattle.std.specs.Prelude.{option_map, option_and_then}
+use Rattle.std.proofs.Common.{◌≡◌, ℕ, Bool, true, false, ◌&&◌, not, refl, sym, ◌∙◌, ap, Option, Some}
 use Rattle.std.specs.Option.{option_map_or}
-use Rattle.std.proofs.lemmas.Bool.{and_parts, eq-eqb, false≢true}
+use Rattle.std.proofs.lemmas.Bool.{and_parts, false≢true}
 use Rattle.rte_value.specs.declared.value.Value.{Value}
 use Rattle.rte_value.specs.Values.{words_of, same_number}
 use Rattle.bus_semantics.specs.declared.plan.ElemPlan.{ElemPlan}
 use Rattle.bus_semantics.specs.declared.plan.ElemKind.{ElemKind}
 use Rattle.bus_semantics.specs.declared.plan.ElemKind.TheVariants.{Unqueued, Queued, Variable}
 use Rattle.bus_semantics.specs.declared.plan.EventKind.{EventKind}
-use Rattle.bus_semantics.specs.declared.plan.EventKind.TheVariants.{Timing, Init, DataReceived, Invoked, Returns, ModeSwitch, Ack}
+use Rattle.bus_semantics.specs.declared.plan.EventKind.TheVariants.{DataReceived}
 use Rattle.bus_semantics.specs.declared.script.Mapping.{Mapping}
 use Rattle.bus_semantics.specs.declared.entries.Actor.{Actor}
 use Rattle.bus_semantics.specs.declared.entries.Deed.{Deed}
 use Rattle.bus_semantics.specs.declared.entries.Deed.TheVariants as deed
 use Rattle.bus_semantics.specs.Plan.{Plan, look, group_of, kind_of}
 use Rattle.bus_semantics.specs.Wanted.{to_fetch, to_write, to_read, to_invalidate, to_see_updated, to_send, to_receive, to_publish}
+use Rattle.bus_semantics.specs.Bundles.{home_of, bundle_of}
 use Rattle.bus_semantics.specs.Objects.{touches}
 use Rattle.bus_semantics.specs.Owners.{elem_fits, is_writable, is_readable, is_unqueued, is_queued, holds}
 use Rattle.bus_semantics.specs.Unqueued.{is_in_group}
 use Rattle.bus_semantics.specs.Locality.{is_proper}
 use Rattle.bus_semantics.specs.Sound.{IsSound}
-use Rattle.object_kinds.specs.Layout.{waits_for_data}
-use Rattle.object_kinds.proofs.Numbers.{a_group, a_server, a_machine, which_of, which_starts, touched_which}
-use Rattle.object_kinds.proofs.Options.{then_some, mapped_some}
+use Rattle.object_kinds.specs.Layout.{IsAlone, waits_for_data}
+use Rattle.object_kinds.proofs.Classes.{StartsOn, On, touching_on}
+use Rattle.object_kinds.proofs.Numbers.{a_bundle}
+use Rattle.object_kinds.proofs.Options.{number_is, is_number, then_some}
 use Rattle.object_kinds.proofs.Proper.{noting, wish_part, by_actor}
-use Rattle.object_kinds.proofs.Ranges.{sought}
+use Rattle.object_kinds.proofs.Ranges.{sought, home_within}
 
 -- ---- what touches a group
 
@@ -41,57 +42,41 @@ OnGroup p g (deed.Receive x code value) = is_in_group p g x ≡ true
 OnGroup p g (deed.Publish x value) = is_in_group p g x ≡ true
 OnGroup p g _ = ⊥
 
-module _ (p : Plan) (g : ℕ) where
-  is_inside : (x : ℕ) → option_map a_group (group_of p x) ≡ Some (a_group g) → is_in_group p g x ≡ true
-  is_inside x is =
-      let at = mapped_some a_group (group_of p x) (a_group g) is in
-      let same : at.item ≡ g = cc at.gives in
-      ap (λ o. same_number o (Some g)) (at.is ∙ ap (λ n. Some n) same) ∙ eq-eqb g g refl
+-- an element of its bundle is in the group
+pub group_itself : (p : Plan) (g x : ℕ) → IsAlone p g → bundle_of p x ≡ Some g → group_of p x ≡ Some g
+group_itself p g x alone is =
+    let at = then_some (home_of p) (group_of p x) g is in
+    at.is ∙ ap (λ h. Some h) (alone.alone at.item at.gives)
 
-  no_server : {X : Type 0} (o : Option ℕ) → option_map a_server o ≡ Some (a_group g) → X
-  no_server o is = let at = mapped_some a_server o (a_group g) is in absurd (cc at.gives)
+pub bundled_inside : (p : Plan) (g x : ℕ) → IsAlone p g → bundle_of p x ≡ Some g → is_in_group p g x ≡ true
+bundled_inside p g x alone is = is_number (group_of p x) g (group_itself p g x alone is)
 
-  no_machine : {X : Type 0} (o : Option ℕ) → option_map a_machine o ≡ Some (a_group g) → X
-  no_machine o is = let at = mapped_some a_machine o (a_group g) is in absurd (cc at.gives)
+pub touched_inside : (p : Plan) (g x : ℕ) → IsAlone p g → same_number (bundle_of p x) (Some g) ≡ true → is_in_group p g x ≡ true
+touched_inside p g x alone touching = bundled_inside p g x alone (number_is (bundle_of p x) g touching)
 
-  no_machine_of : {X : Type 0} (f : ℕ → Option ℕ) (event : Option ℕ) → option_and_then (λ e. option_map a_machine (f e)) event ≡ Some (a_group g) → X
-  no_machine_of f event is = let at = then_some (λ e. option_map a_machine (f e)) event (a_group g) is in no_machine (f at.item) at.gives
+module _ (p : Plan) (g : ℕ) (alone : IsAlone p g) where
+  start_on : (k : EventKind) → StartsOn p (a_bundle g) k → waits_for_data p g k ≡ true
+  start_on (DataReceived x) on = bundled_inside p g x alone on
+  start_on k on = absurd on
 
-  start_on : (k : EventKind) → which_starts p k ≡ Some (a_group g) → waits_for_data p g k ≡ true
-  start_on (Timing period) is = absurd (cc is)
-  start_on Init is = absurd (cc is)
-  start_on (DataReceived x) is = is_inside x is
-  start_on (Invoked s) is = absurd (cc is)
-  start_on (Returns q) is = no_server _ is
-  start_on (ModeSwitch n moment) is = absurd (cc is)
-  start_on (Ack n) is = absurd (cc is)
+  on_group : (a : Actor) (event : Option ℕ) (d : Deed) → On p (a_bundle g) a event d → OnGroup p g d
+  on_group a event (deed.Start e point value) on = start_on (kind_of p e) on
+  on_group a event (deed.Fetch x value) on = bundled_inside p g x alone on
+  on_group a event (deed.Write x value) on = bundled_inside p g x alone on
+  on_group a event (deed.Read x code value) on = bundled_inside p g x alone on
+  on_group a event (deed.Invalidate x) on = bundled_inside p g x alone on
+  on_group a event (deed.IsUpdated x updated) on = bundled_inside p g x alone on
+  on_group a event (deed.Send x value code) on = bundled_inside p g x alone on
+  on_group a event (deed.Receive x code value) on = bundled_inside p g x alone on
+  on_group a event (deed.Publish x value) on = bundled_inside p g x alone on
+  on_group a event (deed.FetchAll l value) on = absurd (alone.unlisted l on)
+  on_group a event (deed.PublishAll l written value) on = absurd (alone.unlisted l on)
+  on_group a event d on = absurd on
 
-  on_group : (a : Actor) (event : Option ℕ) (d : Deed) → which_of p a event d ≡ Some (a_group g) → OnGroup p g d
-  on_group a event deed.Tick is = absurd (cc is)
-  on_group a event (deed.Start e point value) is = start_on (kind_of p e) is
-  on_group a event (deed.Admit answer) is = no_machine_of _ event is
-  on_group a event (deed.Fetch x value) is = is_inside x is
-  on_group a event (deed.Write x value) is = is_inside x is
-  on_group a event (deed.Read x code value) is = is_inside x is
-  on_group a event (deed.Invalidate x) is = is_inside x is
-  on_group a event (deed.IsUpdated x updated) is = is_inside x is
-  on_group a event (deed.Send x value code) is = is_inside x is
-  on_group a event (deed.Receive x code value) is = is_inside x is
-  on_group a event (deed.Ask q value code) is = no_server _ is
-  on_group a event (deed.Answer q code value) is = no_server _ is
-  on_group a event (deed.TakeResult q code value) is = no_server _ is
-  on_group a event (deed.Return code value) is = no_server _ is
-  on_group a event (deed.Enter x) is = absurd (cc is)
-  on_group a event (deed.Leave x) is = absurd (cc is)
-  on_group a event (deed.Switch n mode code) is = absurd (cc is)
-  on_group a event (deed.Mode port mode) is = no_machine _ is
-  on_group a event (deed.Phase step) is = no_machine _ is
-  on_group a event (deed.Publish x value) is = is_inside x is
-  on_group a event deed.End is = no_machine_of _ event is
-
-pub touches_group : (p : Plan) (m : Mapping) (g : ℕ) (a : Actor) (event : Option ℕ) (d : Deed) → IsSound p m → g < length p.groups
+pub touches_group : (p : Plan) (m : Mapping) (g : ℕ) (a : Actor) (event : Option ℕ) (d : Deed) → IsSound p m → IsAlone p g
     → touches p g (noting a d event) ≡ true → is_proper p (noting a d event) ≡ true → OnGroup p g d
-touches_group p m g a event d sound within touching proper = on_group p g a event d (touched_which p m sound (a_group g) within a event d touching proper)
+touches_group p m g a event d sound alone touching proper =
+    on_group p g alone a event d (touching_on p m sound (a_bundle g) (home_within p m sound g g alone.home) a event d touching proper)
 
 -- ---- a Send or a Receive is of a queued element, and the other deeds of an element are of one that is not
 

@@ -1,13 +1,20 @@
--- What of a plan belongs to one object: the elements of a group, and the events that wait for it.
-use Rattle.std.specs.Prelude.{ℕ, zero, suc, List, [], ◌∷◌, length, filter, Bool, false, ◌==◌, if◌then◌else◌, Option, Some, None, option_map}
+-- What of a plan belongs to one object: the elements of a group, the bundle that it is, and the events that wait for it.
+use Rattle.std.specs.Prelude.{◌≡◌, ℕ, zero, suc, List, [], ◌∷◌, length, filter, Bool, false, ◌==◌, if◌then◌else◌, Option, Some, None, option_map}
 use Rattle.bus_semantics.specs.declared.plan.EventKind.{EventKind}
 use Rattle.bus_semantics.specs.declared.plan.EventKind.TheVariants.{DataReceived}
 use Rattle.bus_semantics.specs.Plan.{Plan, kind_of, positions}
+use Rattle.bus_semantics.specs.Bundles.{home_of, bundle_of_list}
 use Rattle.bus_semantics.specs.Unqueued.{is_in_group}
 
 -- the elements of a group, in rising order
 abbrev pub members_of : Plan → (group : ℕ) → List ℕ
 members_of p g = filter (is_in_group p g) (positions (length p.elements))
+
+-- the group is a bundle by itself, which has its number and which no coherent list touches: so the object of its elements is the group
+pub record IsAlone (p : Plan) (group : ℕ) : Type 0 where
+  pub home : home_of p group ≡ Some group
+  pub alone : (other : ℕ) → home_of p other ≡ Some group → other ≡ group
+  pub unlisted : (list : ℕ) → bundle_of_list p list ≡ Some group → ⊥
 
 -- the events of a plan whose kind passes, in rising order
 abbrev pub events_of : Plan → (EventKind → Bool) → List ℕ

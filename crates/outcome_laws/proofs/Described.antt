@@ -1,5 +1,5 @@
 -- What a small value is read as is a description: its programs lie somewhere.
-use Rattle.std.proofs.Common.{◌≡◌, ◌^◌, ◌≤◌, List, [], ◌∷◌, map, codes, slice_get, unwrap_or, refl, arith}
+use Rattle.std.proofs.Common.{◌≡◌, ◌^◌, ◌≤◌, List, [], ◌∷◌, map, codes, slice_get, unwrap_or, refl, ap, ◌∙◌, arith}
 use Rattle.serde_json.specs.Data.{Data, null}
 use Rattle.serde_json.specs.Find.{get}
 use Rattle.runnable_lang.specs.declared.program.Program.{Program}
@@ -20,6 +20,7 @@ use Rattle.component_model.specs.Descriptions.{DescriptionTree, description_of, 
 use Rattle.component_model.specs.Programs.{ComponentTree, RunnableTree, behavior_in, component_reading, component_tree, first_names, invoked_events, runnable_names, runnable_reading, runnable_tree}
 use Rattle.outcome_laws.proofs.Programs.{program_for}
 use Rattle.outcome_laws.proofs.Short.{program_short}
+use Rattle.outcome_laws.proofs.Values.{arc_of}
 
 -- each item of a list of small values
 module _ {X Y : Type 0} (view : X → Y) (read : Data → Y) (each : (d : Data) → IsSmall d → (x : X) × (view x ≡ read d)) where
@@ -34,7 +35,10 @@ nothing_small : IsSmall null
 nothing_small = record { few = omega arith }
 
 with_program : (t : RunnableTree) → (p : Program) × (program_tree p ≡ t.program) → (r : Runnable) × (runnable_tree r ≡ t)
-with_program t (p, is) = (record { short_name = t.short_name; can_be_invoked_concurrently = t.can_be_invoked_concurrently; accesses = t.accesses; program = p }, λ i. record t { program = is i })
+with_program t (p, is) = let (a, holds) = arc_of p in (
+  record { short_name = t.short_name; can_be_invoked_concurrently = t.can_be_invoked_concurrently; accesses = t.accesses; program = a },
+  λ i. record t { program = (ap program_tree holds ∙ is) i },
+)
 
 module _ (interfaces : InterfaceNames) (names : ComponentNames) (events : List Data) (servers : Names) where
   runnable_for : (d : Data) → IsSmall d → (r : Runnable) × (runnable_tree r ≡ runnable_reading interfaces names events servers d)

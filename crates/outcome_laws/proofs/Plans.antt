@@ -2,6 +2,7 @@
 use Rattle.std.proofs.Common.{◌≡◌, ℕ, ◌+◌, ◌≤◌, ℤ, List, [], ◌∷◌, ◌++◌, map, length, Bool, true, false, cond, nat_le, Option, Some, None, slice_get, refl, ◌∙◌, arith}
 use Rattle.std.proofs.lemmas.List.{map-append}
 use Rattle.std.specs.Option.{option_map_or, unwrap_or}
+use Rattle.runnable_lang.specs.declared.program.Signature.{Signature}
 use Rattle.bus_semantics.specs.declared.plan.BusPlan.{BusPlan}
 use Rattle.bus_semantics.specs.declared.plan.ElemPlan.{ElemPlan}
 use Rattle.bus_semantics.specs.Plan.{runnable_of}
@@ -18,7 +19,7 @@ use Rattle.plan_definitions.specs.Signatures.{signature}
 use Rattle.plan_definitions.specs.Started as started
 use Rattle.plan_definitions.specs.Started.{runnables, runnables_of_component, served_by, served_number, target_of}
 use Rattle.plan_definitions.specs.Things.{elements_of}
-use Rattle.outcome_laws.proofs.Values.{value_for}
+use Rattle.outcome_laws.proofs.Values.{arc_of, value_for}
 
 -- ---- lists of what has a view
 
@@ -78,16 +79,17 @@ module _ (d : Description) (f : Flat) where
   elements_for = made_each elem_seen (λ s. element_of d f (group_of d f s) s) (λ (s : Site). elem_for (element_of d f (group_of d f s) s) (held_short (unwrap_or (given_of d f s) (zeros (type_of d f s))))) (elements_of d f)
 
   one_runnable : (i : ℕ) (c : Component) (m : ℕ) (r : declared.Runnable) → Made runnable_of (started.runnable_of d f i c m r ∷ [])
-  one_runnable i c m r = (
+  one_runnable i c m r = let (given, holds) = arc_of {X = Signature} (record { accesses = signature d.types c r.accesses }) in (
     record {
       instance = i;
       name = r.short_name;
       program = r.program;
-      signature = record { accesses = signature d.types c r.accesses };
+      signature = given;
       targets = map (target_of d f i m) r.accesses;
       server = (started.runnable_of d f i c m r).server;
+      lists = [];
     } ∷ [],
-    refl,
+    λ j. record (started.runnable_of d f i c m r) { accesses = (holds j).accesses } ∷ [],
   )
 
   runnables_for : Made runnable_of (runnables d f)
@@ -107,6 +109,9 @@ module _ (d : Description) (f : Flat) where
       mode_ports = (plan_of d f).mode_ports;
       events = (plan_of d f).events;
       runnables = rs;
+      lists = (plan_of d f).lists;
+      homes = (plan_of d f).homes;
+      bundles = (plan_of d f).bundles;
       objects = (plan_of d f).objects;
     },
     λ i. record (plan_of d f) { elements = elems i; runnables = runs i },

@@ -1,7 +1,9 @@
--- Values that hold others: a list of fewer than 2^63 items is that of a `Vec`, each value that of a `Box`, and a list of at most 16 words
--- that of a `Value`. Where they lie in memory tells nothing to any clause.
+-- Values that hold others: a list of fewer than 2^63 items is that of a `Vec`, each value that of a `Box` and that of an `Arc`, and a list
+-- of at most 16 words that of a `Value`. Where they lie in memory tells nothing to any clause.
 use Rattle.std.proofs.Common.{◌≡◌, ℤ, pos, ◌-◌, ◌<◌, ◌≤◌, ◌^◌, List, [], ◌∷◌, ◌++◌, length, replicate, take, refl, sym, ap, arith}
+use Rattle.std.specs.Arc.{arc_value}
 use Rattle.std.specs.Global.{Box, Global, Vec}
+use Rattle.std.specs.declared.sync.Arc.{Arc}
 use Rattle.rte_value.specs.declared.value.Value.{Value}
 use Rattle.rte_value.specs.Padding.{padded}
 use Rattle.rte_value.specs.Values.{words_of}
@@ -18,6 +20,9 @@ vec_of xs few = (record { ptr = null_ptr; len = length xs; cap = length xs; allo
 
 pub box_of : {X : Type 0} (x : X) → (b : Box X) × (b.value ≡ x)
 box_of x = (record { ptr = null_ptr; alloc = heap; value = x }, refl)
+
+pub arc_of : {X : Type 0} (x : X) → (a : Arc X Global) × (arc_value a ≡ x)
+arc_of x = (record { ptr = null_ptr; value = x }, refl)
 
 taken : (ws vs : List ℤ) → take (length ws) (ws ++ vs) ≡ ws
 taken [] [] = refl

@@ -1,6 +1,6 @@
 -- The plan of a description made flat (Software Component Template, flattened): each list by instance and in declared order, what
 -- belongs to the environment last.
-use Rattle.std.specs.Prelude.{ℕ, List, [], map, length, ◌+◌, slice_get}
+use Rattle.std.specs.Prelude.{ℕ, List, [], ◌∷◌, map, length, ◌+◌, slice_get}
 use Rattle.std.specs.Option.{option_map_or}
 use Rattle.description_types.specs.declared.description.Description.{Description}
 use Rattle.flat_descriptions.specs.declared.flat.Flat.{Flat}
@@ -8,12 +8,13 @@ use Rattle.flat_descriptions.specs.declared.flat.Instance.{Instance}
 use Rattle.plan_definitions.specs.Lists.{from}
 use Rattle.bus_semantics.specs.declared.plan.AreaPlan.{AreaPlan}
 use Rattle.bus_semantics.specs.declared.plan.BusPlan.{BusPlan}
+use Rattle.bus_semantics.specs.declared.plan.CoherentList.{CoherentList}
 use Rattle.bus_semantics.specs.declared.plan.EventPlan.{EventPlan}
 use Rattle.bus_semantics.specs.declared.plan.MachinePlan.{MachinePlan}
 use Rattle.bus_semantics.specs.declared.plan.ModePortPlan.{ModePortPlan}
 use Rattle.bus_semantics.specs.declared.plan.PointPlan.{PointPlan}
 use Rattle.bus_semantics.specs.declared.plan.ServerPlan.{ServerPlan}
-use Rattle.bus_semantics.specs.Plan.{Runnable, runnable_of}
+use Rattle.bus_semantics.specs.Plan.{Runnable, positions, runnable_of}
 use Rattle.plan_definitions.specs.Elements.{Elem, elem_seen, elements, leaders}
 use Rattle.plan_definitions.specs.ElementGroups.{groups}
 use Rattle.plan_definitions.specs.Modes.{machines, mode_ports}
@@ -32,6 +33,9 @@ pub record Planned : Type 0 where
   pub mode_ports : List ModePortPlan
   pub events : List EventPlan
   pub runnables : List Runnable
+  pub lists : List CoherentList
+  pub homes : List ℕ
+  pub bundles : List (List ℕ)
   pub objects : ℕ
 
 abbrev pub seen : BusPlan → Planned
@@ -46,6 +50,9 @@ seen p = record {
   mode_ports = p.mode_ports;
   events = p.events;
   runnables = map runnable_of p.runnables;
+  lists = p.lists;
+  homes = p.homes;
+  bundles = p.bundles;
   objects = p.objects;
 }
 
@@ -63,7 +70,18 @@ areas_at d x = option_map_or (λ c. c.behavior.exclusive_areas) (slice_get d.com
 abbrev pub areas : Description → Flat → List AreaPlan
 areas d f = from 0 (λ i x. named_areas i (areas_at d x)) f.instances
 
--- ---- the whole; the objects are the groups, servers, areas, machines and the clock
+-- ---- bundles. Descriptions name no coherent lists, so each group is a bundle by itself
+
+abbrev pub homes : Description → Flat → List ℕ
+homes d f = positions (length (groups (leaders d f)))
+
+abbrev pub alone : ℕ → List ℕ
+alone g = g ∷ []
+
+abbrev pub bundles : Description → Flat → List (List ℕ)
+bundles d f = map alone (homes d f)
+
+-- ---- the whole; the objects are the groups, each a bundle, servers, areas, machines and the clock
 
 abbrev pub object_count : ℕ → ℕ → ℕ → ℕ → ℕ
 object_count groups servers areas machines = groups + (servers + (areas + (machines + 1)))
@@ -80,5 +98,8 @@ plan_of d f = record {
   mode_ports = mode_ports d f;
   events = events d f;
   runnables = runnables d f;
+  lists = [];
+  homes = homes d f;
+  bundles = bundles d f;
   objects = object_count (length (groups (leaders d f))) (length (servers d f)) (length (areas d f)) (length (machines d f));
 }

@@ -1,5 +1,6 @@
 -- What is refused of programs (the rules of `runnable_lang`).
 use Rattle.std.specs.Prelude.{ℕ, List, Bool, true, ◌==◌, Option, Some, None, option_map, option_and_then, if◌then◌else◌}
+use Rattle.std.specs.Arc.{arc_value}
 use Rattle.runnable_lang.specs.Refusals.{refusal}
 use Rattle.runnable_lang.specs.Trees.{program_tree}
 use Rattle.interface_types.specs.declared.interface.TypeTable.{TypeTable}
@@ -11,7 +12,7 @@ use Rattle.plan_definitions.specs.Signatures.{signature}
 
 -- the least rule that a runnable's program breaks, of 17 to 20, with the path to the first statement that breaks it
 abbrev pub program_refusal : TypeTable → Component → Runnable → Option (ℕ × List ℕ)
-program_refusal types c r = refusal (signature types c r.accesses) (program_tree r.program)
+program_refusal types c r = refusal (signature types c r.accesses) (program_tree (arc_value r.program))
 
 -- a rule, or any
 abbrev pub is_wanted : Option ℕ → ℕ → Bool

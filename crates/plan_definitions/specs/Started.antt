@@ -1,5 +1,6 @@
 -- Events and runnables of instances (Software Component Template: RTEEvent, RunnableEntity).
 use Rattle.std.specs.Prelude.{ℕ, List, [], ◌∷◌, map, nat_eq, Option, Some, None, option_map, if◌then◌else◌}
+use Rattle.std.specs.Arc.{arc_value}
 use Rattle.std.specs.Option.{option_map_or}
 use Rattle.runnable_lang.specs.declared.program.AccessKind.{AccessKind}
 use Rattle.runnable_lang.specs.declared.program.AccessKind.TheVariants as kind
@@ -97,10 +98,11 @@ abbrev pub runnable_of : Description → Flat → ℕ → Component → ℕ → 
 runnable_of d f i c m r = record {
   instance = i;
   name = r.short_name;
-  program = program_tree r.program;
+  program = program_tree (arc_value r.program);
   accesses = signature d.types c r.accesses;
   targets = map (target_of d f i m) r.accesses;
   server = option_map (served_number d f i) (served_by c.behavior.events m);
+  lists = [];
 }
 
 abbrev pub runnables_of_component : Description → Flat → ℕ → Component → List Runnable

@@ -2,6 +2,7 @@
 -- them; numbers lie in their ranges; what refers to something has a position in the list that declares it; types and initial
 -- values fit.
 use Rattle.std.specs.Prelude.{◌≡◌, ℕ, List, [], ◌∷◌, map, length, Bool, true, false, not, ◌&&◌, ◌||◌, ◌==◌, nat_lt, nat_le, slice_get, Option, Some, None}
+use Rattle.std.specs.Arc.{arc_value}
 use Rattle.std.specs.List.{list_all, list_any}
 use Rattle.std.specs.Option.{option_map_or}
 use Rattle.runnable_lang.specs.declared.program.AccessKind.{AccessKind}
@@ -120,7 +121,7 @@ accesses_distinct [] = true
 accesses_distinct (a ∷ more) = not (list_any (same_access a) more) && accesses_distinct more
 
 abbrev pub runnable_fits : TypeTable → Component → Runnable → Bool
-runnable_fits t c r = list_all (access_fits t c) r.accesses && (accesses_distinct r.accesses && is_well_formed (program_tree r.program))
+runnable_fits t c r = list_all (access_fits t c) r.accesses && (accesses_distinct r.accesses && is_well_formed (program_tree (arc_value r.program)))
 
 -- an event names a port or an item of one
 abbrev pub event_kind_fits : TypeTable → Component → EventKind → Bool
@@ -151,7 +152,7 @@ serves_fit t c [] seen = true
 serves_fit t c (e ∷ es) seen = by_kind (λ now_seen. serves_fit t c es now_seen) e.kind
   where
     has_variables : ℕ → ℕ → Bool
-    has_variables k n = option_map_or (λ (r : Runnable). nat_lt (arguments_at t c.ports k n) (program_tree r.program).vars) (slice_get c.behavior.runnables e.runnable) false
+    has_variables k n = option_map_or (λ (r : Runnable). nat_lt (arguments_at t c.ports k n) (program_tree (arc_value r.program)).vars) (slice_get c.behavior.runnables e.runnable) false
 
     by_kind : (List ℕ → Bool) → EventKind → Bool
     by_kind rest (OperationInvoked k n) = (list_any (λ r. r == e.runnable) seen || has_variables k n) && rest (e.runnable ∷ seen)

@@ -1,5 +1,7 @@
 -- Descriptions whose programs are the same trees, held elsewhere in memory.
 use Rattle.std.proofs.Common.{◌≡◌, ℕ, suc, ◌+◌, List, [], ◌∷◌, ◌++◌, map, length, Option, Some, None, option_map, option_and_then, slice_get, refl, sym, ap, ◌∙◌}
+use Rattle.std.specs.Global.{Global}
+use Rattle.std.specs.declared.sync.Arc.{Arc}
 use Rattle.std.specs.List.{flat_map}
 use Rattle.std.specs.Option.{option_map_or, option_or}
 use Rattle.std.proofs.lemmas.Option.{same_Some, slice_get-map}
@@ -16,6 +18,10 @@ use Rattle.plan_definitions.specs.Lists.{from}
 abbrev pub held_as : Description → List Component → Description
 held_as d cs = record { types = d.types; components = cs; compositions = d.compositions; root = d.root; mapping = d.mapping }
 
+-- a program as a description holds it
+abbrev pub Shared : Type 0
+Shared = Arc Program Global
+
 -- a component without its runnables, and a runnable with a program
 abbrev pub bare : ComponentTree → Component
 bare t = record {
@@ -24,7 +30,7 @@ bare t = record {
   behavior = record { exclusive_areas = t.behavior.exclusive_areas; variables = t.behavior.variables; runnables = []; events = t.behavior.events };
 }
 
-abbrev pub running : Program → RunnableTree → Runnable
+abbrev pub running : Shared → RunnableTree → Runnable
 running p t = record { short_name = t.short_name; can_be_invoked_concurrently = t.can_be_invoked_concurrently; accesses = t.accesses; program = p }
 
 -- ---- what two functions give that tell nothing but the tree

@@ -21,6 +21,7 @@ use Rattle.flat_descriptions.specs.declared.flat.Flat.{Flat}
 use Rattle.flat_descriptions.specs.declared.flat.Instance.{Instance}
 use Rattle.bus_semantics.specs.declared.plan.ElemKind.TheVariants as elem
 use Rattle.bus_semantics.specs.declared.plan.EventKind.TheVariants as plan_event
+use Rattle.bus_semantics.specs.Plan.{positions}
 use Rattle.plan_definitions.specs.Signatures.{arguments_of}
 use Rattle.plan_definitions.specs.declared.site.Site.{Site}
 use Rattle.plan_definitions.specs.Joined.{end_at, end_of, is_joined, provider_of}
@@ -37,7 +38,7 @@ use Rattle.plan_definitions.specs.Services as services
 use Rattle.plan_definitions.specs.Services.{argument_of, operation_at, operation_in, point_of, point_words, points, server_at, server_of, servers, started_by}
 use Rattle.plan_definitions.specs.Started.{disabling_of, event_of, events, moment_of, runnable_of, runnables, served_by, target_of}
 use Rattle.plan_definitions.specs.Started as started
-use Rattle.plan_definitions.specs.Planned.{areas, areas_at, named_areas, object_count, plan_of}
+use Rattle.plan_definitions.specs.Planned.{alone, areas, areas_at, named_areas, object_count, plan_of}
 use Rattle.plan_laws.proofs.Components.{signature-again}
 use Rattle.plan_laws.proofs.Held.{held_as, look, look_on, on_from}
 use Rattle.plan_laws.proofs.Mapped.{at_events, invocation_of-again, is_mapped-again}
@@ -268,6 +269,7 @@ module _ (d : Description) (cs : List Component) (same : map component_tree d.co
     accesses = signature-again d.types a b e ((x i).accesses) i;
     targets = map (λ y. target_of-again n m y i) ((x i).accesses);
     server = option_map (λ y. server_number-again d cs same f (Some n, Some y.0, y.1) i) (served_by ((e i).behavior.events) m);
+    lists = [];
   }
 
   runnables-again : runnables d f ≡ runnables (held_as d cs) f
@@ -289,5 +291,8 @@ module _ (d : Description) (cs : List Component) (same : map component_tree d.co
     mode_ports = mode_ports-again i;
     events = events-again i;
     runnables = runnables-again i;
+    lists = [];
+    homes = positions (length (groups (leaders-again i)));
+    bundles = map alone (positions (length (groups (leaders-again i))));
     objects = object_count (length (groups (leaders-again i))) (length (servers-again i)) (length (areas-again i)) (length (machines-again i));
   }

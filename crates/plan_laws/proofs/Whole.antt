@@ -128,6 +128,9 @@ plan_once p q e = let elements = elems_once p.elements q.elements (ap (λ t. t.e
       mode_ports = (e i).mode_ports;
       events = (e i).events;
       runnables = (e i).runnables;
+      lists = (e i).lists;
+      homes = (e i).homes;
+      bundles = (e i).bundles;
       objects = (e i).objects;
     }
 

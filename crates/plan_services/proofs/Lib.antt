@@ -4,3 +4,4 @@ pub mod Invoking
 pub mod Using
 pub mod Serving
 pub mod Few
+pub mod Sharing

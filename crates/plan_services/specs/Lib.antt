@@ -1,2 +1,3 @@
 pub mod Users
 pub mod Served
+pub mod Shared

@@ -12,6 +12,7 @@ mod points;
 mod runnables;
 mod served;
 mod servers;
+mod signatures;
 mod targets;
 mod users;
 

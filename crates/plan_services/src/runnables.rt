@@ -7,6 +7,7 @@ ghost use Rattle.std.specs.Option.{option_map_or};
 ghost use Rattle.bus_semantics.specs.Plan.{runnable_of as seen};
 ghost use Rattle.plan_definitions.specs.Lists.{from};
 ghost use Rattle.plan_services.specs.Served.{served_entry};
+ghost use Rattle.plan_services.specs.Shared.{AreOfAll, AreSignatures, accesses_of, signature_in};
 ghost use Rattle.plan_definitions.specs.Started.{runnable_of, runnables as all_runnables, runnables_of_component, served_number};
 ghost use Rattle.plan_definitions.specs.Callings.{callings as all_callings};
 ghost use Rattle.plan_definitions.specs.WellFormed.{types_fit};
@@ -15,15 +16,23 @@ use crate::events::component_at;
 use crate::invoked::Operation;
 use crate::listed_callings::Callings;
 use crate::served::served_of;
+use crate::signatures::{Shared, signatures_of};
 use crate::targets::targets_of;
 use bus_semantics::RunnablePlan;
-use component_rules::signature_of;
 use description_types::{Component, Runnable};
 use flat_descriptions::Instance;
 use plan_numbers::{Source, Table, position};
-use rte_text::{Memory, Text};
-use runnable_lang::copy_program;
+use rte_text::{Memory, Seq, Text};
 use std::alloc::Global;
+use std::sync::Arc;
+
+/// What all instances of a component have: it itself, the operations that its runnables serve, and their signatures.
+#[derive(Clone, Copy)]
+struct Common<'a> {
+    component: &'a Component,
+    served: &'a Table<u32, Operation>,
+    signatures: &'a [Shared],
+}
 
 fn server_of(
     source: &Source<'_>,
@@ -37,33 +46,37 @@ fn server_of(
     Some(source.server_number(Some(instance), found.0, found.1))
 }
 
+/// A runnable of an instance. It shares its program and its signature with those of the other instances of its component; a
+/// count of sharers that is full, which no clause of `Arc` excludes, is answered like want of memory.
 fn runnable_of(
     alloc: Global,
     source: &Source<'_>,
     callings: &Callings,
-    served: &Table<u32, Operation>,
+    common: &Common<'_>,
     instance: u32,
-    component: &Component,
     position: u32,
     runnable: &Runnable,
+    signature: &Shared,
 ) -> Result<RunnablePlan, Memory>
     requires calls { callings.now ≡ all_callings source.now.d.now source.now.f.now }
-    requires types { types_fit source.now.d.now.types ≡ true }
-    requires serves { served.now.entries.items ≡ flat_map served_entry component.now.behavior.events }
-    ensures { IfOk result (λ found. seen found ≡ runnable_of source.now.d.now source.now.f.now instance component.now position runnable.now) }
+    requires serves { common.now.served.now.entries.items ≡ flat_map served_entry common.now.component.now.behavior.events }
+    requires signature { accesses_of signature.now ≡ signature_in source.now.d.now.types common.now.component.now runnable.now }
+    ensures { IfOk result (λ found. seen found ≡ runnable_of source.now.d.now source.now.f.now instance common.now.component.now position runnable.now) }
 {
-    let accesses = runnable.accesses.items();
     let name = Text::new(alloc, runnable.short_name.bytes())?;
-    let program = copy_program(alloc, &runnable.program)?;
-    let signature = signature_of(alloc, &source.d.types, component, accesses)?;
+    let program = Arc::try_clone(&runnable.program)?;
+    let shared = Arc::try_clone(signature)?;
+    let accesses = runnable.accesses.items();
     let targets = targets_of(alloc, source, callings, instance, position, accesses)?;
+    let no_lists = Vec::new(alloc);
     Ok(RunnablePlan {
         instance,
         name,
         program,
-        signature,
+        signature: shared,
         targets,
-        server: server_of(source, served, instance, position),
+        server: server_of(source, common.served, instance, position),
+        lists: Seq::of(no_lists),
     })
 }
 
@@ -72,21 +85,21 @@ fn push_runnable(
     alloc: Global,
     source: &Source<'_>,
     callings: &Callings,
-    served: &Table<u32, Operation>,
+    common: &Common<'_>,
     instance: u32,
-    component: &Component,
     number: usize,
     runnable: &Runnable,
+    signature: &Shared,
 ) -> Result<(), Memory>
     requires number { number < 2 ^ 32 }
     requires calls { callings.now ≡ all_callings source.now.d.now source.now.f.now }
-    requires types { types_fit source.now.d.now.types ≡ true }
-    requires serves { served.now.entries.items ≡ flat_map served_entry component.now.behavior.events }
-    ensures { OnOk result (map seen list.new.items ≡ map seen list.old.items ++ runnable_of source.now.d.now source.now.f.now instance component.now number runnable.now ∷ []) }
+    requires serves { common.now.served.now.entries.items ≡ flat_map served_entry common.now.component.now.behavior.events }
+    requires signature { accesses_of signature.now ≡ signature_in source.now.d.now.types common.now.component.now runnable.now }
+    ensures { OnOk result (map seen list.new.items ≡ map seen list.old.items ++ runnable_of source.now.d.now source.now.f.now instance common.now.component.now number runnable.now ∷ []) }
 {
-    let number = position(number);
+    let position = position(number);
     let found = runnable_of(
-        alloc, source, callings, served, instance, component, number, runnable,
+        alloc, source, callings, common, instance, position, runnable, signature,
     )?;
     list.push(found)?;
     Ok(())
@@ -97,20 +110,21 @@ fn push_runnables(
     alloc: Global,
     source: &Source<'_>,
     callings: &Callings,
-    served: &Table<u32, Operation>,
+    common: &Common<'_>,
     instance: u32,
-    component: &Component,
     runnables: &[Runnable],
 ) -> Result<(), Memory>
     requires runnables { length runnables.now < 2 ^ 32 }
     requires calls { callings.now ≡ all_callings source.now.d.now source.now.f.now }
-    requires types { types_fit source.now.d.now.types ≡ true }
-    requires serves { served.now.entries.items ≡ flat_map served_entry component.now.behavior.events }
-    ensures { OnOk result (map seen list.new.items ≡ map seen list.old.items ++ from 0 (λ m r. runnable_of source.now.d.now source.now.f.now instance component.now m r ∷ []) runnables.now) }
+    requires serves { common.now.served.now.entries.items ≡ flat_map served_entry common.now.component.now.behavior.events }
+    requires signatures { map accesses_of common.now.signatures.now ≡ map (signature_in source.now.d.now.types common.now.component.now) runnables.now }
+    ensures { OnOk result (map seen list.new.items ≡ map seen list.old.items ++ from 0 (λ m r. runnable_of source.now.d.now source.now.f.now instance common.now.component.now m r ∷ []) runnables.now) }
 {
+    let signatures = common.signatures;
     for (number, runnable) in runnables.iter().enumerate() {
+        let signature = &signatures[number];
         push_runnable(
-            list, alloc, source, callings, served, instance, component, number, runnable,
+            list, alloc, source, callings, common, instance, number, runnable, signature,
         )?;
     }
     Ok(())
@@ -123,18 +137,29 @@ fn push_component(
     callings: &Callings,
     number: usize,
     component: &Component,
+    signatures: &[Shared],
 ) -> Result<(), Memory>
     requires number { number < 2 ^ 32 }
     requires runnables { length component.now.behavior.runnables < 2 ^ 32 }
     requires calls { callings.now ≡ all_callings source.now.d.now source.now.f.now }
-    requires types { types_fit source.now.d.now.types ≡ true }
+    requires signatures { AreSignatures source.now.d.now.types component.now signatures.now }
     ensures { OnOk result (map seen list.new.items ≡ map seen list.old.items ++ runnables_of_component source.now.d.now source.now.f.now number component.now) }
 {
     let served = served_of(alloc, component.behavior.events.items())?;
-    let number = position(number);
+    let common = Common {
+        component,
+        served: &served,
+        signatures,
+    };
     let runnables = component.behavior.runnables.items();
     push_runnables(
-        list, alloc, source, callings, &served, number, component, runnables,
+        list,
+        alloc,
+        source,
+        callings,
+        &common,
+        position(number),
+        runnables,
     )
 }
 
@@ -143,16 +168,21 @@ fn push_instance(
     alloc: Global,
     source: &Source<'_>,
     callings: &Callings,
+    signatures: &[Seq<Shared>],
     number: usize,
     instance: &Instance,
 ) -> Result<(), Memory>
     requires number { number < 2 ^ 32 }
     requires calls { callings.now ≡ all_callings source.now.d.now source.now.f.now }
-    requires types { types_fit source.now.d.now.types ≡ true }
+    requires signatures { AreOfAll source.now.d.now signatures.now }
     ensures { OnOk result (map seen list.new.items ≡ map seen list.old.items ++ option_map_or (runnables_of_component source.now.d.now source.now.f.now number) (slice_get source.now.d.now.components instance.now.component) []) }
 {
     match component_at(source.d, instance) {
-        Some(component) => push_component(list, alloc, source, callings, number, component),
+        Some(component) => {
+            let position = instance.component as usize;
+            let shared = signatures[position].items();
+            push_component(list, alloc, source, callings, number, component, shared)
+        }
         None => Ok(()),
     }
 }
@@ -162,15 +192,16 @@ fn push_instances(
     alloc: Global,
     source: &Source<'_>,
     callings: &Callings,
+    signatures: &[Seq<Shared>],
     instances: &[Instance],
 ) -> Result<(), Memory>
     requires instances { length instances.now < 2 ^ 32 }
     requires calls { callings.now ≡ all_callings source.now.d.now source.now.f.now }
-    requires types { types_fit source.now.d.now.types ≡ true }
+    requires signatures { AreOfAll source.now.d.now signatures.now }
     ensures { OnOk result (map seen list.new.items ≡ map seen list.old.items ++ from 0 (λ i x. option_map_or (runnables_of_component source.now.d.now source.now.f.now i) (slice_get source.now.d.now.components x.component) []) instances.now) }
 {
     for (number, instance) in instances.iter().enumerate() {
-        push_instance(list, alloc, source, callings, number, instance)?;
+        push_instance(list, alloc, source, callings, signatures, number, instance)?;
     }
     Ok(())
 }
@@ -185,12 +216,14 @@ pub fn runnable_plans(
     requires types { types_fit source.now.d.now.types ≡ true }
     ensures { IfOk result (λ list. map seen list.items ≡ all_runnables source.now.d.now source.now.f.now) }
 {
+    let signatures = signatures_of(alloc, source.d)?;
     let mut list = Vec::new(alloc);
     push_instances(
         &mut list,
         alloc,
         source,
         callings,
+        signatures.as_slice(),
         source.f.instances.items(),
     )?;
     Ok(list)

@@ -23,7 +23,7 @@ touched_is p a w n e = ap (λ o. unwrap_or o 0) e
 
 pub found_at : (p : Plan) (objects : List Object) (n : ℕ) (o : Object) → HasObjects p → ArePlans p objects → IsObject p n → o ≡ get_or objects n o → slice_get objects n ≡ Some o
 found_at p objects n o sound planned there same =
-    let counted : p.objects ≡ clock p + 1 = eqb-true p.objects (clock p + 1) (and_parts (p.objects == clock p + 1) (nat_le p.objects 16384) sound.counted).0 in
+    let counted : p.objects ≡ clock p + 1 = eqb-true p.objects (clock p + 1) (and_parts (p.objects == clock p + 1) _ sound.counted).0 in
     let count = planned.count in
     let within : n < length objects = omega arith in
     slice_get-get_or objects n o within ∙ ap (λ z. Some z) (sym same)

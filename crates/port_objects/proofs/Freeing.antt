@@ -1,7 +1,7 @@
 -- Of a wish that touches no object one entry alone may come.
 use Rattle.std.proofs.Common.{◌≡◌, ℕ, ℤ, true, ◌==◌, refl, sym, ◌∙◌, ap, subst, List, [], Option, Some, None}
 use Rattle.std.specs.Prelude.{◌+◌, option_map}
-use Rattle.std.proofs.lemmas.Bool.{and_parts, eqb-true, false≢true}
+use Rattle.std.proofs.lemmas.Bool.{and_from, and_parts, eq-eqb, eqb-true, false≢true}
 use Rattle.rte_value.specs.declared.value.Value.{Value}
 use Rattle.rte_value.specs.Values.{words_of, same_words}
 use Rattle.rte_value.specs.EqualValues.{Value-by_words, same_words-Decides}
@@ -13,7 +13,7 @@ use Rattle.bus_semantics.specs.Wanted.{Wanted, to_ask, to_take_result, to_end, w
 use Rattle.bus_semantics.specs.History.{Past}
 use Rattle.bus_semantics.specs.Objects.{object_of, first_server}
 use Rattle.bus_semantics.specs.Calls.{ask_code, result_of}
-use Rattle.bus_semantics.specs.Legal.{is_outcome, calls_allow}
+use Rattle.bus_semantics.specs.Legal.{is_outcome, calls_allow, Answers}
 use Rattle.port_objects.specs.Freed.{is_free, IsUnconnected}
 
 -- ---- the deeds of such wishes
@@ -77,3 +77,21 @@ module _ (p : Plan) (a : Actor) (h : Past) (d c : Deed) (allowed : calls_allow p
       let value : there.value ≡ here.value = Value-by_words there.value here.value ((same_words-Decides (words_of there.value) []).0 parts.1 ∙ sym given.1) in
       there.is ∙ (λ i. deed.TakeResult q (as_code i) (value i)) ∙ sym here.is
   one_free w first by alone free wish codes other = absurd (false≢true free)
+
+-- ---- it may come
+
+module _ (p : Plan) (a : Actor) (h : Past) where
+  pub free_answers : (d : Deed) (by : ℕ) → is_free (wanted_by by d) ≡ true → object_of p a (wanted_by by d) ≡ None → IsUnconnected d
+      → Answers p h (record { entry = record { actor = a; deed = d }; event = None })
+  free_answers deed.End by free alone codes = record { unqueued = refl; queued = refl; calls = refl; areas = refl; modes = refl; admission = refl; due = refl }
+  free_answers (deed.Ask q value code) by free alone codes =
+      let none : server_of p q ≡ None = unjoined p (server_of p q) alone in
+      let answer : (code == ask_code p q h) ≡ true = eq-eqb code (ask_code p q h) (codes ∙ sym (code_there p q h none)) in
+      record { unqueued = refl; queued = refl; calls = answer; areas = refl; modes = refl; admission = refl; due = refl }
+  free_answers (deed.TakeResult q code value) by free alone codes =
+      let none : server_of p q ≡ None = unjoined p (server_of p q) alone in
+      let outcome : is_outcome code (words_of value) (134, []) ≡ true =
+      and_from (code == 134) (same_words (words_of value) []) (eq-eqb code 134 codes.0) ((same_words-Decides (words_of value) []).1 codes.1) in
+      let answer : is_outcome code (words_of value) (result_of p q h) ≡ true = subst (λ o. is_outcome code (words_of value) o ≡ true) (sym (result_there p q h none)) outcome in
+      record { unqueued = refl; queued = refl; calls = answer; areas = refl; modes = refl; admission = refl; due = refl }
+  free_answers d by free alone codes = absurd (false≢true free)

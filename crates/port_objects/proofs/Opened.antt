@@ -5,6 +5,7 @@ use Rattle.std.proofs.Math.Numerals.{suc-eq-add-one}
 use Rattle.std.proofs.lemmas.List.{append-nil, append_assoc, length-map, map_push}
 use Rattle.bus_semantics.specs.Plan.{Plan, positions}
 use Rattle.bus_semantics.specs.Objects.{first_server, first_area, first_machine, clock}
+use Rattle.bus_laws.proofs.Bundling.{bundles_counted}
 use Rattle.object_kinds.proofs.Positions.{length_positions, mapped_more}
 use Rattle.area_objects.specs.Kept as areas
 use Rattle.area_objects.specs.Layout.{IsArea}
@@ -16,6 +17,7 @@ use Rattle.port_objects.specs.declared.object.Object.{Object}
 use Rattle.port_objects.specs.Kept.{Kept, of_area, of_clock}
 use Rattle.port_objects.specs.Objects.{kept_of, IsOfPlan}
 use Rattle.port_objects.specs.Opening.{before_servers, before_areas, before_machines, before_clock, opening, opening_of_group, opening_of_server, opening_of_machine, AreFirst, AreMade}
+use Rattle.port_objects.specs.Plans.{HasObjects}
 use Rattle.port_objects.specs.Standing.{Stands}
 
 -- ---- one object more
@@ -78,19 +80,20 @@ row_more p before f n next objects new o number after first at keeps planned sta
 pub row_all : (p : Plan) (before : List Kept) (f : ℕ → Kept) (n many : ℕ) (objects : List Object) → n ≡ many → AreFirst p (before ++ map f (positions n)) objects → AreFirst p (before ++ map f (positions many)) objects
 row_all p before f n many objects all first = subst (λ k. AreFirst p (before ++ map f (positions k)) objects) all first
 
--- ---- numbers
+-- ---- numbers: each group is a bundle
 
-pub servers_from : (p : Plan) → length (before_servers p) ≡ first_server p
-servers_from p = length-map (positions (length p.groups)) (opening_of_group p) ∙ length_positions (length p.groups)
+module _ (p : Plan) (sound : HasObjects p) where
+  pub servers_from : length (before_servers p) ≡ first_server p
+  servers_from = length-map (positions (length p.groups)) (opening_of_group p) ∙ length_positions (length p.groups) ∙ sym (bundles_counted p sound.none_listed sound.bundles)
 
-pub areas_from : (p : Plan) → length (before_areas p) ≡ first_area p
-areas_from p = row_count (before_servers p) (opening_of_server p) (length p.servers) ∙ ap (λ n. n + length p.servers) (servers_from p)
+  pub areas_from : length (before_areas p) ≡ first_area p
+  areas_from = row_count (before_servers p) (opening_of_server p) (length p.servers) ∙ ap (λ n. n + length p.servers) servers_from
 
-pub machines_from : (p : Plan) → length (before_machines p) ≡ first_machine p
-machines_from p = row_count (before_areas p) (λ x. of_area areas.opening) (length p.areas) ∙ ap (λ n. n + length p.areas) (areas_from p)
+  pub machines_from : length (before_machines p) ≡ first_machine p
+  machines_from = row_count (before_areas p) (λ x. of_area areas.opening) (length p.areas) ∙ ap (λ n. n + length p.areas) areas_from
 
-pub clock_from : (p : Plan) → length (before_clock p) ≡ clock p
-clock_from p = row_count (before_machines p) (opening_of_machine p) (length p.machines) ∙ ap (λ n. n + length p.machines) (machines_from p)
+  pub clock_from : length (before_clock p) ≡ clock p
+  clock_from = row_count (before_machines p) (opening_of_machine p) (length p.machines) ∙ ap (λ n. n + length p.machines) machines_from
 
 -- ---- groups, areas and the clock
 
@@ -108,16 +111,16 @@ this_area p n within = record { from = omega arith; below = omega arith }
 pub first_stands : (p : Plan) (n : ℕ) → machine_standing.Keeps p (first_machine p + n) (machines.opening p (machine_of p (first_machine p + n))) [] → machine_standing.Keeps p (first_machine p + n) (machines.opening p n) []
 first_stands p n stands = let same : machine_of p (first_machine p + n) ≡ n = omega arith in subst (λ k. machine_standing.Keeps p (first_machine p + n) (machines.opening p k) []) same stands
 
-pub clock_more : (p : Plan) (objects new : List Object) (o : Object) → AreFirst p (before_clock p) objects → kept_of o ≡ of_clock (clocks.opening p)
+pub clock_more : (p : Plan) → HasObjects p → (objects new : List Object) (o : Object) → AreFirst p (before_clock p) objects → kept_of o ≡ of_clock (clocks.opening p)
     → IsOfPlan p (clock p) o → Stands p (clock p) (of_clock (clocks.opening p)) [] → new ≡ objects ++ o ∷ [] → AreMade p new
-clock_more p objects new o first keeps planned stands is = record {
+clock_more p sound objects new o first keeps planned stands is = record {
   kept = whole.keep;
   planned = record { count = sym (length-map new kept_of) ∙ ap length whole.keep ∙ opening_count; each = whole.planned };
   standing = whole.standing;
 }
   where
     whole : AreFirst p (opening p) new
-    whole = one_more p (before_clock p) (of_clock (clocks.opening p)) objects new o (clock p) first (clock_from p) keeps planned stands is
+    whole = one_more p (before_clock p) (of_clock (clocks.opening p)) objects new o (clock p) first (clock_from p sound) keeps planned stands is
 
     opening_count : length (opening p) ≡ suc (clock p)
-    opening_count = length-append (before_clock p) (of_clock (clocks.opening p) ∷ []) ∙ ap (λ k. k + 1) (clock_from p) ∙ sym (suc-eq-add-one (clock p))
+    opening_count = length-append (before_clock p) (of_clock (clocks.opening p) ∷ []) ∙ ap (λ k. k + 1) (clock_from p sound) ∙ sym (suc-eq-add-one (clock p))

@@ -15,8 +15,9 @@ use Rattle.bus_semantics.specs.declared.entries.Actor.{Actor}
 use Rattle.bus_semantics.specs.declared.entries.Actor.TheVariants.{Env, Machine, Act}
 use Rattle.bus_semantics.specs.declared.entries.Deed.{Deed}
 use Rattle.bus_semantics.specs.declared.entries.Deed.TheVariants as deed
-use Rattle.bus_semantics.specs.Plan.{Plan, look, every_from, group_of, kind_of, instance_of, server_of, machine_of_port}
-use Rattle.bus_semantics.specs.Wanted.{Wanted, to_tick, to_start, to_admit, to_fetch, to_write, to_read, to_invalidate, to_see_updated, to_send, to_receive, to_ask, to_hear, to_take_result, to_return, to_enter, to_leave, to_switch, to_see_mode, to_move_on, to_publish, to_end, wanted_by}
+use Rattle.bus_semantics.specs.Plan.{Plan, look, every_from, kind_of, instance_of, server_of, machine_of_port}
+use Rattle.bus_semantics.specs.Bundles.{bundle_of, bundle_of_list}
+use Rattle.bus_semantics.specs.Wanted.{Wanted, to_tick, to_start, to_admit, to_fetch, to_write, to_read, to_invalidate, to_see_updated, to_send, to_receive, to_ask, to_hear, to_take_result, to_return, to_enter, to_leave, to_switch, to_see_mode, to_move_on, to_publish, to_fetch_all, to_publish_all, to_end, wanted_by}
 use Rattle.bus_semantics.specs.History.{Noted}
 use Rattle.bus_semantics.specs.Objects.{first_server, first_area, first_machine, clock, object_of, object_of_kind, disabler_of, machine_of_event, owing, served_by, touched_by, IsObject}
 use Rattle.bus_semantics.specs.Owners.{area_fits, switch_fits}
@@ -31,12 +32,13 @@ use Rattle.server_objects.specs.Plans.{AreJoined}
 use Rattle.machine_objects.specs.Layout.{IsMachine}
 use Rattle.machine_objects.specs.Plans.{AreTheirs}
 use Rattle.clock_objects.specs.Layout.{has_period}
-use Rattle.object_kinds.specs.Layout.{members_of}
+use Rattle.object_kinds.specs.Layout.{IsAlone, members_of}
+use Rattle.object_kinds.proofs.Alone.{each_alone}
 use Rattle.object_kinds.proofs.Lists.{all_at}
-use Rattle.object_kinds.proofs.Members.{group_within, member_placed, members_all}
+use Rattle.object_kinds.proofs.Members.{member_placed, members_all}
 use Rattle.object_kinds.proofs.Placing.{place_at}
 use Rattle.object_kinds.proofs.Proper.{by_actor}
-use Rattle.object_kinds.proofs.Ranges.{sought, kind_fits, invoked_server, switching_machine, acked_machine, disabling_machine, joined_server, port_machine, serving_server}
+use Rattle.object_kinds.proofs.Ranges.{sought, kind_fits, bundle_within, list_within, invoked_server, switching_machine, acked_machine, disabling_machine, joined_server, port_machine, serving_server}
 use Rattle.port_objects.specs.Plans.{has_queues, QueuesFit, IsOfOneKind, HasObjects}
 
 all_where : {X : Type 0} (test : X → Bool) (xs : List X) → ((i : ℕ) (x : X) → slice_get xs i ≡ Some x → test x ≡ true) → list_all test xs ≡ true
@@ -53,8 +55,8 @@ by_first p g [] none whole x inside queued = let at = member_placed p g x inside
 by_first p g (y ∷ ys) first whole x inside queued =
     (and_parts (is_queued_at p y) (list_all (is_queued_at p) ys) (sym (ap (list_all (is_queued_at p)) first) ∙ (whole g x inside queued).queued)).0
 
-one_kind : (p : Plan) (g : ℕ) → g < length p.groups → QueuedWhole p → (IsQueuedGroup p g → sum (map (places_at p) (receivers_of p g)) < 2 ^ 32) → (b : Bool) → has_queues p g ≡ b → IsOfOneKind p g b
-one_kind p g within whole few true is = by_members (members_of p g) refl is
+one_kind : (p : Plan) (g : ℕ) → g < length p.groups → IsAlone p g → QueuedWhole p → (IsQueuedGroup p g → sum (map (places_at p) (receivers_of p g)) < 2 ^ 32) → (b : Bool) → has_queues p g ≡ b → IsOfOneKind p g b
+one_kind p g within alone whole few true is = by_members (members_of p g) refl is
   where
     by_members : (xs : List ℕ) → members_of p g ≡ xs → look xs 0 (is_queued_at p) false ≡ true → QueuesFit p g
     by_members [] none first = absurd (false≢true first)
@@ -62,7 +64,7 @@ one_kind p g within whole few true is = by_members (members_of p g) refl is
         let inside : is_in_group p g y ≡ true = all_at (is_in_group p g) (members_of p g) 0 y (members_all p g) (ap (λ xs. slice_get xs 0) members) in
         let queued = whole g y inside first in
         record { queued = queued; places = few queued }
-one_kind p g within whole few false is = record { number = within; unqueued = none_queued (members_of p g) (members_all p g) }
+one_kind p g within alone whole few false is = record { number = within; alone = alone; unqueued = none_queued (members_of p g) (members_all p g) }
   where
     is_unqueued : (x : ℕ) → is_in_group p g x ≡ true → (b : Bool) → is_queued_at p x ≡ b → not b ≡ true
     is_unqueued x inside false queued = refl
@@ -74,20 +76,21 @@ one_kind p g within whole few false is = record { number = within; unqueued = no
         let parts = and_parts (is_in_group p g x) (list_all (is_in_group p g) xs) all in
         λ i. is_unqueued x parts.0 (is_queued_at p x) refl i && none_queued xs parts.1 i
 
-pub has_objects : (p : Plan) (m : Mapping) → (sound : IsSound p m) → length p.points < 2 ^ 32 → ((group elem : ℕ) → IsSound p m → is_in_group p group elem ≡ true → is_queued_at p elem ≡ true → IsQueuedGroup p group)
+pub has_objects : (p : Plan) (m : Mapping) → (sound : IsSound p m) → ((group elem : ℕ) → IsSound p m → is_in_group p group elem ≡ true → is_queued_at p elem ≡ true → IsQueuedGroup p group)
     → ((group : ℕ) → IsSound p m → IsQueuedGroup p group → sum (map (places_at p) (receivers_of p group)) < 2 ^ 32)
     → ((server : ℕ) → IsSound p m → server < length p.servers → IsServer p (first_server p + server)) → (IsSound p m → AreJoined p)
     → ((object : ℕ) → IsSound p m → first_machine p ≤ object → object < clock p → IsMachine p object) → (IsSound p m → AreTheirs p) → HasObjects p
-has_objects p m sound few_points whole few servers joined machines theirs = record {
+has_objects p m sound whole few servers joined machines theirs = record {
   groups = sound.groups;
-  kinds = λ g within. one_kind p g within (λ h x. whole h x sound) (few g sound) (has_queues p g) refl;
+  bundles = sound.bundles;
+  none_listed = sound.none_listed;
+  kinds = λ g within. one_kind p g within (each_alone p sound.none_listed sound.bundles g within) (λ h x. whole h x sound) (few g sound) (has_queues p g) refl;
   servers = λ s within. servers s sound within;
   joined = joined sound;
   machines = λ n within. machines (first_machine p + n) sound (omega arith) (omega (arith, within));
   theirs = theirs sound;
   counted = sound.objects;
   few_events = (and_parts (every_from 0 (event_sound p) p.events) (nat_le (length p.events) 16384) sound.events).1;
-  few_points = few_points;
   periods = all_where (λ (v : EventPlan). has_period v.kind) p.events (λ i v there. of_kind i v.runnable (instance_of p v.runnable) v.kind (kind_fits p m sound i v there));
 }
   where
@@ -110,16 +113,22 @@ where_mapped f (Some n) P each = each n refl
 
 module _ (p : Plan) (m : Mapping) (sound : IsSound p m) where
   counted : p.objects ≡ clock p + 1
-  counted = eqb-true p.objects (clock p + 1) (and_parts (p.objects == clock p + 1) (nat_le p.objects 16384) sound.objects).0
+  counted = eqb-true p.objects (clock p + 1) (and_parts (p.objects == clock p + 1) _ sound.objects).0
 
   the_clock : IsObject p (clock p)
   the_clock = let all = counted in omega arith
 
-  a_group : (x : ℕ) → IfSome (group_of p x) (IsObject p)
-  a_group x = where_some (group_of p x) (IsObject p) (λ n is. within n (group_within p x n sound.groups is))
+  a_bundle : (o : Option ℕ) → ((b : ℕ) → o ≡ Some b → b < length p.bundles) → IfSome o (IsObject p)
+  a_bundle o below = where_some o (IsObject p) (λ n is. within n (below n is))
     where
-      within : (n : ℕ) → n < length p.groups → IsObject p n
+      within : (n : ℕ) → n < length p.bundles → IsObject p n
       within n less = let all = counted in omega arith
+
+  of_element : (x : ℕ) → IfSome (bundle_of p x) (IsObject p)
+  of_element x = a_bundle (bundle_of p x) (bundle_within p m sound x)
+
+  of_list : (l : ℕ) → IfSome (bundle_of_list p l) (IsObject p)
+  of_list l = a_bundle (bundle_of_list p l) (list_within p m sound l)
 
   a_server : (o : Option ℕ) → ((s : ℕ) → o ≡ Some s → s < length p.servers) → IfSome (option_map (λ n. first_server p + n) o) (IsObject p)
   a_server o below = where_mapped (λ n. first_server p + n) o (IsObject p) (λ n is. within n (below n is))
@@ -142,7 +151,7 @@ module _ (p : Plan) (m : Mapping) (sound : IsSound p m) where
   of_event : (e : ℕ) (k : EventKind) → kind_of p e ≡ k → IfSome (object_of_kind p k) (IsObject p)
   of_event e (Timing period) is = the_clock
   of_event e Init is = the_clock
-  of_event e (DataReceived x) is = a_group x
+  of_event e (DataReceived x) is = of_element x
   of_event e (Invoked s) is = let less = invoked_server p m sound e s is in let all = counted in omega arith
   of_event e (Returns q) is = a_server (server_of p q) (joined_server p m sound q)
   of_event e (ModeSwitch n moment) is = this_machine n (switching_machine p m sound e n moment is)
@@ -170,14 +179,16 @@ module _ (p : Plan) (m : Mapping) (sound : IsSound p m) where
   touches_an_object a to_tick fit = the_clock
   touches_an_object a (to_start e) fit = of_event e (kind_of p e) refl
   touches_an_object a (to_admit e) fit = a_machine (disabler_of p e) (disabling_machine p m sound e)
-  touches_an_object a (to_fetch x) fit = a_group x
-  touches_an_object a (to_write x ws) fit = a_group x
-  touches_an_object a (to_read x) fit = a_group x
-  touches_an_object a (to_invalidate x) fit = a_group x
-  touches_an_object a (to_see_updated x) fit = a_group x
-  touches_an_object a (to_send x ws) fit = a_group x
-  touches_an_object a (to_receive x) fit = a_group x
-  touches_an_object a (to_publish x ws) fit = a_group x
+  touches_an_object a (to_fetch x) fit = of_element x
+  touches_an_object a (to_write x ws) fit = of_element x
+  touches_an_object a (to_read x) fit = of_element x
+  touches_an_object a (to_invalidate x) fit = of_element x
+  touches_an_object a (to_see_updated x) fit = of_element x
+  touches_an_object a (to_send x ws) fit = of_element x
+  touches_an_object a (to_receive x) fit = of_element x
+  touches_an_object a (to_publish x ws) fit = of_element x
+  touches_an_object a (to_fetch_all l) fit = of_list l
+  touches_an_object a (to_publish_all l written ws) fit = of_list l
   touches_an_object a (to_ask q ws) fit = a_server (server_of p q) (joined_server p m sound q)
   touches_an_object a (to_hear q) fit = a_server (server_of p q) (joined_server p m sound q)
   touches_an_object a (to_take_result q) fit = a_server (server_of p q) (joined_server p m sound q)

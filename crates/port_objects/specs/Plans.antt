@@ -4,6 +4,8 @@ use Rattle.bus_semantics.specs.Plan.{Plan, look}
 use Rattle.bus_semantics.specs.Objects.{first_server, first_machine}
 use Rattle.bus_semantics.specs.Queued.{places_at}
 use Rattle.bus_semantics.specs.SoundPlan.{groups_fit, objects_counted}
+use Rattle.bus_semantics.specs.SoundLists.{bundles_fit}
+use Rattle.bus_semantics.specs.Sound.{NoneListed}
 use Rattle.object_kinds.specs.Layout.{members_of}
 use Rattle.data_objects.specs.Layout.{IsUnqueuedGroup}
 use Rattle.queue_objects.specs.Layout.{receivers_of, is_queued_at, IsQueuedGroup}
@@ -27,10 +29,12 @@ abbrev pub IsOfOneKind : Plan → (group : ℕ) → (queued : Bool) → Type 0
 IsOfOneKind p g true = QueuesFit p g
 IsOfOneKind p g false = IsUnqueuedGroup p g
 
--- groups list their elements and are of one kind each, servers and machines are such that are made and own the points and events that name
--- them, the objects and events are counted, 32 bits number the points, and no period is empty
+-- groups list their elements and are of one kind each, bundles list their groups, for now no runnable has a coherent list, servers and
+-- machines are such that are made and own the points and events that name them, the objects and events are counted, and no period is empty
 pub record HasObjects (p : Plan) : Type 0 where
   pub groups : groups_fit p ≡ true
+  pub bundles : bundles_fit p ≡ true
+  pub none_listed : NoneListed p
   pub kinds : (group : ℕ) → group < length p.groups → IsOfOneKind p group (has_queues p group)
   pub servers : (server : ℕ) → server < length p.servers → IsServer p (first_server p + server)
   pub joined : AreJoined p
@@ -38,5 +42,4 @@ pub record HasObjects (p : Plan) : Type 0 where
   pub theirs : AreTheirs p
   pub counted : objects_counted p ≡ true
   pub few_events : nat_le (length p.events) 16384 ≡ true
-  pub few_points : length p.points < 2 ^ 32
   pub periods : have_periods p ≡ true

@@ -32,6 +32,7 @@ may_start_in (of_clock k) e = clocks.may_start k e
 abbrev pub wakes : Deed → Bool
 wakes (deed.Write x value) = true
 wakes (deed.Publish x value) = true
+wakes (deed.PublishAll l written value) = true
 wakes (deed.Send x value code) = true
 wakes deed.Tick = true
 wakes (deed.Ask q value code) = true

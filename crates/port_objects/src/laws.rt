@@ -57,10 +57,10 @@ pub fn leads_miss_nothing()
     clock_objects::leads_miss_nothing();
 }
 
-/// A sound plan whose points 32 bits number has what `make_objects` asks of a plan, and what a wish that fits its actor touches is an
+/// A sound plan has what `make_objects` asks of a plan, and what a wish that fits its actor touches is an
 /// object of the plan; so is what an entry that fits touches.
 pub fn sound_plans_have_objects()
-    ensures asked { (p : Plan) (m : Mapping) → IsSound p m → length p.points < 2 ^ 32 → HasObjects p }
+    ensures asked { (p : Plan) (m : Mapping) → IsSound p m → HasObjects p }
     ensures touched { (p : Plan) (m : Mapping) (a : Actor) (w : Wanted) → IsSound p m → wish_fits p a w ≡ true →
         IfSome (object_of p a w) (IsObject p) }
     ensures entered { (p : Plan) (m : Mapping) (n : Noted) → IsSound p m → fits p n.entry ≡ true → IfSome (touched_by p n) (IsObject p) }

@@ -29,10 +29,10 @@ pub use making::make_objects;
 pub use object::Object;
 pub use object_kinds::{Acted, Shown};
 pub use plain_bench::PlainBench;
-pub use touching::touched_object;
+pub use touching::{machine_of, touched_object};
 pub use waking::{
     answers_go_by_flags, heard, held_starts_lead_nowhere, may_start, other_entries_wake_nothing,
-    woken,
+    wakes, woken,
 };
 pub use writing::{last_entries_are_last, last_written};
 

@@ -21,9 +21,9 @@ use queue_objects::QueueGroup;
 use server_objects::{ServerObject, joined_points, return_events};
 use std::alloc::Global;
 
-/// The objects of a plan, to which nothing has happened: one for each group, one for each server, one for each area, one for each mode
-/// machine, and then the clock, so that each stands at its number. The only error is that there is no memory for them; what comes later
-/// on them takes none.
+/// The objects of a plan, to which nothing has happened: one for each group, which is a bundle by itself, one for each server, one
+/// for each area, one for each mode machine, and then the clock, so that each stands at its number. The only error is that there is
+/// no memory for them; what comes later on them takes none.
 pub fn make_objects(alloc: Global, p: &BusPlan) -> Result<Vec<Object>, Memory>
     requires sound { HasObjects (plan_of p.now) }
     ensures kept { IfOk result (λ objects. map kept_of objects.items ≡ opening (plan_of p.now)) }

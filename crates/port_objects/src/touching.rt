@@ -1,10 +1,10 @@
 //! The object that an entry touches.
 
-ghost use Rattle.std.specs.Prelude.{◌≡◌, IfSome, option_and_then};
+ghost use Rattle.std.specs.Prelude.{◌≡◌, ◌+◌, ℕ, IfSome, Some, option_and_then};
 ghost use Rattle.bus_semantics.specs.declared.entries.Actor.{Actor};
 ghost use Rattle.bus_semantics.specs.Plan.{Plan, plan_of};
 ghost use Rattle.bus_semantics.specs.Wanted.{wanted_of};
-ghost use Rattle.bus_semantics.specs.Objects.{object_of, touched_by, IsObject};
+ghost use Rattle.bus_semantics.specs.Objects.{first_machine, object_of, touched_by, IsObject};
 
 use bus_semantics::{BusPlan, Deed, Entry, Wish, object_of};
 use rte_value::Value;
@@ -23,9 +23,19 @@ pub fn touched_object(p: &BusPlan, entry: &Entry, event: Option<u32>) -> Option<
         | Deed::IsUpdated { elem, .. }
         | Deed::Send { elem, .. }
         | Deed::Receive { elem, .. }
-        | Deed::Publish { elem, .. } => p.group_of(*elem),
+        | Deed::Publish { elem, .. } => p.bundle_of(*elem),
+        Deed::FetchAll { list, .. } | Deed::PublishAll { list, .. } => p.bundle_of_list(*list),
         _ => touched_by_wish(p, entry, event),
     }
+}
+
+/// The machine whose object has this number, if it is one's. Numbers behind the machines give one that there is not.
+pub fn machine_of(p: &BusPlan, object: u32) -> Option<usize>
+    ensures { (machine : ℕ) → object ≡ first_machine (plan_of p.now) + machine → result ≡ Some machine }
+{
+    let server = (object as usize).checked_sub(p.bundles.len())?;
+    let area = server.checked_sub(p.servers.len())?;
+    area.checked_sub(p.areas.len())
 }
 
 /// The object that an entry touches, found by a wish. (Apart from the rest, since room for a wish is taken at each call.)
@@ -57,6 +67,9 @@ fn bare_wish(deed: &Deed, event: Option<u32>) -> Option<Wish>
         | Deed::Send { elem, .. }
         | Deed::Receive { elem, .. }
         | Deed::Publish { elem, .. } => Wish::Fetch { elem: *elem },
+        Deed::FetchAll { list, .. } | Deed::PublishAll { list, .. } => {
+            Wish::FetchAll { list: *list }
+        }
         Deed::Ask { point, .. } | Deed::Answer { point, .. } | Deed::TakeResult { point, .. } => {
             Wish::Answer { point: *point }
         }

@@ -15,6 +15,7 @@ ghost use Rattle.port_objects.specs.Objects.{kept_of};
 ghost use Rattle.port_objects.specs.Waking.{heard_in, may_hear_in, may_start_in, wakes, woken_in};
 
 use crate::object::Object;
+use bus_semantics::Deed;
 
 /// Whether a start by an event may come on an object, for an activation that serves no single point (SWS_RTE: activation of
 /// runnables). It changes nothing.
@@ -55,6 +56,25 @@ pub fn heard(object: &Object) -> Option<u32>
     match object {
         Object::Server(server) => server.heard(),
         _ => None,
+    }
+}
+
+/// Whether an entry of a deed can make a start come (SWS_RTE: activation of runnables): new data, a tick, a request, what ends one, and
+/// what moves a machine on.
+pub fn wakes(deed: &Deed) -> bool
+    ensures { result ≡ wakes deed.now }
+{
+    match deed {
+        Deed::Write { .. }
+        | Deed::Publish { .. }
+        | Deed::PublishAll { .. }
+        | Deed::Send { .. }
+        | Deed::Tick
+        | Deed::Ask { .. }
+        | Deed::Return { .. }
+        | Deed::Phase(_)
+        | Deed::End => true,
+        _ => false,
     }
 }
 

@@ -12,7 +12,7 @@ use Rattle.bus_semantics.specs.Activations.{declared_code, results, returning}
 use Rattle.program_steps.specs.Served.{served, return_of}
 
 abbrev serving : Runnable → Option ℕ → Runnable
-serving r server = record { instance = r.instance; name = r.name; program = r.program; accesses = r.accesses; targets = r.targets; server = server }
+serving r server = record { instance = r.instance; name = r.name; program = r.program; accesses = r.accesses; targets = r.targets; server = server; lists = r.lists }
 
 looked : (o : Option ServerPlan) (s : State) (answers : List Deed) → option_map_or (λ (v : ServerPlan). calling (to_return (declared_code v.errors (get_or s.vars (length v.arguments) (pos 0))) (results v.arguments s.vars)) takes_nothing) o nothing s answers ≡ return_of o s answers
 looked None s answers = refl

@@ -52,8 +52,8 @@ module _ (a : Activation) (f q : Part) (r : Part) where
       ap (resumed_all a behind) (sym (admits (plan_in a) a.event false s answers is))
       ∙ sym (after_admission (admitting (plan_in a) a.event s answers))
 
-  module _ (fetches : resumed a f ≡ fetching (runnable_in a).accesses (runnable_in a).targets) (runs : resumed a r ≡ run_program (runnable_in a) (runnable_in a).program.body)
-      (publishes : resumed a q ≡ publishing (runnable_in a).accesses (runnable_in a).targets) where
+  module _ (fetches : resumed a f ≡ fetching (plan_in a) (runnable_in a)) (runs : resumed a r ≡ run_program (runnable_in a) (runnable_in a).program.body)
+      (publishes : resumed a q ≡ publishing (plan_in a) (runnable_in a)) where
     whole_is : whole ≡ activity (plan_in a) (runnable_in a) a.event
     whole_is = λ i. both (admitting (plan_in a) a.event) (both (fetches i) (both (runs i) (both (publishes i) (both (returning (plan_in a) (runnable_in a)) (ending a.event)))))
 

@@ -5,6 +5,7 @@ use Rattle.bus_semantics.specs.declared.plan.BusPlan.{BusPlan}
 use Rattle.bus_semantics.specs.declared.plan.RunnablePlan.{RunnablePlan}
 use Rattle.bus_semantics.specs.declared.accesses.Access as declared_access
 use Rattle.bus_semantics.specs.Plan.{Runnable, plan_of, runnable_of}
+use Rattle.bus_semantics.specs.Sound.{NoneListed}
 use Rattle.implicit_buffers.specs.declared.planning.BufferPlan.{BufferPlan}
 use Rattle.implicit_buffers.specs.Buffers.{fetched_by, published_by}
 use Rattle.program_steps.specs.Found.{Key, AreFound}
@@ -21,3 +22,4 @@ pub record IsOfPlan {S : Type 0} (p : BusPlan) (buffers : BufferPlan) (maps : Li
   pub found : AreFoundIn p.runnables maps
   pub words : (i : ℕ) (r : Runnable) → slice_get (plan_of p).runnables i ≡ Some r → GivesFewWords r
   pub arguments : (i : ℕ) (r : Runnable) → slice_get (plan_of p).runnables i ≡ Some r → HasFewArguments (plan_of p) r
+  pub none_listed : NoneListed (plan_of p)

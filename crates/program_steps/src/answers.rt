@@ -13,6 +13,7 @@ pub fn value_of_answer(answer: &Deed) -> Value
 {
     match answer {
         Deed::Fetch { value, .. }
+        | Deed::FetchAll { value, .. }
         | Deed::Read { value, .. }
         | Deed::Receive { value, .. }
         | Deed::Answer { value, .. }

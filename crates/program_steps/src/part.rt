@@ -1,6 +1,7 @@
 //! What is left of an activation, and the call where it stands.
 
 ghost use Rattle.bus_semantics.specs.Plan.{plan_of, runnable_of};
+ghost use Rattle.bus_semantics.specs.Sound.{NoneListed};
 ghost use Rattle.program_steps.specs.Found.{AreFound};
 ghost use Rattle.program_steps.specs.Few.{GivesFewWords, HasFewArguments};
 
@@ -19,6 +20,7 @@ pub struct Activation<'a, 'p> {
     ghost all: { AreFound (runnable_of runnable.now) found.now },
     ghost words: { GivesFewWords (runnable_of runnable.now) },
     ghost arguments: { HasFewArguments (plan_of plan.now) (runnable_of runnable.now) },
+    ghost none_listed: { NoneListed (plan_of plan.now) },
 }
 
 /// A part of an activation that is left to do.

@@ -5,7 +5,7 @@ use Rattle.std.specs.List.{Contains, list_all, slice_get}
 use Rattle.std.specs.Option.{option_map_or}
 use Rattle.std.proofs.lemmas.Bool.{and_parts, eq-eqb, eqb-true, false≢true}
 use Rattle.rte_value.specs.declared.value.Value.{Value}
-use Rattle.rte_value.specs.Values.{words_of, same_words, same_number}
+use Rattle.rte_value.specs.Values.{words_of, same_words}
 use Rattle.rte_value.specs.ShortValues.{empty_value}
 use Rattle.rte_value.specs.EqualValues.{same_words-Decides}
 use Rattle.bus_semantics.specs.declared.plan.ElemPlan.{ElemPlan}
@@ -14,7 +14,8 @@ use Rattle.bus_semantics.specs.declared.plan.EventKind.TheVariants.{DataReceived
 use Rattle.bus_semantics.specs.declared.entries.Actor.{Actor}
 use Rattle.bus_semantics.specs.declared.entries.Deed.{Deed}
 use Rattle.bus_semantics.specs.declared.entries.Deed.TheVariants as deed
-use Rattle.bus_semantics.specs.Plan.{Plan, look, kind_of, group_of}
+use Rattle.bus_semantics.specs.Plan.{Plan, look, kind_of}
+use Rattle.bus_semantics.specs.Bundles.{bundle_of}
 use Rattle.bus_semantics.specs.Wanted.{Wanted, to_start, to_send, to_receive}
 use Rattle.bus_semantics.specs.Owners.{is_queued, holds}
 use Rattle.bus_semantics.specs.Fitting.{wish_fits, answer_fits, start_fits}
@@ -36,6 +37,7 @@ use Rattle.object_kinds.proofs.Members.{member_of, member_placed}
 use Rattle.object_kinds.proofs.Options.{then_some}
 use Rattle.object_kinds.proofs.Placing.{place_at}
 use Rattle.object_kinds.proofs.Proper.{by_actor}
+use Rattle.object_kinds.proofs.Touching.{bundled_inside}
 use Rattle.queue_objects.specs.Acting.{is_bare, Leads, Holds, IsActed, IsTaken}
 use Rattle.queue_objects.specs.Kept.{Kept, GroupState, may_start}
 use Rattle.queue_objects.specs.Layout.{is_joined_at, waits_for_receiver, words_at, words_in}
@@ -118,7 +120,7 @@ module _ (p : Plan) (a : Actor) (x : ℕ) (receivers events woken : List ℕ) (k
   }
 
 -- the words of a send that fits are as many as a value of the group has
-pub sent_words : (p : Plan) (a : Actor) (g x : ℕ) (ws : List ℤ) (k : Kept) → wish_fits p a (to_send x ws) ≡ true → group_of p x ≡ Some g → IsOfPlan p g k → length ws ≡ k.queued.words
+pub sent_words : (p : Plan) (a : Actor) (g x : ℕ) (ws : List ℤ) (k : Kept) → wish_fits p a (to_send x ws) ≡ true → bundle_of p x ≡ Some g → IsOfPlan p g k → length ws ≡ k.queued.words
 sent_words p a g x ws k fit there planned =
     let held : (e : ElemPlan) → ((is_queued e && e.provided) && holds ws e) ≡ true → holds ws e ≡ true = λ e is. (and_parts (is_queued e && e.provided) (holds ws e) is).1 in
     let holding : look p.elements x (holds ws) false ≡ true =
@@ -126,7 +128,7 @@ sent_words p a g x ws k fit there planned =
     (λ fits. said_by p _ (λ e. (is_queued e && e.provided) && holds ws e) (holds ws) x held fits)
     (λ key fits. said_by p _ (λ e. (is_queued e && e.provided) && holds ws e) (holds ws) x held fits)
     (λ n less fits. absurd (false≢true fits)) in
-    let inside : is_in_group p g x ≡ true = ap (λ o. same_number o (Some g)) there ∙ eq-eqb g g refl in
+    let inside : is_in_group p g x ≡ true = bundled_inside p g x planned.is_group.alone there in
     let m = member_of p g x inside in
     let at = member_placed p g x inside in
     let long : length ws ≡ m.elem.words = eqb-true (length ws) m.elem.words (sym (ap (λ o. option_map_or (holds ws) o false) m.found) ∙ holding) in

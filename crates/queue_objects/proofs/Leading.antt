@@ -33,6 +33,7 @@ use Rattle.object_kinds.proofs.Members.{member_of}
 use Rattle.object_kinds.proofs.Options.{given_some, then_some, mapped_some}
 use Rattle.object_kinds.proofs.Placing.{place_at}
 use Rattle.object_kinds.proofs.Proper.{noting, answer_part, admitted}
+use Rattle.object_kinds.proofs.Touching.{touched_inside}
 use Rattle.queue_objects.specs.Kept.{Kept}
 use Rattle.queue_objects.specs.Layout.{is_receiver_at, is_joined_at, waits_for_receiver}
 use Rattle.queue_objects.specs.Leading.{is_received, received_at_place, is_unconnected, lead_of_queues, with_queues, lead}
@@ -130,7 +131,8 @@ module _ (p : Plan) (g : ℕ) (k : Kept) (after : ports.Kept) (l : Past) (keeps 
       → lead_of_queues p k.receivers k.events k.queued (deed.Send x value code) ≡ Some after → Led p g (with_queues k after) l (noting a (deed.Send x value code) event)
   send_led x code value touching proper leads =
       let gives = given_some (code == ports.answer_to_send k.queued) (ports.after_send value k.queued) after leads in
-      let m = member_of p g x touching in
+      let inside = touched_inside p g x keeps.is_group.alone touching in
+      let m = member_of p g x inside in
       record {
         follows = record {
           touching = touching;
@@ -146,7 +148,7 @@ module _ (p : Plan) (g : ℕ) (k : Kept) (after : ports.Kept) (l : Past) (keeps 
           };
           matching = refl;
         };
-        keeps = subst (λ z. Keeps p g (with_queues k z) (noting a (deed.Send x value code) event ∷ l)) gives.same (send_keeps p g k l keeps order a event x code value touching);
+        keeps = subst (λ z. Keeps p g (with_queues k z) (noting a (deed.Send x value code) event ∷ l)) gives.same (send_keeps p g k l keeps order a event x code value inside);
       }
 
   receive_follows : (x code : ℕ) (value : Value) → touches p g (noting a (deed.Receive x code value) event) ≡ true → is_proper p (noting a (deed.Receive x code value) event) ≡ true

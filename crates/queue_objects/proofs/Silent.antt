@@ -28,6 +28,7 @@ use Rattle.bus_semantics.specs.SoundPlan.{is_variable}
 use Rattle.bus_semantics.specs.SoundElements.{agrees, has_side, count_side}
 use Rattle.bus_semantics.specs.SoundEvents.{kind_sound}
 use Rattle.bus_semantics.specs.Sound.{IsSound}
+use Rattle.bus_laws.proofs.Bundling.{stores_nothing}
 use Rattle.object_kinds.proofs.Lists.{all_at}
 use Rattle.object_kinds.proofs.Members.{member_of, member_placed}
 use Rattle.object_kinds.proofs.Options.{clash}
@@ -126,6 +127,7 @@ module _ (p : Plan) (m : Mapping) (sound : IsSound p m) where
           by_group : (b : Bool) → is_in_group p g y ≡ b → is_some (if b then Some (words_of value) else None) ≡ false
           by_group true there = none_unqueued p g y is_group there (publish_unqueued p a event y value proper)
           by_group false there = refl
+      stores_none (deed.PublishAll list written value) proper = ap is_some (stores_nothing p sound.none_listed g list written (words_of value))
       stores_none d proper = refl
 
       sends_none : (d : Deed) → is_proper p (noting a d event) ≡ true → is_some (sent_in p g d) ≡ false

@@ -1,8 +1,31 @@
-//! Copies of programs and of expressions.
+//! Copies of expressions.
 
-mod expressions;
-mod plain;
-mod statements;
+ghost use Rattle.std.specs.Prelude.{◌≡◌, IfOk};
+ghost use Rattle.runnable_lang.specs.Trees.{combined, expr_tree};
 
-pub use expressions::copy_expr;
-pub use statements::copy_program;
+use crate::stmt::{Expr, Op};
+use rte_text::Memory;
+use std::alloc::Global;
+
+fn combine(alloc: Global, op: Op, first: Expr, second: Expr) -> Result<Expr, Memory>
+    ensures { IfOk result (λ e. expr_tree e ≡ combined op (expr_tree first) (expr_tree second)) }
+{
+    let first = Box::new(alloc, first)?;
+    let second = Box::new(alloc, second)?;
+    Ok(Expr::Bin(op, first, second))
+}
+
+/// A copy of the expression.
+pub fn copy_expr(alloc: Global, e: &Expr) -> Result<Expr, Memory>
+    ensures { IfOk result (λ copy. expr_tree copy ≡ expr_tree e.now) }
+{
+    match e {
+        Expr::Const(word) => Ok(Expr::Const(*word)),
+        Expr::Var(number) => Ok(Expr::Var(*number)),
+        Expr::Bin(op, first, second) => {
+            let first = copy_expr(alloc, first)?;
+            let second = copy_expr(alloc, second)?;
+            combine(alloc, *op, first, second)
+        }
+    }
+}

@@ -14,7 +14,7 @@ use Rattle.bus_semantics.specs.declared.entries.Actor.TheVariants.{Env, Machine,
 use Rattle.bus_semantics.specs.declared.entries.Deed.{Deed}
 use Rattle.bus_semantics.specs.declared.entries.Deed.TheVariants as deed
 use Rattle.bus_semantics.specs.declared.entries.Entry.{Entry}
-use Rattle.same_entries.specs.Sames.{same_answer, same_answered, same_deed, same_maker, same_step}
+use Rattle.same_entries.specs.Sames.{same_answer, same_answered, same_deed, same_listed, same_maker, same_step}
 
 -- ---- parts
 
@@ -86,6 +86,17 @@ phase_itself step.Transition = refl
 phase_itself step.Entry = refl
 phase_itself step.Stable = refl
 
+listed_deed : (d f : Deed) → same_listed d f ≡ true → d ≡ f
+listed_deed (deed.FetchAll a v) (deed.FetchAll b w) e = valued a b v w (λ n value. deed.FetchAll n value) e
+listed_deed (deed.PublishAll a m v) (deed.PublishAll b n w) e =
+    let parts = and_parts (a == b) ((m == n) && same_value v w) e in
+    let lists : a ≡ b = eqb-true a b parts.0 in
+    let more = and_parts (m == n) (same_value v w) parts.1 in
+    let marks : m ≡ n = eqb-true m n more.0 in
+    let values : v ≡ w = (same_value-Decides v w).0 more.1 in
+    λ i. deed.PublishAll (lists i) (marks i) (values i)
+listed_deed d f e = absurd (false≢true e)
+
 answered_deed : (d f : Deed) → same_answered d f ≡ true → d ≡ f
 answered_deed (deed.Start a q v) (deed.Start b r w) e =
     let parts = and_parts (a == b) (same_number q r && same_value v w) e in
@@ -101,7 +112,7 @@ answered_deed (deed.Ask a v c) (deed.Ask b w d) e = answered a b c d v w (λ n c
 answered_deed (deed.Answer a c v) (deed.Answer b d w) e = answered a b c d v w (λ n code value. deed.Answer n code value) e
 answered_deed (deed.TakeResult a c v) (deed.TakeResult b d w) e = answered a b c d v w (λ n code value. deed.TakeResult n code value) e
 answered_deed (deed.Return c v) (deed.Return d w) e = valued c d v w (λ code value. deed.Return code value) e
-answered_deed d f e = absurd (false≢true e)
+answered_deed d f e = listed_deed d f e
 
 equal_deed : (d f : Deed) → same_deed d f ≡ true → d ≡ f
 equal_deed deed.Tick deed.Tick e = refl
@@ -151,6 +162,8 @@ deed_itself (deed.Switch a m c) = and_from (a == a) ((m == m) && (c == c)) (eq-e
 deed_itself (deed.Mode a m) = and_from (a == a) (m == m) (eq-eqb a a refl) (eq-eqb m m refl)
 deed_itself (deed.Phase s) = phase_itself s
 deed_itself (deed.Publish a v) = valued_itself a v
+deed_itself (deed.FetchAll a v) = valued_itself a v
+deed_itself (deed.PublishAll a m v) = answered_itself a m v
 deed_itself deed.End = refl
 
 -- ---- actors

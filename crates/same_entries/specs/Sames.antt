@@ -9,7 +9,7 @@ use Rattle.bus_semantics.specs.declared.entries.Actor.{Actor}
 use Rattle.bus_semantics.specs.declared.entries.Actor.TheVariants.{Env, Machine, Act}
 use Rattle.bus_semantics.specs.declared.entries.Deed.{Deed}
 use Rattle.bus_semantics.specs.declared.entries.Deed.TheVariants as deed
-use Rattle.bus_semantics.specs.Wanted.{Wanted, to_write, to_send, to_ask, to_return, to_publish}
+use Rattle.bus_semantics.specs.Wanted.{Wanted, to_write, to_send, to_ask, to_return, to_publish, to_publish_all}
 
 abbrev pub same_maker : Actor → Actor → Bool
 same_maker Env Env = true
@@ -40,7 +40,13 @@ abbrev pub same_answer : Option (ℕ × Value) → Option (ℕ × Value) → Boo
 same_answer (Some a) (Some b) = (a.0 == b.0) && same_words (words_of a.1) (words_of b.1)
 same_answer _ _ = false
 
--- starts, and deeds that carry a code and a value
+-- deeds on coherent lists
+abbrev pub same_listed : Deed → Deed → Bool
+same_listed (deed.FetchAll a v) (deed.FetchAll b w) = (a == b) && same_words (words_of v) (words_of w)
+same_listed (deed.PublishAll a m v) (deed.PublishAll b n w) = (a == b) && ((m == n) && same_words (words_of v) (words_of w))
+same_listed _ _ = false
+
+-- starts, deeds that carry a code and a value, and those on coherent lists
 abbrev pub same_answered : Deed → Deed → Bool
 same_answered (deed.Start a q v) (deed.Start b r w) = (a == b) && (same_number q r && same_words (words_of v) (words_of w))
 same_answered (deed.Read a c v) (deed.Read b d w) = (a == b) && same_answer (Some (c, v)) (Some (d, w))
@@ -50,7 +56,7 @@ same_answered (deed.Ask a v c) (deed.Ask b w d) = (a == b) && same_answer (Some 
 same_answered (deed.Answer a c v) (deed.Answer b d w) = (a == b) && same_answer (Some (c, v)) (Some (d, w))
 same_answered (deed.TakeResult a c v) (deed.TakeResult b d w) = (a == b) && same_answer (Some (c, v)) (Some (d, w))
 same_answered (deed.Return c v) (deed.Return d w) = same_answer (Some (c, v)) (Some (d, w))
-same_answered _ _ = false
+same_answered one other = same_listed one other
 
 abbrev pub same_deed : Deed → Deed → Bool
 same_deed deed.Tick deed.Tick = true
@@ -75,4 +81,15 @@ gives (deed.Send a v code) (to_send b ws) = (a == b) && same_words (words_of v) 
 gives (deed.Ask a v code) (to_ask b ws) = (a == b) && same_words (words_of v) ws
 gives (deed.Return c v) (to_return d ws) = (c == d) && same_words (words_of v) ws
 gives (deed.Publish a v) (to_publish b ws) = (a == b) && same_words (words_of v) ws
+gives (deed.PublishAll a m v) (to_publish_all b n ws) = (a == b) && ((m == n) && same_words (words_of v) ws)
 gives _ _ = false
+
+-- two wants that give the bus the same, of those that give it a value
+abbrev pub same_given : Wanted → Wanted → Bool
+same_given (to_write a v) (to_write b w) = (a == b) && same_words v w
+same_given (to_send a v) (to_send b w) = (a == b) && same_words v w
+same_given (to_ask a v) (to_ask b w) = (a == b) && same_words v w
+same_given (to_return a v) (to_return b w) = (a == b) && same_words v w
+same_given (to_publish a v) (to_publish b w) = (a == b) && same_words v w
+same_given (to_publish_all a m v) (to_publish_all b n w) = (a == b) && ((m == n) && same_words v w)
+same_given _ _ = false

@@ -1,7 +1,7 @@
 //! Deeds.
 
 ghost use Rattle.std.specs.Prelude.{◌≡◌, None, Some, MatchOption};
-ghost use Rattle.same_entries.specs.Sames.{answer, same_answer, same_answered, same_deed, same_step};
+ghost use Rattle.same_entries.specs.Sames.{answer, same_answer, same_answered, same_deed, same_listed, same_step};
 
 use crate::entries::same_number;
 use bus_semantics::Deed;
@@ -47,7 +47,31 @@ fn same_answer(one: &Deed, other: &Deed) -> bool
     }
 }
 
-/// Whether both deeds are the same, of starts and of those that carry a code and a value.
+/// Whether both deeds are the same, of those on coherent lists.
+fn same_listed(one: &Deed, other: &Deed) -> bool
+    ensures { result ≡ same_listed one.now other.now }
+{
+    match (one, other) {
+        (Deed::FetchAll { list: a, value: v }, Deed::FetchAll { list: b, value: w }) => {
+            *a == *b && *v == *w
+        }
+        (
+            Deed::PublishAll {
+                list: a,
+                written: m,
+                value: v,
+            },
+            Deed::PublishAll {
+                list: b,
+                written: n,
+                value: w,
+            },
+        ) => *a == *b && *m == *n && *v == *w,
+        _ => false,
+    }
+}
+
+/// Whether both deeds are the same, of starts, those that carry a code and a value, and those on coherent lists.
 fn same_answered(one: &Deed, other: &Deed) -> bool
     ensures { result ≡ same_answered one.now other.now }
 {
@@ -73,7 +97,7 @@ fn same_answered(one: &Deed, other: &Deed) -> bool
             *a == *b && same_answer(one, other)
         }
         (Deed::Return { .. }, Deed::Return { .. }) => same_answer(one, other),
-        _ => false,
+        _ => same_listed(one, other),
     }
 }
 

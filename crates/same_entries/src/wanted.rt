@@ -34,6 +34,18 @@ fn gives(deed: &Deed, wish: &Wish) -> bool
         (Deed::Return { code: c, value: v }, Wish::Return { code: d, value: w }) => {
             *c == *d && *v == *w
         }
+        (
+            Deed::PublishAll {
+                list: a,
+                written: m,
+                value: v,
+            },
+            Wish::PublishAll {
+                list: b,
+                written: n,
+                value: w,
+            },
+        ) => *a == *b && *m == *n && *v == *w,
         _ => false,
     }
 }
@@ -50,6 +62,7 @@ pub fn is_wish_of(entry: &Entry, event: Option<u32>, wish: &Wish) -> bool
         }
         (Deed::Start { event: a, .. }, Wish::Start { event: b })
         | (Deed::Fetch { elem: a, .. }, Wish::Fetch { elem: b })
+        | (Deed::FetchAll { list: a, .. }, Wish::FetchAll { list: b })
         | (Deed::Read { elem: a, .. }, Wish::Read { elem: b })
         | (Deed::Invalidate { elem: a }, Wish::Invalidate { elem: b })
         | (Deed::IsUpdated { elem: a, .. }, Wish::IsUpdated { elem: b })
@@ -74,7 +87,8 @@ pub fn is_wish_of(entry: &Entry, event: Option<u32>, wish: &Wish) -> bool
         | (Deed::Send { .. }, Wish::Send { .. })
         | (Deed::Ask { .. }, Wish::Ask { .. })
         | (Deed::Return { .. }, Wish::Return { .. })
-        | (Deed::Publish { .. }, Wish::Publish { .. }) => gives(&entry.deed, wish),
+        | (Deed::Publish { .. }, Wish::Publish { .. })
+        | (Deed::PublishAll { .. }, Wish::PublishAll { .. }) => gives(&entry.deed, wish),
         _ => false,
     }
 }

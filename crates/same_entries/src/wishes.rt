@@ -2,8 +2,39 @@
 
 ghost use Rattle.std.specs.Prelude.{◌≡◌};
 ghost use Rattle.bus_semantics.specs.Wanted.{same_wanted, wanted_of};
+ghost use Rattle.same_entries.specs.Sames.{same_given};
 
 use bus_semantics::Wish;
+
+/// Whether both wishes are the same, of those that give the bus a value.
+fn same_given(one: &Wish, other: &Wish) -> bool
+    ensures { result ≡ same_given (wanted_of one.now) (wanted_of other.now) }
+{
+    match (one, other) {
+        (Wish::Write { elem: a, value: v }, Wish::Write { elem: b, value: w })
+        | (Wish::Send { elem: a, value: v }, Wish::Send { elem: b, value: w })
+        | (Wish::Ask { point: a, value: v }, Wish::Ask { point: b, value: w })
+        | (Wish::Publish { elem: a, value: v }, Wish::Publish { elem: b, value: w }) => {
+            *a == *b && *v == *w
+        }
+        (Wish::Return { code: a, value: v }, Wish::Return { code: b, value: w }) => {
+            *a == *b && *v == *w
+        }
+        (
+            Wish::PublishAll {
+                list: a,
+                written: m,
+                value: v,
+            },
+            Wish::PublishAll {
+                list: b,
+                written: n,
+                value: w,
+            },
+        ) => *a == *b && *m == *n && *v == *w,
+        _ => false,
+    }
+}
 
 /// Whether both wishes are the same.
 pub fn same_wish(one: &Wish, other: &Wish) -> bool
@@ -15,6 +46,7 @@ pub fn same_wish(one: &Wish, other: &Wish) -> bool
         | (Wish::Admit { event: a }, Wish::Admit { event: b })
         | (Wish::End { event: a }, Wish::End { event: b })
         | (Wish::Fetch { elem: a }, Wish::Fetch { elem: b })
+        | (Wish::FetchAll { list: a }, Wish::FetchAll { list: b })
         | (Wish::Read { elem: a }, Wish::Read { elem: b })
         | (Wish::Invalidate { elem: a }, Wish::Invalidate { elem: b })
         | (Wish::IsUpdated { elem: a }, Wish::IsUpdated { elem: b })
@@ -24,15 +56,6 @@ pub fn same_wish(one: &Wish, other: &Wish) -> bool
         | (Wish::Enter { area: a }, Wish::Enter { area: b })
         | (Wish::Leave { area: a }, Wish::Leave { area: b })
         | (Wish::Mode { port: a }, Wish::Mode { port: b }) => *a == *b,
-        (Wish::Write { elem: a, value: v }, Wish::Write { elem: b, value: w })
-        | (Wish::Send { elem: a, value: v }, Wish::Send { elem: b, value: w })
-        | (Wish::Ask { point: a, value: v }, Wish::Ask { point: b, value: w })
-        | (Wish::Publish { elem: a, value: v }, Wish::Publish { elem: b, value: w }) => {
-            *a == *b && *v == *w
-        }
-        (Wish::Return { code: a, value: v }, Wish::Return { code: b, value: w }) => {
-            *a == *b && *v == *w
-        }
         (
             Wish::Switch {
                 machine: a,
@@ -43,6 +66,6 @@ pub fn same_wish(one: &Wish, other: &Wish) -> bool
                 mode: n,
             },
         ) => { *a == *b && *m == *n }
-        _ => false,
+        _ => same_given(one, other),
     }
 }

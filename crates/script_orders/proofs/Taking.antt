@@ -7,7 +7,7 @@ use Rattle.bus_semantics.specs.declared.script.Line.TheVariants as line
 use Rattle.bus_semantics.specs.declared.entries.Wish.{Wish}
 use Rattle.bus_semantics.specs.Wanted.{Wanted, to_tick, wanted_of, same_wanted}
 use Rattle.bus_semantics.specs.Run.{Ordered, a_run, a_call, orders_of_script}
-use Rattle.same_entries.proofs.SameWishes.{same_wanted-Decides}
+use Rattle.bus_semantics.proofs.SameWanted.{same_wanted-Decides}
 use Rattle.script_orders.specs.Orders.{is_nothing, left_of}
 
 one_call : (v w : Wanted) (xs ys : List Ordered) → a_call v ∷ xs ≡ a_call w ∷ ys → v ≡ w

@@ -33,6 +33,8 @@ fn deed_is_sized(deed: Deed)
         | Deed::Fetch { value, .. }
         | Deed::Write { value, .. }
         | Deed::Publish { value, .. }
+        | Deed::FetchAll { value, .. }
+        | Deed::PublishAll { value, .. }
         | Deed::Read { value, .. }
         | Deed::Send { value, .. }
         | Deed::Receive { value, .. }

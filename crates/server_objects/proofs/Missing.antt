@@ -30,7 +30,9 @@ use Rattle.client_server.specs.Points.{is_started, outcome_in, value_asked}
 use Rattle.object_kinds.specs.Kinds.{MissesNothing}
 use Rattle.object_kinds.specs.Flags.{given}
 use Rattle.object_kinds.specs.Layout.{place}
+use Rattle.object_kinds.proofs.Classes.{On, StartsOn}
 use Rattle.object_kinds.proofs.Events.{started_placed}
+use Rattle.object_kinds.proofs.Numbers.{a_server}
 use Rattle.object_kinds.proofs.Options.{given_where, then_where, mapped_where}
 use Rattle.object_kinds.proofs.Placing.{Placed, place_at}
 use Rattle.object_kinds.proofs.Proper.{noting, wish_part}
@@ -43,7 +45,7 @@ use Rattle.server_objects.proofs.Facts.{OwnPoint, home_of, queued_point, direct_
 use Rattle.server_objects.proofs.Leading.{returner, queue_stands, direct_stands}
 use Rattle.server_objects.proofs.Next.{point_placed, awaited_place, awaited_is}
 use Rattle.server_objects.proofs.Requests.{left_first}
-use Rattle.server_objects.proofs.Touching.{OnServer, StartsOn, touches_server}
+use Rattle.server_objects.proofs.Touching.{touches_server}
 
 some_there : {X : Type 0} (o : Option X) → is_some o ≡ true → (x : X) × (o ≡ Some x)
 some_there None e = absurd (false≢true e)
@@ -284,11 +286,11 @@ module _ (p : Plan) (object : ℕ) (k : Kept) (l : Past) (keeps : Keeps p object
           let both : Returns q ≡ Invoked s = sym kind ∙ ap (kind_of p) (eqb-true e k.event is ∙ keeps.event) ∙ keeps.is_server.invoked in
           absurd (cc both)
 
-  start_comes : (key : ActKey) (event : Option ℕ) (e : ℕ) (point : Option ℕ) (value : Value) → Follows p object l (noting (Act key) (deed.Start e point value) event) → StartsOn p s (kind_of p e) → is_some (lead_of_start k key.point e point value) ≡ true
+  start_comes : (key : ActKey) (event : Option ℕ) (e : ℕ) (point : Option ℕ) (value : Value) → Follows p object l (noting (Act key) (deed.Start e point value) event) → StartsOn p (a_server s) (kind_of p e) → is_some (lead_of_start k key.point e point value) ≡ true
   start_comes key event e point value follows on = by_kind (kind_of p e) refl on
     where
-      by_kind : (c : EventKind) → kind_of p e ≡ c → StartsOn p s c → is_some (lead_of_start k key.point e point value) ≡ true
-      by_kind (Invoked t) is on = invoked_comes key event e point value follows (is ∙ ap Invoked on)
+      by_kind : (c : EventKind) → kind_of p e ≡ c → StartsOn p (a_server s) c → is_some (lead_of_start k key.point e point value) ≡ true
+      by_kind (Invoked t) is on = invoked_comes key event e point value follows (is ∙ ap Invoked (same_Some t s on))
       by_kind (Returns q) is on = returns_come key event e q point value follows is on
       by_kind c is on = absurd on
 
@@ -337,7 +339,7 @@ module _ (p : Plan) (object : ℕ) (k : Kept) (l : Past) (keeps : Keeps p object
 
   -- ---- the whole
 
-  pub comes : (a : Actor) (event : Option ℕ) (d : Deed) → OnServer p s a d → Follows p object l (noting a d event) → is_some (lead_of_server k d a) ≡ true
+  pub comes : (a : Actor) (event : Option ℕ) (d : Deed) → On p (a_server s) a event d → Follows p object l (noting a d event) → is_some (lead_of_server k d a) ≡ true
   comes a event (deed.Ask q value code) on follows = ask_comes q code value on follows.answers.calls
   comes a event (deed.Answer q code value) on follows = hear_comes q code value on follows.answers.calls
   comes a event (deed.TakeResult q code value) on follows = result_comes q code value on follows.answers.calls

@@ -1,9 +1,9 @@
 -- In a sound plan each server has one event and one runnable, and that event alone starts that runnable.
-use Rattle.std.proofs.Common.{◌≡◌, ◌<◌, ◌+◌, ℕ, zero, suc, Bool, true, false, ◌&&◌, ◌||◌, ◌==◌, not, refl, sym, ◌∙◌, ap, subst, arith, List, [], ◌∷◌, length, Option, Some, None}
+use Rattle.std.proofs.Common.{◌≡◌, ◌<◌, ◌≤◌, ◌+◌, ◌^◌, ℕ, zero, suc, Bool, true, false, ◌&&◌, ◌||◌, ◌==◌, not, refl, sym, ◌∙◌, ap, subst, arith, List, [], ◌∷◌, length, Option, Some, None}
 use Rattle.std.specs.Prelude.{nat_lt, nat_le}
 use Rattle.std.specs.List.{slice_get}
 use Rattle.std.specs.Option.{option_map_or}
-use Rattle.std.proofs.lemmas.Bool.{and_parts, eq-eqb, eqb-true}
+use Rattle.std.proofs.lemmas.Bool.{and_parts, eq-eqb, eqb-true, leb-true}
 use Rattle.std.proofs.lemmas.Option.{same_Some}
 use Rattle.rte_value.specs.Values.{same_number}
 use Rattle.bus_semantics.specs.declared.plan.EventPlan.{EventPlan}
@@ -26,6 +26,10 @@ found_at : {X : Type 0} (xs : List X) (i : ℕ) → i < length xs → (x : X) ×
 found_at [] i within = absurd (omega arith)
 found_at (x ∷ xs) zero within = (x, refl)
 found_at (x ∷ xs) (suc i) within = found_at xs i (omega arith)
+
+-- 32 bits number the points
+few_points : (p : Plan) (m : Mapping) → IsSound p m → length p.points < 2 ^ 32
+few_points p m sound = let few : length p.points ≤ 262144 = leb-true (length p.points) 262144 sound.few_points in omega arith
 
 -- the OperationInvokedEvent of a server, in the plan
 record Invoking (p : Plan) (s event : ℕ) : Type 0 where
@@ -151,6 +155,7 @@ module _ (p : Plan) (m : Mapping) (sound : IsSound p m) (s : ℕ) (v : ServerPla
       record {
         from = omega arith;
         below = omega arith;
+        few_points = few_points p m sound;
         invoked = f.invoked_by;
         one_event = f.by_one;
         started = f.starts_it;
@@ -163,4 +168,4 @@ pub server_of_plan : (p : Plan) (m : Mapping) (s : ℕ) → IsSound p m → s < 
 server_of_plan p m s sound within = let at = found_at p.servers s within in the_server p m sound s at.0 at.1 within
 
 pub all_joined : (p : Plan) (m : Mapping) → IsSound p m → AreJoined p
-all_joined p m sound q s joined = joined_server p m sound q s joined
+all_joined p m sound = record { within = joined_server p m sound; few = few_points p m sound }

@@ -104,7 +104,7 @@ listed_there lists i v within is = sym (ap (λ o. option_map_or (λ (x : Vec ℕ
 pub awaited_inside : (p : Plan) (k : EventKind) (o : Option ℕ) (s : ℕ) → ((t : ℕ) → returns_for p t k ≡ same_number o (Some t)) → AreJoined p → o ≡ Some s → s < length p.servers
 awaited_inside p k o s waits joined is =
     let of = returning p s k (waits s ∙ ap (λ x. same_number x (Some s)) is ∙ eq-eqb s s refl) in
-    joined of.point s (same_option (server_of p of.point) (Some s) of.joined)
+    joined.within of.point s (same_option (server_of p of.point) (Some s) of.joined)
 
 -- ---- making
 

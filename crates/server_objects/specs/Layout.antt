@@ -1,5 +1,5 @@
 -- What of a plan belongs to a server (SWS_RTE: Rte_Call, OperationInvokedEvent, AsynchronousServerCallReturnsEvent).
-use Rattle.std.specs.Prelude.{◌≡◌, ◌<◌, ◌≤◌, ◌-◌, ℕ, List, length, filter, Bool, false, Some, None, unwrap_or}
+use Rattle.std.specs.Prelude.{◌≡◌, ◌<◌, ◌≤◌, ◌-◌, ◌^◌, ℕ, List, length, filter, Bool, false, Some, None, unwrap_or}
 use Rattle.rte_value.specs.Values.{same_number}
 use Rattle.bus_semantics.specs.declared.plan.ServerPlan.{ServerPlan}
 use Rattle.bus_semantics.specs.declared.plan.EventKind.{EventKind}
@@ -47,10 +47,12 @@ awaited_by p s e = unwrap_or (place (point_in (kind_of p e)) (points_of p s)) 0
 
 -- ---- servers of plans
 
--- the object is one of the plan's servers: one event invokes it, one runnable serves it, and that event alone starts that runnable
+-- the object is one of the plan's servers: one event invokes it, one runnable serves it, and that event alone starts that runnable; of the
+-- plan's points there are not too many to count
 pub record IsServer (p : Plan) (object : ℕ) : Type 0 where
   pub from : first_server p ≤ object
   pub below : object < first_area p
+  pub few_points : length p.points < 2 ^ 32
   pub invoked : kind_of p (event_in p (server_in p object)) ≡ Invoked (server_in p object)
   pub one_event : (e : ℕ) → kind_of p e ≡ Invoked (server_in p object) → e ≡ event_in p (server_in p object)
   pub started : runnable_of_event p (event_in p (server_in p object)) ≡ Some (runnable_in p (server_in p object))

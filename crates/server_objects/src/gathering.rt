@@ -72,7 +72,6 @@ fn add_return(p: &BusPlan, lists: &mut Vec<Vec<u32>>, event: u32) -> Result<(), 
 /// For each server the points that call it, in rising order.
 pub fn joined_points(alloc: Global, p: &BusPlan) -> Result<Vec<Vec<u32>>, Memory>
     requires joined { AreJoined (plan_of p.now) }
-    requires points { length p.now.points < 2 ^ 32 }
     ensures long { IfOk result (λ lists. length lists.items ≡ length p.now.servers) }
     ensures joined { IfOk result (λ lists. (s : ℕ) → listed_at lists.items s ≡ points_of (plan_of p.now) s) }
 {

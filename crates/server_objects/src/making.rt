@@ -1,6 +1,6 @@
 //! A server of a plan, made.
 
-ghost use Rattle.std.specs.Prelude.{◌≡◌, ℕ, ◌<◌, ◌+◌, ◌^◌, All, IfOk, length, map};
+ghost use Rattle.std.specs.Prelude.{◌≡◌, ℕ, ◌<◌, ◌+◌, All, IfOk, length, map};
 ghost use Rattle.bus_semantics.specs.Plan.{plan_of, queue_of};
 ghost use Rattle.bus_semantics.specs.Objects.{first_server};
 ghost use Rattle.object_kinds.specs.Gathered.{listed_at};
@@ -29,7 +29,6 @@ impl ServerObject {
     ) -> Result<ServerObject, Memory>
         requires server { IsServer (plan_of p.now) (first_server (plan_of p.now) + server) }
         requires points { points.items ≡ points_of (plan_of p.now) server }
-        requires few { length p.now.points < 2 ^ 32 }
         requires returns { returns.items ≡ events_of (plan_of p.now) (returns_for (plan_of p.now) server) }
         ensures kept { IfOk result (λ o. o.kept ≡ opening (plan_of p.now) (first_server (plan_of p.now) + server)) }
         ensures planned { IfOk result (λ o. IsOfPlan (plan_of p.now) (first_server (plan_of p.now) + server) o.kept) }

@@ -2,7 +2,6 @@
 use Rattle.std.proofs.Common.{◌≡◌, ◌<◌, ◌≤◌, ◌+◌, ℕ, zero, suc, Bool, true, false, nat_eq, List, [], ◌∷◌, map, length, slice_get, codes, Option, Some, None, option_map, option_and_then, ◌⊎◌, inl, inr, ⊎_elim, refl, sym, ap, subst, subst₂, ◌∙◌, ◌&&◌, arith, bytes_eq, if◌then◌else◌, true≢false}
 use Rattle.std.specs.Option.{option_map_or}
 use Rattle.std.proofs.lemmas.Option.{none-some, same_Some}
-use Rattle.runnable_lang.specs.declared.program.Program.{Program}
 use Rattle.description_types.specs.declared.component.PortKind.{PortKind}
 use Rattle.description_types.specs.declared.component.PortKind.TheVariants.{Provided, Required}
 use Rattle.description_types.specs.declared.description.Connector.{Connector}
@@ -25,6 +24,7 @@ use Rattle.flat_descriptions.specs.Joined.IsBelow.{itself, further}
 use Rattle.flat_descriptions.specs.Members.{Among}
 use Rattle.flat_descriptions.specs.Paths.{ContainsItself, prototypes_of, type_at, type_in}
 use Rattle.flat_descriptions.specs.Places.{IsTooDeep, Place, places, places_below, places_of}
+use Rattle.plan_laws.proofs.Held.{Shared}
 use Rattle.soak_laws.proofs.Lists.{among_at, any_none, at_position, at_start, flat_three, get_first, get_second, get_third, length-three, three, three_at, two, two_at, length-two, among_first, among_second, among_take, few_apart, map_three_of, three_same}
 use Rattle.soak_laws.proofs.Soaked.{acc_name, c_name, inner, p_name, queue, service, soaked, typed}
 
@@ -88,7 +88,7 @@ first_only : {X : Type 0} (x y : X) (i : ℕ) → slice_get (x ∷ []) i ≡ Som
 first_only x y zero e = refl
 first_only x y (suc i) e = absurd (none-some y e)
 
-module _ (n : ℕ) (few : n ≤ 64) (p q s : Program) where
+module _ (n : ℕ) (few : n ≤ 64) (p q s : Shared) where
   abbrev soak : Description
   soak = soaked n p q s
 

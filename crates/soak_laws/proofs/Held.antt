@@ -1,13 +1,13 @@
 -- A description whose tree is that of `soak N` differs from it in nothing but in how its programs lie in memory.
 use Rattle.std.proofs.Common.{◌≡◌, ℕ, List, [], ◌∷◌, map, refl, sym, ap, ◌∙◌}
-use Rattle.runnable_lang.specs.declared.program.Program.{Program}
+use Rattle.std.specs.Arc.{arc_value}
 use Rattle.runnable_lang.specs.Trees.{program_tree}
 use Rattle.description_types.specs.declared.component.Component.{Component}
 use Rattle.description_types.specs.declared.component.Runnable.{Runnable}
 use Rattle.description_types.specs.declared.description.Description.{Description}
 use Rattle.component_model.specs.Descriptions.{description_of}
 use Rattle.component_model.specs.Programs.{ComponentTree, RunnableTree, component_tree, runnable_tree}
-use Rattle.plan_laws.proofs.Held.{running}
+use Rattle.plan_laws.proofs.Held.{Shared, running}
 use Rattle.soak_laws.proofs.Soaked.{adding, consumer_program, consumer_tree, holding, making, producer_program, producer_tree, server_program, server_tree, soak_tree, soaked, taking}
 
 one_back : (rs : List Runnable) (r : RunnableTree) → map runnable_tree rs ≡ r ∷ [] → (x : Runnable) × (rs ≡ x ∷ []) × (runnable_tree x ≡ r)
@@ -23,7 +23,7 @@ three_back (x ∷ y ∷ []) a b c e = absurd cc
 three_back (x ∷ y ∷ z ∷ []) a b c e = (x, y, z, refl, cc, cc, cc)
 three_back (x ∷ y ∷ z ∷ w ∷ cs) a b c e = absurd cc
 
-component_back : (c : Component) (t : ComponentTree) (r : RunnableTree) → t.behavior.runnables ≡ r ∷ [] → component_tree c ≡ t → (p : Program) × (program_tree p ≡ r.program) × (c ≡ holding t p)
+component_back : (c : Component) (t : ComponentTree) (r : RunnableTree) → t.behavior.runnables ≡ r ∷ [] → component_tree c ≡ t → (p : Shared) × (program_tree (arc_value p) ≡ r.program) × (c ≡ holding t p)
 component_back c t r one e =
     let (x, is, tree) = one_back c.behavior.runnables r (ap (λ u. u.behavior.runnables) e ∙ one) in
     let same : x ≡ running x.program r = λ i. record { short_name = (tree i).short_name; can_be_invoked_concurrently = (tree i).can_be_invoked_concurrently; accesses = (tree i).accesses; program = x.program } in
@@ -39,12 +39,12 @@ component_back c t r one e =
 
 -- the programs of the three components
 pub record IsSoaked (n : ℕ) (d : Description) : Type 0 where
-  pub producing : Program
-  pub consuming : Program
-  pub serving : Program
-  pub producer_is : program_tree producing ≡ producer_program
-  pub consumer_is : program_tree consuming ≡ consumer_program
-  pub server_is : program_tree serving ≡ server_program
+  pub producing : Shared
+  pub consuming : Shared
+  pub serving : Shared
+  pub producer_is : program_tree (arc_value producing) ≡ producer_program
+  pub consumer_is : program_tree (arc_value consuming) ≡ consumer_program
+  pub server_is : program_tree (arc_value serving) ≡ server_program
   pub is : d ≡ soaked n producing consuming serving
 
 pub soaked_back : (n : ℕ) (d : Description) → description_of d ≡ soak_tree n → IsSoaked n d

@@ -1,8 +1,7 @@
 -- Rules 12 to 15: what connectors join may be joined.
-use Rattle.std.proofs.Common.{◌≡◌, ◌<◌, ◌+◌, ◌-◌, ℕ, Bool, true, false, not, cond, ◌&&◌, ◌||◌, nat_eq, List, [], ◌∷◌, map, filter, slice_get, codes, Option, Some, None, option_map, option_and_then, inl, inr, refl, sym, ap, subst, ◌∙◌, arith, eqb-true, eq-eqb, if◌then◌else◌, true≢false}
+use Rattle.std.proofs.Common.{◌≡◌, ◌<◌, ◌+◌, ◌-◌, ℕ, Bool, true, false, not, cond, ◌&&◌, ◌||◌, nat_eq, List, [], ◌∷◌, map, filter, slice_get, codes, Option, Some, None, option_map, option_and_then, inl, inr, refl, sym, ap, subst, ◌∙◌, arith, if◌then◌else◌}
 use Rattle.std.specs.List.{list_any}
-use Rattle.std.specs.Option.{option_eq, option_map_or, option_or}
-use Rattle.runnable_lang.specs.declared.program.Program.{Program}
+use Rattle.std.specs.Option.{option_map_or, option_or}
 use Rattle.description_types.specs.declared.component.Port.{Port}
 use Rattle.description_types.specs.declared.description.Description.{Description}
 use Rattle.description_types.specs.declared.description.Prototype.{Prototype}
@@ -19,9 +18,11 @@ use Rattle.plan_definitions.specs.Joins.{are_several, crowds, is_crowded, is_man
 use Rattle.plan_definitions.specs.JoinedItems.{end_of, in_instances, in_ports}
 use Rattle.plan_definitions.specs.JoinRefusals.{in_composition, refusal}
 use Rattle.plan_definitions.specs.Names.{end_text}
+use Rattle.plan_laws.proofs.Held.{Shared}
 use Rattle.soak_laws.proofs.Lists.{among_at, first_none, get_first, get_second, get_third, three_at, two, two_at}
 use Rattle.soak_laws.proofs.Soaked.{acc_name, c_name, p_name, queue, service, soak_composition, soak_types, soaked, typed}
 use Rattle.soak_laws.proofs.Flat.{end_at, named, queue_join, service_join, soak_instances, soak_joins}
+use Rattle.plan_definitions.proofs.Keys.{same_end_is, same_end_refl}
 
 -- ---- lists of ends
 
@@ -33,37 +34,11 @@ and_never : (a b : Bool) → b ≡ false → (a && b) ≡ false
 and_never true b e = e
 and_never false b e = refl
 
-both_true : (a b : Bool) → (a && b) ≡ true → (a ≡ true) × (b ≡ true)
-both_true true b e = (refl, e)
-both_true false b e = absurd (true≢false (sym e))
-
-same_option : (a b : Option ℕ) → option_eq nat_eq a b ≡ true → a ≡ b
-same_option None None e = refl
-same_option None (Some b) e = absurd (true≢false (sym e))
-same_option (Some a) None e = absurd (true≢false (sym e))
-same_option (Some a) (Some b) e = ap (λ k. Some k) (eqb-true a b e)
-
-itself : (a : Option ℕ) → option_eq nat_eq a a ≡ true
-itself None = refl
-itself (Some a) = eq-eqb a a refl
-
-pub same_end_back : (a b : End) → same_end a b ≡ true → a ≡ b
-same_end_back a b e =
-    let whole = both_true (option_eq nat_eq a.instance b.instance && nat_eq a.port b.port) (nat_eq a.element b.element) e in
-    let first = both_true (option_eq nat_eq a.instance b.instance) (nat_eq a.port b.port) whole.0 in
-    let instance = same_option a.instance b.instance first.0 in
-    let port : a.port ≡ b.port = eqb-true a.port b.port first.1 in
-    let element : a.element ≡ b.element = eqb-true a.element b.element whole.1 in
-    λ i. record { instance = instance i; port = port i; element = element i }
-
-same_end_itself : (a : End) → same_end a a ≡ true
-same_end_itself a = λ i. (itself a.instance i && eq-eqb a.port a.port refl i) && eq-eqb a.element a.element refl i
-
 none_differs : (x z : End) (xs : List End) → x ≡ z → ((y : End) → Among y xs → y ≡ z) → list_any (λ y. not (same_end x y)) xs ≡ false
 none_differs x z [] e all = refl
 none_differs x z (y ∷ ys) e all =
     let same : x ≡ y = e ∙ sym (all y (inl refl)) in
-    ap (λ b. not b || list_any (λ w. not (same_end x w)) ys) (subst (λ w. same_end x w ≡ true) same (same_end_itself x)) ∙ none_differs x z ys e (λ w h. all w (inr h))
+    ap (λ b. not b || list_any (λ w. not (same_end x w)) ys) (subst (λ w. same_end x w ≡ true) same (same_end_refl x)) ∙ none_differs x z ys e (λ w h. all w (inr h))
 
 not_several : (z : End) (xs : List End) → ((y : End) → Among y xs → y ≡ z) → are_several xs ≡ false
 not_several z [] all = refl
@@ -82,7 +57,7 @@ filtered t g (x ∷ xs) y among = by (t x) refl among (λ more. filtered t g xs 
 abbrev pub provider_for : ℕ → End → End
 provider_for n r = if nat_eq r.port 0 then record { instance = option_map (λ k. k - n) r.instance; port = 0; element = 0 } else end_at (n + n) 0
 
-module _ (n : ℕ) (p q s : Program) (js : List Join) (all : (j : Join) → Among j js → Among j (soak_joins n)) where
+module _ (n : ℕ) (p q s : Shared) (js : List Join) (all : (j : Join) → Among j js → Among j (soak_joins n)) where
   abbrev soak : Description
   soak = soaked n p q s
 
@@ -97,7 +72,7 @@ module _ (n : ℕ) (p q s : Program) (js : List Join) (all : (j : Join) → Amon
   one_provider : (e : End) → are_several (providers js e) ≡ false
   one_provider e = not_several (provider_for n e) (providers js e) (λ y among.
       let (j, within, same, is) = filtered (λ (j : Join). same_end j.required e) (λ (j : Join). j.provided) js y among in
-      is ∙ (provided_by j within ∙ ap (provider_for n) (same_end_back j.required e same)))
+      is ∙ (provided_by j within ∙ ap (provider_for n) (same_end_is j.required e same)))
 
   none_crowds : (j : Join) → crowds js j ≡ false
   none_crowds j = and_never (are_several (requirers js j.provided)) (are_several (providers js j.required)) (one_provider j.required)

@@ -3,7 +3,6 @@ use Rattle.std.proofs.Common.{◌≡◌, ◌<◌, ◌≤◌, ◌+◌, ◌%◌, �
 use Rattle.std.specs.List.{list_any, position_from}
 use Rattle.std.specs.Option.{option_map_or, option_or}
 use Rattle.std.proofs.lemmas.Option.{none-some}
-use Rattle.runnable_lang.specs.declared.program.Program.{Program}
 use Rattle.description_types.specs.declared.component.Component.{Component}
 use Rattle.description_types.specs.declared.component.EventKind.TheVariants as event
 use Rattle.description_types.specs.declared.description.Description.{Description}
@@ -20,11 +19,13 @@ use Rattle.plan_definitions.specs.Mapped.{event_named, instance_named, invokes, 
 use Rattle.plan_definitions.specs.MappingRefusals.{event_text, mapped_text, of_events, runnable_text}
 use Rattle.plan_definitions.specs.MappingRules.{Chain, ReachesItself, Waits, are_same, badly_mapped, badly_mapped_in, is_mapped_well, not_direct, not_direct_in, serves_outside, spread, spread_in, tasks_behind, tasks_from, tasks_of, tasks_of_event, unnamed, waits_by, waits_for}
 use Rattle.plan_definitions.specs.Parts.{component_of}
+use Rattle.plan_laws.proofs.Held.{Shared}
 use Rattle.soak_laws.proofs.Lists.{AllAt, all_told, at_start, first_none, get_first, get_second, get_third, length-three, one_passes, position_is, three_at}
 use Rattle.soak_laws.proofs.Names.{acc_named, c_named, p_named}
 use Rattle.soak_laws.proofs.Soaked.{acc_name, c_name, consumer_tree, holding, in_task, p_name, producer_tree, server_tree, soaked}
 use Rattle.soak_laws.proofs.Flat.{end_at, named, soak_instances, soak_joins}
-use Rattle.soak_laws.proofs.Joins.{provided_by, provider_for, same_end_back}
+use Rattle.soak_laws.proofs.Joins.{provided_by, provider_for}
+use Rattle.plan_definitions.proofs.Keys.{same_end_is}
 
 and_true : (b : Bool) → (b && true) ≡ b
 and_true true = refl
@@ -49,7 +50,7 @@ found_in (j ∷ js) e y is = by (same_end j.required e) refl is (λ f. found_in 
     by true same f rest = (j, inl refl, same, cc)
     by false same f rest = let r = rest f in (r.0, inr r.1, r.2, r.3)
 
-module _ (n : ℕ) (few : n ≤ 64) (p q s : Program) (js : List Join) where
+module _ (n : ℕ) (few : n ≤ 64) (p q s : Shared) (js : List Join) where
   abbrev soak : Description
   soak = soaked n p q s
 
@@ -201,7 +202,7 @@ module _ (n : ℕ) (few : n ≤ 64) (p q s : Program) (js : List Join) where
     called i b None is e = absurd (true≢false (sym e))
     called i b (Some y) is e =
         let (j, among, same, provides) = found_in js (end_at i 1) y is in
-        let y_is : y ≡ end_at (n + n) 0 = sym provides ∙ (provided_by n p q s js all j among ∙ ap (provider_for n) (same_end_back j.required (end_at i 1) same)) in
+        let y_is : y ≡ end_at (n + n) 0 = sym provides ∙ (provided_by n p q s js all j among ∙ ap (provider_for n) (same_end_is j.required (end_at i 1) same)) in
         only_one 8 b (sym (ap (list_any (λ t. nat_eq t b)) (ap (tasks_behind soak made_flat) y_is ∙ server_behind)) ∙ e)
 
     producer_waits : (i m a b : ℕ) → i < n → list_any (λ t. nat_eq t a) (tasks_of soak made_flat (i, m)) ≡ true → list_any (λ t. nat_eq t b) (waits_for soak made_flat (i, m)) ≡ true → (a < 4) × (b ≡ 8)

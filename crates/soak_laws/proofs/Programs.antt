@@ -1,7 +1,7 @@
 -- Rules 16 to 24: components and their programs.
 use Rattle.std.proofs.Common.{◌≡◌, ℕ, List, Option, Some, None, option_map, option_and_then, refl, ap}
+use Rattle.std.specs.Arc.{arc_value}
 use Rattle.std.specs.Option.{option_or}
-use Rattle.runnable_lang.specs.declared.program.Program.{Program}
 use Rattle.runnable_lang.specs.Trees.{program_tree}
 use Rattle.runnable_lang.specs.Refusals.{refusal}
 use Rattle.plan_definitions.specs.ComponentRefusals as components
@@ -10,10 +10,10 @@ use Rattle.plan_definitions.specs.declared.component_rule.ComponentRule.TheVaria
 use Rattle.plan_definitions.specs.Programs.{path_of, program_refusal, refused_program}
 use Rattle.plan_definitions.specs.Signatures.{signature}
 use Rattle.plan_definitions.specs.Spots.{program_text}
-use Rattle.plan_laws.proofs.Held.{running}
+use Rattle.plan_laws.proofs.Held.{Shared, running}
 use Rattle.soak_laws.proofs.Soaked.{adding, consumer_program, consumer_tree, holding, making, producer_program, producer_tree, server_program, server_tree, soak_types, soaked, taking}
 
-module _ (n : ℕ) (p q s : Program) (p_is : program_tree p ≡ producer_program) (q_is : program_tree q ≡ consumer_program) (s_is : program_tree s ≡ server_program) where
+module _ (n : ℕ) (p q s : Shared) (p_is : program_tree (arc_value p) ≡ producer_program) (q_is : program_tree (arc_value q) ≡ consumer_program) (s_is : program_tree (arc_value s) ≡ server_program) where
   producer_keeps : program_refusal soak_types (holding producer_tree p) (running p making) ≡ None
   producer_keeps = ap (refusal (signature soak_types (holding producer_tree p) making.accesses)) p_is
 

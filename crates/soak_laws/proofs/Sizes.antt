@@ -4,7 +4,6 @@ use Rattle.std.specs.List.{list_all}
 use Rattle.std.specs.Option.{option_map_or, unwrap_or}
 use Rattle.std.proofs.lemmas.List.{length-map}
 use Rattle.std.proofs.lemmas.List.Sums.{sum_by-le}
-use Rattle.runnable_lang.specs.declared.program.Program.{Program}
 use Rattle.interface_types.specs.declared.interface.ComSpec.{ComSpec}
 use Rattle.description_types.specs.declared.component.Component.{Component}
 use Rattle.description_types.specs.declared.component.Port.{Port}
@@ -29,6 +28,7 @@ use Rattle.plan_definitions.specs.Services.{is_numbered_mapped}
 use Rattle.plan_definitions.specs.Sites.{sites, sites_of_instance}
 use Rattle.plan_definitions.specs.Things.{elements_of}
 use Rattle.plan_laws.specs.Sizes.{is_past, objects_of, waiting_at}
+use Rattle.plan_laws.proofs.Held.{Shared}
 use Rattle.soak_laws.proofs.Lists.{AllAt, at_start, length-three, three_at}
 use Rattle.soak_laws.proofs.Soaked.{acc_name, c_name, p_name, soaked}
 use Rattle.soak_laws.proofs.Flat.{named, soak_instances, then_some}
@@ -92,7 +92,7 @@ if_some_few : (b : Bool) (m : ℕ) → m ≤ 64 → unwrap_or (if b then Some m 
 if_some_few true m h = h
 if_some_few false m h = omega arith
 
-module _ (n : ℕ) (few : n ≤ 64) (p q s : Program) (js : List Join) where
+module _ (n : ℕ) (few : n ≤ 64) (p q s : Shared) (js : List Join) where
   abbrev soak : Description
   soak = soaked n p q s
 

@@ -9,7 +9,6 @@ use Rattle.interface_types.specs.declared.interface.TypeTable.{TypeTable}
 use Rattle.runnable_lang.specs.declared.program.AccessKind.{AccessKind}
 use Rattle.runnable_lang.specs.declared.program.AccessKind.TheVariants as kind
 use Rattle.runnable_lang.specs.declared.stmt.Op.TheVariants as op
-use Rattle.runnable_lang.specs.declared.program.Program.{Program}
 use Rattle.runnable_lang.specs.Trees.{ProgramTree, constant, variable, combined, sets, chooses, repeats, in_area, sends, receives, writes_variable, reads_variable, calls, done, next}
 use Rattle.description_types.specs.declared.component.Access.{Access}
 use Rattle.description_types.specs.declared.component.Component.{Component}
@@ -28,7 +27,7 @@ use Rattle.description_types.specs.declared.description.Task.{Task}
 use Rattle.description_types.specs.declared.description.TaskMapping.{TaskMapping}
 use Rattle.component_model.specs.Descriptions.{DescriptionTree}
 use Rattle.component_model.specs.Programs.{ComponentTree, RunnableTree}
-use Rattle.plan_laws.proofs.Held.{running}
+use Rattle.plan_laws.proofs.Held.{Shared, running}
 use Rattle.soak_maker.specs.Parts.{name}
 use Rattle.soak_laws.proofs.Lists.{two, three}
 
@@ -144,7 +143,7 @@ server_tree = record {
 }
 
 -- a component that runs a program
-abbrev pub holding : ComponentTree → Program → Component
+abbrev pub holding : ComponentTree → Shared → Component
 holding t p = record {
   short_name = t.short_name;
   ports = t.ports;
@@ -207,7 +206,7 @@ soak_tree n = record {
   mapping = soak_mapping n;
 }
 
-abbrev pub soaked : ℕ → (p q s : Program) → Description
+abbrev pub soaked : ℕ → (p q s : Shared) → Description
 soaked n p q s = record {
   types = soak_types;
   components = holding producer_tree p ∷ holding consumer_tree q ∷ holding server_tree s ∷ [];

@@ -3,7 +3,7 @@ use Rattle.std.proofs.Common.{◌≡◌, ℕ, zero, suc, ◌+◌, ◌<◌, Bool,
 use Rattle.std.specs.Prelude.{nat_lt, is_none}
 use Rattle.std.specs.List.{slice_get, flat_map}
 use Rattle.std.specs.Option.{option_map_or}
-use Rattle.std.proofs.lemmas.List.{append-nil, length-map, map-append}
+use Rattle.std.proofs.lemmas.List.{append-nil, length-map}
 use Rattle.std.proofs.lemmas.Option.{same_Some, slice_get_within}
 use Rattle.std.proofs.lemmas.Bool.{and_from, eq-eqb, lt-ltb, or_left, or_right}
 use Rattle.runnable_lang.specs.declared.program.AccessKind.{AccessKind}
@@ -19,7 +19,7 @@ use Rattle.bus_semantics.specs.declared.plan.BusPlan.{BusPlan}
 use Rattle.bus_semantics.specs.declared.plan.ElemPlan.{ElemPlan}
 use Rattle.bus_semantics.specs.declared.plan.PointPlan.{PointPlan}
 use Rattle.bus_semantics.specs.declared.script.Mapping.{Mapping}
-use Rattle.bus_semantics.specs.Plan.{Plan, Runnable, plan_of, every_from}
+use Rattle.bus_semantics.specs.Plan.{Runnable, plan_of, every_from}
 use Rattle.bus_semantics.specs.Plan as plan
 use Rattle.bus_semantics.specs.Rest.{gathered}
 use Rattle.bus_semantics.specs.SoundAccesses.{called_points, points_arranged}
@@ -31,6 +31,7 @@ use Rattle.plan_definitions.specs.declared.calling.Calling.{Calling}
 use Rattle.plan_definitions.specs.Callings.{calling_of, callings_in, callings_of_component, callings, is_calling, point_number}
 use Rattle.plan_definitions.specs.Services.{point_of, points}
 use Rattle.plan_definitions.specs.Whole.{IsWhole}
+use Rattle.plan_definitions.proofs.Lists.{map_from}
 use Rattle.sound_behavior.proofs.Lists.{every_if, map_at, append_at, Later}
 use Rattle.sound_behavior.proofs.Rules.{planned, plan_is}
 use Rattle.sound_behavior.proofs.Points.{inner, outer, inner_call, outer_call}
@@ -45,10 +46,6 @@ gathered_append g (x ∷ xs) ys = ap (λ z. g x ++ z) (gathered_append g xs ys) 
 gathered_from : {X Y Z : Type 0} (g : Y → List Z) (h : ℕ → X → List Y) (n : ℕ) (xs : List X) → gathered g (from n h xs) ≡ from n (λ k x. gathered g (h k x)) xs
 gathered_from g h n [] = refl
 gathered_from g h n (x ∷ xs) = gathered_append g (h n x) (from (n + 1) h xs) ∙ ap (λ z. gathered g (h n x) ++ z) (gathered_from g h (n + 1) xs)
-
-map_from : {X Y Z : Type 0} (g : Y → Z) (h : ℕ → X → List Y) (n : ℕ) (xs : List X) → map g (from n h xs) ≡ from n (λ k x. map g (h k x)) xs
-map_from g h n [] = refl
-map_from g h n (x ∷ xs) = map-append g (h n x) (from (n + 1) h xs) ∙ ap (λ z. map g (h n x) ++ z) (map_from g h (n + 1) xs)
 
 -- ---- the numbers below one
 

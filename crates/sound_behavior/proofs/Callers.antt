@@ -1,5 +1,6 @@
 -- Points by the accesses that call: each has the number of its place; results come from points that go on.
 use Rattle.std.proofs.Common.{◌≡◌, ℕ, zero, suc, ◌+◌, Bool, true, false, ◌&&◌, not, ◌==◌, nat_eq, refl, sym, ◌∙◌, ap, subst, arith, List, [], ◌∷◌, Option, Some, None, option_map, ◌⊎◌, inl, inr}
+use Rattle.std.specs.Arc.{arc_value}
 use Rattle.std.specs.List.{slice_get, list_any, list_all}
 use Rattle.std.specs.Option.{option_map_or, unwrap_or}
 use Rattle.std.proofs.lemmas.Bool.{false≢true, eqb-true, eq-eqb, and_from, and_parts, not-true}
@@ -19,7 +20,7 @@ use Rattle.bus_semantics.specs.declared.plan.PointPlan.{PointPlan}
 use Rattle.bus_semantics.specs.declared.script.Mapping.{Mapping}
 use Rattle.bus_semantics.specs.Owners.{result_point}
 use Rattle.bus_semantics.specs.Plan as plan
-use Rattle.bus_semantics.specs.Plan.{Plan, look, instance_of}
+use Rattle.bus_semantics.specs.Plan.{instance_of}
 use Rattle.bus_semantics.specs.SoundPrograms.{is_well_formed}
 use Rattle.plan_definitions.specs.Keys.{pair_number}
 use Rattle.plan_definitions.specs.Parts.{runnables_of}
@@ -29,7 +30,8 @@ use Rattle.plan_definitions.specs.Callings.{callings, is_calling, leaves, point_
 use Rattle.plan_definitions.specs.Services.{point_of, points}
 use Rattle.plan_definitions.specs.WellFormed as formed
 use Rattle.plan_definitions.specs.Whole.{IsWhole}
-use Rattle.sound_behavior.proofs.Lists.{clash, not_some, found, append_at, Later, looked, mapped, same_option}
+use Rattle.bus_laws.proofs.Thinning.{clash, option_test}
+use Rattle.sound_behavior.proofs.Lists.{not_some, found, append_at, Later, looked, mapped}
 use Rattle.sound_behavior.proofs.Parts.{Home, same_home, runnable_there}
 use Rattle.sound_behavior.proofs.Points.{Calls, waits, goes_on, call, inner, outer, InnerCall, inner_call, outer_call, call_place, call_there, called_once, LeftBy}
 use Rattle.sound_behavior.proofs.Rules.{planned, runnable_formed}
@@ -60,7 +62,7 @@ same_call k p n b s t port item =
 module _ (d : Description) (f : Flat) (p : BusPlan) (m : Mapping) (w : IsWhole d f p m) where
   distinct_accesses : (t : ℕ) (c : Component) → slice_get d.components t ≡ Some c → (k : ℕ) (r : Runnable) → slice_get c.behavior.runnables k ≡ Some r → formed.accesses_distinct r.accesses ≡ true
   distinct_accesses t c at k r there =
-      (and_parts (formed.accesses_distinct r.accesses) (is_well_formed (program_tree r.program)) (and_parts (list_all (formed.access_fits d.types c) r.accesses) _ (runnable_formed d f p m w t c at k r there)).1).0
+      (and_parts (formed.accesses_distinct r.accesses) (is_well_formed (program_tree (arc_value r.program))) (and_parts (list_all (formed.access_fits d.types c) r.accesses) _ (runnable_formed d f p m w t c at k r there)).1).0
 
   -- one runnable has one call of an operation
   pub one_call : (t : ℕ) (c : Component) → slice_get d.components t ≡ Some c → (k : ℕ) (r : Runnable) → slice_get c.behavior.runnables k ≡ Some r → (i j : ℕ) (a b : Access) → slice_get r.accesses i ≡ Some a → slice_get r.accesses j ≡ Some b
@@ -169,5 +171,5 @@ module _ (d : Description) (f : Flat) (p : BusPlan) (m : Mapping) (w : IsWhole d
         ap (λ q. result_point (planned d f es) (Some i) q) x.number
         ∙ looked (points d f) x.place (point_of d f x.calling) (λ (t : PointPlan). t.asynchronous && of_home i t.runnable) false (point_there x.place x.calling x.there)
         ∙ and_from x.calling.asynchronous (of_home i (option_map (pair_number (runnables_of d f)) x.calling.caller)) x.goes
-        (ap (λ o. of_home i (option_map (pair_number (runnables_of d f)) o)) caller ∙ same_option (instance_of (planned d f es) (pair_number (runnables_of d f) (z.i, z.m))) (Some i)
+        (ap (λ o. of_home i (option_map (pair_number (runnables_of d f)) o)) caller ∙ option_test (instance_of (planned d f es) (pair_number (runnables_of d f) (z.i, z.m))) (Some i)
         (home_of z.i z.c z.home z.m z.runnable z.there ∙ ap (λ n. Some n) x.instance))

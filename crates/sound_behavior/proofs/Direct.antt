@@ -1,9 +1,9 @@
 -- Direct servers make no calls, and the environment does not call them.
-use Rattle.std.proofs.Common.{◌≡◌, ℕ, ◌+◌, ◌<◌, Bool, true, false, cond, ◌&&◌, ◌||◌, not, nat_eq, refl, sym, ◌∙◌, ap, subst, arith, List, map, Option, Some, None, option_map, ◌⊎◌, inl, inr}
+use Rattle.std.proofs.Common.{◌≡◌, ℕ, ◌+◌, ◌<◌, Bool, true, false, cond, ◌&&◌, ◌||◌, not, refl, sym, ◌∙◌, ap, subst, arith, List, map, Option, Some, None, option_map, ◌⊎◌, inl, inr}
 use Rattle.std.specs.Prelude.{is_some, is_none}
 use Rattle.std.specs.List.{slice_get, list_all}
-use Rattle.std.specs.Option.{option_map_or, option_eq}
-use Rattle.std.proofs.lemmas.Bool.{false≢true, eq-eqb, and_from, and_parts, not-true, or_left, or_right}
+use Rattle.std.specs.Option.{option_map_or}
+use Rattle.std.proofs.lemmas.Bool.{false≢true, and_from, and_parts, not-true, or_left, or_right}
 use Rattle.std.proofs.lemmas.Option.{same_Some, slice_get_within}
 use Rattle.std.proofs.lemmas.Map.Keys.{any_passes_from_place}
 use Rattle.rte_value.specs.Values.{same_number}
@@ -46,7 +46,10 @@ use Rattle.plan_definitions.specs.declared.calling.Calling.{Calling}
 use Rattle.plan_definitions.specs.Callings.{callings, operations_at, operation_count, outer_calling}
 use Rattle.plan_definitions.specs.Services.{is_numbered_mapped, point_of, points, servers, started_by}
 use Rattle.plan_definitions.specs.Whole.{IsWhole}
-use Rattle.sound_behavior.proofs.Lists.{clash, not_some, option_same, all_if, all_at, every_if, looked, there_at, map_at, append_at, Later}
+use Rattle.plan_definitions.proofs.Lists.{there}
+use Rattle.plan_definitions.proofs.Keys.{same_end_refl}
+use Rattle.bus_laws.proofs.Thinning.{clash, option_same}
+use Rattle.sound_behavior.proofs.Lists.{not_some, all_if, all_at, every_if, looked, map_at, append_at, Later}
 use Rattle.sound_behavior.proofs.Parts.{number_there, runnable_there, event_count}
 use Rattle.sound_behavior.proofs.Rules.{planned, plan_is, direct_kept}
 use Rattle.sound_behavior.proofs.Serving.{ServerAt, server_at_number, server_site}
@@ -56,13 +59,6 @@ use Rattle.sound_behavior.proofs.Providers.{interface_is, operation_by}
 use Rattle.sound_behavior.proofs.Points.{inner, outer, inner_call, OuterCall, outer_call}
 
 -- ---- ends
-
-pub end_itself : (e : End) → same_end e e ≡ true
-end_itself e = and_from (option_eq nat_eq e.instance e.instance && nat_eq e.port e.port) (nat_eq e.element e.element) (and_from (option_eq nat_eq e.instance e.instance) (nat_eq e.port e.port) (itself e.instance) (eq-eqb e.port e.port refl)) (eq-eqb e.element e.element refl)
-  where
-    itself : (a : Option ℕ) → option_eq nat_eq a a ≡ true
-    itself None = refl
-    itself (Some a) = eq-eqb a a refl
 
 no_call : (k : AccessKind) (port item : ℕ) → not (is_call (record { kind = k; port = port; item = item })) ≡ true → not (same_kind k kind.Call || (same_kind k kind.ACall || same_kind k kind.TakeResult)) ≡ true
 no_call kind.Call port item e = absurd (false≢true e)
@@ -82,7 +78,7 @@ module _ (d : Description) (f : Flat) (p : BusPlan) (m : Mapping) (w : IsWhole d
   outer_operation k port n at less = by (slice_get d.types.interfaces port.interface) refl less
     where
       by_kind : (i : Interface) → slice_get d.types.interfaces port.interface ≡ Some i → (x : InterfaceKind) → i.kind ≡ x → n < operation_count x → Called k n
-      by_kind i has (ClientServer all) is l = let there = there_at all n l in record { all = all; is = interface_is d f p m w None k port at ∙ ap (option_map (λ (z : Interface). z.kind)) has ∙ ap (λ z. Some z) is; operation = there.0; there = there.1 }
+      by_kind i has (ClientServer all) is l = let found = there all n l in record { all = all; is = interface_is d f p m w None k port at ∙ ap (option_map (λ (z : Interface). z.kind)) has ∙ ap (λ z. Some z) is; operation = found.0; there = found.1 }
       by_kind i has (SenderReceiver es) is l = absurd (omega arith)
       by_kind i has (ModeSwitch x) is l = absurd (omega arith)
 
@@ -132,7 +128,7 @@ module _ (d : Description) (f : Flat) (p : BusPlan) (m : Mapping) (w : IsWhole d
         let end : q ≡ end_at (Some x.i) x.k x.n = λ t. record { instance = (by.owner ∙ ap (λ (z : Site). z.owner) same) t; port = same_Some q.port x.k port t; element = (ap (λ (z : Site). z.item) same) t } in
         any_passes_from_place (λ (z : Join). same_end (end_at (Some x.i) x.k x.n) z.provided && is_none z.required.instance) f.joins j.has.place j.join j.has.there
         (and_from (same_end (end_at (Some x.i) x.k x.n) j.join.provided) (is_none j.join.required.instance)
-        (ap (same_end (end_at (Some x.i) x.k x.n)) (j.provided ∙ end) ∙ end_itself (end_at (Some x.i) x.k x.n))
+        (ap (same_end (end_at (Some x.i) x.k x.n)) (j.provided ∙ end) ∙ same_end_refl (end_at (Some x.i) x.k x.n))
         (ap (λ (z : End). is_none z.instance) j.required))
 
     not_called : not (serves_outside f x.i x.k x.n) ≡ true → (q : ℕ) (t : PointPlan) → slice_get (points d f) q ≡ Some t → (not (same_number t.server (Some s)) || is_some t.runnable) ≡ true

@@ -1,5 +1,5 @@
 -- Data elements and variables of the plan, by the numbers of their sites.
-use Rattle.std.proofs.Common.{◌≡◌, ℕ, Bool, true, false, List, map, length, Option, Some, None, option_map, option_and_then, refl, sym, ap, ◌∙◌, slice_get}
+use Rattle.std.proofs.Common.{◌≡◌, ℕ, Bool, false, List, map, length, Option, Some, None, option_map, option_and_then, refl, sym, ap, ◌∙◌, slice_get}
 use Rattle.std.specs.Option.{option_map_or}
 use Rattle.std.proofs.lemmas.Option.{slice_get_within}
 use Rattle.interface_types.specs.declared.base_type.DataType.{DataType}
@@ -16,7 +16,7 @@ use Rattle.bus_semantics.specs.declared.plan.ElemKind.{ElemKind}
 use Rattle.bus_semantics.specs.declared.plan.ElemKind.TheVariants as elem
 use Rattle.bus_semantics.specs.declared.plan.ElemPlan.{ElemPlan}
 use Rattle.plan_definitions.specs.declared.item.Item.TheVariants.{Data}
-use Rattle.plan_definitions.specs.Elements.{Elem, elem_seen, declared_at, variable_at, type_of, limits_of, words_of, policy_kind, kind_of, element_of, group_of, elements, element_in}
+use Rattle.plan_definitions.specs.Elements.{Elem, elem_seen, declared_at, type_of, limits_of, words_of, policy_kind, kind_of, element_of, group_of, elements, element_in}
 use Rattle.plan_definitions.specs.declared.site.Site.{Site}
 use Rattle.plan_definitions.specs.declared.site.SiteKind.TheVariants.{Element, Variable}
 use Rattle.plan_definitions.specs.Keys.{is_element}
@@ -27,17 +27,6 @@ use Rattle.sound_behavior.proofs.Lists.{mapped, map_at}
 use Rattle.sound_behavior.proofs.Parts.{Home, home_component}
 use Rattle.sound_behavior.proofs.Sites.{ports_at_home, site_there, variable_there, numbered_kind, place_of}
 use Rattle.sound_behavior.proofs.Items.{ItemAt, DataIn, data_item}
-
--- how an element is kept
-abbrev pub queued : ElemKind → Bool
-queued elem.Unqueued = false
-queued elem.Queued = true
-queued elem.Variable = false
-
-abbrev pub unqueued : ElemKind → Bool
-unqueued elem.Unqueued = true
-unqueued elem.Queued = false
-unqueued elem.Variable = false
 
 module _ (d : Description) (f : Flat) (es : List ElemPlan) (seen : map elem_seen es ≡ elements d f) where
   -- an element of the plan, as its site says

@@ -44,7 +44,8 @@ use Rattle.plan_definitions.specs.Modes.{machines, mode_ports, mode_port_at}
 use Rattle.plan_definitions.specs.Services.{server_at, servers, started_by}
 use Rattle.plan_definitions.specs.WellFormed as formed
 use Rattle.plan_definitions.specs.Whole.{IsWhole}
-use Rattle.sound_behavior.proofs.Lists.{same_option, every_if, looked}
+use Rattle.bus_laws.proofs.Thinning.{option_test}
+use Rattle.sound_behavior.proofs.Lists.{every_if, looked}
 use Rattle.sound_behavior.proofs.Parts.{Home, same_home, EventAt, event_at, runnable_there, numbers_apart, runnable_count}
 use Rattle.sound_behavior.proofs.Rules.{planned, plan_is, kind_kept, disabling_kept, return_kept, event_formed, of_size}
 use Rattle.sound_behavior.proofs.Sites.{ports_at_home}
@@ -53,9 +54,10 @@ use Rattle.sound_behavior.proofs.Serving.{server_there}
 use Rattle.sound_behavior.proofs.Servers.{started_is, alone, runnable_of_event}
 use Rattle.sound_behavior.proofs.Tasks.{starts_within}
 use Rattle.sound_behavior.proofs.Providers.{machine_there, required_machine, required_modes, mode_port_there}
-use Rattle.sound_behavior.proofs.Elems.{data_elem, queued, unqueued}
+use Rattle.sound_behavior.proofs.Elems.{data_elem}
 use Rattle.sound_behavior.proofs.Points.{left_by_access}
 use Rattle.sound_behavior.proofs.Callers.{result_there, home_of}
+use Rattle.sound_elements.proofs.Elems.{queued, unqueued}
 
 -- a data element is no variable
 no_variable : (policy : SwImplPolicy) → not (not (queued (policy_kind policy) || unqueued (policy_kind policy))) ≡ true
@@ -88,7 +90,7 @@ module _ (d : Description) (f : Flat) (p : BusPlan) (m : Mapping) (w : IsWhole d
       let y = required_machine d f p m w i c home k count x in
       record {
         required = any_passes_from_place (λ (t : ModePortPlan). same_number t.instance (Some i) && (t.machine == machine_for d f (Some i) k)) (mode_ports d f) (mode_port_number d f i k) (mode_port_at d f (Some i) k) (mode_port_there d f p m w i c home k count x)
-            (and_from (same_number (Some i) (Some i)) (machine_for d f (Some i) k == machine_for d f (Some i) k) (same_option (Some i) (Some i) refl) (eq-eqb (machine_for d f (Some i) k) (machine_for d f (Some i) k) refl));
+            (and_from (same_number (Some i) (Some i)) (machine_for d f (Some i) k == machine_for d f (Some i) k) (option_test (Some i) (Some i) refl) (eq-eqb (machine_for d f (Some i) k) (machine_for d f (Some i) k) refl));
         modes = looked (machines d f) (machine_for d f (Some i) k) y.machine (λ (n : MachinePlan). length n.modes) 0 y.there ∙ required_modes d f p m w i c home k count x;
       }
 
@@ -124,7 +126,7 @@ module _ (d : Description) (f : Flat) (p : BusPlan) (m : Mapping) (w : IsWhole d
         let item = item_there d.types x.c.ports k n Required (Data req.0) req.1 in
         let y = data_elem d f es seen_as x.i x.c x.home k n Required req.0 item in
         looked es (element_number d f x.i (Some k) n) y.elem (λ (u : ElemPlan). same_number u.instance (Some x.i) && (not (is_variable u) && not u.provided)) false y.there
-        ∙ and_from (same_number y.elem.instance (Some x.i)) (not (is_variable y.elem) && not y.elem.provided) (same_option y.elem.instance (Some x.i) y.owner)
+        ∙ and_from (same_number y.elem.instance (Some x.i)) (not (is_variable y.elem) && not y.elem.provided) (option_test y.elem.instance (Some x.i) y.owner)
         (and_from (not (is_variable y.elem)) (not y.elem.provided) (ap (λ k. not (not (queued k || unqueued k))) y.kept ∙ no_variable req.0) (ap not y.side))
     kind_here (declared_event.OperationInvoked k n) is =
         looked (servers d f) (server_number d f (Some x.i, Some k, n)) (server_at d f x.i k n x.m) (λ (u : ServerPlan). (u.event == e) && ((u.runnable == started) && same_number (Some u.instance) (Some x.i))) false
@@ -132,7 +134,7 @@ module _ (d : Description) (f : Flat) (p : BusPlan) (m : Mapping) (w : IsWhole d
         ∙ and_from (pair_number (events_of d f) (x.i, x.m) == e) _ (eq-eqb (pair_number (events_of d f) (x.i, x.m)) e x.number)
         (and_from (pair_number (runnables_of d f) (x.i, started_by d f x.i x.m) == started) (same_number (Some x.i) (Some x.i))
         (eq-eqb (pair_number (runnables_of d f) (x.i, started_by d f x.i x.m)) started (ap (λ n. pair_number (runnables_of d f) (x.i, n)) (started_is d f p m w x.i x.c x.home x.m x.event x.there)))
-        (same_option (Some x.i) (Some x.i) refl))
+        (option_test (Some x.i) (Some x.i) refl))
     kind_here (declared_event.CallReturns k n) is =
         result_there d f p m w es x.i x.c x.home k n (left_by_access d f p m w x.home.instance.component x.c x.home.has k n
         (subst (λ k. Rattle.plan_definitions.specs.Calls.event_keeps x.c.behavior.runnables k ≡ true) is (return_kept d f p m w x.home.instance.component x.c x.home.has x.m x.event x.there)))
@@ -149,7 +151,7 @@ module _ (d : Description) (f : Flat) (p : BusPlan) (m : Mapping) (w : IsWhole d
         looked (machines d f) (machine_number d f (Some x.i, Some k, 0)) _ (λ (n : MachinePlan). same_number n.instance (Some x.i)) false
         (machine_there d f p m w (Some x.i) k item.port z.element (ap (λ ps. slice_get ps k) (ports_at_home d f x.i x.c x.home) ∙ item.there) (ap (λ s. Rattle.plan_definitions.specs.Sites.provides_at (Some x.i) s) item.kind)
         (ap (option_map (λ (i : Interface). i.kind)) item.has ∙ ap (λ k. Some k) z.is))
-        ∙ same_option (Some x.i) (Some x.i) refl
+        ∙ option_test (Some x.i) (Some x.i) refl
 
     -- ---- modes that disable it
 

@@ -1,9 +1,6 @@
 -- Joined ends: each is a port of its owner, on its side; who is provided by an instance, and keeps arguments and modes.
-use Rattle.std.proofs.Common.{◌≡◌, suc, List, [], ◌∷◌, Bool, true, false, cond, ◌&&◌, nat_eq, Option, Some, None, option_map, option_and_then, inl, inr, refl, sym, subst, ◌∙◌}
-use Rattle.std.specs.Prelude.{is_some}
-use Rattle.std.specs.List.{find, list_all, list_any}
-use Rattle.std.specs.Option.{option_map_or, option_or, option_eq}
-use Rattle.std.proofs.lemmas.Bool.{and_parts, eqb-true}
+use Rattle.std.proofs.Common.{◌≡◌, suc, List, [], ◌∷◌, Bool, true, false, cond, Option, Some, None, option_map, option_and_then, inl, inr, refl, sym, subst, ◌∙◌}
+use Rattle.std.specs.List.{find}
 use Rattle.std.proofs.lemmas.Option.{same_Some}
 use Rattle.description_types.specs.declared.component.Port.{Port}
 use Rattle.description_types.specs.declared.component.PortKind.{PortKind}
@@ -13,8 +10,8 @@ use Rattle.flat_descriptions.specs.declared.flat.End.{End}
 use Rattle.flat_descriptions.specs.declared.flat.Flat.{Flat}
 use Rattle.flat_descriptions.specs.declared.flat.Join.{Join}
 use Rattle.flat_descriptions.specs.Items.{interface_at, ItemsJoin}
-use Rattle.flat_descriptions.specs.Joined.{IsJoined, Stand, stand_in}
-use Rattle.plan_definitions.specs.Connectors.{incompatible, root_client}
+use Rattle.flat_descriptions.specs.Joined.{Stand, stand_in}
+use Rattle.plan_definitions.specs.Connectors.{root_client}
 use Rattle.plan_definitions.specs.JoinRefusals as joins
 use Rattle.plan_definitions.specs.declared.join_rule.JoinRule.TheVariants.{Services, Groups}
 use Rattle.bus_semantics.specs.declared.plan.BusPlan.{BusPlan}
@@ -23,21 +20,17 @@ use Rattle.plan_definitions.specs.Joined.{same_end, provider_of}
 use Rattle.plan_definitions.specs.Sites.{provides_at}
 use Rattle.plan_definitions.specs.Ports.{port_of}
 use Rattle.plan_definitions.specs.Whole.{IsWhole}
-use Rattle.sound_behavior.proofs.Lists.{not_some, none_or, none_map}
-use Rattle.sound_behavior.proofs.Listed.{at}
+use Rattle.plan_definitions.proofs.Keys.{same_end_is}
+use Rattle.plan_definitions.proofs.Firsts.{map_none, or_none}
+use Rattle.sound_behavior.proofs.Lists.{not_some}
+use Rattle.plan_definitions.proofs.Lists.{at}
 use Rattle.sound_behavior.proofs.Members.{Has}
-use Rattle.sound_behavior.proofs.Passing.{Passes}
-use Rattle.sound_behavior.proofs.Sites.{option_equal}
-use Rattle.sound_behavior.proofs.Places.{port_below, interface_there, of_root, of_instance, port_there}
-use Rattle.sound_behavior.proofs.Chains.{are_joined, Faces}
+use Rattle.sound_behavior.proofs.Passing.{Offers, offered}
+use Rattle.plan_definitions.proofs.Stands.{port_below, interface_there, of_root, of_instance, port_there}
+use Rattle.plan_definitions.proofs.Chains.{Faces, are_joined}
+use Rattle.sound_elements.proofs.Fair.{all_compatible}
 
 -- ---- ends
-
-pub end_equal : (a b : End) → same_end a b ≡ true → a ≡ b
-end_equal a b e =
-    let outer = and_parts (option_eq nat_eq a.instance b.instance && nat_eq a.port b.port) (nat_eq a.element b.element) e in
-    let inner = and_parts (option_eq nat_eq a.instance b.instance) (nat_eq a.port b.port) outer.0 in
-    λ j. record { instance = option_equal a.instance b.instance inner.0 j; port = eqb-true a.port b.port inner.1 j; element = eqb-true a.element b.element outer.1 j }
 
 pub record FoundBy (X : Type 0) (test : X → Bool) (xs : List X) (x : X) : Type 0 where
   pub has : Has X xs x
@@ -63,23 +56,20 @@ provided_by js e q is = by (find (λ (j : Join). same_end j.required e) js) refl
   where
     by : (o : Option Join) → find (λ (j : Join). same_end j.required e) js ≡ o → option_map (λ (j : Join). j.provided) o ≡ Some q → ProvidedBy js e q
     by None found is = not_some q is
-    by (Some j) found is = let x = found_by (λ (j : Join). same_end j.required e) js j found in record { join = j; has = x.has; required = end_equal j.required e x.passes; provided = same_Some j.provided q is }
+    by (Some j) found is = let x = found_by (λ (j : Join). same_end j.required e) js j found in record { join = j; has = x.has; required = same_end_is j.required e x.passes; provided = same_Some j.provided q is }
 
 module _ (d : Description) (f : Flat) (p : BusPlan) (m : Mapping) (w : IsWhole d f p m) where
   -- ---- the rules on joins
 
   port_rules : joins.port_refusal d ≡ None
-  port_rules = (none_or (joins.port_refusal d) (joins.item_refusal d f) w.may_join).0
-
-  pub all_compatible : incompatible d ≡ None
-  all_compatible = none_map (λ x. (12, joins.in_composition x.0 (Rattle.std.specs.Prelude.codes "/connectors/") x.1)) (incompatible d) (none_or (joins.of_connectors d) (joins.of_root_ports d) port_rules).0
+  port_rules = (or_none (joins.port_refusal d) (joins.item_refusal d f) w.may_join).0
 
   pub no_root_client : root_client d ≡ None
-  no_root_client = none_map (λ k. (13, joins.in_composition d.root (Rattle.std.specs.Prelude.codes "/ports/") k)) (root_client d) (none_or (joins.of_connectors d) (joins.of_root_ports d) port_rules).1
+  no_root_client = map_none (λ k. (13, joins.in_composition d.root (Rattle.std.specs.Prelude.codes "/ports/") k)) (root_client d) (or_none (joins.of_connectors d) (joins.of_root_ports d) port_rules).1
 
   pub services_kept : Rattle.plan_definitions.specs.JoinedItems.first_broken Services d f ≡ None
-  services_kept = none_map (λ e. (joins.number_of Services, Rattle.plan_definitions.specs.Names.end_text d f e)) (Rattle.plan_definitions.specs.JoinedItems.first_broken Services d f)
-      (none_or (joins.of_items Services d f) (joins.of_items Groups d f) (none_or (joins.port_refusal d) (joins.item_refusal d f) w.may_join).1).0
+  services_kept = map_none (λ e. (joins.number_of Services, Rattle.plan_definitions.specs.Names.end_text d f e)) (Rattle.plan_definitions.specs.JoinedItems.first_broken Services d f)
+      (or_none (joins.of_items Services d f) (joins.of_items Groups d f) (or_none (joins.port_refusal d) (joins.item_refusal d f) w.may_join).1).0
 
   -- ---- joints
 
@@ -91,7 +81,7 @@ module _ (d : Description) (f : Flat) (p : BusPlan) (m : Mapping) (w : IsWhole d
   pub record Joint (j : Join) : Type 0 where
     pub provided : EndAt j.provided true
     pub required : EndAt j.required false
-    pub passes : Passes d.types (interface_at d provided.port.interface) (interface_at d required.port.interface)
+    pub passes : Offers d.types (interface_at d provided.port.interface) (interface_at d required.port.interface)
     pub items : ItemsJoin (interface_at d provided.port.interface) (interface_at d required.port.interface) j.provided.element j.required.element
 
   record PortIs (o : Option Port) (k : PortKind) : Type 0 where
@@ -103,7 +93,7 @@ module _ (d : Description) (f : Flat) (p : BusPlan) (m : Mapping) (w : IsWhole d
   port_is None k e = not_some k e
   port_is (Some x) k e = record { port = x; is = refl; kind = same_Some x.kind k e }
 
-  provided_end : (e : End) (s : Stand) → stand_in d e.instance e.port ≡ Some s → Faces d all_compatible s Provided Required → EndAt e true
+  provided_end : (e : End) (s : Stand) → stand_in d e.instance e.port ≡ Some s → Faces d s Provided Required → EndAt e true
   provided_end e s is (inl x) =
       let o = of_instance d e.instance e.port s is x.0 x.1 x.2 in
       let y = port_is (port_below d s) Provided x.3 in
@@ -113,7 +103,7 @@ module _ (d : Description) (f : Flat) (p : BusPlan) (m : Mapping) (w : IsWhole d
       let y = port_is (port_below d s) Required x.1 in
       record { port = y.port; there = port_there d f w.is_flat e.instance e.port s is ∙ y.is; side = λ j. provides_at (o j) (y.kind j) }
 
-  required_end : (e : End) (s : Stand) → stand_in d e.instance e.port ≡ Some s → Faces d all_compatible s Required Provided → EndAt e false
+  required_end : (e : End) (s : Stand) → stand_in d e.instance e.port ≡ Some s → Faces d s Required Provided → EndAt e false
   required_end e s is (inl x) =
       let o = of_instance d e.instance e.port s is x.0 x.1 x.2 in
       let y = port_is (port_below d s) Required x.3 in
@@ -126,7 +116,7 @@ module _ (d : Description) (f : Flat) (p : BusPlan) (m : Mapping) (w : IsWhole d
   pub joint : (j : Join) → Has Join f.joins j → Joint j
   joint j h =
       let x = (w.is_flat.joined j).0 (at f.joins h.place j h.there) in
-      let y = are_joined d all_compatible x.provided x.required x.stands in
+      let y = are_joined d (Offers d.types) (offered d.types) (all_compatible d f w.may_join) x.provided x.required x.stands in
       let a = provided_end j.provided x.provided x.is_provided y.provides in
       let b = required_end j.required x.required x.is_required y.requires in
       let s : port_below d x.provided ≡ Some a.port = sym (port_there d f w.is_flat j.provided.instance j.provided.port x.provided x.is_provided) ∙ a.there in
@@ -135,8 +125,8 @@ module _ (d : Description) (f : Flat) (p : BusPlan) (m : Mapping) (w : IsWhole d
       record {
         provided = a;
         required = b;
-        passes = subst (λ o. Passes d.types (option_and_then (λ (p : Port). interface_at d p.interface) o) (interface_at d b.port.interface)) s
-            (subst (λ o. Passes d.types (option_and_then (λ (p : Port). interface_at d p.interface) (port_below d x.provided)) (option_and_then (λ (p : Port). interface_at d p.interface) o)) t passes);
+        passes = subst (λ o. Offers d.types (option_and_then (λ (p : Port). interface_at d p.interface) o) (interface_at d b.port.interface)) s
+            (subst (λ o. Offers d.types (option_and_then (λ (p : Port). interface_at d p.interface) (port_below d x.provided)) (option_and_then (λ (p : Port). interface_at d p.interface) o)) t passes);
         items = subst (λ o. ItemsJoin o (interface_at d b.port.interface) j.provided.element j.required.element) (interface_there d x.provided a.port s)
             (subst (λ o. ItemsJoin (Rattle.flat_descriptions.specs.Joined.interface_below d x.provided) o j.provided.element j.required.element) (interface_there d x.required b.port t) x.items);
       }

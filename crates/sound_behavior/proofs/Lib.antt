@@ -8,10 +8,7 @@ pub mod Members
 pub mod Tasks
 pub mod Owed
 pub mod Servers
-pub mod Listed
 pub mod Passing
-pub mod Places
-pub mod Chains
 pub mod Joints
 pub mod Providers
 pub mod Points

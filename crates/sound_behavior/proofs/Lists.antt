@@ -1,29 +1,15 @@
 -- Lists by positions: tests at each position, lists joined end to end, first positions.
-use Rattle.std.proofs.Common.{◌≡◌, ℕ, zero, suc, ◌+◌, ◌<◌, ◌≤◌, Bool, true, false, cond, refl, sym, ◌∙◌, ap, subst, arith, List, [], ◌∷◌, ◌++◌, map, filter, length, Option, Some, None, option_map, ◌⊎◌, inl, inr}
+use Rattle.std.proofs.Common.{◌≡◌, ℕ, zero, suc, ◌+◌, ◌<◌, ◌≤◌, Bool, true, false, cond, refl, ◌∙◌, ap, subst, arith, List, [], ◌∷◌, ◌++◌, map, filter, length, Some, None, option_map, ◌⊎◌, inl, inr}
 use Rattle.std.specs.List.{list_all, list_any, slice_get, position_from}
-use Rattle.std.specs.Option.{option_map_or, option_or}
-use Rattle.std.proofs.lemmas.Bool.{and_from, and_parts, eq-eqb, eqb-true, false≢true, or_cases}
+use Rattle.std.specs.Option.{option_map_or}
+use Rattle.std.proofs.lemmas.Bool.{and_from, and_parts, false≢true, or_cases}
 use Rattle.std.proofs.lemmas.Option.{slice_get-map}
-use Rattle.rte_value.specs.Values.{same_number}
 use Rattle.bus_semantics.specs.Plan.{look, every_from}
-use Rattle.plan_definitions.specs.Firsts.{first_of, unless}
 use Rattle.plan_definitions.specs.Counts.{count}
 use Rattle.plan_definitions.specs.Lists.{from, positions}
+use Rattle.bus_laws.proofs.Thinning.{clash}
 
 -- ---- tests
-
-pub clash : {X : Type 0} (b : Bool) → b ≡ true → b ≡ false → X
-clash b t f = absurd (false≢true (sym f ∙ t))
-
-pub option_same : (a b : Option ℕ) → same_number a b ≡ true → a ≡ b
-option_same None None e = refl
-option_same (Some a) (Some b) e = ap (λ n. Some n) (eqb-true a b e)
-option_same None (Some b) e = absurd (false≢true e)
-option_same (Some a) None e = absurd (false≢true e)
-
-pub same_option : (a b : Option ℕ) → a ≡ b → same_number a b ≡ true
-same_option None b e = subst (λ o. same_number None o ≡ true) e refl
-same_option (Some a) b e = subst (λ o. same_number (Some a) o ≡ true) e (eq-eqb a a refl)
 
 pub not_some : {X Y : Type 0} (a : X) → None ≡ Some a → Y
 not_some a e = absurd (cc e)
@@ -198,15 +184,6 @@ within_before g n (z ∷ xs) (suc a) (suc b) x e l =
 
 -- ---- positions and maps
 
-pub position_is : (i n k : ℕ) → k < n → slice_get (positions i n) k ≡ Some (i + k)
-position_is i zero k l = absurd (omega arith)
-position_is i (suc n) zero l = let place : i ≡ i + 0 = omega arith in ap (λ m. Some m) place
-position_is i (suc n) (suc k) l = position_is (i + 1) n k (omega arith) ∙ (let place : i + 1 + k ≡ i + suc k = omega arith in ap (λ m. Some m) place)
-
-pub length-positions : (i n : ℕ) → length (positions i n) ≡ n
-length-positions i zero = refl
-length-positions i (suc n) = ap (λ m. suc m) (length-positions (i + 1) n)
-
 pub mapped : {X Y : Type 0} (f : X → Y) (xs : List X) (k : ℕ) (x : X) → slice_get xs k ≡ Some x → slice_get (map f xs) k ≡ Some (f x)
 mapped f xs k x e = slice_get-map f xs k ∙ ap (option_map f) e
 
@@ -219,11 +196,6 @@ pub map_at : {X Y : Type 0} (f : X → Y) (xs : List X) (k : ℕ) (y : Y) → sl
 map_at f [] k y e = absurd (cc e)
 map_at f (x ∷ xs) zero y e = record { item = x; there = refl; is = cc }
 map_at f (x ∷ xs) (suc k) y e = let deeper = map_at f xs k y e in record { item = deeper.item; there = deeper.there; is = deeper.is }
-
-pub there_at : {X : Type 0} (xs : List X) (k : ℕ) → k < length xs → (x : X) × (slice_get xs k ≡ Some x)
-there_at [] k l = absurd (omega arith)
-there_at (x ∷ xs) zero l = (x, refl)
-there_at (x ∷ xs) (suc k) l = there_at xs k (omega arith)
 
 -- ---- filters
 
@@ -252,28 +224,6 @@ kept test (y ∷ xs) k x e t = by (λ j s. kept test xs j x s t) (test y) refl k
     by rest false is (suc k) e = rest k e
 
 -- ---- the first that breaks a rule
-
-pub none_or : {X : Type 0} (a b : Option X) → option_or a b ≡ None → (a ≡ None) × (b ≡ None)
-none_or None b e = (refl, e)
-none_or (Some x) b e = (e, absurd (cc e))
-
-pub none_map : {X Y : Type 0} (f : X → Y) (a : Option X) → option_map f a ≡ None → a ≡ None
-none_map f None e = refl
-none_map f (Some x) e = absurd (cc e)
-
-pub none_of : {X Y : Type 0} (f : ℕ → X → Option Y) (n : ℕ) (xs : List X) (k : ℕ) (x : X) → first_of f n xs ≡ None → slice_get xs k ≡ Some x → f (n + k) x ≡ None
-none_of f n [] k x e at = absurd (cc at)
-none_of f n (y ∷ xs) zero x e at =
-    let same : y ≡ x = cc in
-    let place : n ≡ n + 0 = omega arith in
-    (λ j. f (sym place j) (sym same j)) ∙ (none_or (f n y) (first_of f (n + 1) xs) e).0
-none_of f n (y ∷ xs) (suc k) x e at =
-    let place : n + suc k ≡ n + 1 + k = omega arith in
-    ap (λ m. f m x) place ∙ none_of f (n + 1) xs k x (none_or (f n y) (first_of f (n + 1) xs) e).1 at
-
-pub unless_none : {P : Type 0} (b : Bool) (place : P) → unless b place ≡ None → b ≡ true
-unless_none true place e = refl
-unless_none false place e = absurd (cc e)
 
 -- ---- counts
 

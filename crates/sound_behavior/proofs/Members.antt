@@ -1,7 +1,7 @@
 -- What is in a list: of lists joined, in order, mapped and filtered; and how often.
-use Rattle.std.proofs.Common.{◌≡◌, ℕ, zero, suc, ◌+◌, ◌<◌, ◌≤◌, Bool, true, false, cond, ◌&&◌, ◌||◌, ◌==◌, nat_eq, nat_le, refl, sym, ◌∙◌, ap, subst, arith, List, [], ◌∷◌, ◌++◌, map, filter, length, Option, Some, None, ◌⊎◌, inl, inr}
+use Rattle.std.proofs.Common.{◌≡◌, ℕ, zero, suc, ◌+◌, ◌<◌, ◌≤◌, Bool, true, false, cond, nat_eq, nat_le, refl, sym, ◌∙◌, ap, subst, arith, List, [], ◌∷◌, ◌++◌, map, filter, length, Some, ◌⊎◌, inl, inr}
 use Rattle.std.specs.List.{slice_get, flat_map, list_any}
-use Rattle.std.proofs.lemmas.Bool.{false≢true, eqb-true, eq-eqb, and_from, and_parts, not-true}
+use Rattle.std.proofs.lemmas.Bool.{eqb-true, eq-eqb, and_parts, not-true}
 use Rattle.std.proofs.lemmas.Map.Keys.{any_passes_from_place}
 use Rattle.std.proofs.lemmas.Option.{same_Some}
 use Rattle.bus_semantics.specs.History.{count}
@@ -11,7 +11,9 @@ use Rattle.bus_semantics.specs.SoundPlan.{same_numbers}
 use Rattle.plan_definitions.specs.MappingRules.{are_same}
 use Rattle.plan_definitions.specs.Sorting.{put, in_order}
 use Rattle.plan_definitions.specs.WellFormed.{distinct}
-use Rattle.sound_behavior.proofs.Lists.{clash, append_left, append_right, append_at, Later, kept_at, kept, mapped, all_at}
+use Rattle.plan_definitions.proofs.Lists.{same_numbers_refl}
+use Rattle.bus_laws.proofs.Thinning.{clash}
+use Rattle.sound_behavior.proofs.Lists.{append_left, append_right, append_at, Later, kept_at, kept, mapped, all_at}
 
 pub record Has (X : Type 0) (xs : List X) (x : X) : Type 0 where
   pub place : ℕ
@@ -115,26 +117,16 @@ position_at_plan (suc n) k r e = by (λ a. position_at_plan n k r a) (append_at 
 
 -- ---- names that are apart, tasks that are one
 
-pub numbers_equal : (a b : List ℕ) → same_numbers a b ≡ true → a ≡ b
-numbers_equal [] [] e = refl
-numbers_equal [] (y ∷ b) e = absurd (false≢true e)
-numbers_equal (x ∷ a) [] e = absurd (false≢true e)
-numbers_equal (x ∷ a) (y ∷ b) e = let two = and_parts (x == y) (same_numbers a b) e in λ j. eqb-true x y two.0 j ∷ numbers_equal a b two.1 j
-
-pub numbers_itself : (a : List ℕ) → same_numbers a a ≡ true
-numbers_itself [] = refl
-numbers_itself (x ∷ a) = and_from (x == x) (same_numbers a a) (eq-eqb x x refl) (numbers_itself a)
-
 -- two of distinct names at two places differ
 pub names_apart : (ns : List (List ℕ)) (i j : ℕ) (a : List ℕ) → distinct ns ≡ true → slice_get ns i ≡ Some a → slice_get ns j ≡ Some a → i ≡ j
 names_apart [] i j a all s t = absurd (cc s)
 names_apart (n ∷ ns) zero zero a all s t = refl
 names_apart (n ∷ ns) zero (suc j) a all s t =
     let same : n ≡ a = same_Some n a s in
-    clash (list_any (same_numbers n) ns) (any_passes_from_place (same_numbers n) ns j a t (subst (λ b. same_numbers n b ≡ true) same (numbers_itself n))) (not-true (list_any (same_numbers n) ns) (and_parts _ (distinct ns) all).0)
+    clash (list_any (same_numbers n) ns) (any_passes_from_place (same_numbers n) ns j a t (subst (λ b. same_numbers n b ≡ true) same (same_numbers_refl n))) (not-true (list_any (same_numbers n) ns) (and_parts _ (distinct ns) all).0)
 names_apart (n ∷ ns) (suc i) zero a all s t =
     let same : n ≡ a = same_Some n a t in
-    clash (list_any (same_numbers n) ns) (any_passes_from_place (same_numbers n) ns i a s (subst (λ b. same_numbers n b ≡ true) same (numbers_itself n))) (not-true (list_any (same_numbers n) ns) (and_parts _ (distinct ns) all).0)
+    clash (list_any (same_numbers n) ns) (any_passes_from_place (same_numbers n) ns i a s (subst (λ b. same_numbers n b ≡ true) same (same_numbers_refl n))) (not-true (list_any (same_numbers n) ns) (and_parts _ (distinct ns) all).0)
 names_apart (n ∷ ns) (suc i) (suc j) a all s t = ap (λ k. suc k) (names_apart ns i j a (and_parts _ (distinct ns) all).1 s t)
 
 pub tasks_one : (ts : List ℕ) (a b : ℕ) → are_same ts ≡ true → Has ℕ ts a → Has ℕ ts b → a ≡ b

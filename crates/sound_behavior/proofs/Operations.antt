@@ -49,12 +49,14 @@ use Rattle.plan_definitions.specs.Sites.{root_ports}
 use Rattle.plan_definitions.specs.Ports.{ports_of, port_of, interface_of, item_name, item_text}
 use Rattle.plan_definitions.specs.Things.{server_number}
 use Rattle.plan_definitions.specs.declared.calling.Calling.{Calling}
-use Rattle.plan_definitions.specs.Callings.{callings, owner_of, outer_calling}
+use Rattle.plan_definitions.specs.Callings.{callings, owner_of}
 use Rattle.plan_definitions.specs.Services.{argument_of, is_out, operation_in, point_of, point_words, points, server_at, servers}
 use Rattle.plan_definitions.specs.WellFormed as formed
 use Rattle.plan_definitions.specs.Whole.{IsWhole}
-use Rattle.sound_behavior.proofs.Lists.{clash, not_some, option_same, all_if, all_at, every_if, looked, map_at, MapAt, mapped, kept_at, append_at, Later}
-use Rattle.sound_behavior.proofs.Members.{numbers_equal, names_apart}
+use Rattle.plan_definitions.proofs.Lists.{same_numbers_is}
+use Rattle.bus_laws.proofs.Thinning.{option_same}
+use Rattle.sound_behavior.proofs.Lists.{not_some, all_if, all_at, every_if, looked, map_at, MapAt, mapped, kept_at, append_at, Later}
+use Rattle.sound_behavior.proofs.Members.{names_apart}
 use Rattle.sound_behavior.proofs.Parts.{Home, component_home, same_home}
 use Rattle.sound_behavior.proofs.Rules.{planned, plan_is, ports_formed, access_kept}
 use Rattle.sound_behavior.proofs.Serving.{invoked_by, server_there}
@@ -298,7 +300,7 @@ module _ (d : Description) (f : Flat) (p : BusPlan) (m : Mapping) (w : IsWhole d
     pub same_called : (i j : ℕ) (y u : Calling) (z : InnerCall d f i y) (v : InnerCall d f j u) → z.i ≡ v.i → same_numbers (point_of d f y).name (point_of d f u).name ≡ true → SameCalled i j y u z v
     same_called i j y u z v homes same =
         let text : item_text d f (Some z.i) z.access.port z.access.item ≡ item_text d f (Some z.i) v.access.port v.access.item =
-        ap (λ (c : Calling). (point_of d f c).name) (sym z.is.is) ∙ numbers_equal (point_of d f y).name (point_of d f u).name same ∙ ap (λ (c : Calling). (point_of d f c).name) v.is.is ∙ ap (λ n. item_text d f (Some n) v.access.port v.access.item) (sym homes) in
+        ap (λ (c : Calling). (point_of d f c).name) (sym z.is.is) ∙ same_numbers_is (point_of d f y).name (point_of d f u).name same ∙ ap (λ (c : Calling). (point_of d f c).name) v.is.is ∙ ap (λ n. item_text d f (Some n) v.access.port v.access.item) (sym homes) in
         let at_v : OperationAt (Some z.i) v.access.port v.access.item = subst (λ n. OperationAt (Some n) v.access.port v.access.item) (sym homes) (inner_operation j u v) in
         let operation = names_one (Some z.i) z.access.port v.access.port z.access.item v.access.item (inner_operation i y z) at_v text in
         record { home = homes; component = same_home d f v.i z.c v.c (subst (λ n. Home d f n z.c) homes z.home) v.home; port = operation.0; item = operation.1 }
@@ -333,7 +335,7 @@ module _ (d : Description) (f : Flat) (p : BusPlan) (m : Mapping) (w : IsWhole d
     -- the environment has one point of a name
     pub same_outer : (i j : ℕ) (y u : Calling) → OuterCall d f i y → OuterCall d f j u → same_numbers (point_of d f y).name (point_of d f u).name ≡ true → i ≡ j
     same_outer i j y u z v same =
-        let text : item_text d f None z.k z.n ≡ item_text d f None v.k v.n = ap (λ (c : Calling). (point_of d f c).name) (sym z.is) ∙ numbers_equal (point_of d f y).name (point_of d f u).name same ∙ ap (λ (c : Calling). (point_of d f c).name) v.is in
+        let text : item_text d f None z.k z.n ≡ item_text d f None v.k v.n = ap (λ (c : Calling). (point_of d f c).name) (sym z.is) ∙ same_numbers_is (point_of d f y).name (point_of d f u).name same ∙ ap (λ (c : Calling). (point_of d f c).name) v.is in
         let operation = names_one None z.k v.k z.n v.n (outer_at i y z) (outer_at j u v) text in
         z.place ∙ (λ t. length (inner d f) + (Rattle.sound_behavior.proofs.Lists.before (Rattle.plan_definitions.specs.Callings.outer_callings d) 0 (root_ports d) (operation.0 t) + operation.1 t)) ∙ sym v.place
 

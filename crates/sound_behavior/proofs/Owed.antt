@@ -19,7 +19,7 @@ use Rattle.bus_semantics.specs.declared.plan.ServerPlan.{ServerPlan}
 use Rattle.bus_semantics.specs.declared.script.Mapping.{Mapping}
 use Rattle.bus_semantics.specs.declared.script.Task.{Task}
 use Rattle.bus_semantics.specs.History.{count}
-use Rattle.bus_semantics.specs.Plan.{plan_of, look, every_from, positions}
+use Rattle.bus_semantics.specs.Plan.{plan_of, every_from, positions}
 use Rattle.bus_semantics.specs.Plan as plan
 use Rattle.bus_semantics.specs.Rest.{gathered}
 use Rattle.bus_semantics.specs.Sound as sound
@@ -39,8 +39,9 @@ use Rattle.plan_definitions.specs.Ports.{queue_length_of}
 use Rattle.plan_definitions.specs.Things.{server_number}
 use Rattle.plan_definitions.specs.WellFormed as formed
 use Rattle.plan_definitions.specs.Whole.{IsWhole}
-use Rattle.sound_behavior.proofs.Lists.{all_if, all_at, every_if, looked, there_at, mapped}
-use Rattle.sound_behavior.proofs.Members.{position_at_plan, numbers_equal, names_apart, count_append, count_flat, added_same, added_kept, added_order, spread, spread_all}
+use Rattle.plan_definitions.proofs.Lists.{same_numbers_is, there}
+use Rattle.sound_behavior.proofs.Lists.{all_if, all_at, every_if, looked, mapped}
+use Rattle.sound_behavior.proofs.Members.{position_at_plan, names_apart, count_append, count_flat, added_same, added_kept, added_order, spread, spread_all}
 use Rattle.sound_behavior.proofs.Parts.{one_at, OneAt, length-one_each, EventAt, event_at, event_there, numbers_apart, number_there, same_pairs, event_count}
 use Rattle.sound_behavior.proofs.Rules.{planned, plan_is, mapped_kept}
 use Rattle.sound_behavior.proofs.Serving.{server_there}
@@ -176,7 +177,7 @@ module _ (d : Description) (f : Flat) (p : BusPlan) (m : Mapping) (w : IsWhole d
       by : (b : Bool) → same_numbers a.name c.name ≡ b → ((i == j) || not b) ≡ true
       by false is = or_right (i == j) true refl
       by true is =
-          let same : x.item.short_name ≡ y.item.short_name = ap (λ (u : Task). u.name) (sym x.is) ∙ numbers_equal a.name c.name is ∙ ap (λ (u : Task). u.name) y.is in
+          let same : x.item.short_name ≡ y.item.short_name = ap (λ (u : Task). u.name) (sym x.is) ∙ same_numbers_is a.name c.name is ∙ ap (λ (u : Task). u.name) y.is in
           or_left (i == j) false (eq-eqb i j (names_apart (map (λ (t : declared_task.Task). t.short_name) d.mapping.tasks) i j x.item.short_name
           (and_parts (list_all is_name (map (λ (t : declared_task.Task). t.short_name) d.mapping.tasks)) (formed.distinct (map (λ (t : declared_task.Task). t.short_name) d.mapping.tasks)) tasks_formed.1).1
           (name_at i x.item x.there) (name_at j y.item y.there ∙ ap (λ n. Some n) (sym same))))
@@ -197,8 +198,8 @@ module _ (d : Description) (f : Flat) (p : BusPlan) (m : Mapping) (w : IsWhole d
       (every_if (λ e (v : EventPlan). count (λ k. k == e) (mapped_events (mapping_of d f)) == times_mapped (planned d f es) v.kind) 0 (events d f)
       (λ e v at. let none : e ≡ 0 + e = omega arith in subst (λ k. (count (λ j. j == k) (mapped_events (mapping_of d f)) == times_mapped (planned d f es) v.kind) ≡ true) none (owed e v (event_at d f e v at))))
       (all_if (λ r. nat_le (length (sound.tasks_of (planned d f es) (mapping_of d f) r)) 1) (positions (length (runnables d f)))
-      (λ k r at. let there = there_at (runnables d f) r (position_at_plan (length (runnables d f)) k r at) in
-      le-leb (length (sound.tasks_of (planned d f es) (mapping_of d f) r)) 1 (in_one_task d f p m w es r there.0 there.1)))))))
+      (λ k r at. let found = there (runnables d f) r (position_at_plan (length (runnables d f)) k r at) in
+      le-leb (length (sound.tasks_of (planned d f es) (mapping_of d f) r)) 1 (in_one_task d f p m w es r found.0 found.1)))))))
 
 pub tasks_sound : (d : Description) (f : Flat) (p : BusPlan) (m : Mapping) → IsWhole d f p m → sound.mapping_fits (plan_of p) m ≡ true
 tasks_sound d f p m w = (λ j. sound.mapping_fits (plan_is d f p w.is_plan j) (w.is_mapping j)) ∙ mapping_sound d f p m w p.elements

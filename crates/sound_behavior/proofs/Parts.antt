@@ -19,7 +19,8 @@ use Rattle.plan_definitions.specs.Lists.{from, positions}
 use Rattle.plan_definitions.specs.Parts.{component_of, of_instances, numbered, runnables_of, events_of, areas_of}
 use Rattle.plan_definitions.specs.Started.{event_of, events_of_component, events, runnable_of, runnables_of_component, runnables}
 use Rattle.plan_definitions.specs.Planned.{area_of, areas}
-use Rattle.sound_behavior.proofs.Lists.{found, before, In, in_from, reach, before_same, position_is, length-positions, mapped, map_at}
+use Rattle.plan_definitions.proofs.Lists.{many_positions, position_there}
+use Rattle.sound_behavior.proofs.Lists.{found, before, In, in_from, reach, before_same, mapped, map_at}
 
 -- ---- lists with one item for each
 
@@ -138,12 +139,12 @@ module _ (d : Description) (f : Flat) where
       by i (Some c) = refl
 
   pub numbered_at : (i n m : ℕ) → m < n → slice_get (numbered i n) m ≡ Some (i, m)
-  numbered_at i n m l = mapped (λ (k : ℕ). (i, k)) (positions 0 n) m (0 + m) (position_is 0 n m l) ∙ (let place : 0 + m ≡ m = omega arith in ap (λ (k : ℕ). Some (i, k)) place)
+  numbered_at i n m l = mapped (λ (k : ℕ). (i, k)) (positions 0 n) m (0 + m) (position_there 0 n m l) ∙ (let place : 0 + m ≡ m = omega arith in ap (λ (k : ℕ). Some (i, k)) place)
 
   pub at_numbered : (i n m : ℕ) (y : ℕ × ℕ) → slice_get (numbered i n) m ≡ Some y → (m < n) × (y ≡ (i, m))
   at_numbered i n m y e =
       let within : m < length (numbered i n) = slice_get_within (numbered i n) m y e in
-      let long : length (numbered i n) ≡ n = length-map (positions 0 n) (λ (k : ℕ). (i, k)) ∙ length-positions 0 n in
+      let long : length (numbered i n) ≡ n = length-map (positions 0 n) (λ (k : ℕ). (i, k)) ∙ many_positions 0 n in
       let less : m < n = omega arith in
       (less, same_Some y (i, m) (sym e ∙ numbered_at i n m less))
 
@@ -199,7 +200,7 @@ module _ (d : Description) (f : Flat) where
 
   same_events : (i : ℕ) (c : Component) → length (pairs_in event_count i c) ≡ length (events_of_component d f i c)
   unfolding pairs_in
-  same_events i c = length-map (positions 0 (length c.behavior.events)) (λ (m : ℕ). (i, m)) ∙ length-positions 0 (length c.behavior.events) ∙ sym (length-map c.behavior.events (event_of d f i))
+  same_events i c = length-map (positions 0 (length c.behavior.events)) (λ (m : ℕ). (i, m)) ∙ many_positions 0 (length c.behavior.events) ∙ sym (length-map c.behavior.events (event_of d f i))
 
   pub record EventAt (k : ℕ) (v : EventPlan) : Type 0 where
     pub i : ℕ
@@ -231,7 +232,7 @@ module _ (d : Description) (f : Flat) where
 
   same_runnables : (i : ℕ) (c : Component) → length (pairs_in runnable_count i c) ≡ length (runnables_of_component d f i c)
   unfolding pairs_in
-  same_runnables i c = length-map (positions 0 (length c.behavior.runnables)) (λ (m : ℕ). (i, m)) ∙ length-positions 0 (length c.behavior.runnables) ∙ sym (length-one_each (runnable_of d f i c) 0 c.behavior.runnables)
+  same_runnables i c = length-map (positions 0 (length c.behavior.runnables)) (λ (m : ℕ). (i, m)) ∙ many_positions 0 (length c.behavior.runnables) ∙ sym (length-one_each (runnable_of d f i c) 0 c.behavior.runnables)
 
   pub record RunnableAt (k : ℕ) (v : Runnable) : Type 0 where
     pub i : ℕ
@@ -270,7 +271,7 @@ module _ (d : Description) (f : Flat) where
 
   same_areas : (i : ℕ) (c : Component) → length (pairs_in area_count i c) ≡ length (areas_in i c)
   unfolding pairs_in areas_in
-  same_areas i c = length-map (positions 0 (length c.behavior.exclusive_areas)) (λ (m : ℕ). (i, m)) ∙ length-positions 0 (length c.behavior.exclusive_areas) ∙ sym (length-map c.behavior.exclusive_areas (area_of i))
+  same_areas i c = length-map (positions 0 (length c.behavior.exclusive_areas)) (λ (m : ℕ). (i, m)) ∙ many_positions 0 (length c.behavior.exclusive_areas) ∙ sym (length-map c.behavior.exclusive_areas (area_of i))
 
   areas_are : areas d f ≡ of_instances areas_in d f
   unfolding areas_in

@@ -21,13 +21,9 @@ use Rattle.interface_types.specs.declared.interface.TypeTable.{TypeTable}
 use Rattle.plan_definitions.specs.Interfaces.{same_argument, same_arguments, same_direction, same_modes, serves, serves_in, serves_operation}
 use Rattle.plan_definitions.specs.Types.{agree, are_compatible_types, base_number, types_agree}
 use Rattle.plan_definitions.specs.Signatures.{arguments_of, goes, limits_of}
+use Rattle.plan_definitions.proofs.Chains.{IsPassed}
+use Rattle.plan_definitions.proofs.Lists.{same_bytes}
 use Rattle.sound_behavior.proofs.Lists.{all_at, any_at}
-
-pub same_bytes : (a b : List ℕ) → bytes_eq a b ≡ true → a ≡ b
-same_bytes [] [] h = refl
-same_bytes [] (y ∷ b) h = absurd (false≢true h)
-same_bytes (x ∷ a) [] h = absurd (false≢true h)
-same_bytes (x ∷ a) (y ∷ b) h = let p = and_parts (nat_eq x y) (bytes_eq a b) h in (λ j. eqb-true x y p.0 j ∷ same_bytes a b p.1 j)
 
 same_direction_is : (a b : Direction) → same_direction a b ≡ true → a ≡ b
 same_direction_is In In e = refl
@@ -123,18 +119,18 @@ module _ (types : TypeTable) where
     pub modes : modes_of_group (slice_get types.mode_groups element.of_type) ≡ modes_of_group (slice_get types.mode_groups y.of_type)
 
   -- what a required interface has, the provided one has
-  pub record Passes (a b : Option InterfaceKind) : Type 0 where
+  pub record Offers (a b : Option InterfaceKind) : Type 0 where
     pub operations : (ys : List Operation) → b ≡ Some (ClientServer ys) → FromServer a ys
     pub modes : (y : ModeElement) → b ≡ Some (ModeSwitch y) → FromMachine a y
 
-  pub passes_refl : (a : Option InterfaceKind) → Passes a a
-  passes_refl a = record {
+  offers_itself : (a : Option InterfaceKind) → Offers a a
+  offers_itself a = record {
     operations = λ ys is. record { all = ys; is = is; serve = λ k r at. record { place = k; operation = r; there = at; serves = record { name = refl; arguments = λ way. refl } } };
     modes = λ y is. record { element = y; is = is; modes = refl };
   }
 
-  pub passes_then : (a b c : Option InterfaceKind) → Passes a b → Passes b c → Passes a c
-  passes_then a b c first second = record {
+  offers_onward : (a b c : Option InterfaceKind) → Offers a b → Offers b c → Offers a c
+  offers_onward a b c first second = record {
     operations = λ zs is.
         let s = second.operations zs is in
         let t = first.operations s.all s.is in
@@ -152,9 +148,9 @@ module _ (types : TypeTable) where
         record { element = t.element; is = t.is; modes = t.modes ∙ s.modes };
   }
 
-  kinds_pass : (a b : InterfaceKind) → serves types a b ≡ true → Passes (Some a) (Some b)
-  kinds_pass (SenderReceiver ps) (SenderReceiver rs) h = record { operations = λ ys is. absurd (cc is); modes = λ y is. absurd (cc is) }
-  kinds_pass (ClientServer ps) (ClientServer rs) h = record {
+  kinds_offer : (a b : InterfaceKind) → serves types a b ≡ true → Offers (Some a) (Some b)
+  kinds_offer (SenderReceiver ps) (SenderReceiver rs) h = record { operations = λ ys is. absurd (cc is); modes = λ y is. absurd (cc is) }
+  kinds_offer (ClientServer ps) (ClientServer rs) h = record {
     operations = λ ys is. record {
       all = ps;
       is = refl;
@@ -165,20 +161,23 @@ module _ (types : TypeTable) where
     };
     modes = λ y is. absurd (cc is);
   }
-  kinds_pass (ModeSwitch p) (ModeSwitch r) h = record {
+  kinds_offer (ModeSwitch p) (ModeSwitch r) h = record {
     operations = λ ys is. absurd (cc is);
     modes = λ y is. let same : r ≡ y = cc is in
         record { element = p; is = refl; modes = same_groups (slice_get types.mode_groups p.of_type) (slice_get types.mode_groups r.of_type) h ∙ ap (λ (x : ModeElement). modes_of_group (slice_get types.mode_groups x.of_type)) same };
   }
-  kinds_pass (SenderReceiver ps) (ClientServer rs) h = absurd (false≢true h)
-  kinds_pass (SenderReceiver ps) (ModeSwitch r) h = absurd (false≢true h)
-  kinds_pass (ClientServer ps) (SenderReceiver rs) h = absurd (false≢true h)
-  kinds_pass (ClientServer ps) (ModeSwitch r) h = absurd (false≢true h)
-  kinds_pass (ModeSwitch p) (SenderReceiver rs) h = absurd (false≢true h)
-  kinds_pass (ModeSwitch p) (ClientServer rs) h = absurd (false≢true h)
+  kinds_offer (SenderReceiver ps) (ClientServer rs) h = absurd (false≢true h)
+  kinds_offer (SenderReceiver ps) (ModeSwitch r) h = absurd (false≢true h)
+  kinds_offer (ClientServer ps) (SenderReceiver rs) h = absurd (false≢true h)
+  kinds_offer (ClientServer ps) (ModeSwitch r) h = absurd (false≢true h)
+  kinds_offer (ModeSwitch p) (SenderReceiver rs) h = absurd (false≢true h)
+  kinds_offer (ModeSwitch p) (ClientServer rs) h = absurd (false≢true h)
 
   -- compatible interfaces
-  pub compatible_passes : (a b : Option Interface) → serves_in types a b ≡ true → Passes (option_map (λ (i : Interface). i.kind) a) (option_map (λ (i : Interface). i.kind) b)
-  compatible_passes None b h = absurd (false≢true h)
-  compatible_passes (Some a) None h = absurd (false≢true h)
-  compatible_passes (Some a) (Some b) h = kinds_pass a.kind b.kind h
+  compatible_offers : (a b : Option Interface) → serves_in types a b ≡ true → Offers (option_map (λ (i : Interface). i.kind) a) (option_map (λ (i : Interface). i.kind) b)
+  compatible_offers None b h = absurd (false≢true h)
+  compatible_offers (Some a) None h = absurd (false≢true h)
+  compatible_offers (Some a) (Some b) h = kinds_offer a.kind b.kind h
+
+  pub offered : IsPassed types Offers
+  offered = record { itself = offers_itself; onward = offers_onward; compatible = compatible_offers }

@@ -1,7 +1,7 @@
 -- Calls: each access that calls is a point, whose number is its place; those of the environment stand last.
 use Rattle.std.proofs.Common.{◌≡◌, ℕ, zero, suc, ◌+◌, ◌<◌, ◌≤◌, Bool, true, false, ◌==◌, nat_eq, refl, sym, ◌∙◌, ap, subst, arith, List, [], ◌∷◌, ◌++◌, length, Some, ◌⊎◌, inl, inr}
 use Rattle.std.specs.List.{slice_get, flat_map}
-use Rattle.std.proofs.lemmas.Bool.{false≢true, eqb-true, eq-eqb, and_from, and_parts}
+use Rattle.std.proofs.lemmas.Bool.{eqb-true, eq-eqb, and_from, and_parts}
 use Rattle.std.proofs.lemmas.Option.{same_Some, slice_get_within}
 use Rattle.runnable_lang.specs.declared.program.AccessKind.{AccessKind}
 use Rattle.runnable_lang.specs.declared.program.AccessKind.TheVariants as kind
@@ -23,7 +23,8 @@ use Rattle.plan_definitions.specs.Sites.{root_ports}
 use Rattle.plan_definitions.specs.declared.calling.Calling.{Calling}
 use Rattle.plan_definitions.specs.Callings.{calling_of, callings_in, callings_of_component, operations_at, outer_calling, outer_callings, callings}
 use Rattle.plan_definitions.specs.Whole.{IsWhole}
-use Rattle.sound_behavior.proofs.Lists.{before, in_from, reach, within_before, append_left, Later, map_at, counted_at, once, position_is, length-positions}
+use Rattle.plan_definitions.proofs.Lists.{many_positions, position_there}
+use Rattle.sound_behavior.proofs.Lists.{before, in_from, reach, within_before, append_left, Later, map_at, counted_at, once}
 use Rattle.sound_behavior.proofs.Members.{Has, has_flat}
 use Rattle.sound_behavior.proofs.Parts.{Home, start, of_instance, to_instance}
 use Rattle.sound_behavior.proofs.Rules.{call_kept}
@@ -158,10 +159,10 @@ module _ (d : Description) (f : Flat) where
       subst (λ (p : Port). slice_get (outer_callings d k p) j ≡ Some y) (λ q. record { short_name = port.short_name; kind = is q; interface = port.interface; com_specs = port.com_specs }) e in
       let x = map_at (outer_calling k) (positions 0 (operations_at d port)) j y at in
       let within : j < length (positions 0 (operations_at d port)) = slice_get_within (positions 0 (operations_at d port)) j x.item x.there in
-      let long : length (positions 0 (operations_at d port)) ≡ operations_at d port = length-positions 0 (operations_at d port) in
+      let long : length (positions 0 (operations_at d port)) ≡ operations_at d port = many_positions 0 (operations_at d port) in
       let less : j < operations_at d port = omega arith in
       let none : 0 + j ≡ j = omega arith in
-      let item : x.item ≡ j = same_Some x.item j (sym x.there ∙ position_is 0 (operations_at d port) j less ∙ ap (λ n. Some n) none) in
+      let item : x.item ≡ j = same_Some x.item j (sym x.there ∙ position_there 0 (operations_at d port) j less ∙ ap (λ n. Some n) none) in
       (is, less, x.is ∙ ap (outer_calling k) item)
   outer_at short_name Required interface port is k j y e =
       let at : slice_get (outer_callings d k (record { short_name = port.short_name; kind = Required; interface = port.interface; com_specs = port.com_specs })) j ≡ Some y =

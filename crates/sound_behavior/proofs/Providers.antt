@@ -23,7 +23,7 @@ use Rattle.flat_descriptions.specs.declared.flat.Instance.{Instance}
 use Rattle.flat_descriptions.specs.declared.flat.Join.{Join}
 use Rattle.flat_descriptions.specs.Items.{interface_at, ItemsJoin, operation_names, IsSameName}
 use Rattle.plan_definitions.specs.Connectors as connectors
-use Rattle.plan_definitions.specs.Connectors.{requires_server, root_client}
+use Rattle.plan_definitions.specs.Connectors.{requires_server}
 use Rattle.plan_definitions.specs.JoinedItems as items
 use Rattle.plan_definitions.specs.Joins as sides
 use Rattle.plan_definitions.specs.declared.join_rule.JoinRule.TheVariants.{Services}
@@ -42,14 +42,15 @@ use Rattle.plan_definitions.specs.Things.{machine_for, machine_number, machines_
 use Rattle.plan_definitions.specs.Modes.{group_in, machine_at, machines, mode_port_at, mode_ports}
 use Rattle.plan_definitions.specs.WellFormed as formed
 use Rattle.plan_definitions.specs.Whole.{IsWhole}
-use Rattle.sound_behavior.proofs.Lists.{not_some, all_at, map_at, mapped, none_or, kept}
+use Rattle.plan_definitions.proofs.Firsts.{first_none, or_none}
+use Rattle.plan_definitions.proofs.Lists.{is_there}
+use Rattle.sound_behavior.proofs.Lists.{not_some, all_at, map_at, mapped, kept}
 use Rattle.sound_behavior.proofs.Members.{names_apart}
 use Rattle.sound_behavior.proofs.Parts.{Home, component_home}
 use Rattle.sound_behavior.proofs.Sites.{ports_at_home, site_there, numbered_kind, place_of, kept_apart, kind_apart, number_at}
 use Rattle.sound_behavior.proofs.Items.{ItemAt, ModesIn, modes_item}
 use Rattle.sound_behavior.proofs.Serving.{Provides}
 use Rattle.sound_behavior.proofs.Passing.{ServesAs, FromServer, FromMachine, Served, modes_of_group}
-use Rattle.sound_behavior.proofs.Chains.{first_none}
 use Rattle.sound_behavior.proofs.Joints.{ProvidedBy, provided_by, Joint, joint, no_root_client, services_kept}
 
 -- something is found where something is kept
@@ -60,10 +61,6 @@ kept_found test f (x ∷ xs) e = by (λ r. kept_found test f xs r) (test x) e
     by : (sides.is_none (map f (filter test xs)) ≡ false → is_some (option_map f (find test xs)) ≡ true) → (b : Bool) → sides.is_none (map f (cond b (x ∷ filter test xs) (filter test xs))) ≡ false → is_some (option_map f (cond b (Some x) (find test xs))) ≡ true
     by rest true e = refl
     by rest false e = rest e
-
-pub some_of : {X : Type 0} (o : Option X) → is_some o ≡ true → (x : X) × (o ≡ Some x)
-some_of None e = absurd (false≢true e)
-some_of (Some x) e = (x, refl)
 
 module _ (d : Description) (f : Flat) (p : BusPlan) (m : Mapping) (w : IsWhole d f p m) where
   pub interface_is : (o : Option ℕ) (k : ℕ) (port : Port) → port_of d f o k ≡ Some port → interface_of d f o k ≡ interface_at d port.interface
@@ -234,7 +231,7 @@ module _ (d : Description) (f : Flat) (p : BusPlan) (m : Mapping) (w : IsWhole d
 
     has_provider : is_some (provider_of f.joins (end_at (Some i) k 0)) ≡ true
     has_provider =
-        let at_instances = (none_or (items.in_instances Services d f) (items.in_ports Services d f None (connectors.ports_of d (of_type.Composition d.root))) (services_kept d f p m w)).0 in
+        let at_instances = (or_none (items.in_instances Services d f) (items.in_ports Services d f None (connectors.ports_of d (of_type.Composition d.root))) (services_kept d f p m w)).0 in
         let at_instance = first_none (λ n (z : Instance). items.in_ports Services d f (Some n) (connectors.ports_of d (of_type.Component z.component))) 0 f.instances i home.instance at_instances home.there in
         let none : 0 + i ≡ i = omega arith in
         let ports : connectors.ports_of d (of_type.Component home.instance.component) ≡ c.ports = ap (λ o. option_map_or (λ (z : Component). z.ports) o []) home.has in
@@ -259,7 +256,7 @@ module _ (d : Description) (f : Flat) (p : BusPlan) (m : Mapping) (w : IsWhole d
         ∙ ap (option_map (λ (z : Interface). z.kind)) x.has ∙ ap (λ z. Some z) required_in.is
 
     pub required_machine : MachineBy (Some i) k required_in.element
-    required_machine = let q = some_of (provider_of f.joins (end_at (Some i) k 0)) has_provider in machine_by (Some i) k required_in.element required_in.group required_interface required_in.there q.0 q.1
+    required_machine = let q = is_there (provider_of f.joins (end_at (Some i) k 0)) has_provider in machine_by (Some i) k required_in.element required_in.group required_interface required_in.there q.0 q.1
 
     pub required_modes : length required_machine.machine.modes ≡ count
     required_modes = ap length (same_Some required_machine.machine.modes required_in.group.modes (required_machine.modes ∙ ap modes_of_group required_in.there)) ∙ required_in.counted

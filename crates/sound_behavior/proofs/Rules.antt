@@ -33,14 +33,14 @@ use Rattle.plan_definitions.specs.ElementGroups.{groups}
 use Rattle.plan_definitions.specs.Modes.{machines, mode_ports}
 use Rattle.plan_definitions.specs.Services.{points, servers}
 use Rattle.plan_definitions.specs.Started.{events, runnables}
-use Rattle.plan_definitions.specs.Planned.{areas, object_count, seen}
+use Rattle.plan_definitions.specs.Planned.{areas, bundles, homes, object_count, seen}
 use Rattle.plan_definitions.specs.Planned.{plan_of as whole_plan}
 use Rattle.plan_definitions.specs.PlanRefusals as whole
 use Rattle.plan_definitions.specs.PlanRules.{is_too_large}
-use Rattle.plan_definitions.specs.WellFormed.{IsWellFormed}
 use Rattle.plan_definitions.specs.WellFormed as formed
 use Rattle.plan_definitions.specs.Whole.{IsWhole}
-use Rattle.sound_behavior.proofs.Lists.{not_some, all_at, none_or, none_map, none_of, unless_none}
+use Rattle.plan_definitions.proofs.Firsts.{first_none, map_none, or_none, unless_none}
+use Rattle.sound_behavior.proofs.Lists.{not_some, all_at}
 use Rattle.sound_behavior.proofs.Parts.{Home}
 
 -- ---- the plan
@@ -58,6 +58,9 @@ planned d f es = record {
   mode_ports = mode_ports d f;
   events = events d f;
   runnables = runnables d f;
+  lists = [];
+  homes = homes d f;
+  bundles = bundles d f;
   objects = object_count (length (groups (leaders d f))) (length (servers d f)) (length (areas d f)) (length (machines d f));
 }
 
@@ -73,19 +76,22 @@ plan_is d f p e = λ j. record {
   mode_ports = (e j).mode_ports;
   events = (e j).events;
   runnables = (e j).runnables;
+  lists = (e j).lists;
+  homes = (e j).homes;
+  bundles = (e j).bundles;
   objects = (e j).objects;
 }
 
 -- ---- the first of a list that breaks a rule
 
 pub none_at : {X Y : Type 0} (f : ℕ → X → Option Y) (xs : List X) (k : ℕ) (x : X) → first_of f 0 xs ≡ None → slice_get xs k ≡ Some x → f k x ≡ None
-none_at f xs k x e at = let place : k ≡ 0 + k = omega arith in ap (λ m. f m x) place ∙ none_of f 0 xs k x e at
+none_at f xs k x e at = let place : k ≡ 0 + k = omega arith in ap (λ m. f m x) place ∙ first_none f 0 xs k x e at
 
 pub rule_kept : {X P : Type 0} (test : ℕ → X → Bool) (place : ℕ → X → P) (xs : List X) (k : ℕ) (x : X) → first_of (λ i y. unless (test i y) (place i y)) 0 xs ≡ None → slice_get xs k ≡ Some x → test k x ≡ true
 rule_kept test place xs k x e at = unless_none (test k x) (place k x) (none_at (λ i y. unless (test i y) (place i y)) xs k x e at)
 
 four_none : {X : Type 0} (a b c e : Option X) → option_or a (option_or b (option_or c e)) ≡ None → (a ≡ None) × (b ≡ None) × (c ≡ None) × (e ≡ None)
-four_none a b c e h = let x = none_or a (option_or b (option_or c e)) h in let y = none_or b (option_or c e) x.1 in let z = none_or c e y.1 in (x.0, y.0, z.0, z.1)
+four_none a b c e h = let x = or_none a (option_or b (option_or c e)) h in let y = or_none b (option_or c e) x.1 in let z = or_none c e y.1 in (x.0, y.0, z.0, z.1)
 
 nine : (a b c d e f g h i : Bool) → (a && (b && (c && (d && (e && (f && (g && (h && i)))))))) ≡ true → (a ≡ true) × (b ≡ true) × (c ≡ true) × (d ≡ true) × (e ≡ true) × (f ≡ true) × (g ≡ true) × (h ≡ true) × (i ≡ true)
 nine true true true true true true true true true k = (refl, refl, refl, refl, refl, refl, refl, refl, refl)
@@ -124,17 +130,17 @@ module _ (d : Description) (f : Flat) (p : BusPlan) (m : Mapping) (w : IsWhole d
 
   module _ (n : ℕ) (c : Component) (there : slice_get d.components n ≡ Some c) where
     component_kept : (r : rules.ComponentRule) → components.of_rule r d ≡ None → components.broken_in r d.types c ≡ None
-    component_kept r e = none_map (λ place. (n, place)) (components.broken_in r d.types c)
-        (none_at (λ k x. option_map (λ place. (k, place)) (components.broken_in r d.types x)) d.components n c (none_map (λ x. (components.number_of r, Rattle.plan_definitions.specs.Spots.spot_text x.0 x.1)) (components.first_broken r d) e) there)
+    component_kept r e = map_none (λ place. (n, place)) (components.broken_in r d.types c)
+        (none_at (λ k x. option_map (λ place. (k, place)) (components.broken_in r d.types x)) d.components n c (map_none (λ x. (components.number_of r, Rattle.plan_definitions.specs.Spots.spot_text x.0 x.1)) (components.first_broken r d) e) there)
 
     of_accesses : components.of_rule rule.Accesses d ≡ None
-    of_accesses = (none_or (components.of_rule rule.Accesses d) (option_or (components.of_programs d) (components.of_events d)) of_components).0
+    of_accesses = (or_none (components.of_rule rule.Accesses d) (option_or (components.of_programs d) (components.of_events d)) of_components).0
 
     of_programs : components.of_programs d ≡ None
-    of_programs = (none_or (components.of_programs d) (components.of_events d) (none_or (components.of_rule rule.Accesses d) (option_or (components.of_programs d) (components.of_events d)) of_components).1).0
+    of_programs = (or_none (components.of_programs d) (components.of_events d) (or_none (components.of_rule rule.Accesses d) (option_or (components.of_programs d) (components.of_events d)) of_components).1).0
 
     of_events : components.of_events d ≡ None
-    of_events = (none_or (components.of_programs d) (components.of_events d) (none_or (components.of_rule rule.Accesses d) (option_or (components.of_programs d) (components.of_events d)) of_components).1).1
+    of_events = (or_none (components.of_programs d) (components.of_events d) (or_none (components.of_rule rule.Accesses d) (option_or (components.of_programs d) (components.of_events d)) of_components).1).1
 
     event_rules : (components.of_rule rule.EventKinds d ≡ None) × (components.of_rule rule.Invocations d ≡ None) × (components.of_rule rule.Calls d ≡ None) × (components.of_rule rule.Disablings d ≡ None)
     event_rules = four_none (components.of_rule rule.EventKinds d) (components.of_rule rule.Invocations d) (components.of_rule rule.Calls d) (components.of_rule rule.Disablings d) of_events
@@ -154,20 +160,20 @@ module _ (d : Description) (f : Flat) (p : BusPlan) (m : Mapping) (w : IsWhole d
 
     -- rule 22
     pub served_kept : (k : ℕ) (port : Port) → slice_get c.ports k ≡ Some port → serving.is_served d.types c.behavior.events k port ≡ true
-    served_kept k port at = rule_kept (serving.is_served d.types c.behavior.events) (λ i x. spot.Port i) c.ports k port (none_or (serving.unserved d.types c) (serving.shared c) (component_kept rule.Invocations event_rules.1)).0 at
+    served_kept k port at = rule_kept (serving.is_served d.types c.behavior.events) (λ i x. spot.Port i) c.ports k port (or_none (serving.unserved d.types c) (serving.shared c) (component_kept rule.Invocations event_rules.1)).0 at
 
     pub alone_kept : (k : ℕ) (e : Event) → slice_get c.behavior.events k ≡ Some e → serving.is_alone c.behavior.events e ≡ true
-    alone_kept k e at = rule_kept (λ i x. serving.is_alone c.behavior.events x) (λ i x. spot.Event i) c.behavior.events k e (none_or (serving.unserved d.types c) (serving.shared c) (component_kept rule.Invocations event_rules.1)).1 at
+    alone_kept k e at = rule_kept (λ i x. serving.is_alone c.behavior.events x) (λ i x. spot.Event i) c.behavior.events k e (or_none (serving.unserved d.types c) (serving.shared c) (component_kept rule.Invocations event_rules.1)).1 at
 
     -- rule 23
     pub call_kept : (k : ℕ) (r : Runnable) (j : ℕ) (a : Access) → slice_get c.behavior.runnables k ≡ Some r → slice_get r.accesses j ≡ Some a → waiting.access_keeps c.behavior.runnables a ≡ true
     call_kept k r j a at here =
         rule_kept (λ i x. waiting.access_keeps c.behavior.runnables x) (λ i x. spot.Access k i) r.accesses j a
-        (none_at (λ i x. waiting.mixed_among c.behavior.runnables i x.accesses) c.behavior.runnables k r (none_or (waiting.mixed_access c.behavior.runnables) (waiting.mixed_event c.behavior.runnables c.behavior.events) (component_kept rule.Calls event_rules.2)).0 at) here
+        (none_at (λ i x. waiting.mixed_among c.behavior.runnables i x.accesses) c.behavior.runnables k r (or_none (waiting.mixed_access c.behavior.runnables) (waiting.mixed_event c.behavior.runnables c.behavior.events) (component_kept rule.Calls event_rules.2)).0 at) here
 
     pub return_kept : (k : ℕ) (e : Event) → slice_get c.behavior.events k ≡ Some e → waiting.event_keeps c.behavior.runnables e.kind ≡ true
     return_kept k e at = rule_kept (λ i (x : Event). waiting.event_keeps c.behavior.runnables x.kind) (λ i x. spot.Event i) c.behavior.events k e
-        (none_or (waiting.mixed_access c.behavior.runnables) (waiting.mixed_event c.behavior.runnables c.behavior.events) (component_kept rule.Calls event_rules.2)).1 at
+        (or_none (waiting.mixed_access c.behavior.runnables) (waiting.mixed_event c.behavior.runnables c.behavior.events) (component_kept rule.Calls event_rules.2)).1 at
 
     -- rule 24
     pub disabling_kept : (k : ℕ) (e : Event) → slice_get c.behavior.events k ≡ Some e → starting.disabling_fits d.types c.ports e.kind e.disabled_in_modes ≡ true
@@ -176,10 +182,10 @@ module _ (d : Description) (f : Flat) (p : BusPlan) (m : Mapping) (w : IsWhole d
     -- rules 17 to 20
     program_free : (wanted : ℕ) → components.of_program wanted d ≡ None → (k : ℕ) (r : Runnable) → slice_get c.behavior.runnables k ≡ Some r → option_and_then (programs.path_of (Some wanted)) (programs.program_refusal d.types c r) ≡ None
     program_free wanted e k r at =
-        none_map (λ path. (k, path)) (option_and_then (programs.path_of (Some wanted)) (programs.program_refusal d.types c r))
+        map_none (λ path. (k, path)) (option_and_then (programs.path_of (Some wanted)) (programs.program_refusal d.types c r))
         (none_at (λ i x. option_map (λ path. (i, path)) (option_and_then (programs.path_of (Some wanted)) (programs.program_refusal d.types c x))) c.behavior.runnables k r
-        (none_map (λ x. (n, x)) (programs.refused_in (Some wanted) d.types c)
-        (none_at (λ i x. option_map (λ y. (i, y)) (programs.refused_in (Some wanted) d.types x)) d.components n c (none_map (λ x. (wanted, Rattle.plan_definitions.specs.Spots.program_text x.0 x.1.0 x.1.1)) (programs.refused_program (Some wanted) d) e) there)) at)
+        (map_none (λ x. (n, x)) (programs.refused_in (Some wanted) d.types c)
+        (none_at (λ i x. option_map (λ y. (i, y)) (programs.refused_in (Some wanted) d.types x)) d.components n c (map_none (λ x. (wanted, Rattle.plan_definitions.specs.Spots.program_text x.0 x.1.0 x.1.1)) (programs.refused_program (Some wanted) d) e) there)) at)
 
     pub program_kept : (k : ℕ) (r : Runnable) → slice_get c.behavior.runnables k ≡ Some r
         → (option_and_then (programs.path_of (Some 17)) (programs.program_refusal d.types c r) ≡ None) × (option_and_then (programs.path_of (Some 18)) (programs.program_refusal d.types c r) ≡ None)
@@ -198,17 +204,17 @@ module _ (d : Description) (f : Flat) (p : BusPlan) (m : Mapping) (w : IsWhole d
     -- rule 26
     pub mapped_kept : (k : ℕ) (e : Event) → slice_get c.behavior.events k ≡ Some e → mapped.is_mapped_well e.kind (length (mapped_as d f (i, k))) ≡ true
     mapped_kept k e at = rule_kept (λ j (x : Event). mapped.is_mapped_well x.kind (length (mapped_as d f (i, j)))) (λ j x. (i, j)) c.behavior.events k e
-        (in_instance (mapped.badly_mapped_in d f) (none_map (λ x. (26, mapping.event_text d f x)) (mapped.badly_mapped d f) instance_rules.1) i c home) at
+        (in_instance (mapped.badly_mapped_in d f) (map_none (λ x. (26, mapping.event_text d f x)) (mapped.badly_mapped d f) instance_rules.1) i c home) at
 
     -- rule 27
     pub spread_kept : (k : ℕ) (r : Runnable) → slice_get c.behavior.runnables k ≡ Some r → mapped.are_same (mapped.tasks_of d f (i, k)) ≡ true
     spread_kept k r at = rule_kept (λ j (x : Runnable). mapped.are_same (mapped.tasks_of d f (i, j))) (λ j x. (i, j)) c.behavior.runnables k r
-        (in_instance (mapped.spread_in d f) (none_map (λ x. (27, mapping.runnable_text d f x)) (mapped.spread d f) instance_rules.2) i c home) at
+        (in_instance (mapped.spread_in d f) (map_none (λ x. (27, mapping.runnable_text d f x)) (mapped.spread d f) instance_rules.2) i c home) at
 
     -- rule 28
     pub direct_kept : (k : ℕ) (e : Event) → slice_get c.behavior.events k ≡ Some e → mapped.keeps_direct d f i c k e ≡ true
     direct_kept k e at = rule_kept (λ j (x : Event). mapped.keeps_direct d f i c j x) (λ j x. (i, j)) c.behavior.events k e
-        (in_instance (mapped.not_direct_in d f) (none_map (λ x. (28, mapping.event_text d f x)) (mapped.not_direct d f) instance_rules.3) i c home) at
+        (in_instance (mapped.not_direct_in d f) (map_none (λ x. (28, mapping.event_text d f x)) (mapped.not_direct d f) instance_rules.3) i c home) at
 
   -- ---- the first rules
 

@@ -3,6 +3,7 @@ use Rattle.std.proofs.Common.{◌≡◌, ℕ, zero, suc, ◌+◌, ◌<◌, Bool,
 use Rattle.std.proofs.lemmas.Bool.{and_from, and_parts, eq-eqb, false≢true, lt-ltb, ltb-true, ne_eqb}
 use Rattle.std.proofs.lemmas.List.{length-map}
 use Rattle.std.proofs.lemmas.Option.{same_Some}
+use Rattle.std.specs.Arc.{arc_value}
 use Rattle.std.specs.Prelude.{nat_lt, nat_le, is_none}
 use Rattle.std.specs.List.{slice_get, list_any, list_all}
 use Rattle.std.specs.Option.{option_map_or}
@@ -143,7 +144,7 @@ module _ (d : Description) (f : Flat) (p : BusPlan) (m : Mapping) (w : IsWhole d
 
   module _ (c : Component) where
     abbrev has_variables : Event → ℕ → ℕ → Bool
-    has_variables e k n = option_map_or (λ (r : declared_runnable.Runnable). nat_lt (formed.arguments_at d.types c.ports k n) (program_tree r.program).vars) (slice_get c.behavior.runnables e.runnable) false
+    has_variables e k n = option_map_or (λ (r : declared_runnable.Runnable). nat_lt (formed.arguments_at d.types c.ports k n) (program_tree (arc_value r.program)).vars) (slice_get c.behavior.runnables e.runnable) false
 
     abbrev with_kind : Event → declared_kind.EventKind → Event
     with_kind e k = record { short_name = e.short_name; runnable = e.runnable; kind = k; disabled_in_modes = e.disabled_in_modes }
@@ -187,16 +188,16 @@ module _ (d : Description) (f : Flat) (p : BusPlan) (m : Mapping) (w : IsWhole d
       program_accepted : program_refusal d.types x.c x.runnable ≡ None
       program_accepted =
           let k = program_kept d f p m w x.home.instance.component x.c x.home.has x.m x.runnable x.there in
-          nothing_refused (signature d.types x.c x.runnable.accesses) (program_tree x.runnable.program) k.0 k.1 k.2 k.3
+          nothing_refused (signature d.types x.c x.runnable.accesses) (program_tree (arc_value x.runnable.program)) k.0 k.1 k.2 k.3
 
-      fits : (list_all (formed.access_fits d.types x.c) x.runnable.accesses ≡ true) × (formed.accesses_distinct x.runnable.accesses ≡ true) × (is_well_formed (program_tree x.runnable.program) ≡ true)
+      fits : (list_all (formed.access_fits d.types x.c) x.runnable.accesses ≡ true) × (formed.accesses_distinct x.runnable.accesses ≡ true) × (is_well_formed (program_tree (arc_value x.runnable.program)) ≡ true)
       fits =
           let a = and_parts (list_all (formed.access_fits d.types x.c) x.runnable.accesses) _ (runnable_formed d f p m w x.home.instance.component x.c x.home.has x.m x.runnable x.there) in
-          let b = and_parts (formed.accesses_distinct x.runnable.accesses) (is_well_formed (program_tree x.runnable.program)) a.1 in
+          let b = and_parts (formed.accesses_distinct x.runnable.accesses) (is_well_formed (program_tree (arc_value x.runnable.program))) a.1 in
           (a.0, b.0, b.1)
 
       serving : (o : Option (ℕ × ℕ)) → served_by x.c.behavior.events x.m ≡ o
-          → (is_none (option_map (served_number d f x.i) o) || nat_lt (length (arguments_of_server (option_map (served_number d f x.i) o))) (program_tree x.runnable.program).vars) ≡ true
+          → (is_none (option_map (served_number d f x.i) o) || nat_lt (length (arguments_of_server (option_map (served_number d f x.i) o))) (program_tree (arc_value x.runnable.program)).vars) ≡ true
       serving None is = refl
       serving (Some y) is =
           let z = served_is d f p m w x.c.behavior.events x.m y is in
@@ -210,8 +211,8 @@ module _ (d : Description) (f : Flat) (p : BusPlan) (m : Mapping) (w : IsWhole d
           let has = serves_at x.c x.c.behavior.events [] z.place z.event y.0 y.1 (serves_formed d f p m w x.home.instance.component x.c x.home.has) z.there z.kind
           (alone d f p m w x.i x.c x.home z.place z.event y.0 y.1 z.there z.kind) refl in
           let runnable : slice_get x.c.behavior.runnables z.event.runnable ≡ Some x.runnable = ap (slice_get x.c.behavior.runnables) z.starts ∙ x.there in
-          ap (λ n. nat_lt n (program_tree x.runnable.program).vars) count
-          ∙ sym (ap (λ o. option_map_or (λ (r : declared_runnable.Runnable). nat_lt (formed.arguments_at d.types x.c.ports y.0 y.1) (program_tree r.program).vars) o false) runnable) ∙ has
+          ap (λ n. nat_lt n (program_tree (arc_value x.runnable.program)).vars) count
+          ∙ sym (ap (λ o. option_map_or (λ (r : declared_runnable.Runnable). nat_lt (formed.arguments_at d.types x.c.ports y.0 y.1) (program_tree (arc_value r.program)).vars) o false) runnable) ∙ has
 
       mine : Runnable
       mine = runnable_of d f x.i x.c x.m x.runnable

@@ -1,14 +1,12 @@
 -- Servers are sound, and serve the runnables that their events start.
-use Rattle.std.proofs.Common.{◌≡◌, ℕ, zero, suc, ◌+◌, ℤ, Bool, true, false, cond, ◌&&◌, ◌||◌, not, ◌==◌, nat_eq, refl, sym, ◌∙◌, ap, subst, arith, List, [], ◌∷◌, map, length, Option, Some, None, option_map, option_and_then}
-use Rattle.std.specs.Prelude.{nat_lt, nat_le, pos, negsuc, int_le}
+use Rattle.std.proofs.Common.{◌≡◌, ℕ, zero, suc, ◌+◌, Bool, true, false, cond, ◌&&◌, ◌||◌, not, ◌==◌, nat_eq, refl, sym, ◌∙◌, ap, subst, arith, List, [], ◌∷◌, map, length, Option, Some, None, option_map, option_and_then}
+use Rattle.std.specs.Prelude.{nat_lt, nat_le, pos}
 use Rattle.std.specs.List.{slice_get, list_all, list_any, find}
 use Rattle.std.specs.Option.{option_map_or}
-use Rattle.std.proofs.lemmas.Bool.{false≢true, eqb-true, eq-eqb, and_from, and_parts, le-leb, leb-true, or_left, or_right}
+use Rattle.std.proofs.lemmas.Bool.{false≢true, eqb-true, eq-eqb, and_from, and_parts}
 use Rattle.std.proofs.lemmas.List.{length-map}
 use Rattle.std.proofs.lemmas.Option.{same_Some}
 use Rattle.rte_value.specs.Values.{same_number}
-use Rattle.interface_types.specs.declared.base_type.BaseType.{BaseType}
-use Rattle.interface_types.specs.declared.base_type.BaseType.TheVariants.{Boolean, Uint8, Uint16, Uint32, Sint8, Sint16, Sint32}
 use Rattle.interface_types.specs.declared.base_type.DataType.{DataType}
 use Rattle.interface_types.specs.declared.interface.ApplicationError.{ApplicationError}
 use Rattle.interface_types.specs.declared.interface.Argument.{Argument}
@@ -16,7 +14,7 @@ use Rattle.interface_types.specs.declared.interface.ComSpec.{ComSpec}
 use Rattle.interface_types.specs.declared.interface.Interface.{Interface}
 use Rattle.interface_types.specs.declared.interface.InterfaceKind.TheVariants.{ClientServer}
 use Rattle.interface_types.specs.declared.interface.Operation.{Operation}
-use Rattle.interface_types.specs.Ranges.{keeps_range, range_of}
+use Rattle.interface_types.specs.Ranges.{keeps_range}
 use Rattle.interface_types.specs.Refusals.{is_sound, is_sound_argument, one_word, has_distinct_codes}
 use Rattle.description_types.specs.declared.component.Component.{Component}
 use Rattle.description_types.specs.declared.component.Event.{Event}
@@ -51,7 +49,10 @@ use Rattle.plan_definitions.specs.Services.{operation_in, operation_at, started_
 use Rattle.plan_definitions.specs.Services as services
 use Rattle.plan_definitions.specs.WellFormed as formed
 use Rattle.plan_definitions.specs.Whole.{IsWhole}
-use Rattle.sound_behavior.proofs.Lists.{not_some, same_option, all_if, all_at, every_if, looked, there_at, mapped, map_at, once}
+use Rattle.plan_definitions.proofs.Lists.{there}
+use Rattle.plan_definitions.proofs.Words.{range_fits}
+use Rattle.bus_laws.proofs.Thinning.{option_test}
+use Rattle.sound_behavior.proofs.Lists.{not_some, all_if, all_at, every_if, looked, mapped, map_at, once}
 use Rattle.sound_behavior.proofs.Members.{Has}
 use Rattle.sound_behavior.proofs.Parts.{Home, home_component, RunnableAt, runnable_at, runnable_there, event_there}
 use Rattle.sound_behavior.proofs.Rules.{planned, plan_is, alone_kept, ports_formed}
@@ -68,46 +69,6 @@ of_server d f q None = true
 of_server d f q (Some s) = look (servers d f) s (λ (v : ServerPlan). v.runnable == q) false
 
 -- ---- ranges
-
-pub int_trans : (a b c : ℤ) → int_le a b ≡ true → int_le b c ≡ true → int_le a c ≡ true
-int_trans (pos a) (pos b) (pos c) s t = let x = leb-true a b s in let y = leb-true b c t in le-leb a c (omega arith)
-int_trans (pos a) (pos b) (negsuc c) s t = absurd (false≢true t)
-int_trans (pos a) (negsuc b) c s t = absurd (false≢true s)
-int_trans (negsuc a) b (pos c) s t = refl
-int_trans (negsuc a) (pos b) (negsuc c) s t = absurd (false≢true t)
-int_trans (negsuc a) (negsuc b) (negsuc c) s t = let x = leb-true b a s in let y = leb-true c b t in le-leb c a (omega arith)
-
-pub range_fits : (t : DataType) → keeps_range t ≡ true → limits_fit t.limits ≡ true
-range_fits t e = by t.base (and_parts (int_le t.limits.low t.limits.high) _ e).1
-  where
-    l : ℤ
-    l = t.limits.low
-
-    h : ℤ
-    h = t.limits.high
-
-    unsigned : (top : ℤ) → int_le top (pos 4294967295) ≡ true → (int_le (pos 0) t.limits.low && int_le t.limits.high top) ≡ true → limits_fit t.limits ≡ true
-    unsigned top less k =
-        let two = and_parts (int_le (pos 0) t.limits.low) (int_le t.limits.high top) k in
-        and_from (int_le t.limits.low t.limits.high) _ (and_parts (int_le t.limits.low t.limits.high) _ e).0
-        (or_left _ (int_le (negsuc 2147483647) t.limits.low && int_le t.limits.high (pos 2147483647))
-        (and_from (int_le (pos 0) t.limits.low) (int_le t.limits.high (pos 4294967295)) two.0 (int_trans t.limits.high top (pos 4294967295) two.1 less)))
-
-    signed : (bottom top : ℤ) → int_le (negsuc 2147483647) bottom ≡ true → int_le top (pos 2147483647) ≡ true → (int_le bottom t.limits.low && int_le t.limits.high top) ≡ true → limits_fit t.limits ≡ true
-    signed bottom top more less k =
-        let two = and_parts (int_le bottom t.limits.low) (int_le t.limits.high top) k in
-        and_from (int_le t.limits.low t.limits.high) _ (and_parts (int_le t.limits.low t.limits.high) _ e).0
-        (or_right (int_le (pos 0) t.limits.low && int_le t.limits.high (pos 4294967295)) (int_le (negsuc 2147483647) t.limits.low && int_le t.limits.high (pos 2147483647))
-        (and_from (int_le (negsuc 2147483647) t.limits.low) (int_le t.limits.high (pos 2147483647)) (int_trans (negsuc 2147483647) bottom t.limits.low more two.0) (int_trans t.limits.high top (pos 2147483647) two.1 less)))
-
-    by : (b : BaseType) → (int_le (range_of b).low t.limits.low && int_le t.limits.high (range_of b).high) ≡ true → limits_fit t.limits ≡ true
-    by Boolean k = unsigned (range_of Boolean).high refl k
-    by Uint8 k = unsigned (range_of Uint8).high refl k
-    by Uint16 k = unsigned (range_of Uint16).high refl k
-    by Uint32 k = unsigned (range_of Uint32).high refl k
-    by Sint8 k = signed (range_of Sint8).low (range_of Sint8).high refl refl k
-    by Sint16 k = signed (range_of Sint16).low (range_of Sint16).high refl refl k
-    by Sint32 k = signed (range_of Sint32).low (range_of Sint32).high refl refl k
 
 -- ---- what an operation keeps
 
@@ -269,7 +230,7 @@ module _ (d : Description) (f : Flat) (p : BusPlan) (m : Mapping) (w : IsWhole d
 
   module _ (es : List ElemPlan) where
     pub runnable_of_event : (i : ℕ) (c : Component) → Home d f i c → (j : ℕ) (e : Event) → slice_get c.behavior.events j ≡ Some e → (r : declared_runnable.Runnable) × (slice_get c.behavior.runnables e.runnable ≡ Some r)
-    runnable_of_event i c home j e at = there_at c.behavior.runnables e.runnable (starts_within d f p m w es i c home j e at)
+    runnable_of_event i c home j e at = there c.behavior.runnables e.runnable (starts_within d f p m w es i c home j e at)
 
     served : (s : ℕ) (v : ServerPlan) → slice_get (servers d f) s ≡ Some v → server_served (planned d f es) s v ≡ true
     served s v at = subst (λ (u : ServerPlan). server_served (planned d f es) s u ≡ true) (sym x.is)
@@ -280,7 +241,7 @@ module _ (d : Description) (f : Flat) (p : BusPlan) (m : Mapping) (w : IsWhole d
         (ap (λ r. look (runnables d f) (pair_number (runnables_of d f) (x.i, r)) (λ (u : Runnable). same_number u.server (Some s)) false) (started_is x.i x.c x.home x.by.place x.by.event x.by.there)
         ∙ looked (runnables d f) (pair_number (runnables_of d f) (x.i, x.by.event.runnable)) (runnable_of d f x.i x.c x.by.event.runnable r.0) (λ (u : Runnable). same_number u.server (Some s)) false
         (runnable_there d f x.i x.c x.home x.by.event.runnable r.0 r.1)
-        ∙ same_option (option_map (served_number d f x.i) (served_by x.c.behavior.events x.by.event.runnable)) (Some s)
+        ∙ option_test (option_map (served_number d f x.i) (served_by x.c.behavior.events x.by.event.runnable)) (Some s)
         (ap (option_map (served_number d f x.i)) (served_first x.c.behavior.events x.by.place x.by.event x.by.event.runnable x.k x.n x.by.there refl x.by.kind
         (alone x.i x.c x.home x.by.place x.by.event x.k x.n x.by.there x.by.kind)) ∙ ap (λ n. Some n) x.number))))
       where

@@ -37,7 +37,7 @@ use Rattle.plan_definitions.specs.Ports.{ports_of, port_of}
 use Rattle.plan_definitions.specs.Things.{server_number, servers_of}
 use Rattle.plan_definitions.specs.Services.{server_at, server_of, servers}
 use Rattle.plan_definitions.specs.Whole.{IsWhole}
-use Rattle.sound_behavior.proofs.Lists.{clash, not_some, found, position_at, Passes, counted_at, once, counts_some, mapped, map_at, MapAt}
+use Rattle.sound_behavior.proofs.Lists.{not_some, found, counted_at, once, mapped, map_at}
 use Rattle.sound_behavior.proofs.Parts.{Home, home_component, component_home}
 use Rattle.sound_behavior.proofs.Rules.{kind_kept, served_kept}
 use Rattle.sound_behavior.proofs.Sites.{PortSite, IsSite, ports_at_home, site_there, numbered_kind, of_kind_at, kind_apart, number_at, place_of}
@@ -171,7 +171,7 @@ module _ (d : Description) (f : Flat) (p : BusPlan) (m : Mapping) (w : IsWhole d
   server_kind owner port interface count n kind many less = by owner port.kind interface.kind kind many
     where
       at_list : (all : List Operation) → n < length all → (o : Operation) × (slice_get all n ≡ Some o)
-      at_list all l = Rattle.sound_behavior.proofs.Lists.there_at all n l
+      at_list all l = Rattle.plan_definitions.proofs.Lists.there all n l
 
       by : (o : Option ℕ) (side : PortKind) (x : InterfaceKind) → kind_at o side x ≡ Server → count_at o side x ≡ count
           → (i : ℕ) × (all : List Operation) × (operation : Operation) × (o ≡ Some i) × (side ≡ Provided) × (x ≡ ClientServer all) × (slice_get all n ≡ Some operation)

@@ -1,8 +1,7 @@
 -- Sites: what stands at a port or is a variable is a site once, and has the number of its place.
-use Rattle.std.proofs.Common.{◌≡◌, ℕ, zero, suc, ◌+◌, ◌<◌, Bool, true, false, cond, ◌&&◌, nat_eq, refl, sym, ◌∙◌, ap, subst, arith, List, [], ◌∷◌, filter, length, Option, Some, None, ◌⊎◌, inl, inr}
+use Rattle.std.proofs.Common.{◌≡◌, ℕ, zero, suc, ◌+◌, ◌<◌, Bool, true, false, cond, refl, sym, ◌∙◌, ap, subst, arith, List, [], ◌∷◌, filter, length, Option, Some, None, ◌⊎◌, inl, inr}
 use Rattle.std.specs.List.{slice_get}
-use Rattle.std.specs.Option.{option_map_or, option_eq, unwrap_or}
-use Rattle.std.proofs.lemmas.Bool.{eqb-true, eq-eqb, false≢true, and_from, and_parts}
+use Rattle.std.specs.Option.{option_map_or, unwrap_or}
 use Rattle.std.proofs.lemmas.Option.{same_Some, slice_get_within}
 use Rattle.interface_types.specs.declared.interface.TypeTable.{TypeTable}
 use Rattle.description_types.specs.declared.component.Component.{Component}
@@ -17,29 +16,12 @@ use Rattle.plan_definitions.specs.Lists.{positions}
 use Rattle.plan_definitions.specs.Parts.{component_of, of_instances}
 use Rattle.plan_definitions.specs.Sites.{site, sites_with, shape_at, sites_at, sites_of_ports, variables_of, sites_of_component, root_ports, sites}
 use Rattle.plan_definitions.specs.Ports.{ports_of, port_of}
-use Rattle.sound_behavior.proofs.Lists.{not_some, found, before, In, in_from, reach, position_is, length-positions, mapped, map_at, append_left, append_right, append_at, Later, kept, kept_at}
+use Rattle.plan_definitions.proofs.Keys.{same_key_is, same_key_refl}
+use Rattle.plan_definitions.proofs.Lists.{many_positions, position_there}
+use Rattle.sound_behavior.proofs.Lists.{not_some, found, before, In, in_from, reach, mapped, map_at, append_left, append_right, append_at, Later, kept, kept_at}
 use Rattle.sound_behavior.proofs.Parts.{Home, home_component, component_home, start, OfInstance, of_instance, to_instance}
 
 -- ---- keys that are apart
-
-pub option_equal : (a b : Option ℕ) → option_eq nat_eq a b ≡ true → a ≡ b
-option_equal None None e = refl
-option_equal (Some a) (Some b) e = ap (λ n. Some n) (eqb-true a b e)
-option_equal None (Some b) e = absurd (false≢true e)
-option_equal (Some a) None e = absurd (false≢true e)
-
-option_itself : (a : Option ℕ) → option_eq nat_eq a a ≡ true
-option_itself None = refl
-option_itself (Some a) = eq-eqb a a refl
-
-pub key_equal : (a b : Key) → same_key a b ≡ true → a ≡ b
-key_equal a b e =
-    let outer = and_parts (option_eq nat_eq a.0 b.0 && option_eq nat_eq a.1 b.1) (nat_eq a.2 b.2) e in
-    let inner = and_parts (option_eq nat_eq a.0 b.0) (option_eq nat_eq a.1 b.1) outer.0 in
-    λ j. (option_equal a.0 b.0 inner.0 j, option_equal a.1 b.1 inner.1 j, eqb-true a.2 b.2 outer.1 j)
-
-pub key_itself : (a : Key) → same_key a a ≡ true
-key_itself a = and_from (option_eq nat_eq a.0 a.0 && option_eq nat_eq a.1 a.1) (nat_eq a.2 a.2) (and_from (option_eq nat_eq a.0 a.0) (option_eq nat_eq a.1 a.1) (option_itself a.0) (option_itself a.1)) (eq-eqb a.2 a.2 refl)
 
 abbrev pub Apart : List Site → Type 0
 Apart xs = (a b : ℕ) (s t : Site) → slice_get xs a ≡ Some s → slice_get xs b ≡ Some t → key_of s ≡ key_of t → a ≡ b
@@ -60,9 +42,9 @@ kept_apart test (y ∷ xs) apart a b s t u v e = by (kept_apart test xs (fewer_a
 
 pub number_at : (xs : List Site) → Apart xs → (j : ℕ) (s : Site) → slice_get xs j ≡ Some s → number_in (keys_of xs) (key_of s) ≡ j
 number_at xs apart j s at =
-    let w = found (same_key (key_of s)) 0 (keys_of xs) j (key_of s) (mapped key_of xs j s at) (key_itself (key_of s)) in
+    let w = found (same_key (key_of s)) 0 (keys_of xs) j (key_of s) (mapped key_of xs j s at) (same_key_refl (key_of s)) in
     let t = map_at key_of xs w.place w.item w.there in
-    let same : key_of s ≡ key_of t.item = key_equal (key_of s) w.item w.passes ∙ t.is in
+    let same : key_of s ≡ key_of t.item = same_key_is (key_of s) w.item w.passes ∙ t.is in
     let place : w.place ≡ j = sym (apart j w.place s t.item at t.there same) in
     let none : 0 + w.place ≡ j = omega arith in
     ap (λ o. unwrap_or o 0) w.is ∙ none
@@ -94,7 +76,7 @@ module _ (types : TypeTable) (owner : Option ℕ) (ports : List Port) where
       let nought : 0 + n ≡ n = omega arith in
       reach (sites_at types owner) 0 ports k port n (site owner (Some k) n kind) there
       (ap (λ m. slice_get (sites_at types owner m port) n) none ∙ ap (λ xs. slice_get xs n) (sites_here k port kind count shape)
-      ∙ mapped (λ m. site owner (Some k) m kind) (positions 0 count) n (0 + n) (position_is 0 count n within) ∙ ap (λ m. Some (site owner (Some k) m kind)) nought)
+      ∙ mapped (λ m. site owner (Some k) m kind) (positions 0 count) n (0 + n) (position_there 0 count n within) ∙ ap (λ m. Some (site owner (Some k) m kind)) nought)
 
   pub record AtPort (j : ℕ) (s : Site) : Type 0 where
     pub is : PortSite s
@@ -109,10 +91,10 @@ module _ (types : TypeTable) (owner : Option ℕ) (ports : List Port) where
       with_shape w (Some x) is at =
           let m = map_at (λ n. site owner (Some w.at) n x.0) (positions 0 x.1) w.place s at in
           let within : w.place < length (positions 0 x.1) = slice_get_within (positions 0 x.1) w.place m.item m.there in
-          let long : length (positions 0 x.1) ≡ x.1 = length-positions 0 x.1 in
+          let long : length (positions 0 x.1) ≡ x.1 = many_positions 0 x.1 in
           let less : w.place < x.1 = omega arith in
           let none : 0 + w.place ≡ w.place = omega arith in
-          let item : m.item ≡ w.place = same_Some m.item w.place (sym m.there ∙ position_is 0 x.1 w.place less ∙ ap (λ n. Some n) none) in
+          let item : m.item ≡ w.place = same_Some m.item w.place (sym m.there ∙ position_there 0 x.1 w.place less ∙ ap (λ n. Some n) none) in
           let is_site : s ≡ site owner (Some w.at) w.place x.0 = m.is ∙ ap (λ n. site owner (Some w.at) n x.0) item in
           let kind : s.kind ≡ x.0 = ap (λ (t : Site). t.kind) is_site in
           let number : s.item ≡ w.place = ap (λ (t : Site). t.item) is_site in
@@ -172,10 +154,10 @@ module _ (d : Description) (f : Flat) where
       of_component w (inr l) =
           let m = map_at (λ n. site (Some w.i) None n Variable) (positions 0 (length w.c.behavior.variables)) l.place s l.there in
           let within : l.place < length (positions 0 (length w.c.behavior.variables)) = slice_get_within (positions 0 (length w.c.behavior.variables)) l.place m.item m.there in
-          let long : length (positions 0 (length w.c.behavior.variables)) ≡ length w.c.behavior.variables = length-positions 0 (length w.c.behavior.variables) in
+          let long : length (positions 0 (length w.c.behavior.variables)) ≡ length w.c.behavior.variables = many_positions 0 (length w.c.behavior.variables) in
           let less : l.place < length w.c.behavior.variables = omega arith in
           let none : 0 + l.place ≡ l.place = omega arith in
-          let item : m.item ≡ l.place = same_Some m.item l.place (sym m.there ∙ position_is 0 (length w.c.behavior.variables) l.place less ∙ ap (λ n. Some n) none) in
+          let item : m.item ≡ l.place = same_Some m.item l.place (sym m.there ∙ position_there 0 (length w.c.behavior.variables) l.place less ∙ ap (λ n. Some n) none) in
           let is_site : s ≡ site (Some w.i) None l.place Variable = m.is ∙ ap (λ n. site (Some w.i) None n Variable) item in
           let number : s.item ≡ l.place = ap (λ (t : Site). t.item) is_site in
           let ports = ports_at_home w.i w.c w.home in
@@ -226,7 +208,7 @@ module _ (d : Description) (f : Flat) where
       (to_instance d f (sites_of_component d.types) i c home (length (sites_of_ports d.types (Some i) (ports_of d f (Some i))) + n) (site (Some i) None n Variable)
       (subst (λ ps. slice_get (sites_of_component d.types i c) (length (sites_of_ports d.types (Some i) ps) + n) ≡ Some (site (Some i) None n Variable)) (sym ports)
       (append_right (sites_of_ports d.types (Some i) c.ports) (variables_of i (length c.behavior.variables)) n (site (Some i) None n Variable)
-      (mapped (λ m. site (Some i) None m Variable) (positions 0 (length c.behavior.variables)) n (0 + n) (position_is 0 (length c.behavior.variables) n within) ∙ ap (λ m. Some (site (Some i) None m Variable)) nought))))
+      (mapped (λ m. site (Some i) None m Variable) (positions 0 (length c.behavior.variables)) n (0 + n) (position_there 0 (length c.behavior.variables) n within) ∙ ap (λ m. Some (site (Some i) None m Variable)) nought))))
 
   -- a site of a kind has its number among those of the kind
   module _ (wanted : SiteKind → Bool) where

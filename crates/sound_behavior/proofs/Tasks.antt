@@ -17,11 +17,10 @@ use Rattle.bus_semantics.specs.declared.plan.EventPlan.{EventPlan}
 use Rattle.bus_semantics.specs.declared.script.Mapping.{Mapping}
 use Rattle.bus_semantics.specs.declared.script.Task.{Task}
 use Rattle.bus_semantics.specs.Plan as plan
-use Rattle.bus_semantics.specs.Plan.{plan_of, look, every_from, runnable_of_event}
+use Rattle.bus_semantics.specs.Plan.{look, runnable_of_event}
 use Rattle.bus_semantics.specs.Sound as sound
-use Rattle.bus_semantics.specs.Sound.{mapped_events, times_mapped}
 use Rattle.plan_definitions.specs.Mapped.{instance_named, event_named, named_by, names, mapped_as}
-use Rattle.plan_definitions.specs.MappingRules.{is_mapped_well, tasks_of_event, tasks_from}
+use Rattle.plan_definitions.specs.MappingRules.{tasks_of_event, tasks_from}
 use Rattle.plan_definitions.specs.MappingRules as mapped_rules
 use Rattle.plan_definitions.specs.Tasks.{by_position, number_of, events_in, task_at, mapping_of}
 use Rattle.plan_definitions.specs.Keys.{same_pair, pair_number}
@@ -29,7 +28,8 @@ use Rattle.plan_definitions.specs.Lists.{from}
 use Rattle.plan_definitions.specs.Parts.{component_of, events_of, runnables_of}
 use Rattle.plan_definitions.specs.Started.{event_of, events, runnables}
 use Rattle.plan_definitions.specs.Whole.{IsWhole}
-use Rattle.sound_behavior.proofs.Lists.{not_some, option_same, any_at, position_at, looked}
+use Rattle.bus_laws.proofs.Thinning.{option_same}
+use Rattle.sound_behavior.proofs.Lists.{not_some, any_at, position_at, looked}
 use Rattle.sound_behavior.proofs.Members.{Has, has_flat, has_map, has_kept, kept_has, order_has, has_first, has_last, tasks_one, gathered_few}
 use Rattle.sound_behavior.proofs.Parts.{Home, home_component, component_home, one_at, event_there, RunnableAt, runnable_at, numbers_apart, itself, event_count, runnable_count}
 use Rattle.sound_behavior.proofs.Rules.{planned, spread_kept, event_formed}

@@ -61,17 +61,20 @@ use Rattle.plan_definitions.specs.Modes.{machine_at, machines, mode_port_at, mod
 use Rattle.plan_definitions.specs.Services.{point_of, point_words, points}
 use Rattle.plan_definitions.specs.WellFormed as formed
 use Rattle.plan_definitions.specs.Whole.{IsWhole}
-use Rattle.sound_behavior.proofs.Lists.{same_option, looked, there_at, all_at}
+use Rattle.plan_definitions.proofs.Lists.{there as there_at}
+use Rattle.bus_laws.proofs.Thinning.{option_test}
+use Rattle.sound_behavior.proofs.Lists.{looked, all_at}
 use Rattle.sound_behavior.proofs.Parts.{Home, area_there}
 use Rattle.sound_behavior.proofs.Rules.{planned, access_kept, call_kept, runnable_formed}
 use Rattle.sound_behavior.proofs.Sites.{ports_at_home}
 use Rattle.sound_behavior.proofs.Items.{ItemAt, item_there, operation_item, modes_item}
-use Rattle.sound_behavior.proofs.Elems.{ElemAt, data_in, data_elem, variable_elem, queued, unqueued}
+use Rattle.sound_behavior.proofs.Elems.{ElemAt, data_in, data_elem, variable_elem}
 use Rattle.sound_behavior.proofs.Providers.{interface_is, machine_there, machine_modes, required_machine, required_modes, mode_port_there}
 use Rattle.sound_behavior.proofs.Points.{Calls, waits, goes_on, call, call_there, left_by_access}
 use Rattle.sound_behavior.proofs.Callers.{point_is, point_there, result_at, result_there}
 use Rattle.sound_behavior.proofs.Operations.{limits_same, OperationAt, words_are}
 use Rattle.sound_behavior.proofs.Fits.{Finds, finds}
+use Rattle.sound_elements.proofs.Elems.{queued, unqueued}
 
 -- the words of a type
 type_words : (o : Option DataType) → option_map_or (λ (t : DataType). replicate t.words t.limits) o [] ≡ replicate (seen.words_of o) (seen.limits_of o)
@@ -85,7 +88,7 @@ module _ (d : Description) (f : Flat) (p : BusPlan) (m : Mapping) (w : IsWhole d
     elem_here : (n : ℕ) (s : Site) (k : ElemKind) (b : Bool) (o : Option DataType) (y : ElemAt d f es seen_as n s k b o) → s.owner ≡ Some i → (test : ElemPlan → Bool) → test y.elem ≡ true → elem_fits (planned d f es) (Some i) test n ≡ true
     elem_here n s k b o y owner test passes =
         looked es n y.elem (λ (e : ElemPlan). same_number e.instance (Some i) && test e) false y.there
-        ∙ and_from (same_number y.elem.instance (Some i)) (test y.elem) (same_option y.elem.instance (Some i) (y.owner ∙ owner)) passes
+        ∙ and_from (same_number y.elem.instance (Some i)) (test y.elem) (option_test y.elem.instance (Some i) (y.owner ∙ owner)) passes
 
     words_here : (n : ℕ) (s : Site) (k : ElemKind) (b : Bool) (o : Option DataType) (y : ElemAt d f es seen_as n s k b o) (limits : List Limits) → limits ≡ option_map_or (λ (t : DataType). replicate t.words t.limits) o [] → takes_words (planned d f es) n limits ≡ true
     words_here n s k b o y limits is =
@@ -185,7 +188,7 @@ module _ (d : Description) (f : Flat) (p : BusPlan) (m : Mapping) (w : IsWhole d
             (λ (t : PointPlan). (same_number t.runnable (Some (pair_number (runnables_of d f) (i, r))) && (cond b t.asynchronous (not t.asynchronous))) && (same_limits (words_at d.types In c port n) t.ins && (b || same_limits (words_at d.types Out c port n) t.outs))) false
             (point_here r rr there j (of_kind k port n) at b calls)
             ∙ and_from (same_number (Some (pair_number (runnables_of d f) (i, r))) (Some (pair_number (runnables_of d f) (i, r))) && (cond b b (not b))) _
-            (and_from (same_number (Some (pair_number (runnables_of d f) (i, r))) (Some (pair_number (runnables_of d f) (i, r)))) (cond b b (not b)) (same_option (Some (pair_number (runnables_of d f) (i, r))) (Some (pair_number (runnables_of d f) (i, r))) refl) (either b))
+            (and_from (same_number (Some (pair_number (runnables_of d f) (i, r))) (Some (pair_number (runnables_of d f) (i, r)))) (cond b b (not b)) (option_test (Some (pair_number (runnables_of d f) (i, r))) (Some (pair_number (runnables_of d f) (i, r))) refl) (either b))
             (and_from (same_limits (words_at d.types In c port n) (point_words d f In (call i r (of_kind k port n) b))) (b || same_limits (words_at d.types Out c port n) (point_words d f Out (call i r (of_kind k port n) b)))
             (limits_same (words_at d.types In c port n) (point_words d f In (call i r (of_kind k port n) b)) (words_point In port n x (call i r (of_kind k port n) b) refl refl refl))
             (Rattle.std.proofs.lemmas.Bool.or_right b (same_limits (words_at d.types Out c port n) (point_words d f Out (call i r (of_kind k port n) b)))
@@ -261,7 +264,7 @@ module _ (d : Description) (f : Flat) (p : BusPlan) (m : Mapping) (w : IsWhole d
             looked (machines d f) (machine_number d f (Some i, Some port, 0)) (machine_at d f (Some i) port) (λ (n : MachinePlan). length n.modes) 0 machine ∙ ap length modes ∙ z.counted in
             and_from (switch_fits (planned d f es) (Some i) (machine_number d f (Some i, Some port, 0)) 0) _
             (looked (machines d f) (machine_number d f (Some i, Some port, 0)) (machine_at d f (Some i) port) (λ (n : MachinePlan). same_number n.instance (Some i) && nat_lt 0 (length n.modes)) false machine
-            ∙ and_from (same_number (Some i) (Some i)) (nat_lt 0 (length (machine_at d f (Some i) port).modes)) (same_option (Some i) (Some i) refl) (ap (λ ms. nat_lt 0 (length ms)) modes ∙ many))
+            ∙ and_from (same_number (Some i) (Some i)) (nat_lt 0 (length (machine_at d f (Some i) port).modes)) (option_test (Some i) (Some i) refl) (ap (λ ms. nat_lt 0 (length ms)) modes ∙ many))
             (and_from (option_map_or (λ (z : PortKind × Item). signatures.mode_count z.1) (item_at d.types c.ports port n) 0 == modes_of (planned d f es) (machine_number d f (Some i, Some port, 0))) (n == 0)
             (eq-eqb (option_map_or (λ (z : PortKind × Item). signatures.mode_count z.1) (item_at d.types c.ports port n) 0) (modes_of (planned d f es) (machine_number d f (Some i, Some port, 0)))
             (count_found kind.Switch x x.needed.0 x.needed.2 ∙ sym count))
@@ -280,13 +283,13 @@ module _ (d : Description) (f : Flat) (p : BusPlan) (m : Mapping) (w : IsWhole d
             looked (mode_ports d f) (mode_port_number d f i port) (mode_port_at d f (Some i) port) (λ (t : ModePortPlan). modes_of (planned d f es) t.machine) 0 there_port
             ∙ looked (machines d f) (machine_for d f (Some i) port) y.machine (λ (n : MachinePlan). length n.modes) 0 y.there ∙ required_modes d f p m w i c home port x.needed.0 item in
             and_from (mode_port_fits (planned d f es) (Some i) (mode_port_number d f i port)) _
-            (looked (mode_ports d f) (mode_port_number d f i port) (mode_port_at d f (Some i) port) (λ (t : ModePortPlan). same_number t.instance (Some i)) false there_port ∙ same_option (Some i) (Some i) refl)
+            (looked (mode_ports d f) (mode_port_number d f i port) (mode_port_at d f (Some i) port) (λ (t : ModePortPlan). same_number t.instance (Some i)) false there_port ∙ option_test (Some i) (Some i) refl)
             (eq-eqb (option_map_or (λ (z : PortKind × Item). signatures.mode_count z.1) (item_at d.types c.ports port n) 0) (mode_count (planned d f es) (mode_port_number d f i port))
             (count_found kind.Mode x x.needed.0 x.needed.2 ∙ sym count))
         use_here kind.Enter at =
             let a = there_at c.behavior.exclusive_areas n (ltb-true n (length c.behavior.exclusive_areas) (fit kind.Enter at)) in
             looked (areas d f) (pair_number (areas_of d f) (i, n)) (area_of i a.0) (λ (x : AreaPlan). same_number (Some x.instance) (Some i)) false (area_there d f i c home n a.0 a.1)
-            ∙ same_option (Some i) (Some i) refl
+            ∙ option_test (Some i) (Some i) refl
 
       -- an access of the runnable
       pub use_sound : (j : ℕ) (a : Access) → slice_get rr.accesses j ≡ Some a → access_sound (planned d f es) (pair_number (runnables_of d f) (i, r)) (Some i) (access_sig d.types c a) (target_of d f i r a) ≡ true

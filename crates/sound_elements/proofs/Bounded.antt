@@ -1,6 +1,7 @@
 -- The lists of a plan, and how large it is by rule 30.
-use Rattle.std.proofs.Common.{◌≡◌, ℕ, ◌+◌, ◌≤◌, List, [], ◌∷◌, map, length, fold, Bool, true, false, if◌then◌else◌, not, ◌&&◌, ◌||◌, ◌==◌, nat_lt, nat_le, Option, Some, None, unwrap_or, refl, sym, ap, subst, ◌∙◌, arith}
+use Rattle.std.proofs.Common.{◌≡◌, ℕ, zero, suc, ◌+◌, ◌≤◌, List, [], ◌∷◌, map, length, length-append, fold, Bool, true, false, if◌then◌else◌, not, ◌&&◌, ◌||◌, ◌==◌, nat_lt, nat_le, Option, Some, None, unwrap_or, refl, sym, ap, subst, ◌∙◌, arith}
 use Rattle.std.proofs.lemmas.Bool.{and_from, eq-eqb, le-leb, ltb-false, or_parts}
+use Rattle.std.proofs.lemmas.List.{length-map}
 use Rattle.std.specs.List.{sum_by}
 use Rattle.description_types.specs.declared.description.Description.{Description}
 use Rattle.flat_descriptions.specs.declared.flat.Flat.{Flat}
@@ -11,9 +12,9 @@ use Rattle.bus_semantics.specs.declared.plan.ServerPlan.{ServerPlan}
 use Rattle.bus_semantics.specs.declared.script.Mapping.{Mapping}
 use Rattle.bus_semantics.specs.Objects.{clock}
 use Rattle.bus_semantics.specs.Owners.{is_queued}
-use Rattle.bus_semantics.specs.Plan.{plan_of}
+use Rattle.bus_semantics.specs.Plan.{plan_of, positions as bus_positions}
 use Rattle.bus_semantics.specs.Sound.{number_or_0, queue_lengths, sum_over}
-use Rattle.bus_semantics.specs.SoundPlan.{objects_counted}
+use Rattle.bus_semantics.specs.SoundPlan.{objects_counted, things}
 use Rattle.plan_definitions.specs.ComponentRefusals as components
 use Rattle.plan_definitions.specs.MappingRefusals.{IsAfter, mapping_text}
 use Rattle.plan_definitions.specs.MappingRefusals as mapping
@@ -21,10 +22,11 @@ use Rattle.plan_definitions.specs.Elements.{elem_seen, elements, leaders}
 use Rattle.plan_definitions.specs.ElementGroups.{groups}
 use Rattle.plan_definitions.specs.Modes.{machines}
 use Rattle.plan_definitions.specs.Services.{servers}
-use Rattle.plan_definitions.specs.Planned.{areas, object_count, plan_of as planned}
+use Rattle.plan_definitions.specs.Planned.{alone, areas, object_count, plan_of as planned}
 use Rattle.plan_definitions.specs.PlanRefusals.{IsOfSize, IsRefusal, IsThen}
 use Rattle.plan_definitions.specs.PlanRules.{is_too_large, queue_lengths as all_lengths, received, requested}
 use Rattle.plan_definitions.specs.Whole.{IsWhole}
+use Rattle.sound_names.proofs.Seen.{areas_are, elements_are, machines_are, servers_are}
 
 -- ---- rule 30
 
@@ -60,6 +62,10 @@ sum_seen : {X Y : Type 0} (g : X → Y) (f : Y → ℕ) (xs : List X) → sum_ov
 sum_seen g f [] = refl
 sum_seen g f (x ∷ xs) = ap (λ n. f (g x) + n) (sum_seen g f xs)
 
+many_positions : (n : ℕ) → length (bus_positions n) ≡ n
+many_positions zero = refl
+many_positions (suc n) = length-append (bus_positions n) (n ∷ []) ∙ (ap (λ m. m + 1) (many_positions n) ∙ omega arith)
+
 is_number : (o : Option ℕ) → number_or_0 o ≡ unwrap_or o 0
 is_number None = refl
 is_number (Some n) = refl
@@ -67,20 +73,21 @@ is_number (Some n) = refl
 module _ (d : Description) (f : Flat) (p : BusPlan) (m : Mapping) (w : IsWhole d f p m) where
   -- ---- the lists of the plan
 
-  pub elements_are : map elem_seen p.elements ≡ elements d f
-  elements_are = ap (λ q. q.elements) w.is_plan
-
   pub groups_are : p.groups ≡ groups (leaders d f)
   groups_are = ap (λ q. q.groups) w.is_plan
 
-  pub machines_are : p.machines ≡ machines d f
-  machines_are = ap (λ q. q.machines) w.is_plan
+  -- no list, and as many bundles as groups
+  pub lists_are : p.lists ≡ []
+  lists_are = ap (λ q. q.lists) w.is_plan
 
-  servers_are : p.servers ≡ servers d f
-  servers_are = ap (λ q. q.servers) w.is_plan
+  pub homes_are : p.homes ≡ bus_positions (length p.groups)
+  homes_are = ap (λ q. q.homes) w.is_plan ∙ ap (λ gs. bus_positions (length gs)) (sym groups_are)
 
-  areas_are : p.areas ≡ areas d f
-  areas_are = ap (λ q. q.areas) w.is_plan
+  pub bundles_are : p.bundles ≡ map alone (bus_positions (length p.groups))
+  bundles_are = ap (λ q. q.bundles) w.is_plan ∙ ap (λ gs. map alone (bus_positions (length gs))) (sym groups_are)
+
+  many_bundles : length p.bundles ≡ length (groups (leaders d f))
+  many_bundles = ap length bundles_are ∙ (length-map (bus_positions (length p.groups)) alone ∙ (many_positions (length p.groups) ∙ ap length groups_are))
 
   small : ((nat_lt 16384 (planned d f).objects || nat_lt 16384 (length (planned d f).events)) ≡ false) × ((nat_lt 65536 (all_lengths (planned d f)) || nat_lt 262144 (length (planned d f).points)) ≡ false)
   small = or_parts (nat_lt 16384 (planned d f).objects || nat_lt 16384 (length (planned d f).events)) (nat_lt 65536 (all_lengths (planned d f)) || nat_lt 262144 (length (planned d f).points)) (fair_size d f w.keeps_rules)
@@ -91,20 +98,36 @@ module _ (d : Description) (f : Flat) (p : BusPlan) (m : Mapping) (w : IsWhole d
   few_waiting : all_lengths (planned d f) ≤ 65536
   few_waiting = ltb-false 65536 (all_lengths (planned d f)) (or_parts (nat_lt 65536 (all_lengths (planned d f))) (nat_lt 262144 (length (planned d f).points)) small.1).0
 
+  few : length (planned d f).points ≤ 262144
+  few = ltb-false 262144 (length (planned d f).points) (or_parts (nat_lt 65536 (all_lengths (planned d f))) (nat_lt 262144 (length (planned d f).points)) small.1).1
+
+  pub few_points : nat_le (length p.points) 262144 ≡ true
+  few_points = le-leb (length p.points) 262144 (subst (λ n. n ≤ 262144) (sym (ap (λ q. length q.points) w.is_plan)) few)
+
   pub objects : objects_counted (plan_of p) ≡ true
-  objects = and_from (p.objects == clock (plan_of p) + 1) (nat_le p.objects 16384)
+  objects = and_from (p.objects == clock (plan_of p) + 1) (nat_le p.objects 16384 && nat_le (things (plan_of p)) 16384)
       (eq-eqb p.objects (clock (plan_of p) + 1) (are ∙ counted))
+      (and_from (nat_le p.objects 16384) (nat_le (things (plan_of p)) 16384)
       (le-leb p.objects 16384 (subst (λ n. n ≤ 16384) (sym are) few_objects))
+      (le-leb (things (plan_of p)) 16384 (subst (λ n. n ≤ 16384) each few_objects)))
     where
       are : p.objects ≡ object_count (length (groups (leaders d f))) (length (servers d f)) (length (areas d f)) (length (machines d f))
       are = ap (λ q. q.objects) w.is_plan
 
       counted : object_count (length (groups (leaders d f))) (length (servers d f)) (length (areas d f)) (length (machines d f)) ≡ clock (plan_of p) + 1
       counted =
+          let b : length p.bundles ≡ length (groups (leaders d f)) = many_bundles in
+          let s = ap (λ l. length l) (servers_are d f p w.is_plan) in
+          let a = ap (λ l. length l) (areas_are d f p w.is_plan) in
+          let n = ap (λ l. length l) (machines_are d f p w.is_plan) in
+          omega arith
+
+      each : object_count (length (groups (leaders d f))) (length (servers d f)) (length (areas d f)) (length (machines d f)) ≡ things (plan_of p)
+      each =
           let g = ap (λ l. length l) groups_are in
-          let s = ap (λ l. length l) servers_are in
-          let a = ap (λ l. length l) areas_are in
-          let n = ap (λ l. length l) machines_are in
+          let s = ap (λ l. length l) (servers_are d f p w.is_plan) in
+          let a = ap (λ l. length l) (areas_are d f p w.is_plan) in
+          let n = ap (λ l. length l) (machines_are d f p w.is_plan) in
           omega arith
 
   -- ---- queue lengths
@@ -113,13 +136,13 @@ module _ (d : Description) (f : Flat) (p : BusPlan) (m : Mapping) (w : IsWhole d
   lengths_same = λ j. of_elements j + (of_servers j + of_machines j)
     where
       of_elements : sum_over (λ (e : ElemPlan). if is_queued e && not e.provided then e.queue_length else 0) p.elements ≡ sum_by received (elements d f)
-      of_elements = sum_seen elem_seen received p.elements ∙ ap (sum_over received) elements_are ∙ sym (same_sum received (elements d f))
+      of_elements = sum_seen elem_seen received p.elements ∙ ap (sum_over received) (elements_are d f p w.is_plan) ∙ sym (same_sum received (elements d f))
 
       of_servers : sum_over (λ (s : ServerPlan). number_or_0 s.queue) p.servers ≡ sum_by requested (servers d f)
-      of_servers = sum_agree (λ (s : ServerPlan). number_or_0 s.queue) requested (λ s. is_number s.queue) p.servers ∙ ap (sum_over requested) servers_are ∙ sym (same_sum requested (servers d f))
+      of_servers = sum_agree (λ (s : ServerPlan). number_or_0 s.queue) requested (λ s. is_number s.queue) p.servers ∙ ap (sum_over requested) (servers_are d f p w.is_plan) ∙ sym (same_sum requested (servers d f))
 
       of_machines : sum_over (λ (n : MachinePlan). n.queue) p.machines ≡ sum_by (λ (n : MachinePlan). n.queue) (machines d f)
-      of_machines = ap (sum_over (λ (n : MachinePlan). n.queue)) machines_are ∙ sym (same_sum (λ (n : MachinePlan). n.queue) (machines d f))
+      of_machines = ap (sum_over (λ (n : MachinePlan). n.queue)) (machines_are d f p w.is_plan) ∙ sym (same_sum (λ (n : MachinePlan). n.queue) (machines d f))
 
   pub lengths : nat_le (queue_lengths (plan_of p)) 65536 ≡ true
   lengths = le-leb (queue_lengths (plan_of p)) 65536 (subst (λ n. n ≤ 65536) (sym lengths_same) few_waiting)

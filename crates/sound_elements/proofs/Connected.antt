@@ -1,5 +1,5 @@
 -- Groups of the plan are what chains of joins connect: in a star a chain is never longer than two joins.
-use Rattle.std.proofs.Common.{◌≡◌, ℕ, zero, suc, List, [], ◌∷◌, map, Option, Some, None, option_map, ◌⊎◌, inl, inr, ⊎_elim, ◌↔◌, refl, sym, ap, subst, ◌∙◌, slice_get}
+use Rattle.std.proofs.Common.{◌≡◌, ℕ, zero, suc, List, [], ◌∷◌, map, Option, Some, None, option_map, inl, inr, refl, sym, ap, subst, ◌∙◌, slice_get}
 use Rattle.std.proofs.lemmas.Option.{slice_get-map}
 use Rattle.description_types.specs.declared.description.Description.{Description}
 use Rattle.plan_definitions.specs.JoinGroups.{IsJoined}
@@ -20,11 +20,11 @@ use Rattle.plan_definitions.specs.Elements.{Elem, elem_seen, element_of, element
 use Rattle.plan_definitions.specs.Whole.{IsWhole}
 use Rattle.plan_definitions.specs.WellFormed.{IsWellFormed}
 use Rattle.sound_elements.specs.Connected.{AreConnected, AreJoined, Chain, GroupsAreConnected, group_at}
-use Rattle.sound_elements.proofs.Bounded.{elements_are}
 use Rattle.sound_elements.proofs.Linked.{Linked, group_linked, linked_group, linked_then}
-use Rattle.sound_elements.proofs.Lists.{at, map_get}
+use Rattle.plan_definitions.proofs.Lists.{at, map_get}
 use Rattle.sound_elements.proofs.Partners.{Joins, end_site, faces, provided_touches, required_touches, same_site, touched}
 use Rattle.sound_elements.proofs.Stars.{Near, Touch}
+use Rattle.sound_names.proofs.Seen.{elements_are}
 
 -- ---- joins
 
@@ -96,7 +96,7 @@ module _ (d : Description) (w : IsWellFormed d) (f : Flat) (flat : IsFlatOf d f)
 
 module _ (d : Description) (f : Flat) (p : BusPlan) (m : Mapping) (w : IsWhole d f p m) where
   group_is : (i : ℕ) (s : Site) → slice_get (elements_of d f) i ≡ Some s → group_at p i ≡ Some (group_of d f s)
-  group_is i s is = sym (by (slice_get p.elements i)) ∙ ap seen_group (sym (slice_get-map elem_seen p.elements i) ∙ ap (λ es. slice_get es i) (elements_are d f p m w) ∙ map_get (λ (x : Site). element_of d f (group_of d f x) x) (elements_of d f) i s is)
+  group_is i s is = sym (by (slice_get p.elements i)) ∙ ap seen_group (sym (slice_get-map elem_seen p.elements i) ∙ ap (λ es. slice_get es i) (elements_are d f p w.is_plan) ∙ map_get (λ (x : Site). element_of d f (group_of d f x) x) (elements_of d f) i s is)
     where
       seen_group : Option Elem → Option ℕ
       seen_group o = option_map (λ (e : Elem). e.group) o

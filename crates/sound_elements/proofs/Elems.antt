@@ -9,13 +9,11 @@ use Rattle.interface_types.specs.declared.base_type.DataType.{DataType}
 use Rattle.interface_types.specs.declared.interface.ComSpec.{ComSpec}
 use Rattle.interface_types.specs.declared.interface.DataElement.{DataElement}
 use Rattle.interface_types.specs.declared.interface.Interface.{Interface}
-use Rattle.interface_types.specs.declared.interface.InterfaceKind.{InterfaceKind}
-use Rattle.interface_types.specs.declared.interface.InterfaceKind.TheVariants.{ClientServer, ModeSwitch, SenderReceiver}
+use Rattle.interface_types.specs.declared.interface.InterfaceKind.TheVariants.{SenderReceiver}
 use Rattle.interface_types.specs.declared.interface.SwImplPolicy.{SwImplPolicy}
 use Rattle.interface_types.specs.declared.interface.SwImplPolicy.TheVariants.{Queued, Standard}
 use Rattle.interface_types.specs.Ranges.{keeps_range}
 use Rattle.description_types.specs.declared.component.Component.{Component}
-use Rattle.description_types.specs.declared.component.PortKind.{PortKind}
 use Rattle.description_types.specs.declared.component.Variable.{Variable as DeclaredVariable}
 use Rattle.description_types.specs.declared.description.Description.{Description}
 use Rattle.interface_types.specs.Initials.{element_type, fits, fits_type, is_within, keeps, keeps_element, keeps_type, type_in}
@@ -37,11 +35,13 @@ use Rattle.plan_definitions.specs.Things.{elements_of}
 use Rattle.plan_definitions.specs.Elements.{Elem, declared_at, elem_seen, element_in, element_of, elements, group_of, held, keeps_last, keeps_queue, limits_of, policy_kind, variable_at, words_of, zeros as type_zeros}
 use Rattle.plan_definitions.specs.WellFormed.{IsWellFormed, items_at, kind_fits, names_fit, type_fits, variable_fits}
 use Rattle.plan_definitions.specs.Whole.{IsWhole}
-use Rattle.sound_elements.proofs.Kept.{com_spec_keeps, component_keeps, interface_is, interface_keeps, queue_keeps, some_type, variables_keep}
-use Rattle.sound_elements.proofs.Lists.{all_at, all_from, at, there, unkept, unmapped}
-use Rattle.sound_elements.proofs.Sites.{AtPort, IsVariable, is_site, with_port}
-use Rattle.sound_elements.proofs.Bounded.{elements_are}
-use Rattle.sound_elements.proofs.Words.{initial_fits, none_zeros, range_fits}
+use Rattle.sound_elements.proofs.Kept.{com_spec_keeps, component_keeps, interface_is, queue_keeps, some_type, variables_keep}
+use Rattle.plan_definitions.proofs.Lists.{all_at, all_from, at, there, unkept, unmapped}
+use Rattle.plan_definitions.proofs.Sites.{AtPort, IsVariable, is_site, with_port}
+use Rattle.plan_definitions.proofs.Words.{initial_fits, none_zeros, range_fits}
+use Rattle.sound_names.proofs.Keeping.{of_interface}
+use Rattle.sound_names.proofs.Seen.{elements_are}
+use Rattle.sound_names.proofs.SiteKinds.{element_is}
 
 -- ---- a sound element, by what is seen of it
 
@@ -143,16 +143,6 @@ module _ (t : DataType) (fit : type_fits t ≡ true) where
 
 -- ---- what stands at a site
 
--- an element is an item of a sender-receiver interface
-pub element_kind : (owner : Option ℕ) (side : PortKind) (k : InterfaceKind) → is_element (kind_at owner side k) ≡ true → (es : List DataElement) × (k ≡ SenderReceiver es)
-element_kind owner side (SenderReceiver es) h = (es, refl)
-element_kind owner side (ClientServer os) h = cc
-element_kind owner side (ModeSwitch x) h = by (provides_at owner side) h
-  where
-    by : (b : Bool) → is_element (if b then site_kind.Machine else site_kind.ModePort) ≡ true → (es : List DataElement) × (ModeSwitch x ≡ SenderReceiver es)
-    by true e = cc
-    by false e = cc
-
 pub record IsElement (d : Description) (f : Flat) (s : Site) (p : AtPort d f s) : Type 0 where
   pub among : List DataElement
   pub is : p.interface.kind ≡ SenderReceiver among
@@ -164,7 +154,7 @@ pub record IsElement (d : Description) (f : Flat) (s : Site) (p : AtPort d f s) 
 module _ (d : Description) (w : IsWellFormed d) (f : Flat) where
   pub is_element_of : (s : Site) (p : AtPort d f s) → is_element s.kind ≡ true → IsElement d f s p
   is_element_of s p h =
-      let x = element_kind s.owner p.port.kind p.interface.kind (sym (ap is_element p.kind) ∙ h) in
+      let x = element_is s.owner p.port.kind p.interface.kind (sym (ap is_element p.kind) ∙ h) in
       let lt : s.item < length x.0 = subst (λ k. s.item < count_at s.owner p.port.kind k) x.1 p.within in
       let e = there x.0 s.item lt in
       record {
@@ -179,7 +169,7 @@ module _ (d : Description) (w : IsWellFormed d) (f : Flat) where
   -- the type of an element
   pub element_typed : (s : Site) (p : AtPort d f s) (e : IsElement d f s p) → (t : DataType) × (slice_get d.types.data_types e.element.of_type ≡ Some t) × (type_fits t ≡ true)
   element_typed s p e =
-      let fits = subst (λ k. kind_fits d.types k ≡ true) e.is (interface_keeps d w p.port.interface p.interface p.has_interface) in
+      let fits = subst (λ k. kind_fits d.types k ≡ true) e.is (of_interface d w p.port.interface p.interface p.has_interface) in
       let each = and_parts (names_fit (map (λ (x : DataElement). x.short_name) e.among)) (list_all (λ (x : DataElement). nat_lt x.of_type (length d.types.data_types)) e.among) fits in
       some_type d w e.element.of_type (all_at (λ (x : DataElement). nat_lt x.of_type (length d.types.data_types)) e.among each.1 e.element (at e.among s.item e.element e.there))
 
@@ -302,4 +292,4 @@ module _ (d : Description) (w : IsWellFormed d) (f : Flat) where
           subst (λ x. sound_seen x ≡ true) (sym p.2) (each_element p.0 (group_of d f p.0) p.1)
 
 pub elements_sound : (d : Description) (f : Flat) (p : BusPlan) (m : Mapping) → IsWhole d f p m → list_all elem_sound p.elements ≡ true
-elements_sound d f p m w = sym (list_all-map sound_seen elem_seen p.elements) ∙ ap (list_all sound_seen) (elements_are d f p m w) ∙ elements_keep d w.well_formed f
+elements_sound d f p m w = sym (list_all-map sound_seen elem_seen p.elements) ∙ ap (list_all sound_seen) (elements_are d f p w.is_plan) ∙ elements_keep d w.well_formed f

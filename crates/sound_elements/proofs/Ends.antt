@@ -1,7 +1,7 @@
 -- Joined data elements: both are elements of the plan, the one provided and the other required, and they agree in kind, limits and
 -- words.
 use Rattle.std.proofs.Common.{◌≡◌, ℕ, List, [], ◌∷◌, map, Bool, true, false, not, Option, Some, None, option_map, option_and_then, inl, inr, refl, sym, ap, subst, ◌∙◌, true≢false}
-use Rattle.std.proofs.lemmas.Bool.{and_from, and_parts, eq-eqb, not-true}
+use Rattle.std.proofs.lemmas.Bool.{and_parts, not-true}
 use Rattle.std.specs.List.{list_any}
 use Rattle.rte_value.specs.declared.kinds.Limits.{Limits}
 use Rattle.interface_types.specs.declared.base_type.DataType.{DataType}
@@ -23,16 +23,12 @@ use Rattle.plan_definitions.specs.Sites.{provides_at}
 use Rattle.plan_definitions.specs.Ports.{port_of}
 use Rattle.plan_definitions.specs.Elements.{kind_of, limits_of, type_of, words_of}
 use Rattle.plan_definitions.specs.WellFormed.{distinct}
-use Rattle.sound_elements.proofs.Chains.{Faces, are_joined}
-use Rattle.sound_elements.proofs.Lists.{any_from, mapped}
-use Rattle.sound_elements.proofs.Passing.{Passes, SameTypes}
-use Rattle.sound_elements.proofs.Places.{interface_there, of_instance, of_root, port_below, port_there}
+use Rattle.plan_definitions.proofs.Chains.{Faces, are_joined}
+use Rattle.plan_definitions.proofs.Lists.{any_from, mapped, same_numbers_refl}
+use Rattle.sound_elements.proofs.Passing.{Passes, SameTypes, passed}
+use Rattle.plan_definitions.proofs.Stands.{interface_there, of_instance, of_root, port_below, port_there}
 
 -- ---- names that differ
-
-same_refl : (xs : List ℕ) → same_numbers xs xs ≡ true
-same_refl [] = refl
-same_refl (x ∷ xs) = and_from _ (same_numbers xs xs) (eq-eqb x x refl) (same_refl xs)
 
 pub one_named : {X : Type 0} (name : X → List ℕ) (xs : List X) → distinct (map name xs) ≡ true → (x y : X) → Among x xs → Among y xs → name x ≡ name y → x ≡ y
 one_named name [] apart x y h g same = absurd h
@@ -42,7 +38,7 @@ one_named {X = X} name (z ∷ xs) apart x y h g same = by h g (one_named name xs
     parts = and_parts (not (list_any (same_numbers (name z)) (map name xs))) (distinct (map name xs)) apart
 
     other : (w : X) → Among w xs → name z ≡ name w → ⊥
-    other w h e = true≢false (sym (any_from (same_numbers (name z)) (map name xs) (name w) (mapped name xs w h) (ap (same_numbers (name z)) (sym e) ∙ same_refl (name z))) ∙ not-true (list_any (same_numbers (name z)) (map name xs)) parts.0)
+    other w h e = true≢false (sym (any_from (same_numbers (name z)) (map name xs) (name w) (mapped name xs w h) (ap (same_numbers (name z)) (sym e) ∙ same_numbers_refl (name z))) ∙ not-true (list_any (same_numbers (name z)) (map name xs)) parts.0)
 
     by : Among x (z ∷ xs) → Among y (z ∷ xs) → (Among x xs → Among y xs → name x ≡ name y → x ≡ y) → x ≡ y
     by (inl e) (inl g) rest = e ∙ sym g
@@ -86,7 +82,7 @@ some_kind None k h = cc
 some_kind (Some p) k h = (p, refl, cc)
 
 module _ (d : Description) (compatible : incompatible d ≡ None) (f : Flat) (flat : IsFlatOf d f) where
-  faces : (s : Stand) (o : Option ℕ) (k : ℕ) (inner outer : PortKind) (b : Bool) → stand_in d o k ≡ Some s → Faces d compatible s inner outer
+  faces : (s : Stand) (o : Option ℕ) (k : ℕ) (inner outer : PortKind) (b : Bool) → stand_in d o k ≡ Some s → Faces d s inner outer
       → ((i : ℕ) → provides_at (Some i) inner ≡ b) → provides_at None outer ≡ b → (p : Port) × (port_of d f o k ≡ Some p) × (port_below d s ≡ Some p) × (provides_at o p.kind ≡ b)
   faces s o k inner outer b there (inl (r, rest, path, is)) inside root =
       let p = some_kind (port_below d s) inner is in
@@ -99,7 +95,7 @@ module _ (d : Description) (compatible : incompatible d ≡ None) (f : Flat) (fl
 
   pub has_ports : (j : Join) → IsJoined d j → HasPorts d f j
   has_ports j is =
-      let a = are_joined d compatible is.provided is.required is.stands in
+      let a = are_joined d (Passes d.types) (passed d.types) compatible is.provided is.required is.stands in
       let p = faces is.provided j.provided.instance j.provided.port Provided Required true is.is_provided a.provides (λ i. refl) refl in
       let r = faces is.required j.required.instance j.required.port Required Provided false is.is_required a.requires (λ i. refl) refl in
       record {

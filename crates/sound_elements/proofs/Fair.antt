@@ -23,9 +23,9 @@ use Rattle.flat_descriptions.specs.declared.flat.Join.{Join}
 use Rattle.flat_descriptions.specs.Members.{Among}
 use Rattle.plan_definitions.specs.Sites.{provides_at}
 use Rattle.plan_definitions.specs.Ports.{port_of}
-use Rattle.sound_elements.proofs.Chains.{first_none, map_none, or_none}
-use Rattle.sound_elements.proofs.Lists.{kept, mapped, none_at}
-use Rattle.sound_elements.proofs.Numbers.{same_end_is, same_end_refl}
+use Rattle.plan_definitions.proofs.Lists.{kept, mapped, none_at}
+use Rattle.plan_definitions.proofs.Keys.{same_end_is, same_end_refl}
+use Rattle.plan_definitions.proofs.Firsts.{first_none, map_none, or_none}
 
 module _ (d : Description) (f : Flat) (fair : refusal d f ≡ None) where
   pub all_compatible : incompatible d ≡ None

@@ -8,7 +8,7 @@ use Rattle.plan_definitions.specs.Lists.{from, positions}
 use Rattle.plan_definitions.specs.ElementGroups.{group_number, groups, heads, member_at, members}
 use Rattle.bus_semantics.specs.Plan.{every_from, positions as bus_positions}
 use Rattle.bus_semantics.specs.SoundPlan.{first_of, firsts, is_rising, same_numbers}
-use Rattle.sound_elements.proofs.Lists.{all_from, place, there, unmapped}
+use Rattle.plan_definitions.proofs.Lists.{all_from, as_many, place, same_numbers_refl, there, unmapped}
 use Rattle.sound_elements.proofs.Heads.{AreLow, first_is, groups_rise, number_within}
 
 -- ---- positions
@@ -17,26 +17,18 @@ one_more : (i n : ℕ) → positions i (suc n) ≡ positions i n ++ (i + n) ∷ 
 one_more i zero = ap (λ m. m ∷ []) (omega arith)
 one_more i (suc n) = ap (λ ms. i ∷ ms) (one_more (i + 1) n ∙ ap (λ m. positions (i + 1) n ++ m ∷ []) (omega arith))
 
-same_positions : (n : ℕ) → bus_positions n ≡ positions 0 n
+pub same_positions : (n : ℕ) → bus_positions n ≡ positions 0 n
 same_positions zero = refl
 same_positions (suc n) = ap (λ ms. ms ++ n ∷ []) (same_positions n) ∙ ap (λ m. positions 0 n ++ m ∷ []) (omega arith) ∙ sym (one_more 0 n)
 
 -- a test of what stands at each position
-every_position : {Y : Type 0} (test : ℕ → Y → Bool) (F : ℕ → Y) (i n : ℕ) → ((k : ℕ) → k < n → test (i + k) (F (i + k)) ≡ true) → every_from i test (map F (positions i n)) ≡ true
+pub every_position : {Y : Type 0} (test : ℕ → Y → Bool) (F : ℕ → Y) (i n : ℕ) → ((k : ℕ) → k < n → test (i + k) (F (i + k)) ≡ true) → every_from i test (map F (positions i n)) ≡ true
 every_position test F i zero each = refl
 every_position test F i (suc n) each =
     let z : i + 0 ≡ i = omega arith in
     and_from (test i (F i)) (every_from (i + 1) test (map F (positions (i + 1) n)))
     (subst (λ m. test m (F m) ≡ true) z (each 0 (omega arith)))
     (every_position test F (i + 1) n (λ k lt. let s : i + suc k ≡ i + 1 + k = omega arith in subst (λ m. test m (F m) ≡ true) s (each (suc k) (omega arith))))
-
-as_many : {Y : Type 0} (F : ℕ → Y) (i n : ℕ) → length (map F (positions i n)) ≡ n
-as_many F i zero = refl
-as_many F i (suc n) = ap (λ m. suc m) (as_many F (i + 1) n)
-
-same_numbers_refl : (xs : List ℕ) → same_numbers xs xs ≡ true
-same_numbers_refl [] = refl
-same_numbers_refl (x ∷ xs) = and_from (x == x) (same_numbers xs xs) (eq-eqb x x refl) (same_numbers_refl xs)
 
 -- ---- members
 

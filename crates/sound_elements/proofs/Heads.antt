@@ -8,7 +8,7 @@ use Rattle.flat_descriptions.specs.Members.{Among}
 use Rattle.plan_definitions.specs.Lists.{from, positions}
 use Rattle.plan_definitions.specs.ElementGroups.{group_number, groups, head_at, heads, member_at, members, number_among}
 use Rattle.bus_semantics.specs.SoundPlan.{first_of, firsts, is_rising}
-use Rattle.sound_elements.proofs.Lists.{all_from, at, get_map, in_from, map_get, out_from}
+use Rattle.plan_definitions.proofs.Lists.{all_from, at, get_map, in_from, map_get, out_from}
 
 -- ---- heads
 

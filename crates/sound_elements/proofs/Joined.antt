@@ -29,10 +29,11 @@ use Rattle.plan_definitions.specs.Elements.{declared_at, element_in, limits_of, 
 use Rattle.plan_definitions.specs.WellFormed.{IsWellFormed, distinct, kind_fits, names_fit}
 use Rattle.sound_elements.proofs.Elems.{is_element_of}
 use Rattle.sound_elements.proofs.Ends.{HasPorts, one_named, same_limits, same_words, traits}
-use Rattle.sound_elements.proofs.Kept.{interface_is, interface_keeps}
-use Rattle.sound_elements.proofs.Lists.{at, get_map, kept, unkept}
+use Rattle.sound_elements.proofs.Kept.{interface_is}
+use Rattle.plan_definitions.proofs.Lists.{at, get_map, kept, unkept}
 use Rattle.sound_elements.proofs.Passing.{Serves}
-use Rattle.sound_elements.proofs.Sites.{AtPort, IsVariable, is_site, site_is}
+use Rattle.plan_definitions.proofs.Sites.{AtPort, IsVariable, is_site, site_is}
+use Rattle.sound_names.proofs.Keeping.{of_interface}
 
 pub record JoinSites (d : Description) (f : Flat) (j : Join) : Type 0 where
   pub provided : Site
@@ -75,7 +76,7 @@ module _ (d : Description) (w : IsWellFormed d) (f : Flat) where
   names_differ : (n : ℕ) (xs : List DataElement) → interface_at d n ≡ Some (SenderReceiver xs) → distinct (map (λ (e : DataElement). e.short_name) xs) ≡ true
   names_differ n xs is =
       let i = at_interface n (SenderReceiver xs) is in
-      let fits = subst (λ k. kind_fits d.types k ≡ true) i.2 (interface_keeps d w n i.0 i.1) in
+      let fits = subst (λ k. kind_fits d.types k ≡ true) i.2 (of_interface d w n i.0 i.1) in
       let names = and_parts (names_fit (map (λ (e : DataElement). e.short_name) xs)) (list_all (λ (e : DataElement). nat_lt e.of_type (length d.types.data_types)) xs) fits in
       (and_parts (list_all is_name (map (λ (e : DataElement). e.short_name) xs)) (distinct (map (λ (e : DataElement). e.short_name) xs)) names.0).1
 

@@ -26,15 +26,15 @@ use Rattle.plan_definitions.specs.Things.{elements_of}
 use Rattle.plan_definitions.specs.Elements.{Elem, elem_seen, element_of, elements, group_of, is_provided}
 use Rattle.plan_definitions.specs.WellFormed.{IsWellFormed}
 use Rattle.plan_definitions.specs.Whole.{IsWhole}
-use Rattle.sound_elements.proofs.Bounded.{elements_are}
-use Rattle.sound_elements.proofs.Counting.{Two, by_second, one, two}
+use Rattle.plan_definitions.proofs.Apart.{Two, by_second, one, two}
 use Rattle.sound_elements.proofs.Elems.{queued, unqueued, variable}
 use Rattle.sound_elements.proofs.Ends.{Traits, traits}
 use Rattle.sound_elements.proofs.Linked.{Linked, group_linked, linked_agree, linked_group}
-use Rattle.sound_elements.proofs.Lists.{all_from, any_at, any_from, any_seen, count_seen, mapped, unmapped}
-use Rattle.sound_elements.proofs.Numbers.{key_is, same_end_is, same_end_refl}
+use Rattle.plan_definitions.proofs.Lists.{all_from, any_at, any_from, any_seen, count_seen, mapped, unmapped}
+use Rattle.plan_definitions.proofs.Keys.{key_is, same_end_is, same_end_refl}
 use Rattle.sound_elements.proofs.Partners.{Faces, back, elements_apart, end_site, faces, provided_touches, required_touches, same_site, star, touched}
 use Rattle.sound_elements.proofs.Stars.{Touch}
+use Rattle.sound_names.proofs.Seen.{elements_are}
 
 -- ---- the joins, by what is seen of the elements
 
@@ -274,4 +274,4 @@ module _ (d : Description) (w : IsWellFormed d) (f : Flat) (flat : IsFlatOf d f)
       sides e among = let p = unmapped elem (elements_of d f) e among in ap (sides_seen (elements d f)) p.2 ∙ both_sides p.0 p.1
 
 pub joins_sound : (d : Description) (f : Flat) (p : BusPlan) (m : Mapping) → IsWhole d f p m → joins_fit (plan_of p) ≡ true
-joins_sound d f p m w = same_joins p ∙ ap joins_seen (elements_are d f p m w) ∙ joins_keep d w.well_formed f w.is_flat w.may_join
+joins_sound d f p m w = same_joins p ∙ ap joins_seen (elements_are d f p w.is_plan) ∙ joins_keep d w.well_formed f w.is_flat w.may_join

@@ -18,7 +18,7 @@ use Rattle.plan_definitions.specs.Parts.{component_of}
 use Rattle.plan_definitions.specs.Ports.{com_spec_of, interface_of, port_of, queue_length_of}
 use Rattle.bus_semantics.specs.SoundPlan.{is_in}
 use Rattle.plan_definitions.specs.WellFormed.{IsWellFormed, com_spec_fits, component_fits, composition_fits, group_fits, kind_fits, names_fit, port_fits, ports_fit, type_fits, variable_fits}
-use Rattle.sound_elements.proofs.Lists.{all_at, at, found, there}
+use Rattle.plan_definitions.proofs.Lists.{all_at, at, found, there}
 
 module _ (d : Description) (w : IsWellFormed d) where
   type_keeps : (n : ℕ) (t : DataType) → slice_get d.types.data_types n ≡ Some t → type_fits t ≡ true
@@ -34,12 +34,6 @@ module _ (d : Description) (w : IsWellFormed d) where
       let later = and_parts (list_all type_fits d.types.data_types) (list_all group_fits d.types.mode_groups && list_all (λ (i : Interface). kind_fits d.types i.kind) d.types.interfaces) w.types in
       let groups = and_parts (list_all group_fits d.types.mode_groups) (list_all (λ (i : Interface). kind_fits d.types i.kind) d.types.interfaces) later.1 in
       (p.0, p.1, all_at group_fits d.types.mode_groups groups.0 p.0 (at d.types.mode_groups n p.0 p.1))
-
-  pub interface_keeps : (n : ℕ) (i : Interface) → slice_get d.types.interfaces n ≡ Some i → kind_fits d.types i.kind ≡ true
-  interface_keeps n i is =
-      let later = and_parts (list_all type_fits d.types.data_types) (list_all group_fits d.types.mode_groups && list_all (λ (j : Interface). kind_fits d.types j.kind) d.types.interfaces) w.types in
-      let kinds = and_parts (list_all group_fits d.types.mode_groups) (list_all (λ (j : Interface). kind_fits d.types j.kind) d.types.interfaces) later.1 in
-      all_at (λ (j : Interface). kind_fits d.types j.kind) d.types.interfaces kinds.1 i (at d.types.interfaces n i is)
 
   ports_keep : (ps : List Port) → ports_fit d.types ps ≡ true → (k : ℕ) (port : Port) → slice_get ps k ≡ Some port → port_fits d.types port ≡ true
   ports_keep ps fit k port is = all_at (port_fits d.types) ps (and_parts (names_fit (map (λ (p : Port). p.short_name) ps)) (list_all (port_fits d.types) ps) fit).1 port (at ps k port is)

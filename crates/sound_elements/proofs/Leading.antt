@@ -17,13 +17,14 @@ use Rattle.plan_definitions.specs.Things.{elements_of}
 use Rattle.plan_definitions.specs.Elements.{Elem, element_of, elem_seen, group_of, leaders}
 use Rattle.plan_definitions.specs.ElementGroups.{group_number, leader, leader_of, own_number}
 use Rattle.plan_definitions.specs.Whole.{IsWhole}
-use Rattle.sound_elements.proofs.Bounded.{elements_are, groups_are}
+use Rattle.sound_elements.proofs.Bounded.{groups_are}
 use Rattle.sound_elements.proofs.Grouping.{groups_kept}
 use Rattle.sound_elements.proofs.Heads.{AreLow}
-use Rattle.sound_elements.proofs.Lists.{get_map, map_get}
-use Rattle.sound_elements.proofs.Numbers.{key_is, number_low}
-use Rattle.sound_elements.proofs.Sites.{with_port}
+use Rattle.plan_definitions.proofs.Lists.{get_map, map_get}
+use Rattle.plan_definitions.proofs.Keys.{key_is, number_low}
+use Rattle.plan_definitions.proofs.Sites.{with_port}
 use Rattle.sound_elements.proofs.Stars.{leader_own}
+use Rattle.sound_names.proofs.Seen.{elements_are}
 
 -- the least number in the group of a site, by its end
 pub alone : (joins : List Join) (keys : List Key) (s : Site) → end_of s ≡ None → leader_of joins keys s ≡ number_in keys (key_of s)
@@ -64,6 +65,6 @@ pub groups_sound : (d : Description) (f : Flat) (p : BusPlan) (m : Mapping) → 
 groups_sound d f p m w = groups_kept (λ (e : ElemPlan). e.group) p.elements (leaders d f) (leaders_low d f) same p.groups (groups_are d f p m w)
   where
     same : map (λ (e : ElemPlan). e.group) p.elements ≡ map (group_number (leaders d f)) (leaders d f)
-    same = sym (map-map (λ (e : Elem). e.group) elem_seen p.elements) ∙ ap (map (λ (e : Elem). e.group)) (elements_are d f p m w)
+    same = sym (map-map (λ (e : Elem). e.group) elem_seen p.elements) ∙ ap (map (λ (e : Elem). e.group)) (elements_are d f p w.is_plan)
         ∙ map-map (λ (e : Elem). e.group) (λ (s : Site). element_of d f (group_of d f s) s) (elements_of d f)
         ∙ sym (map-map (group_number (leaders d f)) (leader_of f.joins (keys d f)) (elements_of d f))

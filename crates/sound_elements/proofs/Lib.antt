@@ -1,22 +1,17 @@
-mod Lists
 mod Heads
 mod Grouping
 mod Stars
-mod Counting
-mod Sites
-mod Words
 mod Kept
 mod Bounded
+mod Bundled
+mod Unlisted
 mod Machines
-mod Elems
-mod Numbers
+pub mod Elems
 mod Leading
-mod Places
 mod Passing
-mod Chains
 mod Ends
 mod Joined
-mod Fair
+pub mod Fair
 mod Partners
 mod Linked
 mod Joins

@@ -16,8 +16,8 @@ use Rattle.plan_definitions.specs.WellFormed.{IsWellFormed}
 use Rattle.sound_elements.proofs.Ends.{traits}
 use Rattle.sound_elements.proofs.Heads.{here_head, number_is as head_is}
 use Rattle.sound_elements.proofs.Leading.{alone, keys, leads}
-use Rattle.sound_elements.proofs.Lists.{at, get_map, map_get, mapped}
-use Rattle.sound_elements.proofs.Numbers.{key_is, number_is, number_same}
+use Rattle.plan_definitions.proofs.Lists.{at, get_map, map_get, mapped}
+use Rattle.plan_definitions.proofs.Keys.{key_is, number_is, number_same}
 use Rattle.sound_elements.proofs.Partners.{Good, back, end_site, faces, good, same_site, star}
 use Rattle.sound_elements.proofs.Stars.{Near, leader_is, leader_same, near_back, near_good, near_then}
 

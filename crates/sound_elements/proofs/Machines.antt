@@ -24,10 +24,11 @@ use Rattle.plan_definitions.specs.Things.{machine_number, machines_of}
 use Rattle.plan_definitions.specs.Modes.{group_at, group_in, machine_at, machines, waits_of}
 use Rattle.plan_definitions.specs.WellFormed.{IsWellFormed, group_fits, kind_fits, names_fit}
 use Rattle.plan_definitions.specs.Whole.{IsWhole}
-use Rattle.sound_elements.proofs.Kept.{interface_is, interface_keeps, queue_keeps, some_group}
-use Rattle.sound_elements.proofs.Lists.{all_from, unkept, unmapped}
-use Rattle.sound_elements.proofs.Sites.{AtPort, IsVariable, is_site}
-use Rattle.sound_elements.proofs.Bounded.{machines_are}
+use Rattle.sound_elements.proofs.Kept.{interface_is, queue_keeps, some_group}
+use Rattle.plan_definitions.proofs.Lists.{all_from, unkept, unmapped}
+use Rattle.plan_definitions.proofs.Sites.{AtPort, IsVariable, is_site}
+use Rattle.sound_names.proofs.Keeping.{of_interface}
+use Rattle.sound_names.proofs.Seen.{machines_are}
 
 -- a machine is the mode element of an interface
 machine_kind : (owner : Option ℕ) (side : PortKind) (k : InterfaceKind) → is_machine (kind_at owner side k) ≡ true → (x : ModeElement) × (k ≡ ModeSwitch x)
@@ -46,7 +47,7 @@ module _ (d : Description) (w : IsWellFormed d) (f : Flat) where
   at_site : (s : Site) → is_machine s.kind ≡ true → AtPort d f s → machine_sound (machine_at d f s.owner (unwrap_or s.port 0)) ≡ true
   at_site s machine p =
       let x = machine_kind s.owner p.port.kind p.interface.kind (sym (ap is_machine p.kind) ∙ machine) in
-      let fits = subst (λ k. kind_fits d.types k ≡ true) x.1 (interface_keeps d w p.port.interface p.interface p.has_interface) in
+      let fits = subst (λ k. kind_fits d.types k ≡ true) x.1 (of_interface d w p.port.interface p.interface p.has_interface) in
       let q = and_parts _ (nat_lt x.0.of_type (length d.types.mode_groups)) fits in
       let g = some_group d w x.0.of_type q.1 in
       subst (λ o. machine_sound (machine_at d f s.owner (unwrap_or o 0)) ≡ true) (sym p.at)
@@ -69,4 +70,4 @@ module _ (d : Description) (w : IsWellFormed d) (f : Flat) where
           subst (λ x. machine_sound x ≡ true) (sym p.2) (each_machine p.0 p.1)
 
 pub machines_sound : (d : Description) (f : Flat) (p : BusPlan) (m : Mapping) → IsWhole d f p m → list_all machine_sound p.machines ≡ true
-machines_sound d f p m w = subst (λ ns. list_all machine_sound ns ≡ true) (sym (machines_are d f p m w)) (machines_keep d w.well_formed f)
+machines_sound d f p m w = subst (λ ns. list_all machine_sound ns ≡ true) (sym (machines_are d f p w.is_plan)) (machines_keep d w.well_formed f)

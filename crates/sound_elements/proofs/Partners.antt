@@ -17,14 +17,14 @@ use Rattle.plan_definitions.specs.Sites.{provides_at, sites}
 use Rattle.plan_definitions.specs.Things.{elements_of}
 use Rattle.plan_definitions.specs.Elements.{is_provided}
 use Rattle.plan_definitions.specs.WellFormed.{IsWellFormed}
-use Rattle.sound_elements.proofs.Counting.{Apart, apart_filter, one_item}
+use Rattle.plan_definitions.proofs.Apart.{Apart, apart_filter, one_item}
 use Rattle.sound_elements.proofs.Elems.{is_element_of}
 use Rattle.sound_elements.proofs.Ends.{HasPorts, has_ports, traits}
 use Rattle.sound_elements.proofs.Fair.{all_compatible, fair_there, one_single, provider, requirer}
 use Rattle.sound_elements.proofs.Joined.{JoinSites, of_provided, of_required}
-use Rattle.sound_elements.proofs.Lists.{cases, flat, left, right, unflat, unkept}
-use Rattle.sound_elements.proofs.Numbers.{key_is, same_end_is, same_end_refl}
-use Rattle.sound_elements.proofs.Sites.{AtPort, IsVariable, is_site, sites_apart}
+use Rattle.plan_definitions.proofs.Lists.{cases, flat, left, right, unflat, unkept}
+use Rattle.plan_definitions.proofs.Keys.{key_is, same_end_is, same_end_refl}
+use Rattle.plan_definitions.proofs.Sites.{AtPort, IsVariable, is_site, sites_apart}
 use Rattle.sound_elements.proofs.Stars.{Single, Touch}
 
 -- ---- who touches whom

@@ -15,13 +15,8 @@ use Rattle.interface_types.specs.declared.interface.TypeTable.{TypeTable}
 use Rattle.plan_definitions.specs.Interfaces.{same_policy, serve_elements, serves, serves_element, serves_in}
 use Rattle.plan_definitions.specs.Types.{agree, are_compatible_types, base_number, types_agree}
 use Rattle.flat_descriptions.specs.Members.{Among}
-use Rattle.sound_elements.proofs.Lists.{all_at, any_at}
-
-same_bytes : (a b : List ℕ) → bytes_eq a b ≡ true → a ≡ b
-same_bytes [] [] h = refl
-same_bytes [] (y ∷ b) h = cc
-same_bytes (x ∷ a) [] h = cc
-same_bytes (x ∷ a) (y ∷ b) h = let p = and_parts (nat_eq x y) (bytes_eq a b) h in (λ j. eqb-true x y p.0 j ∷ same_bytes a b p.1 j)
+use Rattle.plan_definitions.proofs.Lists.{all_at, any_at, same_bytes}
+use Rattle.plan_definitions.proofs.Chains.{IsPassed}
 
 bytes_refl : (a : List ℕ) → bytes_eq a a ≡ true
 bytes_refl [] = refl
@@ -123,17 +118,17 @@ module _ (types : TypeTable) where
   abbrev pub Passes : Option InterfaceKind → Option InterfaceKind → Type 0
   Passes a b = (ys : List DataElement) → b ≡ Some (SenderReceiver ys) → (xs : List DataElement) × (a ≡ Some (SenderReceiver xs)) × Serve xs ys
 
-  pub passes_refl : (a : Option InterfaceKind) → Passes a a
+  passes_refl : (a : Option InterfaceKind) → Passes a a
   passes_refl a ys is = (ys, is, λ r among. (r, among, record { name = refl; of_type = types_refl (slice_get types.data_types r.of_type); policy = refl }))
 
-  pub passes_then : (a b c : Option InterfaceKind) → Passes a b → Passes b c → Passes a c
+  passes_then : (a b c : Option InterfaceKind) → Passes a b → Passes b c → Passes a c
   passes_then a b c first second zs is =
       let s = second zs is in
       let t = first s.0 s.1 in
       (t.0, t.1, λ r among. let q = s.2 r among in let p = t.2 q.0 q.1 in (p.0, p.1, serves_then p.0 q.0 r p.2 q.2))
 
   -- compatible interfaces
-  pub compatible_passes : (a b : Option Interface) → serves_in types a b ≡ true → Passes (option_map (λ (i : Interface). i.kind) a) (option_map (λ (i : Interface). i.kind) b)
+  compatible_passes : (a b : Option Interface) → serves_in types a b ≡ true → Passes (option_map (λ (i : Interface). i.kind) a) (option_map (λ (i : Interface). i.kind) b)
   compatible_passes None b h ys is = cc
   compatible_passes (Some a) None h ys is = cc
   compatible_passes (Some a) (Some b) h ys is = by a.kind refl (ap (λ k. serves types a.kind k) there ∙ h)
@@ -153,3 +148,6 @@ module _ (types : TypeTable) where
       by (SenderReceiver xs) e s = (xs, ap (λ k. Some k) e, serve xs s)
       by (ClientServer os) e s = cc
       by (ModeSwitch x) e s = cc
+
+  pub passed : IsPassed types Passes
+  passed = record { itself = passes_refl; onward = passes_then; compatible = compatible_passes }

@@ -3,7 +3,7 @@
 use Rattle.std.proofs.Common.{◌≡◌, ℕ, ◌≤◌, List, [], ◌∷◌, map, min, ◌⊎◌, inl, inr, ⊎_elim, refl, sym, subst, ◌∙◌, arith}
 use Rattle.flat_descriptions.specs.Members.{Among}
 use Rattle.plan_definitions.specs.ElementGroups.{least}
-use Rattle.sound_elements.proofs.Lists.{mapped, unmapped}
+use Rattle.plan_definitions.proofs.Lists.{mapped, unmapped}
 
 -- ---- the least number
 

@@ -2,13 +2,16 @@
 //! one field of `IsSound` of bus_semantics.
 #![tactic(auto)]
 
+mod bundles;
 mod elements;
 mod sizes;
 
+pub use bundles::{bundles_of_plans_fit, lists_of_plans_are_sound, plans_have_no_lists};
 pub use elements::{
     elements_of_plans_are_sound, groups_are_what_joins_connect, groups_of_plans_fit,
     joined_elements_of_plans_agree,
 };
 pub use sizes::{
-    machines_of_plans_are_sound, objects_of_plans_are_counted, queues_of_plans_are_bounded,
+    machines_of_plans_are_sound, objects_of_plans_are_counted, points_of_plans_are_few,
+    queues_of_plans_are_bounded,
 };

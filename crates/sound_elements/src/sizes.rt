@@ -1,6 +1,6 @@
 //! Laws of the objects, the queues and the mode machines of plans.
 
-ghost use Rattle.std.specs.Prelude.{◌≡◌, true, nat_le};
+ghost use Rattle.std.specs.Prelude.{◌≡◌, true, length, nat_le};
 ghost use Rattle.std.specs.List.{list_all};
 ghost use Rattle.description_types.specs.declared.description.Description.{Description};
 ghost use Rattle.flat_descriptions.specs.declared.flat.Flat.{Flat};
@@ -12,9 +12,15 @@ ghost use Rattle.bus_semantics.specs.SoundPlan.{objects_counted};
 ghost use Rattle.bus_semantics.specs.SoundElements.{machine_sound};
 ghost use Rattle.plan_definitions.specs.Whole.{IsWhole};
 
-/// The objects of a plan are its groups, servers, areas and mode machines, and the clock; there are at most 16,384 of them.
+/// The objects of a plan are its bundles, servers, areas and mode machines, and the clock; there are at most 16,384 of them, and as
+/// many of its groups, servers, areas and mode machines with the clock.
 pub fn objects_of_plans_are_counted()
     ensures { (d : Description) (f : Flat) (p : BusPlan) (m : Mapping) → IsWhole d f p m → objects_counted (plan_of p) ≡ true }
+{}
+
+/// At most 262,144 points call operations.
+pub fn points_of_plans_are_few()
+    ensures { (d : Description) (f : Flat) (p : BusPlan) (m : Mapping) → IsWhole d f p m → nat_le (length p.points) 262144 ≡ true }
 {}
 
 /// The queue lengths of all receivers, queued servers and mode machines are together at most 65,536.

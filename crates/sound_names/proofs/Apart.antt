@@ -4,11 +4,11 @@ use Rattle.std.proofs.lemmas.Bool.{and_parts, and_from, eqb-true, false_from_ne_
 use Rattle.std.specs.List.{list_any}
 use Rattle.bus_semantics.specs.SoundNames.{Named, same_named, named_once}
 use Rattle.bus_semantics.specs.SoundPlan.{same_numbers}
-use Rattle.sound_names.proofs.Lists.{cases, filtered, mapped, map_has, none_from, any_has, piece, get_among, position_in}
+use Rattle.plan_definitions.proofs.Lists.{same_numbers_is, same_numbers_refl, cases, at as get_among}
+use Rattle.sound_names.proofs.Lists.{filtered, mapped, map_has, none_from, any_has, piece, position_in}
 use Rattle.flat_descriptions.specs.Members.{Among, AllApart}
 use Rattle.plan_definitions.specs.Lists.{from, positions}
 use Rattle.plan_definitions.specs.WellFormed.{distinct}
-use Rattle.sound_names.proofs.Texts.{same_is, same_itself}
 
 module _ {X : Type 0} where
   pub apart_append : (xs ys : List X) → AllApart xs → AllApart ys → ((x : X) → Among x xs → Among x ys → ⊥) → AllApart (xs ++ ys)
@@ -77,7 +77,7 @@ pub named_is : (a b : Named) → same_named a b ≡ true → a ≡ b
 named_is a b h =
     let p = and_parts (nat_eq a.0 b.0) (same_numbers a.1 b.1) h in
     let number : a.0 ≡ b.0 = eqb-true a.0 b.0 p.0 in
-    let text : a.1 ≡ b.1 = same_is a.1 b.1 p.1 in
+    let text : a.1 ≡ b.1 = same_numbers_is a.1 b.1 p.1 in
     (λ i. (number i, text i))
 
 pub once : (ns : List Named) → AllApart ns → named_once ns ≡ true
@@ -89,7 +89,7 @@ once (n ∷ ns) apart =
 -- ---- distinct names
 
 distinct_head : (n : List ℕ) (ns : List (List ℕ)) → list_any (same_numbers n) ns ≡ false → Among n ns → ⊥
-distinct_head n ns none h = true≢false (sym (any_has (same_numbers n) n ns h (same_itself n)) ∙ none)
+distinct_head n ns none h = true≢false (sym (any_has (same_numbers n) n ns h (same_numbers_refl n)) ∙ none)
 
 pub distinct_apart : (ns : List (List ℕ)) → distinct ns ≡ true → AllApart ns
 distinct_apart [] h = tt

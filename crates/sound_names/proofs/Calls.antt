@@ -1,7 +1,7 @@
 -- The calls of a description that breaks no rule on components: each names an operation that its owner requires.
 use Rattle.std.proofs.Common.{◌≡◌, ℕ, zero, suc, ◌+◌, ◌<◌, List, [], ◌∷◌, map, length, slice_get, Bool, true, false, cond, Option, Some, None, option_map, ⊎_elim, refl, sym, ap, subst, ◌∙◌, arith, true≢false}
 use Rattle.std.proofs.lemmas.Option.{slice_get_within}
-use Rattle.std.specs.Option.{option_map_or, option_or}
+use Rattle.std.specs.Option.{option_map_or}
 use Rattle.runnable_lang.specs.declared.program.AccessKind.{AccessKind}
 use Rattle.runnable_lang.specs.declared.program.AccessKind.TheVariants as kind
 use Rattle.interface_types.specs.declared.interface.DataElement.{DataElement}
@@ -35,23 +35,13 @@ use Rattle.plan_definitions.specs.Sites.{provides_at, root_ports}
 use Rattle.plan_definitions.specs.declared.calling.Calling.{Calling}
 use Rattle.plan_definitions.specs.Callings.{calling_of, callings_in, callings_of_component, operation_count, operations_at, outer_calling, outer_callings, callings, owner_of}
 use Rattle.plan_definitions.specs.PlanRefusals.{IsRefusal}
-use Rattle.sound_names.proofs.Lists.{among_get, and_then_some, cases, map_some, mapped, pieces, position_in, unflat}
+use Rattle.plan_definitions.proofs.Firsts.{map_none, or_none, unless_none}
+use Rattle.plan_definitions.proofs.Lists.{place as among_get, cases, unflat}
+use Rattle.sound_names.proofs.Lists.{and_then_some, map_some, mapped, pieces, position_in}
 use Rattle.sound_names.proofs.Numbers.{of_instances_is}
 use Rattle.sound_names.proofs.Sites.{PortAt, ComponentAt, ports_are}
 
 -- ---- nothing is refused
-
-or_none : {X : Type 0} (o p : Option X) → option_or o p ≡ None → (o ≡ None) × (p ≡ None)
-or_none None p h = (refl, h)
-or_none (Some x) p h = cc
-
-map_none : {X Y : Type 0} (g : X → Y) (o : Option X) → option_map g o ≡ None → o ≡ None
-map_none g None h = refl
-map_none g (Some x) h = cc
-
-unless_none : {P : Type 0} (b : Bool) (place : P) → unless b place ≡ None → b ≡ true
-unless_none true place h = refl
-unless_none false place h = cc
 
 first_none : {X Y : Type 0} (g : ℕ → X → Option Y) (i : ℕ) (xs : List X) → first_of g i xs ≡ None → (k : ℕ) (x : X) → slice_get xs k ≡ Some x → g (i + k) x ≡ None
 first_none g i [] h k x at = cc

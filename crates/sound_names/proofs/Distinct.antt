@@ -34,10 +34,11 @@ use Rattle.plan_definitions.specs.Modes.{machine_at, machines, mode_port_at}
 use Rattle.plan_definitions.specs.Services.{server_of}
 use Rattle.plan_definitions.specs.Planned.{area_of, areas_at, named_areas, plan_of, seen}
 use Rattle.plan_definitions.specs.WellFormed.{IsWellFormed}
+use Rattle.plan_definitions.proofs.Lists.{map_from, all_from}
 use Rattle.sound_names.proofs.Apart.{all_apart, apart_filter, apart_finer, apart_map, distinct_apart, once}
 use Rattle.sound_names.proofs.Homes.{event_home}
 use Rattle.sound_names.proofs.Keeping.{of_component}
-use Rattle.sound_names.proofs.Lists.{all_from, filtered, map_from, mapped}
+use Rattle.sound_names.proofs.Lists.{filtered, mapped}
 use Rattle.sound_names.proofs.NamesFit.{areas_named, modes_named}
 use Rattle.sound_names.proofs.Numbers.{in_component}
 use Rattle.sound_names.proofs.Owners.{site_owns}

@@ -27,7 +27,8 @@ use Rattle.plan_definitions.specs.Started.{runnable_of, runnables_of_component, 
 use Rattle.plan_definitions.specs.Modes.{machine_at, machines, mode_port_at, mode_ports}
 use Rattle.plan_definitions.specs.Services.{server_of, servers}
 use Rattle.plan_definitions.specs.Planned.{areas, areas_at, area_of, named_areas, plan_of, seen}
-use Rattle.sound_names.proofs.Lists.{all_from, filtered, mapped, pieces}
+use Rattle.plan_definitions.proofs.Lists.{all_from}
+use Rattle.sound_names.proofs.Lists.{filtered, mapped, pieces}
 use Rattle.sound_names.proofs.Numbers.{of_instances_is}
 use Rattle.sound_names.proofs.Owners.{Owns, instance_owns, site_owns}
 use Rattle.sound_names.proofs.Seen.{names_count, elements_are, servers_are, areas_are, machines_are, mode_ports_are, runnables_are}

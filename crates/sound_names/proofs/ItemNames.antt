@@ -17,8 +17,9 @@ use Rattle.bus_semantics.specs.SoundNames.{is_name, is_pair_name}
 use Rattle.plan_definitions.specs.declared.site.Site.{Site}
 use Rattle.plan_definitions.specs.Ports.{interface_of, item_name, item_text, port_name, ports_of, site_name, variable_name}
 use Rattle.plan_definitions.specs.WellFormed.{item_count, kind_fits, names_fit, IsWellFormed}
+use Rattle.plan_definitions.proofs.Lists.{at as get_among, there as get_some}
 use Rattle.sound_names.proofs.Keeping.{Names, names_from, of_component, of_interface, of_ports}
-use Rattle.sound_names.proofs.Lists.{all_at, get_among, get_some, map_has}
+use Rattle.sound_names.proofs.Lists.{all_at, map_has}
 use Rattle.sound_names.proofs.SiteKinds.{item_below}
 use Rattle.sound_names.proofs.Sites.{ItemAt, PortAt, VariableAt, component_is}
 use Rattle.sound_names.proofs.Texts.{pair_fits}

@@ -19,7 +19,8 @@ use Rattle.plan_definitions.specs.Sites.{root_ports}
 use Rattle.plan_definitions.specs.Parts.{component_of}
 use Rattle.plan_definitions.specs.Ports.{ports_of}
 use Rattle.plan_definitions.specs.WellFormed.{distinct, names_fit, type_fits, group_fits, kind_fits, port_fits, ports_fit, variable_fits, runnable_fits, event_fits, serves_fit, component_fits, prototype_fits, composition_fits, IsWellFormed}
-use Rattle.sound_names.proofs.Lists.{all_at, get_among, and_then_some}
+use Rattle.plan_definitions.proofs.Lists.{at as get_among}
+use Rattle.sound_names.proofs.Lists.{all_at, and_then_some}
 
 -- a list of names
 pub record Names (ns : List (List ℕ)) : Type 0 where

@@ -3,10 +3,10 @@ mod Rising
 mod Apart
 mod Texts
 mod Sites
-mod Keeping
+pub mod Keeping
 mod Numbers
-mod Seen
-mod SiteKinds
+pub mod Seen
+pub mod SiteKinds
 mod Owners
 mod Existing
 mod Homes

@@ -1,44 +1,10 @@
 -- What is in lists that are made of others.
-use Rattle.std.proofs.Common.{◌≡◌, ℕ, zero, suc, ◌+◌, ◌<◌, ◌≤◌, List, [], ◌∷◌, ◌++◌, length, map, filter, slice_get, Bool, true, false, cond, Option, Some, None, option_map, option_and_then, ◌⊎◌, inl, inr, ⊎_elim, refl, sym, ap, subst, ◌∙◌, arith, true≢false}
-use Rattle.std.proofs.lemmas.Bool.{and_parts, and_from, or_from, or_left, or_right, cases_eq}
-use Rattle.std.proofs.lemmas.List.{map-append}
-use Rattle.std.specs.List.{list_all, list_any, flat_map, find, position_from}
+use Rattle.std.proofs.Common.{◌≡◌, ℕ, zero, suc, ◌+◌, ◌<◌, ◌≤◌, List, [], ◌∷◌, ◌++◌, map, filter, slice_get, Bool, true, false, cond, Option, Some, None, option_map, option_and_then, ◌⊎◌, inl, inr, ⊎_elim, refl, sym, ap, subst, ◌∙◌, arith, true≢false}
+use Rattle.std.proofs.lemmas.Bool.{and_parts, or_from, or_left, or_right, cases_eq}
+use Rattle.std.specs.List.{list_all, list_any, find, position_from}
 use Rattle.flat_descriptions.specs.Members.{Among}
 use Rattle.plan_definitions.specs.Lists.{from, positions}
-
--- ---- joined lists
-
-module _ {X : Type 0} where
-  pub left : (x : X) (xs ys : List X) → Among x xs → Among x (xs ++ ys)
-  left x [] ys h = absurd h
-  left x (y ∷ xs) ys (inl e) = inl e
-  left x (y ∷ xs) ys (inr h) = inr (left x xs ys h)
-
-  pub right : (x : X) (xs ys : List X) → Among x ys → Among x (xs ++ ys)
-  right x [] ys h = h
-  right x (y ∷ xs) ys h = inr (right x xs ys h)
-
-  pub cases : (x : X) (xs ys : List X) → Among x (xs ++ ys) → Among x xs ⊎ Among x ys
-  cases x [] ys h = inr h
-  cases x (y ∷ xs) ys (inl e) = inl (inl e)
-  cases x (y ∷ xs) ys (inr h) = ⊎_elim (λ l. inl (inr l)) (λ r. inr r) (cases x xs ys h)
-
-  -- ---- positions
-
-  pub get_among : (xs : List X) (k : ℕ) (x : X) → slice_get xs k ≡ Some x → Among x xs
-  get_among [] k x h = cc
-  get_among (y ∷ xs) zero x h = inl cc
-  get_among (y ∷ xs) (suc k) x h = inr (get_among xs k x h)
-
-  pub get_some : (xs : List X) (k : ℕ) → k < length xs → (x : X) × (slice_get xs k ≡ Some x)
-  get_some [] k h = absurd (omega arith)
-  get_some (y ∷ xs) zero h = (y, refl)
-  get_some (y ∷ xs) (suc k) h = get_some xs k (omega arith)
-
-  pub among_get : (x : X) (xs : List X) → Among x xs → (k : ℕ) × (slice_get xs k ≡ Some x)
-  among_get x [] h = absurd h
-  among_get x (y ∷ xs) (inl e) = (0, ap (λ z. Some z) (sym e))
-  among_get x (y ∷ xs) (inr h) = let r = among_get x xs h in (suc r.0, r.1)
+use Rattle.plan_definitions.proofs.Lists.{cases, in_from}
 
 -- ---- images
 
@@ -53,11 +19,6 @@ module _ {X Y : Type 0} (f : X → Y) where
   map_has x (y ∷ xs) (inl e) = inl (ap f e)
   map_has x (y ∷ xs) (inr h) = inr (map_has x xs h)
 
-  pub unmap : (xs : List X) (k : ℕ) (y : Y) → slice_get (map f xs) k ≡ Some y → (x : X) × (slice_get xs k ≡ Some x) × (f x ≡ y)
-  unmap [] k y h = cc
-  unmap (x ∷ xs) zero y h = (x, refl, cc)
-  unmap (x ∷ xs) (suc k) y h = unmap xs k y h
-
 pub map_same : {X Y : Type 0} (f g : X → Y) (xs : List X) → ((x : X) → Among x xs → f x ≡ g x) → map f xs ≡ map g xs
 map_same f g [] same = refl
 map_same {X = X} f g (x ∷ xs) same =
@@ -68,10 +29,6 @@ map_same {X = X} f g (x ∷ xs) same =
 -- ---- what passes a test
 
 module _ {X : Type 0} (test : X → Bool) where
-  pub all_from : (xs : List X) → ((x : X) → Among x xs → test x ≡ true) → list_all test xs ≡ true
-  all_from [] each = refl
-  all_from (x ∷ xs) each = and_from (test x) (list_all test xs) (each x (inl refl)) (all_from xs (λ y h. each y (inr h)))
-
   pub all_at : (x : X) (xs : List X) → list_all test xs ≡ true → Among x xs → test x ≡ true
   all_at x [] h among = absurd among
   all_at x (y ∷ xs) h (inl is) = ap test is ∙ (and_parts (test y) (list_all test xs) h).0
@@ -116,11 +73,6 @@ module _ {X : Type 0} (test : X → Bool) where
 
 -- ---- pieces
 
-module _ {X Y : Type 0} (f : X → List Y) where
-  pub unflat : (xs : List X) (y : Y) → Among y (flat_map f xs) → (x : X) × Among x xs × Among y (f x)
-  unflat [] y h = absurd h
-  unflat (z ∷ xs) y h = ⊎_elim (λ here. (z, inl refl, here)) (λ later. let p = unflat xs y later in (p.0, inr p.1, p.2)) (cases y (f z) (flat_map f xs) h)
-
 -- the piece in which an item stands
 pub record Piece {X Y : Type 0} (f : ℕ → X → List Y) (xs : List X) (n : ℕ) (y : Y) : Type 0 where
   pub place : ℕ
@@ -136,16 +88,6 @@ module _ {X Y : Type 0} (f : ℕ → X → List Y) where
       (λ later. let p = piece (n + 1) xs y later in let e : n + 1 + p.place ≡ n + suc p.place = omega arith in record { place = suc p.place; item = p.item; at = p.at; among = subst (λ m. Among y (f m p.item)) e p.among })
       (cases y (f n x) (from (n + 1) f xs) h)
 
-  pub in_piece : (n : ℕ) (xs : List X) (k : ℕ) (x : X) (y : Y) → slice_get xs k ≡ Some x → Among y (f (n + k) x) → Among y (from n f xs)
-  in_piece n [] k x y at h = cc
-  in_piece n (z ∷ xs) zero x y at h =
-      let is : x ≡ z = cc in
-      let e : n + 0 ≡ n = omega arith in
-      left y (f n z) (from (n + 1) f xs) (subst (λ w. Among y (f n w)) is (subst (λ m. Among y (f m x)) e h))
-  in_piece n (z ∷ xs) (suc k) x y at h =
-      let e : n + suc k ≡ n + 1 + k = omega arith in
-      right y (f n z) (from (n + 1) f xs) (in_piece (n + 1) xs k x y at (subst (λ m. Among y (f m x)) e h))
-
   -- those from the first position on
   pub pieces : (xs : List X) (y : Y) → Among y (from 0 f xs) → (k : ℕ) × (x : X) × (slice_get xs k ≡ Some x) × Among y (f k x)
   pieces xs y h =
@@ -156,11 +98,7 @@ module _ {X Y : Type 0} (f : ℕ → X → List Y) where
   pub in_pieces : (xs : List X) (k : ℕ) (x : X) (y : Y) → slice_get xs k ≡ Some x → Among y (f k x) → Among y (from 0 f xs)
   in_pieces xs k x y at h =
       let e : k ≡ 0 + k = omega arith in
-      in_piece 0 xs k x y at (subst (λ m. Among y (f m x)) e h)
-
-pub map_from : {X Y Z : Type 0} (g : Y → Z) (f : ℕ → X → List Y) (n : ℕ) (xs : List X) → map g (from n f xs) ≡ from n (λ i x. map g (f i x)) xs
-map_from g f n [] = refl
-map_from g f n (x ∷ xs) = map-append g (f n x) (from (n + 1) f xs) ∙ ap (λ l. map g (f n x) ++ l) (map_from g f (n + 1) xs)
+      in_from f 0 xs k x y at (subst (λ m. Among y (f m x)) e h)
 
 pub from_same : {X Y : Type 0} (f g : ℕ → X → List Y) (n : ℕ) (xs : List X) → ((i : ℕ) (x : X) → f i x ≡ g i x) → from n f xs ≡ from n g xs
 from_same f g n [] same = refl

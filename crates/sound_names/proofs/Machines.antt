@@ -38,23 +38,16 @@ use Rattle.plan_definitions.specs.Ports as plan
 use Rattle.plan_definitions.specs.Things.{has_machine, machine_for, machine_number, machines_of, mode_ports_of}
 use Rattle.plan_definitions.specs.Modes.{machine_at, machines, mode_port_at, mode_ports}
 use Rattle.plan_definitions.specs.Planned.{plan_of, seen}
-use Rattle.sound_names.proofs.Lists.{all_from, filter_has, filtered, found, map_has, map_some, mapped}
+use Rattle.plan_definitions.proofs.Keys.{same_number}
+use Rattle.plan_definitions.proofs.Lists.{is_there, all_from}
+use Rattle.plan_definitions.proofs.Stands.{of_root}
+use Rattle.sound_names.proofs.Lists.{filter_has, filtered, found, map_has, map_some, mapped}
 use Rattle.sound_names.proofs.Numbers.{key_below}
 use Rattle.sound_names.proofs.Owners.{component_at}
 use Rattle.sound_names.proofs.Placed.{IsProvider, inner, outer, place_type, provider_is, stand_kind}
 use Rattle.sound_names.proofs.Seen.{machines_are, mode_ports_are}
 use Rattle.sound_names.proofs.Sites.{PortAt, instance_has, root_has}
 use Rattle.sound_names.proofs.Things.{mode_port_site}
-
-same_owner : (a b : Option ℕ) → option_eq nat_eq a b ≡ true → a ≡ b
-same_owner None None h = refl
-same_owner None (Some j) h = absurd (true≢false (sym h))
-same_owner (Some i) None h = absurd (true≢false (sym h))
-same_owner (Some i) (Some j) h = ap (λ n. Some n) (eqb-true i j h)
-
-is_there : {X : Type 0} (o : Option X) → is_some o ≡ true → (x : X) × (o ≡ Some x)
-is_there None h = absurd (true≢false (sym h))
-is_there (Some x) h = (x, refl)
 
 -- modes are joined with modes
 mode_items : (a b : Option InterfaceKind) (y : ModeElement) (i j : ℕ) → b ≡ Some (ModeSwitch y) → ItemsJoin a b i j → (x : ModeElement) × (a ≡ Some (ModeSwitch x)) × (i ≡ 0)
@@ -137,14 +130,6 @@ module _ (d : Description) (f : Flat) (flat : IsFlatOf d f) where
     modes : here.interface.kind ≡ ModeSwitch element
     provides : provides_at o here.port.kind ≡ true
 
-  at_root : (o : Option ℕ) (k : ℕ) (s : Stand) → stand_in d o k ≡ Some s → s.path ≡ [] → o ≡ None
-  at_root None k s h root = refl
-  at_root (Some i) k s h root =
-      let m = map_some (λ (place : Place). record { path = place.path; port = k }) (slice_get (places d) i) s h in
-      let no_path : m.0.path ≡ [] = ap (λ (s : Stand). s.path) m.2 ∙ root in
-      let no_component : Some (of.Composition d.root) ≡ Some (of.Component m.0.component) = sym (ap (type_at d (of.Composition d.root)) no_path) ∙ place_type d i m.0 m.1 in
-      cc
-
   in_root : (o : Option ℕ) (k : ℕ) (s : Stand) → stand_in d o k ≡ Some s → (s.path ≡ [] → ⊥) → is_some o ≡ true
   in_root None k s h inside = let e : record { path = []; port = k } ≡ s = cc in absurd (inside (ap (λ (s : Stand). s.path) (sym e)))
   in_root (Some i) k s h inside = refl
@@ -156,7 +141,7 @@ module _ (d : Description) (f : Flat) (flat : IsFlatOf d f) where
   machine_end o k s x h (outer root sided) faced =
       let there : stand_kind d s ≡ Some Required = ap (λ q. option_and_then (λ t. kind_of d t s.port) (type_at d (of.Composition d.root) q)) root ∙ sided in
       let e = port_there o k Required (ModeSwitch x) s (stand_is o k s h) there faced in
-      record { here = e.here; element = x; modes = e.kind_is; provides = (λ j. provides_at (at_root o k s h root j) (e.side_is j)) }
+      record { here = e.here; element = x; modes = e.kind_is; provides = (λ j. provides_at (of_root d o k s h root j) (e.side_is j)) }
 
   has_site : (o : Option ℕ) (k n : ℕ) (here : PortAt d f o k) → n < count_at o here.port.kind here.interface.kind → Among (site o (Some k) n (kind_at o here.port.kind here.interface.kind)) (sites d f)
   has_site None k n here below = root_has d f k n here below
@@ -187,7 +172,7 @@ module _ (d : Description) (f : Flat) (flat : IsFlatOf d f) where
       let is = (flat.joined j.0).0 joined.0 in
       let a = and_parts (option_eq nat_eq j.0.required.instance o && nat_eq j.0.required.port k) (nat_eq j.0.required.element 0) joined.1 in
       let b = and_parts (option_eq nat_eq j.0.required.instance o) (nat_eq j.0.required.port k) a.0 in
-      let owner = same_owner j.0.required.instance o b.0 in
+      let owner = same_number j.0.required.instance o b.0 in
       let port = eqb-true j.0.required.port k b.1 in
       let required : stand_in d o k ≡ Some is.required = (λ i. stand_in d (sym owner i) (sym port i)) ∙ is.is_required in
       let faced : interface_below d is.required ≡ Some (ModeSwitch y) = interface_there o k here is.required (stand_is o k is.required required) ∙ ap (λ k. Some k) modes in

@@ -40,10 +40,11 @@ use Rattle.plan_definitions.specs.Planned.{area_of, areas, areas_at, named_areas
 use Rattle.plan_definitions.specs.PlanRefusals.{IsRefusal}
 use Rattle.plan_definitions.specs.WellFormed as declared_names
 use Rattle.plan_definitions.specs.WellFormed.{item_count, IsWellFormed}
+use Rattle.plan_definitions.proofs.Lists.{all_from, at as get_among}
 use Rattle.sound_names.proofs.Calls.{call_is}
 use Rattle.sound_names.proofs.ItemNames.{item_site_name, site_text_fits, text_fits, variable_fits}
 use Rattle.sound_names.proofs.Keeping.{Names, names_from, of_component, of_group}
-use Rattle.sound_names.proofs.Lists.{all_at, all_from, and_then_some, filtered, get_among, map_has, mapped, pieces}
+use Rattle.sound_names.proofs.Lists.{all_at, and_then_some, filtered, map_has, mapped, pieces}
 use Rattle.sound_names.proofs.Numbers.{of_instances_is}
 use Rattle.sound_names.proofs.Paths.{few_names, names_are_fit}
 use Rattle.sound_names.proofs.Seen.{elements_are, points_are, servers_are, areas_are, machines_are, mode_ports_are, events_are, runnables_are}

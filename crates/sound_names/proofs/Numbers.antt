@@ -14,7 +14,9 @@ use Rattle.plan_definitions.specs.Keys.{Key, same_key, number_in, same_pair, pai
 use Rattle.plan_definitions.specs.Lists.{positions, from}
 use Rattle.plan_definitions.specs.Parts.{of_instances, numbered, runnables_of}
 use Rattle.plan_definitions.specs.Started.{runnable_of, runnables_of_component, runnables}
-use Rattle.sound_names.proofs.Lists.{position_found, pieces, in_pieces, map_has, in_positions, map_from, from_same, unmap}
+use Rattle.plan_definitions.proofs.Keys.{same_number_refl}
+use Rattle.plan_definitions.proofs.Lists.{map_from, get_map as unmap}
+use Rattle.sound_names.proofs.Lists.{position_found, pieces, in_pieces, map_has, in_positions, from_same}
 use Rattle.sound_names.proofs.Sites.{ComponentAt}
 
 pair_is : (a b : ℕ × ℕ) → same_pair a b ≡ true → a ≡ b
@@ -32,14 +34,10 @@ pair_at pairs x h =
     let number : pair_number pairs x ≡ r.0 = ap (λ o. unwrap_or o 0) r.2 ∙ e in
     ap (slice_get pairs) number ∙ r.3 ∙ ap (λ z. Some z) (sym (pair_is x r.1 r.4))
 
-option_itself : (o : Option ℕ) → option_eq nat_eq o o ≡ true
-option_itself None = refl
-option_itself (Some n) = eq-eqb n n refl
-
 -- the number of a key that is among them is one of theirs
 pub key_below : (keys : List Key) (k : Key) → Among k keys → number_in keys k < length keys
 key_below keys k h =
-    let itself = and_from (option_eq nat_eq k.0 k.0 && option_eq nat_eq k.1 k.1) (nat_eq k.2 k.2) (and_from (option_eq nat_eq k.0 k.0) (option_eq nat_eq k.1 k.1) (option_itself k.0) (option_itself k.1)) (eq-eqb k.2 k.2 refl) in
+    let itself = and_from (option_eq nat_eq k.0 k.0 && option_eq nat_eq k.1 k.1) (nat_eq k.2 k.2) (and_from (option_eq nat_eq k.0 k.0) (option_eq nat_eq k.1 k.1) (same_number_refl k.0) (same_number_refl k.1)) (eq-eqb k.2 k.2 refl) in
     let r = position_found (same_key k) 0 k keys h itself in
     let number : number_in keys k ≡ 0 + r.0 = ap (λ o. unwrap_or o 0) r.2 in
     let below = slice_get_within keys r.0 r.1 r.3 in

@@ -25,11 +25,12 @@ use Rattle.bus_semantics.specs.SoundNames.{is_env_path, is_name, is_path, none_i
 use Rattle.bus_semantics.specs.SoundPlan.{is_in, same_numbers}
 use Rattle.plan_definitions.specs.Planned.{plan_of, seen}
 use Rattle.plan_definitions.specs.WellFormed.{IsWellFormed}
+use Rattle.plan_definitions.proofs.Lists.{same_numbers_is, all_from, unflat}
 use Rattle.sound_names.proofs.Apart.{apart_append, apart_map, distinct_apart}
 use Rattle.sound_names.proofs.Keeping.{Names, of_composition}
-use Rattle.sound_names.proofs.Lists.{all_from, all_at, any_has, map_has, map_same, mapped, unflat}
+use Rattle.sound_names.proofs.Lists.{all_at, any_has, map_has, map_same, mapped}
 use Rattle.sound_names.proofs.Seen.{names_are, names_count}
-use Rattle.sound_names.proofs.Texts.{name_free, parts_join, parts_whole, same_is}
+use Rattle.sound_names.proofs.Texts.{name_free, parts_join, parts_whole}
 
 -- the paths at or below a prototype of a name, and at most n prototypes below a composition
 abbrev pub tails_of : (ℕ → List (List ℕ)) → List ℕ → PrototypeType → List (List ℕ)
@@ -200,7 +201,7 @@ module _ (d : Description) where
 
     not_env : (q : Prototype) → Among q (prototypes_of d d.root) → same_numbers q.short_name (codes "env") ≡ true → ⊥
     not_env q h same =
-        true≢false (sym (any_has (λ (q : Prototype). bytes_eq q.short_name (codes "env")) q (prototypes_of d d.root) h ((bytes_eq-Decides q.short_name (codes "env")).1 (same_is q.short_name (codes "env") same))) ∙ flat.limits.names)
+        true≢false (sym (any_has (λ (q : Prototype). bytes_eq q.short_name (codes "env")) q (prototypes_of d d.root) h ((bytes_eq-Decides q.short_name (codes "env")).1 (same_numbers_is q.short_name (codes "env") same))) ∙ flat.limits.names)
 
     pub no_env : (whole : IsWellFormed d) → none_is_env (bus.plan_of p) ≡ true
     no_env whole =

@@ -1,47 +1,22 @@
 -- What stands at the end of the path of an instance, and the ends of joins.
-use Rattle.std.proofs.Common.{◌≡◌, ℕ, zero, suc, ◌+◌, List, [], ◌∷◌, slice_get, true, Option, Some, None, option_map, option_and_then, inl, inr, ⊎_elim, refl, sym, ap, ◌∙◌, arith, true≢false}
+use Rattle.std.proofs.Common.{◌≡◌, ℕ, List, [], ◌∷◌, slice_get, true, Option, Some, None, option_and_then, inl, inr, refl, sym, ap, ◌∙◌, true≢false}
 use Rattle.std.proofs.lemmas.Bool.{and_parts}
-use Rattle.std.specs.List.{enumerate_from}
 use Rattle.description_types.specs.declared.component.PortKind.{PortKind}
 use Rattle.description_types.specs.declared.component.PortKind.TheVariants.{Provided, Required}
 use Rattle.description_types.specs.declared.description.Description.{Description}
-use Rattle.description_types.specs.declared.description.Prototype.{Prototype}
-use Rattle.description_types.specs.declared.description.PrototypeType.{PrototypeType}
 use Rattle.description_types.specs.declared.description.PrototypeType.TheVariants as of
 use Rattle.flat_descriptions.specs.Connectors.{is_one_kind, is_provided, is_required, kind_in, kind_of}
-use Rattle.flat_descriptions.specs.Places.{Place, places, places_below, places_of}
+use Rattle.flat_descriptions.specs.Places.{Place, places}
 use Rattle.flat_descriptions.specs.Joined.{Delegates, IsBelow, Stand, StandsJoin, as_inner}
 use Rattle.flat_descriptions.specs.Joined.IsBelow.{further, itself}
-use Rattle.flat_descriptions.specs.Members.{Among}
-use Rattle.flat_descriptions.specs.Paths.{prototypes_of, type_at, type_in}
-use Rattle.sound_names.proofs.Lists.{get_among, unflat}
-
-numbered_at : {X : Type 0} (n : ℕ) (xs : List X) (k : ℕ) (x : X) → Among (k, x) (enumerate_from n xs) → (i : ℕ) × (k ≡ n + i) × (slice_get xs i ≡ Some x)
-numbered_at n [] k x h = absurd h
-numbered_at n (y ∷ xs) k x (inl e) = let a : k ≡ n = ap (λ p. p.0) e in let b : x ≡ y = ap (λ p. p.1) e in (0, omega arith, ap (λ w. Some w) (sym b))
-numbered_at n (y ∷ xs) k x (inr h) = let r = numbered_at (n + 1) xs k x h in (suc r.0, omega (arith, r.1), r.2)
+use Rattle.flat_descriptions.specs.Paths.{type_at, type_in}
+use Rattle.plan_definitions.proofs.Lists.{at as get_among}
+use Rattle.plan_definitions.proofs.Stands.{stands}
 
 module _ (d : Description) where
   -- each place stands where its path leads
-  one_place : (n : ℕ) (t : PrototypeType) (path : List ℕ) (x : Place) → type_at d (of.Composition d.root) path ≡ Some t → Among x (places_of (places_below d n) t path)
-      → ((c : ℕ) (path : List ℕ) → type_at d (of.Composition d.root) path ≡ Some (of.Composition c) → Among x (places_below d n c path) → type_at d (of.Composition d.root) x.path ≡ Some (of.Component x.component))
-      → type_at d (of.Composition d.root) x.path ≡ Some (of.Component x.component)
-  one_place n (of.Component k) path x typed h deeper =
-      let e : x ≡ record { path = path; component = k } = ⊎_elim (λ e. e) (λ none. absurd none) h in
-      ap (λ (x : Place). type_at d (of.Composition d.root) x.path) e ∙ typed ∙ ap (λ (x : Place). Some (of.Component x.component)) (sym e)
-  one_place n (of.Composition c) path x typed h deeper = deeper c path typed h
-
-  place_below : (n : ℕ) (x : Place) (c : ℕ) (path : List ℕ) → type_at d (of.Composition d.root) path ≡ Some (of.Composition c) → Among x (places_below d n c path) → type_at d (of.Composition d.root) x.path ≡ Some (of.Component x.component)
-  place_below zero x c path typed h = absurd h
-  place_below (suc n) x c path typed h =
-      let p = unflat (λ (y : ℕ × Prototype). places_of (places_below d n) y.1.of_type (y.0 ∷ path)) (enumerate_from 0 (prototypes_of d c)) x h in
-      let i = numbered_at 0 (prototypes_of d c) p.0.0 p.0.1 p.1 in
-      let number : p.0.0 ≡ i.0 = omega (arith, i.1) in
-      let step : type_in d (of.Composition c) p.0.0 ≡ Some p.0.1.of_type = ap (type_in d (of.Composition c)) number ∙ ap (option_map (λ (x : Prototype). x.of_type)) i.2 in
-      one_place n p.0.1.of_type (p.0.0 ∷ path) x (ap (option_and_then (λ holder. type_in d holder p.0.0)) typed ∙ step) p.2 (place_below n x)
-
   pub place_type : (k : ℕ) (x : Place) → slice_get (places d) k ≡ Some x → type_at d (of.Composition d.root) x.path ≡ Some (of.Component x.component)
-  place_type k x at = place_below 8 x d.root [] refl (get_among (places d) k x at)
+  place_type k x at = stands d x (get_among (places d) k x at)
 
   -- ---- the kind of a port where it stands
 

@@ -31,16 +31,17 @@ use Rattle.plan_definitions.specs.Services.{point_of, points, server_of, servers
 use Rattle.plan_definitions.specs.Planned.{plan_of, seen}
 use Rattle.plan_definitions.specs.PlanRefusals.{IsRefusal}
 use Rattle.plan_definitions.specs.WellFormed.{item_count, IsWellFormed}
+use Rattle.plan_definitions.proofs.Lists.{same_numbers_is, all_from, cases}
 use Rattle.sound_names.proofs.Calls.{IsCaller, call_is}
 use Rattle.sound_names.proofs.Homes.{home_is}
 use Rattle.sound_names.proofs.ItemNames.{item_named, item_site_name, port_named, text_is}
-use Rattle.sound_names.proofs.Lists.{all_from, cases, filtered, map_has, mapped}
+use Rattle.sound_names.proofs.Lists.{filtered, map_has, mapped}
 use Rattle.sound_names.proofs.Owners.{port_owns}
 use Rattle.sound_names.proofs.SameNames.{at_owner, same_port, same_rank}
 use Rattle.sound_names.proofs.Seen.{elements_are, points_are, servers_are, machines_are, mode_ports_are}
 use Rattle.sound_names.proofs.SiteKinds.{element_is, item_below}
 use Rattle.sound_names.proofs.Sites.{ItemAt, PortAt, VariableAt, site_is}
-use Rattle.sound_names.proofs.Texts.{pair_parts, same_is}
+use Rattle.sound_names.proofs.Texts.{pair_parts}
 use Rattle.sound_names.proofs.Things.{machine_name, machine_site, mode_port_name, mode_port_site, server_name, server_owner, server_site}
 use Rattle.sound_names.proofs.Variables.{no_port_is, variable_is, variable_kind}
 
@@ -208,7 +209,7 @@ module _ (d : Description) (f : Flat) (whole : IsWellFormed d) (p : BusPlan) (is
   agree a b x y = ⊎_elim
       (λ same.
       let s = and_parts (nat_eq a.home b.home) (same_numbers a.port b.port) same in
-      or_right (not (nat_eq a.home b.home && same_numbers a.port b.port)) (nat_eq a.way b.way) (eq-eqb a.way b.way (one_way a b x y (eqb-true a.home b.home s.0) (same_is a.port b.port s.1))))
+      or_right (not (nat_eq a.home b.home && same_numbers a.port b.port)) (nat_eq a.way b.way) (eq-eqb a.way b.way (one_way a b x y (eqb-true a.home b.home s.0) (same_numbers_is a.port b.port s.1))))
       (λ other. or_left (not (nat_eq a.home b.home && same_numbers a.port b.port)) (nat_eq a.way b.way) (ap not other))
       (cases_Bool (nat_eq a.home b.home && same_numbers a.port b.port))
 

@@ -24,10 +24,10 @@ use Rattle.plan_definitions.specs.Sites.{kind_at}
 use Rattle.plan_definitions.specs.Ports.{item_name, item_text, ports_of, site_name}
 use Rattle.plan_definitions.specs.Planned.{plan_of, seen}
 use Rattle.plan_definitions.specs.WellFormed.{item_count, kind_fits, names_fit, IsWellFormed}
+use Rattle.plan_definitions.proofs.Lists.{there as get_some}
 use Rattle.sound_names.proofs.Apart.{distinct_apart, one_place}
 use Rattle.sound_names.proofs.ItemNames.{item_named, item_site_name, port_named, site_text_fits, text_is, variable_fits, variable_site_name}
 use Rattle.sound_names.proofs.Keeping.{Names, names_from, of_component, of_interface, of_ports}
-use Rattle.sound_names.proofs.Lists.{get_some}
 use Rattle.sound_names.proofs.Owners.{Owns}
 use Rattle.sound_names.proofs.Seen.{names_count}
 use Rattle.sound_names.proofs.SiteKinds.{item_below}

@@ -15,7 +15,8 @@ use Rattle.plan_definitions.specs.Lists.{positions, from}
 use Rattle.plan_definitions.specs.Parts.{component_of}
 use Rattle.plan_definitions.specs.Sites.{kind_at, count_at, site, sites_with, sites_at, sites_of_ports, variables_of, sites_of_component, sites_of_instance, root_ports, sites}
 use Rattle.plan_definitions.specs.Ports.{ports_of}
-use Rattle.sound_names.proofs.Lists.{cases, left, right, mapped, map_has, pieces, in_pieces, position_in, in_positions}
+use Rattle.plan_definitions.proofs.Lists.{cases, left, right}
+use Rattle.sound_names.proofs.Lists.{mapped, map_has, pieces, in_pieces, position_in, in_positions}
 
 -- an interface of a port of an owner, an instance or the environment
 pub record PortAt (d : Description) (f : Flat) (owner : Option ℕ) (k : ℕ) : Type 0 where

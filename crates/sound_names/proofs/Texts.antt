@@ -1,25 +1,10 @@
 -- Names, and texts in parts.
 use Rattle.std.proofs.Common.{◌≡◌, ℕ, List, [], ◌∷◌, ◌++◌, length, true, false, ◌&&◌, nat_eq, refl, sym, ap, ◌∙◌, codes, append_assoc, true≢false}
-use Rattle.std.proofs.lemmas.Bool.{eqb-true, eq-eqb, ne_eqb, and_parts, and_from, or_left}
+use Rattle.std.proofs.lemmas.Bool.{eq-eqb, ne_eqb, and_parts, and_from, or_left}
 use Rattle.std.specs.List.{list_all}
 use Rattle.bus_semantics.specs.SoundNames.{is_letter, is_name_part, is_name, parts, is_pair_name}
-use Rattle.bus_semantics.specs.SoundPlan.{same_numbers}
 
 -- ---- the same texts
-
-pub same_is : (a b : List ℕ) → same_numbers a b ≡ true → a ≡ b
-same_is [] [] h = refl
-same_is [] (n ∷ b) h = absurd (true≢false (sym h))
-same_is (m ∷ a) [] h = absurd (true≢false (sym h))
-same_is (m ∷ a) (n ∷ b) h =
-    let p = and_parts (nat_eq m n) (same_numbers a b) h in
-    let first : m ≡ n = eqb-true m n p.0 in
-    let rest : a ≡ b = same_is a b p.1 in
-    cc
-
-pub same_itself : (a : List ℕ) → same_numbers a a ≡ true
-same_itself [] = refl
-same_itself (m ∷ a) = and_from (nat_eq m m) (same_numbers a a) (eq-eqb m m refl) (same_itself a)
 
 -- ---- names have no separator
 

@@ -30,6 +30,7 @@ use Rattle.plan_definitions.specs.Ports.{ports_of, site_name}
 use Rattle.plan_definitions.specs.Things.{elements_of}
 use Rattle.plan_definitions.specs.Planned.{plan_of, seen}
 use Rattle.plan_definitions.specs.WellFormed.{IsWellFormed}
+use Rattle.plan_definitions.proofs.Lists.{same_numbers_refl}
 use Rattle.sound_names.proofs.Apart.{named_is}
 use Rattle.sound_names.proofs.ItemNames.{item_site_name}
 use Rattle.sound_names.proofs.Keeping.{Names, of_ports}
@@ -39,13 +40,12 @@ use Rattle.sound_names.proofs.SameNames.{place_of}
 use Rattle.sound_names.proofs.Seen.{elements_are, names_count}
 use Rattle.sound_names.proofs.Sites.{ComponentAt, ItemAt, of_instance, port_item, ports_are}
 use Rattle.sound_names.proofs.SitesApart.{at_port}
-use Rattle.sound_names.proofs.Texts.{same_itself}
 use Rattle.sound_names.proofs.Variables.{no_port_is, variable_is, variable_kind}
 
 -- ---- lists in which equal names stand side by side
 
 named_same : (a b : Named) → a ≡ b → same_named a b ≡ true
-named_same a b e = subst (λ c. same_named a c ≡ true) e (and_from (nat_eq a.0 a.0) (same_numbers a.1 a.1) (eq-eqb a.0 a.0 refl) (same_itself a.1))
+named_same a b e = subst (λ c. same_named a c ≡ true) e (and_from (nat_eq a.0 a.0) (same_numbers a.1 a.1) (eq-eqb a.0 a.0 refl) (same_numbers_refl a.1))
 
 any_left : (test : Named → Bool) (xs ys : List Named) → list_any test ys ≡ false → list_any test (xs ++ ys) ≡ list_any test xs
 any_left test xs ys none = list_any-append test xs ys ∙ ap (λ b. list_any test xs || b) none ∙ or-false (list_any test xs)

@@ -6,6 +6,7 @@ use Rattle.std.proofs.lemmas.Option.{slice_get-get_or, slice_get_past}
 use Rattle.bus_semantics.specs.declared.entries.Deed.{Deed}
 use Rattle.bus_semantics.specs.declared.plan.Disabling.{Disabling}
 use Rattle.bus_semantics.specs.Plan.{Plan, Runnable, disabling_of}
+use Rattle.bus_semantics.specs.Sound.{NoneListed}
 use Rattle.bus_semantics.specs.Wanted.{to_admit}
 use Rattle.bus_semantics.specs.State.{State}
 use Rattle.bus_semantics.specs.Programs.{Outcome, Stop, Go, Running, goes_on, both, calling, takes_nothing, run_program}
@@ -96,7 +97,7 @@ activity_long p r =
 
 -- ---- an activity, by the elements that it fetches and publishes
 
-module _ (p : Plan) (r : Runnable) (event : ℕ) where
+module _ (p : Plan) (none : NoneListed p) (r : Runnable) (event : ℕ) where
   abbrev pub behind : Running
   behind = both (run_program r r.program.body) (both (publishing_each (published_by r)) (both (returning p r) (ending event)))
 
@@ -104,7 +105,7 @@ module _ (p : Plan) (r : Runnable) (event : ℕ) where
   begun = both (fetching_each (fetched_by r)) behind
 
   activity_is : activity p r event ≡ both (admitting p event) begun
-  activity_is = λ i. both (admitting p event) (both (fetches r.accesses r.targets i) (both (run_program r r.program.body) (both (publications r.accesses r.targets i) (both (returning p r) (ending event)))))
+  activity_is = λ i. both (admitting p event) (both (fetches p none r i) (both (run_program r r.program.body) (both (publications p none r i) (both (returning p r) (ending event)))))
 
   admits_all : (s : State) (ds : List Deed) → disabling_of p event ≡ None → activity p r event s ds ≡ begun s ds
   admits_all s ds enabled = ap (λ (f : Running). f s ds) activity_is ∙ ap (goes_on begun) (no_admission enabled)

@@ -70,7 +70,7 @@ begun_with args ws vars =
 
 -- the runnable, were it to serve another operation
 abbrev pub serving : Runnable → Option ℕ → Runnable
-serving r server = record { instance = r.instance; name = r.name; program = r.program; accesses = r.accesses; targets = r.targets; server = server }
+serving r server = record { instance = r.instance; name = r.name; program = r.program; accesses = r.accesses; targets = r.targets; server = server; lists = r.lists }
 
 looked : (o : Option ServerPlan) → option_map_or (λ (v : ServerPlan). v.arguments) o [] ≡ arguments_in o
 looked None = refl

@@ -11,6 +11,7 @@ use Rattle.bus_semantics.specs.declared.entries.Deed.{Deed}
 use Rattle.bus_semantics.specs.declared.entries.Deed.TheVariants as deed
 use Rattle.bus_semantics.specs.declared.plan.EventPlan.{EventPlan}
 use Rattle.bus_semantics.specs.Plan.{Plan, Runnable, disabling_of}
+use Rattle.bus_semantics.specs.Sound.{NoneListed}
 use Rattle.bus_semantics.specs.Wanted.{Wanted}
 use Rattle.bus_semantics.specs.State.{stored}
 use Rattle.bus_semantics.specs.History.{is_over}
@@ -73,19 +74,19 @@ unfolding shape_asks
 asks_by_shape t None event point value answers = refl
 asks_by_shape t (Some b) event point value answers = refl
 
-some_asks : (p : Plan) (r : Runnable) (event : ℕ) (ws : List ℤ) (answers : List Deed) → shape_asks (Some (shape_of p r)) (if is_some (disabling_of p event) then 0 else 1) event ws answers ≡ next_of_activity p r event ws answers
+some_asks : (p : Plan) → NoneListed p → (r : Runnable) (event : ℕ) (ws : List ℤ) (answers : List Deed) → shape_asks (Some (shape_of p r)) (if is_some (disabling_of p event) then 0 else 1) event ws answers ≡ next_of_activity p r event ws answers
 unfolding shape_asks
-some_asks p r event ws answers =
+some_asks p none r event ws answers =
     let counters = replicate (loops_of_body r.program.body) 0 in
     let long : length counters ≡ loops_of_body r.program.body = length-replicate (loops_of_body r.program.body) 0 in
     let x = shape_of p r in
     let place = if is_some (disabling_of p event) then 0 else 1 in
     let slots = no_slots (fetched_by r) (published_by r) in
     ap (λ vars. let m : Store = record { vars = vars; fetched = slots.fetched; written = slots.written } in asked_from x.code event x.budget place m counters answers) (variables_begin p r ws)
-    ∙ whole p r event counters (omega arith) (state_at_start p r ws) slots answers (disabling_of p event) refl (starts_agreeing (fetched_by r) (published_by r))
+    ∙ whole p none r event counters (omega arith) (state_at_start p r ws) slots answers (disabling_of p event) refl (starts_agreeing (fetched_by r) (published_by r))
 
-pub asks_as_planned : (p : Plan) (t : TaskSet) → map shape_of_body t.bodies ≡ map (shape_of p) p.runnables → t.disabled ≡ map (λ (v : EventPlan). is_some v.disabled) p.events → AsksAsPlanned p t
-asks_as_planned p t same disabled k r event point value answers at =
+pub asks_as_planned : (p : Plan) → NoneListed p → (t : TaskSet) → map shape_of_body t.bodies ≡ map (shape_of p) p.runnables → t.disabled ≡ map (λ (v : EventPlan). is_some v.disabled) p.events → AsksAsPlanned p t
+asks_as_planned p none t same disabled k r event point value answers at =
     let o = slice_get t.bodies k.runnable in
     let body : option_map shape_of_body o ≡ Some (shape_of p r) =
     sym (slice_get-map shape_of_body t.bodies k.runnable) ∙ ap (λ xs. slice_get xs k.runnable) same ∙ slice_get-map (shape_of p) p.runnables k.runnable ∙ ap (option_map (shape_of p)) at in
@@ -96,4 +97,4 @@ asks_as_planned p t same disabled k r event point value answers at =
     (asks_by_shape t o event point value answers
     ∙ ap (λ x. shape_asks x (first_place t event) event (words_of value) answers) body
     ∙ ap (λ n. shape_asks (Some (shape_of p r)) n event (words_of value) answers) place
-    ∙ some_asks p r event (words_of value) answers)
+    ∙ some_asks p none r event (words_of value) answers)

@@ -29,6 +29,7 @@ fn copied_value_of_answer(answer: &Deed) -> Value
 {
     match answer {
         Deed::Fetch { value, .. }
+        | Deed::FetchAll { value, .. }
         | Deed::Read { value, .. }
         | Deed::Receive { value, .. }
         | Deed::Answer { value, .. }

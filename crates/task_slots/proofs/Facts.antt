@@ -28,6 +28,7 @@ use Rattle.bus_semantics.specs.Sound.{IsSound, times_mapped}
 use Rattle.bus_laws.proofs.Thinning.{option_test}
 use Rattle.bus_laws.proofs.OneEvent.{kind_at, serves_invoked}
 use Rattle.activation_laws.specs.LookUps.{sought, looked, at_place}
+use Rattle.activation_laws.proofs.Lists.{bundled}
 use Rattle.history_laws.proofs.Lists.{there_is}
 use Rattle.history_laws.proofs.OneKey.{server_runs, server_home}
 use Rattle.task_slots.specs.declared.slot.Call.{Call}
@@ -68,15 +69,15 @@ module _ (p : Plan) (m : Mapping) (sound : IsSound p m) where
       no_server (Some s) is = absurd (cc is)
 
       by_kind : (v : EventPlan) (k : EventKind) → kind_of p e ≡ k → object_of_kind p k ≡ None → kind_sound p e v.runnable (instance_of p v.runnable) k ≡ true → IsUnjoined p e
-      by_kind v (DataReceived x) is touch sound =
-          let at = sought p.elements x (λ (w : ElemPlan). same_number w.instance (instance_of p v.runnable) && _) sound in
-          absurd (cc (sym touch ∙ looked p.elements x at.item (λ (w : ElemPlan). Some w.group) None at.found))
-      by_kind v (Returns q) is touch sound = record { point = q; kind = is; unjoined = no_server (server_of p q) touch }
-      by_kind v (Timing period) is touch sound = absurd (cc touch)
-      by_kind v Init is touch sound = absurd (cc touch)
-      by_kind v (Invoked s) is touch sound = absurd (cc touch)
-      by_kind v (ModeSwitch n moment) is touch sound = absurd (cc touch)
-      by_kind v (Ack n) is touch sound = absurd (cc touch)
+      by_kind v (DataReceived x) is touch fits =
+          let at = sought p.elements x (λ (w : ElemPlan). same_number w.instance (instance_of p v.runnable) && _) fits in
+          bundled p m sound x at.item at.found touch
+      by_kind v (Returns q) is touch fits = record { point = q; kind = is; unjoined = no_server (server_of p q) touch }
+      by_kind v (Timing period) is touch fits = absurd (cc touch)
+      by_kind v Init is touch fits = absurd (cc touch)
+      by_kind v (Invoked s) is touch fits = absurd (cc touch)
+      by_kind v (ModeSwitch n moment) is touch fits = absurd (cc touch)
+      by_kind v (Ack n) is touch fits = absurd (cc touch)
 
       by_event : (o : Option EventPlan) → slice_get p.events e ≡ o → IsUnjoined p e
       by_event None there =

@@ -1,17 +1,18 @@
 -- What a further entry changes: who runs and is held back, the current activation of a key, and what a frame stands for.
 use Rattle.std.proofs.Common.{◌≡◌, ℕ, Bool, true, false, ◌&&◌, not, if◌then◌else◌, refl, sym, ◌∙◌, ap, [], ◌∷◌, ◌++◌, Option, Some, None}
 use Rattle.std.specs.Prelude.{option_and_then, unwrap_or}
-use Rattle.std.proofs.lemmas.Bool.{and_from, eq-eqb, false≢true, or_right}
+use Rattle.std.proofs.lemmas.Bool.{and_from, false≢true, or_right}
 use Rattle.std.specs.Option.{option_or}
 use Rattle.rte_value.specs.declared.value.Value.{Value}
 use Rattle.rte_value.specs.declared.kinds.ActKey.{ActKey}
-use Rattle.rte_value.specs.Values.{words_of, same_words, same_number}
+use Rattle.rte_value.specs.Values.{words_of, same_number}
 use Rattle.bus_semantics.specs.declared.entries.Actor.TheVariants.{Act}
 use Rattle.bus_semantics.specs.declared.entries.Deed.{Deed}
 use Rattle.bus_semantics.specs.declared.entries.Deed.TheVariants as deed
 use Rattle.bus_semantics.specs.declared.entries.Entry.{Entry}
 use Rattle.bus_semantics.specs.Plan.{Plan, runnable_of_event}
-use Rattle.bus_semantics.specs.Wanted.{Wanted, to_tick, to_start, to_admit, to_fetch, to_write, to_read, to_invalidate, to_see_updated, to_send, to_receive, to_ask, to_hear, to_take_result, to_return, to_enter, to_leave, to_switch, to_see_mode, to_move_on, to_publish, to_end, wanted_by, same_wanted}
+use Rattle.bus_semantics.proofs.SameWanted.{wish_itself}
+use Rattle.bus_semantics.specs.Wanted.{Wanted, to_start, wanted_by, same_wanted}
 use Rattle.bus_semantics.specs.History.{History, is_over, is_end, is_of, event_started, needs_event, runs, last_started}
 use Rattle.bus_semantics.specs.Actor.{Activation, with_deed, activation_of, next_wish, direct_key, accepted_point, asked_last, ended_since, is_held_back, caller_has_asked, may_start, is_this, is_wanted_next, starts_or_goes_on, follows_program}
 use Rattle.bus_semantics.specs.Asked.{is_start, event_of}
@@ -23,7 +24,6 @@ use Rattle.task_machine.specs.Standing.{Standing}
 use Rattle.task_machine.specs.Frames.{Stands}
 use Rattle.task_slots.specs.Standing.{StandsFor}
 use Rattle.task_slots.specs.Stepping.{Fed}
-use Rattle.task_slots.proofs.Basics.{words_same}
 
 abbrev pub entry_by : ActKey → Deed → Entry
 entry_by k d = record { actor = Act k; deed = d }
@@ -78,30 +78,6 @@ wish_by d w n wish own = by_needs (needs_event d) refl
     by_needs true bound =
         let named : event_of w ≡ Some (unwrap_or (event_of w) 0) = ap event_of (sym wish) ∙ bound_event d (unwrap_or (event_of w) 0) bound in
         ap (λ v. wanted_by v d) (sym (own (unwrap_or (event_of w) 0) named)) ∙ wish
-
--- a wish is the same as itself
-pub same_itself : (w : Wanted) → same_wanted w w ≡ true
-same_itself to_tick = refl
-same_itself (to_start n) = eq-eqb n n refl
-same_itself (to_admit n) = eq-eqb n n refl
-same_itself (to_fetch x) = eq-eqb x x refl
-same_itself (to_write x ws) = and_from _ (same_words ws ws) (eq-eqb x x refl) (words_same ws)
-same_itself (to_read x) = eq-eqb x x refl
-same_itself (to_invalidate x) = eq-eqb x x refl
-same_itself (to_see_updated x) = eq-eqb x x refl
-same_itself (to_send x ws) = and_from _ (same_words ws ws) (eq-eqb x x refl) (words_same ws)
-same_itself (to_receive x) = eq-eqb x x refl
-same_itself (to_ask q ws) = and_from _ (same_words ws ws) (eq-eqb q q refl) (words_same ws)
-same_itself (to_hear q) = eq-eqb q q refl
-same_itself (to_take_result q) = eq-eqb q q refl
-same_itself (to_return code ws) = and_from _ (same_words ws ws) (eq-eqb code code refl) (words_same ws)
-same_itself (to_enter x) = eq-eqb x x refl
-same_itself (to_leave x) = eq-eqb x x refl
-same_itself (to_switch n mode) = and_from _ _ (eq-eqb n n refl) (eq-eqb mode mode refl)
-same_itself (to_see_mode port) = eq-eqb port port refl
-same_itself to_move_on = refl
-same_itself (to_publish x ws) = and_from _ (same_words ws ws) (eq-eqb x x refl) (words_same ws)
-same_itself (to_end n) = eq-eqb n n refl
 
 -- ---- the last ask of a key
 
@@ -186,7 +162,7 @@ module _ (p : Plan) (g : History) (k : ActKey) (free : is_held_back p g k ≡ fa
       and_from (starts_or_goes_on p g k d) (not (is_held_back p g k))
       (goes_as p g k d other
       ∙ ap (is_this (wanted_by (unwrap_or (last_started k g) 0) d)) next
-      ∙ ap (λ v. same_wanted v w) (ap (λ o. wanted_by (unwrap_or o 0) d) last ∙ wish) ∙ same_itself w)
+      ∙ ap (λ v. same_wanted v w) (ap (λ o. wanted_by (unwrap_or o 0) d) last ∙ wish) ∙ wish_itself w)
       (ap not free)
 
   pub start_follows : (n : ℕ) (point : Option ℕ) (value : Value) → runnable_of_event p n ≡ Some k.runnable → runs k g ≡ false → caller_has_asked p g k ≡ true → follows_program p g (Act k) (deed.Start n point value) ≡ true

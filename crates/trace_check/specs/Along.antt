@@ -1,5 +1,5 @@
 -- A bus along a trace, and the history for which what is kept of it stands. Histories stand the newest first.
-use Rattle.std.specs.Prelude.{◌≡◌, ◌<◌, ◌^◌, ℕ, ◌∷◌, length, Bool, true, false, Option, None}
+use Rattle.std.specs.Prelude.{◌≡◌, ℕ, ◌∷◌, Bool, true, false, Option, None}
 use Rattle.bus_semantics.specs.declared.script.Mapping.{Mapping}
 use Rattle.bus_semantics.specs.declared.entries.Entry.{Entry}
 use Rattle.bus_semantics.specs.Plan.{Plan, plan_of}
@@ -21,11 +21,10 @@ use Rattle.trace_check.specs.declared.bus_state.BusState.{BusState}
 abbrev pub plan_in : Rules → Plan
 plan_in r = plan_of r.plan.now
 
--- the bus is sound, the programs are its own, and 32 bits number its points
+-- the bus is sound, and the programs are its own
 pub record AreSound (r : Rules) : Type 0 where
   pub sound : IsSound (plan_in r) r.mapping.now
   pub programs : planned r.programs.now ≡ plan_in r
-  pub points : length (plan_in r).points < 2 ^ 32
 
 -- the objects are the plan's, and stand for the history with the activations and those that run; and what may come on the objects of its
 -- own is known

@@ -1,6 +1,6 @@
 //! The check of a given trace, line by line.
 
-ghost use Rattle.std.specs.Prelude.{◌≡◌, ◌<◌, ◌^◌, ◌↔◌, ◌++◌, IfOk, [], length};
+ghost use Rattle.std.specs.Prelude.{◌≡◌, ◌↔◌, ◌++◌, IfOk, []};
 ghost use Rattle.bus_semantics.specs.Plan.{plan_of};
 ghost use Rattle.bus_semantics.specs.Sound.{IsSound};
 ghost use Rattle.bus_semantics.specs.Spelling.{Letters, header};
@@ -77,7 +77,6 @@ fn check_begun(
     text: &[u8],
 ) -> Result<Checked, Memory>
     requires sound { IsSound (plan_of p.now) m.now }
-    requires points { length p.now.points < 2 ^ 32 }
     ensures { IfOk result (λ checked. (trace : Letters) → trace ≡ header version ++ text.now →
         IsVerdict (plan_of p.now) m.now script.now.lines trace checked) }
 {
@@ -102,7 +101,6 @@ fn check_bytes(
     trace: &[u8],
 ) -> Result<Checked, Memory>
     requires sound { IsSound (plan_of p.now) m.now }
-    requires points { length p.now.points < 2 ^ 32 }
     ensures { IfOk result (IsVerdict (plan_of p.now) m.now script.now.lines trace.now) }
 {
     if trace.is_empty() {
@@ -119,7 +117,7 @@ fn check_bytes(
 }
 
 /// Checks a trace against a sound bus and a script: whether it is the text of a whole legal run of the script, and if not, which line is
-/// the first that does not go on so, and why. 32 bits number the points of the bus. An error says that there was no memory.
+/// the first that does not go on so, and why. An error says that there was no memory.
 pub fn check_trace(
     alloc: Global,
     p: &BusPlan,
@@ -128,7 +126,6 @@ pub fn check_trace(
     trace: &[u8],
 ) -> Result<Checked, Memory>
     requires sound { IsSound (plan_of p.now) m.now }
-    requires points { length p.now.points < 2 ^ 32 }
     ensures verdict { IfOk result (IsVerdict (plan_of p.now) m.now script.now.lines trace.now) }
     ensures legal { IfOk result (λ checked. checked ≡ Legal ↔ IsLegalTrace (plan_of p.now) m.now script.now.lines trace.now) }
 {

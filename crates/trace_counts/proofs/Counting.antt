@@ -119,6 +119,8 @@ deed_mark v p a (deed.Phase step.Transition) who = refl
 deed_mark v p a (deed.Phase step.Entry) who = refl
 deed_mark v p a (deed.Phase step.Stable) who = refl
 deed_mark v p a (deed.Publish x value) who = refl
+deed_mark v p a (deed.FetchAll l value) who = refl
+deed_mark v p a (deed.PublishAll l written value) who = refl
 deed_mark v p a deed.End who = refl
 
 pub item_told : (v : Version) (p : Plan) → IsNamed p → (i : Item) (n : Numbers) → after (stands nothing_begun n) (item_text v p i) ≡ stands nothing_begun (counted (mark_of_item i) n)

@@ -149,6 +149,8 @@ entry_more a (deed.Switch m mode code) s = refl
 entry_more a (deed.Mode port mode) s = refl
 entry_more a (deed.Phase p) s = refl
 entry_more a (deed.Publish x value) s = refl
+entry_more a (deed.FetchAll l value) s = refl
+entry_more a (deed.PublishAll l written value) s = refl
 entry_more a deed.End s = refl
 
 item_more : (i : Item) (s : Session) → counted (mark_of_item i) (numbers_of s) ≡ numbers_of (i ∷ s)

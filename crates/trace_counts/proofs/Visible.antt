@@ -1,5 +1,5 @@
 -- No field of a line of a trace over a sound plan has a space or a newline.
-use Rattle.std.proofs.Common.{◌≡◌, ℕ, ℤ, zero, suc, pos, negsuc, Bool, true, false, ◌&&◌, cond, List, [], ◌∷◌, ◌++◌, codes, decimal, Option, Some, None, refl}
+use Rattle.std.proofs.Common.{◌≡◌, ℕ, ℤ, zero, suc, ◌/◌, ◌%◌, pos, negsuc, Bool, true, false, ◌&&◌, ◌==◌, cond, List, [], ◌∷◌, ◌++◌, codes, decimal, Option, Some, None, refl}
 use Rattle.std.specs.Fmt.{signed_decimal}
 use Rattle.std.specs.List.{list_all}
 use Rattle.std.proofs.lemmas.Bool.{and_from, and_parts}
@@ -19,11 +19,12 @@ use Rattle.bus_semantics.specs.declared.entries.Deed.{Deed}
 use Rattle.bus_semantics.specs.declared.entries.Deed.TheVariants as deed
 use Rattle.bus_semantics.specs.declared.version.Version.{Version}
 use Rattle.bus_semantics.specs.declared.version.Version.TheVariants.{One, Two}
+use Rattle.bus_semantics.specs.Lists.{elems_of}
 use Rattle.bus_semantics.specs.Objects.{machine_itself}
 use Rattle.bus_semantics.specs.Plan.{Plan, Runnable, look, machine_of_port}
 use Rattle.bus_semantics.specs.SoundNames.{is_name, is_pair_name, is_path}
 use Rattle.bus_semantics.specs.SoundPlan.{is_variable}
-use Rattle.bus_semantics.specs.Spelling.{Letters, actor_text, area_name, caller_text, elem_name, event_name, instance_text, key_text, machine_name, machine_text, mode_port_name, mode_text, more_words, point_name, point_text, runnable_text, value_text, words_text}
+use Rattle.bus_semantics.specs.Spelling.{Letters, actor_text, area_name, caller_text, elem_name, event_name, instance_text, key_text, machine_name, machine_text, mask_text, mode_port_name, mode_text, more_words, point_name, point_text, position_of, runnable_text, value_text, words_text}
 use Rattle.line_fields.proofs.Joining.{all-append}
 use Rattle.trace_counts.proofs.Codes.{decimal_visible}
 use Rattle.trace_reading.proofs.Cutting.{are_visible, is_visible}
@@ -50,6 +51,15 @@ words_visible (x ∷ xs) = both (signed_decimal x) (more_words xs) (signed_visib
 
 value_visible : (v : Value) → are_visible (value_text v) ≡ true
 value_visible v = words_visible (words_of v)
+
+-- the digits of a mask
+mask_visible : (w : ℕ) (xs : List ℕ) → are_visible (mask_text w xs) ≡ true
+mask_visible w [] = refl
+mask_visible w (x ∷ xs) = both (cond (w % 2 == 1) (codes "1") (codes "0")) (mask_text (w / 2) xs) (digit (w % 2 == 1)) (mask_visible (w / 2) xs)
+  where
+    digit : (b : Bool) → are_visible (cond b (codes "1") (codes "0")) ≡ true
+    digit true = refl
+    digit false = refl
 
 -- ---- names
 
@@ -177,6 +187,9 @@ module _ (p : Plan) (r : IsNamed p) where
   fields_visible v a (deed.Mode port mode) = two (mode_port_name p port) (mode_text v p (machine_of_port p port) mode) (port_visible port) (mode_visible v (machine_of_port p port) mode)
   fields_visible v a (deed.Phase s) = step_visible v a s
   fields_visible v a (deed.Publish x value) = two (elem_name p x) (value_text value) (elem_visible x) (value_visible value)
+  fields_visible v a (deed.FetchAll l value) = two (decimal (position_of p l)) (value_text value) (decimal_visible (position_of p l)) (value_visible value)
+  fields_visible v a (deed.PublishAll l written value) =
+      three (decimal (position_of p l)) (mask_text written (elems_of p l)) (value_text value) (decimal_visible (position_of p l)) (mask_visible written (elems_of p l)) (value_visible value)
   fields_visible v a deed.End = refl
 
   word_visible : (d : Deed) → are_visible (word_of d) ≡ true
@@ -200,6 +213,8 @@ module _ (p : Plan) (r : IsNamed p) where
   word_visible (deed.Mode port mode) = refl
   word_visible (deed.Phase s) = refl
   word_visible (deed.Publish x value) = refl
+  word_visible (deed.FetchAll l value) = refl
+  word_visible (deed.PublishAll l written value) = refl
   word_visible deed.End = refl
 
   pub deed_visible : (v : Version) (a : Actor) (d : Deed) → list_all are_visible (word_of d ∷ fields_of v p a d) ≡ true

@@ -30,7 +30,10 @@ use Rattle.bus_semantics.specs.Calls.{is_outstanding, is_request_at, takes_reply
 use Rattle.bus_semantics.specs.Due.{is_due}
 use Rattle.bus_semantics.specs.Legal.{Answers, IsLegal}
 use Rattle.bus_semantics.specs.Sound.{IsSound}
+use Rattle.bus_semantics.specs.SoundLists.{bundles_fit}
+use Rattle.bus_semantics.specs.SoundPlan.{groups_fit}
 use Rattle.bus_semantics.specs.SoundEvents.{event_sound, kind_sound}
+use Rattle.bus_laws.proofs.Bundling.{no_bundle}
 use Rattle.activation_laws.specs.Followed.{IsActivation}
 use Rattle.activation_laws.specs.LookUps.{sought, looked, at_place}
 use Rattle.activation_laws.specs.Wishes.{is_of_a_call, is_the_end}
@@ -58,22 +61,26 @@ looked_up None test give held none = false≢true held
 looked_up (Some x) test give held none = absurd (cc none)
 
 -- the environment asks, or takes a result
-outside : (p : Plan) (w : Wanted) → wish_fits p Env w ≡ true → object_of p Env w ≡ None → is_free w ≡ true
-outside p to_tick may_want none = absurd (cc none)
-outside p (to_write x ws) may_want none = absurd (looked_up (slice_get p.elements x) (λ (e : ElemPlan). same_number e.instance None && ((is_unqueued e && e.provided) && holds ws e)) (λ (e : ElemPlan). e.group) may_want none)
-outside p (to_read x) may_want none = absurd (looked_up (slice_get p.elements x) (λ (e : ElemPlan). same_number e.instance None && (is_unqueued e && not e.provided)) (λ (e : ElemPlan). e.group) may_want none)
-outside p (to_send x ws) may_want none = absurd (looked_up (slice_get p.elements x) (λ (e : ElemPlan). same_number e.instance None && ((is_queued e && e.provided) && holds ws e)) (λ (e : ElemPlan). e.group) may_want none)
-outside p (to_receive x) may_want none = absurd (looked_up (slice_get p.elements x) (λ (e : ElemPlan). same_number e.instance None && (is_queued e && not e.provided)) (λ (e : ElemPlan). e.group) may_want none)
-outside p (to_switch m mode) may_want none = absurd (cc none)
-outside p (to_see_mode port) may_want none = absurd (machine_found (slice_get p.mode_ports port) may_want none)
+outside : (p : Plan) → bundles_fit p ≡ true → groups_fit p ≡ true → (w : Wanted) → wish_fits p Env w ≡ true → object_of p Env w ≡ None → is_free w ≡ true
+outside p fit groups to_tick may_want none = absurd (cc none)
+outside p fit groups (to_write x ws) may_want none =
+    absurd (looked_up (slice_get p.elements x) (λ (e : ElemPlan). same_number e.instance None && ((is_unqueued e && e.provided) && holds ws e)) (λ (e : ElemPlan). e.group) may_want (no_bundle p fit groups x none))
+outside p fit groups (to_read x) may_want none =
+    absurd (looked_up (slice_get p.elements x) (λ (e : ElemPlan). same_number e.instance None && (is_unqueued e && not e.provided)) (λ (e : ElemPlan). e.group) may_want (no_bundle p fit groups x none))
+outside p fit groups (to_send x ws) may_want none =
+    absurd (looked_up (slice_get p.elements x) (λ (e : ElemPlan). same_number e.instance None && ((is_queued e && e.provided) && holds ws e)) (λ (e : ElemPlan). e.group) may_want (no_bundle p fit groups x none))
+outside p fit groups (to_receive x) may_want none =
+    absurd (looked_up (slice_get p.elements x) (λ (e : ElemPlan). same_number e.instance None && (is_queued e && not e.provided)) (λ (e : ElemPlan). e.group) may_want (no_bundle p fit groups x none))
+outside p fit groups (to_switch m mode) may_want none = absurd (cc none)
+outside p fit groups (to_see_mode port) may_want none = absurd (machine_found (slice_get p.mode_ports port) may_want none)
   where
     machine_found : (o : Option ModePortPlan) → option_map_or (λ (t : ModePortPlan). same_number t.instance None) o false ≡ true
         → option_map (λ n. first_machine p + n) (option_map_or (λ (v : ModePortPlan). Some v.machine) o None) ≡ None → ⊥
     machine_found None held none = false≢true held
     machine_found (Some t) held none = absurd (cc none)
-outside p (to_ask q ws) may_want none = refl
-outside p (to_take_result q) may_want none = refl
-outside p w may_want none = absurd (false≢true may_want)
+outside p fit groups (to_ask q ws) may_want none = refl
+outside p fit groups (to_take_result q) may_want none = refl
+outside p fit groups w may_want none = absurd (false≢true may_want)
 
 -- a machine has its object
 pub machine_has : (p : Plan) (n : ℕ) (w : Wanted) → wish_fits p (Machine n) w ≡ true → object_of p (Machine n) w ≡ None → ⊥
@@ -90,11 +97,11 @@ no_server : (p : Plan) (o : Option ℕ) → server_object p o ≡ None → o ≡
 no_server p None is = refl
 no_server p (Some s) is = absurd (cc is)
 
-module _ (p : Plan) (m : Mapping) (sound : IsSound p m) where
+module _ (p : Plan) (m : Mapping) (whole : IsSound p m) where
   event_is : (e : ℕ) (v : EventPlan) → slice_get p.events e ≡ Some v → kind_sound p e v.runnable (instance_of p v.runnable) v.kind ≡ true
   event_is e v there =
-      let whole = at_place (event_sound p) p.events e v (and_parts (every_from 0 (event_sound p) p.events) (nat_le (length p.events) 16384) sound.events).0 there in
-      (and_parts (kind_sound p e v.runnable (instance_of p v.runnable) v.kind) _ (and_parts (nat_lt v.runnable (length p.runnables)) _ whole).1).0
+      let event = at_place (event_sound p) p.events e v (and_parts (every_from 0 (event_sound p) p.events) (nat_le (length p.events) 16384) whole.events).0 there in
+      (and_parts (kind_sound p e v.runnable (instance_of p v.runnable) v.kind) _ (and_parts (nat_lt v.runnable (length p.runnables)) _ event).1).0
 
   pub returned_alone : (e : ℕ) → object_of_kind p (kind_of p e) ≡ None → IsUnjoined p e
   returned_alone e none = by_event (slice_get p.events e) refl
@@ -102,7 +109,7 @@ module _ (p : Plan) (m : Mapping) (sound : IsSound p m) where
       by_kind : (v : EventPlan) (k : EventKind) → kind_of p e ≡ k → object_of_kind p k ≡ None → kind_sound p e v.runnable (instance_of p v.runnable) k ≡ true → IsUnjoined p e
       by_kind v (DataReceived x) is touch sound =
           let at = sought p.elements x (λ (w : ElemPlan). same_number w.instance (instance_of p v.runnable) && _) sound in
-          absurd (cc (sym touch ∙ looked p.elements x at.item (λ (w : ElemPlan). Some w.group) None at.found))
+          absurd (cc (sym (no_bundle p whole.bundles whole.groups x touch) ∙ looked p.elements x at.item (λ (w : ElemPlan). Some w.group) None at.found))
       by_kind v (Returns q) is touch sound = record { point = q; kind = is; unjoined = no_server p (server_of p q) touch }
       by_kind v (Timing period) is touch sound = absurd (cc touch)
       by_kind v Init is touch sound = absurd (cc touch)
@@ -186,7 +193,7 @@ module _ (p : Plan) (m : Mapping) (h : History) (e : Entry) (event : Option ℕ)
     unfree bound (plain free fit own starts) answers = by_actor e.actor refl
       where
         by_actor : (a : Actor) → e.actor ≡ a → ⊥
-        by_actor Env who = false≢true (sym bound ∙ outside p w (ap (λ a. wish_fits p a w) (sym who) ∙ fit) (ap (λ a. object_of p a w) (sym who) ∙ none))
+        by_actor Env who = false≢true (sym bound ∙ outside p tried.sound.bundles tried.sound.groups w (ap (λ a. wish_fits p a w) (sym who) ∙ fit) (ap (λ a. object_of p a w) (sym who) ∙ none))
         by_actor (Machine n) who = machine_has p n w (ap (λ a. wish_fits p a w) (sym who) ∙ fit) (ap (λ a. object_of p a w) (sym who) ∙ none)
         by_actor (Act k) who =
             let s = starts k who in

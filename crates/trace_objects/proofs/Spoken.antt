@@ -81,6 +81,7 @@ module _ (p : Plan) (h : Past) (a : Actor) (event : Option ℕ) where
   pub spoken : (d : Deed) → is_start (wanted_by 0 d) ≡ false → (Answers p h (n d) → ⊥) → broken_answer p h (n d) ≡ Some (clause_of d)
   spoken (deed.Start e point value) plain denied = absurd (false≢true (sym plain))
   spoken (deed.Fetch x value) plain denied = by_unqueued (deed.Fetch x value) (λ is. answered (deed.Fetch x value) is refl refl refl refl refl refl) denied
+  spoken (deed.FetchAll l value) plain denied = by_unqueued (deed.FetchAll l value) (λ is. answered (deed.FetchAll l value) is refl refl refl refl refl refl) denied
   spoken (deed.Read x code value) plain denied = by_unqueued (deed.Read x code value) (λ is. answered (deed.Read x code value) is refl refl refl refl refl refl) denied
   spoken (deed.IsUpdated x updated) plain denied = by_unqueued (deed.IsUpdated x updated) (λ is. answered (deed.IsUpdated x updated) is refl refl refl refl refl refl) denied
   spoken (deed.Send x value code) plain denied = by_queued (deed.Send x value code) refl (λ is. answered (deed.Send x value code) refl is refl refl refl refl refl) denied

@@ -21,7 +21,7 @@ use Rattle.bus_semantics.specs.Actor.{activation_of, wanted_in, next_wish, is_he
 use Rattle.bus_semantics.specs.Legal.{MayFollow}
 use Rattle.bus_semantics.specs.Asked.{asks_its_own, event_of, noted_for, MayCome}
 use Rattle.history_laws.specs.Running.{GoesOn}
-use Rattle.same_entries.proofs.SameWishes.{same_wanted-Decides}
+use Rattle.bus_semantics.proofs.SameWanted.{same_wanted-Decides}
 use Rattle.trace_objects.specs.Standing.{IsTried}
 
 -- ---- deeds and wishes

@@ -11,6 +11,7 @@ use Rattle.trace_objects.specs.declared.came.Came.TheVariants.{Itself, Another, 
 -- the clause that speaks of a deed that is no start (of a start do calls, 9, and 13). Of the deeds after Admit none does, and none is refused
 abbrev pub clause_of : Deed → ℕ
 clause_of (deed.Fetch x value) = 7
+clause_of (deed.FetchAll l value) = 7
 clause_of (deed.Read x code value) = 7
 clause_of (deed.IsUpdated x updated) = 7
 clause_of (deed.Send x value code) = 8

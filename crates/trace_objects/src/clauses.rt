@@ -25,7 +25,8 @@ fn clause_of(deed: &Deed) -> u8
     ensures { result ≡ clause_of deed.now }
 {
     match deed {
-        Deed::Fetch { .. } | Deed::Read { .. } | Deed::IsUpdated { .. } => 7,
+        Deed::Fetch { .. } | Deed::FetchAll { .. } | Deed::Read { .. } | Deed::IsUpdated { .. } =>
+            7,
         Deed::Send { .. } | Deed::Receive { .. } => 8,
         Deed::Ask { .. } | Deed::Answer { .. } | Deed::TakeResult { .. } => 9,
         Deed::Enter { .. } => 10,
@@ -38,6 +39,7 @@ fn clause_of(deed: &Deed) -> u8
         | Deed::Return { .. }
         | Deed::Leave { .. }
         | Deed::Publish { .. }
+        | Deed::PublishAll { .. }
         | Deed::End => 13,
     }
 }

@@ -1,16 +1,14 @@
 //! What may come of its own along a trace, where no activation runs: starts by events of tasks, and phases of machines.
 
-ghost use Rattle.std.specs.Prelude.{◌≡◌, ◌<◌, ◌+◌, ℕ, List, length, true, false, IfOk, slice_index_or, slice_get, set, Some};
+ghost use Rattle.std.specs.Prelude.{◌≡◌, ◌<◌, ℕ, List, length, true, false, IfOk, slice_index_or, slice_get, set, Some};
 ghost use Rattle.std.specs.List.{Contains};
-ghost use Rattle.bus_semantics.specs.Objects.{first_machine};
 ghost use Rattle.bus_semantics.specs.Plan.{plan_of};
 ghost use Rattle.port_objects.specs.declared.object.Object.{Object};
-ghost use Rattle.port_objects.specs.Waking.{wakes};
 ghost use Rattle.trace_objects.specs.Unrest.{AreAmong, IsLed, PhasesAmong, StartsAmong};
 
 use bus_semantics::{BusPlan, Deed};
 use place_set::PlaceSet;
-use port_objects::{Object, other_entries_wake_nothing, woken};
+use port_objects::{Object, machine_of, other_entries_wake_nothing, wakes, woken};
 use rte_text::Memory;
 use std::alloc::Global;
 
@@ -23,23 +21,6 @@ pub struct Unrest {
     pub(crate) events: PlaceSet,
     /// By the number of the machine.
     pub(crate) machines: PlaceSet,
-}
-
-/// Whether an entry of this deed can make a start come.
-fn wakes(deed: &Deed) -> bool
-    ensures { result ≡ wakes deed.now }
-{
-    match deed {
-        Deed::Write { .. }
-        | Deed::Publish { .. }
-        | Deed::Send { .. }
-        | Deed::Tick
-        | Deed::Ask { .. }
-        | Deed::Return { .. }
-        | Deed::Phase(_)
-        | Deed::End => true,
-        _ => false,
-    }
 }
 
 /// Puts these numbers into a set of numbers below `len`.
@@ -67,15 +48,6 @@ fn note_starts(p: &BusPlan, object: &Object, deed: &Deed, events: &mut PlaceSet)
     if wakes(deed) {
         insert_all(woken(object), p.events.len(), events);
     }
-}
-
-/// The number of the machine whose object this is. Objects are groups, servers, areas, machines and the clock, in this order.
-fn machine_of(p: &BusPlan, object: u32) -> Option<usize>
-    ensures { (machine : ℕ) → object ≡ first_machine (plan_of p.now) + machine → result ≡ Some machine }
-{
-    let server = (object as usize).checked_sub(p.groups.len())?;
-    let area = server.checked_sub(p.servers.len())?;
-    area.checked_sub(p.areas.len())
 }
 
 /// Puts the machine whose object has this number, if it is one's, among the others.

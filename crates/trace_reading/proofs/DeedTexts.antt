@@ -25,13 +25,14 @@ use Rattle.bus_semantics.specs.Owners.{area_fits, key_fits, elem_fits, event_fit
 use Rattle.bus_semantics.specs.Plan.{Plan, instance_of, kind_of, look, machine_of_port}
 use Rattle.bus_semantics.specs.Reading.{are_words, is_byte, is_index, is_sized}
 use Rattle.bus_semantics.specs.Spelling.{Letters, area_name, elem_name, event_name, machine_name, mode_port_name, mode_text, point_name, point_text, value_text}
-use Rattle.bus_semantics.specs.Wanted.{Wanted, to_tick, to_start, to_admit, to_fetch, to_write, to_read, to_invalidate, to_see_updated, to_send, to_receive, to_ask, to_hear, to_take_result, to_return, to_enter, to_leave, to_switch, to_see_mode, to_move_on, to_publish, to_end, wanted_by}
+use Rattle.bus_semantics.specs.Wanted.{Wanted, to_tick, to_start, to_admit, to_fetch, to_write, to_read, to_invalidate, to_see_updated, to_send, to_receive, to_ask, to_hear, to_take_result, to_return, to_enter, to_leave, to_switch, to_see_mode, to_move_on, to_publish, to_fetch_all, to_publish_all, to_end, wanted_by}
 use Rattle.trace_reading.specs.declared.words.CallWord.TheVariants as call
 use Rattle.trace_reading.specs.Deeds.{Line, called_at, caller_itself, home_of, mode_at}
 use Rattle.trace_reading.specs.Fields.{code_at, no_value, value_at}
 use Rattle.trace_reading.specs.Actors.{point_in}
 use Rattle.trace_reading.specs.Finding.{elem_at, point_at}
 use Rattle.trace_reading.specs.Guess.{deed_in}
+use Rattle.bus_laws.proofs.Bundling.{list_wish_never}
 use Rattle.plan_names.proofs.Distinct.{all_at}
 use Rattle.trace_reading.proofs.ActorTexts.{IsThere, point_read_in, served_within}
 use Rattle.trace_reading.proofs.Cutting.{are_visible, part}
@@ -75,6 +76,8 @@ Names p a (to_switch m mode) = switch_fits p (home_of p a) m mode ≡ true
 Names p a (to_see_mode port) = mode_port_fits p (home_of p a) port ≡ true
 Names p a to_move_on = Unit {0}
 Names p a (to_publish x ws) = IsOwnElem p (home_of p a) x
+Names p a (to_fetch_all l) = Unit {0}
+Names p a (to_publish_all l written ws) = Unit {0}
 Names p a (to_end e) = Unit {0}
 
 environment_names : (p : Plan) (w : Wanted) → environment_may_want p w ≡ true → Names p Env w
@@ -110,6 +113,8 @@ activation_names p k (to_switch m mode) h = h
 activation_names p k (to_see_mode port) h = h
 activation_names p k to_move_on h = tt
 activation_names p k (to_publish x ws) h = record { test = _; fit = h }
+activation_names p k (to_fetch_all l) h = tt
+activation_names p k (to_publish_all l written ws) h = tt
 activation_names p k (to_end e) h = tt
 
 machine_names : (p : Plan) (m : ℕ) (w : Wanted) → machine_may_want w ≡ true → Names p (Machine m) w
@@ -417,4 +422,6 @@ module _ (v : Version) (p : Plan) (r : IsNamed p) where
         found = λ who. with_value (λ y w. deed.Publish y w) (elem_at p (home_of p a) (elem_name p x)) x (value_text value) value e.found (value_text_back value two.1);
         visible = seen2 (elem_name p x) (value_text value) e.visible (value_text_visible value two.1);
       }
+  deed_read a (deed.FetchAll l value) there wish fit sized = absurd (list_wish_never p r.none_listed a (to_fetch_all l) refl wish)
+  deed_read a (deed.PublishAll l written value) there wish fit sized = absurd (list_wish_never p r.none_listed a (to_publish_all l written (words_of value)) refl wish)
   deed_read a deed.End there wish fit sized = record { found = λ who. refl; visible = refl }

@@ -9,9 +9,10 @@ use Rattle.bus_semantics.specs.declared.entries.Deed.{Deed}
 use Rattle.bus_semantics.specs.declared.entries.Deed.TheVariants as deed
 use Rattle.bus_semantics.specs.declared.entries.Entry.{Entry}
 use Rattle.bus_semantics.specs.declared.version.Version.{Version}
+use Rattle.bus_semantics.specs.Lists.{elems_of}
 use Rattle.bus_semantics.specs.Objects.{machine_itself}
 use Rattle.bus_semantics.specs.Plan.{Plan, machine_of_port}
-use Rattle.bus_semantics.specs.Spelling.{Letters, actor_text, area_name, deed_text, elem_name, entry_text, event_name, machine_name, mode_port_name, mode_text, point_name, point_text, value_text}
+use Rattle.bus_semantics.specs.Spelling.{Letters, actor_text, area_name, deed_text, elem_name, entry_text, event_name, machine_name, mask_text, mode_port_name, mode_text, point_name, point_text, position_of, value_text}
 use Rattle.trace_reading.proofs.Cutting.{line_of}
 
 -- the word of a deed
@@ -36,6 +37,8 @@ word_of (deed.Switch m mode code) = codes "switch"
 word_of (deed.Mode port mode) = codes "mode"
 word_of (deed.Phase s) = codes "phase"
 word_of (deed.Publish x value) = codes "publish"
+word_of (deed.FetchAll l value) = codes "fetchAll"
+word_of (deed.PublishAll l written value) = codes "publishAll"
 word_of deed.End = codes "end"
 
 abbrev pub start_fields : Plan → (event : ℕ) → Option ℕ → Value → List Letters
@@ -71,6 +74,8 @@ fields_of v p a (deed.Switch m mode code) = machine_name p m ∷ mode_text v p (
 fields_of v p a (deed.Mode port mode) = mode_port_name p port ∷ mode_text v p (machine_of_port p port) mode ∷ []
 fields_of v p a (deed.Phase s) = step_fields v p a s
 fields_of v p a (deed.Publish x value) = elem_name p x ∷ value_text value ∷ []
+fields_of v p a (deed.FetchAll l value) = decimal (position_of p l) ∷ value_text value ∷ []
+fields_of v p a (deed.PublishAll l written value) = decimal (position_of p l) ∷ mask_text written (elems_of p l) ∷ value_text value ∷ []
 fields_of v p a deed.End = []
 
 three_fields : (word a b c : Letters) → word ++ a ++ 32 ∷ b ++ 32 ∷ c ≡ word ++ (a ++ 32 ∷ (b ++ 32 ∷ c))
@@ -104,6 +109,8 @@ deed-line v p a (deed.Phase step.Transition) = refl
 deed-line v p a (deed.Phase step.Entry) = refl
 deed-line v p a (deed.Phase step.Stable) = refl
 deed-line v p a (deed.Publish x value) = refl
+deed-line v p a (deed.FetchAll l value) = refl
+deed-line v p a (deed.PublishAll l written value) = three_fields (codes "publishAll ") (decimal (position_of p l)) (mask_text written (elems_of p l)) (value_text value)
 deed-line v p a deed.End = refl
 
 -- the line without its newline

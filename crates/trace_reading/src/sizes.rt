@@ -1,6 +1,6 @@
 //! How large what an entry holds is. By the types of the code each is small enough, so each test here passes.
 
-ghost use Rattle.std.specs.Prelude.{◌≡◌, true};
+ghost use Rattle.std.specs.Prelude.{◌≡◌, nat_lt, true};
 ghost use Rattle.bus_semantics.specs.Reading.{are_words, is_byte, is_index, is_point, is_sized, is_sized_actor};
 
 use bus_semantics::{Actor, Deed};
@@ -40,12 +40,19 @@ fn is_byte(code: Code) -> bool
     code <= u8::MAX
 }
 
+/// Whether a mask has 16 bits.
+fn is_mask(mask: u16) -> bool
+    ensures { result ≡ nat_lt mask 65536 }
+{
+    mask <= u16::MAX
+}
+
 /// The numbers of an actor have 32 bits.
 pub fn actor_is_sized(actor: Actor)
     ensures { is_sized_actor actor ≡ true }
 {}
 
-/// Whether the deed's numbers have 32 bits, its codes are bytes, and its words have 64 bits.
+/// Whether the deed's numbers have 32 bits, its codes are bytes, its masks have 16 bits, and its words have 64.
 pub fn is_sized(deed: &Deed) -> bool
     ensures { result ≡ is_sized deed.now }
 {
@@ -79,5 +86,11 @@ pub fn is_sized(deed: &Deed) -> bool
         Deed::Mode { port, mode } => is_index(*port) && is_index(*mode),
         Deed::Phase(Step::Close(mode)) => is_index(*mode),
         Deed::Phase(_) => true,
+        Deed::FetchAll { list, value } => is_index(*list) && are_words(value),
+        Deed::PublishAll {
+            list,
+            written,
+            value,
+        } => is_index(*list) && is_mask(*written) && are_words(value),
     }
 }

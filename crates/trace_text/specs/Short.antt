@@ -1,6 +1,7 @@
 -- How long what a deed holds may be in a line: a number has at most 20 bytes, a value 16 words with a comma between them. A mode is
--- a number in version one alone.
-use Rattle.std.specs.Prelude.{ℕ, ◌≤◌, length, decimal, Option, Some, None}
+-- a number in version one alone. A coherent list has a digit for each element, and in a sound plan at most 16.
+use Rattle.std.specs.Prelude.{◌≡◌, ℕ, ◌≤◌, length, decimal, nat_le, true, Option, Some, None}
+use Rattle.std.specs.List.{list_all}
 use Rattle.rte_value.specs.declared.kinds.Step.{Step}
 use Rattle.rte_value.specs.declared.kinds.Step.TheVariants as step
 use Rattle.rte_value.specs.declared.value.Value.{Value}
@@ -8,7 +9,13 @@ use Rattle.bus_semantics.specs.declared.entries.Deed.{Deed}
 use Rattle.bus_semantics.specs.declared.entries.Deed.TheVariants as deed
 use Rattle.bus_semantics.specs.declared.version.Version.{Version}
 use Rattle.bus_semantics.specs.declared.version.Version.TheVariants.{One, Two}
-use Rattle.bus_semantics.specs.Spelling.{value_text}
+use Rattle.bus_semantics.specs.declared.plan.CoherentList.{CoherentList}
+use Rattle.bus_semantics.specs.Plan.{Plan}
+use Rattle.bus_semantics.specs.Spelling.{position_of, value_text}
+
+-- no list has more than 16 elements
+abbrev pub HasShortLists : Plan → Type 0
+HasShortLists p = list_all (λ (c : CoherentList). nat_le (length c.elems) 16) p.lists ≡ true
 
 abbrev pub IsShortNumber : ℕ → Type 0
 IsShortNumber n = length (decimal n) ≤ 20
@@ -32,25 +39,27 @@ abbrev pub IsShortFrom : Option ℕ → Value → Type 0
 IsShortFrom None value = Unit {0}
 IsShortFrom (Some q) value = IsShortValue value
 
-abbrev pub IsShort : Version → Deed → Type 0
-IsShort v deed.Tick = Unit {0}
-IsShort v (deed.Start event point value) = IsShortFrom point value
-IsShort v (deed.Admit admitted) = Unit {0}
-IsShort v (deed.Fetch x value) = IsShortValue value
-IsShort v (deed.Write x value) = IsShortValue value
-IsShort v (deed.Read x code value) = IsShortNumber code × IsShortValue value
-IsShort v (deed.Invalidate x) = Unit {0}
-IsShort v (deed.IsUpdated x updated) = Unit {0}
-IsShort v (deed.Send x value code) = IsShortValue value × IsShortNumber code
-IsShort v (deed.Receive x code value) = IsShortNumber code × IsShortValue value
-IsShort v (deed.Ask q value code) = IsShortValue value × IsShortNumber code
-IsShort v (deed.Answer q code value) = IsShortNumber code × IsShortValue value
-IsShort v (deed.TakeResult q code value) = IsShortNumber code × IsShortValue value
-IsShort v (deed.Return code value) = IsShortNumber code × IsShortValue value
-IsShort v (deed.Enter x) = Unit {0}
-IsShort v (deed.Leave x) = Unit {0}
-IsShort v (deed.Switch m mode code) = IsShortMode v mode × IsShortNumber code
-IsShort v (deed.Mode port mode) = IsShortMode v mode
-IsShort v (deed.Phase s) = IsShortStep v s
-IsShort v (deed.Publish x value) = IsShortValue value
-IsShort v deed.End = Unit {0}
+abbrev pub IsShort : Version → Plan → Deed → Type 0
+IsShort v p deed.Tick = Unit {0}
+IsShort v p (deed.Start event point value) = IsShortFrom point value
+IsShort v p (deed.Admit admitted) = Unit {0}
+IsShort v p (deed.Fetch x value) = IsShortValue value
+IsShort v p (deed.Write x value) = IsShortValue value
+IsShort v p (deed.Read x code value) = IsShortNumber code × IsShortValue value
+IsShort v p (deed.Invalidate x) = Unit {0}
+IsShort v p (deed.IsUpdated x updated) = Unit {0}
+IsShort v p (deed.Send x value code) = IsShortValue value × IsShortNumber code
+IsShort v p (deed.Receive x code value) = IsShortNumber code × IsShortValue value
+IsShort v p (deed.Ask q value code) = IsShortValue value × IsShortNumber code
+IsShort v p (deed.Answer q code value) = IsShortNumber code × IsShortValue value
+IsShort v p (deed.TakeResult q code value) = IsShortNumber code × IsShortValue value
+IsShort v p (deed.Return code value) = IsShortNumber code × IsShortValue value
+IsShort v p (deed.Enter x) = Unit {0}
+IsShort v p (deed.Leave x) = Unit {0}
+IsShort v p (deed.Switch m mode code) = IsShortMode v mode × IsShortNumber code
+IsShort v p (deed.Mode port mode) = IsShortMode v mode
+IsShort v p (deed.Phase s) = IsShortStep v s
+IsShort v p (deed.Publish x value) = IsShortValue value
+IsShort v p (deed.FetchAll l value) = IsShortNumber (position_of p l) × IsShortValue value
+IsShort v p (deed.PublishAll l written value) = IsShortNumber (position_of p l) × IsShortValue value
+IsShort v p deed.End = Unit {0}

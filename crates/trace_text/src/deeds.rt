@@ -10,6 +10,7 @@ ghost use Rattle.trace_text.specs.Short.{IsShort, IsShortFrom, IsShortMode, IsSh
 
 use crate::actors::write_point;
 use crate::fields::{write_number, write_spaced_number, write_spaced_value, write_text};
+use crate::lists::{write_fetched, write_published};
 use crate::names::{
     area_name, elem_name, event_name, machine_name, mode_name, mode_port_name, point_name,
 };
@@ -208,7 +209,7 @@ fn write_phase(p: &BusPlan, actor: Actor, step: Step, v: Version, out: &mut Line
 /// Writes what the actor did.
 pub fn write_deed(p: &BusPlan, actor: Actor, deed: &Deed, v: Version, out: &mut LineBuf)
     ensures text { Appends out.old out.new (deed_text v (plan_of p.now) actor deed.now) }
-    ensures short { IsShort v deed.now }
+    ensures short { IsShort v (plan_of p.now) deed.now }
 {
     match deed {
         Deed::Tick => write_text(b"tick", out),
@@ -285,6 +286,12 @@ pub fn write_deed(p: &BusPlan, actor: Actor, deed: &Deed, v: Version, out: &mut 
             value,
             out,
         ),
+        Deed::FetchAll { list, value } => write_fetched(p, *list, value, out),
+        Deed::PublishAll {
+            list,
+            written,
+            value,
+        } => write_published(p, *list, *written, value, out),
         Deed::End => write_text(b"end", out),
     }
 }

@@ -8,6 +8,7 @@ mod actors;
 mod deeds;
 mod fields;
 mod lines;
+mod lists;
 mod names;
 
 pub use lines::{header, idle_line, run_line, unsettled_line, write_entry};

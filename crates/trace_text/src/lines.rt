@@ -7,7 +7,7 @@ ghost use Rattle.bus_semantics.specs.Run.{idle, run_begins, unsettled};
 ghost use Rattle.bus_semantics.specs.SoundNames.{names_fit};
 ghost use Rattle.bus_semantics.specs.Spelling.{closing_text, entry_text, header, item_text};
 ghost use Rattle.trace_text.specs.Appending.{Appends};
-ghost use Rattle.trace_text.specs.Short.{IsShort};
+ghost use Rattle.trace_text.specs.Short.{HasShortLists, IsShort};
 
 use crate::actors::write_actor;
 use crate::deeds::write_deed;
@@ -49,7 +49,7 @@ pub fn unsettled_line() -> &'static [u8]
 /// Writes the line of the entry.
 fn write_line(p: &BusPlan, e: &Entry, v: Version, out: &mut LineBuf)
     ensures text { Appends out.old out.new (entry_text v (plan_of p.now) e.now) }
-    ensures short { IsShort v e.now.deed }
+    ensures short { IsShort v (plan_of p.now) e.now.deed }
 {
     write_actor(p, e.actor, out);
     write_text(b" ", out);
@@ -58,9 +58,10 @@ fn write_line(p: &BusPlan, e: &Entry, v: Version, out: &mut LineBuf)
 }
 
 /// Writes the line of the entry in a trace of the version, its newline included, into an empty line. It takes no memory. The
-/// names of the plan have to be short, as a sound plan's are: then every line fits.
+/// names and the coherent lists of the plan have to be short, as a sound plan's are: then every line fits.
 pub fn write_entry(p: &BusPlan, e: &Entry, v: Version, out: &mut LineBuf)
     requires names { names_fit (plan_of p.now) ≡ true }
+    requires lists { HasShortLists (plan_of p.now) }
     requires empty { out.old ≡ [] }
     ensures { out.new ≡ entry_text v (plan_of p.now) e.now }
 {

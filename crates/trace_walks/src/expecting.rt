@@ -37,12 +37,33 @@ fn sent_again(elem: u32, last: &Deed) -> Code {
     }
 }
 
+/// The deed of a wish that the bus answers in one way alone. None of any other wish.
+fn granted(wish: &Wish) -> Option<Deed> {
+    match *wish {
+        Wish::Write { elem, value } => Some(Deed::Write { elem, value }),
+        Wish::Invalidate { elem } => Some(Deed::Invalidate { elem }),
+        Wish::Return { code, value } => Some(Deed::Return { code, value }),
+        Wish::Enter { area } => Some(Deed::Enter { area }),
+        Wish::Leave { area } => Some(Deed::Leave { area }),
+        Wish::Publish { elem, value } => Some(Deed::Publish { elem, value }),
+        Wish::PublishAll {
+            list,
+            written,
+            value,
+        } => Some(Deed::PublishAll {
+            list,
+            written,
+            value,
+        }),
+        Wish::End { .. } => Some(Deed::End),
+        _ => None,
+    }
+}
+
 /// The deed that is most likely where an activation wants this after its last deed. None where there is no good guess.
 fn likely(wish: &Wish, last: &Deed) -> Option<Deed> {
     match *wish {
         Wish::Admit { .. } => Some(Deed::Admit { yes: true }),
-        Wish::Write { elem, value } => Some(Deed::Write { elem, value }),
-        Wish::Invalidate { elem } => Some(Deed::Invalidate { elem }),
         Wish::Send { elem, value } => Some(Deed::Send {
             elem,
             value,
@@ -53,17 +74,15 @@ fn likely(wish: &Wish, last: &Deed) -> Option<Deed> {
             value,
             code: 0,
         }),
-        Wish::Return { code, value } => Some(Deed::Return { code, value }),
-        Wish::Enter { area } => Some(Deed::Enter { area }),
-        Wish::Leave { area } => Some(Deed::Leave { area }),
         Wish::Switch { machine, mode } => Some(Deed::Switch {
             machine,
             mode,
             code: 0,
         }),
-        Wish::Publish { elem, value } => Some(Deed::Publish { elem, value }),
-        Wish::End { .. } => Some(Deed::End),
-        _ => answered_again(wish, last),
+        _ => match granted(wish) {
+            Some(deed) => Some(deed),
+            None => answered_again(wish, last),
+        },
     }
 }
 

@@ -5,19 +5,14 @@ use Rattle.std.proofs.lemmas.Bool.{and_parts, eqb-true, false≢true}
 use Rattle.bus_semantics.specs.declared.script.Mapping.{Mapping}
 use Rattle.bus_semantics.specs.Plan.{Plan}
 use Rattle.bus_semantics.specs.Sound.{WaitOrder}
-use Rattle.bus_rows.specs.SoundFacts.{Fact, broken_facts, LacksOnly, LacksOrder}
+use Rattle.bus_rows.specs.SoundFacts.{broken_facts, LacksOrder}
 use Rattle.bus_rows.specs.AreaHeld.{two_cores}
+use Rattle.bus_rows.specs.OneWriter.{one_task}
 use Rattle.bus_rows.specs.Queues.{one_event}
 use Rattle.bus_rows.specs.WaitingSwitch.{user_and_boss_tasks}
-use Rattle.bus_rows.specs.UnsoundPlans.{nested_areas, two_points, switch_of_item, three_elements, no_task, servers_that_call, a_task_each, in_one_task}
-use Rattle.bus_rows.proofs.RowSound.{sound_of, none_broken, unordered}
+use Rattle.bus_rows.specs.UnsoundPlans.{nested_areas, two_points, switch_of_item, three_elements, no_task, in_one_bundle, writer_lists, servers_that_call, a_task_each, in_one_task}
+use Rattle.bus_rows.proofs.RowSound.{sound_of, lacks, unordered}
 use Rattle.bus_rows.proofs.unsound.plans_that_lack_one_fact_are_not_sound.Goals as goal
-
-other : (name : Fact) (names found : List Fact) → found ≡ name ∷ names → found ≡ [] → ⊥
-other name names found e n = cc
-
-lacks : (fact : Fact) (p : Plan) (m : Mapping) → broken_facts p m ≡ fact ∷ [] → WaitOrder p m → LacksOnly fact p m
-lacks fact p m e order = record { unsound = λ s. other fact [] (broken_facts p m) e (none_broken p m s); broken = e; order = order }
 
 lacks_order : (p : Plan) (m : Mapping) → broken_facts p m ≡ [] → (WaitOrder p m → ⊥) → LacksOrder p m
 lacks_order p m e none = record { unsound = λ s. none s.order; broken = e; unordered = none }
@@ -60,6 +55,15 @@ returns-clause-together c = sound_of (three_elements (codes "p.w")) no_task refl
 
 pub returns-clause-apart : goal.returns-clause-apart
 returns-clause-apart c = lacks _ (three_elements (codes "o.w")) no_task refl (unordered (three_elements (codes "o.w")) no_task (λ a n w. absurd (false≢true w)))
+
+pub returns-clause-bundled : goal.returns-clause-bundled
+returns-clause-bundled c = lacks _ in_one_bundle no_task refl (unordered in_one_bundle no_task (λ a n w. absurd (false≢true w)))
+
+pub returns-clause-unlisted : goal.returns-clause-unlisted
+returns-clause-unlisted c = sound_of (writer_lists []) one_task refl (unordered (writer_lists []) one_task (λ a n w. absurd (false≢true w)))
+
+pub returns-clause-listed : goal.returns-clause-listed
+returns-clause-listed c = lacks _ (writer_lists (0 ∷ [])) one_task refl (unordered (writer_lists (0 ∷ [])) one_task (λ a n w. absurd (false≢true w)))
 
 -- ---- plans in which tasks wait
 

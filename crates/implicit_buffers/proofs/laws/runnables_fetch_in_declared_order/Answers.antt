@@ -1,5 +1,8 @@
-use Rattle.implicit_buffers.proofs.Ordering.{fetches}
+use Rattle.implicit_buffers.proofs.Ordering.{fetches_elements, fetches}
 use Rattle.implicit_buffers.proofs.laws.runnables_fetch_in_declared_order.Goals as goal
 
-pub returns : goal.returns
-returns c r = fetches r.accesses r.targets
+pub returns-clause-elements : goal.returns-clause-elements
+returns-clause-elements c p r none = fetches_elements p none r
+
+pub returns-clause-fetches : goal.returns-clause-fetches
+returns-clause-fetches c p r none = fetches p none r

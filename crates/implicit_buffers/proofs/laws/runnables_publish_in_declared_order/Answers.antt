@@ -1,5 +1,8 @@
-use Rattle.implicit_buffers.proofs.Ordering.{publications}
+use Rattle.implicit_buffers.proofs.Ordering.{publishes_elements, publications}
 use Rattle.implicit_buffers.proofs.laws.runnables_publish_in_declared_order.Goals as goal
 
-pub returns : goal.returns
-returns c r = publications r.accesses r.targets
+pub returns-clause-elements : goal.returns-clause-elements
+returns-clause-elements c p r none = publishes_elements p none r
+
+pub returns-clause-publications : goal.returns-clause-publications
+returns-clause-publications c p r none = publications p none r

@@ -15,4 +15,4 @@ loop-area-preserved c =
     let within : n < length c.args.p.now.areas = omega (arith, c.loop-area-test.true, c.loop-area.auto._area-end, c.len-area-end.ensures) in
     let area = this_area p n within in
     row_more p (before_areas p) (λ x. of_area areas.opening) n (n + 1) c.loop-area.objects.items c.push.new.self.items (Area c.new.result) (first_area p + n) (omega arith) c.loop-area.invariant
-    (ap (λ k. k + n) (areas_from p)) (ap of_area c.new.ensures) (record { is_area = area }) (record { past = tt; keeps = c.first_area_stands_for_nothing.ensures p (first_area p + n) area }) c.in_ok-push.ensures.items
+    (ap (λ k. k + n) (areas_from p c.requires.sound)) (ap of_area c.new.ensures) (record { is_area = area }) (record { past = tt; keeps = c.first_area_stands_for_nothing.ensures p (first_area p + n) area }) c.in_ok-push.ensures.items

@@ -16,6 +16,6 @@ loop-machine-preserved c =
       long = c.take_list-events.ensures.long ∙ c.loop-machine.invariant.long;
       left = λ other next. c.take_list-events.ensures.others other (omega (arith, next)) ∙ c.loop-machine.invariant.left other (omega (arith, next));
       first = row_more p (before_machines p) (opening_of_machine p) n (n + 1) c.loop-machine.objects.items c.push.new.self.items (Machine c.in_ok-made.made) (first_machine p + n) (omega arith) c.loop-machine.invariant.first
-          (ap (λ k. k + n) (machines_from p)) (ap of_machine c.in_ok-made.ensures.kept) c.in_ok-made.ensures.planned
+          (ap (λ k. k + n) (machines_from p c.requires.sound)) (ap of_machine c.in_ok-made.ensures.kept) c.in_ok-made.ensures.planned
           (record { past = tt; keeps = first_stands p n (c.first_machine_stands_for_nothing.ensures p (first_machine p + n) (c.requires.sound.machines n within)) }) c.in_ok-push.ensures.items;
     }

@@ -18,6 +18,6 @@ loop-server-preserved c =
       points_left = λ other next. c.take_list-called.ensures.others other (omega (arith, next)) ∙ c.loop-server.invariant.points_left other (omega (arith, next));
       returns_left = λ other next. c.take_list-awaited.ensures.others other (omega (arith, next)) ∙ c.loop-server.invariant.returns_left other (omega (arith, next));
       first = row_more p (before_servers p) (opening_of_server p) n (n + 1) c.loop-server.objects.items c.push.new.self.items (Server c.in_ok-made.made) (first_server p + n) (omega arith) c.loop-server.invariant.first
-          (ap (λ k. k + n) (servers_from p)) (ap of_server c.in_ok-made.ensures.kept) c.in_ok-made.ensures.planned
+          (ap (λ k. k + n) (servers_from p c.requires.sound)) (ap of_server c.in_ok-made.ensures.kept) c.in_ok-made.ensures.planned
           (record { past = tt; keeps = c.first_servers_stand_for_nothing.ensures p (first_server p + n) (c.requires.sound.servers n within) }) c.in_ok-push.ensures.items;
     }

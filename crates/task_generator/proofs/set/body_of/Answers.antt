@@ -1,5 +1,6 @@
 use Rattle.std.proofs.Common.{◌≡◌, ◌<◌, length, map, max, sym, ap, ◌∙◌, arith}
 use Rattle.std.proofs.lemmas.List.{length-map}
+use Rattle.runnable_lang.specs.declared.program.Program.{Program}
 use Rattle.bus_semantics.specs.Plan.{plan_of, runnable_of}
 use Rattle.task_machine.specs.Instructions.{instruction_of}
 use Rattle.task_generator.specs.Servers.{served, arguments_in, in_places}
@@ -24,8 +25,9 @@ returns c =
     let r = runnable_of c.args.runnable.now in
     let args = arguments_in (served p.servers r.server) in
     let found = c.arguments_of-arguments.ensures in
-    let loops = rw c.deref.ensures.value at c.loops_of_body.ensures in
-    let vars : c.max.result ≡ max r.program.vars (length args) = omega (arith, c.max.ensures, ap length found) in
+    let body = c.deref-3.ensures.value ∙ ap (λ (q : Program). q.body.items) c.deref-2.ensures in
+    let loops = rw body at c.loops_of_body.ensures in
+    let vars : c.max.result ≡ max r.program.vars (length args) = omega (arith, c.max.ensures, ap (λ (q : Program). q.vars) c.deref.ensures, ap length found) in
     let arguments : c.of.result ≡ in_places 0 args = c.of.ensures ∙ c.in_ok-places.ensures ∙ ap (in_places 0) found in
     let fetched = ap length c.requires.fetched in
     let written = ap length c.requires.published in

@@ -15,4 +15,4 @@ returns c =
     let p = plan_of c.args.p.now in
     let bodies : map shape_of_body c.of.result ≡ map (shape_of p) p.runnables = ap (map shape_of_body) c.of.ensures ∙ c.in_ok-bodies.ensures in
     let disabled : c.of-2.result ≡ map (λ (v : EventPlan). is_some v.disabled) p.events = c.of-2.ensures ∙ c.in_ok-disabled.ensures ∙ ap (map (λ (v : EventPlan). is_some v.disabled)) c.items.ensures in
-    asks_as_planned p (record { bodies = c.of.result; disabled = c.of-2.result }) bodies disabled
+    asks_as_planned p c.requires.sound.none_listed (record { bodies = c.of.result; disabled = c.of-2.result }) bodies disabled

@@ -1,4 +1,5 @@
-use Rattle.std.proofs.Common.{◌≡◌, true, refl, sym, subst, arith, inr, None, ◌∷◌}
+use Rattle.std.proofs.Common.{◌≡◌, true, refl, sym, ◌∙◌, subst, arith, inr, None, ◌∷◌}
+use Rattle.std.proofs.lemmas.Bool.{false≢true}
 use Rattle.bus_semantics.specs.declared.entries.Actor.TheVariants.{Env}
 use Rattle.bus_semantics.specs.Fitting.{wish_fits}
 use Rattle.bus_semantics.specs.Objects.{entries_of, touched_by}
@@ -7,7 +8,7 @@ use Rattle.bus_semantics.specs.Wanted.{wanted_of}
 use Rattle.core_runtime.specs.Nodes.{NodeState, IsLawfulNode}
 use Rattle.core_runtime.specs.Watching.{IsAfter, IsWatch}
 use Rattle.core_runtime.proofs.Areas.{still_waiting}
-use Rattle.core_runtime.proofs.Outside.{never_held, lawful_beside, touches_one, is_there, is_planned, may_ask, lawful_on, node_then, touches_then, within_then}
+use Rattle.core_runtime.proofs.Outside.{never_held, is_free_one, lawful_beside, touches_one, is_there, is_planned, may_ask, lawful_on, node_then, touches_then, within_then}
 use Rattle.core_runtime.proofs.node.Node.environment.Goals as goal
 
 pub object_of-requires : goal.object_of-requires
@@ -39,6 +40,12 @@ unreachable-requires c =
     (record { sound = ask.sound; fits = ask.fits; own = ask.own; touching = touches_one w c.self.invariant.0 fit c.in-Some.ensures; past = ask.stands.past })
     (never_held p w fit) in
     c.in-NotYet.ensures.not_yet c.self.inside.mapping past _ ask refl comes.entry comes.comes
+
+pub unreachable-requires-in-None-free_deed : goal.unreachable-requires-in-None-free_deed
+unreachable-requires-in-None-free_deed c =
+    let fit = subst (λ (n : NodeState). wish_fits (plan_of n.plan) Env (wanted_of c.args.wish.now) ≡ true) (sym c.self.view_is) c.requires.fits in
+    let free = is_free_one (plan_of c.self.inside.plan) c.self.inside.mapping c.self.invariant.0.sound (wanted_of c.args.wish.now) fit (sym c.in-None.ensures) in
+    false≢true (sym c.in-None-free_deed.ensures ∙ free)
 
 pub wake_after-requires-clause-watched : goal.wake_after-requires-clause-watched
 wake_after-requires-clause-watched c = (c.self.inside.bodies, c.self.inside.live.cores.items, c.self.inside.live.objects.items, c.self.invariant.1.awake, c.self.invariant.1.seated)

@@ -10,7 +10,7 @@ use Rattle.core_runtime.proofs.NewNodes.{new_lawful, new_room}
 use Rattle.core_runtime.proofs.node.Node.new.Goals as goal
 
 pub returns-clause-lawful : goal.returns-clause-lawful
-returns-clause-lawful c = new_lawful (plan_of c.args.p) c.args.m c.args.t c.in_ok-cores.cores.items c.in_ok-objects.objects.items c.requires.sound c.in_ok-cores.ensures.cores c.in_ok-objects.ensures.standing
+returns-clause-lawful c = new_lawful (plan_of c.args.p) c.args.m c.args.t c.in_ok-cores.cores.items c.in_ok-objects.objects.items c.requires.sound c.in_ok-cores.ensures.cores c.in_ok-objects.ensures.planned.count c.in_ok-cores.ensures.count c.in_ok-objects.ensures.standing
 
 pub new-requires-clause-ready : goal.new-requires-clause-ready
 new-requires-clause-ready c = (
@@ -33,12 +33,12 @@ invariant_of-result c = (
   record {
     sound = c.requires.sound;
     bodies = c.requires.bodies;
-    counted = c.sound_plans_have_objects.ensures.asked (plan_of c.args.p) c.args.m c.requires.sound c.requires.points;
+    counted = c.sound_plans_have_objects.ensures.asked (plan_of c.args.p) c.args.m c.requires.sound;
     planned = c.in_ok-objects.ensures.planned;
     cores_are = c.in_ok-cores.ensures.count;
-    room = new_room (plan_of c.args.p) c.args.m c.args.t c.in_ok-cores.cores.items c.in_ok-objects.objects.items c.requires.sound c.in_ok-cores.ensures.cores c.in_ok-objects.ensures.standing;
+    room = new_room (plan_of c.args.p) c.args.m c.args.t c.in_ok-cores.cores.items c.in_ok-objects.objects.items c.requires.sound c.in_ok-cores.ensures.cores c.in_ok-objects.ensures.planned.count c.in_ok-cores.ensures.count c.in_ok-objects.ensures.standing;
     history = [];
-    lawful = new_lawful (plan_of c.args.p) c.args.m c.args.t c.in_ok-cores.cores.items c.in_ok-objects.objects.items c.requires.sound c.in_ok-cores.ensures.cores c.in_ok-objects.ensures.standing;
+    lawful = new_lawful (plan_of c.args.p) c.args.m c.args.t c.in_ok-cores.cores.items c.in_ok-objects.objects.items c.requires.sound c.in_ok-cores.ensures.cores c.in_ok-objects.ensures.planned.count c.in_ok-cores.ensures.count c.in_ok-objects.ensures.standing;
   },
   subst (λ cs. IsWatch (plan_of c.args.p) c.args.t c.in_ok-objects.objects.items None cs c.in_ok-watch.watch) c.as_slice.ensures.value (c.in_ok-watch.ensures c.args.t c.in_ok-objects.objects.items),
 )

@@ -18,6 +18,7 @@ invariant_of-activation c =
       all = whole.found c.args.place r c.index-found.result.now c.requires.there there;
       words = whole.words c.args.place r c.requires.there;
       arguments = whole.arguments c.args.place r c.requires.there;
+      none_listed = whole.none_listed;
     }
 
 pub of-requires-clause-fetched : goal.of-requires-clause-fetched

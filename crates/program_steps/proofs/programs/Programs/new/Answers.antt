@@ -14,5 +14,6 @@ invariant_of-result c = record {
     found = subst (λ (rs : List RunnablePlan). AreFoundIn rs c.in_ok-found.found.items) c.items.ensures c.in_ok-found.ensures.found;
     words = λ i r at. few_words (plan_of c.args.p.now) c.args._m.now c.requires.sound i r at;
     arguments = λ i r at. few_given (plan_of c.args.p.now) c.args._m.now c.requires.sound i r at;
+    none_listed = c.requires.sound.none_listed;
   };
 }

@@ -1,7 +1,8 @@
 use Rattle.std.proofs.Common.{◌≡◌, true, Some, sym, ◌∙◌, ap, subst}
 use Rattle.rte_value.specs.Values.{words_of}
 use Rattle.bus_semantics.specs.Fitting.{wish_fits}
-use Rattle.bus_semantics.specs.Plan.{plan_of, group_of}
+use Rattle.bus_semantics.specs.Plan.{plan_of}
+use Rattle.bus_semantics.specs.Bundles.{bundle_of}
 use Rattle.bus_semantics.specs.Wanted.{Wanted, to_send, wanted_of}
 use Rattle.bus_semantics.specs.Objects.{object_of, touched}
 use Rattle.queue_objects.specs.Acting.{IsActed}
@@ -14,7 +15,7 @@ send-requires c =
     let a = c.args.who.now in
     let ws = words_of c.in-Send.value in
     let w : wanted_of c.args.wish.now ≡ to_send c.in-Send.elem ws = ap wanted_of c.in-Send.is in
-    let there : group_of p c.in-Send.elem ≡ Some (touched p a (wanted_of c.args.wish.now)) = sym (ap (object_of p a) w) ∙ c.requires.touching in
+    let there : bundle_of p c.in-Send.elem ≡ Some (touched p a (wanted_of c.args.wish.now)) = sym (ap (object_of p a) w) ∙ c.requires.touching in
     sent_words p a (touched p a (wanted_of c.args.wish.now)) c.in-Send.elem ws c.args.self.now.kept (subst (λ (z : Wanted). wish_fits p a z ≡ true) w c.requires.fits) there c.requires.planned
 
 pub returns-in-Send : goal.returns-in-Send

@@ -32,7 +32,7 @@ pub overflow_cast-len : goal.overflow_cast-len
 overflow_cast-len c =
     let p = plan_of c.args.p.now in
     let few : length (points_of p c.args.server) ≤ length c.args.p.now.points = few_positions (is_joined_to p c.args.server) (length c.args.p.now.points) in
-    omega (arith, few, c.requires.few, c.len-2.ensures, c.args.points.ok, ap length c.requires.points)
+    omega (arith, few, c.requires.server.few_points, c.len-2.ensures, c.args.points.ok, ap length c.requires.points)
 
 pub invariant_of-result : goal.invariant_of-result
 invariant_of-result c =
