@@ -41,7 +41,6 @@ LEAST_SECONDS, LEAST_MEMORY = 0.1, 32
 CUT_SECONDS, CUT_MEMORY = 30, 2048  # what no run gets: it ends by a signal, or out of memory
 
 KNOWN = {
-    "programs": "each instance has a copy of its component's programs",
     "lists": "each list of a JSON text takes memory of its own",
     "objects": "each object of a JSON text takes memory of its own",
 }
