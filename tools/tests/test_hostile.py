@@ -63,7 +63,7 @@ class Hostile(WithFolder):
         self.assertIn("TOO MUCH", lines[-2])
 
     def test_what_is_known_is_said(self) -> None:
-        status, lines = tried("--program", self.slow(), "--mebibytes", "0.0625", "programs")
+        status, lines = tried("--program", self.slow(), "--mebibytes", "0.0625", "objects")
         self.assertEqual(status, 0)
         self.assertIn("  known to take too much with 8 MiB: ", lines[1])
 
