@@ -9,9 +9,9 @@ use Rattle.script_reading.specs.declared.forms.Form.{Form}
 use Rattle.script_reading.specs.declared.forms.Form.TheVariants.{Write, Send, Read, Receive, Ask, TakeResult, Switch, SeeMode}
 use Rattle.script_reading.specs.Offers.{first_from, goes_by, how_many, offered}
 use Rattle.script_reading.specs.Index.{IsNoted}
-use Rattle.script_reading.specs.Numbers.{HasFewNumbers}
+use Rattle.script_reading.specs.Numbers.{IsNumbered}
 
-pub few_numbered : (f : Form) (p : Plan) → HasFewNumbers p → how_many f p < 2 ^ 32
+pub few_numbered : (f : Form) (p : Plan) → IsNumbered p → how_many f p < 2 ^ 32
 few_numbered Write p few = few.elements
 few_numbered Send p few = few.elements
 few_numbered Read p few = few.elements

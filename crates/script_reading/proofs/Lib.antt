@@ -5,6 +5,7 @@ pub mod Carrying
 pub mod Causes
 pub mod Indexed
 pub mod Naming
+pub mod Numbered
 pub mod Phrasing
 pub mod Scripts
 pub mod Steps

@@ -4,7 +4,7 @@ ghost use Rattle.std.specs.Prelude.{◌≡◌, IfOk, OnOk, option_copied, true};
 ghost use Rattle.std.specs.List.{list_all};
 ghost use Rattle.bus_semantics.specs.Plan.{plan_of};
 ghost use Rattle.script_reading.specs.Index.{IsIndex, IsNoted, has_few_modes};
-ghost use Rattle.script_reading.specs.Numbers.{HasFewNumbers};
+ghost use Rattle.script_reading.specs.Numbers.{IsNumbered};
 ghost use Rattle.script_reading.specs.Offers.{mode_in, mode_of, number_of};
 ghost use Rattle.script_reading.specs.declared.forms.Form.TheVariants.{Ask, Read, Receive, SeeMode, Send, Switch, Write};
 
@@ -64,7 +64,7 @@ fn index_of<'p>(
     plan: &'p BusPlan,
     form: Form,
 ) -> Result<IndexMap<&'p [u8], u32>, Memory>
-    requires { HasFewNumbers (plan_of plan.now) }
+    requires { IsNumbered (plan_of plan.now) }
     ensures { IfOk result (λ index. IsIndex form (plan_of plan.now) index) }
 {
     let mut places = IndexMap::new(alloc);
@@ -91,7 +91,7 @@ fn mode_in(machine: &MachinePlan, name: &[u8]) -> Option<u32>
 
 impl<'p> Elements<'p> {
     fn of(alloc: Global, plan: &'p BusPlan) -> Result<Elements<'p>, Memory>
-        requires { HasFewNumbers (plan_of plan.now) }
+        requires { IsNumbered (plan_of plan.now) }
         ensures { IfOk result (λ elements. elements.plan.now ≡ plan.now) }
     {
         let written = index_of(alloc, plan, Form::Write)?;
@@ -111,7 +111,7 @@ impl<'p> Elements<'p> {
 impl<'p> Environment<'p> {
     /// What the environment of the plan has.
     pub fn of(alloc: Global, plan: &'p BusPlan) -> Result<Environment<'p>, Memory>
-        requires { HasFewNumbers (plan_of plan.now) }
+        requires { IsNumbered (plan_of plan.now) }
         ensures { IfOk result (λ environment. environment.plan.now ≡ plan.now) }
     {
         let elements = Elements::of(alloc, plan)?;

@@ -1,7 +1,9 @@
 //! Reading a script.
 
 ghost use Rattle.std.specs.Prelude.{◌≡◌, ℕ, List, [], ◌++◌, IfSome, Some, map, OnOk};
+ghost use Rattle.bus_semantics.specs.declared.script.Mapping.{Mapping};
 ghost use Rattle.bus_semantics.specs.Plan.{plan_of};
+ghost use Rattle.bus_semantics.specs.Sound.{IsSound};
 ghost use Rattle.script_reading.specs.Numbers.{HasFewNumbers};
 ghost use Rattle.script_reading.specs.Meaning.{asked_of};
 ghost use Rattle.script_reading.specs.Pieces.{saying_of};
@@ -32,9 +34,10 @@ pub enum ScriptRead {
 
 /// Reads a script over a plan. Empty lines and lines that begin with `#` give no `Line`; all others give one each, in
 /// order: `tick N`, `run`, `write P.E V`, `send P.E V`, `read P.E`, `receive P.E`, `ask P.O V`, `result P.O`,
-/// `switch P.O MODE` and `mode P.O`. 32 bits number what the plan has.
+/// `switch P.O MODE` and `mode P.O`. The plan is sound with some mapping, and 32 bits number its elements and mode elements.
 pub fn read_script(alloc: Global, p: &BusPlan, bytes: &[u8]) -> ScriptRead
-    requires { HasFewNumbers (plan_of p.now) }
+    requires sound { (m : Mapping) × IsSound (plan_of p.now) m }
+    requires few { HasFewNumbers (plan_of p.now) }
     ensures read { IfRead result (λ lines. IsScript (plan_of p.now) bytes.now lines) }
     ensures bad_line { IfBadLine result (λ line cause. first_bad (plan_of p.now) [] (lines_of bytes.now) ≡ Some (line, cause)) }
 {

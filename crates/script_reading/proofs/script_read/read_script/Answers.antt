@@ -2,7 +2,11 @@ use Rattle.std.proofs.Common.{◌≡◌, [], Some, subst}
 use Rattle.bus_semantics.specs.Plan.{plan_of}
 use Rattle.script_reading.specs.Reading.{IfBadLine, first_bad}
 use Rattle.line_fields.specs.Texts.{lines_of}
+use Rattle.script_reading.proofs.Numbered.{numbered}
 use Rattle.script_reading.proofs.script_read.read_script.Goals as goal
+
+pub of-requires : goal.of-requires
+of-requires c = numbered (plan_of c.args.p.now) c.requires.sound.0 c.requires.sound.1 c.requires.few
 
 pub returns-in-Ok-clause-bad_line : goal.returns-in-Ok-clause-bad_line
 returns-in-Ok-clause-bad_line c =
