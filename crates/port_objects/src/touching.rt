@@ -24,7 +24,6 @@ pub fn touched_object(p: &BusPlan, entry: &Entry, event: Option<u32>) -> Option<
         | Deed::Send { elem, .. }
         | Deed::Receive { elem, .. }
         | Deed::Publish { elem, .. } => p.bundle_of(*elem),
-        Deed::FetchAll { list, .. } | Deed::PublishAll { list, .. } => p.bundle_of_list(*list),
         _ => touched_by_wish(p, entry, event),
     }
 }
@@ -39,6 +38,7 @@ pub fn machine_of(p: &BusPlan, object: u32) -> Option<usize>
 }
 
 /// The object that an entry touches, found by a wish. (Apart from the rest, since room for a wish is taken at each call.)
+#[inline(never)]
 fn touched_by_wish(p: &BusPlan, entry: &Entry, event: Option<u32>) -> Option<u32>
     requires within { IfSome (touched_by (plan_of p.now) (record { entry = entry.now; event = event })) (IsObject (plan_of p.now)) }
     ensures { result ≡ touched_by (plan_of p.now) (record { entry = entry.now; event = event }) }
