@@ -1,6 +1,6 @@
 -- Coherent lists and bundles of a sound plan. For now such a plan has no list (`none_listed`): no deed or wish of a list fits, each
 -- implicit access is fetched or published by itself, and each group is a bundle by itself.
-use Rattle.std.proofs.Common.{◌≡◌, ◌<◌, ◌≤◌, ℕ, zero, suc, ◌+◌, ℤ, Bool, true, false, ◌&&◌, not, ◌==◌, if◌then◌else◌, refl, sym, ◌∙◌, ap, subst, arith, inl, inr, List, [], ◌∷◌, ◌++◌, map, length, length-append, Option, Some, None}
+use Rattle.std.proofs.Common.{◌≡◌, ◌<◌, ◌≤◌, ℕ, zero, suc, ℤ, Bool, true, false, ◌&&◌, not, ◌==◌, if◌then◌else◌, refl, sym, ◌∙◌, ap, subst, arith, inl, inr, List, [], ◌∷◌, ◌++◌, map, length, length-append, Option, Some, None}
 use mathlib.Core.Logic.{◌⊎◌, dite}
 use native.Mathlib.Decide.{ℕ_discrete}
 use Rattle.std.specs.Prelude.{filter, flat_map, option_and_then, option_to_list, nat_lt, nat_le}
@@ -251,7 +251,7 @@ module _ (test : ℕ → Bool) (g : ℕ) where
       ∙ ap (λ b. filter test (positions n) ++ (if b then n ∷ [] else [])) last
       ∙ ap (λ (ys : List ℕ). ys ++ []) (none_passes n (λ x less. only x (omega arith)) (omega arith))
 
-  one_passes : (n : ℕ) → ((x : ℕ) → x < n → test x ≡ (x == g)) → g < n → filter test (positions n) ≡ g ∷ []
+  pub one_passes : (n : ℕ) → ((x : ℕ) → x < n → test x ≡ (x == g)) → g < n → filter test (positions n) ≡ g ∷ []
   one_passes zero only below = absurd (omega arith)
   one_passes (suc n) only below = filter-append test (positions n) (n ∷ []) ∙ dite (ℕ_discrete n g)
       (λ (e : n ≡ g).
@@ -317,7 +317,7 @@ rising_firsts ((z ∷ zs) ∷ bs) rises (suc i) zero x y xs ys before here there
 rising_firsts ((z ∷ zs) ∷ bs) rises (suc i) (suc j) x y xs ys before here there =
     rising_firsts bs (and_parts (list_all (λ m. nat_le z m) (firsts bs)) (is_rising (firsts bs)) rises).1 i j x y xs ys (omega arith) here there
 
-all_at : (test : ℕ → Bool) (xs : List ℕ) → list_all test xs ≡ true → (i x : ℕ) → slice_get xs i ≡ Some x → test x ≡ true
+pub all_at : (test : ℕ → Bool) (xs : List ℕ) → list_all test xs ≡ true → (i x : ℕ) → slice_get xs i ≡ Some x → test x ≡ true
 all_at test [] all i x at = absurd (cc at)
 all_at test (y ∷ xs) all zero x at = let same : y ≡ x = same_Some y x at in subst (λ k. test k ≡ true) same (and_parts (test y) (list_all test xs) all).0
 all_at test (y ∷ xs) all (suc i) x at = all_at test xs (and_parts (test y) (list_all test xs) all).1 i x at
@@ -357,14 +357,14 @@ module _ (p : Plan) (fit : bundles_fit p ≡ true) where
   homes_within : within ≡ true
   homes_within = (and_parts within (listed && (rises && led)) after_counted).0
 
-  bundle_lists : (b : ℕ) (gs : List ℕ) → slice_get p.bundles b ≡ Some gs → lists_groups b gs ≡ true
+  pub bundle_lists : (b : ℕ) (gs : List ℕ) → slice_get p.bundles b ≡ Some gs → lists_groups b gs ≡ true
   bundle_lists b gs at = every_at lists_groups 0 p.bundles (and_parts listed (rises && led) (and_parts within (listed && (rises && led)) after_counted).1).0 b b gs (omega arith) at
 
   first_groups : flat_map (first_group p) p.homes ≡ leaders p
   first_groups = same_lists (flat_map (first_group p) p.homes) (leaders p) (and_parts rises led after_listed).1
 
   -- a bundle begins with a group whose home it is
-  begins : (b : ℕ) → b < length p.bundles → (y : ℕ) × Begins p b y
+  pub begins : (b : ℕ) → b < length p.bundles → (y : ℕ) × Begins p b y
   begins b below = let some = some_of p.bundles b below in by_groups some.0 some.1 (and_parts (same_numbers some.0 (groups_at p b)) (nat_lt 0 (length some.0)) (bundle_lists b some.0 some.1)).1
     where
       by_groups : (gs : List ℕ) → slice_get p.bundles b ≡ Some gs → nat_lt 0 (length gs) ≡ true → (y : ℕ) × Begins p b y

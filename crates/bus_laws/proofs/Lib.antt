@@ -4,6 +4,7 @@ pub mod Computing
 pub mod Costs
 pub mod DoneLaws
 pub mod DueLaws
+pub mod ListFacts
 pub mod Local
 pub mod LocalCalls
 pub mod LocalDue
@@ -12,6 +13,7 @@ pub mod LocalMachines
 pub mod LocalPhases
 pub mod LocalReturns
 pub mod LocalServers
+pub mod ObjectLists
 pub mod OneBundle
 pub mod OneEvent
 pub mod QueueLaws

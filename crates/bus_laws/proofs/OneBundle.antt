@@ -14,7 +14,7 @@ use Rattle.runnable_lang.specs.declared.program.AccessSig.{AccessSig}
 use Rattle.bus_semantics.specs.declared.plan.CoherentList.{CoherentList}
 use Rattle.bus_semantics.specs.declared.plan.ElemPlan.{ElemPlan}
 use Rattle.bus_semantics.specs.declared.script.Mapping.{Mapping}
-use Rattle.bus_semantics.specs.Plan.{Plan, Runnable, every_from, positions, group_of}
+use Rattle.bus_semantics.specs.Plan.{Plan, Runnable, look, every_from, positions, group_of}
 use Rattle.bus_semantics.specs.State.{same_kind}
 use Rattle.bus_semantics.specs.Lists.{elems_of, words_of_all}
 use Rattle.bus_semantics.specs.Bundles.{home_of, bundle_of, bundle_of_list, least, together, leaders_on}
@@ -32,7 +32,7 @@ use Rattle.bus_laws.proofs.Bundling.{some_of, same_lists, position_at, positions
 abbrev pub has : List ℕ → ℕ → Bool
 has xs x = list_any (λ y. y == x) xs
 
-has_at : (xs : List ℕ) (i x : ℕ) → slice_get xs i ≡ Some x → has xs x ≡ true
+pub has_at : (xs : List ℕ) (i x : ℕ) → slice_get xs i ≡ Some x → has xs x ≡ true
 has_at [] i x at = absurd (cc at)
 has_at (y ∷ ys) zero x at = or_left (y == x) (has ys x) (eq-eqb y x (same_Some y x at))
 has_at (y ∷ ys) (suc i) x at = or_right (y == x) (has ys x) (has_at ys i x at)
@@ -46,7 +46,7 @@ has_map f x (y ∷ ys) h = by_first (y == x) refl h (has_map f x ys)
     by_first false other h rest = or_right (f y == f x) (has (map f ys) (f x)) (rest h)
 
 -- what holds of all of them
-all_has : (f : ℕ → Bool) (x : ℕ) (xs : List ℕ) → list_all f xs ≡ true → has xs x ≡ true → f x ≡ true
+pub all_has : (f : ℕ → Bool) (x : ℕ) (xs : List ℕ) → list_all f xs ≡ true → has xs x ≡ true → f x ≡ true
 all_has f x [] all h = absurd (false≢true h)
 all_has f x (y ∷ ys) all h = let parts = and_parts (f y) (list_all f ys) all in by_first (y == x) refl parts.0 h (all_has f x ys parts.1)
   where
@@ -54,12 +54,12 @@ all_has f x (y ∷ ys) all h = let parts = and_parts (f y) (list_all f ys) all i
     by_first true same here h rest = subst (λ z. f z ≡ true) (eqb-true y x same) here
     by_first false other here h rest = rest h
 
-has_append : (x : ℕ) (xs ys : List ℕ) → has ys x ≡ true → has (xs ++ ys) x ≡ true
+pub has_append : (x : ℕ) (xs ys : List ℕ) → has ys x ≡ true → has (xs ++ ys) x ≡ true
 has_append x [] ys h = h
 has_append x (z ∷ zs) ys h = or_right (z == x) (has (zs ++ ys) x) (has_append x zs ys h)
 
 -- the group of an element is among those of the elements
-has_group : (p : Plan) (x g : ℕ) (xs : List ℕ) → has xs x ≡ true → group_of p x ≡ Some g → has (flat_map (λ y. option_to_list (group_of p y)) xs) g ≡ true
+pub has_group : (p : Plan) (x g : ℕ) (xs : List ℕ) → has xs x ≡ true → group_of p x ≡ Some g → has (flat_map (λ y. option_to_list (group_of p y)) xs) g ≡ true
 has_group p x g [] h is = absurd (false≢true h)
 has_group p x g (y ∷ ys) h is = by_first (y == x) refl h (λ later. has_group p x g ys later is)
   where
@@ -82,7 +82,7 @@ least_each n m (k ∷ ks) h = by_first (k == m) refl h (least_each n m ks)
     by_first true same h rest = let equal : k ≡ m = eqb-true k m same in omega (arith, min-le_left k (least n ks), equal)
     by_first false other h rest = omega (arith, min-le_right k (least n ks), rest h)
 
-least_is : (n : ℕ) (ms : List ℕ) → (least n ms ≡ n) ⊎ (has ms (least n ms) ≡ true)
+pub least_is : (n : ℕ) (ms : List ℕ) → (least n ms ≡ n) ⊎ (has ms (least n ms) ≡ true)
 least_is n [] = inl refl
 least_is n (k ∷ ks) = by_order (cases_lt k (least n ks)) (least_is n ks)
   where
@@ -104,10 +104,10 @@ least_same n k ms one two = omega (arith, least_low n k ms two, least_low k n ms
 
 -- ---- labels: a list gives its groups one label, and what comes later keeps them alike
 
-abbrev theirs : List ℕ → List ℕ → List ℕ
+abbrev pub theirs : List ℕ → List ℕ → List ℕ
 theirs gs labels = map (λ g. get_or labels g g) gs
 
-abbrev relabel : List ℕ → List ℕ → ℕ → ℕ
+abbrev pub relabel : List ℕ → List ℕ → ℕ → ℕ
 relabel gs labels l = if list_any (λ t. t == l) (theirs gs labels) then least l (theirs gs labels) else l
 
 label_at : (gs labels : List ℕ) (g : ℕ) → has gs g ≡ true → g < length labels → slice_get (together gs labels) g ≡ Some (least (get_or labels g g) (theirs gs labels))
@@ -139,7 +139,7 @@ leaders_same (hs ∷ lists) labels (suc k) gs g h at one two low high =
     let long : length (together hs labels) ≡ length labels = length-map labels (relabel hs labels) in
     leaders_same lists (together hs labels) k gs g h at one two (omega (arith, long)) (omega (arith, long))
 
-leaders_counted : (lists : List (List ℕ)) (labels : List ℕ) → length (leaders_on labels lists) ≡ length labels
+pub leaders_counted : (lists : List (List ℕ)) (labels : List ℕ) → length (leaders_on labels lists) ≡ length labels
 leaders_counted [] labels = refl
 leaders_counted (gs ∷ lists) labels = leaders_counted lists (together gs labels) ∙ length-map labels (relabel gs labels)
 
@@ -163,19 +163,21 @@ module _ (p : Plan) (fit : bundles_fit p ≡ true) where
 
 -- ---- the elements of a list are elements of the plan
 
-known : (p : Plan) (test : ElemPlan → Bool) (x : ℕ) → option_map_or test (slice_get p.elements x) false ≡ true → is_some (group_of p x) ≡ true
-known p test x e = let at = found_where p.elements x test e in ap (λ (o : Option ElemPlan). is_some (option_map_or (λ (v : ElemPlan). Some v.group) o None)) at.found
+known : (p : Plan) (test : ElemPlan → Bool) (x : ℕ) → ((e : ElemPlan) → test e ≡ true → is_unqueued e ≡ true) → option_map_or test (slice_get p.elements x) false ≡ true → look p.elements x is_unqueued false ≡ true
+known p test x plain e = let at = found_where p.elements x test e in ap (λ (o : Option ElemPlan). option_map_or is_unqueued o false) at.found ∙ plain at.item at.holds
 
-access_known : (p : Plan) (i : ℕ) (home : Option ℕ) (reads : Bool) (a : AccessSig) (k : AccessKind) (x : ℕ) → same_kind k (list_kind reads) ≡ true → access_sound p i home (record a { kind = k }) x ≡ true → is_some (group_of p x) ≡ true
+access_known : (p : Plan) (i : ℕ) (home : Option ℕ) (reads : Bool) (a : AccessSig) (k : AccessKind) (x : ℕ) → same_kind k (list_kind reads) ≡ true → access_sound p i home (record a { kind = k }) x ≡ true → look p.elements x is_unqueued false ≡ true
 access_known p i home true a kind.IRead x same ok =
-    known p (λ (e : ElemPlan). same_number e.instance home && (is_unqueued e && not e.provided)) x (and_parts (elem_fits p home (λ e. is_unqueued e && not e.provided) x) (takes_words p x a.outs) ok).0
+    known p (λ (e : ElemPlan). same_number e.instance home && (is_unqueued e && not e.provided)) x
+    (λ e is. (and_parts (is_unqueued e) (not e.provided) (and_parts (same_number e.instance home) (is_unqueued e && not e.provided) is).1).0) (and_parts (elem_fits p home (λ e. is_unqueued e && not e.provided) x) (takes_words p x a.outs) ok).0
 access_known p i home false a kind.IWrite x same ok =
-    known p (λ (e : ElemPlan). same_number e.instance home && (is_unqueued e && e.provided)) x (and_parts (elem_fits p home (λ e. is_unqueued e && e.provided) x) (takes_words p x a.ins) ok).0
+    known p (λ (e : ElemPlan). same_number e.instance home && (is_unqueued e && e.provided)) x
+    (λ e is. (and_parts (is_unqueued e) e.provided (and_parts (same_number e.instance home) (is_unqueued e && e.provided) is).1).0) (and_parts (elem_fits p home (λ e. is_unqueued e && e.provided) x) (takes_words p x a.ins) ok).0
 access_known p i home true a k x same ok = absurd (false≢true same)
 access_known p i home false a k x same ok = absurd (false≢true same)
 
 accessed_known : (p : Plan) (i : ℕ) (home : Option ℕ) (reads : Bool) (x : ℕ) (sigs : List AccessSig) (xs : List ℕ) → each_access (access_sound p i home) sigs xs ≡ true → accesses_elem (list_kind reads) x sigs xs ≡ true
-    → is_some (group_of p x) ≡ true
+    → look p.elements x is_unqueued false ≡ true
 accessed_known p i home reads x [] [] ok is = absurd (false≢true is)
 accessed_known p i home reads x [] (t ∷ ts) ok is = absurd (false≢true is)
 accessed_known p i home reads x (a ∷ sigs) [] ok is = absurd (false≢true is)
@@ -183,9 +185,9 @@ accessed_known p i home reads x (a ∷ sigs) (t ∷ ts) ok is =
     let parts = and_parts (access_sound p i home a t) (each_access (access_sound p i home) sigs ts) ok in
     by_first parts.0 (accessed_known p i home reads x sigs ts parts.1) (same_kind a.kind (list_kind reads)) (t == x) refl refl is
   where
-    by_first : access_sound p i home a t ≡ true → (accesses_elem (list_kind reads) x sigs ts ≡ true → is_some (group_of p x) ≡ true)
-        → (b c : Bool) → same_kind a.kind (list_kind reads) ≡ b → (t == x) ≡ c → ((b && c) || accesses_elem (list_kind reads) x sigs ts) ≡ true → is_some (group_of p x) ≡ true
-    by_first one rest true true kinds same is = subst (λ y. is_some (group_of p y) ≡ true) (eqb-true t x same) (access_known p i home reads a a.kind t kinds one)
+    by_first : access_sound p i home a t ≡ true → (accesses_elem (list_kind reads) x sigs ts ≡ true → look p.elements x is_unqueued false ≡ true)
+        → (b c : Bool) → same_kind a.kind (list_kind reads) ≡ b → (t == x) ≡ c → ((b && c) || accesses_elem (list_kind reads) x sigs ts) ≡ true → look p.elements x is_unqueued false ≡ true
+    by_first one rest true true kinds same is = subst (λ y. look p.elements y is_unqueued false ≡ true) (eqb-true t x same) (access_known p i home reads a a.kind t kinds one)
     by_first one rest true false kinds same is = rest is
     by_first one rest false c kinds same is = rest is
 
@@ -230,9 +232,9 @@ module _ (p : Plan) (m : Mapping) (sound : IsSound p m) where
       let own : own_lists o.place o.runnable ≡ true = every_at own_lists 0 p.runnables lists_numbered.1 o.place o.place o.runnable (omega arith) o.there in
       all_has (list_sound p o.place o.runnable) l o.runnable.lists (and_parts (list_all (list_sound p o.place o.runnable) o.runnable.lists) (is_distinct (flat_map (elems_of p) o.runnable.lists)) own).0 o.owns
 
-  -- an element of a list is one of the plan
-  listed_known : (l x : ℕ) (c : CoherentList) → slice_get p.lists l ≡ Some c → has c.elems x ≡ true → is_some (group_of p x) ≡ true
-  listed_known l x c at there =
+  -- an element of a list is one of the plan, and unqueued
+  pub listed_plain : (l x : ℕ) (c : CoherentList) → slice_get p.lists l ≡ Some c → has c.elems x ≡ true → look p.elements x is_unqueued false ≡ true
+  listed_plain l x c at there =
       let o = list_owner l (slice_get_within p.lists l c at) in
       let r = o.runnable in
       let reached : CoherentList → Bool = λ d. list_all (λ y. accesses_elem (list_kind d.reads) y r.accesses r.targets) d.elems in
@@ -245,6 +247,11 @@ module _ (p : Plan) (m : Mapping) (sound : IsSound p m) where
       let whole : runnable_sound p o.place r ≡ true = every_at (runnable_sound p) 0 p.runnables sound.runnables o.place o.place r (omega arith) o.there in
       accessed_known p o.place (Some r.instance) c.reads x r.accesses r.targets (and_parts (each_access (access_sound p o.place (Some r.instance)) r.accesses r.targets) _ whole).0
       (all_has (λ y. accesses_elem (list_kind c.reads) y r.accesses r.targets) x c.elems all there)
+
+  listed_known : (l x : ℕ) (c : CoherentList) → slice_get p.lists l ≡ Some c → has c.elems x ≡ true → is_some (group_of p x) ≡ true
+  listed_known l x c at there =
+      let found = found_where p.elements x is_unqueued (listed_plain l x c at there) in
+      ap (λ (o : Option ElemPlan). is_some (option_map_or (λ (v : ElemPlan). Some v.group) o None)) found.found
 
   -- where an element is
   record Housed (x : ℕ) : Type 0 where

@@ -1,12 +1,21 @@
 -- The values that a queue accepted are those of the sends that found room.
-use Rattle.std.proofs.Common.{◌≡◌, ◌↔◌, ◌<◌, ◌≤◌, ◌⊎◌, inl, inr, ℕ, zero, suc, ◌+◌, ℤ, List, [], ◌∷◌, ◌++◌, length, Bool, true, false, if◌then◌else◌, Option, Some, None, refl, sym, ◌∙◌, ap, subst, arith}
+use Rattle.std.proofs.Common.{◌≡◌, ◌↔◌, ◌<◌, ◌≤◌, ◌⊎◌, inl, inr, ℕ, zero, suc, ◌+◌, ℤ, List, [], ◌∷◌, ◌++◌, length, Bool, true, false, ◌||◌, ◌==◌, if◌then◌else◌, Option, Some, None, refl, sym, ◌∙◌, ap, subst, arith}
 use Rattle.std.specs.List.{slice_get}
+use Rattle.std.specs.Option.{option_map_or}
+use Rattle.std.proofs.lemmas.Bool.{and_parts, eqb-true, false≢true}
 use Rattle.std.proofs.lemmas.Bool.Decides.{nat_tests}
 use Rattle.std.proofs.lemmas.Option.{same_Some}
 use Rattle.std.proofs.lemmas.List.{length-append}
+use Rattle.rte_value.specs.declared.value.Value.{Value}
+use Rattle.rte_value.specs.Values.{words_of}
+use Rattle.rte_value.specs.EqualValues.{same_words-Decides}
+use Rattle.bus_semantics.specs.declared.plan.ElemPlan.{ElemPlan}
+use Rattle.bus_semantics.specs.declared.entries.Deed.{Deed}
+use Rattle.bus_semantics.specs.declared.entries.Deed.TheVariants as deed
 use Rattle.bus_semantics.specs.Plan.{Plan}
 use Rattle.bus_semantics.specs.History.{Noted, Past}
-use Rattle.bus_semantics.specs.Queued.{sent_to, takes_at, taken_at, with_sent, is_room, places_at, accepted_at, has_room_at}
+use Rattle.bus_semantics.specs.Queued.{sent_in, sent_to, takes_at, taken_at, with_sent, is_room, places_at, accepted_at, has_room_at, has_lost, received_at}
+use Rattle.bus_semantics.specs.Legal.{is_outcome}
 use Rattle.bus_laws.specs.Happened.{IsAccepted}
 
 -- ---- a list with one more at its end
@@ -125,3 +134,42 @@ module _ (p : Plan) (x : ℕ) where
       let now = grown (sent_to p x n.entry.deed) (has_room_at p x h) (accepted_at p x h) (taken_at x h) (places_at p x) refl (bounded h) in
       let more = taken_grows n h in
       omega arith
+
+-- ---- what a Receive sends is nothing
+
+pub receive_sends_none : (p : Plan) (x y code : ℕ) (value : Value) → sent_to p x (deed.Receive y code value) ≡ None
+receive_sends_none p x y code value = by_elem (slice_get p.elements x)
+  where
+    by_elem : (o : Option ElemPlan) → option_map_or (λ (e : ElemPlan). sent_in p e.group (deed.Receive y code value)) o None ≡ None
+    by_elem None = refl
+    by_elem (Some e) = refl
+
+-- ---- a Receive that takes a value takes the oldest that is left
+
+module _ (p : Plan) (x : ℕ) (l : Past) (code : ℕ) (ws : List ℤ) where
+  not_taking : {X : Type 0} (other : ℕ) → ((other == 0) || (other == 64)) ≡ false → ((code == 0) || (code == 64)) ≡ true → (code == other) ≡ true → X
+  not_taking other neither takes same = absurd (false≢true (sym neither ∙ ap (λ c. (c == 0) || (c == 64)) (sym (eqb-true code other same)) ∙ takes))
+
+  pub takes_oldest : ((code == 0) || (code == 64)) ≡ true → is_outcome code ws (received_at p x l) ≡ true → slice_get (accepted_at p x l) (taken_at x l) ≡ Some ws
+  takes_oldest takes outcome = by_elem (slice_get p.elements x) refl
+    where
+      by_elem : (o : Option ElemPlan) → slice_get p.elements x ≡ o → slice_get (accepted_at p x l) (taken_at x l) ≡ Some ws
+      by_elem None there =
+          let e = rw there at outcome in
+          not_taking 134 refl takes (and_parts (code == 134) _ e).0
+      by_elem (Some v) there = by_join v.joined refl
+        where
+          by_join : (b : Bool) → v.joined ≡ b → slice_get (accepted_at p x l) (taken_at x l) ≡ Some ws
+          by_join false joined =
+              let e = rw (there, joined) at outcome in
+              not_taking 134 refl takes (and_parts (code == 134) _ e).0
+          by_join true joined = by_left (slice_get (accepted_at p x l) (taken_at x l)) refl
+            where
+              by_left : (o : Option (List ℤ)) → slice_get (accepted_at p x l) (taken_at x l) ≡ o → o ≡ Some ws
+              by_left None left =
+                  let e = rw (there, joined, left) at outcome in
+                  not_taking 131 refl takes (and_parts (code == 131) _ e).0
+              by_left (Some vs) left =
+                  let e = rw (there, joined, left) at outcome in
+                  let same : ws ≡ vs = (same_words-Decides ws vs).0 (and_parts (code == (if has_lost p x l then 64 else 0)) _ e).1 in
+                  ap (λ z. Some z) (sym same)

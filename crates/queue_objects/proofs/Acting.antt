@@ -27,7 +27,7 @@ use Rattle.object_kinds.specs.declared.acted.Acted.{Acted}
 use Rattle.object_kinds.specs.declared.acted.Acted.TheVariants.{Done, NotYet}
 use Rattle.object_kinds.specs.declared.acted.Shown.{Shown}
 use Rattle.object_kinds.specs.Kinds.{IsAnswerOf}
-use Rattle.object_kinds.specs.Layout.{place, members_of}
+use Rattle.object_kinds.specs.Layout.{group_at, place, members_of}
 use Rattle.object_kinds.specs.Flags.{given, is_set, is_pending}
 use Rattle.object_kinds.specs.Rising.{is_rising}
 use Rattle.object_kinds.proofs.Events.{events_all}
@@ -42,7 +42,7 @@ use Rattle.queue_objects.specs.Acting.{is_bare, Leads, Holds, IsActed, IsTaken}
 use Rattle.queue_objects.specs.Kept.{Kept, GroupState, may_start}
 use Rattle.queue_objects.specs.Layout.{is_joined_at, waits_for_receiver, words_at, words_in}
 use Rattle.queue_objects.specs.Leading.{is_received, received_at_place, is_unconnected, started_at, lead_of_queues, with_queues, lead, why_held}
-use Rattle.queue_objects.specs.Plans.{IsOfPlan}
+use Rattle.queue_objects.specs.Plans.{IsGroupOfPlan, IsOfPlan}
 use Rattle.queue_objects.proofs.Keeping.{Waiting, waiting_for}
 use Rattle.queue_objects.proofs.Silent.{said_by}
 use Rattle.queue_objects.proofs.Starting.{starts_by, not_pending}
@@ -120,25 +120,26 @@ module _ (p : Plan) (a : Actor) (x : ℕ) (receivers events woken : List ℕ) (k
   }
 
 -- the words of a send that fits are as many as a value of the group has
-pub sent_words : (p : Plan) (a : Actor) (g x : ℕ) (ws : List ℤ) (k : Kept) → wish_fits p a (to_send x ws) ≡ true → bundle_of p x ≡ Some g → IsOfPlan p g k → length ws ≡ k.queued.words
-sent_words p a g x ws k fit there planned =
+pub sent_words : (p : Plan) (a : Actor) (object x : ℕ) (ws : List ℤ) (k : Kept) → wish_fits p a (to_send x ws) ≡ true → bundle_of p x ≡ Some object → IsOfPlan p object k → length ws ≡ k.queued.words
+sent_words p a object x ws k fit there planned =
+    let g = group_at p object in
     let held : (e : ElemPlan) → ((is_queued e && e.provided) && holds ws e) ≡ true → holds ws e ≡ true = λ e is. (and_parts (is_queued e && e.provided) (holds ws e) is).1 in
     let holding : look p.elements x (holds ws) false ≡ true =
     by_actor p a (to_send x ws) fit
     (λ fits. said_by p _ (λ e. (is_queued e && e.provided) && holds ws e) (holds ws) x held fits)
     (λ key fits. said_by p _ (λ e. (is_queued e && e.provided) && holds ws e) (holds ws) x held fits)
     (λ n less fits. absurd (false≢true fits)) in
-    let inside : is_in_group p g x ≡ true = bundled_inside p g x planned.is_group.alone there in
+    let inside : is_in_group p g x ≡ true = bundled_inside p object x planned.alone there in
     let m = member_of p g x inside in
     let at = member_placed p g x inside in
     let long : length ws ≡ m.elem.words = eqb-true (length ws) m.elem.words (sym (ap (λ o. option_map_or (holds ws) o false) m.found) ∙ holding) in
     let alike : words_at p x ≡ words_in p g =
-    eqb-true (words_at p x) (words_in p g) (all_at (λ y. words_at p y == words_in p g) (members_of p g) at.at x planned.is_group.alike (place_at x (members_of p g) at.at at.is)) in
-    long ∙ sym (ap (λ o. option_map_or (λ (e : ElemPlan). e.words) o 0) m.found) ∙ alike ∙ sym planned.words
+    eqb-true (words_at p x) (words_in p g) (all_at (λ y. words_at p y == words_in p g) (members_of p g) at.at x planned.group.is_group.alike (place_at x (members_of p g) at.at at.is)) in
+    long ∙ sym (ap (λ o. option_map_or (λ (e : ElemPlan). e.words) o 0) m.found) ∙ alike ∙ sym planned.group.words
 
 -- ---- the whole
 
-answers_fit : (p : Plan) (g : ℕ) (a : Actor) (k : Kept) (after : ports.Kept) (d : Deed) → IsOfPlan p g k → lead_of_queues p k.receivers k.events k.queued d ≡ Some after → is_bare d ≡ true → answer_fits p a d ≡ true
+answers_fit : (p : Plan) (g : ℕ) (a : Actor) (k : Kept) (after : ports.Kept) (d : Deed) → IsGroupOfPlan p g k → lead_of_queues p k.receivers k.events k.queued d ≡ Some after → is_bare d ≡ true → answer_fits p a d ≡ true
 answers_fit p g a k after (deed.Start e point value) planned leads bare = by_kind (kind_of p e) point w.kind bare
   where
     w : Waiting p g (kind_of p e)
@@ -156,7 +157,7 @@ answers_fit p g a k after (deed.Receive x code value) planned leads bare = refl
 answers_fit p g a k after d planned leads bare = absurd (cc leads)
 
 module _ (p : Plan) (g : ℕ) (a : Actor) (w : Wanted) (old new : GroupState) where
-  pub acted_answers : (r : Acted) → IsOfPlan p g old.kept → IsActed p a w old new r → IsAnswerOf p (lead p) may_start why_held a w old.kept new.kept r
+  pub acted_answers : (r : Acted) → IsGroupOfPlan p g old.kept → IsActed p a w old new r → IsAnswerOf p (lead p) may_start why_held a w old.kept new.kept r
   acted_answers (Done e) planned made = record {
     actor = made.actor;
     wish = made.wish (unwrap_or (event_of w) 0);
@@ -172,9 +173,9 @@ module _ (p : Plan) (g : ℕ) (a : Actor) (w : Wanted) (old new : GroupState) wh
     },
   )
 
-  pub acted_planned : (r : Acted) → IsOfPlan p g old.kept → IsActed p a w old new r → IsOfPlan p g new.kept
+  pub acted_planned : (r : Acted) → IsGroupOfPlan p g old.kept → IsActed p a w old new r → IsGroupOfPlan p g new.kept
   acted_planned (Done e) planned made = stays_planned p g old.kept new.kept e.deed planned made.leads made.kept
-  acted_planned (NotYet shown) planned held = subst (λ (s : GroupState). IsOfPlan p g s.kept) (sym held.same) planned
+  acted_planned (NotYet shown) planned held = subst (λ (s : GroupState). IsGroupOfPlan p g s.kept) (sym held.same) planned
 
   pub acted_tells : (r : Acted) → IsActed p a w old new r → (event : ℕ) → may_start old.kept event ≡ false → may_start new.kept event ≡ true → Contains new.woken event
   acted_tells (Done e) made event off on = made.told.came event off on

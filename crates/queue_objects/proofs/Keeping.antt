@@ -33,7 +33,7 @@ use Rattle.object_kinds.proofs.Proper.{noting}
 use Rattle.queue_objects.specs.Kept.{Kept}
 use Rattle.queue_objects.specs.Layout.{is_receiver_at, receivers_of, waits_for_receiver, receiver_of}
 use Rattle.queue_objects.specs.Leading.{is_received, with_queues}
-use Rattle.queue_objects.specs.Standing.{contents_of, contents_after, due_after, Keeps}
+use Rattle.queue_objects.specs.Standing.{contents_of, contents_after, due_after, GroupKeeps}
 use Rattle.queue_objects.proofs.Contents.{receiver_at, room_same, sent_is, arrives, unmoved, receives}
 use Rattle.queue_objects.proofs.Lists.{both_mapped}
 use Rattle.queue_objects.proofs.Order.{InOrder, receive_sends_none}
@@ -120,7 +120,7 @@ sends_none p y d none = by_elem (slice_get p.elements y)
 
 -- ---- each entry
 
-module _ (p : Plan) (g : ℕ) (k : Kept) (l : Past) (keeps : Keeps p g k l) where
+module _ (p : Plan) (g : ℕ) (k : Kept) (l : Past) (keeps : GroupKeeps p g k l) where
   pub events_wait : list_all (λ e. waits_for_receiver p g (kind_of p e)) k.events ≡ true
   events_wait = subst (λ es. list_all (λ e. waits_for_receiver p g (kind_of p e)) es ≡ true) (sym keeps.waiting) (events_all p (waits_for_receiver p g))
 
@@ -130,7 +130,7 @@ module _ (p : Plan) (g : ℕ) (k : Kept) (l : Past) (keeps : Keeps p g k l) wher
   pub placed_in : (y : ℕ) → is_receiver_at p g y ≡ true → Placed y k.receivers
   placed_in y is = subst (Placed y) (sym keeps.receiving) (receiver_placed p g y is)
 
-module _ (p : Plan) (g : ℕ) (k : Kept) (l : Past) (keeps : Keeps p g k l) (order : (x : ℕ) → InOrder p x l) where
+module _ (p : Plan) (g : ℕ) (k : Kept) (l : Past) (keeps : GroupKeeps p g k l) (order : (x : ℕ) → InOrder p x l) where
   -- the queue of the receiver that an event waits for takes a value where the definitions give it room
   takes_same : (e : ℕ) (w : Waiting p g (kind_of p e)) → ports.takes k.queued.queues (receiver_of p g e) ≡ has_room_at p w.element l
   takes_same e w =
@@ -141,7 +141,7 @@ module _ (p : Plan) (g : ℕ) (k : Kept) (l : Past) (keeps : Keeps p g k l) (ord
       ∙ ap (λ o. unwrap_or (option_map ports.has_room o) false) at.found
       ∙ room_same p l at.queue w.element (order w.element) at.contents
 
-module _ (p : Plan) (g : ℕ) (k : Kept) (l : Past) (keeps : Keeps p g k l) (order : (x : ℕ) → InOrder p x l) (a : Actor) (event : Option ℕ) where
+module _ (p : Plan) (g : ℕ) (k : Kept) (l : Past) (keeps : GroupKeeps p g k l) (order : (x : ℕ) → InOrder p x l) (a : Actor) (event : Option ℕ) where
   -- an entry that sends nothing and starts nothing
   due_kept : (d : Deed) → ((e : ℕ) → is_start_by e (noting a d event) ≡ false) → ((h : ℕ) → stored_in p h d ≡ None) → ((h : ℕ) → sent_in p h d ≡ None)
       → k.queued.due ≡ map (due_after p (noting a d event ∷ l)) k.events
@@ -149,7 +149,7 @@ module _ (p : Plan) (g : ℕ) (k : Kept) (l : Past) (keeps : Keeps p g k l) (ord
       ∙ map_all (λ e. waits_for_receiver p g (kind_of p e)) (due_after p l) (due_after p (noting a d event ∷ l)) k.events (events_wait p g k l keeps)
       (λ e waits. sym (due_same p g e (noting a d event) l waits (starts_none e) stores (λ y. sends_none p y d sends)))
 
-  pub send_keeps : (x code : ℕ) (value : Value) → is_in_group p g x ≡ true → Keeps p g (with_queues k (ports.after_send value k.queued)) (noting a (deed.Send x value code) event ∷ l)
+  pub send_keeps : (x code : ℕ) (value : Value) → is_in_group p g x ≡ true → GroupKeeps p g (with_queues k (ports.after_send value k.queued)) (noting a (deed.Send x value code) event ∷ l)
   send_keeps x code value inside =
       let n = noting a (deed.Send x value code) event in
       let sends : (y : ℕ) → is_receiver_at p g y ≡ true → sent_to p y (deed.Send x value code) ≡ Some (words_of value) =
@@ -175,7 +175,7 @@ module _ (p : Plan) (g : ℕ) (k : Kept) (l : Past) (keeps : Keeps p g k l) (ord
 
   -- a Receive by the element at this place
   pub receive_keeps : (x r code : ℕ) (value : Value) → place x k.receivers ≡ Some r → is_received code value (ports.answer_to_receive r k.queued) ≡ true
-      → Keeps p g (with_queues k (ports.after_receive r k.queued)) (noting a (deed.Receive x code value) event ∷ l)
+      → GroupKeeps p g (with_queues k (ports.after_receive r k.queued)) (noting a (deed.Receive x code value) event ∷ l)
   receive_keeps x r code value there received =
       let n = noting a (deed.Receive x code value) event in
       let at = queue_at p l k.queued.queues k.receivers x r keeps.queues there in
@@ -198,7 +198,7 @@ module _ (p : Plan) (g : ℕ) (k : Kept) (l : Past) (keeps : Keeps p g k l) (ord
       }
 
   -- a Receive by an element that is no receiver
-  pub no_receive_keeps : (x code : ℕ) (value : Value) → is_receiver_at p g x ≡ false → Keeps p g (with_queues k k.queued) (noting a (deed.Receive x code value) event ∷ l)
+  pub no_receive_keeps : (x code : ℕ) (value : Value) → is_receiver_at p g x ≡ false → GroupKeeps p g (with_queues k k.queued) (noting a (deed.Receive x code value) event ∷ l)
   no_receive_keeps x code value none =
       let n = noting a (deed.Receive x code value) event in record {
         is_group = keeps.is_group;
@@ -216,7 +216,7 @@ module _ (p : Plan) (g : ℕ) (k : Kept) (l : Past) (keeps : Keeps p g k l) (ord
       apart y is true same = absurd (false≢true (sym none ∙ ap (is_receiver_at p g) (sym (eqb-true y x same)) ∙ is))
       apart y is false other = other
 
-  pub start_keeps : (e i : ℕ) (point : Option ℕ) (value : Value) → place e k.events ≡ Some i → Keeps p g (with_queues k (ports.after_start i k.queued)) (noting a (deed.Start e point value) event ∷ l)
+  pub start_keeps : (e i : ℕ) (point : Option ℕ) (value : Value) → place e k.events ≡ Some i → GroupKeeps p g (with_queues k (ports.after_start i k.queued)) (noting a (deed.Start e point value) event ∷ l)
   start_keeps e i point value there =
       let n = noting a (deed.Start e point value) event in
       let none : (y : ℕ) → sent_to p y (deed.Start e point value) ≡ None = λ y. sends_none p y (deed.Start e point value) (λ h. refl) in record {

@@ -25,7 +25,7 @@ use Rattle.bus_semantics.specs.Locality.{is_proper}
 use Rattle.bus_semantics.specs.Pasts.{Follows}
 use Rattle.queued_ports.specs.Kept as ports
 use Rattle.object_kinds.specs.Kinds.{LeadsFollow, LeadsKeep}
-use Rattle.object_kinds.specs.Layout.{place}
+use Rattle.object_kinds.specs.Layout.{group_at, IsAlone, place}
 use Rattle.object_kinds.specs.Flags.{given, is_set}
 use Rattle.object_kinds.proofs.Flags.{flag_set}
 use Rattle.object_kinds.proofs.Lists.{mapped_at, all_at}
@@ -37,7 +37,7 @@ use Rattle.object_kinds.proofs.Touching.{touched_inside}
 use Rattle.queue_objects.specs.Kept.{Kept}
 use Rattle.queue_objects.specs.Layout.{is_receiver_at, is_joined_at, waits_for_receiver}
 use Rattle.queue_objects.specs.Leading.{is_received, received_at_place, is_unconnected, lead_of_queues, with_queues, lead}
-use Rattle.queue_objects.specs.Standing.{Contents, contents_of, contents_after, due_after, Keeps}
+use Rattle.queue_objects.specs.Standing.{Contents, contents_of, contents_after, due_after, GroupKeeps, Keeps}
 use Rattle.queue_objects.proofs.Contents.{receiver_at, room_same}
 use Rattle.queue_objects.proofs.Keeping.{waiting_for, queue_at, due_kind, events_wait, all_receive, send_keeps, receive_keeps, no_receive_keeps, start_keeps}
 use Rattle.queue_objects.proofs.Lists.{both_any, any_picked}
@@ -52,7 +52,7 @@ full_at p g l y = by_elem (slice_get p.elements y)
     by_elem None = refl
     by_elem (Some e) = refl
 
-module _ (p : Plan) (g : ℕ) (k : Kept) (l : Past) (keeps : Keeps p g k l) (order : (x : ℕ) → InOrder p x l) where
+module _ (p : Plan) (g : ℕ) (k : Kept) (l : Past) (keeps : GroupKeeps p g k l) (order : (x : ℕ) → InOrder p x l) where
   full_same : list_any (λ q. not (ports.has_room q)) k.queued.queues ≡ is_full_in p g l
   full_same =
       both_any contents_of (contents_after p l) (is_receiver_at p g) (λ q. not (ports.has_room q)) (λ y. not (has_room_at p y l)) k.queued.queues k.receivers keeps.queues (all_receive p g k l keeps)
@@ -122,16 +122,19 @@ unnamed p a k x (Some q) ws l is fit = let no = rw is at fit in absurd (false≢
 
 -- ---- what the lead gives
 
-pub record Led (p : Plan) (g : ℕ) (after : Kept) (l : Past) (n : Noted) : Type 0 where
-  pub follows : Follows p g l n
-  pub keeps : Keeps p g after (n ∷ l)
+pub record Led (p : Plan) (object : ℕ) (after : Kept) (l : Past) (n : Noted) : Type 0 where
+  pub follows : Follows p object l n
+  pub keeps : GroupKeeps p (group_at p object) after (n ∷ l)
 
-module _ (p : Plan) (g : ℕ) (k : Kept) (after : ports.Kept) (l : Past) (keeps : Keeps p g k l) (order : (x : ℕ) → InOrder p x l) (a : Actor) (event : Option ℕ) where
-  send_led : (x code : ℕ) (value : Value) → touches p g (noting a (deed.Send x value code) event) ≡ true → is_proper p (noting a (deed.Send x value code) event) ≡ true
-      → lead_of_queues p k.receivers k.events k.queued (deed.Send x value code) ≡ Some after → Led p g (with_queues k after) l (noting a (deed.Send x value code) event)
+module _ (p : Plan) (object : ℕ) (alone : IsAlone p object) (k : Kept) (after : ports.Kept) (l : Past) (keeps : GroupKeeps p (group_at p object) k l) (order : (x : ℕ) → InOrder p x l) (a : Actor) (event : Option ℕ) where
+  abbrev g : ℕ
+  g = group_at p object
+
+  send_led : (x code : ℕ) (value : Value) → touches p object (noting a (deed.Send x value code) event) ≡ true → is_proper p (noting a (deed.Send x value code) event) ≡ true
+      → lead_of_queues p k.receivers k.events k.queued (deed.Send x value code) ≡ Some after → Led p object (with_queues k after) l (noting a (deed.Send x value code) event)
   send_led x code value touching proper leads =
       let gives = given_some (code == ports.answer_to_send k.queued) (ports.after_send value k.queued) after leads in
-      let inside = touched_inside p g x keeps.is_group.alone touching in
+      let inside = touched_inside p object x alone touching in
       let m = member_of p g x inside in
       record {
         follows = record {
@@ -148,11 +151,11 @@ module _ (p : Plan) (g : ℕ) (k : Kept) (after : ports.Kept) (l : Past) (keeps 
           };
           matching = refl;
         };
-        keeps = subst (λ z. Keeps p g (with_queues k z) (noting a (deed.Send x value code) event ∷ l)) gives.same (send_keeps p g k l keeps order a event x code value inside);
+        keeps = subst (λ z. GroupKeeps p g (with_queues k z) (noting a (deed.Send x value code) event ∷ l)) gives.same (send_keeps p g k l keeps order a event x code value inside);
       }
 
-  receive_follows : (x code : ℕ) (value : Value) → touches p g (noting a (deed.Receive x code value) event) ≡ true → is_proper p (noting a (deed.Receive x code value) event) ≡ true
-      → is_outcome code (words_of value) (received_at p x l) ≡ true → Follows p g l (noting a (deed.Receive x code value) event)
+  receive_follows : (x code : ℕ) (value : Value) → touches p object (noting a (deed.Receive x code value) event) ≡ true → is_proper p (noting a (deed.Receive x code value) event) ≡ true
+      → is_outcome code (words_of value) (received_at p x l) ≡ true → Follows p object l (noting a (deed.Receive x code value) event)
   receive_follows x code value touching proper outcome = record {
     touching = touching;
     proper = proper;
@@ -160,17 +163,17 @@ module _ (p : Plan) (g : ℕ) (k : Kept) (after : ports.Kept) (l : Past) (keeps 
     matching = refl;
   }
 
-  receive_led : (x code : ℕ) (value : Value) → touches p g (noting a (deed.Receive x code value) event) ≡ true → is_proper p (noting a (deed.Receive x code value) event) ≡ true
-      → lead_of_queues p k.receivers k.events k.queued (deed.Receive x code value) ≡ Some after → Led p g (with_queues k after) l (noting a (deed.Receive x code value) event)
+  receive_led : (x code : ℕ) (value : Value) → touches p object (noting a (deed.Receive x code value) event) ≡ true → is_proper p (noting a (deed.Receive x code value) event) ≡ true
+      → lead_of_queues p k.receivers k.events k.queued (deed.Receive x code value) ≡ Some after → Led p object (with_queues k after) l (noting a (deed.Receive x code value) event)
   receive_led x code value touching proper leads = by_join (is_joined_at p x) refl leads
     where
       by_join : (b : Bool) → is_joined_at p x ≡ b → (if b then received_at_place code value k.queued (place x k.receivers) else given (is_unconnected code value) k.queued) ≡ Some after
-          → Led p g (with_queues k after) l (noting a (deed.Receive x code value) event)
+          → Led p object (with_queues k after) l (noting a (deed.Receive x code value) event)
       by_join false off gives =
           let of = given_some (is_unconnected code value) k.queued after gives in
           record {
             follows = receive_follows x code value touching proper (sym (unconnected_same p l x code value off) ∙ of.holds);
-            keeps = subst (λ z. Keeps p g (with_queues k z) (noting a (deed.Receive x code value) event ∷ l)) of.same (no_receive_keeps p g k l keeps order a event x code value (not_receiving p g x off));
+            keeps = subst (λ z. GroupKeeps p g (with_queues k z) (noting a (deed.Receive x code value) event ∷ l)) of.same (no_receive_keeps p g k l keeps order a event x code value (not_receiving p g x off));
           }
       by_join true on gives =
           let at_place = then_some (λ r. given (is_received code value (ports.answer_to_receive r k.queued)) (ports.after_receive r k.queued)) (place x k.receivers) after gives in
@@ -181,11 +184,11 @@ module _ (p : Plan) (g : ℕ) (k : Kept) (after : ports.Kept) (l : Past) (keeps 
           let received : is_received code value (Some (ports.received_of at.queue)) ≡ true = subst (λ o. is_received code value (option_map ports.received_of o) ≡ true) at.found of.holds in
           record {
             follows = receive_follows x code value touching proper (sym (received_same p l x y.elem at.queue code value y.found y.joined at.contents) ∙ received);
-            keeps = subst (λ z. Keeps p g (with_queues k z) (noting a (deed.Receive x code value) event ∷ l)) of.same (receive_keeps p g k l keeps order a event x r code value at_place.is of.holds);
+            keeps = subst (λ z. GroupKeeps p g (with_queues k z) (noting a (deed.Receive x code value) event ∷ l)) of.same (receive_keeps p g k l keeps order a event x r code value at_place.is of.holds);
           }
 
-  start_led : (e : ℕ) (point : Option ℕ) (value : Value) → touches p g (noting a (deed.Start e point value) event) ≡ true → is_proper p (noting a (deed.Start e point value) event) ≡ true
-      → lead_of_queues p k.receivers k.events k.queued (deed.Start e point value) ≡ Some after → Led p g (with_queues k after) l (noting a (deed.Start e point value) event)
+  start_led : (e : ℕ) (point : Option ℕ) (value : Value) → touches p object (noting a (deed.Start e point value) event) ≡ true → is_proper p (noting a (deed.Start e point value) event) ≡ true
+      → lead_of_queues p k.receivers k.events k.queued (deed.Start e point value) ≡ Some after → Led p object (with_queues k after) l (noting a (deed.Start e point value) event)
   start_led e point value touching proper leads =
       let at_place = then_some (λ i. given (is_set k.queued.due i) (ports.after_start i k.queued)) (place e k.events) after leads in
       let gives = given_some (is_set k.queued.due at_place.item) (ports.after_start at_place.item k.queued) after at_place.gives in
@@ -208,10 +211,10 @@ module _ (p : Plan) (g : ℕ) (k : Kept) (after : ports.Kept) (l : Past) (keeps 
           };
           matching = ap (λ c. start_matches p l e c) w.kind;
         };
-        keeps = subst (λ z. Keeps p g (with_queues k z) (noting a (deed.Start e point value) event ∷ l)) gives.same (start_keeps p g k l keeps order a event e at_place.item point value at_place.is);
+        keeps = subst (λ z. GroupKeeps p g (with_queues k z) (noting a (deed.Start e point value) event ∷ l)) gives.same (start_keeps p g k l keeps order a event e at_place.item point value at_place.is);
       }
 
-  group_led : (d : Deed) → touches p g (noting a d event) ≡ true → is_proper p (noting a d event) ≡ true → lead_of_queues p k.receivers k.events k.queued d ≡ Some after → Led p g (with_queues k after) l (noting a d event)
+  group_led : (d : Deed) → touches p object (noting a d event) ≡ true → is_proper p (noting a d event) ≡ true → lead_of_queues p k.receivers k.events k.queued d ≡ Some after → Led p object (with_queues k after) l (noting a d event)
   group_led (deed.Send x value code) touching proper leads = send_led x code value touching proper leads
   group_led (deed.Receive x code value) touching proper leads = receive_led x code value touching proper leads
   group_led (deed.Start e point value) touching proper leads = start_led e point value touching proper leads
@@ -219,13 +222,14 @@ module _ (p : Plan) (g : ℕ) (k : Kept) (after : ports.Kept) (l : Past) (keeps 
 
 -- ---- the laws
 
-led : (p : Plan) (g : ℕ) (before after : Kept) (l : Past) (n : Noted) → Keeps p g before l → ((x : ℕ) → InOrder p x l) → touches p g n ≡ true → is_proper p n ≡ true → lead p before n ≡ Some after → Led p g after l n
-led p g before after l n keeps order touching proper leads =
+led : (p : Plan) (object : ℕ) (before after : Kept) (l : Past) (n : Noted) → Keeps p object before l → ((x : ℕ) → InOrder p x l) → touches p object n ≡ true → is_proper p n ≡ true → lead p before n ≡ Some after → Led p object after l n
+led p object before after l n keeps order touching proper leads =
     let of = mapped_some (with_queues before) (lead_of_queues p before.receivers before.events before.queued n.entry.deed) after leads in
-    subst (λ z. Led p g z l n) of.gives (group_led p g before of.item l keeps order n.entry.actor n.event n.entry.deed touching proper of.is)
+    subst (λ z. Led p object z l n) of.gives (group_led p object keeps.alone before of.item l keeps.group order n.entry.actor n.event n.entry.deed touching proper of.is)
 
-pub leads_follow : (p : Plan) (g : ℕ) → LeadsFollow p g (Keeps p g) (lead p)
-leads_follow p g before after l n stands touching proper leads = (led p g before after l n stands.kept (λ x. past_in_order p g x l stands.past) touching proper leads).follows
+pub leads_follow : (p : Plan) (object : ℕ) → LeadsFollow p object (Keeps p object) (lead p)
+leads_follow p object before after l n stands touching proper leads = (led p object before after l n stands.kept (λ x. past_in_order p object x l stands.past) touching proper leads).follows
 
-pub leads_keep : (p : Plan) (g : ℕ) → LeadsKeep p g (Keeps p g) (lead p)
-leads_keep p g before after l n stands touching proper leads = (led p g before after l n stands.kept (λ x. past_in_order p g x l stands.past) touching proper leads).keeps
+pub leads_keep : (p : Plan) (object : ℕ) → LeadsKeep p object (Keeps p object) (lead p)
+leads_keep p object before after l n stands touching proper leads =
+    record { alone = stands.kept.alone; group = (led p object before after l n stands.kept (λ x. past_in_order p object x l stands.past) touching proper leads).keeps }

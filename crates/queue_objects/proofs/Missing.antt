@@ -24,7 +24,7 @@ use Rattle.bus_semantics.specs.Pasts.{IsPastOf}
 use Rattle.bus_semantics.specs.Sound.{IsSound}
 use Rattle.queued_ports.specs.Kept as ports
 use Rattle.object_kinds.specs.Kinds.{MissesNothing}
-use Rattle.object_kinds.specs.Layout.{waits_for_data, place}
+use Rattle.object_kinds.specs.Layout.{group_at, waits_for_data, place}
 use Rattle.object_kinds.specs.Flags.{given, is_set}
 use Rattle.object_kinds.proofs.Events as data_events
 use Rattle.object_kinds.proofs.Events.{event_placed}
@@ -38,15 +38,15 @@ use Rattle.object_kinds.proofs.Touching.{OnGroup, touches_group, fetch_unqueued,
 use Rattle.queue_objects.specs.Kept.{Kept}
 use Rattle.queue_objects.specs.Layout.{is_receiver_at, is_joined_at, waits_for_receiver}
 use Rattle.queue_objects.specs.Leading.{is_received, received_at_place, is_unconnected, lead_of_queues, with_queues, lead}
-use Rattle.queue_objects.specs.Standing.{due_after, Keeps}
+use Rattle.queue_objects.specs.Standing.{due_after, GroupKeeps, Keeps}
 use Rattle.queue_objects.proofs.Keeping.{due_kind, placed_in, queue_at}
 use Rattle.queue_objects.proofs.Leading.{send_code_same, received_same, unconnected_same}
 use Rattle.queue_objects.proofs.Order.{InOrder, past_in_order}
 use Rattle.queue_objects.proofs.Silent.{receive_required, none_unqueued, awaited_within, awaited_required, never_due}
 
-module _ (p : Plan) (m : Mapping) (sound : IsSound p m) (g : ℕ) (k : Kept) (l : Past) (past : IsPastOf p g l) (keeps : Keeps p g k l) (a : Actor) (event : Option ℕ) where
+module _ (p : Plan) (m : Mapping) (sound : IsSound p m) (object g : ℕ) (k : Kept) (l : Past) (past : IsPastOf p object l) (keeps : GroupKeeps p g k l) (a : Actor) (event : Option ℕ) where
   order : (x : ℕ) → InOrder p x l
-  order x = past_in_order p g x l past
+  order x = past_in_order p object x l past
 
   send_comes : (x code : ℕ) (value : Value) → is_in_group p g x ≡ true → (code == send_code p x l) ≡ true → is_some (lead_of_queues p k.receivers k.events k.queued (deed.Send x value code)) ≡ true
   send_comes x code value inside answer =
@@ -79,7 +79,7 @@ module _ (p : Plan) (m : Mapping) (sound : IsSound p m) (g : ℕ) (k : Kept) (l 
     where
       by_receiver : (x : ℕ) → kind_of p e ≡ DataReceived x → is_in_group p g x ≡ true → due_after p l e ≡ true → (b : Bool) → is_receiver_at p g x ≡ b → is_some (lead_of_queues p k.receivers k.events k.queued (deed.Start e point value)) ≡ true
       by_receiver x kind inside on false none =
-          absurd (false≢true (sym (never_due p m sound g x keeps.is_group inside none (awaited_required p m sound e x kind) g e l past) ∙ sym (due_kind p e x l kind) ∙ on))
+          absurd (false≢true (sym (never_due p m sound g x keeps.is_group inside none (awaited_required p m sound e x kind) object e l past) ∙ sym (due_kind p e x l kind) ∙ on))
       by_receiver x kind inside on true receives =
           let there = event_placed p (waits_for_receiver p g) e (awaited_within p e x kind) (ap (waits_for_receiver p g) kind ∙ receives) in
           let here : place e k.events ≡ Some there.at = ap (place e) keeps.waiting ∙ there.is in
@@ -99,8 +99,8 @@ module _ (p : Plan) (m : Mapping) (sound : IsSound p m) (g : ℕ) (k : Kept) (l 
   group_comes (deed.Publish x value) on proper answers = none_unqueued p g x keeps.is_group on (publish_unqueued p a event x value proper)
   group_comes d on proper answers = absurd on
 
-pub misses_nothing : (p : Plan) (m : Mapping) (g : ℕ) → IsSound p m → MissesNothing p g (Keeps p g) (lead p)
-misses_nothing p m g sound k l n stands follows =
+pub misses_nothing : (p : Plan) (m : Mapping) (object : ℕ) → IsSound p m → MissesNothing p object (Keeps p object) (lead p)
+misses_nothing p m object sound k l n stands follows =
     mapped_where (with_queues k) (lead_of_queues p k.receivers k.events k.queued n.entry.deed)
-    (group_comes p m sound g k l stands.past stands.kept n.entry.actor n.event n.entry.deed
-    (touches_group p m g n.entry.actor n.event n.entry.deed sound stands.kept.is_group.alone follows.touching follows.proper) follows.proper follows.answers)
+    (group_comes p m sound object (group_at p object) k l stands.past stands.kept.group n.entry.actor n.event n.entry.deed
+    (touches_group p m object n.entry.actor n.event n.entry.deed sound stands.kept.alone follows.touching follows.proper) follows.proper follows.answers)

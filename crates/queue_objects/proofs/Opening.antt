@@ -3,20 +3,20 @@ use Rattle.std.proofs.Common.{◌≡◌, ℕ, false, refl, ◌∙◌, ap, List, 
 use Rattle.bus_semantics.specs.Plan.{Plan, kind_of}
 use Rattle.bus_semantics.specs.Queued.{places_at}
 use Rattle.queued_ports.specs.Kept as ports
-use Rattle.object_kinds.specs.Layout.{events_of}
+use Rattle.object_kinds.specs.Layout.{group_at, IsAlone, events_of}
 use Rattle.object_kinds.proofs.Events.{events_all}
 use Rattle.object_kinds.proofs.Lists.{filled_all}
 use Rattle.queue_objects.specs.Kept.{opening}
-use Rattle.queue_objects.specs.Plans.{IsOfPlan}
+use Rattle.queue_objects.specs.Plans.{IsGroupOfPlan}
 use Rattle.queue_objects.specs.Layout.{receivers_of, waits_for_receiver, receiver_of, words_in, IsQueuedGroup}
-use Rattle.queue_objects.specs.Standing.{contents_of, contents_after, due_after, Keeps}
+use Rattle.queue_objects.specs.Standing.{contents_of, contents_after, due_after, GroupKeeps, Keeps}
 use Rattle.queue_objects.proofs.Keeping.{waiting_for, due_kind}
 
 first_contents : (p : Plan) (ys : List ℕ) → map contents_of (map ports.empty_queue (map (places_at p) ys)) ≡ map (contents_after p []) ys
 first_contents p [] = refl
 first_contents p (y ∷ ys) = ap (λ cs. contents_after p [] y ∷ cs) (first_contents p ys)
 
-pub group_opens : (p : Plan) (g : ℕ) → IsQueuedGroup p g → Keeps p g (opening p g) []
+pub group_opens : (p : Plan) (g : ℕ) → IsQueuedGroup p g → GroupKeeps p g (opening p g) []
 group_opens p g is_group = record {
   is_group = is_group;
   receiving = refl;
@@ -28,11 +28,14 @@ group_opens p g is_group = record {
       (λ e waits. let w = waiting_for p g (kind_of p e) waits in due_kind p e w.element [] w.kind);
 }
 
+pub object_opens : (p : Plan) (object : ℕ) → IsAlone p object → IsQueuedGroup p (group_at p object) → Keeps p object (opening p (group_at p object)) []
+object_opens p object alone is_group = record { alone = alone; group = group_opens p (group_at p object) is_group }
+
 first_places : (p : Plan) (ys : List ℕ) → map (λ (q : ports.Queue). q.queue_length) (map ports.empty_queue (map (places_at p) ys)) ≡ map (places_at p) ys
 first_places p [] = refl
 first_places p (y ∷ ys) = ap (λ ns. places_at p y ∷ ns) (first_places p ys)
 
-pub opens_planned : (p : Plan) (g : ℕ) → IsQueuedGroup p g → IsOfPlan p g (opening p g)
+pub opens_planned : (p : Plan) (g : ℕ) → IsQueuedGroup p g → IsGroupOfPlan p g (opening p g)
 opens_planned p g is_group = record { is_group = is_group; receiving = refl; waiting = refl; awaited = refl; words = refl; places = first_places p (receivers_of p g) }
 
 -- a group that is made of its parts

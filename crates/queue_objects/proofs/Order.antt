@@ -17,6 +17,7 @@ use Rattle.bus_semantics.specs.Queued.{accepted_at, taken_at, takes_at, sent_in,
 use Rattle.bus_semantics.specs.Legal.{queued_allows, is_outcome, IsLegal}
 use Rattle.bus_semantics.specs.Pasts.{IsPastOf}
 use Rattle.queue_objects.specs.Order.{value_taken, values_taken}
+pub use Rattle.bus_laws.proofs.QueueLaws.{receive_sends_none, takes_oldest, bounded}
 
 pub record InOrder (p : Plan) (x : ℕ) (l : Past) : Type 0 where
   pub order : values_taken x l ≡ take (taken_at x l) (accepted_at p x l)
@@ -35,45 +36,6 @@ grown t (Some ws) true before fewer = record {
   first = take-append-le t before (ws ∷ []) fewer;
   fewer = let longer : length (before ++ ws ∷ []) ≡ length before + 1 = length-append before (ws ∷ []) in omega arith;
 }
-
--- ---- what a Receive sends is nothing
-
-pub receive_sends_none : (p : Plan) (x y code : ℕ) (value : Value) → sent_to p x (deed.Receive y code value) ≡ None
-receive_sends_none p x y code value = by_elem (slice_get p.elements x)
-  where
-    by_elem : (o : Option ElemPlan) → option_map_or (λ (e : ElemPlan). sent_in p e.group (deed.Receive y code value)) o None ≡ None
-    by_elem None = refl
-    by_elem (Some e) = refl
-
--- ---- a Receive that takes a value takes the oldest that is left
-
-module _ (p : Plan) (x : ℕ) (l : Past) (code : ℕ) (ws : List ℤ) where
-  not_taking : {X : Type 0} (other : ℕ) → ((other == 0) || (other == 64)) ≡ false → ((code == 0) || (code == 64)) ≡ true → (code == other) ≡ true → X
-  not_taking other neither takes same = absurd (false≢true (sym neither ∙ ap (λ c. (c == 0) || (c == 64)) (sym (eqb-true code other same)) ∙ takes))
-
-  pub takes_oldest : ((code == 0) || (code == 64)) ≡ true → is_outcome code ws (received_at p x l) ≡ true → slice_get (accepted_at p x l) (taken_at x l) ≡ Some ws
-  takes_oldest takes outcome = by_elem (slice_get p.elements x) refl
-    where
-      by_elem : (o : Option ElemPlan) → slice_get p.elements x ≡ o → slice_get (accepted_at p x l) (taken_at x l) ≡ Some ws
-      by_elem None there =
-          let e = rw there at outcome in
-          not_taking 134 refl takes (and_parts (code == 134) _ e).0
-      by_elem (Some v) there = by_join v.joined refl
-        where
-          by_join : (b : Bool) → v.joined ≡ b → slice_get (accepted_at p x l) (taken_at x l) ≡ Some ws
-          by_join false joined =
-              let e = rw (there, joined) at outcome in
-              not_taking 134 refl takes (and_parts (code == 134) _ e).0
-          by_join true joined = by_left (slice_get (accepted_at p x l) (taken_at x l)) refl
-            where
-              by_left : (o : Option (List ℤ)) → slice_get (accepted_at p x l) (taken_at x l) ≡ o → o ≡ Some ws
-              by_left None left =
-                  let e = rw (there, joined, left) at outcome in
-                  not_taking 131 refl takes (and_parts (code == 131) _ e).0
-              by_left (Some vs) left =
-                  let e = rw (there, joined, left) at outcome in
-                  let same : ws ≡ vs = (same_words-Decides ws vs).0 (and_parts (code == (if has_lost p x l then 64 else 0)) _ e).1 in
-                  ap (λ z. Some z) (sym same)
 
 -- ---- each entry
 
@@ -147,18 +109,4 @@ kth_is_kth p x l is k ws taken = at_start (taken_at x l) (accepted_at p x l) k w
 
 -- no more values are accepted than were taken and have a place
 pub accepted_few : (p : Plan) (x : ℕ) (l : Past) → length (accepted_at p x l) ≤ taken_at x l + places_at p x
-accepted_few p x [] = omega arith
-accepted_few p x (n ∷ l) = by_sent (sent_to p x n.entry.deed) (is_room (length (accepted_at p x l)) (taken_at x l) (places_at p x)) refl (taken_rises (takes_at x n.entry.deed)) (accepted_few p x l)
-  where
-    taken_rises : (b : Bool) → taken_at x l ≤ (if b then suc (taken_at x l) else taken_at x l)
-    taken_rises true = omega arith
-    taken_rises false = omega arith
-
-    by_sent : (sent : Option (List ℤ)) (room : Bool) → is_room (length (accepted_at p x l)) (taken_at x l) (places_at p x) ≡ room → taken_at x l ≤ taken_at x (n ∷ l) → length (accepted_at p x l) ≤ taken_at x l + places_at p x
-        → length (with_sent sent room (accepted_at p x l)) ≤ taken_at x (n ∷ l) + places_at p x
-    by_sent None room is rises few = omega arith
-    by_sent (Some ws) false is rises few = omega arith
-    by_sent (Some ws) true is rises few =
-        let less : length (accepted_at p x l) < taken_at x l + places_at p x = ltb-true (length (accepted_at p x l)) (taken_at x l + places_at p x) is in
-        let longer : length (accepted_at p x l ++ ws ∷ []) ≡ length (accepted_at p x l) + 1 = length-append (accepted_at p x l) (ws ∷ []) in
-        omega arith
+accepted_few = bounded

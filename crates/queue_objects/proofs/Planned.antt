@@ -19,7 +19,6 @@ use Rattle.bus_semantics.specs.SoundPlan.{is_variable}
 use Rattle.bus_semantics.specs.SoundElements.{agrees}
 use Rattle.bus_semantics.specs.Sound.{IsSound, sum_over, queue_lengths}
 use Rattle.object_kinds.specs.Layout.{members_of}
-use Rattle.object_kinds.proofs.Alone.{each_alone}
 use Rattle.object_kinds.proofs.Lists.{all_at}
 use Rattle.object_kinds.proofs.Members.{member_of, member_placed, members_all, inside_within}
 use Rattle.object_kinds.proofs.Placing.{place_at}
@@ -85,7 +84,6 @@ module _ (p : Plan) (m : Mapping) (sound : IsSound p m) where
   pub queued_group : (g x : ℕ) → is_in_group p g x ≡ true → is_queued_at p x ≡ true → IsQueuedGroup p g
   queued_group g x inside queued = record {
     number = inside_within p x g sound.groups inside;
-    alone = each_alone p sound.none_listed sound.bundles g (inside_within p x g sound.groups inside);
     queued = all_pass (is_queued_at p) (is_in_group p g) (members_of p g) (members_all p g) (group_queued g x inside queued);
     alike = all_pass (λ y. words_at p y == words_in p g) (is_in_group p g) (members_of p g) (members_all p g) (λ y in_y. eq-eqb (words_at p y) (words_in p g) (words_first g y (members_of p g) refl in_y));
   }

@@ -19,7 +19,7 @@ use Rattle.queue_objects.proofs.Order.{past_in_order, accepted_few}
 module _ (p : Plan) (g : ℕ) (k : Kept) (l : Past) (x r : ℕ) (q : Queue) (stands : StandsFor p g (Keeps p g) k l) (there : place x k.receivers ≡ Some r) (found : slice_get k.queued.queues r ≡ Some q) where
   contents_are : contents_of q ≡ contents_after p l x
   contents_are =
-      let at = queue_at p l k.queued.queues k.receivers x r stands.kept.queues there in
+      let at = queue_at p l k.queued.queues k.receivers x r stands.kept.group.queues there in
       subst (λ z. contents_of z ≡ contents_after p l x) (same_Some at.queue q (sym at.found ∙ found)) at.contents
 
   pub rest_is_held : values_taken x l ++ map words_of q.held ≡ accepted_at p x l

@@ -14,7 +14,7 @@ use Rattle.bus_semantics.specs.declared.script.Mapping.{Mapping}
 use Rattle.bus_semantics.specs.declared.entries.Actor.{Actor}
 use Rattle.bus_semantics.specs.declared.entries.Deed.{Deed}
 use Rattle.bus_semantics.specs.declared.entries.Deed.TheVariants as deed
-use Rattle.bus_semantics.specs.Plan.{Plan, look, kind_of, instance_of}
+use Rattle.bus_semantics.specs.Plan.{Plan, look, group_of, kind_of, instance_of}
 use Rattle.bus_semantics.specs.History.{Noted, Past}
 use Rattle.bus_semantics.specs.Wanted.{to_send, to_receive}
 use Rattle.bus_semantics.specs.Owners.{elem_fits, is_queued, holds}
@@ -28,14 +28,14 @@ use Rattle.bus_semantics.specs.SoundPlan.{is_variable}
 use Rattle.bus_semantics.specs.SoundElements.{agrees, has_side, count_side}
 use Rattle.bus_semantics.specs.SoundEvents.{kind_sound}
 use Rattle.bus_semantics.specs.Sound.{IsSound}
-use Rattle.bus_laws.proofs.Bundling.{stores_nothing}
+use Rattle.bus_laws.proofs.ObjectLists.{IsUnnamed, unnamed_stores_none}
 use Rattle.object_kinds.proofs.Lists.{all_at}
 use Rattle.object_kinds.proofs.Members.{member_of, member_placed}
-use Rattle.object_kinds.proofs.Options.{clash}
+use Rattle.object_kinds.proofs.Options.{clash, is_number}
 use Rattle.object_kinds.proofs.Placing.{place_at}
 use Rattle.object_kinds.proofs.Proper.{noting, wish_part, by_actor}
 use Rattle.object_kinds.proofs.Ranges.{sought, kind_fits}
-use Rattle.object_kinds.proofs.Touching.{write_unqueued, publish_unqueued}
+use Rattle.object_kinds.proofs.Touching.{write_unqueued, publish_unqueued, listed_not_queued}
 use Rattle.object_kinds.specs.Layout.{members_of}
 use Rattle.queue_objects.specs.Layout.{is_queued_at, is_receiver_at, IsQueuedGroup}
 
@@ -102,6 +102,10 @@ module _ (p : Plan) (m : Mapping) (sound : IsSound p m) where
       let receives : 1 ≤ count_side p g false = some_picked (λ (v : ElemPlan). (v.group == g) && not v.provided) p.elements x e at_x (λ i. eq-eqb e.group g in_x i && required i) in
       absurd (omega arith)
 
+  -- no list names an element of a queued group
+  pub queued_unnamed : (g : ℕ) → IsQueuedGroup p g → IsUnnamed p g
+  queued_unnamed g is_group l x there group = none_unqueued p g x is_group (is_number (group_of p x) g group) (listed_not_queued p m sound l x there)
+
   -- ---- an event that waits for it
 
   pub awaited_required : (e x : ℕ) → kind_of p e ≡ DataReceived x → look p.elements x (λ (v : ElemPlan). not v.provided) false ≡ true
@@ -127,7 +131,7 @@ module _ (p : Plan) (m : Mapping) (sound : IsSound p m) where
           by_group : (b : Bool) → is_in_group p g y ≡ b → is_some (if b then Some (words_of value) else None) ≡ false
           by_group true there = none_unqueued p g y is_group there (publish_unqueued p a event y value proper)
           by_group false there = refl
-      stores_none (deed.PublishAll list written value) proper = ap is_some (stores_nothing p sound.none_listed g list written (words_of value))
+      stores_none (deed.PublishAll list written value) proper = ap is_some (unnamed_stores_none p g (queued_unnamed g is_group) list written (words_of value))
       stores_none d proper = refl
 
       sends_none : (d : Deed) → is_proper p (noting a d event) ≡ true → is_some (sent_in p g d) ≡ false

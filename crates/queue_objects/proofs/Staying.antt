@@ -16,7 +16,7 @@ use Rattle.object_kinds.proofs.Options.{given_some, then_some}
 use Rattle.queue_objects.specs.Kept.{Kept}
 use Rattle.queue_objects.specs.Layout.{is_joined_at}
 use Rattle.queue_objects.specs.Leading.{is_received, received_at_place, is_unconnected, lead_of_queues, with_queues}
-use Rattle.queue_objects.specs.Plans.{IsOfPlan}
+use Rattle.queue_objects.specs.Plans.{IsGroupOfPlan}
 
 abbrev lengths : List ports.Queue → List ℕ
 lengths qs = map (λ (q : ports.Queue). q.queue_length) qs
@@ -58,10 +58,10 @@ stays p receivers events k after (deed.Start e point value) leads =
     subst (Same k) gives.same (record { words = refl; events = refl; places = refl })
 stays p receivers events k after d leads = absurd (cc leads)
 
-pub stays_planned : (p : Plan) (g : ℕ) (old new : Kept) (d : Deed) → IsOfPlan p g old → lead_of_queues p old.receivers old.events old.queued d ≡ Some new.queued → new ≡ with_queues old new.queued → IsOfPlan p g new
+pub stays_planned : (p : Plan) (g : ℕ) (old new : Kept) (d : Deed) → IsGroupOfPlan p g old → lead_of_queues p old.receivers old.events old.queued d ≡ Some new.queued → new ≡ with_queues old new.queued → IsGroupOfPlan p g new
 stays_planned p g old new d planned leads kept =
     let same = stays p old.receivers old.events old.queued new.queued d leads in
-    subst (IsOfPlan p g) (sym kept) (record {
+    subst (IsGroupOfPlan p g) (sym kept) (record {
       is_group = planned.is_group;
       receiving = planned.receiving;
       waiting = planned.waiting;

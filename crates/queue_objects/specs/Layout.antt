@@ -7,7 +7,7 @@ use Rattle.bus_semantics.specs.declared.plan.EventKind.TheVariants.{DataReceived
 use Rattle.bus_semantics.specs.Plan.{Plan, look, kind_of, positions}
 use Rattle.bus_semantics.specs.Owners.{is_queued}
 use Rattle.bus_semantics.specs.Queued.{is_receiver_in}
-use Rattle.object_kinds.specs.Layout.{IsAlone, members_of, place, element_in}
+use Rattle.object_kinds.specs.Layout.{members_of, place, element_in}
 
 -- ---- elements
 
@@ -46,9 +46,8 @@ receiver_of p g e = unwrap_or (place (element_in (kind_of p e)) (receivers_of p 
 
 -- ---- groups
 
--- the group is one of the plan's and a bundle by itself, each of its elements is queued, and all have as many words
+-- the group is one of the plan's, each of its elements is queued, and all have as many words
 pub record IsQueuedGroup (p : Plan) (group : ℕ) : Type 0 where
   pub number : group < length p.groups
-  pub alone : IsAlone p group
   pub queued : list_all (is_queued_at p) (members_of p group) ≡ true
   pub alike : list_all (λ x. words_at p x == words_in p group) (members_of p group) ≡ true

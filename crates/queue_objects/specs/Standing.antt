@@ -7,7 +7,7 @@ use Rattle.bus_semantics.specs.History.{Past}
 use Rattle.bus_semantics.specs.Queued.{accepted_at, taken_at, has_lost, places_at}
 use Rattle.bus_semantics.specs.Due.{is_due}
 use Rattle.queued_ports.specs.Kept as ports
-use Rattle.object_kinds.specs.Layout.{events_of}
+use Rattle.object_kinds.specs.Layout.{group_at, IsAlone, events_of}
 use Rattle.queue_objects.specs.Layout.{receivers_of, waits_for_receiver, receiver_of, words_in, IsQueuedGroup}
 use Rattle.queue_objects.specs.Kept.{Kept}
 
@@ -30,7 +30,7 @@ abbrev pub contents_after : Plan → Past → (elem : ℕ) → Contents
 contents_after p l x = record { places = places_at p x; values = drop (taken_at x l) (accepted_at p x l); lost = has_lost p x l }
 
 -- the queue of each receiver, and which events are due
-pub record Keeps (p : Plan) (group : ℕ) (k : Kept) (l : Past) : Type 0 where
+pub record GroupKeeps (p : Plan) (group : ℕ) (k : Kept) (l : Past) : Type 0 where
   pub is_group : IsQueuedGroup p group
   pub receiving : k.receivers ≡ receivers_of p group
   pub waiting : k.events ≡ events_of p (waits_for_receiver p group)
@@ -38,3 +38,8 @@ pub record Keeps (p : Plan) (group : ℕ) (k : Kept) (l : Past) : Type 0 where
   pub words : k.queued.words ≡ words_in p group
   pub queues : map contents_of k.queued.queues ≡ map (contents_after p l) k.receivers
   pub due : k.queued.due ≡ map (due_after p l) k.events
+
+-- the object of this number is the group
+pub record Keeps (p : Plan) (object : ℕ) (k : Kept) (l : Past) : Type 0 where
+  pub alone : IsAlone p object
+  pub group : GroupKeeps p (group_at p object) k l

@@ -11,7 +11,7 @@ ghost use Rattle.bus_semantics.specs.Queued.{accepted_at, taken_at, places_at};
 ghost use Rattle.bus_semantics.specs.Unqueued.{is_in_group};
 ghost use Rattle.bus_semantics.specs.Sound.{IsSound};
 ghost use Rattle.queued_ports.specs.Kept.{Queue};
-ghost use Rattle.object_kinds.specs.Layout.{place};
+ghost use Rattle.object_kinds.specs.Layout.{group_at, IsAlone, place};
 ghost use Rattle.object_kinds.specs.Kinds.{StandsFor, LeadsFollow, LeadsKeep, MissesNothing, StartsByFlag, OthersWakeNothing};
 ghost use Rattle.queue_objects.specs.Kept.{Kept, opening, may_start};
 ghost use Rattle.queue_objects.specs.Layout.{receivers_of, is_queued_at, IsQueuedGroup};
@@ -33,27 +33,27 @@ pub fn values_are_received_in_order()
 /// were taken and then those that it holds are those that it accepted. It holds no more than its length (SWS_RTE: Rte_Send,
 /// Rte_Receive, queueLength).
 pub fn queues_hold_what_was_not_taken()
-    ensures rest { (p : Plan) (group : ℕ) (k : Kept) (l : Past) (elem receiver : ℕ) (q : Queue) → StandsFor p group (Keeps p group) k l → place elem k.receivers ≡ Some receiver →
+    ensures rest { (p : Plan) (object : ℕ) (k : Kept) (l : Past) (elem receiver : ℕ) (q : Queue) → StandsFor p object (Keeps p object) k l → place elem k.receivers ≡ Some receiver →
         slice_get k.queued.queues receiver ≡ Some q → values_taken elem l ++ map words_of q.held ≡ accepted_at p elem l }
-    ensures few { (p : Plan) (group : ℕ) (k : Kept) (l : Past) (elem receiver : ℕ) (q : Queue) → StandsFor p group (Keeps p group) k l → place elem k.receivers ≡ Some receiver →
+    ensures few { (p : Plan) (object : ℕ) (k : Kept) (l : Past) (elem receiver : ℕ) (q : Queue) → StandsFor p object (Keeps p object) k l → place elem k.receivers ≡ Some receiver →
         slice_get k.queued.queues receiver ≡ Some q → length q.held ≤ places_at p elem }
 {}
 
 /// An entry by which a group leads on is what the bus answers after the group's past and matches it, and what is kept then is
 /// what the definitions give from the past and the entry (SWS_RTE: Rte_Send, Rte_Receive, DataReceivedEvent).
 pub fn leads_are_legal()
-    ensures follow { (p : Plan) (group : ℕ) → LeadsFollow p group (Keeps p group) (lead p) }
-    ensures keep { (p : Plan) (group : ℕ) → LeadsKeep p group (Keeps p group) (lead p) }
+    ensures follow { (p : Plan) (object : ℕ) → LeadsFollow p object (Keeps p object) (lead p) }
+    ensures keep { (p : Plan) (object : ℕ) → LeadsKeep p object (Keeps p object) (lead p) }
 {}
 
 /// A group of a sound plan misses no entry that may follow its past.
 pub fn leads_miss_nothing()
-    ensures { (p : Plan) (m : Mapping) (group : ℕ) → IsSound p m → MissesNothing p group (Keeps p group) (lead p) }
+    ensures { (p : Plan) (m : Mapping) (object : ℕ) → IsSound p m → MissesNothing p object (Keeps p object) (lead p) }
 {}
 
 /// What a group keeps before anything has happened is what the definitions give from no entry.
 pub fn first_queues_stand_for_nothing()
-    ensures { (p : Plan) (group : ℕ) → IsQueuedGroup p group → Keeps p group (opening p group) [] }
+    ensures { (p : Plan) (object : ℕ) → IsAlone p object → IsQueuedGroup p (group_at p object) → Keeps p object (opening p (group_at p object)) [] }
 {}
 
 /// A group of a sound plan with a queued element is a group of queued elements, and its queues have no more places than

@@ -7,7 +7,7 @@ ghost use Rattle.bus_semantics.specs.SoundPlan.{groups_fit};
 ghost use Rattle.object_kinds.specs.Layout.{events_of, waits_for_data};
 ghost use Rattle.queue_objects.specs.Kept.{opening};
 ghost use Rattle.queue_objects.specs.Layout.{receivers_of, receiver_of, waits_for_receiver, words_in, IsQueuedGroup};
-ghost use Rattle.queue_objects.specs.Plans.{IsOfPlan};
+ghost use Rattle.queue_objects.specs.Plans.{IsGroupOfPlan};
 
 use crate::Memory;
 use crate::elements::{awaits_receiver, element_at, is_receiver, length_at, words_at};
@@ -26,7 +26,7 @@ impl QueueGroup {
         requires waiting { events.now ≡ events_of (plan_of p.now) (waits_for_data (plan_of p.now) group) }
         requires places { sum (map (places_at (plan_of p.now)) (receivers_of (plan_of p.now) group)) < 2 ^ 32 }
         ensures kept { IfOk result (λ g. g.kept ≡ opening (plan_of p.now) group) }
-        ensures planned { IfOk result (λ g. IsOfPlan (plan_of p.now) group g.kept) }
+        ensures planned { IfOk result (λ g. IsGroupOfPlan (plan_of p.now) group g.kept) }
     {
         let receivers = receivers_of(alloc, p, group)?;
         let events = awaiting(alloc, p, group, events)?;

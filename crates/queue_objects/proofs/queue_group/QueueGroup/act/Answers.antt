@@ -2,6 +2,7 @@ use Rattle.std.proofs.Common.{subst}
 use Rattle.bus_semantics.specs.Plan.{plan_of}
 use Rattle.bus_semantics.specs.Wanted.{wanted_of}
 use Rattle.bus_semantics.specs.Objects.{touched}
+use Rattle.object_kinds.specs.Layout.{group_at}
 use Rattle.queue_objects.specs.Acting.{IsActed}
 use Rattle.queue_objects.proofs.Acting.{acted_answers, acted_planned, acted_tells}
 use Rattle.queue_objects.proofs.queue_group.QueueGroup.act.Goals as goal
@@ -10,19 +11,22 @@ pub returns-clause-answer : goal.returns-clause-answer
 returns-clause-answer c =
     let p = plan_of c.args.p.now in
     let w = wanted_of c.args.wish.now in
-    acted_answers p (touched p c.args.who.now w) c.args.who.now w c.args.self.now c.act_by_wish.new.self c.act_by_wish.result c.requires.planned c.act_by_wish.ensures
+    acted_answers p (group_at p (touched p c.args.who.now w)) c.args.who.now w c.args.self.now c.act_by_wish.new.self c.act_by_wish.result c.requires.planned.group c.act_by_wish.ensures
 
 pub returns-clause-planned : goal.returns-clause-planned
 returns-clause-planned c =
     let p = plan_of c.args.p.now in
     let w = wanted_of c.args.wish.now in
-    acted_planned p (touched p c.args.who.now w) c.args.who.now w c.args.self.now c.act_by_wish.new.self c.act_by_wish.result c.requires.planned c.act_by_wish.ensures
+    record {
+      alone = c.requires.planned.alone;
+      group = acted_planned p (group_at p (touched p c.args.who.now w)) c.args.who.now w c.args.self.now c.act_by_wish.new.self c.act_by_wish.result c.requires.planned.group c.act_by_wish.ensures;
+    }
 
 pub returns-clause-told : goal.returns-clause-told
 returns-clause-told c =
     let p = plan_of c.args.p.now in
     let w = wanted_of c.args.wish.now in
-    acted_tells p (touched p c.args.who.now w) c.args.who.now w c.args.self.now c.act_by_wish.new.self c.act_by_wish.result c.act_by_wish.ensures
+    acted_tells p (group_at p (touched p c.args.who.now w)) c.args.who.now w c.args.self.now c.act_by_wish.new.self c.act_by_wish.result c.act_by_wish.ensures
 
 pub returns-clause-same : goal.returns-clause-same
 returns-clause-same c = λ shown is.

@@ -10,7 +10,7 @@ use Rattle.object_kinds.specs.Layout.{events_of}
 use Rattle.object_kinds.specs.Rising.{is_rising}
 use Rattle.object_kinds.proofs.Events.{events_rise}
 use Rattle.queue_objects.specs.Layout.{receivers_of, waits_for_receiver, receiver_of}
-use Rattle.queue_objects.specs.Plans.{IsOfPlan}
+use Rattle.queue_objects.specs.Plans.{IsGroupOfPlan}
 use Rattle.queue_objects.proofs.Opening.{made, opens_planned}
 use Rattle.queue_objects.proofs.Picking.{receivers_rise, waiting_picked, all_awaited_within}
 use Rattle.queue_objects.proofs.queue_group.QueueGroup.new.Goals as goal
@@ -60,7 +60,7 @@ returns-clause-planned c =
     let g = c.args.group in
     let events : c.in_ok-events.events.items ≡ events_of p (waits_for_receiver p g) =
     c.in_ok-events.ensures ∙ ap (filter (λ e. waits_for_receiver p g (kind_of p e))) c.requires.waiting ∙ waiting_picked p g in
-    subst (IsOfPlan p g)
+    subst (IsGroupOfPlan p g)
     (sym (made p g c.words_of.result c.in_ok-receivers.receivers.items c.in_ok-events.events.items c.in_ok-lengths.lengths.items c.in_ok-awaited.awaited.items c.in_ok-queues.queues
     c.in_ok-receivers.ensures events (c.in_ok-lengths.ensures ∙ ap (map (places_at p)) c.as_slice-3.ensures.value) (c.in_ok-awaited.ensures ∙ ap (map (receiver_of p g)) c.as_slice-2.ensures.value) c.words_of.ensures c.in_ok-queues.ensures))
     (opens_planned p g c.requires.queued)
