@@ -3,6 +3,7 @@ use Rattle.std.proofs.Common.{◌≡◌, ◌<◌, ℕ, Bool, true, false, ◌&&�
 use Rattle.std.specs.Prelude.{is_none, unwrap_or, option_map}
 use Rattle.std.specs.List.{Contains, list_all, slice_get}
 use Rattle.std.proofs.lemmas.Bool.{eq-eqb, false≢true}
+use Rattle.std.proofs.lemmas.Option.{same_Some}
 use Rattle.rte_value.specs.declared.value.Value.{Value}
 use Rattle.rte_value.specs.Values.{words_of, same_words}
 use Rattle.rte_value.specs.ShortValues.{empty_value}
@@ -14,6 +15,7 @@ use Rattle.bus_semantics.specs.declared.entries.Deed.{Deed}
 use Rattle.bus_semantics.specs.declared.entries.Deed.TheVariants as deed
 use Rattle.bus_semantics.specs.Plan.{Plan, kind_of}
 use Rattle.bus_semantics.specs.Wanted.{Wanted, to_start, to_read, to_fetch, to_see_updated}
+use Rattle.bus_semantics.specs.Objects.{object_of}
 use Rattle.bus_semantics.specs.Fitting.{answer_fits, start_fits}
 use Rattle.bus_semantics.specs.Legal.{same_bool}
 use Rattle.bus_semantics.specs.Asked.{event_of}
@@ -22,20 +24,21 @@ use Rattle.object_kinds.specs.declared.acted.Acted.{Acted}
 use Rattle.object_kinds.specs.declared.acted.Acted.TheVariants.{Done, NotYet}
 use Rattle.object_kinds.specs.declared.acted.Shown.{Shown}
 use Rattle.object_kinds.specs.Kinds.{IsAnswerOf}
-use Rattle.object_kinds.specs.Layout.{place, members_of, waits_for_data}
+use Rattle.object_kinds.specs.Layout.{place, group_at, IsAlone, members_of, waits_for_data}
 use Rattle.object_kinds.specs.Flags.{given, is_set, is_pending}
 use Rattle.object_kinds.proofs.Events.{Waiting, waiting_for, events_all}
 use Rattle.object_kinds.proofs.Flags.{pending_cleared}
 use Rattle.object_kinds.proofs.Lists.{all_at, set_same}
 use Rattle.object_kinds.proofs.Options.{then_some}
 use Rattle.object_kinds.proofs.Placing.{place_at, place_within}
-use Rattle.data_objects.specs.Acting.{is_bare, Leads, Holds, IsActed, started_at, IsTaken}
+use Rattle.object_kinds.proofs.Touching.{group_itself}
+use Rattle.data_objects.specs.Acting.{is_bare, Leads, Holds, IsActed, group_seen, IsWishIn, started_at, IsTaken}
 use Rattle.data_objects.specs.Kept.{Kept, GroupState, may_start}
-use Rattle.data_objects.specs.Leading.{read_code_in, has_value, lead_of_group, lead, why_held}
-use Rattle.data_objects.specs.Plans.{IsOfPlan}
+use Rattle.data_objects.specs.Leading.{read_code_in, has_value, lead_of_group, group_lead, why_held}
+use Rattle.data_objects.specs.Plans.{IsGroupOfPlan}
 use Rattle.data_objects.proofs.Keeping.{leading}
 use Rattle.data_objects.proofs.Starting.{starts_by, not_pending}
-use Rattle.data_objects.proofs.Staying.{stays_planned}
+use Rattle.data_objects.proofs.Staying.{stays, stays_planned}
 use Rattle.data_objects.proofs.Telling.{state, none_tells}
 
 -- a receiver is within the initial values
@@ -130,7 +133,7 @@ module _ (p : Plan) (g : ℕ) (a : Actor) (x r : ℕ) (events woken : List ℕ) 
 
 -- ---- the whole
 
-answers_fit : (p : Plan) (g : ℕ) (a : Actor) (k : Kept) (after : data_kept.Kept) (d : Deed) → IsOfPlan p g k → lead_of_group p g k.events k.unqueued d ≡ Some after → is_bare d ≡ true → answer_fits p a d ≡ true
+answers_fit : (p : Plan) (g : ℕ) (a : Actor) (k : Kept) (after : data_kept.Kept) (d : Deed) → IsGroupOfPlan p g k → lead_of_group p g k.events k.unqueued d ≡ Some after → is_bare d ≡ true → answer_fits p a d ≡ true
 answers_fit p g a k after (deed.Start e point value) planned leads bare = by_kind (kind_of p e) point w.kind bare
   where
     w : Waiting p g (kind_of p e)
@@ -150,8 +153,13 @@ answers_fit p g a k after (deed.IsUpdated x updated) planned leads bare = refl
 answers_fit p g a k after (deed.Publish x value) planned leads bare = refl
 answers_fit p g a k after d planned leads bare = absurd (cc leads)
 
+-- as many events wait as before
+pub acted_long : (p : Plan) (g : ℕ) (a : Actor) (w : Wanted) (old new : GroupState) (r : Acted) → IsActed p g a w old new r → length new.kept.unqueued.due ≡ length old.kept.unqueued.due
+acted_long p g a w old new (Done e) made = (stays p g old.kept.events old.kept.unqueued new.kept.unqueued e.deed made.leads).due
+acted_long p g a w old new (NotYet shown) held = ap (λ (s : GroupState). length s.kept.unqueued.due) held.same
+
 module _ (p : Plan) (g : ℕ) (a : Actor) (w : Wanted) (old new : GroupState) where
-  pub acted_answers : (r : Acted) → IsOfPlan p g old.kept → IsActed p g a w old new r → IsAnswerOf p (lead p g) may_start why_held a w old.kept new.kept r
+  pub acted_answers : (r : Acted) → IsGroupOfPlan p g old.kept → IsActed p g a w old new r → IsAnswerOf p (group_lead p g) may_start why_held a w old.kept new.kept r
   acted_answers (Done e) planned made = record {
     actor = made.actor;
     wish = made.wish (unwrap_or (event_of w) 0);
@@ -167,10 +175,29 @@ module _ (p : Plan) (g : ℕ) (a : Actor) (w : Wanted) (old new : GroupState) wh
     },
   )
 
-  pub acted_planned : (r : Acted) → IsOfPlan p g old.kept → IsActed p g a w old new r → IsOfPlan p g new.kept
+  pub acted_planned : (r : Acted) → IsGroupOfPlan p g old.kept → IsActed p g a w old new r → IsGroupOfPlan p g new.kept
   acted_planned (Done e) planned made = stays_planned p g old.kept new.kept e.deed planned made.leads made.events
-  acted_planned (NotYet shown) planned held = subst (λ (s : GroupState). IsOfPlan p g s.kept) (sym held.same) planned
+  acted_planned (NotYet shown) planned held = subst (λ (s : GroupState). IsGroupOfPlan p g s.kept) (sym held.same) planned
+
+  pub acted_same : (r : Acted) (shown : Shown) → r ≡ NotYet shown → IsActed p g a w old new r → new ≡ old
+  acted_same r shown is acted = (subst (IsActed p g a w old new) is acted).same
 
   pub acted_tells : (r : Acted) → IsActed p g a w old new r → (event : ℕ) → may_start old.kept event ≡ false → may_start new.kept event ≡ true → Contains new.woken event
   acted_tells (Done e) made event off on = made.told.came event off on
   acted_tells (NotYet shown) held event off on = absurd (false≢true (sym off ∙ sym (ap (λ (s : GroupState). may_start s.kept event) held.same) ∙ on))
+
+-- ---- a wish on a group that is the object
+
+module _ (p : Plan) (object : ℕ) (a : Actor) (alone : IsAlone p object) where
+  -- what it reads or looks at is of the group
+  pub wish_inside : (w : Wanted) → object_of p a w ≡ Some object → IsWishIn p (group_at p object) w
+  wish_inside (to_read x) touching = group_itself p object x alone touching
+  wish_inside (to_fetch x) touching = group_itself p object x alone touching
+  wish_inside (to_see_updated x) touching = group_itself p object x alone touching
+  wish_inside w touching = tt
+
+  pub seen_itself : (w : Wanted) (g : ℕ) → object_of p a w ≡ Some object → group_seen p w ≡ Some g → group_at p object ≡ g
+  seen_itself (to_read x) g touching seen = same_Some (group_at p object) g (sym (group_itself p object x alone touching) ∙ seen)
+  seen_itself (to_fetch x) g touching seen = same_Some (group_at p object) g (sym (group_itself p object x alone touching) ∙ seen)
+  seen_itself (to_see_updated x) g touching seen = same_Some (group_at p object) g (sym (group_itself p object x alone touching) ∙ seen)
+  seen_itself w g touching seen = absurd (cc seen)

@@ -36,7 +36,7 @@ use Rattle.object_kinds.proofs.Placing.{place_at, set_all, other_way}
 use Rattle.object_kinds.proofs.Proper.{noting}
 use Rattle.data_objects.specs.Kept.{Kept}
 use Rattle.data_objects.specs.Layout.{initial_of}
-use Rattle.data_objects.specs.Standing.{due_after, Keeps}
+use Rattle.data_objects.specs.Standing.{due_after, GroupKeeps}
 use Rattle.data_objects.specs.Leading.{read_code_by, read_code_in, has_value, has_flag}
 
 -- the events that wait stay
@@ -89,28 +89,39 @@ due_started p g e n l waits it = let w = waiting_for p g (kind_of p e) waits in
 
 -- ---- what is read
 
-module _ (p : Plan) (g : ℕ) (k : Kept) (l : Past) (keeps : Keeps p g k l) where
-  pub value_same : (x r : ℕ) (v : ElemPlan) → slice_get p.elements x ≡ Some v → v.group ≡ g → place x (members_of p g) ≡ Some r → (value : Value) → has_value value r k.unqueued ≡ same_words (words_of value) (value_at p x l)
-  value_same x r v found group there value = by_stored k.unqueued.stored refl
+module _ (p : Plan) (g : ℕ) (k : Kept) (l : Past) (keeps : GroupKeeps p g k l) where
+  initial : (x r : ℕ) (v : ElemPlan) → slice_get p.elements x ≡ Some v → place x (members_of p g) ≡ Some r → slice_get k.unqueued.inits r ≡ Some v.init
+  initial x r v found there = ap (λ is. slice_get is r) keeps.inits
+      ∙ mapped_at (initial_of p) (members_of p g) r x (place_at x (members_of p g) r there)
+      ∙ ap (λ (o : Option ElemPlan). Some (option_map_or (λ (e : ElemPlan). e.init) o empty_value)) found
+
+  value_is : (x : ℕ) (v : ElemPlan) → slice_get p.elements x ≡ Some v → v.group ≡ g → (s : Option (List ℤ)) → last_stored p g l ≡ s → value_at p x l ≡ unwrap_or s (words_of v.init)
+  value_is x v found group s is = ap (λ (o : Option ElemPlan). option_map_or (λ (e : ElemPlan). unwrap_or (last_stored p e.group l) (words_of e.init)) o []) found
+      ∙ ap (λ i. unwrap_or (last_stored p i l) (words_of v.init)) group ∙ ap (λ o. unwrap_or o (words_of v.init)) is
+
+  -- a receiver's value is that of the definitions
+  pub record Found (x r : ℕ) : Type 0 where
+    pub value : Value
+    pub is : data_kept.value_for r k.unqueued ≡ Some value
+    pub words : words_of value ≡ value_at p x l
+
+  pub value_found : (x r : ℕ) (v : ElemPlan) → slice_get p.elements x ≡ Some v → v.group ≡ g → place x (members_of p g) ≡ Some r → Found x r
+  value_found x r v found group there = by_stored k.unqueued.stored refl
     where
-      initial : slice_get k.unqueued.inits r ≡ Some v.init
-      initial = ap (λ is. slice_get is r) keeps.inits
-          ∙ mapped_at (initial_of p) (members_of p g) r x (place_at x (members_of p g) r there)
-          ∙ ap (λ (o : Option ElemPlan). Some (option_map_or (λ (e : ElemPlan). e.init) o empty_value)) found
-
-      value_is : (s : Option (List ℤ)) → last_stored p g l ≡ s → value_at p x l ≡ unwrap_or s (words_of v.init)
-      value_is s is = ap (λ (o : Option ElemPlan). option_map_or (λ (e : ElemPlan). unwrap_or (last_stored p e.group l) (words_of e.init)) o []) found
-          ∙ ap (λ i. unwrap_or (last_stored p i l) (words_of v.init)) group ∙ ap (λ o. unwrap_or o (words_of v.init)) is
-
-      by_stored : (o : Option Value) → k.unqueued.stored ≡ o → has_value value r k.unqueued ≡ same_words (words_of value) (value_at p x l)
+      by_stored : (o : Option Value) → k.unqueued.stored ≡ o → Found x r
       by_stored None is =
           let none : last_stored p g l ≡ None = sym keeps.stored ∙ ap (option_map words_of) is in
-          let same : has_value value r k.unqueued ≡ same_words (words_of value) (words_of v.init) = rw (is, initial) refl in
-          same ∙ ap (same_words (words_of value)) (sym (value_is None none))
+          record { value = v.init; is = ap (λ o. option_or o (slice_get k.unqueued.inits r)) is ∙ initial x r v found there; words = sym (value_is x v found group None none) }
       by_stored (Some w) is =
           let stored : last_stored p g l ≡ Some (words_of w) = sym keeps.stored ∙ ap (option_map words_of) is in
-          let same : has_value value r k.unqueued ≡ same_words (words_of value) (words_of w) = rw is refl in
-          same ∙ ap (same_words (words_of value)) (sym (value_is (Some (words_of w)) stored))
+          record { value = w; is = ap (λ o. option_or o (slice_get k.unqueued.inits r)) is; words = sym (value_is x v found group (Some (words_of w)) stored) }
+
+  pub value_same : (x r : ℕ) (v : ElemPlan) → slice_get p.elements x ≡ Some v → v.group ≡ g → place x (members_of p g) ≡ Some r → (value : Value) → has_value value r k.unqueued ≡ same_words (words_of value) (value_at p x l)
+  value_same x r v found group there value =
+      let at = value_found x r v found group there in
+      let is = at.is in
+      let same : has_value value r k.unqueued ≡ same_words (words_of value) (words_of at.value) = rw is refl in
+      same ∙ ap (same_words (words_of value)) at.words
 
   pub value_in : (x r : ℕ) (v : ElemPlan) → slice_get p.elements x ≡ Some v → v.group ≡ g → place x (members_of p g) ≡ Some r → (value : Value) → has_value value r k.unqueued ≡ true → same_words (words_of value) (value_at p x l) ≡ true
   value_in x r v found group there value has = sym (value_same x r v found group there value) ∙ has
@@ -142,12 +153,12 @@ has_flag_is flags i b c there e = rw there at e
 
 -- ---- each entry
 
-module _ (p : Plan) (g : ℕ) (k : Kept) (l : Past) (keeps : Keeps p g k l) (a : Actor) (event : Option ℕ) where
+module _ (p : Plan) (g : ℕ) (k : Kept) (l : Past) (keeps : GroupKeeps p g k l) (a : Actor) (event : Option ℕ) where
   -- new data
   module _ (d : Deed) (value : Value) (stores : (h : ℕ) → h ≡ g → stored_in p h d ≡ Some (words_of value))
       (valid : is_invalid p g (noting a d event ∷ l) ≡ false)
       (updates : (x h : ℕ) → h ≡ g → update p x h d ≡ Some true) (starts_none : (e : ℕ) → is_start_by e (noting a d event) ≡ false) where
-    written : Keeps p g (leading k (after_write value k.unqueued)) (noting a d event ∷ l)
+    pub written : GroupKeeps p g (leading k (after_write value k.unqueued)) (noting a d event ∷ l)
     written = record {
       is_group = keeps.is_group;
       waiting = keeps.waiting;
@@ -165,31 +176,31 @@ module _ (p : Plan) (g : ℕ) (k : Kept) (l : Past) (keeps : Keeps p g k l) (a :
     }
 
   -- an entry that brings no data and starts nothing
-  due_kept : (d : Deed) → ((e : ℕ) → is_start_by e (noting a d event) ≡ false) → ((h : ℕ) → h ≡ g → BringsNone p h d)
+  pub due_kept : (d : Deed) → ((e : ℕ) → waits_for_data p g (kind_of p e) ≡ true → is_start_by e (noting a d event) ≡ false) → ((h : ℕ) → h ≡ g → BringsNone p h d)
       → k.unqueued.due ≡ map (due_after p (noting a d event ∷ l)) k.events
   due_kept d starts_none quiet = keeps.due
       ∙ subst (λ es. map (due_after p l) es ≡ map (due_after p (noting a d event ∷ l)) es) (sym keeps.waiting)
       (map_all (λ e. waits_for_data p g (kind_of p e)) (due_after p l) (due_after p (noting a d event ∷ l)) (events_of p (waits_for_data p g)) (events_all p (waits_for_data p g))
-      (λ e waits. sym (due_same p g e (noting a d event) l waits (starts_none e) quiet)))
+      (λ e waits. sym (due_same p g e (noting a d event) l waits (starts_none e waits) quiet)))
 
-  updated_kept : (d : Deed) → ((x h : ℕ) → h ≡ g → update p x h d ≡ None) → k.unqueued.updated ≡ map (λ x. is_updated p x (noting a d event ∷ l)) (members_of p g)
+  pub updated_kept : (d : Deed) → ((x h : ℕ) → is_in_group p g x ≡ true → h ≡ g → update p x h d ≡ None) → k.unqueued.updated ≡ map (λ x. is_updated p x (noting a d event ∷ l)) (members_of p g)
   updated_kept d updates = keeps.updated
       ∙ map_all (is_in_group p g) (λ x. is_updated p x l) (λ x. is_updated p x (noting a d event ∷ l)) (members_of p g) (members_all p g)
-      (λ x inside. sym (updated_same p g x (noting a d event) l inside (λ v group. updates x v.group group)))
+      (λ x inside. sym (updated_same p g x (noting a d event) l inside (λ v group. updates x v.group inside group)))
 
-  pub write_keeps : (x : ℕ) (value : Value) → is_in_group p g x ≡ true → Keeps p g (leading k (after_write value k.unqueued)) (noting a (deed.Write x value) event ∷ l)
+  pub write_keeps : (x : ℕ) (value : Value) → is_in_group p g x ≡ true → GroupKeeps p g (leading k (after_write value k.unqueued)) (noting a (deed.Write x value) event ∷ l)
   write_keeps x value inside = written (deed.Write x value) value
       (λ h same. rw same (ap (λ b. if b then Some (words_of value) else None) inside))
       (ap (λ b. not (unwrap_or (option_or (if b then Some true else None) (newest (λ (m : Noted). validity p g m.entry.deed) l)) true)) inside)
       (λ y h same. rw same (ap (λ b. if b then Some true else None) inside)) (λ e. refl)
 
-  pub publish_keeps : (x : ℕ) (value : Value) → is_in_group p g x ≡ true → Keeps p g (leading k (after_write value k.unqueued)) (noting a (deed.Publish x value) event ∷ l)
+  pub publish_keeps : (x : ℕ) (value : Value) → is_in_group p g x ≡ true → GroupKeeps p g (leading k (after_write value k.unqueued)) (noting a (deed.Publish x value) event ∷ l)
   publish_keeps x value inside = written (deed.Publish x value) value
       (λ h same. rw same (ap (λ b. if b then Some (words_of value) else None) inside))
       (ap (λ b. not (unwrap_or (option_or (if b then Some true else None) (newest (λ (m : Noted). validity p g m.entry.deed) l)) true)) inside)
       (λ y h same. rw same (ap (λ b. if b then Some true else None) inside)) (λ e. refl)
 
-  pub invalidate_keeps : (x : ℕ) → is_in_group p g x ≡ true → Keeps p g (leading k (after_invalidation k.unqueued)) (noting a (deed.Invalidate x) event ∷ l)
+  pub invalidate_keeps : (x : ℕ) → is_in_group p g x ≡ true → GroupKeeps p g (leading k (after_invalidation k.unqueued)) (noting a (deed.Invalidate x) event ∷ l)
   invalidate_keeps x inside = record {
     is_group = keeps.is_group;
     waiting = keeps.waiting;
@@ -197,11 +208,11 @@ module _ (p : Plan) (g : ℕ) (k : Kept) (l : Past) (keeps : Keeps p g k l) (a :
     receivers = keeps.receivers;
     stored = keeps.stored;
     invalid = sym (ap (λ b. not (unwrap_or (option_or (if b then Some false else None) (newest (λ (m : Noted). validity p g m.entry.deed) l)) true)) inside);
-    updated = updated_kept (deed.Invalidate x) (λ y h same. refl);
-    due = due_kept (deed.Invalidate x) (λ e. refl) (λ h group. (refl, refl));
+    updated = updated_kept (deed.Invalidate x) (λ y h inside same. refl);
+    due = due_kept (deed.Invalidate x) (λ e waits. refl) (λ h group. (refl, refl));
   }
 
-  pub fetch_keeps : (x : ℕ) (value : Value) → Keeps p g (leading k k.unqueued) (noting a (deed.Fetch x value) event ∷ l)
+  pub fetch_keeps : (x : ℕ) (value : Value) → GroupKeeps p g (leading k k.unqueued) (noting a (deed.Fetch x value) event ∷ l)
   fetch_keeps x value = record {
     is_group = keeps.is_group;
     waiting = keeps.waiting;
@@ -209,11 +220,11 @@ module _ (p : Plan) (g : ℕ) (k : Kept) (l : Past) (keeps : Keeps p g k l) (a :
     receivers = keeps.receivers;
     stored = keeps.stored;
     invalid = keeps.invalid;
-    updated = updated_kept (deed.Fetch x value) (λ y h same. refl);
-    due = due_kept (deed.Fetch x value) (λ e. refl) (λ h group. (refl, refl));
+    updated = updated_kept (deed.Fetch x value) (λ y h inside same. refl);
+    due = due_kept (deed.Fetch x value) (λ e waits. refl) (λ h group. (refl, refl));
   }
 
-  pub see_keeps : (x : ℕ) (b : Bool) → Keeps p g (leading k k.unqueued) (noting a (deed.IsUpdated x b) event ∷ l)
+  pub see_keeps : (x : ℕ) (b : Bool) → GroupKeeps p g (leading k k.unqueued) (noting a (deed.IsUpdated x b) event ∷ l)
   see_keeps x b = record {
     is_group = keeps.is_group;
     waiting = keeps.waiting;
@@ -221,11 +232,11 @@ module _ (p : Plan) (g : ℕ) (k : Kept) (l : Past) (keeps : Keeps p g k l) (a :
     receivers = keeps.receivers;
     stored = keeps.stored;
     invalid = keeps.invalid;
-    updated = updated_kept (deed.IsUpdated x b) (λ y h same. refl);
-    due = due_kept (deed.IsUpdated x b) (λ e. refl) (λ h group. (refl, refl));
+    updated = updated_kept (deed.IsUpdated x b) (λ y h inside same. refl);
+    due = due_kept (deed.IsUpdated x b) (λ e waits. refl) (λ h group. (refl, refl));
   }
 
-  pub read_keeps : (x r : ℕ) (code : ℕ) (value : Value) → is_in_group p g x ≡ true → place x (members_of p g) ≡ Some r → Keeps p g (leading k (after_read r k.unqueued)) (noting a (deed.Read x code value) event ∷ l)
+  pub read_keeps : (x r : ℕ) (code : ℕ) (value : Value) → is_in_group p g x ≡ true → place x (members_of p g) ≡ Some r → GroupKeeps p g (leading k (after_read r k.unqueued)) (noting a (deed.Read x code value) event ∷ l)
   read_keeps x r code value inside there = record {
     is_group = keeps.is_group;
     waiting = keeps.waiting;
@@ -237,10 +248,10 @@ module _ (p : Plan) (g : ℕ) (k : Kept) (l : Past) (keeps : Keeps p g k l) (a :
         ∙ set_all (is_in_group p g) (λ y. is_updated p y l) (λ y. is_updated p y (noting a (deed.Read x code value) event ∷ l)) false x (members_of p g) r (members_all p g) (members_once p g) there
         (updated_now p g x (noting a (deed.Read x code value) event) l false inside (λ v group. ap (λ b. if b then Some false else None) (eq-eqb x x refl)))
         (λ y within other. sym (updated_same p g y (noting a (deed.Read x code value) event) l within (λ v group. ap (λ b. if b then Some false else None) other)));
-    due = due_kept (deed.Read x code value) (λ e. refl) (λ h group. (refl, refl));
+    due = due_kept (deed.Read x code value) (λ e waits. refl) (λ h group. (refl, refl));
   }
 
-  pub start_keeps : (e i : ℕ) (point : Option ℕ) (value : Value) → place e k.events ≡ Some i → Keeps p g (leading k (after_start i k.unqueued)) (noting a (deed.Start e point value) event ∷ l)
+  pub start_keeps : (e i : ℕ) (point : Option ℕ) (value : Value) → place e k.events ≡ Some i → GroupKeeps p g (leading k (after_start i k.unqueued)) (noting a (deed.Start e point value) event ∷ l)
   start_keeps e i point value there = record {
     is_group = keeps.is_group;
     waiting = keeps.waiting;
@@ -248,7 +259,7 @@ module _ (p : Plan) (g : ℕ) (k : Kept) (l : Past) (keeps : Keeps p g k l) (a :
     receivers = keeps.receivers;
     stored = keeps.stored;
     invalid = keeps.invalid;
-    updated = updated_kept (deed.Start e point value) (λ y h same. refl);
+    updated = updated_kept (deed.Start e point value) (λ y h inside same. refl);
     due = ap (λ fs. set fs i false) keeps.due ∙ set_all (λ f. waits_for_data p g (kind_of p f)) (due_after p l) (due_after p (noting a (deed.Start e point value) event ∷ l)) false e k.events i
         (subst (λ es. list_all (λ f. waits_for_data p g (kind_of p f)) es ≡ true) (sym keeps.waiting) (events_all p (waits_for_data p g)))
         (subst (λ es. is_distinct es ≡ true) (sym keeps.waiting) (events_once p (waits_for_data p g))) there

@@ -1,8 +1,9 @@
-mod Keeping
-mod Leading
-mod Missing
-mod Opening
-mod Starting
-mod Staying
+pub mod Keeping
+pub mod Leading
+pub mod Elsewhere
+pub mod Missing
+pub mod Opening
+pub mod Starting
+pub mod Staying
 mod Telling
 mod Acting

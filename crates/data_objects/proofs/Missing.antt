@@ -10,7 +10,7 @@ use Rattle.bus_semantics.specs.declared.entries.Actor.TheVariants.{Env}
 use Rattle.bus_semantics.specs.declared.entries.Deed.{Deed}
 use Rattle.bus_semantics.specs.declared.entries.Deed.TheVariants as deed
 use Rattle.bus_semantics.specs.Plan.{Plan, kind_of}
-use Rattle.bus_semantics.specs.History.{Past}
+use Rattle.bus_semantics.specs.History.{Noted, Past}
 use Rattle.bus_semantics.specs.Unqueued.{is_in_group, value_at, read_code, is_updated}
 use Rattle.bus_semantics.specs.Due.{is_due, is_due_kind}
 use Rattle.bus_semantics.specs.Legal.{same_bool, Answers}
@@ -18,7 +18,7 @@ use Rattle.bus_semantics.specs.Locality.{is_proper}
 use Rattle.bus_semantics.specs.Sound.{IsSound}
 use Rattle.explicit_ports.specs.Kept as data_kept
 use Rattle.object_kinds.specs.Kinds.{MissesNothing}
-use Rattle.object_kinds.specs.Layout.{members_of, waits_for_data, place}
+use Rattle.object_kinds.specs.Layout.{group_at, members_of, waits_for_data, place}
 use Rattle.object_kinds.specs.Flags.{given, is_set}
 use Rattle.object_kinds.proofs.Events.{waiting_for, waiting_placed}
 use Rattle.object_kinds.proofs.Flags.{flag_there}
@@ -30,14 +30,14 @@ use Rattle.object_kinds.proofs.Proper.{noting}
 use Rattle.object_kinds.proofs.Touching.{OnGroup, touches_group, send_queued, receive_queued}
 use Rattle.data_objects.specs.Kept.{Kept}
 use Rattle.data_objects.specs.Layout.{is_queued_at}
-use Rattle.data_objects.specs.Standing.{due_after, Keeps}
-use Rattle.data_objects.specs.Leading.{read_code_in, has_value, has_flag, lead_of_group, lead}
+use Rattle.data_objects.specs.Standing.{due_after, GroupKeeps, Keeps}
+use Rattle.data_objects.specs.Leading.{read_code_in, has_value, has_flag, lead_of_group, group_lead, lead}
 use Rattle.data_objects.proofs.Keeping.{leading, value_same, code_in}
 
 has_flag_here : (flags : List Bool) (i : ℕ) (b c : Bool) → slice_get flags i ≡ Some c → same_bool b c ≡ true → has_flag b flags i ≡ true
 has_flag_here flags i b c there same = rw there same
 
-module _ (p : Plan) (g : ℕ) (k : Kept) (l : Past) (keeps : Keeps p g k l) (a : Actor) (event : Option ℕ) where
+module _ (p : Plan) (g : ℕ) (k : Kept) (l : Past) (keeps : GroupKeeps p g k l) (a : Actor) (event : Option ℕ) where
   start_comes : (e : ℕ) (point : Option ℕ) (value : Value) → waits_for_data p g (kind_of p e) ≡ true → is_due p a e l ≡ true → is_some (lead_of_group p g k.events k.unqueued (deed.Start e point value)) ≡ true
   start_comes e point value waits due =
       let w = waiting_for p g (kind_of p e) waits in
@@ -91,8 +91,11 @@ module _ (p : Plan) (g : ℕ) (k : Kept) (l : Past) (keeps : Keeps p g k l) (a :
   group_comes (deed.Receive x code value) on proper answers = none_queued x on (receive_queued p a event x code value proper)
   group_comes d on proper answers = absurd on
 
-pub misses_nothing : (p : Plan) (m : Mapping) (g : ℕ) → IsSound p m → MissesNothing p g (Keeps p g) (lead p g)
-misses_nothing p m g sound k l n stands follows =
-    mapped_where (λ d. leading k d) (lead_of_group p g k.events k.unqueued n.entry.deed)
-    (group_comes p g k l stands.kept n.entry.actor n.event n.entry.deed
-    (touches_group p m g n.entry.actor n.event n.entry.deed sound stands.kept.is_group.alone follows.touching follows.proper) follows.proper follows.answers)
+pub group_misses_nothing : (p : Plan) (g : ℕ) (k : Kept) (l : Past) (n : Noted) → GroupKeeps p g k l → OnGroup p g n.entry.deed → is_proper p n ≡ true → Answers p l n → is_some (group_lead p g k n) ≡ true
+group_misses_nothing p g k l n keeps on proper answers =
+    mapped_where (λ d. leading k d) (lead_of_group p g k.events k.unqueued n.entry.deed) (group_comes p g k l keeps n.entry.actor n.event n.entry.deed on proper answers)
+
+pub misses_nothing : (p : Plan) (m : Mapping) (object : ℕ) → IsSound p m → MissesNothing p object (Keeps p object) (lead p object)
+misses_nothing p m object sound k l n stands follows =
+    group_misses_nothing p (group_at p object) k l n stands.kept.group
+    (touches_group p m object n.entry.actor n.event n.entry.deed sound stands.kept.alone follows.touching follows.proper) follows.proper follows.answers

@@ -8,13 +8,13 @@ use Rattle.bus_semantics.specs.Plan.{Plan}
 use Rattle.bus_semantics.specs.Wanted.{to_start, wanted_by}
 use Rattle.explicit_ports.specs.Kept as data_kept
 use Rattle.object_kinds.specs.Kinds.{StartsByFlag, OthersWakeNothing}
-use Rattle.object_kinds.specs.Layout.{place, members_of}
+use Rattle.object_kinds.specs.Layout.{group_at, place, members_of}
 use Rattle.object_kinds.specs.Flags.{given, is_set, is_pending}
 use Rattle.object_kinds.proofs.Flags.{pending_cleared}
 use Rattle.object_kinds.proofs.Options.{given_some, given_none, none_given, then_some, mapped_some}
 use Rattle.data_objects.specs.Acting.{started_at}
 use Rattle.data_objects.specs.Kept.{may_start}
-use Rattle.data_objects.specs.Leading.{read_code_in, has_value, has_flag, lead_of_group, lead, wakes}
+use Rattle.data_objects.specs.Leading.{read_code_in, has_value, has_flag, lead_of_group, group_lead, lead, wakes}
 use Rattle.data_objects.proofs.Keeping.{leading}
 
 -- ---- a start that is not pending
@@ -31,9 +31,12 @@ pub starts_by : (p : Plan) (g : ℕ) (events : List ℕ) (k : data_kept.Kept) (d
 starts_by p g events k (deed.Start e point value) by event same = let is : e ≡ event = cc in rw is refl
 starts_by p g events k d by event same = absurd (cc same)
 
-pub by_flags : (p : Plan) (g : ℕ) → StartsByFlag may_start (lead p g)
-by_flags p g k event n off start =
+pub group_by_flags : (p : Plan) (g : ℕ) → StartsByFlag may_start (group_lead p g)
+group_by_flags p g k event n off start =
     ap (option_map (λ d. leading k d)) (starts_by p g k.events k.unqueued n.entry.deed (unwrap_or n.event 0) event start.wish ∙ not_started k.unqueued (place event k.events) off)
+
+pub by_flags : (p : Plan) (object : ℕ) → StartsByFlag may_start (lead p object)
+by_flags p object = group_by_flags p (group_at p object)
 
 -- ---- a flag that stays clear
 
@@ -61,7 +64,10 @@ group_off p g events k after (deed.Invalidate x) at leads other off =
     subst (λ (z : data_kept.Kept). is_pending z.due at ≡ false) same off
 group_off p g events k after d at leads other off = absurd (cc leads)
 
-pub wakes_nothing : (p : Plan) (g : ℕ) → OthersWakeNothing wakes may_start (lead p g)
-wakes_nothing p g before after n leads other event off =
+pub group_wakes_nothing : (p : Plan) (g : ℕ) → OthersWakeNothing wakes may_start (group_lead p g)
+group_wakes_nothing p g before after n leads other event off =
     let of = mapped_some (λ d. leading before d) (lead_of_group p g before.events before.unqueued n.entry.deed) after leads in
     subst (λ z. may_start z event ≡ false) of.gives (group_off p g before.events before.unqueued of.item n.entry.deed (place event before.events) of.is other off)
+
+pub wakes_nothing : (p : Plan) (object : ℕ) → OthersWakeNothing wakes may_start (lead p object)
+wakes_nothing p object = group_wakes_nothing p (group_at p object)

@@ -33,25 +33,27 @@ all_on (c ∷ due) zero b there = refl
 all_on (c ∷ due) (suc i) b there = all_on due i b there
 
 -- each event has its number in the plan as its name
-module _ (events names : List ℕ) (k new : data_kept.Kept) (value : Value) (before woken : List ℕ) (up : is_rising events ≡ true) (named : names ≡ events) (writes : new ≡ data_kept.after_write value k)
-    (told : (i name : ℕ) → slice_get k.due i ≡ Some false → slice_get names i ≡ Some name → Contains woken name) (only : (name : ℕ) → Contains woken name → IsOfClear k.due names name) where
-  came : (event : ℕ) → is_pending k.due (place event events) ≡ false → is_pending new.due (place event events) ≡ true → Contains woken event
-  came event off on = by_place (place event events) refl off (subst (λ (z : data_kept.Kept). is_pending z.due (place event events) ≡ true) writes on)
+module _ (events names : List ℕ) (k new : data_kept.Kept) (value : Value) where
+  pub came : (woken : List ℕ) → names ≡ events → new ≡ data_kept.after_write value k → ((i name : ℕ) → slice_get k.due i ≡ Some false → slice_get names i ≡ Some name → Contains woken name)
+      → (event : ℕ) → is_pending k.due (place event events) ≡ false → is_pending new.due (place event events) ≡ true → Contains woken event
+  came woken named writes told event off on = by_place (place event events) refl off (subst (λ (z : data_kept.Kept). is_pending z.due (place event events) ≡ true) writes on)
     where
       by_place : (at : Option ℕ) → place event events ≡ at → is_pending k.due at ≡ false → is_pending (data_kept.after_write value k).due at ≡ true → Contains woken event
       by_place None there off on = absurd (false≢true on)
       by_place (Some i) there off on = told i event (was_clear k.due i off on) (ap (λ xs. slice_get xs i) named ∙ place_at event events i there)
 
-  made : (event : ℕ) → Contains woken event → (is_pending k.due (place event events) ≡ false) × (is_pending new.due (place event events) ≡ true)
-  made event among =
-      let of = only event among in
+  pub made : is_rising events ≡ true → names ≡ events → new ≡ data_kept.after_write value k → (event : ℕ) → IsOfClear k.due names event
+      → (is_pending k.due (place event events) ≡ false) × (is_pending new.due (place event events) ≡ true)
+  made up named writes event of =
       let there : place event events ≡ Some of.at = place_here events of.at event up (sym (ap (λ xs. slice_get xs of.at) named) ∙ of.named) in
       let was : is_set k.due of.at ≡ false = flag_is k.due of.at false of.clear in
       let now : is_set new.due of.at ≡ true = ap (λ (z : data_kept.Kept). is_set z.due of.at) writes ∙ all_on k.due of.at false of.clear in
       (ap (is_pending k.due) there ∙ was, ap (is_pending new.due) there ∙ now)
 
-  pub write_tells : (d : Deed) → wakes d ≡ true → Tells (state events k before) (state events new woken) d
-  write_tells d is = record { came = came; only = λ yes event among. made event among; left = λ not. clash (wakes d) is not }
+  pub write_tells : (before woken : List ℕ) → is_rising events ≡ true → names ≡ events → new ≡ data_kept.after_write value k
+      → ((i name : ℕ) → slice_get k.due i ≡ Some false → slice_get names i ≡ Some name → Contains woken name) → ((name : ℕ) → Contains woken name → IsOfClear k.due names name)
+      → (d : Deed) → wakes d ≡ true → Tells (state events k before) (state events new woken) d
+  write_tells before woken up named writes told only d is = record { came = came woken named writes told; only = λ yes event among. made up named writes event (only event among); left = λ not. clash (wakes d) is not }
 
 -- a deed that wakes nothing and leaves what was told
 pub none_tells : (old new : GroupState) (d : Deed) → wakes d ≡ false → new.woken ≡ old.woken → ((event : ℕ) → may_start old.kept event ≡ false → may_start new.kept event ≡ false) → Tells old new d

@@ -7,8 +7,8 @@ use Rattle.bus_semantics.specs.declared.entries.Actor.{Actor}
 use Rattle.bus_semantics.specs.declared.entries.Deed.{Deed}
 use Rattle.bus_semantics.specs.declared.entries.Deed.TheVariants as deed
 use Rattle.bus_semantics.specs.declared.entries.Entry.{Entry}
-use Rattle.bus_semantics.specs.Plan.{Plan}
-use Rattle.bus_semantics.specs.Wanted.{Wanted, wanted_by}
+use Rattle.bus_semantics.specs.Plan.{Plan, group_of}
+use Rattle.bus_semantics.specs.Wanted.{Wanted, to_read, to_fetch, to_see_updated, wanted_by}
 use Rattle.explicit_ports.specs.Kept as data_kept
 use Rattle.object_kinds.specs.declared.acted.Acted.{Acted}
 use Rattle.object_kinds.specs.declared.acted.Acted.TheVariants.{Done, NotYet}
@@ -44,6 +44,20 @@ pub record Holds (p : Plan) (group : ℕ) (w : Wanted) (old new : GroupState) (s
 abbrev pub IsActed : Plan → (group : ℕ) → Actor → Wanted → (old new : GroupState) → Acted → Type 0
 IsActed p group a w old new (Done e) = Leads p group a w old new e
 IsActed p group a w old new (NotYet shown) = Holds p group w old new shown
+
+-- the group of the element that a wish reads or looks at
+abbrev pub group_seen : Plan → Wanted → Option ℕ
+group_seen p (to_read x) = group_of p x
+group_seen p (to_fetch x) = group_of p x
+group_seen p (to_see_updated x) = group_of p x
+group_seen p w = None
+
+-- what the wish reads or looks at, if it does, is an element of the group
+abbrev pub IsWishIn : Plan → (group : ℕ) → Wanted → Type 0
+IsWishIn p g (to_read x) = group_of p x ≡ Some g
+IsWishIn p g (to_fetch x) = group_of p x ≡ Some g
+IsWishIn p g (to_see_updated x) = group_of p x ≡ Some g
+IsWishIn p g w = Unit {0}
 
 -- a start by the event at this place
 abbrev pub started_at : data_kept.Kept → (place : Option ℕ) → Option data_kept.Kept

@@ -6,7 +6,7 @@ use Rattle.rte_value.specs.ShortValues.{empty_value}
 use Rattle.bus_semantics.specs.declared.plan.ElemPlan.{ElemPlan}
 use Rattle.bus_semantics.specs.Plan.{Plan, look, kind_of}
 use Rattle.bus_semantics.specs.Owners.{is_queued}
-use Rattle.object_kinds.specs.Layout.{IsAlone, members_of, place, element_in}
+use Rattle.object_kinds.specs.Layout.{members_of, place, element_in}
 
 abbrev pub initial_of : Plan → (elem : ℕ) → Value
 initial_of p x = look p.elements x (λ (e : ElemPlan). e.init) empty_value
@@ -18,9 +18,7 @@ receiver_of p g e = unwrap_or (place (element_in (kind_of p e)) (members_of p g)
 abbrev pub is_queued_at : Plan → (elem : ℕ) → Bool
 is_queued_at p x = look p.elements x is_queued false
 
--- the group is one of the plan's and a bundle by itself, and none of its elements is queued: these are ports' unqueued elements, or a
--- variable
+-- the group is one of the plan's, and none of its elements is queued: these are ports' unqueued elements, or a variable
 pub record IsUnqueuedGroup (p : Plan) (group : ℕ) : Type 0 where
   pub number : group < length p.groups
-  pub alone : IsAlone p group
   pub unqueued : list_all (λ x. not (is_queued_at p x)) (members_of p group) ≡ true

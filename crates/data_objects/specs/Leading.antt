@@ -15,7 +15,7 @@ use Rattle.bus_semantics.specs.Wanted.{Wanted, to_start}
 use Rattle.explicit_ports.specs.Kept as data_kept
 use Rattle.object_kinds.specs.declared.acted.Shown.{Shown}
 use Rattle.object_kinds.specs.declared.acted.Shown.TheVariants.{NotDue, Unmatched}
-use Rattle.object_kinds.specs.Layout.{members_of, place}
+use Rattle.object_kinds.specs.Layout.{group_at, members_of, place}
 use Rattle.object_kinds.specs.Flags.{given, is_set}
 use Rattle.data_objects.specs.Kept.{Kept}
 
@@ -59,8 +59,16 @@ lead_of_group p g events k (deed.IsUpdated x updated) = option_and_then (λ r. g
 lead_of_group p g events k (deed.Start event point value) = option_and_then (λ i. given (is_set k.due i) (data_kept.after_start i k)) (place event events)
 lead_of_group p g events k _ = None
 
-abbrev pub lead : Plan → (group : ℕ) → Kept → Noted → Option Kept
-lead p g k n = option_map (λ (d : data_kept.Kept). record { events = k.events; unqueued = d }) (lead_of_group p g k.events k.unqueued n.entry.deed)
+abbrev pub group_lead : Plan → (group : ℕ) → Kept → Noted → Option Kept
+group_lead p g k n = option_map (λ (d : data_kept.Kept). record { events = k.events; unqueued = d }) (lead_of_group p g k.events k.unqueued n.entry.deed)
+
+-- where the object of this number is the group
+abbrev pub lead : Plan → (object : ℕ) → Kept → Noted → Option Kept
+lead p object k n = group_lead p (group_at p object) k n
+
+-- the value of an element as its group keeps it; none of an element that is not the group's
+abbrev pub value_in : Plan → (group : ℕ) → (elem : ℕ) → data_kept.Kept → Option Value
+value_in p g x k = option_and_then (λ r. data_kept.value_for r k) (place x (members_of p g))
 
 -- why a wish may not come: a start is not due; every other wish that may not come is none of the group's
 abbrev pub why_held : Kept → Wanted → Shown

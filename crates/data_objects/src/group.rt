@@ -1,7 +1,8 @@
 //! A group of unqueued data elements with the plan's events that wait for it.
 
-ghost use Rattle.std.specs.Prelude.{◌≡◌, ◌<◌, ℕ, length, true, false, Some};
+ghost use Rattle.std.specs.Prelude.{◌≡◌, ◌<◌, ◌≤◌, ◌+◌, ◌⊎◌, ℕ, count_by, length, not, true, false, Some};
 ghost use Rattle.std.specs.List.{Contains};
+ghost use Rattle.std.specs.Vec.{vec_capacity};
 ghost use Rattle.rte_value.specs.Values.{words_of};
 ghost use Rattle.bus_semantics.specs.declared.entries.Entry.{Entry};
 ghost use Rattle.bus_semantics.specs.Plan.{Plan, plan_of, look};
@@ -12,10 +13,11 @@ ghost use Rattle.object_kinds.specs.declared.acted.Shown.{Shown};
 ghost use Rattle.object_kinds.specs.declared.acted.Acted.TheVariants.{Done, NotYet};
 ghost use Rattle.object_kinds.specs.Layout.{place, members_of};
 ghost use Rattle.object_kinds.specs.Kinds.{IsAnswerOf};
-ghost use Rattle.data_objects.specs.Acting.{IsActed, IsTaken, started_at};
+ghost use Rattle.explicit_ports.specs.Kept.{after_write};
+ghost use Rattle.data_objects.specs.Acting.{IsActed, IsTaken, IsWishIn, group_seen, started_at};
 ghost use Rattle.data_objects.specs.Kept.{may_start};
-ghost use Rattle.data_objects.specs.Leading.{lead, why_held, read_code_by, wakes};
-ghost use Rattle.data_objects.specs.Plans.{IsOfPlan};
+ghost use Rattle.data_objects.specs.Leading.{group_lead, lead, why_held, read_code_by, value_in, wakes};
+ghost use Rattle.data_objects.specs.Plans.{IsGroupOfPlan, IsOfPlan};
 
 use bus_semantics::{Actor, BusPlan, Deed, ElemKind, ElemPlan, Entry, Wish};
 use explicit_ports::{ReadState, Unqueued};
@@ -101,12 +103,26 @@ impl Group {
         self.act_by_wish(p, who, wish)
     }
 
+    /// Makes the entry of a wish as `act` does, on a group that is one of several in a bundle: of whatever else is wished, an element
+    /// that is read or looked at is of the group.
+    pub fn act_in_group(&mut self, p: &BusPlan, who: &Actor, wish: &Wish) -> Acted
+        requires groups { groups_fit (plan_of p.now) ≡ true }
+        requires planned { (group : ℕ) → group_seen (plan_of p.now) (wanted_of wish.now) ≡ Some group → IsGroupOfPlan (plan_of p.now) group self.old.kept }
+        ensures planned { (group : ℕ) → IsWishIn (plan_of p.now) group (wanted_of wish.now) → IsGroupOfPlan (plan_of p.now) group self.old.kept → IsGroupOfPlan (plan_of p.now) group self.new.kept }
+        ensures answer { (group : ℕ) → IsWishIn (plan_of p.now) group (wanted_of wish.now) → IsGroupOfPlan (plan_of p.now) group self.old.kept →
+            IsAnswerOf (plan_of p.now) (group_lead (plan_of p.now) group) may_start why_held who.now (wanted_of wish.now) self.old.kept self.new.kept result }
+        ensures same { (group : ℕ) → IsWishIn (plan_of p.now) group (wanted_of wish.now) → (shown : Shown) → result ≡ NotYet shown → self.new ≡ self.old }
+        ensures long { length self.new.kept.unqueued.due ≡ length self.old.kept.unqueued.due }
+    {
+        self.act_by_wish(p, who, wish)
+    }
+
     /// Makes the entry of a wish, by what it wants.
     fn act_by_wish(&mut self, p: &BusPlan, who: &Actor, wish: &Wish) -> Acted
         requires groups { groups_fit (plan_of p.now) ≡ true }
-        requires touching { object_of (plan_of p.now) who.now (wanted_of wish.now) ≡ Some (touched (plan_of p.now) who.now (wanted_of wish.now)) }
-        requires planned { IsOfPlan (plan_of p.now) (touched (plan_of p.now) who.now (wanted_of wish.now)) self.old.kept }
-        ensures { IsActed (plan_of p.now) (touched (plan_of p.now) who.now (wanted_of wish.now)) who.now (wanted_of wish.now) self.old self.new result }
+        requires planned { (group : ℕ) → group_seen (plan_of p.now) (wanted_of wish.now) ≡ Some group → IsGroupOfPlan (plan_of p.now) group self.old.kept }
+        ensures acted { (group : ℕ) → IsWishIn (plan_of p.now) group (wanted_of wish.now) → IsActed (plan_of p.now) group who.now (wanted_of wish.now) self.old self.new result }
+        ensures long { length self.new.kept.unqueued.due ≡ length self.old.kept.unqueued.due }
     {
         match wish {
             Wish::Write { elem, value } => self.write(who, *elem, value),
@@ -258,6 +274,34 @@ impl Group {
             }),
             None => Acted::NotYet(Shown::Unmatched),
         }
+    }
+
+    /// The value that an implicit read by an element of the group fetches (SWS_RTE: Rte_IRead); none for another element.
+    pub fn value(&self, p: &BusPlan, group: u32, elem: u32) -> Option<Value>
+        requires groups { groups_fit (plan_of p.now) ≡ true }
+        requires planned { IsGroupOfPlan (plan_of p.now) group self.now.kept }
+        ensures { result ≡ value_in (plan_of p.now) group elem self.now.kept.unqueued }
+    {
+        match receiver(p, group, elem) {
+            Some(receiver) => Some(self.unqueued.fetch(receiver)),
+            None => None,
+        }
+    }
+
+    /// Stores a value that was written or published in the group, and appends the events that it makes pending to `woken`. The group's
+    /// own list of them stays.
+    pub fn publish_and_add(&mut self, value: &Value, woken: &mut Vec<u32>)
+        requires room { length woken.old.items + count_by not self.old.kept.unqueued.due ≤ vec_capacity woken.old }
+        ensures events { self.new.kept.events ≡ self.old.kept.events }
+        ensures stored { self.new.kept.unqueued ≡ after_write value.now self.old.kept.unqueued }
+        ensures told { (event : ℕ) → may_start self.old.kept event ≡ false → may_start self.new.kept event ≡ true → Contains woken.new.items event }
+        ensures stayed { (event : ℕ) → Contains woken.old.items event → Contains woken.new.items event }
+        ensures only { (event : ℕ) → Contains woken.new.items event → Contains woken.old.items event ⊎ ((may_start self.old.kept event ≡ false) × (may_start self.new.kept event ≡ true)) }
+        ensures room { length woken.new.items + count_by not self.new.kept.unqueued.due ≤ length woken.old.items + count_by not self.old.kept.unqueued.due }
+        ensures capacity { vec_capacity woken.new ≡ vec_capacity woken.old }
+    {
+        self.unqueued
+            .publish_and_add(value, self.events.as_slice(), woken);
     }
 
     /// Whether a start by an event is pending.

@@ -6,7 +6,7 @@ ghost use Rattle.bus_semantics.specs.SoundPlan.{groups_fit};
 ghost use Rattle.object_kinds.specs.Layout.{members_of, events_of, waits_for_data};
 ghost use Rattle.data_objects.specs.Kept.{opening};
 ghost use Rattle.data_objects.specs.Layout.{initial_of, receiver_of, IsUnqueuedGroup};
-ghost use Rattle.data_objects.specs.Plans.{IsOfPlan};
+ghost use Rattle.data_objects.specs.Plans.{IsGroupOfPlan};
 
 use crate::Memory;
 use crate::events::element_at;
@@ -24,7 +24,7 @@ impl Group {
         requires unqueued { IsUnqueuedGroup (plan_of p.now) group }
         requires waiting { events.items ≡ events_of (plan_of p.now) (waits_for_data (plan_of p.now) group) }
         ensures kept { IfOk result (λ g. g.kept ≡ opening (plan_of p.now) group) }
-        ensures planned { IfOk result (λ g. IsOfPlan (plan_of p.now) group g.kept) }
+        ensures planned { IfOk result (λ g. IsGroupOfPlan (plan_of p.now) group g.kept) }
     {
         let inits = initial_values(alloc, p, group)?;
         let receivers = receivers_of(alloc, p, group, events.as_slice())?;

@@ -1,11 +1,13 @@
 -- Flags of one group, seen as whether they are set.
-use Rattle.std.proofs.Common.{◌≡◌, ◌<◌, ◌==◌, ◌||◌, ℕ, zero, suc, refl, sym, ◌∙◌, ap, Bool, true, false, List, [], ◌∷◌, length, get_or, map, replicate, Some}
+use Rattle.std.proofs.Common.{◌≡◌, ◌<◌, ◌==◌, ◌||◌, ℕ, zero, suc, refl, sym, ◌∙◌, ap, Bool, true, false, not, cond, ◌+◌, List, [], ◌∷◌, length, get_or, map, replicate, Some}
+use Rattle.std.specs.Prelude.{count_by}
 use Rattle.std.specs.List.{slice_get}
 use Rattle.std.specs.Option.{option_map}
 use Rattle.std.proofs.lemmas.Bool.{eq-eqb}
 use Rattle.std.proofs.lemmas.List.Elements.{All-head, All-tail}
+use Rattle.std.proofs.lemmas.List.Sums.{sum_by-cons}
 use Rattle.std.proofs.lemmas.Option.{slice_get-get_or, slice_get-map}
-use Rattle.latches.specs.Latches.{Latch, clear_in, after_set, IsNamedIn}
+use Rattle.latches.specs.Latches.{Latch, clear_in, is_clear, after_set, IsNamedIn}
 use Rattle.explicit_ports.specs.Flags.{are_set, AreOneGroup, IsOfClear}
 
 pub all_set : (ls : List Latch) → AreOneGroup ls → are_set (map (after_set 0) ls) ≡ replicate (length (are_set ls)) true
@@ -39,3 +41,14 @@ told_of ls seen group names name shown of = record {
   clear = sym (ap (λ bs. slice_get bs of.at) shown) ∙ slice_get-map (λ (l : Latch). l.is_set) ls of.at ∙ ap (option_map (λ (l : Latch). l.is_set)) of.is ∙ ap (λ b. Some b) of.clear;
   named = of.named;
 }
+
+-- as many are clear as are seen so
+pub clear_counted : (ls : List Latch) (seen : List Bool) → are_set ls ≡ seen → count_by is_clear ls ≡ count_by not seen
+clear_counted ls seen shown = counted ls ∙ ap (count_by not) shown
+  where
+    counted : (ms : List Latch) → count_by is_clear ms ≡ count_by not (are_set ms)
+    counted [] = refl
+    counted (m ∷ ms) =
+        sum_by-cons (λ (l : Latch). cond (is_clear l) 1 0) m ms
+        ∙ ap (λ n. cond (is_clear m) 1 0 + n) (counted ms)
+        ∙ sym (sum_by-cons (λ (b : Bool). cond (not b) 1 0) m.is_set (are_set ms))

@@ -1,6 +1,6 @@
 //! Flags that are set all at once.
 
-ghost use Rattle.std.specs.Prelude.{◌≡◌, ◌<◌, ◌≤◌, ◌+◌, ◌⊎◌, ℕ, IfOk, Some, false, length, replicate, set, slice_get, true};
+ghost use Rattle.std.specs.Prelude.{◌≡◌, ◌<◌, ◌≤◌, ◌+◌, ◌⊎◌, ℕ, IfOk, Some, count_by, false, length, not, replicate, set, slice_get, true};
 ghost use Rattle.std.specs.List.{Contains};
 ghost use Rattle.std.specs.Vec.{vec_capacity};
 ghost use Rattle.explicit_ports.specs.Flags.{IsOfClear};
@@ -67,10 +67,12 @@ impl Flags {
     /// Sets all flags, and appends the names of those that were clear.
     pub fn set_and_tell(&mut self, names: &[u32], told: &mut Vec<u32>)
         requires named { length names.now ≡ length self.old }
-        requires room { length told.old.items + length self.old ≤ vec_capacity told.old }
+        requires room { length told.old.items + count_by not self.old ≤ vec_capacity told.old }
         ensures set { self.new ≡ replicate (length self.old) true }
         ensures told { (at name : ℕ) → slice_get self.old at ≡ Some false → slice_get names.now at ≡ Some name → Contains told.new.items name }
+        ensures kept { (name : ℕ) → Contains told.old.items name → Contains told.new.items name }
         ensures only { (name : ℕ) → Contains told.new.items name → Contains told.old.items name ⊎ IsOfClear self.old names.now name }
+        ensures room { length told.new.items + count_by not self.new ≤ length told.old.items + count_by not self.old }
         ensures capacity { vec_capacity told.new ≡ vec_capacity told.old }
     {
         self.latches.set_and_tell(ALL, names, told);

@@ -1,6 +1,6 @@
 //! A group of joined unqueued data elements.
 
-ghost use Rattle.std.specs.Prelude.{◌≡◌, ◌<◌, ◌≤◌, ℕ, false, length, IfOk, slice_get, Some, is_some};
+ghost use Rattle.std.specs.Prelude.{◌≡◌, ◌<◌, ◌≤◌, ◌+◌, ◌⊎◌, ℕ, count_by, false, length, not, IfOk, slice_get, Some, is_some};
 ghost use Rattle.std.specs.List.{Contains};
 ghost use Rattle.std.specs.Vec.{vec_capacity};
 ghost use Rattle.explicit_ports.specs.Flags.{IsOfClear};
@@ -111,6 +111,23 @@ impl Unqueued {
         ensures capacity { vec_capacity woken.new ≡ vec_capacity woken.old }
     {
         self.write_and_tell(value, names, woken)
+    }
+
+    /// Stores a value as `publish` does, and appends the names of the events that were not pending before to those in the list.
+    pub fn publish_and_add(&mut self, value: &Value, names: &[u32], woken: &mut Vec<u32>)
+        requires named { length names.now ≡ length self.old.events }
+        requires room { length woken.old.items + count_by not self.old.due ≤ vec_capacity woken.old }
+        ensures kept { self.new ≡ after_write value.now self.old }
+        ensures woken { (event name : ℕ) → slice_get self.old.due event ≡ Some false → slice_get names.now event ≡ Some name → Contains woken.new.items name }
+        ensures stayed { (name : ℕ) → Contains woken.old.items name → Contains woken.new.items name }
+        ensures only { (name : ℕ) → Contains woken.new.items name → Contains woken.old.items name ⊎ IsOfClear self.old.due names.now name }
+        ensures room { length woken.new.items + count_by not self.new.due ≤ length woken.old.items + count_by not self.old.due }
+        ensures capacity { vec_capacity woken.new ≡ vec_capacity woken.old }
+    {
+        self.stored = Some(*value);
+        self.invalid = false;
+        self.updated.set_all();
+        self.due.set_and_tell(names, woken);
     }
 
     /// Marks the group as invalid (Rte_Invalidate). No value, update flag or pending event changes.

@@ -1,5 +1,5 @@
 -- What an entry names that touches an object, by what the object is. This is the one place that goes through all deeds for it.
-use Rattle.std.proofs.Common.{◌≡◌, ℕ, true, ap, Option, Some, None}
+use Rattle.std.proofs.Common.{◌≡◌, ℕ, true, Option, Some, None}
 use Rattle.std.specs.Prelude.{option_map, option_and_then}
 use Rattle.bus_semantics.specs.declared.plan.EventKind.{EventKind}
 use Rattle.bus_semantics.specs.declared.plan.EventKind.TheVariants.{Timing, Init, DataReceived, Invoked, Returns, ModeSwitch, Ack}
@@ -13,7 +13,6 @@ use Rattle.bus_semantics.specs.Objects.{disabler_of, machine_of_event, served_by
 use Rattle.bus_semantics.specs.Locality.{is_proper}
 use Rattle.bus_semantics.specs.Sound.{IsSound}
 use Rattle.object_kinds.proofs.Numbers.{Which, a_bundle, a_server, an_area, a_machine, the_clock, number_of, IsIn, which_of, which_starts, touched_which}
-use Rattle.object_kinds.proofs.Options.{then_some, mapped_some}
 use Rattle.object_kinds.proofs.Proper.{noting}
 
 -- ---- the object is this one

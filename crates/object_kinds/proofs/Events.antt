@@ -11,18 +11,21 @@ use Rattle.bus_semantics.specs.declared.plan.EventKind.{EventKind}
 use Rattle.bus_semantics.specs.declared.plan.EventKind.TheVariants.{Init, DataReceived}
 use Rattle.bus_semantics.specs.declared.entries.Actor.{Actor}
 use Rattle.bus_semantics.specs.declared.entries.Actor.TheVariants.{Env, Machine, Act}
-use Rattle.bus_semantics.specs.Plan.{Plan, kind_of, instance_of, positions}
+use Rattle.bus_semantics.specs.Plan.{Plan, kind_of, group_of, instance_of, positions}
+use Rattle.bus_semantics.specs.Bundles.{home_of, bundle_of}
 use Rattle.bus_semantics.specs.Wanted.{to_start}
 use Rattle.bus_semantics.specs.Owners.{key_fits, event_fits}
 use Rattle.bus_semantics.specs.Fitting.{wish_fits}
 use Rattle.bus_semantics.specs.Unqueued.{is_in_group}
-use Rattle.bus_semantics.specs.SoundPlan.{is_distinct, groups_fit}
-use Rattle.object_kinds.specs.Layout.{events_of, waits_for_data}
+use Rattle.bus_semantics.specs.SoundPlan.{is_distinct}
+use Rattle.bus_semantics.specs.SoundLists.{bundles_fit}
+use Rattle.object_kinds.specs.Layout.{events_of, waits_for_data, waits_in_bundle}
 use Rattle.object_kinds.specs.Rising.{is_rising}
 use Rattle.object_kinds.proofs.Lists.{all_filter}
-use Rattle.object_kinds.proofs.Members.{inside_within}
+use Rattle.object_kinds.proofs.Options.{number_is, is_number, then_some}
 use Rattle.object_kinds.proofs.Placing.{Placed, placed}
 use Rattle.object_kinds.proofs.Positions.{distinct_positions, few_positions}
+use Rattle.object_kinds.proofs.Ranges.{homes_within}
 use Rattle.object_kinds.proofs.Rising.{rising_positions}
 
 module _ (p : Plan) (test : EventKind → Bool) where
@@ -73,8 +76,23 @@ event_within (v ∷ vs) (suc e) x is = let deeper = event_within vs e x is in om
 pub waiting_placed : (p : Plan) (g e x : ℕ) → kind_of p e ≡ DataReceived x → is_in_group p g x ≡ true → Placed e (events_of p (waits_for_data p g))
 waiting_placed p g e x kind inside = event_placed p (waits_for_data p g) e (event_within p.events e x kind) (ap (waits_for_data p g) kind ∙ inside)
 
--- the group whose data an event waits for is one of the plan's
-pub awaited_within : (p : Plan) (k : EventKind) (o : Option ℕ) (g : ℕ) → groups_fit p ≡ true → ((h : ℕ) → waits_for_data p h k ≡ same_number o (Some h)) → o ≡ Some g → g < length p.groups
-awaited_within p k o g fit waits is =
-    let w = waiting_for p g k (waits g ∙ ap (λ q. same_number q (Some g)) is ∙ eq-eqb g g refl) in
-    inside_within p w.element g fit w.inside
+-- ---- those that wait for the data of a bundle
+
+pub record Bundled (p : Plan) (b : ℕ) (k : EventKind) : Type 0 where
+  pub element : ℕ
+  pub kind : k ≡ DataReceived element
+  pub inside : bundle_of p element ≡ Some b
+
+pub bundled_for : (p : Plan) (b : ℕ) (k : EventKind) → waits_in_bundle p b k ≡ true → Bundled p b k
+bundled_for p b (DataReceived x) e = record { element = x; kind = refl; inside = number_is (bundle_of p x) b e }
+bundled_for p b k e = absurd (false≢true e)
+
+pub bundled_placed : (p : Plan) (b e x : ℕ) → kind_of p e ≡ DataReceived x → bundle_of p x ≡ Some b → Placed e (events_of p (waits_in_bundle p b))
+bundled_placed p b e x kind inside = event_placed p (waits_in_bundle p b) e (event_within p.events e x kind) (ap (waits_in_bundle p b) kind ∙ is_number (bundle_of p x) b inside)
+
+-- the bundle whose data an event waits for is one of the plan's
+pub bundle_awaited : (p : Plan) (k : EventKind) (o : Option ℕ) (b : ℕ) → bundles_fit p ≡ true → ((c : ℕ) → waits_in_bundle p c k ≡ same_number o (Some c)) → o ≡ Some b → b < length p.bundles
+bundle_awaited p k o b fit waits is =
+    let w = bundled_for p b k (waits b ∙ ap (λ q. same_number q (Some b)) is ∙ eq-eqb b b refl) in
+    let at = then_some (home_of p) (group_of p w.element) b w.inside in
+    homes_within p fit at.item b at.gives

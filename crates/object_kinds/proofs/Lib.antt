@@ -5,8 +5,8 @@ pub mod Placing
 pub mod Rising
 pub mod Flags
 pub mod Members
-pub mod Events
 pub mod Ranges
+pub mod Events
 pub mod Proper
 pub mod Numbers
 pub mod Classes

@@ -77,3 +77,11 @@ distinct_positions t (suc n) = rw (filter-append t (positions n) (n ∷ [])) (by
     by_test : (b : Bool) → is_distinct (filter t (positions n)) ≡ true → is_distinct (filter t (positions n) ++ (if b then n ∷ [] else [])) ≡ true
     by_test true before = distinct_end (filter t (positions n)) n (all_kept (λ m. nat_lt m n) t (positions n) (below_positions n)) before
     by_test false before = subst (λ xs. is_distinct xs ≡ true) (sym (append-nil (filter t (positions n)))) before
+
+-- what passes among one position more
+pub picked_more : (t : ℕ → Bool) (n next : ℕ) (xs : List ℕ) → next ≡ suc n → xs ≡ filter t (positions n) → (if t n then xs ++ n ∷ [] else xs) ≡ filter t (positions next)
+picked_more t n next xs after is = by_test (t n) ∙ sym (filter-append t (positions n) (n ∷ [])) ∙ ap (λ k. filter t (positions k)) (sym after)
+  where
+    by_test : (b : Bool) → (if b then xs ++ n ∷ [] else xs) ≡ filter t (positions n) ++ (if b then n ∷ [] else [])
+    by_test true = ap (λ ys. ys ++ n ∷ []) is
+    by_test false = is ∙ sym (append-nil (filter t (positions n)))

@@ -22,6 +22,7 @@ use Rattle.bus_semantics.specs.Lists.{elems_of}
 use Rattle.bus_semantics.specs.Bundles.{home_of, bundle_of, bundle_of_list}
 use Rattle.bus_semantics.specs.Objects.{disabler_of, served_by}
 use Rattle.bus_semantics.specs.SoundEvents.{requires_machine, kind_sound, disabling_sound, is_invoked, event_sound, server_served, serves_back}
+use Rattle.bus_semantics.specs.SoundLists.{bundles_fit}
 use Rattle.bus_semantics.specs.Sound.{IsSound}
 use Rattle.object_kinds.proofs.Lists.{all_at, every_at}
 use Rattle.object_kinds.proofs.Options.{clash, then_some}
@@ -54,6 +55,15 @@ given_at (x ∷ xs) (suc i) f y e = let deeper = given_at xs i f y e in record {
 
 has_with : {X : Type 0} (test : X → Bool) (xs : List X) (i : ℕ) (x y : X) → list_all test xs ≡ true → slice_get xs i ≡ Some x → x ≡ y → test y ≡ true
 has_with test xs i x y all there same = subst (λ z. test z ≡ true) same (all_at test xs i x all there)
+
+-- ---- bundles
+
+pub homes_within : (p : Plan) → bundles_fit p ≡ true → (g b : ℕ) → home_of p g ≡ Some b → b < length p.bundles
+homes_within p fit g b is =
+    let at = given_at p.homes g (λ (n : ℕ). Some n) b is in
+    let same : at.item ≡ b = same_Some at.item b at.gives in
+    let all : list_all (λ n. nat_lt n (length p.bundles)) p.homes ≡ true = (and_parts _ _ (and_parts _ _ fit).1).0 in
+    subst (λ n. n < length p.bundles) same (ltb-true at.item (length p.bundles) (all_at (λ n. nat_lt n (length p.bundles)) p.homes g at.item all at.found))
 
 -- ---- events
 
@@ -155,11 +165,7 @@ module _ (p : Plan) (m : Mapping) (sound : IsSound p m) where
   -- bundles
 
   pub home_within : (g b : ℕ) → home_of p g ≡ Some b → b < length p.bundles
-  home_within g b is =
-      let at = given_at p.homes g (λ (n : ℕ). Some n) b is in
-      let same : at.item ≡ b = same_Some at.item b at.gives in
-      let all : list_all (λ n. nat_lt n (length p.bundles)) p.homes ≡ true = (and_parts _ _ (and_parts _ _ sound.bundles).1).0 in
-      subst (λ n. n < length p.bundles) same (ltb-true at.item (length p.bundles) (all_at (λ n. nat_lt n (length p.bundles)) p.homes g at.item all at.found))
+  home_within = homes_within p sound.bundles
 
   pub bundle_within : (x b : ℕ) → bundle_of p x ≡ Some b → b < length p.bundles
   bundle_within x b is = let at = then_some (home_of p) (group_of p x) b is in home_within at.item b at.gives

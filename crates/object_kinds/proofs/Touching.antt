@@ -19,9 +19,12 @@ use Rattle.bus_semantics.specs.Bundles.{home_of, bundle_of}
 use Rattle.bus_semantics.specs.Objects.{touches}
 use Rattle.bus_semantics.specs.Owners.{elem_fits, is_writable, is_readable, is_unqueued, is_queued, holds}
 use Rattle.bus_semantics.specs.Unqueued.{is_in_group}
+use Rattle.bus_semantics.specs.Lists.{elems_of}
 use Rattle.bus_semantics.specs.Locality.{is_proper}
 use Rattle.bus_semantics.specs.Sound.{IsSound}
-use Rattle.object_kinds.specs.Layout.{IsAlone, waits_for_data}
+use Rattle.bus_laws.proofs.OneBundle.{has}
+use Rattle.bus_laws.proofs.ObjectLists.{listed_unqueued}
+use Rattle.object_kinds.specs.Layout.{group_at, IsAlone, waits_for_data}
 use Rattle.object_kinds.proofs.Classes.{StartsOn, On, touching_on}
 use Rattle.object_kinds.proofs.Numbers.{a_bundle}
 use Rattle.object_kinds.proofs.Options.{number_is, is_number, then_some}
@@ -42,41 +45,41 @@ OnGroup p g (deed.Receive x code value) = is_in_group p g x ≡ true
 OnGroup p g (deed.Publish x value) = is_in_group p g x ≡ true
 OnGroup p g _ = ⊥
 
--- an element of its bundle is in the group
-pub group_itself : (p : Plan) (g x : ℕ) → IsAlone p g → bundle_of p x ≡ Some g → group_of p x ≡ Some g
-group_itself p g x alone is =
-    let at = then_some (home_of p) (group_of p x) g is in
+-- an element of a bundle that is a group is in the group
+pub group_itself : (p : Plan) (b x : ℕ) → IsAlone p b → bundle_of p x ≡ Some b → group_of p x ≡ Some (group_at p b)
+group_itself p b x alone is =
+    let at = then_some (home_of p) (group_of p x) b is in
     at.is ∙ ap (λ h. Some h) (alone.alone at.item at.gives)
 
-pub bundled_inside : (p : Plan) (g x : ℕ) → IsAlone p g → bundle_of p x ≡ Some g → is_in_group p g x ≡ true
-bundled_inside p g x alone is = is_number (group_of p x) g (group_itself p g x alone is)
+pub bundled_inside : (p : Plan) (b x : ℕ) → IsAlone p b → bundle_of p x ≡ Some b → is_in_group p (group_at p b) x ≡ true
+bundled_inside p b x alone is = is_number (group_of p x) (group_at p b) (group_itself p b x alone is)
 
-pub touched_inside : (p : Plan) (g x : ℕ) → IsAlone p g → same_number (bundle_of p x) (Some g) ≡ true → is_in_group p g x ≡ true
-touched_inside p g x alone touching = bundled_inside p g x alone (number_is (bundle_of p x) g touching)
+pub touched_inside : (p : Plan) (b x : ℕ) → IsAlone p b → same_number (bundle_of p x) (Some b) ≡ true → is_in_group p (group_at p b) x ≡ true
+touched_inside p b x alone touching = bundled_inside p b x alone (number_is (bundle_of p x) b touching)
 
-module _ (p : Plan) (g : ℕ) (alone : IsAlone p g) where
-  start_on : (k : EventKind) → StartsOn p (a_bundle g) k → waits_for_data p g k ≡ true
-  start_on (DataReceived x) on = bundled_inside p g x alone on
+module _ (p : Plan) (b : ℕ) (alone : IsAlone p b) where
+  start_on : (k : EventKind) → StartsOn p (a_bundle b) k → waits_for_data p (group_at p b) k ≡ true
+  start_on (DataReceived x) on = bundled_inside p b x alone on
   start_on k on = absurd on
 
-  on_group : (a : Actor) (event : Option ℕ) (d : Deed) → On p (a_bundle g) a event d → OnGroup p g d
+  on_group : (a : Actor) (event : Option ℕ) (d : Deed) → On p (a_bundle b) a event d → OnGroup p (group_at p b) d
   on_group a event (deed.Start e point value) on = start_on (kind_of p e) on
-  on_group a event (deed.Fetch x value) on = bundled_inside p g x alone on
-  on_group a event (deed.Write x value) on = bundled_inside p g x alone on
-  on_group a event (deed.Read x code value) on = bundled_inside p g x alone on
-  on_group a event (deed.Invalidate x) on = bundled_inside p g x alone on
-  on_group a event (deed.IsUpdated x updated) on = bundled_inside p g x alone on
-  on_group a event (deed.Send x value code) on = bundled_inside p g x alone on
-  on_group a event (deed.Receive x code value) on = bundled_inside p g x alone on
-  on_group a event (deed.Publish x value) on = bundled_inside p g x alone on
+  on_group a event (deed.Fetch x value) on = bundled_inside p b x alone on
+  on_group a event (deed.Write x value) on = bundled_inside p b x alone on
+  on_group a event (deed.Read x code value) on = bundled_inside p b x alone on
+  on_group a event (deed.Invalidate x) on = bundled_inside p b x alone on
+  on_group a event (deed.IsUpdated x updated) on = bundled_inside p b x alone on
+  on_group a event (deed.Send x value code) on = bundled_inside p b x alone on
+  on_group a event (deed.Receive x code value) on = bundled_inside p b x alone on
+  on_group a event (deed.Publish x value) on = bundled_inside p b x alone on
   on_group a event (deed.FetchAll l value) on = absurd (alone.unlisted l on)
   on_group a event (deed.PublishAll l written value) on = absurd (alone.unlisted l on)
   on_group a event d on = absurd on
 
-pub touches_group : (p : Plan) (m : Mapping) (g : ℕ) (a : Actor) (event : Option ℕ) (d : Deed) → IsSound p m → IsAlone p g
-    → touches p g (noting a d event) ≡ true → is_proper p (noting a d event) ≡ true → OnGroup p g d
-touches_group p m g a event d sound alone touching proper =
-    on_group p g alone a event d (touching_on p m sound (a_bundle g) (home_within p m sound g g alone.home) a event d touching proper)
+pub touches_group : (p : Plan) (m : Mapping) (b : ℕ) (a : Actor) (event : Option ℕ) (d : Deed) → IsSound p m → IsAlone p b
+    → touches p b (noting a d event) ≡ true → is_proper p (noting a d event) ≡ true → OnGroup p (group_at p b) d
+touches_group p m b a event d sound alone touching proper =
+    on_group p b alone a event d (touching_on p m sound (a_bundle b) (home_within p m sound (group_at p b) b alone.home) a event d touching proper)
 
 -- ---- a Send or a Receive is of a queued element, and the other deeds of an element are of one that is not
 
@@ -152,3 +155,9 @@ module _ (p : Plan) (a : Actor) (event : Option ℕ) where
       let queued : (e : ElemPlan) → (is_queued e && not e.provided) ≡ true → is_queued e ≡ true = λ e is. (and_parts (is_queued e) (not e.provided) is).0 in
       by_actor p a (to_receive x) (wish_part p a (deed.Receive x code value) event refl proper)
       (λ fit. kind_by p _ (λ e. is_queued e && not e.provided) x true queued fit) (λ k fit. kind_by p _ (λ e. is_queued e && not e.provided) x true queued fit) (λ n less fit. absurd (false≢true fit))
+
+-- an element that a coherent list names is not queued
+pub listed_not_queued : (p : Plan) (m : Mapping) → IsSound p m → (l x : ℕ) → has (elems_of p l) x ≡ true → look p.elements x is_queued false ≡ false
+listed_not_queued p m sound l x there =
+    let at = sought p.elements x is_unqueued (listed_unqueued p m sound l x there) in
+    ap (λ o. option_map_or is_queued o false) at.found ∙ unqueued at.item at.item.kind refl at.holds

@@ -1,20 +1,25 @@
--- What of a plan belongs to one object: the elements of a group, the bundle that it is, and the events that wait for it.
-use Rattle.std.specs.Prelude.{◌≡◌, ℕ, zero, suc, List, [], ◌∷◌, length, filter, Bool, false, ◌==◌, if◌then◌else◌, Option, Some, None, option_map}
+-- What of a plan belongs to one object: the elements of a group, the group that a bundle is, and the events that wait for them.
+use Rattle.std.specs.Prelude.{◌≡◌, ℕ, zero, suc, List, [], ◌∷◌, length, filter, get_or, Bool, false, ◌==◌, if◌then◌else◌, Option, Some, None, option_map}
+use Rattle.rte_value.specs.Values.{same_number}
 use Rattle.bus_semantics.specs.declared.plan.EventKind.{EventKind}
 use Rattle.bus_semantics.specs.declared.plan.EventKind.TheVariants.{DataReceived}
 use Rattle.bus_semantics.specs.Plan.{Plan, kind_of, positions}
-use Rattle.bus_semantics.specs.Bundles.{home_of, bundle_of_list}
+use Rattle.bus_semantics.specs.Bundles.{home_of, bundle_of, bundle_of_list, groups_at}
 use Rattle.bus_semantics.specs.Unqueued.{is_in_group}
 
 -- the elements of a group, in rising order
 abbrev pub members_of : Plan → (group : ℕ) → List ℕ
 members_of p g = filter (is_in_group p g) (positions (length p.elements))
 
--- the group is a bundle by itself, which has its number and which no coherent list touches: so the object of its elements is the group
-pub record IsAlone (p : Plan) (group : ℕ) : Type 0 where
-  pub home : home_of p group ≡ Some group
-  pub alone : (other : ℕ) → home_of p other ≡ Some group → other ≡ group
-  pub unlisted : (list : ℕ) → bundle_of_list p list ≡ Some group → ⊥
+-- the least group of a bundle: the only one, where the bundle is a group by itself
+abbrev pub group_at : Plan → (bundle : ℕ) → ℕ
+group_at p b = get_or (groups_at p b) 0 0
+
+-- the bundle is one group, and no coherent list touches it: so the object of the group's elements is the group
+pub record IsAlone (p : Plan) (bundle : ℕ) : Type 0 where
+  pub home : home_of p (group_at p bundle) ≡ Some bundle
+  pub alone : (other : ℕ) → home_of p other ≡ Some bundle → other ≡ group_at p bundle
+  pub unlisted : (list : ℕ) → bundle_of_list p list ≡ Some bundle → ⊥
 
 -- the events of a plan whose kind passes, in rising order
 abbrev pub events_of : Plan → (EventKind → Bool) → List ℕ
@@ -24,6 +29,11 @@ events_of p test = filter (λ e. test (kind_of p e)) (positions (length p.events
 abbrev pub waits_for_data : Plan → (group : ℕ) → EventKind → Bool
 waits_for_data p g (DataReceived x) = is_in_group p g x
 waits_for_data p g _ = false
+
+-- a DataReceivedEvent of an element of the bundle
+abbrev pub waits_in_bundle : Plan → (bundle : ℕ) → EventKind → Bool
+waits_in_bundle p b (DataReceived x) = same_number (bundle_of p x) (Some b)
+waits_in_bundle p b _ = false
 
 abbrev pub element_in : EventKind → ℕ
 element_in (DataReceived x) = x

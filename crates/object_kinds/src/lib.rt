@@ -7,7 +7,7 @@ mod waiting;
 
 pub use acted::{Acted, Shown};
 pub use places::find;
-pub use waiting::{take_list, waiting_events};
+pub use waiting::{append_to, bundle_events, empty_lists, take_list};
 
 /// There was no memory for what a call makes.
 pub type Memory = std::alloc::AllocError;

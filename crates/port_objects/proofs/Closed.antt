@@ -15,6 +15,7 @@ use Rattle.bus_semantics.specs.History.{Noted}
 use Rattle.bus_semantics.specs.Objects.{object_of, touches}
 use Rattle.bus_semantics.specs.Fitting.{fits, wish_fits, answer_fits}
 use Rattle.bus_semantics.specs.Locality.{is_proper, starts_its_own}
+use Rattle.object_kinds.specs.Layout.{group_at}
 use Rattle.object_kinds.specs.Flags.{given}
 use Rattle.object_kinds.proofs.Proper.{noting}
 use Rattle.data_objects.specs.Kept as group
@@ -43,7 +44,7 @@ enters d by x is = absurd (cc is)
 
 closed_group : (p : Plan) (object : ℕ) (k : group.Kept) → IsClosed p object (of_group k)
 closed_group p object k n x is = stays_shut p object (of_group k) n
-    (ap (λ d. option_map of_group (option_map (λ (v : _). record { events = k.events; unqueued = v }) (group_leading.lead_of_group p object k.events k.unqueued d))) (enters n.entry.deed (unwrap_or n.event 0) x is))
+    (ap (λ d. option_map of_group (option_map (λ (v : _). record { events = k.events; unqueued = v }) (group_leading.lead_of_group p (group_at p object) k.events k.unqueued d))) (enters n.entry.deed (unwrap_or n.event 0) x is))
 
 closed_queues : (p : Plan) (object : ℕ) (k : queue.Kept) → IsClosed p object (of_queues k)
 closed_queues p object k n x is = stays_shut p object (of_queues k) n

@@ -18,6 +18,7 @@ use Rattle.bus_semantics.specs.Locality.{is_proper, starts_its_own}
 use Rattle.object_kinds.specs.Layout.{place}
 use Rattle.object_kinds.proofs.Proper.{noting}
 use Rattle.server_objects.specs.Kept as server
+use Rattle.object_kinds.specs.Layout.{group_at}
 use Rattle.data_objects.specs.Leading as group_leading
 use Rattle.queue_objects.specs.Leading as queue_leading
 use Rattle.server_objects.specs.Leading as server_leading
@@ -43,7 +44,7 @@ hears d by q is = absurd (cc is)
 pub none_heard : (p : Plan) (object : ℕ) (k : Kept) (n : Noted) (q : ℕ) → wanted_by (unwrap_or n.event 0) n.entry.deed ≡ to_hear q → may_hear_in k q ≡ false → lead p object k n ≡ None
 none_heard p object (of_group k) n q is off =
     let h = hears n.entry.deed (unwrap_or n.event 0) q is in
-    stays_shut p object (of_group k) n (ap (λ d. option_map of_group (option_map (λ (v : _). record { events = k.events; unqueued = v }) (group_leading.lead_of_group p object k.events k.unqueued d))) h.is)
+    stays_shut p object (of_group k) n (ap (λ d. option_map of_group (option_map (λ (v : _). record { events = k.events; unqueued = v }) (group_leading.lead_of_group p (group_at p object) k.events k.unqueued d))) h.is)
 none_heard p object (of_queues k) n q is off =
     let h = hears n.entry.deed (unwrap_or n.event 0) q is in
     stays_shut p object (of_queues k) n (ap (λ d. option_map of_queues (option_map (queue_leading.with_queues k) (queue_leading.lead_of_queues p k.receivers k.events k.queued d))) h.is)

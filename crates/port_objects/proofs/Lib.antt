@@ -9,3 +9,4 @@ mod Freeing
 mod Closed
 mod Hearing
 mod Written
+mod OneGroup

@@ -5,7 +5,6 @@ use Rattle.std.proofs.Math.Numerals.{suc-eq-add-one}
 use Rattle.std.proofs.lemmas.List.{append-nil, append_assoc, length-map, map_push}
 use Rattle.bus_semantics.specs.Plan.{Plan, positions}
 use Rattle.bus_semantics.specs.Objects.{first_server, first_area, first_machine, clock}
-use Rattle.bus_laws.proofs.Bundling.{bundles_counted}
 use Rattle.object_kinds.proofs.Positions.{length_positions, mapped_more}
 use Rattle.area_objects.specs.Kept as areas
 use Rattle.area_objects.specs.Layout.{IsArea}
@@ -16,7 +15,7 @@ use Rattle.clock_objects.specs.Kept as clocks
 use Rattle.port_objects.specs.declared.object.Object.{Object}
 use Rattle.port_objects.specs.Kept.{Kept, of_area, of_clock}
 use Rattle.port_objects.specs.Objects.{kept_of, IsOfPlan}
-use Rattle.port_objects.specs.Opening.{before_servers, before_areas, before_machines, before_clock, opening, opening_of_group, opening_of_server, opening_of_machine, AreFirst, AreMade}
+use Rattle.port_objects.specs.Opening.{before_servers, before_areas, before_machines, before_clock, opening, opening_of_bundle, opening_of_server, opening_of_machine, AreFirst, AreMade}
 use Rattle.port_objects.specs.Plans.{HasObjects}
 use Rattle.port_objects.specs.Standing.{Stands}
 
@@ -80,11 +79,11 @@ row_more p before f n next objects new o number after first at keeps planned sta
 pub row_all : (p : Plan) (before : List Kept) (f : ℕ → Kept) (n many : ℕ) (objects : List Object) → n ≡ many → AreFirst p (before ++ map f (positions n)) objects → AreFirst p (before ++ map f (positions many)) objects
 row_all p before f n many objects all first = subst (λ k. AreFirst p (before ++ map f (positions k)) objects) all first
 
--- ---- numbers: each group is a bundle
+-- ---- numbers
 
 module _ (p : Plan) (sound : HasObjects p) where
   pub servers_from : length (before_servers p) ≡ first_server p
-  servers_from = length-map (positions (length p.groups)) (opening_of_group p) ∙ length_positions (length p.groups) ∙ sym (bundles_counted p sound.none_listed sound.bundles)
+  servers_from = length-map (positions (length p.bundles)) (opening_of_bundle p) ∙ length_positions (length p.bundles)
 
   pub areas_from : length (before_areas p) ≡ first_area p
   areas_from = row_count (before_servers p) (opening_of_server p) (length p.servers) ∙ ap (λ n. n + length p.servers) servers_from
@@ -95,13 +94,13 @@ module _ (p : Plan) (sound : HasObjects p) where
   pub clock_from : length (before_clock p) ≡ clock p
   clock_from = row_count (before_machines p) (opening_of_machine p) (length p.machines) ∙ ap (λ n. n + length p.machines) machines_from
 
--- ---- groups, areas and the clock
+-- ---- bundles, areas and the clock
 
-pub group_more : (p : Plan) (g next : ℕ) (objects new : List Object) (o : Object) → next ≡ suc g → AreFirst p (map (opening_of_group p) (positions g)) objects → kept_of o ≡ opening_of_group p g → IsOfPlan p g o
-    → Stands p g (kept_of o) [] → new ≡ objects ++ o ∷ [] → AreFirst p (map (opening_of_group p) (positions next)) new
-group_more p g next objects new o after first keeps planned stands is =
-    let at : 0 + g ≡ g = omega arith in
-    row_more p [] (opening_of_group p) g next objects new o g after first at keeps planned (subst (λ k. Stands p g k []) keeps stands) is
+pub bundle_more : (p : Plan) (b next : ℕ) (objects new : List Object) (o : Object) → next ≡ suc b → AreFirst p (map (opening_of_bundle p) (positions b)) objects → kept_of o ≡ opening_of_bundle p b → IsOfPlan p b o
+    → Stands p b (kept_of o) [] → new ≡ objects ++ o ∷ [] → AreFirst p (map (opening_of_bundle p) (positions next)) new
+bundle_more p b next objects new o after first keeps planned stands is =
+    let at : 0 + b ≡ b = omega arith in
+    row_more p [] (opening_of_bundle p) b next objects new o b after first at keeps planned (subst (λ k. Stands p b k []) keeps stands) is
 
 -- the number of an area that there is
 pub this_area : (p : Plan) (n : ℕ) → n < length p.areas → IsArea p (first_area p + n)

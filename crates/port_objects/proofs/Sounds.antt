@@ -4,6 +4,7 @@ use Rattle.std.specs.Prelude.{IfSome, nat_lt, nat_le, option_map, sum}
 use Rattle.std.specs.List.{list_all, slice_get}
 use Rattle.std.proofs.lemmas.Bool.{and_parts, eqb-true, false≢true}
 use Rattle.std.proofs.lemmas.Bool.Decides.{nat_tests}
+use Rattle.std.proofs.lemmas.Option.{slice_get_within}
 use Rattle.rte_value.specs.Values.{same_number}
 use Rattle.bus_semantics.specs.declared.plan.AreaPlan.{AreaPlan}
 use Rattle.bus_semantics.specs.declared.plan.MachinePlan.{MachinePlan}
@@ -16,7 +17,8 @@ use Rattle.bus_semantics.specs.declared.entries.Actor.TheVariants.{Env, Machine,
 use Rattle.bus_semantics.specs.declared.entries.Deed.{Deed}
 use Rattle.bus_semantics.specs.declared.entries.Deed.TheVariants as deed
 use Rattle.bus_semantics.specs.Plan.{Plan, look, every_from, kind_of, instance_of, server_of, machine_of_port}
-use Rattle.bus_semantics.specs.Bundles.{bundle_of, bundle_of_list}
+use Rattle.bus_semantics.specs.Bundles.{home_of, bundle_of, bundle_of_list}
+use Rattle.bus_semantics.specs.SoundLists.{bundles_fit}
 use Rattle.bus_semantics.specs.Wanted.{Wanted, to_tick, to_start, to_admit, to_fetch, to_write, to_read, to_invalidate, to_see_updated, to_send, to_receive, to_ask, to_hear, to_take_result, to_return, to_enter, to_leave, to_switch, to_see_mode, to_move_on, to_publish, to_fetch_all, to_publish_all, to_end, wanted_by}
 use Rattle.bus_semantics.specs.History.{Noted}
 use Rattle.bus_semantics.specs.Objects.{first_server, first_area, first_machine, clock, object_of, object_of_kind, disabler_of, machine_of_event, owing, served_by, touched_by, IsObject}
@@ -32,8 +34,9 @@ use Rattle.server_objects.specs.Plans.{AreJoined}
 use Rattle.machine_objects.specs.Layout.{IsMachine}
 use Rattle.machine_objects.specs.Plans.{AreTheirs}
 use Rattle.clock_objects.specs.Layout.{has_period}
-use Rattle.object_kinds.specs.Layout.{IsAlone, members_of}
-use Rattle.object_kinds.proofs.Alone.{each_alone}
+use Rattle.bus_laws.proofs.Bundling.{no_list_bundle, homes_counted, there_home}
+use Rattle.object_kinds.specs.Layout.{group_at, members_of}
+use Rattle.object_kinds.proofs.Alone.{untouched_bundle}
 use Rattle.object_kinds.proofs.Lists.{all_at}
 use Rattle.object_kinds.proofs.Members.{member_placed, members_all}
 use Rattle.object_kinds.proofs.Placing.{place_at}
@@ -55,8 +58,8 @@ by_first p g [] none whole x inside queued = let at = member_placed p g x inside
 by_first p g (y ∷ ys) first whole x inside queued =
     (and_parts (is_queued_at p y) (list_all (is_queued_at p) ys) (sym (ap (list_all (is_queued_at p)) first) ∙ (whole g x inside queued).queued)).0
 
-one_kind : (p : Plan) (g : ℕ) → g < length p.groups → IsAlone p g → QueuedWhole p → (IsQueuedGroup p g → sum (map (places_at p) (receivers_of p g)) < 2 ^ 32) → (b : Bool) → has_queues p g ≡ b → IsOfOneKind p g b
-one_kind p g within alone whole few true is = by_members (members_of p g) refl is
+one_kind : (p : Plan) (g : ℕ) → g < length p.groups → QueuedWhole p → (IsQueuedGroup p g → sum (map (places_at p) (receivers_of p g)) < 2 ^ 32) → (b : Bool) → has_queues p g ≡ b → IsOfOneKind p g b
+one_kind p g within whole few true is = by_members (members_of p g) refl is
   where
     by_members : (xs : List ℕ) → members_of p g ≡ xs → look xs 0 (is_queued_at p) false ≡ true → QueuesFit p g
     by_members [] none first = absurd (false≢true first)
@@ -64,7 +67,7 @@ one_kind p g within alone whole few true is = by_members (members_of p g) refl i
         let inside : is_in_group p g y ≡ true = all_at (is_in_group p g) (members_of p g) 0 y (members_all p g) (ap (λ xs. slice_get xs 0) members) in
         let queued = whole g y inside first in
         record { queued = queued; places = few queued }
-one_kind p g within alone whole few false is = record { number = within; alone = alone; unqueued = none_queued (members_of p g) (members_all p g) }
+one_kind p g within whole few false is = record { number = within; unqueued = none_queued (members_of p g) (members_all p g) }
   where
     is_unqueued : (x : ℕ) → is_in_group p g x ≡ true → (b : Bool) → is_queued_at p x ≡ b → not b ≡ true
     is_unqueued x inside false queued = refl
@@ -76,6 +79,10 @@ one_kind p g within alone whole few false is = record { number = within; alone =
         let parts = and_parts (is_in_group p g x) (list_all (is_in_group p g) xs) all in
         λ i. is_unqueued x parts.0 (is_queued_at p x) refl i && none_queued xs parts.1 i
 
+-- what has a home is one of the plan's groups
+home_below : (p : Plan) → bundles_fit p ≡ true → (g b : ℕ) → home_of p g ≡ Some b → g < length p.groups
+home_below p fit g b home = omega (arith, slice_get_within p.homes g b (there_home p fit g b home), homes_counted p fit)
+
 pub has_objects : (p : Plan) (m : Mapping) → (sound : IsSound p m) → ((group elem : ℕ) → IsSound p m → is_in_group p group elem ≡ true → is_queued_at p elem ≡ true → IsQueuedGroup p group)
     → ((group : ℕ) → IsSound p m → IsQueuedGroup p group → sum (map (places_at p) (receivers_of p group)) < 2 ^ 32)
     → ((server : ℕ) → IsSound p m → server < length p.servers → IsServer p (first_server p + server)) → (IsSound p m → AreJoined p)
@@ -83,8 +90,9 @@ pub has_objects : (p : Plan) (m : Mapping) → (sound : IsSound p m) → ((group
 has_objects p m sound whole few servers joined machines theirs = record {
   groups = sound.groups;
   bundles = sound.bundles;
-  none_listed = sound.none_listed;
-  kinds = λ g within. one_kind p g within (each_alone p sound.none_listed sound.bundles g within) (λ h x. whole h x sound) (few g sound) (has_queues p g) refl;
+  kinds = λ b within.
+      let alone = untouched_bundle p m sound b within (λ l is. cc (sym (no_list_bundle p sound.none_listed l) ∙ is)) in
+      record { alone = alone; kind = group_kind (group_at p b) (home_below p sound.bundles (group_at p b) b alone.home) };
   servers = λ s within. servers s sound within;
   joined = joined sound;
   machines = λ n within. machines (first_machine p + n) sound (omega arith) (omega (arith, within));
@@ -94,6 +102,9 @@ has_objects p m sound whole few servers joined machines theirs = record {
   periods = all_where (λ (v : EventPlan). has_period v.kind) p.events (λ i v there. of_kind i v.runnable (instance_of p v.runnable) v.kind (kind_fits p m sound i v there));
 }
   where
+    group_kind : (g : ℕ) → g < length p.groups → IsOfOneKind p g (has_queues p g)
+    group_kind g within = one_kind p g within (λ h x. whole h x sound) (few g sound) (has_queues p g) refl
+
     of_kind : (e r : ℕ) (home : Option ℕ) (k : EventKind) → kind_sound p e r home k ≡ true → has_period k ≡ true
     of_kind e r home (Timing period) fit = (and_parts (nat_le 1 period) (nat_le period 1000000) fit).0
     of_kind e r home Init fit = refl

@@ -2,6 +2,7 @@
 use Rattle.std.specs.Prelude.{◌≡◌, ℕ, ◌+◌, List, [], ◌∷◌, ◌++◌, map, length, slice_get, Bool, true, false, Some}
 use Rattle.bus_semantics.specs.Plan.{Plan, positions}
 use Rattle.bus_semantics.specs.Objects.{first_server}
+use Rattle.object_kinds.specs.Layout.{group_at}
 use Rattle.data_objects.specs.Kept as groups
 use Rattle.queue_objects.specs.Kept as queues
 use Rattle.server_objects.specs.Kept as servers
@@ -19,12 +20,13 @@ abbrev pub opening_of_kind : Plan → (group : ℕ) → (queued : Bool) → Kept
 opening_of_kind p g true = of_queues (queues.opening p g)
 opening_of_kind p g false = of_group (groups.opening p g)
 
-abbrev pub opening_of_group : Plan → (group : ℕ) → Kept
-opening_of_group p g = opening_of_kind p g (has_queues p g)
+-- a bundle that is a group by itself
+abbrev pub opening_of_bundle : Plan → (bundle : ℕ) → Kept
+opening_of_bundle p b = opening_of_kind p (group_at p b) (has_queues p (group_at p b))
 
--- the objects of a plan that stand before those of a kind, and the kind's: its groups in order, then its servers, areas, machines and the clock
+-- the objects of a plan that stand before those of a kind, and the kind's: its bundles in order, then its servers, areas, machines and the clock
 abbrev pub before_servers : Plan → List Kept
-before_servers p = map (opening_of_group p) (positions (length p.groups))
+before_servers p = map (opening_of_bundle p) (positions (length p.bundles))
 
 abbrev pub opening_of_server : Plan → (server : ℕ) → Kept
 opening_of_server p s = of_server (servers.opening p (first_server p + s))

@@ -5,8 +5,7 @@ use Rattle.bus_semantics.specs.Objects.{first_server, first_machine}
 use Rattle.bus_semantics.specs.Queued.{places_at}
 use Rattle.bus_semantics.specs.SoundPlan.{groups_fit, objects_counted}
 use Rattle.bus_semantics.specs.SoundLists.{bundles_fit}
-use Rattle.bus_semantics.specs.Sound.{NoneListed}
-use Rattle.object_kinds.specs.Layout.{members_of}
+use Rattle.object_kinds.specs.Layout.{group_at, IsAlone, members_of}
 use Rattle.data_objects.specs.Layout.{IsUnqueuedGroup}
 use Rattle.queue_objects.specs.Layout.{receivers_of, is_queued_at, IsQueuedGroup}
 use Rattle.server_objects.specs.Layout.{IsServer}
@@ -29,13 +28,17 @@ abbrev pub IsOfOneKind : Plan → (group : ℕ) → (queued : Bool) → Type 0
 IsOfOneKind p g true = QueuesFit p g
 IsOfOneKind p g false = IsUnqueuedGroup p g
 
--- groups list their elements and are of one kind each, bundles list their groups, for now no runnable has a coherent list, servers and
--- machines are such that are made and own the points and events that name them, the objects and events are counted, and no period is empty
+-- the bundle is a group by itself, of one kind
+pub record IsOneGroup (p : Plan) (bundle : ℕ) : Type 0 where
+  pub alone : IsAlone p bundle
+  pub kind : IsOfOneKind p (group_at p bundle) (has_queues p (group_at p bundle))
+
+-- groups list their elements, bundles list their groups and are of one kind each, servers and machines are such that are made and own the
+-- points and events that name them, the objects and events are counted, and no period is empty
 pub record HasObjects (p : Plan) : Type 0 where
   pub groups : groups_fit p ≡ true
   pub bundles : bundles_fit p ≡ true
-  pub none_listed : NoneListed p
-  pub kinds : (group : ℕ) → group < length p.groups → IsOfOneKind p group (has_queues p group)
+  pub kinds : (bundle : ℕ) → bundle < length p.bundles → IsOneGroup p bundle
   pub servers : (server : ℕ) → server < length p.servers → IsServer p (first_server p + server)
   pub joined : AreJoined p
   pub machines : (machine : ℕ) → machine < length p.machines → IsMachine p (first_machine p + machine)

@@ -2,11 +2,11 @@
 
 ghost use Rattle.std.specs.Prelude.{◌≡◌, ◌<◌, ◌^◌, ℕ, length, map, slice_get, [], Some, IfOk, OnOk};
 ghost use Rattle.bus_semantics.specs.Plan.{plan_of};
-ghost use Rattle.object_kinds.specs.Layout.{events_of, waits_for_data};
+ghost use Rattle.object_kinds.specs.Layout.{events_of, group_at, waits_in_bundle};
 ghost use Rattle.queue_objects.specs.Layout.{is_queued_at};
 ghost use Rattle.port_objects.specs.Objects.{kept_of, IsOfPlan, ArePlans};
-ghost use Rattle.port_objects.specs.Opening.{before_servers, before_areas, before_machines, before_clock, opening, opening_of_group, AreFirst, AreMade};
-ghost use Rattle.port_objects.specs.Plans.{HasObjects, has_queues};
+ghost use Rattle.port_objects.specs.Opening.{before_servers, before_areas, before_machines, before_clock, opening, opening_of_bundle, AreFirst, AreMade};
+ghost use Rattle.port_objects.specs.Plans.{HasObjects, IsOneGroup, has_queues};
 ghost use Rattle.port_objects.specs.Standing.{Stands};
 
 use crate::Memory;
@@ -16,13 +16,12 @@ use bus_semantics::{BusPlan, ElemKind};
 use clock_objects::Ticks;
 use data_objects::Group;
 use machine_objects::{MachineObject, mattering_events};
-use object_kinds::{take_list, waiting_events};
+use object_kinds::{bundle_events, take_list};
 use queue_objects::QueueGroup;
 use server_objects::{ServerObject, joined_points, return_events};
 use std::alloc::Global;
 
-/// The objects of a plan, to which nothing has happened: one for each group, which is a bundle by itself, one for each server, one
-/// for each area, one for each mode machine, and then the clock, so that each stands at its number. The only error is that there is
+/// The objects of a plan, to which nothing has happened: one for each bundle, one for each server, one for each area, one for each mode machine, and then the clock, so that each stands at its number. The only error is that there is
 /// no memory for them; what comes later on them takes none.
 pub fn make_objects(alloc: Global, p: &BusPlan) -> Result<Vec<Object>, Memory>
     requires sound { HasObjects (plan_of p.now) }
@@ -41,23 +40,23 @@ fn push_objects(alloc: Global, p: &BusPlan, objects: &mut Vec<Object>) -> Result
     requires none { objects.old.items ≡ [] }
     ensures { OnOk result (AreMade (plan_of p.now) objects.new.items) }
 {
-    push_groups(alloc, p, objects)?;
+    push_bundles(alloc, p, objects)?;
     push_servers(alloc, p, objects)?;
     push_areas(p, objects)?;
     push_machines(alloc, p, objects)?;
     push_clock(alloc, p, objects)
 }
 
-/// Appends the object of each group.
-fn push_groups(alloc: Global, p: &BusPlan, objects: &mut Vec<Object>) -> Result<(), Memory>
+/// Appends the object of each bundle.
+fn push_bundles(alloc: Global, p: &BusPlan, objects: &mut Vec<Object>) -> Result<(), Memory>
     requires sound { HasObjects (plan_of p.now) }
     requires none { objects.old.items ≡ [] }
     ensures { OnOk result (AreFirst (plan_of p.now) (before_servers (plan_of p.now)) objects.new.items) }
 {
-    let mut waiting = waiting_events(alloc, p)?;
-    for group in 0..p.groups.len() as u32 {
-        let events = take_list(alloc, &mut waiting, group);
-        objects.push(make_group(alloc, p, group, events)?)?;
+    let mut waiting = bundle_events(alloc, p)?;
+    for bundle in 0..p.bundles.len() as u32 {
+        let events = take_list(alloc, &mut waiting, bundle);
+        objects.push(make_group(alloc, p, bundle, events)?)?;
     }
     Ok(())
 }
@@ -121,22 +120,36 @@ fn push_clock(alloc: Global, p: &BusPlan, objects: &mut Vec<Object>) -> Result<(
     Ok(())
 }
 
-/// The object of a group for whose elements these events wait, by the kind of its elements.
-fn make_group(alloc: Global, p: &BusPlan, group: u32, events: Vec<u32>) -> Result<Object, Memory>
+/// The object of a bundle that is a group by itself, for whose elements these events wait, by the kind of its elements.
+fn make_group(alloc: Global, p: &BusPlan, bundle: u32, events: Vec<u32>) -> Result<Object, Memory>
     requires sound { HasObjects (plan_of p.now) }
-    requires within { group < length p.now.groups }
-    requires waiting { events.items ≡ events_of (plan_of p.now) (waits_for_data (plan_of p.now) group) }
-    ensures kept { IfOk result (λ o. kept_of o ≡ opening_of_group (plan_of p.now) group) }
-    ensures planned { IfOk result (λ o. IsOfPlan (plan_of p.now) group o) }
-    ensures standing { IfOk result (λ o. Stands (plan_of p.now) group (kept_of o) []) }
+    requires within { bundle < length p.now.bundles }
+    requires one { IsOneGroup (plan_of p.now) bundle }
+    requires waiting { events.items ≡ events_of (plan_of p.now) (waits_in_bundle (plan_of p.now) bundle) }
+    ensures kept { IfOk result (λ o. kept_of o ≡ opening_of_bundle (plan_of p.now) bundle) }
+    ensures planned { IfOk result (λ o. IsOfPlan (plan_of p.now) bundle o) }
+    ensures standing { IfOk result (λ o. Stands (plan_of p.now) bundle (kept_of o) []) }
 {
     data_objects::first_group_stands_for_nothing();
     queue_objects::first_queues_stand_for_nothing();
+    let group = group_at(p, bundle);
     if has_queues(p, group) {
         let queued = QueueGroup::new(alloc, p, group, events.as_slice())?;
         Ok(Object::Queued(queued))
     } else {
         Ok(Object::Unqueued(Group::new(alloc, p, group, events)?))
+    }
+}
+
+/// The least group of a bundle.
+fn group_at(p: &BusPlan, bundle: u32) -> u32
+    requires sound { HasObjects (plan_of p.now) }
+    requires within { bundle < length p.now.bundles }
+    ensures { result ≡ group_at (plan_of p.now) bundle }
+{
+    match p.bundles.items()[bundle as usize].items().first() {
+        Some(group) => *group,
+        None => 0,
     }
 }
 

@@ -1,30 +1,61 @@
-use Rattle.std.proofs.Common.{sym, ap, subst}
+use Rattle.std.proofs.Common.{sym, ◌∙◌, ap, subst}
 use Rattle.bus_semantics.specs.Plan.{plan_of}
 use Rattle.bus_semantics.specs.Wanted.{wanted_of}
-use Rattle.bus_semantics.specs.Objects.{touched}
-use Rattle.data_objects.specs.Acting.{IsActed}
+use Rattle.data_objects.specs.Acting.{IsActed, group_seen}
+use Rattle.data_objects.proofs.Acting.{acted_long}
 use Rattle.data_objects.proofs.group.Group.act_by_wish.Goals as goal
 
-pub returns-in-Write : goal.returns-in-Write
-returns-in-Write c =
+pub returns-in-Write-clause-acted : goal.returns-in-Write-clause-acted
+returns-in-Write-clause-acted c = λ g inside.
     let p = plan_of c.args.p.now in
-    let g = touched p c.args.who.now (wanted_of c.args.wish.now) in
     subst (λ w. IsActed p g c.args.who.now w c.args.self.now c.write.new.self c.write.result) (sym (ap wanted_of c.in-Write.is)) (c.write.ensures p g)
 
-pub returns-in-Publish : goal.returns-in-Publish
-returns-in-Publish c =
+pub returns-in-Publish-clause-acted : goal.returns-in-Publish-clause-acted
+returns-in-Publish-clause-acted c = λ g inside.
     let p = plan_of c.args.p.now in
-    let g = touched p c.args.who.now (wanted_of c.args.wish.now) in
     subst (λ w. IsActed p g c.args.who.now w c.args.self.now c.publish.new.self c.publish.result) (sym (ap wanted_of c.in-Publish.is)) (c.publish.ensures p g)
 
-pub returns-in-Invalidate : goal.returns-in-Invalidate
-returns-in-Invalidate c =
+pub returns-in-Invalidate-clause-acted : goal.returns-in-Invalidate-clause-acted
+returns-in-Invalidate-clause-acted c = λ g inside.
     let p = plan_of c.args.p.now in
-    let g = touched p c.args.who.now (wanted_of c.args.wish.now) in
     subst (λ w. IsActed p g c.args.who.now w c.args.self.now c.invalidate.new.self c.invalidate.result) (sym (ap wanted_of c.in-Invalidate.is)) (c.invalidate.ensures p g)
 
-pub returns-in-Start : goal.returns-in-Start
-returns-in-Start c =
+pub returns-in-Start-clause-acted : goal.returns-in-Start-clause-acted
+returns-in-Start-clause-acted c = λ g inside.
     let p = plan_of c.args.p.now in
-    let g = touched p c.args.who.now (wanted_of c.args.wish.now) in
     subst (λ w. IsActed p g c.args.who.now w c.args.self.now c.start.new.self c.start.result) (sym (ap wanted_of c.in-Start.is)) (c.start.ensures p g)
+
+pub read-requires-clause-within : goal.read-requires-clause-within
+read-requires-clause-within c =
+    let p = plan_of c.args.p.now in
+    (c.requires.planned c.in-Some.group (ap (λ w. group_seen p (wanted_of w)) c.in-Read.is ∙ sym c.group_of.ensures ∙ c.in-Some.is)).is_group.number
+
+pub fetch-requires-clause-within : goal.fetch-requires-clause-within
+fetch-requires-clause-within c =
+    let p = plan_of c.args.p.now in
+    (c.requires.planned c.in-Some-group_of.group (ap (λ w. group_seen p (wanted_of w)) c.in-Fetch.is ∙ sym c.group_of-in-Fetch.ensures ∙ c.in-Some-group_of.is)).is_group.number
+
+pub is_updated-requires-clause-within : goal.is_updated-requires-clause-within
+is_updated-requires-clause-within c =
+    let p = plan_of c.args.p.now in
+    (c.requires.planned c.in-Some-group_of-2.group (ap (λ w. group_seen p (wanted_of w)) c.in-IsUpdated.is ∙ sym c.group_of-in-IsUpdated.ensures ∙ c.in-Some-group_of-2.is)).is_group.number
+
+pub returns-in-Write-clause-long : goal.returns-in-Write-clause-long
+returns-in-Write-clause-long c =
+    let p = plan_of c.args.p.now in
+    acted_long p 0 c.args.who.now _ c.args.self.now c.write.new.self c.write.result (c.write.ensures p 0)
+
+pub returns-in-Publish-clause-long : goal.returns-in-Publish-clause-long
+returns-in-Publish-clause-long c =
+    let p = plan_of c.args.p.now in
+    acted_long p 0 c.args.who.now _ c.args.self.now c.publish.new.self c.publish.result (c.publish.ensures p 0)
+
+pub returns-in-Invalidate-clause-long : goal.returns-in-Invalidate-clause-long
+returns-in-Invalidate-clause-long c =
+    let p = plan_of c.args.p.now in
+    acted_long p 0 c.args.who.now _ c.args.self.now c.invalidate.new.self c.invalidate.result (c.invalidate.ensures p 0)
+
+pub returns-in-Start-clause-long : goal.returns-in-Start-clause-long
+returns-in-Start-clause-long c =
+    let p = plan_of c.args.p.now in
+    acted_long p 0 c.args.who.now _ c.args.self.now c.start.new.self c.start.result (c.start.ensures p 0)

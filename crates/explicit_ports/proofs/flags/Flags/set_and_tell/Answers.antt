@@ -1,10 +1,10 @@
-use Rattle.std.proofs.Common.{◌≡◌, ◌∙◌, ap, sym, subst, length, replicate, true, false, ℕ, ◌⊎◌, inl, inr}
+use Rattle.std.proofs.Common.{◌≡◌, ◌∙◌, ap, sym, subst, length, replicate, true, false, ℕ, ◌⊎◌, inl, inr, arith, refl}
 use Rattle.std.specs.List.{slice_get, Contains}
 use Rattle.std.proofs.lemmas.List.Elements.{All-map, All-get_or}
 use Rattle.std.proofs.lemmas.Option.{slice_get_within, get_or_from_slice_get}
 use Rattle.latches.specs.Latches.{Latch, after_set, IsNamedIn}
 use Rattle.explicit_ports.specs.Flags.{are_set, AreOneGroup, IsOfClear}
-use Rattle.explicit_ports.proofs.OneGroup.{all_set, behind, told_of}
+use Rattle.explicit_ports.proofs.OneGroup.{all_set, behind, told_of, clear_counted}
 use Rattle.explicit_ports.proofs.flags.Flags.set_and_tell.Goals as goal
 
 pub invariant_of-self : goal.invariant_of-self
@@ -19,6 +19,13 @@ returns-clause-told c = λ at name clear named.
     let flag = behind ls at false (ap (λ bs. slice_get bs at) c.self.view_is ∙ clear) in
     let one = All-get_or (λ (l : Latch). l.group ≡ 0) ls at flag.latch (slice_get_within ls at flag.latch flag.is) c.self.invariant in
     c.set_and_tell.ensures.told at name flag.latch flag.is (ap (λ (l : Latch). l.group) (sym (get_or_from_slice_get ls at flag.latch flag.latch flag.is)) ∙ one) flag.shown named
+
+pub set_and_tell-requires-clause-room : goal.set_and_tell-requires-clause-room
+set_and_tell-requires-clause-room c = omega (arith, c.requires.room, clear_counted c.self.inside.latches c.args.self.now c.self.view_is)
+
+pub returns-clause-room : goal.returns-clause-room
+returns-clause-room c =
+    omega (arith, c.set_and_tell.ensures.room, clear_counted c.self.inside.latches c.args.self.now c.self.view_is, clear_counted c.set_and_tell.new.self (are_set c.set_and_tell.new.self) refl)
 
 pub returns-clause-only : goal.returns-clause-only
 returns-clause-only c = λ name among. by_case name (c.set_and_tell.ensures.only name among)

@@ -1,0 +1,12 @@
+mod Words
+mod Parts
+mod Stored
+mod Leading
+mod Missing
+mod Starting
+mod Opening
+mod Adding
+mod Acting
+mod Made
+mod Coded
+mod Marking

@@ -1,0 +1,7 @@
+pub mod Layout
+pub mod Kept
+pub mod Plans
+pub mod Words
+pub mod Leading
+pub mod Standing
+pub mod Acting

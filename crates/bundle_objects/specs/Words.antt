@@ -1,0 +1,15 @@
+-- The value of these words, where there are at most 16.
+use Rattle.std.specs.Prelude.{◌≡◌, ◌-◌, ℤ, pos, List, length, replicate, Bool, true, false, nat_le}
+use Rattle.std.proofs.Common.{refl, sym, ap}
+use Rattle.std.proofs.Math.Seq.{take-append_seam}
+use Rattle.std.proofs.lemmas.Bool.{leb-true}
+use Rattle.rte_value.specs.declared.value.Value.{Value}
+use Rattle.rte_value.specs.Padding.{padded}
+use Rattle.rte_value.specs.ShortValues.{empty_value}
+
+abbrev pub sized_value : (ws : List ℤ) → (short : Bool) → nat_le (length ws) 16 ≡ short → Value
+sized_value ws true short = record { words = padded ws; len = length ws; short = leb-true (length ws) 16 short; padded = ap padded (sym (take-append_seam ws (replicate (16 - length ws) (pos 0)))) }
+sized_value ws false long = empty_value
+
+abbrev pub value_of : List ℤ → Value
+value_of ws = sized_value ws (nat_le (length ws) 16) refl

@@ -1,0 +1,11 @@
+//! What passes between threads.
+
+use crate::Bundle;
+
+/// Is called only where values of the type may be moved to and shared with other threads.
+fn passes<T: Send + Sync>() {}
+
+/// Bundles pass.
+fn show_what_passes() {
+    passes::<Bundle>();
+}

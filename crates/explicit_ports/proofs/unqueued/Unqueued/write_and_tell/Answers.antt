@@ -1,0 +1,8 @@
+use Rattle.std.proofs.Common.{not, arith, length, ap}
+use Rattle.std.proofs.lemmas.List.Sums.{count_by-le-length}
+use Rattle.explicit_ports.specs.Kept.{Kept}
+use Rattle.explicit_ports.proofs.unqueued.Unqueued.write_and_tell.Goals as goal
+
+pub set_and_tell-requires-clause-room : goal.set_and_tell-requires-clause-room
+set_and_tell-requires-clause-room c =
+    omega (arith, c.requires.room, count_by-le-length not c.self.inside.due, c.self.invariant.1, ap length c.clear.ensures.items, ap (λ (k : Kept). length k.events) c.self.view_is)
