@@ -1,5 +1,5 @@
 -- The deed of an item is read back from its fields.
-use Rattle.std.proofs.Common.{◌≡◌, ℕ, ◌<◌, ◌≤◌, Bool, true, false, ◌&&◌, cond, List, [], ◌∷◌, length, nat_le, nat_lt, bytes_eq, codes, decimal, Option, Some, None, refl, sym, ap, ◌∙◌, arith}
+use Rattle.std.proofs.Common.{◌≡◌, ℕ, ◌<◌, ◌≤◌, Bool, true, false, ◌&&◌, ◌==◌, cond, List, [], ◌∷◌, length, nat_le, nat_lt, bytes_eq, codes, decimal, Option, Some, None, refl, sym, ap, ◌∙◌, arith}
 use Rattle.std.specs.List.{list_all, slice_get}
 use Rattle.std.specs.Option.{option_and_then, option_map_or}
 use Rattle.std.proofs.lemmas.Bool.{and_parts, and_from, leb-true, ltb-true}
@@ -21,10 +21,11 @@ use Rattle.bus_semantics.specs.declared.plan.ModePortPlan.{ModePortPlan}
 use Rattle.bus_semantics.specs.declared.version.Version.{Version}
 use Rattle.bus_semantics.specs.Fitting.{activation_fits, activation_may_want, answer_fits, environment_may_want, machine_may_want, start_fits, wish_fits}
 use Rattle.bus_semantics.specs.History.{needs_event}
+use Rattle.bus_semantics.specs.Lists.{elems_of, list_fits, marks_fit, words_of_all, marked}
 use Rattle.bus_semantics.specs.Owners.{area_fits, key_fits, elem_fits, event_fits, mode_port_fits, modes_of, own_point, result_point, switch_fits}
 use Rattle.bus_semantics.specs.Plan.{Plan, instance_of, kind_of, look, machine_of_port}
 use Rattle.bus_semantics.specs.Reading.{are_words, is_byte, is_index, is_sized}
-use Rattle.bus_semantics.specs.Spelling.{Letters, area_name, elem_name, event_name, machine_name, mode_port_name, mode_text, point_name, point_text, value_text}
+use Rattle.bus_semantics.specs.Spelling.{Letters, area_name, elem_name, event_name, machine_name, mask_text, mode_port_name, mode_text, point_name, point_text, position_of, value_text}
 use Rattle.bus_semantics.specs.Wanted.{Wanted, to_tick, to_start, to_admit, to_fetch, to_write, to_read, to_invalidate, to_see_updated, to_send, to_receive, to_ask, to_hear, to_take_result, to_return, to_enter, to_leave, to_switch, to_see_mode, to_move_on, to_publish, to_fetch_all, to_publish_all, to_end, wanted_by}
 use Rattle.trace_reading.specs.declared.words.CallWord.TheVariants as call
 use Rattle.trace_reading.specs.Deeds.{Line, called_at, caller_itself, home_of, mode_at}
@@ -32,11 +33,12 @@ use Rattle.trace_reading.specs.Fields.{code_at, no_value, value_at}
 use Rattle.trace_reading.specs.Actors.{point_in}
 use Rattle.trace_reading.specs.Finding.{elem_at, point_at}
 use Rattle.trace_reading.specs.Guess.{deed_in}
-use Rattle.bus_laws.proofs.Bundling.{list_wish_never}
 use Rattle.plan_names.proofs.Distinct.{all_at}
 use Rattle.trace_reading.proofs.ActorTexts.{IsThere, point_read_in, served_within}
 use Rattle.trace_reading.proofs.Cutting.{are_visible, part}
+use Rattle.trace_reading.specs.Lists.{list_at, marks_at}
 use Rattle.trace_reading.proofs.Lines.{fields_of, word_of}
+use Rattle.trace_reading.proofs.ListTexts.{list_read, marks_read, marks_visible}
 use Rattle.trace_reading.proofs.Modes.{IsModeOf, mode_read, result_read}
 use Rattle.trace_reading.proofs.Naming.{IsNamed}
 use Rattle.trace_reading.proofs.Things.{IsRead, area_read, elem_read, event_read, machine_read, mode_port_read, point_read, within}
@@ -54,6 +56,12 @@ abbrev MayTake : Plan → Actor → ℕ → Type 0
 MayTake p Env q = own_point p None q ≡ true
 MayTake p (Machine m) q = ⊥
 MayTake p (Act k) q = result_point p (instance_of p k.runnable) q ≡ true
+
+-- a list of the actor's runnable
+abbrev IsOwnList : Plan → Actor → ℕ → Type 0
+IsOwnList p Env l = ⊥
+IsOwnList p (Machine m) l = ⊥
+IsOwnList p (Act k) l = (reads : Bool) × (list_fits p k.runnable reads l ≡ true)
 
 abbrev Names : Plan → Actor → Wanted → Type 0
 Names p a to_tick = Unit {0}
@@ -76,8 +84,8 @@ Names p a (to_switch m mode) = switch_fits p (home_of p a) m mode ≡ true
 Names p a (to_see_mode port) = mode_port_fits p (home_of p a) port ≡ true
 Names p a to_move_on = Unit {0}
 Names p a (to_publish x ws) = IsOwnElem p (home_of p a) x
-Names p a (to_fetch_all l) = Unit {0}
-Names p a (to_publish_all l written ws) = Unit {0}
+Names p a (to_fetch_all l) = IsOwnList p a l
+Names p a (to_publish_all l written ws) = IsOwnList p a l × (marks_fit written (elems_of p l) ≡ true)
 Names p a (to_end e) = Unit {0}
 
 environment_names : (p : Plan) (w : Wanted) → environment_may_want p w ≡ true → Names p Env w
@@ -113,8 +121,10 @@ activation_names p k (to_switch m mode) h = h
 activation_names p k (to_see_mode port) h = h
 activation_names p k to_move_on h = tt
 activation_names p k (to_publish x ws) h = record { test = _; fit = h }
-activation_names p k (to_fetch_all l) h = tt
-activation_names p k (to_publish_all l written ws) h = tt
+activation_names p k (to_fetch_all l) h = (true, h)
+activation_names p k (to_publish_all l written ws) h =
+    let sized = length ws == words_of_all p (marked written (elems_of p l)) in
+    let two = and_parts (list_fits p k.runnable false l) (marks_fit written (elems_of p l) && sized) h in ((false, two.0), (and_parts (marks_fit written (elems_of p l)) sized two.1).0)
 activation_names p k (to_end e) h = tt
 
 machine_names : (p : Plan) (m : ℕ) (w : Wanted) → machine_may_want w ≡ true → Names p (Machine m) w
@@ -183,6 +193,11 @@ module _ (v : Version) (p : Plan) (r : IsNamed p) where
 
   own_elem : (home : Option ℕ) (x : ℕ) → IsOwnElem p home x → is_index x ≡ true → IsRead (elem_at p home (elem_name p x)) (elem_name p x) x
   own_elem home x o index = elem_read p r home o.test x o.fit index
+
+  own_list : (a : Actor) (l : ℕ) → IsOwnList p a l → is_index l ≡ true → IsRead (list_at p a (decimal (position_of p l))) (decimal (position_of p l)) l
+  own_list Env l own index = absurd own
+  own_list (Machine m) l own index = absurd own
+  own_list (Act k) l own index = list_read p r.lists k own.0 l own.1 index
 
   -- a start: of a server, or of any other runnable
   start_text : (a : Actor) (e : ℕ) (point : Option ℕ) (value : Value) → event_fits p (home_of p a) e ≡ true → (kind : EventKind) → start_fits p kind point (words_of value) ≡ true
@@ -422,6 +437,24 @@ module _ (v : Version) (p : Plan) (r : IsNamed p) where
         found = λ who. with_value (λ y w. deed.Publish y w) (elem_at p (home_of p a) (elem_name p x)) x (value_text value) value e.found (value_text_back value two.1);
         visible = seen2 (elem_name p x) (value_text value) e.visible (value_text_visible value two.1);
       }
-  deed_read a (deed.FetchAll l value) there wish fit sized = absurd (list_wish_never p r.none_listed a (to_fetch_all l) refl wish)
-  deed_read a (deed.PublishAll l written value) there wish fit sized = absurd (list_wish_never p r.none_listed a (to_publish_all l written (words_of value)) refl wish)
+  deed_read a (deed.FetchAll l value) there wish fit sized =
+      let two = and_parts (is_index l) (are_words value) sized in
+      let x = own_list a l (deed_names p a (deed.FetchAll l value) wish) two.0 in
+      record {
+        found = λ who. with_value (λ n w. deed.FetchAll n w) (list_at p a (decimal (position_of p l))) l (value_text value) value x.found (value_text_back value two.1);
+        visible = seen2 (decimal (position_of p l)) (value_text value) x.visible (value_text_visible value two.1);
+      }
+  deed_read a (deed.PublishAll l written value) there wish fit sized =
+      let two = and_parts (is_index l) (nat_lt written 65536 && are_words value) sized in
+      let more = and_parts (nat_lt written 65536) (are_words value) two.1 in
+      let names = deed_names p a (deed.PublishAll l written value) wish in
+      let x = own_list a l names.0 two.0 in
+      let mask = mask_text written (elems_of p l) in
+      record {
+        found = λ who.
+            ap (option_and_then (λ n. option_and_then (λ w. option_and_then (λ u. Some (deed.PublishAll n w u)) (value_at (value_text value))) (marks_at mask))) x.found
+            ∙ ap (option_and_then (λ w. option_and_then (λ u. Some (deed.PublishAll l w u)) (value_at (value_text value)))) (marks_read p r.lists l written names.1)
+            ∙ ap (option_and_then (λ u. Some (deed.PublishAll l written u))) (value_text_back value more.1);
+        visible = seen3 (decimal (position_of p l)) mask (value_text value) x.visible (marks_visible written (elems_of p l)) (value_text_visible value more.1);
+      }
   deed_read a deed.End there wish fit sized = record { found = λ who. refl; visible = refl }

@@ -7,6 +7,8 @@ pub mod Indexing
 pub mod Judging
 pub mod Letters
 pub mod Lines
+pub mod ListMarks
+pub mod ListTexts
 pub mod Modes
 pub mod Naming
 pub mod Sessions

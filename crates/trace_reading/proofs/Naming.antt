@@ -11,14 +11,14 @@ use Rattle.bus_semantics.specs.declared.plan.PointPlan.{PointPlan}
 use Rattle.bus_semantics.specs.declared.plan.ServerPlan.{ServerPlan}
 use Rattle.bus_semantics.specs.declared.script.Mapping.{Mapping}
 use Rattle.bus_semantics.specs.Plan.{Plan, Runnable, every_from}
-use Rattle.bus_semantics.specs.Sound.{IsSound, NoneListed}
+use Rattle.bus_semantics.specs.Sound.{IsSound}
 use Rattle.bus_semantics.specs.SoundAccesses.{points_arranged, same_operation}
+use Rattle.bus_semantics.specs.SoundLists.{lists_sound}
 use Rattle.bus_semantics.specs.SoundNames.{is_env_path, is_name, is_pair_name, is_path, names_distinct, names_fit, none_is_env, parts}
 use Rattle.bus_semantics.specs.SoundPlan.{instance_exists, is_variable}
 use Rattle.bus_semantics.specs.SoundPrograms.{runnable_sound}
 use Rattle.plan_names.specs.Named.{FindsAreas, FindsElems, FindsEvents, FindsInstances, FindsMachines, FindsModePorts, FindsModes, FindsPoints, FindsRunnables}
 use Rattle.plan_names.proofs.Found.{finds_areas, finds_elems, finds_events, finds_instances, finds_machines, finds_mode_ports, finds_modes, finds_points, finds_runnables}
-use Rattle.trace_text.proofs.ShortLists.{lists_short}
 use Rattle.trace_reading.specs.Readable.{IsReadable}
 
 abbrev pub elem_passes : ElemPlan → Bool
@@ -52,7 +52,7 @@ pub record IsNamed (p : Plan) : Type 0 where
   pub port_machines : list_all (λ (t : ModePortPlan). nat_lt t.machine (length p.machines)) p.mode_ports ≡ true
   pub arranged : points_arranged p ≡ true
   pub sound_runnables : every_from 0 (runnable_sound p) p.runnables ≡ true
-  pub none_listed : NoneListed p
+  pub lists : lists_sound p ≡ true
   pub operations : every_from 0 (λ i (a : PointPlan). every_from 0 (λ j (c : PointPlan). (i == j) || (not (same_operation p a c) || not (a.asynchronous || c.asynchronous))) p.points) p.points ≡ true
 
 pub readable : (p : Plan) (m : Mapping) → IsSound p m → IsReadable p
@@ -68,8 +68,7 @@ readable p m s =
       points = s.points;
       operations = s.operations;
       runnables = s.runnables;
-      lists = lists_short p s.none_listed;
-      none_listed = s.none_listed;
+      lists = s.lists;
     }
 
 pub named : (p : Plan) → IsReadable p → IsNamed p
@@ -113,6 +112,6 @@ named p s =
       port_machines = s.mode_ports;
       arranged = s.points;
       sound_runnables = s.runnables;
-      none_listed = s.none_listed;
+      lists = s.lists;
       operations = operations.0;
     }

@@ -15,6 +15,8 @@ use Rattle.trace_reading.specs.declared.words.CallWord.{CallWord}
 use Rattle.trace_reading.specs.declared.words.CallWord.TheVariants as call
 use Rattle.trace_reading.specs.declared.words.DataWord.{DataWord}
 use Rattle.trace_reading.specs.declared.words.DataWord.TheVariants as datum
+use Rattle.trace_reading.specs.declared.words.ListWord.{ListWord}
+use Rattle.trace_reading.specs.declared.words.ListWord.TheVariants as listed
 use Rattle.trace_reading.specs.declared.words.ModeWord.{ModeWord}
 use Rattle.trace_reading.specs.declared.words.ModeWord.TheVariants as mode
 use Rattle.trace_reading.specs.declared.words.PlainWord.{PlainWord}
@@ -60,6 +62,9 @@ call_word t = if bytes_eq t (codes "ask") then Some call.Ask else (if bytes_eq t
 abbrev pub mode_word : Letters → Option ModeWord
 mode_word t = if bytes_eq t (codes "mode") then Some mode.Mode else (if bytes_eq t (codes "switch") then Some mode.Switch
     else (if bytes_eq t (codes "phase") then Some mode.Phase else None))
+
+abbrev pub list_word : Letters → Option ListWord
+list_word t = if bytes_eq t (codes "fetchAll") then Some listed.FetchAll else (if bytes_eq t (codes "publishAll") then Some listed.PublishAll else None)
 
 -- ---- whose names they are
 

@@ -8,16 +8,22 @@ use Rattle.bus_semantics.specs.Plan.{Plan}
 use Rattle.bus_semantics.specs.Spelling.{Letters}
 use Rattle.trace_reading.specs.declared.words.CallWord.{CallWord}
 use Rattle.trace_reading.specs.declared.words.DataWord.{DataWord}
+use Rattle.trace_reading.specs.declared.words.ListWord.{ListWord}
 use Rattle.trace_reading.specs.declared.words.ModeWord.{ModeWord}
 use Rattle.trace_reading.specs.declared.words.PlainWord.{PlainWord}
 use Rattle.trace_reading.specs.Actors.{actor_in}
-use Rattle.trace_reading.specs.Deeds.{Line, call_deed, call_word, data_deed, data_word, line_at, mode_deed, mode_word, plain_deed, plain_word}
+use Rattle.trace_reading.specs.Deeds.{Line, call_deed, call_word, data_deed, data_word, line_at, list_word, mode_deed, mode_word, plain_deed, plain_word}
+use Rattle.trace_reading.specs.Lists.{list_deed}
 
 abbrev pub deed_in : Version → Plan → Actor → Line → Option Deed
 deed_in v p a l = if_data (data_word l.word)
   where
+    if_list : Option ListWord → Option Deed
+    if_list None = None
+    if_list (Some w) = list_deed p a w l
+
     if_mode : Option ModeWord → Option Deed
-    if_mode None = None
+    if_mode None = if_list (list_word l.word)
     if_mode (Some w) = mode_deed v p a w l
 
     if_call : Option CallWord → Option Deed

@@ -1,6 +1,7 @@
 pub mod Actors
 pub mod Cuts
 pub mod Deeds
+pub mod Lists
 pub mod Fields
 pub mod Finding
 pub mod Guess

@@ -4,15 +4,15 @@ use Rattle.std.specs.List.{list_all}
 use Rattle.bus_semantics.specs.declared.plan.ModePortPlan.{ModePortPlan}
 use Rattle.bus_semantics.specs.declared.script.Mapping.{Mapping}
 use Rattle.bus_semantics.specs.Plan.{Plan, every_from}
-use Rattle.bus_semantics.specs.Sound.{IsSound, NoneListed}
+use Rattle.bus_semantics.specs.Sound.{IsSound}
 use Rattle.bus_semantics.specs.SoundAccesses.{points_arranged, points_fit}
+use Rattle.bus_semantics.specs.SoundLists.{lists_sound}
 use Rattle.bus_semantics.specs.SoundNames.{names_distinct, names_fit, none_is_env}
 use Rattle.bus_semantics.specs.SoundPlan.{instances_exist}
 use Rattle.bus_semantics.specs.SoundPrograms.{runnable_sound}
-use Rattle.trace_text.specs.Short.{HasShortLists}
 
 -- names are short, each once and none `env`; what others name is there; points are those of the runnables that call at them; and
--- coherent lists are short. For now there is none, so no line is of one
+-- coherent lists are sound
 pub record IsReadable (p : Plan) : Type 0 where
   pub names : names_fit p ≡ true
   pub distinct : names_distinct p ≡ true
@@ -22,8 +22,7 @@ pub record IsReadable (p : Plan) : Type 0 where
   pub points : points_arranged p ≡ true
   pub operations : points_fit p ≡ true
   pub runnables : every_from 0 (runnable_sound p) p.runnables ≡ true
-  pub lists : HasShortLists p
-  pub none_listed : NoneListed p
+  pub lists : lists_sound p ≡ true
 
 -- ---- law
 

@@ -8,8 +8,9 @@ ghost use Rattle.trace_reading.specs.Pieces.{line_of};
 use crate::actors::actor_in;
 use crate::deeds::{call_deed, data_deed, mode_deed, plain_deed};
 use crate::fields::{Fields, split};
+use crate::lists::list_deed;
 use crate::names::Names;
-use crate::words::{call_word, data_word, mode_word, plain_word};
+use crate::words::{call_word, data_word, list_word, mode_word, plain_word};
 use bus_semantics::{Actor, Deed, Entry, Version};
 
 /// What was done.
@@ -25,8 +26,11 @@ fn deed_in(names: &Names, v: Version, who: Actor, f: &Fields) -> Option<Deed>
     if let Some(word) = call_word(f.word) {
         return call_deed(names, who, word, f);
     }
-    match mode_word(f.word) {
-        Some(word) => mode_deed(names, v, who, word, f),
+    if let Some(word) = mode_word(f.word) {
+        return mode_deed(names, v, who, word, f);
+    }
+    match list_word(f.word) {
+        Some(word) => list_deed(names.plan, who, word, f),
         None => None,
     }
 }

@@ -11,6 +11,7 @@ mod fields;
 mod guess;
 mod homes;
 mod laws;
+mod lists;
 mod names;
 mod reading;
 mod sizes;

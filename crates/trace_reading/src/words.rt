@@ -1,7 +1,7 @@
 //! The words that say what was done.
 
 ghost use Rattle.std.specs.Prelude.{◌≡◌};
-ghost use Rattle.trace_reading.specs.Deeds.{call_word, data_word, mode_word, plain_word};
+ghost use Rattle.trace_reading.specs.Deeds.{call_word, data_word, list_word, mode_word, plain_word};
 
 /// What is done at an element.
 #[derive(Clone, Copy)]
@@ -30,6 +30,13 @@ pub enum ModeWord {
     Mode,
     Switch,
     Phase,
+}
+
+/// What is done with a coherent list.
+#[derive(Clone, Copy)]
+pub enum ListWord {
+    FetchAll,
+    PublishAll,
 }
 
 /// What else is done.
@@ -117,6 +124,19 @@ pub fn mode_word(text: &[u8]) -> Option<ModeWord>
         Some(ModeWord::Switch)
     } else if text == b"phase".as_slice() {
         Some(ModeWord::Phase)
+    } else {
+        None
+    }
+}
+
+/// The word of this text, if it says what is done with a coherent list.
+pub fn list_word(text: &[u8]) -> Option<ListWord>
+    ensures { result ≡ list_word text.now }
+{
+    if text == b"fetchAll".as_slice() {
+        Some(ListWord::FetchAll)
+    } else if text == b"publishAll".as_slice() {
+        Some(ListWord::PublishAll)
     } else {
         None
     }

@@ -2,5 +2,5 @@ pub mod Appending
 pub mod Words
 pub mod ShortLines
 pub mod ShortNames
-pub mod ShortLists
+pub mod Places
 pub mod Marks

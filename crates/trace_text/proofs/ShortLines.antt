@@ -1,6 +1,6 @@
 -- How long the lines of a plan with short names may be.
 use Rattle.std.proofs.Common.{◌≡◌, ℕ, zero, suc, ◌/◌, ◌%◌, ◌≤◌, Bool, true, false, ◌&&◌, ◌==◌, cond, List, [], ◌∷◌, ◌++◌, length, codes, Option, Some, None, refl, ap, length-append, arith}
-use Rattle.std.proofs.lemmas.Bool.{and_parts, leb-true}
+use Rattle.std.proofs.lemmas.Bool.{and_parts}
 use Rattle.std.specs.List.{list_all}
 use Rattle.std.specs.Prelude.{nat_le}
 use Rattle.rte_value.specs.declared.kinds.Step.{Step}
@@ -12,7 +12,6 @@ use Rattle.bus_semantics.specs.declared.plan.AreaPlan.{AreaPlan}
 use Rattle.bus_semantics.specs.declared.plan.MachinePlan.{MachinePlan}
 use Rattle.bus_semantics.specs.declared.plan.ModePortPlan.{ModePortPlan}
 use Rattle.bus_semantics.specs.declared.plan.EventPlan.{EventPlan}
-use Rattle.bus_semantics.specs.declared.plan.CoherentList.{CoherentList}
 use Rattle.bus_semantics.specs.declared.entries.Actor.{Actor}
 use Rattle.bus_semantics.specs.declared.entries.Actor.TheVariants.{Env, Machine, Act}
 use Rattle.bus_semantics.specs.declared.entries.Deed.{Deed}
@@ -24,10 +23,12 @@ use Rattle.bus_semantics.specs.Plan.{Plan, Runnable, look, machine_of_port}
 use Rattle.bus_semantics.specs.declared.version.Version.{Version}
 use Rattle.bus_semantics.specs.declared.version.Version.TheVariants.{One, Two}
 use Rattle.bus_semantics.specs.declared.plan.ServerPlan.{ServerPlan}
+use Rattle.bus_semantics.specs.SoundLists.{lists_sound}
 use Rattle.bus_semantics.specs.SoundNames.{is_name, is_pair_name, is_path, names_fit}
 use Rattle.bus_semantics.specs.SoundPlan.{is_variable}
 use Rattle.bus_semantics.specs.Spelling.{Letters, actor_text, area_name, caller_text, deed_text, elem_name, entry_text, event_name, from_text, instance_text, key_text, machine_name, machine_text, mask_text, mode_port_name, mode_text, phase_text, point_name, point_text, runnable_text}
-use Rattle.trace_text.specs.Short.{HasShortLists, IsShort, IsShortFrom, IsShortMode, IsShortStep}
+use Rattle.trace_text.specs.Short.{IsShort, IsShortFrom, IsShortMode, IsShortStep}
+use Rattle.trace_text.proofs.Places.{elems_few}
 use Rattle.trace_text.proofs.ShortNames.{look_short, name_short, pair_short, path_short}
 
 -- ---- the tests that a sound plan's names pass
@@ -178,7 +179,7 @@ phase_short v p names a step.Stable h = omega arith
 
 -- ---- what is written of a list: a digit for each element
 
-mask_length : (w : ℕ) (xs : List ℕ) → length (mask_text w xs) ≡ length xs
+pub mask_length : (w : ℕ) (xs : List ℕ) → length (mask_text w xs) ≡ length xs
 mask_length w [] = refl
 mask_length w (x ∷ xs) = by_mark (w % 2 == 1) (mask_length (w / 2) xs)
   where
@@ -186,15 +187,12 @@ mask_length w (x ∷ xs) = by_mark (w % 2 == 1) (mask_length (w / 2) xs)
     by_mark true rest = ap suc rest
     by_mark false rest = ap suc rest
 
-mask_short : (p : Plan) → HasShortLists p → (l written : ℕ) → length (mask_text written (elems_of p l)) ≤ 16
-mask_short p lists l written =
-    let few = look_short (λ (c : CoherentList). nat_le (length c.elems) 16) (λ (c : CoherentList). c.elems) 16 (λ c h. leb-true (length c.elems) 16 h) p.lists lists l in
-    let long = mask_length written (elems_of p l) in
-    omega arith
+mask_short : (p : Plan) → lists_sound p ≡ true → (l written : ℕ) → length (mask_text written (elems_of p l)) ≤ 16
+mask_short p lists l written = omega (arith, elems_few p lists l, mask_length written (elems_of p l))
 
 -- ---- deeds and lines
 
-deed_short : (v : Version) (p : Plan) → NamesPass p → HasShortLists p → (a : Actor) (d : Deed) → IsShort v p d → length (deed_text v p a d) ≤ 742
+deed_short : (v : Version) (p : Plan) → NamesPass p → lists_sound p ≡ true → (a : Actor) (d : Deed) → IsShort v p d → length (deed_text v p a d) ≤ 742
 deed_short v p names lists a deed.Tick h = omega arith
 deed_short v p names lists a (deed.Start event point value) h = let name = event_name_short p names event in let from = from_short p names point value h in simp (length-append {A = ℕ}) (omega arith)
 deed_short v p names lists a (deed.Admit true) h = omega arith
@@ -221,7 +219,7 @@ deed_short v p names lists a (deed.FetchAll l value) h = simp (length-append {A 
 deed_short v p names lists a (deed.PublishAll l written value) h = let mask = mask_short p lists l written in simp (length-append {A = ℕ}) (omega arith)
 deed_short v p names lists a deed.End h = omega arith
 
-pub entry_short : (v : Version) (p : Plan) → names_fit p ≡ true → HasShortLists p → (e : Entry) → IsShort v p e.deed → length (entry_text v p e) ≤ 2048
+pub entry_short : (v : Version) (p : Plan) → names_fit p ≡ true → lists_sound p ≡ true → (e : Entry) → IsShort v p e.deed → length (entry_text v p e) ≤ 2048
 entry_short v p fit lists e h =
     let names = names_pass p fit in
     let actor = actor_short p names e.actor in

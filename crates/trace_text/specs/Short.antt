@@ -1,7 +1,6 @@
 -- How long what a deed holds may be in a line: a number has at most 20 bytes, a value 16 words with a comma between them. A mode is
--- a number in version one alone. A coherent list has a digit for each element, and in a sound plan at most 16.
-use Rattle.std.specs.Prelude.{◌≡◌, ℕ, ◌≤◌, length, decimal, nat_le, true, Option, Some, None}
-use Rattle.std.specs.List.{list_all}
+-- a number in version one alone.
+use Rattle.std.specs.Prelude.{ℕ, ◌≤◌, length, decimal, Option, Some, None}
 use Rattle.rte_value.specs.declared.kinds.Step.{Step}
 use Rattle.rte_value.specs.declared.kinds.Step.TheVariants as step
 use Rattle.rte_value.specs.declared.value.Value.{Value}
@@ -9,13 +8,8 @@ use Rattle.bus_semantics.specs.declared.entries.Deed.{Deed}
 use Rattle.bus_semantics.specs.declared.entries.Deed.TheVariants as deed
 use Rattle.bus_semantics.specs.declared.version.Version.{Version}
 use Rattle.bus_semantics.specs.declared.version.Version.TheVariants.{One, Two}
-use Rattle.bus_semantics.specs.declared.plan.CoherentList.{CoherentList}
 use Rattle.bus_semantics.specs.Plan.{Plan}
 use Rattle.bus_semantics.specs.Spelling.{position_of, value_text}
-
--- no list has more than 16 elements
-abbrev pub HasShortLists : Plan → Type 0
-HasShortLists p = list_all (λ (c : CoherentList). nat_le (length c.elems) 16) p.lists ≡ true
 
 abbrev pub IsShortNumber : ℕ → Type 0
 IsShortNumber n = length (decimal n) ≤ 20

@@ -1,10 +1,11 @@
 //! What was done, with what the bus answered.
 
-ghost use Rattle.std.specs.Prelude.{◌≡◌, ◌++◌, codes, decimal, Some, if◌then◌else◌};
+ghost use Rattle.std.specs.Prelude.{◌≡◌, ◌++◌, codes, decimal, Some, true, if◌then◌else◌};
 ghost use Rattle.bus_semantics.specs.Plan.{plan_of};
 ghost use Rattle.bus_semantics.specs.Spelling.{deed_text, event_name, from_text, machine_name, mode_port_name, mode_text, phase_text, spaced, value_text};
 ghost use Rattle.bus_semantics.specs.Plan.{machine_of_port};
 ghost use Rattle.bus_semantics.specs.Objects.{machine_itself};
+ghost use Rattle.bus_semantics.specs.SoundLists.{lists_sound};
 ghost use Rattle.trace_text.specs.Appending.{Appends};
 ghost use Rattle.trace_text.specs.Short.{IsShort, IsShortFrom, IsShortMode, IsShortNumber, IsShortStep, IsShortValue};
 
@@ -208,6 +209,7 @@ fn write_phase(p: &BusPlan, actor: Actor, step: Step, v: Version, out: &mut Line
 
 /// Writes what the actor did.
 pub fn write_deed(p: &BusPlan, actor: Actor, deed: &Deed, v: Version, out: &mut LineBuf)
+    requires { lists_sound (plan_of p.now) ≡ true }
     ensures text { Appends out.old out.new (deed_text v (plan_of p.now) actor deed.now) }
     ensures short { IsShort v (plan_of p.now) deed.now }
 {

@@ -1,6 +1,6 @@
 //! The fields of a line: texts, numbers and values.
 
-ghost use Rattle.std.specs.Prelude.{◌<◌, ◌≤◌, ◌*◌, ◌^◌, length, decimal};
+ghost use Rattle.std.specs.Prelude.{◌≤◌, ◌*◌, length, decimal};
 ghost use Rattle.std.specs.Fmt.{signed_decimal};
 ghost use Rattle.bus_semantics.specs.Spelling.{more_words, spaced, value_text};
 ghost use Rattle.trace_text.specs.Appending.{Appends};
@@ -55,15 +55,6 @@ pub fn write_number(number: u32, out: &mut LineBuf)
     ensures short { IsShortNumber number }
 {
     write_word(i64::from(number), out);
-}
-
-/// Writes a place in a list in decimal.
-pub fn write_place(place: usize, out: &mut LineBuf)
-    requires { place < 2 ^ 63 }
-    ensures text { Appends out.old out.new (decimal place) }
-    ensures short { IsShortNumber place }
-{
-    write_word(place as i64, out);
 }
 
 /// Writes a space and the number.

@@ -4,10 +4,11 @@ ghost use Rattle.std.specs.Prelude.{◌≡◌, [], true};
 ghost use Rattle.bus_semantics.specs.declared.version.Version.{Version};
 ghost use Rattle.bus_semantics.specs.Plan.{Plan, plan_of};
 ghost use Rattle.bus_semantics.specs.Run.{idle, run_begins, unsettled};
+ghost use Rattle.bus_semantics.specs.SoundLists.{lists_sound};
 ghost use Rattle.bus_semantics.specs.SoundNames.{names_fit};
 ghost use Rattle.bus_semantics.specs.Spelling.{closing_text, entry_text, header, item_text};
 ghost use Rattle.trace_text.specs.Appending.{Appends};
-ghost use Rattle.trace_text.specs.Short.{HasShortLists, IsShort};
+ghost use Rattle.trace_text.specs.Short.{IsShort};
 
 use crate::actors::write_actor;
 use crate::deeds::write_deed;
@@ -48,6 +49,7 @@ pub fn unsettled_line() -> &'static [u8]
 
 /// Writes the line of the entry.
 fn write_line(p: &BusPlan, e: &Entry, v: Version, out: &mut LineBuf)
+    requires { lists_sound (plan_of p.now) ≡ true }
     ensures text { Appends out.old out.new (entry_text v (plan_of p.now) e.now) }
     ensures short { IsShort v (plan_of p.now) e.now.deed }
 {
@@ -58,10 +60,10 @@ fn write_line(p: &BusPlan, e: &Entry, v: Version, out: &mut LineBuf)
 }
 
 /// Writes the line of the entry in a trace of the version, its newline included, into an empty line. It takes no memory. The
-/// names and the coherent lists of the plan have to be short, as a sound plan's are: then every line fits.
+/// names of the plan have to be short and its coherent lists sound, as a sound plan's are: then every line fits.
 pub fn write_entry(p: &BusPlan, e: &Entry, v: Version, out: &mut LineBuf)
     requires names { names_fit (plan_of p.now) ≡ true }
-    requires lists { HasShortLists (plan_of p.now) }
+    requires lists { lists_sound (plan_of p.now) ≡ true }
     requires empty { out.old ≡ [] }
     ensures { out.new ≡ entry_text v (plan_of p.now) e.now }
 {

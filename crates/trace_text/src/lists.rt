@@ -1,35 +1,40 @@
 //! Coherent lists: what is fetched or published at one moment.
 
-ghost use Rattle.std.specs.Prelude.{◌≡◌, ◌<◌, ◌++◌, ◌^◌, ◌%◌, ◌==◌, codes, decimal, position, IfSome, if◌then◌else◌};
+ghost use Rattle.std.specs.Prelude.{◌≡◌, ◌++◌, ◌%◌, ◌==◌, codes, decimal, true, if◌then◌else◌};
 ghost use Rattle.bus_semantics.specs.Lists.{elems_of};
 ghost use Rattle.bus_semantics.specs.Plan.{plan_of};
+ghost use Rattle.bus_semantics.specs.SoundLists.{lists_sound};
 ghost use Rattle.bus_semantics.specs.Spelling.{mask_text, position_of, spaced, value_text};
 ghost use Rattle.trace_text.specs.Appending.{Appends};
+ghost use Rattle.trace_text.specs.Beside.{first_beside};
 ghost use Rattle.trace_text.specs.Short.{IsShortNumber, IsShortValue};
 
-use crate::fields::{write_place, write_spaced_value, write_text};
+use crate::fields::{write_number, write_spaced_value, write_text};
 use bus_semantics::BusPlan;
 use rte_text::LineBuf;
 use rte_value::Value;
 
-/// The place of a number in a list, from 0.
-fn place_in(numbers: &[u32], number: u32) -> Option<usize>
-    ensures place { result ≡ position (λ n. n == number) numbers.now }
-    ensures small { IfSome result (λ place. place < 2 ^ 63) }
-{
-    numbers.iter().position(|n| *n == number)
-}
-
-/// The place of a coherent list among the lists of its runnable, from 0. 0 for a list that there is not.
-fn position_of(p: &BusPlan, list: u32) -> usize
-    ensures place { result ≡ position_of (plan_of p.now) list }
-    ensures small { result < 2 ^ 63 }
+/// The first list of the runnable that a coherent list belongs to. None for a list that there is not.
+fn first_beside(p: &BusPlan, list: u32) -> Option<u32>
+    ensures { result ≡ first_beside (plan_of p.now) list }
 {
     match p.lists.items().get(list as usize) {
         Some(coherent) => match p.runnables.items().get(coherent.runnable as usize) {
-            Some(runnable) => place_in(runnable.lists.items(), list).unwrap_or(0),
-            None => 0,
+            Some(runnable) => runnable.lists.items().get(0).copied(),
+            None => None,
         },
+        None => None,
+    }
+}
+
+/// The place of a coherent list among the lists of its runnable, from 0, which have consecutive numbers. 0 for a list that there is
+/// not.
+fn position_of(p: &BusPlan, list: u32) -> u32
+    requires { lists_sound (plan_of p.now) ≡ true }
+    ensures { result ≡ position_of (plan_of p.now) list }
+{
+    match first_beside(p, list) {
+        Some(first) => list - first,
         None => 0,
     }
 }
@@ -58,23 +63,25 @@ fn write_marks(written: u16, elems: &[u32], out: &mut LineBuf)
 
 /// `fetchAll L V`.
 pub fn write_fetched(p: &BusPlan, list: u32, value: &Value, out: &mut LineBuf)
+    requires { lists_sound (plan_of p.now) ≡ true }
     ensures text { Appends out.old out.new (codes "fetchAll " ++ decimal (position_of (plan_of p.now) list) ++ spaced (value_text value.now)) }
     ensures short_place { IsShortNumber (position_of (plan_of p.now) list) }
     ensures short_value { IsShortValue value.now }
 {
     write_text(b"fetchAll ", out);
-    write_place(position_of(p, list), out);
+    write_number(position_of(p, list), out);
     write_spaced_value(value, out);
 }
 
 /// `publishAll L MASK V`.
 pub fn write_published(p: &BusPlan, list: u32, written: u16, value: &Value, out: &mut LineBuf)
+    requires { lists_sound (plan_of p.now) ≡ true }
     ensures text { Appends out.old out.new (codes "publishAll " ++ decimal (position_of (plan_of p.now) list) ++ spaced (mask_text written (elems_of (plan_of p.now) list)) ++ spaced (value_text value.now)) }
     ensures short_place { IsShortNumber (position_of (plan_of p.now) list) }
     ensures short_value { IsShortValue value.now }
 {
     write_text(b"publishAll ", out);
-    write_place(position_of(p, list), out);
+    write_number(position_of(p, list), out);
     write_text(b" ", out);
     write_marks(written, p.elems_of(list), out);
     write_spaced_value(value, out);
