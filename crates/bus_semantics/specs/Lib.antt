@@ -1,3 +1,4 @@
+pub mod Codes
 pub mod Plan
 pub mod Wanted
 pub mod Lists

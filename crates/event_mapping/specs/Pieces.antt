@@ -1,5 +1,6 @@
 -- The lists of a plan, piece by piece.
 use Rattle.std.specs.Prelude.{◌≡◌, ℕ, [], map}
+use Rattle.bus_semantics.specs.Codes.{HaveOneCode}
 use Rattle.bus_semantics.specs.Plan.{positions, runnable_of}
 use Rattle.flat_descriptions.specs.declared.flat.Flat.{Flat}
 use Rattle.description_types.specs.declared.description.Description.{Description}
@@ -32,6 +33,7 @@ pub record AreModes (d : Description) (f : Flat) (x : Modes) : Type 0 where
 pub record IsBehavior (d : Description) (f : Flat) (x : Behavior) : Type 0 where
   pub events : x.events ≡ events d f
   pub runnables : map runnable_of x.runnables ≡ runnables d f
+  pub coded : HaveOneCode x.runnables
 
 -- no list, and each of so many groups a bundle by itself
 pub record AreAlone (groups : ℕ) (x : Bundling) : Type 0 where

@@ -8,7 +8,7 @@ pub use laws::{
     programs_leave_what_was_fetched, runnables_fetch_in_declared_order,
     runnables_publish_in_declared_order,
 };
-pub use planning::{BufferPlan, plan_buffers};
+pub use planning::{BufferPlan, is_read_early, is_written_late, plan_buffers};
 
 /// There was no memory for what a call makes.
 pub type Memory = std::alloc::AllocError;

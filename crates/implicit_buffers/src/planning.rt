@@ -21,14 +21,14 @@ pub struct BufferPlan {
 }
 
 /// Whether an access of this kind fetches.
-fn is_read_early(kind: AccessKind) -> bool
+pub fn is_read_early(kind: AccessKind) -> bool
     ensures { result ≡ is_read_early kind }
 {
     matches!(kind, AccessKind::IRead | AccessKind::IrvIRead)
 }
 
 /// Whether an access of this kind publishes.
-fn is_written_late(kind: AccessKind) -> bool
+pub fn is_written_late(kind: AccessKind) -> bool
     ensures { result ≡ is_written_late kind }
 {
     matches!(kind, AccessKind::IWrite | AccessKind::IrvIWrite)

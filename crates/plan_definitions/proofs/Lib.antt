@@ -6,3 +6,4 @@ pub mod Sites
 pub mod Stands
 pub mod Chains
 pub mod Words
+pub mod Coding

@@ -1,6 +1,7 @@
 pub mod Accesses
 pub mod Callings
 pub mod Calls
+pub mod Coding
 pub mod ComponentRefusals
 pub mod Connectors
 pub mod ElementGroups

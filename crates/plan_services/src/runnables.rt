@@ -1,11 +1,14 @@
 //! The runnables of a plan.
 
-ghost use Rattle.std.specs.Prelude.{◌≡◌, ◌<◌, ◌^◌, true, [], ◌∷◌, ◌++◌, IfOk, OnOk, length, map, nat_eq, option_map, slice_get};
+ghost use Rattle.std.specs.Prelude.{◌≡◌, ◌<◌, ◌^◌, ℕ, Some, true, [], ◌∷◌, ◌++◌, IfOk, OnOk, length, map, nat_eq, option_map, slice_get};
 ghost use Rattle.std.specs.List.{flat_map};
 ghost use Rattle.std.specs.Map.{lookup};
 ghost use Rattle.std.specs.Option.{option_map_or};
+ghost use Rattle.bus_semantics.specs.Codes.{HaveOneCode};
 ghost use Rattle.bus_semantics.specs.Plan.{runnable_of as seen};
+ghost use Rattle.description_types.specs.declared.component.Runnable.{Runnable};
 ghost use Rattle.plan_definitions.specs.Lists.{from};
+ghost use Rattle.plan_definitions.specs.Coding.{coded_in, coded_at, IsCoded, AreCoded};
 ghost use Rattle.plan_services.specs.Served.{served_entry};
 ghost use Rattle.plan_services.specs.Shared.{AreOfAll, AreSignatures, accesses_of, signature_in};
 ghost use Rattle.plan_definitions.specs.Started.{runnable_of, runnables as all_runnables, runnables_of_component, served_number};
@@ -26,9 +29,10 @@ use rte_text::{Memory, Seq, Text};
 use std::alloc::Global;
 use std::sync::Arc;
 
-/// What all instances of a component have: it itself, the operations that its runnables serve, and their signatures.
+/// What all instances of a component have: its number, it itself, the operations that its runnables serve, and their signatures.
 #[derive(Clone, Copy)]
 struct Common<'a> {
+    number: u32,
     component: &'a Component,
     served: &'a Table<u32, Operation>,
     signatures: &'a [Shared],
@@ -61,7 +65,9 @@ fn runnable_of(
     requires calls { callings.now ≡ all_callings source.now.d.now source.now.f.now }
     requires serves { common.now.served.now.entries.items ≡ flat_map served_entry common.now.component.now.behavior.events }
     requires signature { accesses_of signature.now ≡ signature_in source.now.d.now.types common.now.component.now runnable.now }
-    ensures { IfOk result (λ found. seen found ≡ runnable_of source.now.d.now source.now.f.now instance common.now.component.now position runnable.now) }
+    requires own { coded_at source.now.d.now (common.now.number, position) ≡ Some (coded_in source.now.d.now common.now.component.now runnable.now) }
+    ensures seen { IfOk result (λ found. seen found ≡ runnable_of source.now.d.now source.now.f.now instance common.now.component.now position runnable.now) }
+    ensures coded { IfOk result (λ found. IsCoded source.now.d.now found) }
 {
     let name = Text::new(alloc, runnable.short_name.bytes())?;
     let program = Arc::try_clone(&runnable.program)?;
@@ -72,6 +78,7 @@ fn runnable_of(
     Ok(RunnablePlan {
         instance,
         name,
+        code: (common.number, position),
         program,
         signature: shared,
         targets,
@@ -95,7 +102,10 @@ fn push_runnable(
     requires calls { callings.now ≡ all_callings source.now.d.now source.now.f.now }
     requires serves { common.now.served.now.entries.items ≡ flat_map served_entry common.now.component.now.behavior.events }
     requires signature { accesses_of signature.now ≡ signature_in source.now.d.now.types common.now.component.now runnable.now }
-    ensures { OnOk result (map seen list.new.items ≡ map seen list.old.items ++ runnable_of source.now.d.now source.now.f.now instance common.now.component.now number runnable.now ∷ []) }
+    requires own { coded_at source.now.d.now (common.now.number, number) ≡ Some (coded_in source.now.d.now common.now.component.now runnable.now) }
+    requires coded { AreCoded source.now.d.now list.old.items }
+    ensures listed { OnOk result (map seen list.new.items ≡ map seen list.old.items ++ runnable_of source.now.d.now source.now.f.now instance common.now.component.now number runnable.now ∷ []) }
+    ensures coded { OnOk result (AreCoded source.now.d.now list.new.items) }
 {
     let position = position(number);
     let found = runnable_of(
@@ -118,7 +128,10 @@ fn push_runnables(
     requires calls { callings.now ≡ all_callings source.now.d.now source.now.f.now }
     requires serves { common.now.served.now.entries.items ≡ flat_map served_entry common.now.component.now.behavior.events }
     requires signatures { map accesses_of common.now.signatures.now ≡ map (signature_in source.now.d.now.types common.now.component.now) runnables.now }
-    ensures { OnOk result (map seen list.new.items ≡ map seen list.old.items ++ from 0 (λ m r. runnable_of source.now.d.now source.now.f.now instance common.now.component.now m r ∷ []) runnables.now) }
+    requires own { (m : ℕ) (r : Runnable) → slice_get runnables.now m ≡ Some r → coded_at source.now.d.now (common.now.number, m) ≡ Some (coded_in source.now.d.now common.now.component.now r) }
+    requires coded { AreCoded source.now.d.now list.old.items }
+    ensures listed { OnOk result (map seen list.new.items ≡ map seen list.old.items ++ from 0 (λ m r. runnable_of source.now.d.now source.now.f.now instance common.now.component.now m r ∷ []) runnables.now) }
+    ensures coded { OnOk result (AreCoded source.now.d.now list.new.items) }
 {
     let signatures = common.signatures;
     for (number, runnable) in runnables.iter().enumerate() {
@@ -136,6 +149,7 @@ fn push_component(
     source: &Source<'_>,
     callings: &Callings,
     number: usize,
+    instance: &Instance,
     component: &Component,
     signatures: &[Shared],
 ) -> Result<(), Memory>
@@ -143,10 +157,14 @@ fn push_component(
     requires runnables { length component.now.behavior.runnables < 2 ^ 32 }
     requires calls { callings.now ≡ all_callings source.now.d.now source.now.f.now }
     requires signatures { AreSignatures source.now.d.now.types component.now signatures.now }
-    ensures { OnOk result (map seen list.new.items ≡ map seen list.old.items ++ runnables_of_component source.now.d.now source.now.f.now number component.now) }
+    requires placed { slice_get source.now.d.now.components instance.now.component ≡ Some component.now }
+    requires coded { AreCoded source.now.d.now list.old.items }
+    ensures listed { OnOk result (map seen list.new.items ≡ map seen list.old.items ++ runnables_of_component source.now.d.now source.now.f.now number component.now) }
+    ensures coded { OnOk result (AreCoded source.now.d.now list.new.items) }
 {
     let served = served_of(alloc, component.behavior.events.items())?;
     let common = Common {
+        number: instance.component,
         component,
         served: &served,
         signatures,
@@ -175,13 +193,17 @@ fn push_instance(
     requires number { number < 2 ^ 32 }
     requires calls { callings.now ≡ all_callings source.now.d.now source.now.f.now }
     requires signatures { AreOfAll source.now.d.now signatures.now }
-    ensures { OnOk result (map seen list.new.items ≡ map seen list.old.items ++ option_map_or (runnables_of_component source.now.d.now source.now.f.now number) (slice_get source.now.d.now.components instance.now.component) []) }
+    requires coded { AreCoded source.now.d.now list.old.items }
+    ensures listed { OnOk result (map seen list.new.items ≡ map seen list.old.items ++ option_map_or (runnables_of_component source.now.d.now source.now.f.now number) (slice_get source.now.d.now.components instance.now.component) []) }
+    ensures coded { OnOk result (AreCoded source.now.d.now list.new.items) }
 {
     match component_at(source.d, instance) {
         Some(component) => {
             let position = instance.component as usize;
             let shared = signatures[position].items();
-            push_component(list, alloc, source, callings, number, component, shared)
+            push_component(
+                list, alloc, source, callings, number, instance, component, shared,
+            )
         }
         None => Ok(()),
     }
@@ -198,7 +220,9 @@ fn push_instances(
     requires instances { length instances.now < 2 ^ 32 }
     requires calls { callings.now ≡ all_callings source.now.d.now source.now.f.now }
     requires signatures { AreOfAll source.now.d.now signatures.now }
-    ensures { OnOk result (map seen list.new.items ≡ map seen list.old.items ++ from 0 (λ i x. option_map_or (runnables_of_component source.now.d.now source.now.f.now i) (slice_get source.now.d.now.components x.component) []) instances.now) }
+    requires coded { AreCoded source.now.d.now list.old.items }
+    ensures listed { OnOk result (map seen list.new.items ≡ map seen list.old.items ++ from 0 (λ i x. option_map_or (runnables_of_component source.now.d.now source.now.f.now i) (slice_get source.now.d.now.components x.component) []) instances.now) }
+    ensures coded { OnOk result (AreCoded source.now.d.now list.new.items) }
 {
     for (number, instance) in instances.iter().enumerate() {
         push_instance(list, alloc, source, callings, signatures, number, instance)?;
@@ -214,7 +238,8 @@ pub fn runnable_plans(
 ) -> Result<Vec<RunnablePlan>, Memory>
     requires calls { callings.now ≡ all_callings source.now.d.now source.now.f.now }
     requires types { types_fit source.now.d.now.types ≡ true }
-    ensures { IfOk result (λ list. map seen list.items ≡ all_runnables source.now.d.now source.now.f.now) }
+    ensures listed { IfOk result (λ list. map seen list.items ≡ all_runnables source.now.d.now source.now.f.now) }
+    ensures coded { IfOk result (λ list. HaveOneCode list.items) }
 {
     let signatures = signatures_of(alloc, source.d)?;
     let mut list = Vec::new(alloc);

@@ -71,11 +71,11 @@ module _ (code : List Instruction) (event : ℕ) where
 
 -- ---- the lengths
 
-fetching_long : (all xs : List ℕ) → length (fetching_code all xs) ≡ length xs
+pub fetching_long : (all xs : List ℕ) → length (fetching_code all xs) ≡ length xs
 fetching_long all [] = refl
 fetching_long all (x ∷ xs) = ap (λ n. suc n) (fetching_long all xs)
 
-publishing_long : (all xs : List ℕ) → length (publishing_code all xs) ≡ 2 * length xs
+pub publishing_long : (all xs : List ℕ) → length (publishing_code all xs) ≡ 2 * length xs
 publishing_long all [] = refl
 publishing_long all (x ∷ xs) = let rest = publishing_long all xs in omega (arith, rest)
 

@@ -4,6 +4,7 @@ use Rattle.std.specs.Prelude.{◌||◌, ◌==◌}
 use Rattle.std.proofs.lemmas.Nat.{mul-le}
 use Rattle.std.proofs.lemmas.Bool.{true≢false}
 use Rattle.runnable_lang.specs.declared.program.AccessKind.TheVariants as kind
+use Rattle.runnable_lang.specs.declared.program.AccessSig.{AccessSig}
 use Rattle.runnable_lang.specs.declared.stmt.Stmt.{Stmt}
 use Rattle.runnable_lang.specs.Trees.{ExprTree, stmt_tree, body_tree, StmtTree, chooses, repeats, in_area, BodyTree, done, next}
 use Rattle.runnable_lang.specs.Costs.{stmt_cost, body_cost}
@@ -11,9 +12,12 @@ use Rattle.bus_semantics.specs.Plan.{Runnable}
 use Rattle.bus_semantics.specs.Wanted.{to_leave}
 use Rattle.bus_semantics.specs.State.{access}
 use Rattle.task_machine.specs.declared.instr.Taken.TheVariants as taken
-use Rattle.task_machine.specs.Instructions.{Instruction, skip, end_loop}
+use Rattle.task_machine.specs.Targets.{number_at}
+use Rattle.task_machine.specs.Instructions.{Instruction, Shared, skip, end_loop}
 use Rattle.task_generator.specs.Nothing.{does_nothing, do_nothing}
+use Rattle.task_generator.specs.Numbers.{numbered}
 use Rattle.task_generator.specs.Code.{calling_code, looping_code, code_of, code_of_body}
+use Rattle.task_generator.specs.Shared.{fixed, calling_shared, looping_shared, shared_of, shared_of_body}
 use Rattle.task_generator.specs.Bounds.{steps, steps_of_body, loops, loops_of_body}
 
 -- ---- a loop that does something has a turn and a body
@@ -48,36 +52,68 @@ mutual
 
 -- ---- the instructions that stand there
 
-loop_code : (d n s : ℕ) (code : List Instruction) (z b : Bool) → (z ≡ false → 1 ≤ n) → length code ≤ s
-    → length (if z || b then [] else looping_code d n code) ≤ (if z || b then 0 else 1 + n * (s + 1))
+loop_code : (d n s : ℕ) (code : List Shared) (z b : Bool) → (z ≡ false → 1 ≤ n) → length code ≤ s
+    → length (if z || b then [] else looping_shared d n code) ≤ (if z || b then 0 else 1 + n * (s + 1))
 loop_code d n s code true b some short = omega arith
 loop_code d n s code false true some short = omega arith
 loop_code d n s code false false some short =
     let turns : 1 * (s + 1) ≤ n * (s + 1) = mul-le 1 (s + 1) n (s + 1) (some refl) (omega arith) in
-    omega (arith, length-append code (end_loop d (length code) ∷ []))
+    omega (arith, length-append code (fixed (end_loop d (length code)) ∷ []))
 
-module _ (r : Runnable) where
+module _ (s : List AccessSig) where
   mutual
-    pub stmt_code : (d : ℕ) (st : StmtTree) → length (code_of r d st) ≤ steps st
+    pub stmt_code : (d : ℕ) (st : StmtTree) → length (shared_of s d st) ≤ steps st
     stmt_code d (chooses c first second) =
-        let x = code_of_body r d first in
-        let y = code_of_body r d second in
+        let x = shared_of_body s d first in
+        let y = shared_of_body s d second in
         let a = body_code d first in
         let b = body_code d second in
-        omega (arith, length-append x (skip (length y) ∷ y))
-    stmt_code d (repeats turns body) = loop_code d turns (steps_of_body body) (code_of_body r (d + 1) body) (turns == 0) (do_nothing body) (some_turns turns) (body_code (d + 1) body)
+        omega (arith, length-append x (fixed (skip (length y)) ∷ y))
+    stmt_code d (repeats turns body) = loop_code d turns (steps_of_body body) (shared_of_body s (d + 1) body) (turns == 0) (do_nothing body) (some_turns turns) (body_code (d + 1) body)
     stmt_code d (in_area x body) =
-        let y = code_of_body r d body in
+        let y = shared_of_body s d body in
         let a = body_code d body in
-        omega (arith, length-append y (calling_code (λ m. to_leave (access r kind.Enter 0 x).target) taken.Nothing))
+        omega (arith, length-append y (calling_shared (λ t m. to_leave (number_at t (numbered s kind.Enter 0 x).target)) taken.Nothing))
     stmt_code d st = omega arith
 
-    pub body_code : (d : ℕ) (body : BodyTree) → length (code_of_body r d body) ≤ steps_of_body body
+    pub body_code : (d : ℕ) (body : BodyTree) → length (shared_of_body s d body) ≤ steps_of_body body
     body_code d done = omega arith
     body_code d (next st body) =
         let a = stmt_code d st in
         let b = body_code d body in
-        omega (arith, length-append (code_of r d st) (code_of_body r d body))
+        omega (arith, length-append (shared_of s d st) (shared_of_body s d body))
+
+-- a program has as many instructions in an instance as instances share
+
+long_loop : (d n : ℕ) (x : List Shared) (y : List Instruction) (b : Bool) → length x ≡ length y → length (if b then [] else looping_shared d n x) ≡ length (if b then [] else looping_code d n y)
+long_loop d n x y true same = refl
+long_loop d n x y false same = omega (arith, same, length-append x (fixed (end_loop d (length x)) ∷ []), length-append y (end_loop d (length y) ∷ []))
+
+module _ (s : List AccessSig) (r : Runnable) where
+  mutual
+    as_long : (d : ℕ) (st : StmtTree) → length (shared_of s d st) ≡ length (code_of r d st)
+    as_long d (chooses c first second) =
+        let x = shared_of_body s d first in
+        let y = shared_of_body s d second in
+        let v = code_of_body r d first in
+        let w = code_of_body r d second in
+        omega (arith, bodies_as_long d first, bodies_as_long d second, length-append x (fixed (skip (length y)) ∷ y), length-append v (skip (length w) ∷ w))
+    as_long d (repeats turns body) = long_loop d turns (shared_of_body s (d + 1) body) (code_of_body r (d + 1) body) (does_nothing (repeats turns body)) (bodies_as_long (d + 1) body)
+    as_long d (in_area x body) =
+        omega (
+          arith,
+          bodies_as_long d body,
+          length-append (shared_of_body s d body) (calling_shared (λ t m. to_leave (number_at t (numbered s kind.Enter 0 x).target)) taken.Nothing),
+          length-append (code_of_body r d body) (calling_code (λ m. to_leave (access r kind.Enter 0 x).target) taken.Nothing),
+        )
+    as_long d st = refl
+
+    bodies_as_long : (d : ℕ) (body : BodyTree) → length (shared_of_body s d body) ≡ length (code_of_body r d body)
+    bodies_as_long d done = refl
+    bodies_as_long d (next st body) = omega (arith, as_long d st, bodies_as_long d body, length-append (shared_of s d st) (shared_of_body s d body), length-append (code_of r d st) (code_of_body r d body))
+
+pub instance_code : (r : Runnable) (d : ℕ) (body : BodyTree) → length (code_of_body r d body) ≤ steps_of_body body
+instance_code r d body = omega (arith, bodies_as_long r.accesses r d body, body_code r.accesses d body)
 
 -- ---- loops within one another
 
@@ -135,12 +171,12 @@ loop_depth turns d body does flat =
     omega arith
 
 -- the code of both sides of a choice
-pub sides_short : (r : Runnable) (d : ℕ) (st : StmtTree) (e : ExprTree) (first second : BodyTree) → st ≡ chooses e first second → stmt_cost st ≤ 100000
-    → length (code_of_body r d first) + length (code_of_body r d second) ≤ 300000
-sides_short r d st e first second is cost =
+pub sides_short : (s : List AccessSig) (d : ℕ) (st : StmtTree) (e : ExprTree) (first second : BodyTree) → st ≡ chooses e first second → stmt_cost st ≤ 100000
+    → length (shared_of_body s d first) + length (shared_of_body s d second) ≤ 300000
+sides_short s d st e first second is cost =
     let low : stmt_cost (chooses e first second) ≤ 100000 = subst (λ x. stmt_cost x ≤ 100000) is cost in
-    omega (arith, low, stmt_steps (chooses e first second), body_code r d first, body_code r d second)
+    omega (arith, low, stmt_steps (chooses e first second), body_code s d first, body_code s d second)
 
 -- the code of the body of a loop that does something
-pub inner_short : (r : Runnable) (d turns : ℕ) (body : BodyTree) → does_nothing (repeats turns body) ≡ false → stmt_cost (repeats turns body) ≤ 100000 → length (code_of_body r (d + 1) body) ≤ 300000
-inner_short r d turns body does cost = omega (arith, cost, loop_cost turns body does, body_steps body, body_code r (d + 1) body)
+pub inner_short : (s : List AccessSig) (d turns : ℕ) (body : BodyTree) → does_nothing (repeats turns body) ≡ false → stmt_cost (repeats turns body) ≤ 100000 → length (shared_of_body s (d + 1) body) ≤ 300000
+inner_short s d turns body does cost = omega (arith, cost, loop_cost turns body does, body_steps body, body_code s (d + 1) body)

@@ -3,10 +3,9 @@ use Rattle.std.proofs.Common.{◌≡◌, ℕ, zero, suc, ◌<◌, Bool, true, fa
 use Rattle.runnable_lang.specs.declared.program.AccessKind.{AccessKind}
 use Rattle.runnable_lang.specs.declared.program.AccessSig.{AccessSig}
 use Rattle.runnable_lang.specs.Accesses.{kind_number}
-use Rattle.bus_semantics.specs.declared.accesses.Access as declared_access
-use Rattle.bus_semantics.specs.Accesses.{access_of}
+use Rattle.task_generator.specs.declared.accesses.Numbered.{Numbered}
 use Rattle.bus_semantics.specs.State.{is_to, found}
-use Rattle.task_generator.specs.Found.{Key, same_key, access_in}
+use Rattle.task_generator.specs.Found.{Key, same_key, numbered_of, access_in}
 
 no_target : (test : AccessSig → Bool) (xs : List AccessSig) → found test xs [] ≡ record { target = 0; ins = [] }
 no_target test [] = refl
@@ -30,12 +29,12 @@ one_more test (b ∷ xs) [] n a t h k = absurd (omega arith)
 one_more test (b ∷ xs) (u ∷ ts) zero a t h k = refl
 one_more test (b ∷ xs) (u ∷ ts) (suc n) a t h k = one_more test xs ts n a t (omega arith) (omega arith)
 
-chosen : (b : Bool) (x : declared_access.Access) (rest : Option declared_access.Access) → access_in (cond b (Some x) rest) ≡ cond b (access_of x) (access_in rest)
+chosen : (b : Bool) (x : Numbered) (rest : Option Numbered) → access_in (cond b (Some x) rest) ≡ cond b (numbered_of x) (access_in rest)
 chosen true x rest = refl
 chosen false x rest = refl
 
-pub noted : (k : AccessKind) (port item : ℕ) (xs : List AccessSig) (ts : List ℕ) (n : ℕ) (a d : AccessSig) (t : ℕ) (old new : Key → Option declared_access.Access) (key : Key) (x : declared_access.Access)
-    → n < length xs → n < length ts → key ≡ (kind_number a.kind, a.port, a.item) → a ≡ get_or xs n d → access_of x ≡ record { target = get_or ts n t; ins = a.ins }
+pub noted : (k : AccessKind) (port item : ℕ) (xs : List AccessSig) (ts : List ℕ) (n : ℕ) (a d : AccessSig) (t : ℕ) (old new : Key → Option Numbered) (key : Key) (x : Numbered)
+    → n < length xs → n < length ts → key ≡ (kind_number a.kind, a.port, a.item) → a ≡ get_or xs n d → numbered_of x ≡ record { target = get_or ts n t; ins = a.ins }
     → ((q : Key) → new q ≡ cond (same_key key q) (Some x) (old q))
     → access_in (old (kind_number k, port, item)) ≡ found (is_to k port item) (drop (suc n) xs) (drop (suc n) ts)
     → access_in (new (kind_number k, port, item)) ≡ found (is_to k port item) (drop n xs) (drop n ts)
@@ -43,7 +42,7 @@ noted k port item xs ts n a d t old new key x h j is isa isx updates before =
     let q : Key = (kind_number k, port, item) in
     ap access_in (updates q)
     ∙ chosen (same_key key q) x (old q)
-    ∙ ap (λ y. cond (same_key y q) (access_of x) (access_in (old q))) is
+    ∙ ap (λ y. cond (same_key y q) (numbered_of x) (access_in (old q))) is
     ∙ ap (λ y. cond (is_to k port item a) y (access_in (old q))) isx
     ∙ ap (λ y. cond (is_to k port item a) (record { target = get_or ts n t; ins = a.ins }) y) before
     ∙ ap (λ (b : AccessSig). cond (is_to k port item b) (record { target = get_or ts n t; ins = b.ins }) (found (is_to k port item) (drop (suc n) xs) (drop (suc n) ts))) isa

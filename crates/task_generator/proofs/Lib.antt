@@ -16,3 +16,7 @@ pub mod Placing
 pub mod Publications
 pub mod Views
 pub mod Finding
+pub mod Numbering
+pub mod Resolving
+pub mod Sharing
+pub mod Whole

@@ -26,6 +26,7 @@ use Rattle.activation_laws.proofs.Accesses.{elem_is, point_is, whole, accesses_s
 use Rattle.activation_laws.proofs.SoundServers.{server_is, server_fits}
 use Rattle.task_generator.specs.Servers.{served, arguments_in}
 use Rattle.task_generator.specs.Bounded.{gives, IsBounded}
+use Rattle.task_generator.proofs.Resolving.{ins}
 
 -- limits that are the same are as many
 as_many : (ls bs : List Limits) → same_limits ls bs ≡ true → length ls ≡ length bs
@@ -33,6 +34,13 @@ as_many [] [] same = refl
 as_many [] (b ∷ bs) same = absurd (false≢true same)
 as_many (l ∷ ls) [] same = absurd (false≢true same)
 as_many (l ∷ ls) (b ∷ bs) same = ap (λ n. suc n) (as_many ls bs (and_parts _ (same_limits ls bs) same).1)
+
+-- there is a target for each access
+as_many_targets : (f : AccessSig → ℕ → Bool) (sigs : List AccessSig) (ts : List ℕ) → each_access f sigs ts ≡ true → length sigs ≡ length ts
+as_many_targets f [] [] all = refl
+as_many_targets f [] (t ∷ ts) all = absurd (false≢true all)
+as_many_targets f (a ∷ sigs) [] all = absurd (false≢true all)
+as_many_targets f (a ∷ sigs) (t ∷ ts) all = ap (λ n. suc n) (as_many_targets f sigs ts (and_parts (f a t) (each_access f sigs ts) all).1)
 
 module _ (p : Plan) (m : Mapping) (sound : IsSound p m) where
   -- an element takes few words
@@ -94,9 +102,13 @@ module _ (p : Plan) (m : Mapping) (sound : IsSound p m) where
         let after_body = (and_parts (body_sound r r.program.body []) _ after_areas).1 in
         leb-true (body_cost r.program.body) 100000 (and_parts (nat_le (body_cost r.program.body) 100000) _ after_body).0
 
+    all_targets : length r.accesses ≡ length r.targets
+    all_targets = as_many_targets (access_sound p i (Some r.instance)) r.accesses r.targets (accesses_sound p m sound i r there)
+
     pub bounded : IsBounded p r
     bounded = record {
-      words = λ k port item gives. few_found i (Some r.instance) k port item gives r.accesses r.targets (accesses_sound p m sound i r there);
+      words = λ k port item gives. subst (λ (ls : List Limits). length ls ≤ 16) (sym (ins r all_targets k port item)) (few_found i (Some r.instance) k port item gives r.accesses r.targets (accesses_sound p m sound i r there));
+      targets = all_targets;
       arguments = few_arguments r.server refl;
       cost = low_cost;
     }

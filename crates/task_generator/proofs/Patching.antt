@@ -3,34 +3,36 @@ use Rattle.std.proofs.Common.{◌≡◌, ℕ, ◌+◌, ◌-◌, List, [], ◌∷
 use Rattle.std.proofs.Math.Seq.{set-append_seam}
 use Rattle.std.proofs.lemmas.List.{map-set, length-map}
 use Rattle.task_machine.specs.declared.instr.Instr.{Instr}
-use Rattle.task_machine.specs.Instructions.{Instruction, instruction_of, skip, begin_loop, end_loop}
-use Rattle.task_generator.specs.Code.{choosing_code, looping_code}
+use Rattle.runnable_lang.specs.Trees.{ExprTree}
+use Rattle.task_machine.specs.Instructions.{Shared, instruction_of, unless, skip, begin_loop, end_loop}
+use Rattle.task_generator.specs.Shared.{fixed, choosing_shared, looping_shared}
 
 pub map_replaced : (code : List Instr) (at : ℕ) (i : Instr) → map instruction_of (set code at i) ≡ set (map instruction_of code) at (instruction_of i)
 map_replaced code at i = map-set instruction_of code at i
 
 -- one and one more
-pub two_more : (a b c : List Instruction) (x y : Instruction) → b ≡ a ++ x ∷ [] → c ≡ b ++ y ∷ [] → c ≡ a ++ (x ∷ y ∷ [])
+pub two_more : (a b c : List Shared) (x y : Shared) → b ≡ a ++ x ∷ [] → c ≡ b ++ y ∷ [] → c ≡ a ++ (x ∷ y ∷ [])
 two_more a b c x y first second = second ∙ ap (λ is. is ++ y ∷ []) first ∙ append_assoc a (x ∷ []) (y ∷ [])
 
 -- one before and one behind
-pub around_more : (a b c d body : List Instruction) (x y : Instruction) → b ≡ a ++ x ∷ [] → c ≡ b ++ body → d ≡ c ++ y ∷ [] → d ≡ a ++ (x ∷ (body ++ y ∷ []))
+pub around_more : (a b c d body : List Shared) (x y : Shared) → b ≡ a ++ x ∷ [] → c ≡ b ++ body → d ≡ c ++ y ∷ [] → d ≡ a ++ (x ∷ (body ++ y ∷ []))
 around_more a b c d body x y first second third =
     let all : d ≡ ((a ++ x ∷ []) ++ body) ++ y ∷ [] = cc in
     let flat : ((a ++ x ∷ []) ++ body) ++ y ∷ [] ≡ a ++ (x ∷ (body ++ y ∷ [])) = simp append_assoc in
     all ∙ flat
 
-two_writes : (a b c : List Instruction) (x y i j : Instruction) → set (set (a ++ x ∷ (b ++ y ∷ c)) (length a) i) (length (a ++ i ∷ b)) j ≡ a ++ i ∷ (b ++ j ∷ c)
+two_writes : (a b c : List Shared) (x y i j : Shared) → set (set (a ++ x ∷ (b ++ y ∷ c)) (length a) i) (length (a ++ i ∷ b)) j ≡ a ++ i ∷ (b ++ j ∷ c)
 two_writes a b c x y i j =
     ap (λ l. set l (length (a ++ i ∷ b)) j) (set-append_seam a x (b ++ y ∷ c) i ∙ sym (append_assoc a (i ∷ b) (y ∷ c)))
     ∙ set-append_seam (a ++ i ∷ b) y c j
     ∙ append_assoc a (i ∷ b) (j ∷ c)
 
 -- the jumps of a choice
-pub choice_patched : (whole base first second : List Instruction) (x y t : Instruction) (test jump n : ℕ)
-    → whole ≡ (((base ++ x ∷ []) ++ first) ++ y ∷ []) ++ second → test ≡ length base → jump ≡ length ((base ++ x ∷ []) ++ first) → n ≡ length whole - jump - 1
-    → set (set whole test t) jump (skip n) ≡ base ++ choosing_code t first second
-choice_patched whole base first second x y t test jump n is at_test at_jump counted =
+pub choice_patched : (whole base first second : List Shared) (x y : Shared) (e : ExprTree) (test jump far n : ℕ)
+    → whole ≡ (((base ++ x ∷ []) ++ first) ++ y ∷ []) ++ second → test ≡ length base → jump ≡ length ((base ++ x ∷ []) ++ first) → far ≡ length first + 1 → n ≡ length whole - jump - 1
+    → set (set whole test (fixed (unless e far))) jump (fixed (skip n)) ≡ base ++ choosing_shared e first second
+choice_patched whole base first second x y e test jump far n is at_test at_jump is_far counted =
+    let t = fixed (unless e far) in
     let flat : (((base ++ x ∷ []) ++ first) ++ y ∷ []) ++ second ≡ base ++ x ∷ (first ++ y ∷ second) = simp append_assoc in
     let long = ap length (is ∙ flat) ∙ length-append base (x ∷ (first ++ y ∷ second)) in
     let inner = length-append first (y ∷ second) in
@@ -39,26 +41,27 @@ choice_patched whole base first second x y t test jump n is at_test at_jump coun
     let other = length-append base (t ∷ first) in
     let place : jump ≡ length (base ++ t ∷ first) = omega arith in
     let left : n ≡ length second = omega arith in
-    ap (λ l. set (set l test t) jump (skip n)) (is ∙ flat)
-    ∙ ap (λ k. set (set (base ++ x ∷ (first ++ y ∷ second)) k t) jump (skip n)) at_test
-    ∙ ap (λ k. set (set (base ++ x ∷ (first ++ y ∷ second)) (length base) t) k (skip n)) place
-    ∙ two_writes base first second x y t (skip n)
-    ∙ ap (λ k. base ++ t ∷ (first ++ skip k ∷ second)) left
+    ap (λ l. set (set l test t) jump (fixed (skip n))) (is ∙ flat)
+    ∙ ap (λ k. set (set (base ++ x ∷ (first ++ y ∷ second)) k t) jump (fixed (skip n))) at_test
+    ∙ ap (λ k. set (set (base ++ x ∷ (first ++ y ∷ second)) (length base) t) k (fixed (skip n))) place
+    ∙ two_writes base first second x y t (fixed (skip n))
+    ∙ ap (λ k. base ++ t ∷ (first ++ fixed (skip k) ∷ second)) left
+    ∙ ap (λ k. base ++ fixed (unless e k) ∷ (first ++ fixed (skip (length second)) ∷ second)) is_far
 
 -- how far the test jumps
-pub first_is : (base first : List Instruction) (x : Instruction) (test jump : ℕ) → test ≡ length base → jump ≡ length ((base ++ x ∷ []) ++ first) → jump - test ≡ length first + 1
+pub first_is : (base first : List Shared) (x : Shared) (test jump : ℕ) → test ≡ length base → jump ≡ length ((base ++ x ∷ []) ++ first) → jump - test ≡ length first + 1
 first_is base first x test jump at_test at_jump =
     let front = length-append (base ++ x ∷ []) first in
     let one = length-append base (x ∷ []) in
     omega arith
 
 -- the beginning of a loop
-pub loop_patched : (whole base body : List Instruction) (x : Instruction) (begin counter times past back : ℕ)
+pub loop_patched : (whole base body : List Shared) (x : Shared) (begin counter times past back : ℕ)
     → whole ≡ (base ++ x ∷ []) ++ body → begin ≡ length base → past ≡ length whole - begin → back ≡ past - 1
-    → set (whole ++ end_loop counter back ∷ []) begin (begin_loop counter times past) ≡ base ++ looping_code counter times body
+    → set (whole ++ fixed (end_loop counter back) ∷ []) begin (fixed (begin_loop counter times past)) ≡ base ++ looping_shared counter times body
 loop_patched whole base body x begin counter times past back is at_begin counted counted_back =
-    let last = end_loop counter back in
-    let begins = begin_loop counter times past in
+    let last = fixed (end_loop counter back) in
+    let begins = fixed (begin_loop counter times past) in
     let flat : ((base ++ x ∷ []) ++ body) ++ last ∷ [] ≡ base ++ x ∷ (body ++ last ∷ []) = simp append_assoc in
     let long = ap length is ∙ length-append (base ++ x ∷ []) body in
     let one = length-append base (x ∷ []) in
@@ -68,11 +71,11 @@ loop_patched whole base body x begin counter times past back is at_begin counted
     ∙ ap (λ l. set l begin begins) flat
     ∙ ap (λ k. set (base ++ x ∷ (body ++ last ∷ [])) k begins) at_begin
     ∙ set-append_seam base x (body ++ last ∷ []) begins
-    ∙ ap (λ k. base ++ begin_loop counter times k ∷ (body ++ last ∷ [])) lower
-    ∙ ap (λ k. base ++ begin_loop counter times (length body + 1) ∷ (body ++ end_loop counter k ∷ [])) inner
+    ∙ ap (λ k. base ++ fixed (begin_loop counter times k) ∷ (body ++ last ∷ [])) lower
+    ∙ ap (λ k. base ++ fixed (begin_loop counter times (length body + 1)) ∷ (body ++ fixed (end_loop counter k) ∷ [])) inner
 
 -- from a held place to the end
-pub far_of : (old mid new : List Instr) (x : Instruction) (more : List Instruction) (at : ℕ) → at ≡ length old → map instruction_of mid ≡ map instruction_of old ++ x ∷ [] → map instruction_of new ≡ map instruction_of mid ++ more
+pub far_of : (old mid new : List Instr) (x : Shared) (more : List Shared) (at : ℕ) → at ≡ length old → map instruction_of mid ≡ map instruction_of old ++ x ∷ [] → map instruction_of new ≡ map instruction_of mid ++ more
     → length new - at ≡ 1 + length more
 far_of old mid new x more at is_at held is = omega (
   arith,
@@ -87,6 +90,6 @@ far_of old mid new x more at is_at held is = omega (
 )
 
 -- from a held place to the next one that is held
-pub near_of : (old mid new : List Instr) (x : Instruction) (more : List Instruction) (at next : ℕ) → at ≡ length old → next ≡ length new → map instruction_of mid ≡ map instruction_of old ++ x ∷ []
+pub near_of : (old mid new : List Instr) (x : Shared) (more : List Shared) (at next : ℕ) → at ≡ length old → next ≡ length new → map instruction_of mid ≡ map instruction_of old ++ x ∷ []
     → map instruction_of new ≡ map instruction_of mid ++ more → next - at ≡ 1 + length more
 near_of old mid new x more at next is_at is_next held is = ap (λ n. n - at) is_next ∙ far_of old mid new x more at is_at held is

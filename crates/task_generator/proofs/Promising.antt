@@ -1,8 +1,10 @@
 -- Bodies of the shapes of the plan's runnables ask what the actor rule wants.
+use mathlib.Core.HLevel.{hedberg}
 use Rattle.std.proofs.Common.{◌≡◌, ℕ, ℤ, pos, List, [], ◌∷◌, length, map, get_or, replicate, Bool, true, false, if◌then◌else◌, Option, Some, None, refl, sym, ap, ◌∙◌, arith}
 use Rattle.std.specs.Prelude.{zero, suc, slice_get, ◌==◌, ◌||◌, is_some}
 use Rattle.std.specs.List.{list_any}
 use Rattle.std.specs.Option.{option_map, option_map_or}
+use Rattle.std.proofs.lemmas.Bool.{false≢true}
 use Rattle.std.proofs.lemmas.List.{length-replicate}
 use Rattle.std.proofs.lemmas.Option.{slice_get-map}
 use Rattle.rte_value.specs.declared.value.Value.{Value}
@@ -12,7 +14,8 @@ use Rattle.bus_semantics.specs.declared.entries.Deed.TheVariants as deed
 use Rattle.bus_semantics.specs.declared.plan.EventPlan.{EventPlan}
 use Rattle.bus_semantics.specs.Plan.{Plan, Runnable, disabling_of}
 use Rattle.bus_semantics.specs.Sound.{NoneListed}
-use Rattle.bus_semantics.specs.Wanted.{Wanted}
+use Rattle.bus_semantics.specs.Wanted.{Wanted, same_wanted}
+use Rattle.bus_semantics.proofs.SameWanted.{same_wanted-Decides}
 use Rattle.bus_semantics.specs.State.{stored}
 use Rattle.bus_semantics.specs.History.{is_over}
 use Rattle.bus_semantics.specs.Activations.{state_at_start, next_of_activity}
@@ -84,6 +87,20 @@ some_asks p none r event ws answers =
     let slots = no_slots (fetched_by r) (published_by r) in
     ap (λ vars. let m : Store = record { vars = vars; fetched = slots.fetched; written = slots.written } in asked_from x.code event x.budget place m counters answers) (variables_begin p r ws)
     ∙ whole p none r event counters (omega arith) (state_at_start p r ws) slots answers (disabling_of p event) refl (starts_agreeing (fetched_by r) (published_by r))
+
+-- wishes are the same in one way at most
+same_or_not : Discrete (Option Wanted)
+same_or_not None None = yes refl
+same_or_not None (Some w) = no (λ same. absurd (cc))
+same_or_not (Some v) None = no (λ same. absurd (cc))
+same_or_not (Some v) (Some w) = by_test (same_wanted v w) refl
+  where
+    by_test : (b : Bool) → same_wanted v w ≡ b → Dec (Some v ≡ Some w)
+    by_test true same = yes (ap Some ((same_wanted-Decides v w).0 same))
+    by_test false other = no (λ some. let same : v ≡ w = cc in false≢true (sym other ∙ (same_wanted-Decides v w).1 same))
+
+pub wants_alike : IsSet (Option Wanted)
+wants_alike = hedberg same_or_not
 
 pub asks_as_planned : (p : Plan) → NoneListed p → (t : TaskSet) → map shape_of_body t.bodies ≡ map (shape_of p) p.runnables → t.disabled ≡ map (λ (v : EventPlan). is_some v.disabled) p.events → AsksAsPlanned p t
 asks_as_planned p none t same disabled k r event point value answers at =

@@ -1,8 +1,8 @@
 -- The trees that statements are.
 use Rattle.std.proofs.Common.{◌≡◌, ℕ, rules, Vec, Global}
 use Rattle.runnable_lang.specs.declared.stmt.Expr.{Expr}
-use Rattle.runnable_lang.specs.declared.stmt.Stmt.{Stmt, If, Area, Write, Send, Call, ACall, the_lemmas}
-use Rattle.runnable_lang.specs.Trees.{expr_tree, exprs, stmt_tree, body_tree, chooses, in_area, writes, sends, calls, calls_and_goes_on}
+use Rattle.runnable_lang.specs.declared.stmt.Stmt.{Stmt, If, Area, Write, Read, Invalidate, IsUpdated, Send, Receive, Call, ACall, TakeResult, the_lemmas}
+use Rattle.runnable_lang.specs.Trees.{expr_tree, exprs, stmt_tree, body_tree, chooses, in_area, writes, reads, invalidates, asks_updated, sends, receives, calls, calls_and_goes_on, takes_result}
 
 pub tree_of_if : (e : Expr) (one two : Vec Stmt Global) → stmt_tree (If e one two) ≡ chooses (expr_tree e) (body_tree one.items) (body_tree two.items)
 tree_of_if e one two = search (rules, the_lemmas)
@@ -21,3 +21,18 @@ tree_of_acall port item values status = search (rules, the_lemmas)
 
 pub tree_of_area : (x : ℕ) (body : Vec Stmt Global) → stmt_tree (Area x body) ≡ in_area x (body_tree body.items)
 tree_of_area x body = search (rules, the_lemmas)
+
+pub tree_of_read : (port item : ℕ) (vars : Vec ℕ Global) (status : ℕ) → stmt_tree (Read port item vars status) ≡ reads port item vars.items status
+tree_of_read port item vars status = search (rules, the_lemmas)
+
+pub tree_of_receive : (port item : ℕ) (vars : Vec ℕ Global) (status : ℕ) → stmt_tree (Receive port item vars status) ≡ receives port item vars.items status
+tree_of_receive port item vars status = search (rules, the_lemmas)
+
+pub tree_of_take_result : (port item : ℕ) (vars : Vec ℕ Global) (status : ℕ) → stmt_tree (TakeResult port item vars status) ≡ takes_result port item vars.items status
+tree_of_take_result port item vars status = search (rules, the_lemmas)
+
+pub tree_of_invalidate : (port item status : ℕ) → stmt_tree (Invalidate port item status) ≡ invalidates port item status
+tree_of_invalidate port item status = search (rules, the_lemmas)
+
+pub tree_of_update : (port item var : ℕ) → stmt_tree (IsUpdated port item var) ≡ asks_updated port item var
+tree_of_update port item var = search (rules, the_lemmas)

@@ -1,10 +1,14 @@
 pub mod Slots
 pub mod Nothing
 pub mod Servers
+pub mod Numbers
+pub mod Counts
 pub mod Bounded
 pub mod Code
+pub mod Shared
 pub mod Calls
 pub mod Bounds
+pub mod Coded
 pub mod Shapes
 pub mod Promise
 pub mod Found

@@ -2,15 +2,16 @@
 
 ghost use Rattle.std.specs.Prelude.{◌≡◌, ◌≤◌, ◌++◌, ◌∷◌, [], length, true, IfOk, OnOk, map};
 ghost use Rattle.runnable_lang.specs.Trees.{exprs, stmt_tree, reads_variable, sends, calls, switches};
-ghost use Rattle.bus_semantics.specs.Plan.{runnable_of};
 ghost use Rattle.bus_semantics.specs.Wanted.{to_write, to_ask};
-ghost use Rattle.bus_semantics.specs.State.{access};
 ghost use Rattle.task_machine.specs.declared.instr.Taken.TheVariants as taken;
 ghost use Rattle.task_machine.specs.Store.{Store};
 ghost use Rattle.task_machine.specs.Words.{words_given};
-ghost use Rattle.task_machine.specs.Instructions.{instruction_of, call, requested, change_of, passes_of};
+ghost use Rattle.task_machine.specs.Targets.{number_at};
+ghost use Rattle.task_machine.specs.Instructions.{instruction_of, call, change_of, passes_of};
 ghost use Rattle.task_generator.specs.Bounded.{gives};
-ghost use Rattle.task_generator.specs.Code.{given_over, code_of};
+ghost use Rattle.task_generator.specs.Numbers.{numbered};
+ghost use Rattle.task_generator.specs.Code.{given_over};
+ghost use Rattle.task_generator.specs.Shared.{called, shared_of};
 ghost use Rattle.task_generator.specs.Calls.{bus_call_code, other_call_code};
 
 use crate::Memory;
@@ -21,11 +22,11 @@ use runnable_lang::{AccessKind, Expr, Stmt, copy_expr};
 use task_machine::{Given, GivenWord, Instr, Request, Taken};
 
 impl Generator<'_, '_> {
-    /// The number of what a statement names.
-    pub fn target(&self, kind: AccessKind, port: u32, item: u32) -> u32
-        ensures { result ≡ (access (runnable_of self.now.accesses.now.runnable.now) kind port item).target }
+    /// The number of the access that a statement names.
+    pub fn number(&self, kind: AccessKind, port: u32, item: u32) -> usize
+        ensures { result ≡ (numbered self.now.accesses.now.list.now kind port item).target }
     {
-        self.accesses.find(kind, port, item).target
+        self.accesses.find(kind, port, item).number
     }
 
     /// The words that a statement gives, each with the limits to which it is clamped.
@@ -36,8 +37,8 @@ impl Generator<'_, '_> {
         item: u32,
         values: &[Expr],
     ) -> Result<Vec<GivenWord>, Memory>
-        ensures few { IfOk result (λ words. length words.items ≤ length (access (runnable_of self.now.accesses.now.runnable.now) kind port item).ins) }
-        ensures words { IfOk result (λ words. (m : Store) → words_given m.vars words.items ≡ given_over (access (runnable_of self.now.accesses.now.runnable.now) kind port item) (exprs values.now) m) }
+        ensures few { IfOk result (λ words. length words.items ≤ length (numbered self.now.accesses.now.list.now kind port item).ins) }
+        ensures words { IfOk result (λ words. (m : Store) → words_given m.vars words.items ≡ given_over (numbered self.now.accesses.now.list.now kind port item) (exprs values.now) m) }
     {
         let access = self.accesses.find(kind, port, item);
         let mut words = Vec::new(self.alloc);
@@ -60,7 +61,7 @@ impl Generator<'_, '_> {
         values: &[Expr],
     ) -> Result<Given, Memory>
         requires gives { gives kind ≡ true }
-        ensures { IfOk result (λ g. (m : Store) → words_given m.vars g.words.items ≡ given_over (access (runnable_of self.now.accesses.now.runnable.now) kind port item) (exprs values.now) m) }
+        ensures { IfOk result (λ g. (m : Store) → words_given m.vars g.words.items ≡ given_over (numbered self.now.accesses.now.list.now kind port item) (exprs values.now) m) }
     {
         let words = self.given_words(kind, port, item, values)?;
         match Given::new(words) {
@@ -80,12 +81,12 @@ impl Generator<'_, '_> {
         taken: Taken,
     ) -> Result<(), Memory>
         requires gives { gives kind ≡ true }
-        ensures { OnOk result (let a = access (runnable_of self.now.accesses.now.runnable.now) kind port item in
-            map instruction_of code.new.items ≡ map instruction_of code.old.items ++ call (λ event m. to_write a.target (given_over a (exprs values.now) m)) (change_of taken) (passes_of taken) ∷ []) }
+        ensures { OnOk result (let a = numbered self.now.accesses.now.list.now kind port item in
+            map instruction_of code.new.items ≡ map instruction_of code.old.items ++ (λ t. call (λ event m. to_write (number_at t a.target) (given_over a (exprs values.now) m)) (change_of taken) (passes_of taken)) ∷ []) }
     {
         let given = self.given(kind, port, item, values)?;
-        let elem = self.target(kind, port, item);
-        put_call(code, Request::Write { elem, given }, taken)
+        let access = self.number(kind, port, item);
+        put_call(code, Request::Write { given }, access, taken)
     }
 
     /// A sending to an element.
@@ -97,11 +98,11 @@ impl Generator<'_, '_> {
         values: &[Expr],
         status: u32,
     ) -> Result<(), Memory>
-        ensures { OnOk result (map instruction_of code.new.items ≡ map instruction_of code.old.items ++ code_of (runnable_of self.now.accesses.now.runnable.now) 0 (sends port item (exprs values.now) status)) }
+        ensures { OnOk result (map instruction_of code.new.items ≡ map instruction_of code.old.items ++ shared_of self.now.accesses.now.list.now 0 (sends port item (exprs values.now) status)) }
     {
         let given = self.given(AccessKind::Send, port, item, values)?;
-        let elem = self.target(AccessKind::Send, port, item);
-        put_call(code, Request::Send { elem, given }, Taken::Code(status))
+        let access = self.number(AccessKind::Send, port, item);
+        put_call(code, Request::Send { given }, access, Taken::Code(status))
     }
 
     /// An ask at a point.
@@ -115,12 +116,12 @@ impl Generator<'_, '_> {
         taken: Taken,
     ) -> Result<(), Memory>
         requires gives { gives kind ≡ true }
-        ensures { OnOk result (let a = access (runnable_of self.now.accesses.now.runnable.now) kind port item in
-            map instruction_of code.new.items ≡ map instruction_of code.old.items ++ call (λ event m. to_ask a.target (given_over a (exprs values.now) m)) (change_of taken) (passes_of taken) ∷ []) }
+        ensures { OnOk result (let a = numbered self.now.accesses.now.list.now kind port item in
+            map instruction_of code.new.items ≡ map instruction_of code.old.items ++ (λ t. call (λ event m. to_ask (number_at t a.target) (given_over a (exprs values.now) m)) (change_of taken) (passes_of taken)) ∷ []) }
     {
         let given = self.given(kind, port, item, values)?;
-        let point = self.target(kind, port, item);
-        put_call(code, Request::Ask { point, given }, taken)
+        let access = self.number(kind, port, item);
+        put_call(code, Request::Ask { given }, access, taken)
     }
 
     /// A call that waits for the answer of the operation.
@@ -133,13 +134,13 @@ impl Generator<'_, '_> {
         vars: &[u32],
         status: u32,
     ) -> Result<(), Memory>
-        ensures { OnOk result (map instruction_of code.new.items ≡ map instruction_of code.old.items ++ code_of (runnable_of self.now.accesses.now.runnable.now) 0 (calls port item (exprs values.now) vars.now status)) }
+        ensures { OnOk result (map instruction_of code.new.items ≡ map instruction_of code.old.items ++ shared_of self.now.accesses.now.list.now 0 (calls port item (exprs values.now) vars.now status)) }
     {
         let asked = Taken::Refusal(status);
         self.ask(code, AccessKind::Call, port, item, values, asked)?;
-        let point = self.target(AccessKind::Call, port, item);
+        let access = self.number(AccessKind::Call, port, item);
         let vars = copy_numbers(self.alloc, vars)?;
-        put_call(code, Request::Answer { point }, Taken::Words(vars, status))?;
+        put_call(code, Request::Answer, access, Taken::Words(vars, status))?;
         Ok(())
     }
 
@@ -148,13 +149,14 @@ impl Generator<'_, '_> {
         &self,
         code: &mut Vec<Instr>,
         request: Request,
+        access: usize,
         vars: &[u32],
         status: u32,
     ) -> Result<(), Memory>
-        ensures { OnOk result (map instruction_of code.new.items ≡ map instruction_of code.old.items ++ call (requested request) (change_of (taken.Words vars.now status)) (passes_of (taken.Words vars.now status)) ∷ []) }
+        ensures { OnOk result (map instruction_of code.new.items ≡ map instruction_of code.old.items ++ called request access (taken.Words vars.now status) ∷ []) }
     {
         let vars = copy_numbers(self.alloc, vars)?;
-        put_call(code, request, Taken::Words(vars, status))
+        put_call(code, request, access, Taken::Words(vars, status))
     }
 
     /// A read of a variable.
@@ -164,24 +166,24 @@ impl Generator<'_, '_> {
         variable: u32,
         vars: &[u32],
     ) -> Result<(), Memory>
-        ensures { OnOk result (map instruction_of code.new.items ≡ map instruction_of code.old.items ++ code_of (runnable_of self.now.accesses.now.runnable.now) 0 (reads_variable variable vars.now)) }
+        ensures { OnOk result (map instruction_of code.new.items ≡ map instruction_of code.old.items ++ shared_of self.now.accesses.now.list.now 0 (reads_variable variable vars.now)) }
     {
-        let elem = self.target(AccessKind::IrvRead, 0, variable);
+        let access = self.number(AccessKind::IrvRead, 0, variable);
         let vars = copy_numbers(self.alloc, vars)?;
-        put_call(code, Request::Read { elem }, Taken::Value(vars))
+        put_call(code, Request::Read, access, Taken::Value(vars))
     }
 
     /// A switch to a mode.
     fn switch(&self, code: &mut Vec<Instr>, port: u32, mode: u32, status: u32) -> Result<(), Memory>
-        ensures { OnOk result (map instruction_of code.new.items ≡ map instruction_of code.old.items ++ code_of (runnable_of self.now.accesses.now.runnable.now) 0 (switches port mode status)) }
+        ensures { OnOk result (map instruction_of code.new.items ≡ map instruction_of code.old.items ++ shared_of self.now.accesses.now.list.now 0 (switches port mode status)) }
     {
-        let machine = self.target(AccessKind::Switch, port, 0);
-        put_call(code, Request::Switch { machine, mode }, Taken::Code(status))
+        let access = self.number(AccessKind::Switch, port, 0);
+        put_call(code, Request::Switch { mode }, access, Taken::Code(status))
     }
 
     /// The instructions of a statement that calls the bus and holds no statements. Of another one there are none.
     pub fn bus_call(&self, code: &mut Vec<Instr>, stmt: &Stmt) -> Result<(), Memory>
-        ensures { OnOk result (map instruction_of code.new.items ≡ map instruction_of code.old.items ++ bus_call_code (runnable_of self.now.accesses.now.runnable.now) (stmt_tree stmt.now)) }
+        ensures { OnOk result (map instruction_of code.new.items ≡ map instruction_of code.old.items ++ bus_call_code self.now.accesses.now.list.now (stmt_tree stmt.now)) }
     {
         use AccessKind as Kind;
         match stmt {
@@ -200,16 +202,16 @@ impl Generator<'_, '_> {
                 vars,
                 status,
             } => {
-                let elem = self.target(Kind::Read, *port, *item);
-                self.take_words(code, Request::Read { elem }, vars, *status)
+                let access = self.number(Kind::Read, *port, *item);
+                self.take_words(code, Request::Read, access, vars, *status)
             }
             Stmt::Invalidate { port, item, status } => {
-                let elem = self.target(Kind::Invalidate, *port, *item);
-                put_call(code, Request::Invalidate { elem }, Taken::Zero(*status))
+                let access = self.number(Kind::Invalidate, *port, *item);
+                put_call(code, Request::Invalidate, access, Taken::Zero(*status))
             }
             Stmt::IsUpdated { port, item, var } => {
-                let elem = self.target(Kind::IsUpdated, *port, *item);
-                put_call(code, Request::IsUpdated { elem }, Taken::Number(*var))
+                let access = self.number(Kind::IsUpdated, *port, *item);
+                put_call(code, Request::IsUpdated, access, Taken::Number(*var))
             }
             Stmt::Send {
                 port,
@@ -223,8 +225,8 @@ impl Generator<'_, '_> {
                 vars,
                 status,
             } => {
-                let elem = self.target(Kind::Receive, *port, *item);
-                self.take_words(code, Request::Receive { elem }, vars, *status)
+                let access = self.number(Kind::Receive, *port, *item);
+                self.take_words(code, Request::Receive, access, vars, *status)
             }
             _ => self.other_call(code, stmt),
         }
@@ -232,7 +234,7 @@ impl Generator<'_, '_> {
 
     /// The instructions of a statement at an operation, a mode or a variable. Of another one there are none.
     fn other_call(&self, code: &mut Vec<Instr>, stmt: &Stmt) -> Result<(), Memory>
-        ensures { OnOk result (map instruction_of code.new.items ≡ map instruction_of code.old.items ++ other_call_code (runnable_of self.now.accesses.now.runnable.now) (stmt_tree stmt.now)) }
+        ensures { OnOk result (map instruction_of code.new.items ≡ map instruction_of code.old.items ++ other_call_code self.now.accesses.now.list.now (stmt_tree stmt.now)) }
     {
         use AccessKind as Kind;
         match stmt {
@@ -262,13 +264,13 @@ impl Generator<'_, '_> {
                 vars,
                 status,
             } => {
-                let point = self.target(Kind::TakeResult, *port, *item);
-                self.take_words(code, Request::TakeResult { point }, vars, *status)
+                let access = self.number(Kind::TakeResult, *port, *item);
+                self.take_words(code, Request::TakeResult, access, vars, *status)
             }
             Stmt::Switch { port, mode, status } => self.switch(code, *port, *mode, *status),
             Stmt::Mode { port, var } => {
-                let port = self.target(Kind::Mode, *port, 0);
-                put_call(code, Request::Mode { port }, Taken::Number(*var))
+                let access = self.number(Kind::Mode, *port, 0);
+                put_call(code, Request::Mode, access, Taken::Number(*var))
             }
             _ => self.implicit(code, stmt),
         }

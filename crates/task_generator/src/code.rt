@@ -1,9 +1,9 @@
 //! The instructions of a body while it is made.
 
-ghost use Rattle.std.specs.Prelude.{◌≡◌, ◌<◌, ◌+◌, ◌-◌, List, ◌++◌, ◌∷◌, [], IfOk, OnOk, map, set, length};
+ghost use Rattle.std.specs.Prelude.{◌≡◌, ◌<◌, ◌-◌, List, ◌++◌, ◌∷◌, [], IfOk, OnOk, map, set, length};
 ghost use Rattle.runnable_lang.specs.Trees.{expr_tree};
-ghost use Rattle.task_machine.specs.Instructions.{Instruction, instruction_of, unless, skip, call, requested, change_of, passes_of};
-ghost use Rattle.task_generator.specs.Code.{choosing_code, looping_code};
+ghost use Rattle.task_machine.specs.Instructions.{Shared, instruction_of, skip};
+ghost use Rattle.task_generator.specs.Shared.{fixed, called, choosing_shared, looping_shared};
 
 use crate::Memory;
 use runnable_lang::{Expr, copy_expr};
@@ -19,16 +19,28 @@ pub fn put(code: &mut Vec<Instr>, instr: Instr) -> Result<(), Memory>
 }
 
 /// One more call.
-pub fn put_call(code: &mut Vec<Instr>, request: Request, taken: Taken) -> Result<(), Memory>
-    ensures { OnOk result (map instruction_of code.new.items ≡ map instruction_of code.old.items ++ call (requested request) (change_of taken) (passes_of taken) ∷ []) }
+pub fn put_call(
+    code: &mut Vec<Instr>,
+    request: Request,
+    access: usize,
+    taken: Taken,
+) -> Result<(), Memory>
+    ensures { OnOk result (map instruction_of code.new.items ≡ map instruction_of code.old.items ++ called request access taken ∷ []) }
 {
-    put(code, Instr::Call { request, taken })
+    put(
+        code,
+        Instr::Call {
+            request,
+            access,
+            taken,
+        },
+    )
 }
 
 /// Holds a place for an instruction that is written later. Answers the place.
 pub fn hold(code: &mut Vec<Instr>) -> Result<usize, Memory>
     ensures place { IfOk result (λ at. at ≡ length code.old.items) }
-    ensures code { OnOk result (map instruction_of code.new.items ≡ map instruction_of code.old.items ++ skip 0 ∷ []) }
+    ensures code { OnOk result (map instruction_of code.new.items ≡ map instruction_of code.old.items ++ fixed (skip 0) ∷ []) }
 {
     let at = code.len();
     put(code, Instr::Skip { past: 0 })?;
@@ -64,8 +76,8 @@ pub fn end_choice(
 ) -> Result<(), Memory>
     requires first { jump - test < 4294967296 }
     requires second { length code.old.items - jump < 4294967296 }
-    ensures { (base first second : List Instruction) → map instruction_of code.old.items ≡ (((base ++ skip 0 ∷ []) ++ first) ++ skip 0 ∷ []) ++ second → test ≡ length base → jump ≡ length ((base ++ skip 0 ∷ []) ++ first)
-        → OnOk result (map instruction_of code.new.items ≡ base ++ choosing_code (unless (expr_tree cond.now) (length first + 1)) first second) }
+    ensures { (base first second : List Shared) → map instruction_of code.old.items ≡ (((base ++ fixed (skip 0) ∷ []) ++ first) ++ fixed (skip 0) ∷ []) ++ second → test ≡ length base → jump ≡ length ((base ++ fixed (skip 0) ∷ []) ++ first)
+        → OnOk result (map instruction_of code.new.items ≡ base ++ choosing_shared (expr_tree cond.now) first second) }
 {
     let cond = copy_expr(alloc, cond)?;
     let first = distance(test, jump);
@@ -84,8 +96,8 @@ pub fn end_choice(
 /// Ends a loop, whose beginning has held a place.
 pub fn end_loop(code: &mut Vec<Instr>, begin: usize, counter: u32, times: u32) -> Result<(), Memory>
     requires near { length code.old.items - begin < 4294967296 }
-    ensures { (base body : List Instruction) → map instruction_of code.old.items ≡ (base ++ skip 0 ∷ []) ++ body → begin ≡ length base
-        → OnOk result (map instruction_of code.new.items ≡ base ++ looping_code counter times body) }
+    ensures { (base body : List Shared) → map instruction_of code.old.items ≡ (base ++ fixed (skip 0) ∷ []) ++ body → begin ≡ length base
+        → OnOk result (map instruction_of code.new.items ≡ base ++ looping_shared counter times body) }
 {
     let past = distance(begin, code.len());
     put(

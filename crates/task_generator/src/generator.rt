@@ -3,10 +3,9 @@
 ghost use Rattle.std.specs.Prelude.{◌≡◌, ◌≤◌, ◌+◌, ◌++◌, OnOk, map};
 ghost use Rattle.runnable_lang.specs.Trees.{stmt_tree, body_tree, repeats, in_area};
 ghost use Rattle.runnable_lang.specs.Costs.{stmt_cost, body_cost};
-ghost use Rattle.bus_semantics.specs.Plan.{runnable_of};
 ghost use Rattle.task_machine.specs.Instructions.{instruction_of};
 ghost use Rattle.task_generator.specs.Bounds.{loops, loops_of_body};
-ghost use Rattle.task_generator.specs.Code.{code_of, code_of_body};
+ghost use Rattle.task_generator.specs.Shared.{shared_of, shared_of_body};
 
 use crate::Memory;
 use crate::accesses::Accesses;
@@ -35,7 +34,7 @@ impl Generator<'_, '_> {
     ) -> Result<(), Memory>
         requires cost { stmt_cost (repeats times (body_tree body.now)) ≤ 100000 }
         requires depth { depth + loops (repeats times (body_tree body.now)) ≤ 100000 }
-        ensures { OnOk result (map instruction_of code.new.items ≡ map instruction_of code.old.items ++ code_of (runnable_of self.now.accesses.now.runnable.now) depth (repeats times (body_tree body.now))) }
+        ensures { OnOk result (map instruction_of code.new.items ≡ map instruction_of code.old.items ++ shared_of self.now.accesses.now.list.now depth (repeats times (body_tree body.now))) }
     {
         if loop_does_nothing(times, body) {
             return Ok(());
@@ -57,12 +56,12 @@ impl Generator<'_, '_> {
     ) -> Result<(), Memory>
         requires cost { stmt_cost (in_area area (body_tree body.now)) ≤ 100000 }
         requires depth { depth + loops (in_area area (body_tree body.now)) ≤ 100000 }
-        ensures { OnOk result (map instruction_of code.new.items ≡ map instruction_of code.old.items ++ code_of (runnable_of self.now.accesses.now.runnable.now) depth (in_area area (body_tree body.now))) }
+        ensures { OnOk result (map instruction_of code.new.items ≡ map instruction_of code.old.items ++ shared_of self.now.accesses.now.list.now depth (in_area area (body_tree body.now))) }
     {
-        let area = self.target(AccessKind::Enter, 0, area);
-        put_call(code, Request::Enter { area }, Taken::Nothing)?;
+        let access = self.number(AccessKind::Enter, 0, area);
+        put_call(code, Request::Enter, access, Taken::Nothing)?;
         self.body(code, depth, body)?;
-        put_call(code, Request::Leave { area }, Taken::Nothing)?;
+        put_call(code, Request::Leave, access, Taken::Nothing)?;
         Ok(())
     }
 
@@ -71,7 +70,7 @@ impl Generator<'_, '_> {
     fn statement(&self, code: &mut Vec<Instr>, depth: u32, stmt: &Stmt) -> Result<(), Memory>
         requires cost { stmt_cost (stmt_tree stmt.now) ≤ 100000 }
         requires depth { depth + loops (stmt_tree stmt.now) ≤ 100000 }
-        ensures { OnOk result (map instruction_of code.new.items ≡ map instruction_of code.old.items ++ code_of (runnable_of self.now.accesses.now.runnable.now) depth (stmt_tree stmt.now)) }
+        ensures { OnOk result (map instruction_of code.new.items ≡ map instruction_of code.old.items ++ shared_of self.now.accesses.now.list.now depth (stmt_tree stmt.now)) }
     {
         match stmt {
             Stmt::Set { var, value } => {
@@ -97,7 +96,7 @@ impl Generator<'_, '_> {
     pub fn body(&self, code: &mut Vec<Instr>, depth: u32, body: &[Stmt]) -> Result<(), Memory>
         requires cost { body_cost (body_tree body.now) ≤ 100000 }
         requires depth { depth + loops_of_body (body_tree body.now) ≤ 100000 }
-        ensures { OnOk result (map instruction_of code.new.items ≡ map instruction_of code.old.items ++ code_of_body (runnable_of self.now.accesses.now.runnable.now) depth (body_tree body.now)) }
+        ensures { OnOk result (map instruction_of code.new.items ≡ map instruction_of code.old.items ++ shared_of_body self.now.accesses.now.list.now depth (body_tree body.now)) }
     {
         for stmt in body {
             self.statement(code, depth, stmt)?;

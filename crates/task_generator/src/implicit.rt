@@ -2,11 +2,9 @@
 
 ghost use Rattle.std.specs.Prelude.{◌≡◌, ◌++◌, ◌∷◌, [], true, OnOk, map};
 ghost use Rattle.runnable_lang.specs.Trees.{exprs, stmt_tree};
-ghost use Rattle.bus_semantics.specs.Plan.{runnable_of};
-ghost use Rattle.bus_semantics.specs.State.{access};
+ghost use Rattle.task_machine.specs.Targets.{fetched_at, written_at};
 ghost use Rattle.task_machine.specs.Instructions.{instruction_of, keep, load};
-ghost use Rattle.implicit_buffers.specs.Buffers.{fetched_by, published_by};
-ghost use Rattle.task_generator.specs.Slots.{slot_of};
+ghost use Rattle.task_generator.specs.Numbers.{numbered};
 ghost use Rattle.task_generator.specs.Bounded.{gives};
 ghost use Rattle.task_generator.specs.Code.{given_over};
 ghost use Rattle.task_generator.specs.Calls.{implicit_code};
@@ -29,13 +27,12 @@ impl Generator<'_, '_> {
         values: &[Expr],
     ) -> Result<(), Memory>
         requires gives { gives kind ≡ true }
-        ensures { OnOk result (let r = runnable_of self.now.accesses.now.runnable.now in let a = access r kind port item in
-            map instruction_of code.new.items ≡ map instruction_of code.old.items ++ keep (slot_of a.target (published_by r)) (given_over a (exprs values.now)) ∷ []) }
+        ensures { OnOk result (let a = numbered self.now.accesses.now.list.now kind port item in
+            map instruction_of code.new.items ≡ map instruction_of code.old.items ++ (λ t. keep (written_at t a.target) (given_over a (exprs values.now))) ∷ []) }
     {
         let given = self.given(kind, port, item, values)?;
-        let elem = self.target(kind, port, item);
-        let slot = self.accesses.published_slot(elem);
-        put(code, Instr::Keep { slot, given })
+        let access = self.number(kind, port, item);
+        put(code, Instr::Keep { access, given })
     }
 
     /// Variables take the words of the slot of what was fetched.
@@ -47,18 +44,17 @@ impl Generator<'_, '_> {
         item: u32,
         vars: &[u32],
     ) -> Result<(), Memory>
-        ensures { OnOk result (let r = runnable_of self.now.accesses.now.runnable.now in
-            map instruction_of code.new.items ≡ map instruction_of code.old.items ++ load vars.now (slot_of (access r kind port item).target (fetched_by r)) ∷ []) }
+        ensures { OnOk result (let a = numbered self.now.accesses.now.list.now kind port item in
+            map instruction_of code.new.items ≡ map instruction_of code.old.items ++ (λ t. load vars.now (fetched_at t a.target)) ∷ []) }
     {
         let vars = copy_numbers(self.alloc, vars)?;
-        let elem = self.target(kind, port, item);
-        let slot = self.accesses.fetched_slot(elem);
-        put(code, Instr::Load { vars, slot })
+        let access = self.number(kind, port, item);
+        put(code, Instr::Load { vars, access })
     }
 
     /// The instructions of a statement that works on what was fetched, or on what is to be published. Of another one there are none.
     pub fn implicit(&self, code: &mut Vec<Instr>, stmt: &Stmt) -> Result<(), Memory>
-        ensures { OnOk result (map instruction_of code.new.items ≡ map instruction_of code.old.items ++ implicit_code (runnable_of self.now.accesses.now.runnable.now) (stmt_tree stmt.now)) }
+        ensures { OnOk result (map instruction_of code.new.items ≡ map instruction_of code.old.items ++ implicit_code self.now.accesses.now.list.now (stmt_tree stmt.now)) }
     {
         use AccessKind as Kind;
         match stmt {

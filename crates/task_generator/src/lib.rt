@@ -11,7 +11,10 @@ mod generator;
 mod implicit;
 mod laws;
 mod nothing;
+mod numbers;
 mod set;
+mod shared;
+mod targets;
 
 pub use laws::costs_bound_bodies;
 pub use set::generate;

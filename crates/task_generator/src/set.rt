@@ -1,69 +1,40 @@
 //! The bodies of all runnables.
 
-ghost use Rattle.std.specs.Prelude.{◌≡◌, ◌≤◌, ◌+◌, ◌*◌, ℕ, Some, IfOk, [], length, map, slice_get, get_or, is_some};
+ghost use Rattle.std.specs.Prelude.{◌≡◌, ◌≤◌, ◌+◌, ◌*◌, ℕ, Some, IfOk, [], length, map, min, slice_get, get_or, is_some};
+ghost use Rattle.std.specs.Arc.{arc_value};
 ghost use Rattle.bus_semantics.specs.declared.plan.EventPlan.{EventPlan};
-ghost use Rattle.runnable_lang.specs.Costs.{body_cost};
+ghost use Rattle.bus_semantics.specs.Codes.{HaveOneCode, coded_of};
 ghost use Rattle.bus_semantics.specs.Plan.{Runnable, plan_of, runnable_of};
 ghost use Rattle.bus_semantics.specs.Sound.{IsSound};
 ghost use Rattle.implicit_buffers.specs.Buffers.{fetched_by, published_by};
-ghost use Rattle.task_machine.specs.Instructions.{instruction_of};
 ghost use Rattle.task_generator.specs.Servers.{served, arguments_in};
 ghost use Rattle.task_generator.specs.Bounded.{IsBounded};
-ghost use Rattle.task_generator.specs.Shapes.{shape_of_body, shape_of, budget_of};
-ghost use Rattle.task_generator.specs.Code.{activity_code};
+ghost use Rattle.task_generator.specs.Coded.{coded_shape, shape_of_code};
+ghost use Rattle.task_generator.specs.Shapes.{shape_of_body, shape_of};
 ghost use Rattle.task_generator.specs.Promise.{AsksAsPlanned};
 
 use crate::Memory;
-use crate::accesses::Accesses;
-use crate::around::{in_places, put_fetches, put_publications, put_return, served};
-use crate::bounds::{loops_of_body, steps_of_body};
-use crate::code::put_call;
-use crate::generator::Generator;
+use crate::around::{around_of, in_places, served};
+use crate::shared::{Made, shared_code};
+use crate::targets::targets_of;
 use bus_semantics::{ArgPlan, BusPlan, EventPlan, Mapping, RunnablePlan};
 use implicit_buffers::{BufferPlan, plan_buffers};
+use indexmap::IndexMap;
 use rte_text::Seq;
 use std::alloc::Global;
-use task_machine::{Body, Instr, Request, Taken, TaskSet};
+use std::sync::Arc;
+use task_machine::{Body, Code, TaskSet};
 
-/// The instructions of an activation of a runnable, which fetches and publishes these elements.
-fn code_of(
-    alloc: Global,
-    p: &BusPlan,
-    runnable: &RunnablePlan,
-    fetched: &[u32],
-    published: &[u32],
-) -> Result<Vec<Instr>, Memory>
-    requires fetched { fetched.now ≡ fetched_by (runnable_of runnable.now) }
-    requires published { published.now ≡ published_by (runnable_of runnable.now) }
-    requires bounded { IsBounded (plan_of p.now) (runnable_of runnable.now) }
-    ensures { IfOk result (λ code. map instruction_of code.items ≡ activity_code (plan_of p.now) (runnable_of runnable.now)) }
+/// The budget of an activation: of its program so many instructions, and of those around it one for each fetch, two for each
+/// publication, and three. It is counted up to 2^64 - 1.
+fn budget_of(steps: u64, fetched: &[u32], published: &[u32]) -> u64
+    ensures { result ≡ min (steps + (length fetched.now + 2 * length published.now + 3)) 18446744073709551615 }
 {
-    let mut code = Vec::new(alloc);
-    let accesses = Accesses::of(alloc, runnable, fetched, published)?;
-    let generator = Generator {
-        alloc,
-        accesses: &accesses,
-    };
-    put_call(&mut code, Request::Admit, Taken::Nothing)?;
-    put_fetches(&mut code, &accesses)?;
-    generator.body(&mut code, 0, &runnable.program.body)?;
-    put_publications(&mut code, &accesses)?;
-    put_return(alloc, &mut code, served(p.servers.items(), runnable.server))?;
-    put_call(&mut code, Request::End, Taken::Nothing)?;
-    Ok(code)
-}
-
-/// The budget of an activation, whose runnable has so many elements to fetch and to publish.
-fn budget_of(runnable: &RunnablePlan, fetched: &[u32], published: &[u32]) -> u64
-    requires fetched { fetched.now ≡ fetched_by (runnable_of runnable.now) }
-    requires published { published.now ≡ published_by (runnable_of runnable.now) }
-    requires cost { body_cost (runnable_of runnable.now).program.body ≤ 100000 }
-    requires few { length fetched.now + 2 * length published.now ≤ 9223372036854775808 }
-    ensures { result ≡ budget_of (runnable_of runnable.now) }
-{
-    let program = steps_of_body(&runnable.program.body);
-    let around = fetched.len() as u64 + 2 * published.len() as u64 + 3;
-    program + around
+    steps
+        .saturating_add(fetched.len() as u64)
+        .saturating_add(published.len() as u64)
+        .saturating_add(published.len() as u64)
+        .saturating_add(3)
 }
 
 /// The arguments of the operation that a runnable serves, in declared order.
@@ -76,31 +47,37 @@ fn arguments_of<'p>(p: &'p BusPlan, runnable: &RunnablePlan) -> &'p [ArgPlan]
     }
 }
 
-/// The body of a runnable, which fetches and publishes these elements.
+/// The body of a runnable, which fetches and publishes these elements and has this code.
 fn body_of(
     alloc: Global,
     p: &BusPlan,
     runnable: &RunnablePlan,
     fetched: &[u32],
     published: &[u32],
+    code: Arc<Code, Global>,
 ) -> Result<Body, Memory>
     requires fetched { fetched.now ≡ fetched_by (runnable_of runnable.now) }
     requires published { published.now ≡ published_by (runnable_of runnable.now) }
     requires bounded { IsBounded (plan_of p.now) (runnable_of runnable.now) }
-    ensures { IfOk result (λ b. shape_of_body b ≡ shape_of (plan_of p.now) (runnable_of runnable.now)) }
+    ensures code { IfOk result (λ b. arc_value b.code ≡ arc_value code) }
+    ensures shape { IfOk result (λ b. shape_of_code (arc_value code) ≡ coded_shape (coded_of runnable.now) → shape_of_body b ≡ shape_of (plan_of p.now) (runnable_of runnable.now)) }
 {
     let arguments = arguments_of(p, runnable);
     let places = in_places(alloc, arguments)?;
-    let code = code_of(alloc, p, runnable, fetched, published)?;
-    let budget = budget_of(runnable, fetched, published);
+    let targets = targets_of(alloc, runnable, fetched, published)?;
+    let server = served(p.servers.items(), runnable.server);
+    let around = around_of(alloc, fetched, published, server)?;
     Ok(Body {
         vars: runnable.program.vars.max(arguments.len() as u32),
         arguments: Seq::of(places),
         fetched: fetched.len(),
         written: published.len(),
-        counters: loops_of_body(&runnable.program.body),
-        budget,
-        code: Seq::of(code),
+        counters: code.loops,
+        budget: budget_of(code.steps, fetched, published),
+        targets,
+        around: Seq::of(around.code),
+        before: around.before,
+        code,
     })
 }
 
@@ -114,20 +91,23 @@ fn elements_at(lists: &[Seq<u32>], place: usize) -> &[u32]
     }
 }
 
-/// The bodies of the runnables, each at the place of its number.
+/// The bodies of the runnables, each at the place of its number. Runnables of one code share it.
 #[tactic(auto, using(crate::proofs::Placing::listed))]
 fn bodies_of(alloc: Global, p: &BusPlan, buffers: &BufferPlan) -> Result<Vec<Body>, Memory>
     requires fetched { buffers.now.fetched ≡ map fetched_by (plan_of p.now).runnables }
     requires published { buffers.now.published ≡ map published_by (plan_of p.now).runnables }
     requires bounded { (i : ℕ) (r : Runnable) → slice_get (plan_of p.now).runnables i ≡ Some r → IsBounded (plan_of p.now) r }
-    ensures { IfOk result (λ bodies. map shape_of_body bodies.items ≡ map (shape_of (plan_of p.now)) (plan_of p.now).runnables) }
+    ensures { IfOk result (λ bodies. HaveOneCode p.now.runnables → map shape_of_body bodies.items ≡ map (shape_of (plan_of p.now)) (plan_of p.now).runnables) }
 {
     let mut bodies = Vec::new(alloc);
+    let mut made: Made = IndexMap::new(alloc);
     for (place, runnable) in p.runnables.items().iter().enumerate() {
         let fetched = elements_at(buffers.fetched.items(), place);
         let published = elements_at(buffers.published.items(), place);
-        let body = body_of(alloc, p, runnable, fetched, published)?;
+        let code = shared_code(alloc, p, bodies.as_slice(), &made, runnable)?;
+        let body = body_of(alloc, p, runnable, fetched, published, code)?;
         bodies.push(body)?;
+        made.insert(runnable.code, place)?;
     }
     Ok(bodies)
 }

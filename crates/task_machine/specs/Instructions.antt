@@ -1,5 +1,5 @@
 -- What the instructions of a body mean.
-use Rattle.std.specs.Prelude.{ℕ, zero, suc, ℤ, pos, List, length, get_or, set, ◌==◌, if◌then◌else◌}
+use Rattle.std.specs.Prelude.{ℕ, zero, suc, ℤ, pos, List, map, length, get_or, set, ◌==◌, if◌then◌else◌}
 use Rattle.runnable_lang.specs.Trees.{ExprTree, expr_tree}
 use Rattle.bus_semantics.specs.declared.entries.Deed.{Deed}
 use Rattle.bus_semantics.specs.Wanted.{Wanted, to_write, to_read, to_invalidate, to_see_updated, to_send, to_receive, to_ask, to_hear, to_take_result, to_enter, to_leave, to_switch, to_see_mode, to_end, to_admit, to_fetch, to_publish, to_return}
@@ -11,7 +11,9 @@ use Rattle.task_machine.specs.declared.instr.Taken.{Taken}
 use Rattle.task_machine.specs.declared.instr.Taken.TheVariants as taken
 use Rattle.task_machine.specs.declared.instr.Instr.{Instr}
 use Rattle.task_machine.specs.declared.instr.Instr.TheVariants as instr
+use Rattle.task_machine.specs.declared.instr.Targets.{Targets}
 use Rattle.task_machine.specs.Words.{words_given}
+use Rattle.task_machine.specs.Targets.{number_at, fetched_at, written_at}
 use Rattle.task_machine.specs.Store.{Store, with_vars, with_fetched, written_in, words_or_none}
 
 -- an instruction. A call is what it wants of the bus, in an activation that an event started and over a store; what it takes of the
@@ -27,26 +29,30 @@ pub data Instruction : Type 0 where
   end_loop : (counter : ℕ) → (back : ℕ) → Instruction
   call : ((event : ℕ) → Store → Wanted) → (Deed → Store → Store) → (Deed → ℕ) → Instruction
 
--- what a call wants. A return is of the `out` arguments, which are among the first variables; the variable after them is `error`
-abbrev pub requested : Request → (event : ℕ) → Store → Wanted
-requested request.Admit event m = to_admit event
-requested (request.Fetch x) event m = to_fetch x
-requested (request.Write x given) event m = to_write x (words_given m.vars given.words.items)
-requested (request.Read x) event m = to_read x
-requested (request.Invalidate x) event m = to_invalidate x
-requested (request.IsUpdated x) event m = to_see_updated x
-requested (request.Send x given) event m = to_send x (words_given m.vars given.words.items)
-requested (request.Receive x) event m = to_receive x
-requested (request.Ask q given) event m = to_ask q (words_given m.vars given.words.items)
-requested (request.Answer q) event m = to_hear q
-requested (request.TakeResult q) event m = to_take_result q
-requested (request.Enter x) event m = to_enter x
-requested (request.Leave x) event m = to_leave x
-requested (request.Switch n mode) event m = to_switch n mode
-requested (request.Mode port) event m = to_see_mode port
-requested (request.Publish x slot) event m = to_publish x (words_or_none (written_in slot m))
-requested (request.Return r) event m = to_return (declared_code r.errors (get_or m.vars (length r.arguments.items) (pos 0))) (results r.arguments.items m.vars)
-requested request.End event m = to_end event
+-- an instruction that instances share: which one it is depends on what the accesses name
+abbrev pub Shared : Type 0
+Shared = Targets → Instruction
+
+-- what a call wants at what it names. A return is of the `out` arguments, which are among the first variables; the variable after them is `error`
+abbrev pub requested : Request → (named : ℕ) → (event : ℕ) → Store → Wanted
+requested request.Admit n event m = to_admit event
+requested (request.Fetch x) n event m = to_fetch x
+requested (request.Write given) n event m = to_write n (words_given m.vars given.words.items)
+requested request.Read n event m = to_read n
+requested request.Invalidate n event m = to_invalidate n
+requested request.IsUpdated n event m = to_see_updated n
+requested (request.Send given) n event m = to_send n (words_given m.vars given.words.items)
+requested request.Receive n event m = to_receive n
+requested (request.Ask given) n event m = to_ask n (words_given m.vars given.words.items)
+requested request.Answer n event m = to_hear n
+requested request.TakeResult n event m = to_take_result n
+requested request.Enter n event m = to_enter n
+requested request.Leave n event m = to_leave n
+requested (request.Switch mode) n event m = to_switch n mode
+requested request.Mode n event m = to_see_mode n
+requested (request.Publish x slot) n event m = to_publish x (words_or_none (written_in slot m))
+requested (request.Return r) n event m = to_return (declared_code r.errors (get_or m.vars (length r.arguments.items) (pos 0))) (results r.arguments.items m.vars)
+requested request.End n event m = to_end event
 
 -- an ask that was refused puts its code into the status
 abbrev pub refused : (status : ℕ) → (code : ℕ) → Store → Store
@@ -78,13 +84,17 @@ abbrev pub passes_of : Taken → Deed → ℕ
 passes_of (taken.Refusal status) = passes_hearing
 passes_of _ = passes_nothing
 
-abbrev pub instruction_of : Instr → Instruction
-instruction_of (instr.Set v e) = assign v (expr_tree e)
-instruction_of (instr.Load vs slot) = load vs slot
-instruction_of (instr.Keep slot given) = keep slot (λ m. words_given m.vars given.words.items)
-instruction_of (instr.Unless c past) = unless (expr_tree c) past
-instruction_of (instr.Unwritten slot past) = unwritten slot past
-instruction_of (instr.Skip past) = skip past
-instruction_of (instr.Repeat c n past) = begin_loop c n past
-instruction_of (instr.Again c back) = end_loop c back
-instruction_of (instr.Call r t) = call (requested r) (change_of t) (passes_of t)
+abbrev pub instruction_of : Instr → Shared
+instruction_of (instr.Set v e) t = assign v (expr_tree e)
+instruction_of (instr.Load vs a) t = load vs (fetched_at t a)
+instruction_of (instr.Keep a given) t = keep (written_at t a) (λ m. words_given m.vars given.words.items)
+instruction_of (instr.Unless c past) t = unless (expr_tree c) past
+instruction_of (instr.Unwritten slot past) t = unwritten slot past
+instruction_of (instr.Skip past) t = skip past
+instruction_of (instr.Repeat c n past) t = begin_loop c n past
+instruction_of (instr.Again c back) t = end_loop c back
+instruction_of (instr.Call r a taken) t = call (requested r (number_at t a)) (change_of taken) (passes_of taken)
+
+-- shared instructions, of an instance
+abbrev pub resolved : Targets → List Shared → List Instruction
+resolved t is = map (λ i. i t) is

@@ -1,5 +1,6 @@
 pub mod Words
 pub mod Store
+pub mod Targets
 pub mod Instructions
 pub mod Machine
 pub mod Spots

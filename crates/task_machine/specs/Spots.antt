@@ -1,5 +1,6 @@
 -- What a place in a body stands for, and where an activation begins.
-use Rattle.std.specs.Prelude.{ℕ, ℤ, pos, List, [], map, replicate, None}
+use Rattle.std.specs.Prelude.{ℕ, ℤ, pos, List, [], ◌++◌, map, take, drop, replicate, None}
+use Rattle.std.specs.Arc.{arc_value}
 use Rattle.std.specs.Option.{option_map}
 use Rattle.std.specs.Vec.{vec_capacity}
 use Rattle.rte_value.specs.Values.{words_of}
@@ -8,7 +9,7 @@ use Rattle.task_machine.specs.declared.instr.Body.{Body}
 use Rattle.task_machine.specs.declared.place.Place.{Place}
 use Rattle.task_machine.specs.declared.store.Store as declared_store
 use Rattle.task_machine.specs.Store.{Store}
-use Rattle.task_machine.specs.Instructions.{Instruction, instruction_of}
+use Rattle.task_machine.specs.Instructions.{Instruction, instruction_of, resolved}
 use Rattle.task_machine.specs.Machine.{Spot, settled}
 use Rattle.task_machine.specs.Standing.{Room}
 
@@ -22,8 +23,9 @@ room_of s = record { vars = vec_capacity s.vars; fetched = vec_capacity s.fetche
 abbrev pub spot_of : Place → Spot
 spot_of at = record { left = at.left; place = at.place; store = store_of at.store; counters = at.counters.items }
 
+-- the instructions of a body: those before its program, the shared ones of the program, and those after it
 abbrev pub code_in : Body → List Instruction
-code_in b = map instruction_of b.code
+code_in b = resolved b.targets (map instruction_of (take b.before b.around ++ ((arc_value b.code).instrs ++ drop b.before b.around)))
 
 -- where an activation begins, the `in` arguments have the words of its Start, all other variables are 0, and nothing is fetched or written
 abbrev pub first_store : Body → (words : List ℤ) → Store

@@ -1,16 +1,17 @@
 //! Frames, which run bodies.
 
-ghost use Rattle.std.specs.Prelude.{◌≡◌, ◌++◌, ◌∷◌, [], List, map, length, get_or, pos, IfOk};
+ghost use Rattle.std.specs.Prelude.{◌≡◌, ◌++◌, ◌∷◌, [], List, length, get_or, pos, slice_get, IfOk};
+ghost use Rattle.std.specs.Option.{option_copied};
 ghost use Rattle.rte_value.specs.declared.kinds.ActKey.{ActKey};
 ghost use Rattle.bus_semantics.specs.declared.entries.Deed.{Deed};
 ghost use Rattle.bus_semantics.specs.Activations.{declared_code, results};
 ghost use Rattle.bus_semantics.specs.Wanted.{wanted_of, to_write, to_send, to_ask, to_publish, to_return};
 ghost use Rattle.task_machine.specs.declared.instr.Body.{Body};
-ghost use Rattle.task_machine.specs.Instructions.{instruction_of, requested};
+ghost use Rattle.task_machine.specs.Instructions.{requested};
 ghost use Rattle.task_machine.specs.Spots.{store_of};
 ghost use Rattle.task_machine.specs.Store.{written_in, words_or_none};
 ghost use Rattle.task_machine.specs.Words.{words_given};
-ghost use Rattle.task_machine.specs.Frames.{code_of, event_in, words_started, first_place, most, asks, Stands, IsMadeFor, wanted_in};
+ghost use Rattle.task_machine.specs.Frames.{event_in, words_started, first_place, most, asks, Stands, IsMadeFor, wanted_in};
 
 use crate::Memory;
 use crate::given::Given;
@@ -128,14 +129,11 @@ fn first_place(t: &TaskSet, event: u32) -> usize
     }
 }
 
-/// The instructions of a runnable.
-fn code_of(t: &TaskSet, runnable: u32) -> &[Instr]
-    ensures { map instruction_of result.now ≡ code_of t.now runnable }
+/// The body of a runnable.
+fn body_of(t: &TaskSet, runnable: u32) -> Option<&Body>
+    ensures { option_copied result ≡ slice_get t.now.bodies runnable }
 {
-    match t.bodies.items().get(runnable as usize) {
-        Some(body) => body.code.items(),
-        None => &[],
-    }
+    t.bodies.items().get(runnable as usize)
 }
 
 /// What a write asks. As each wish with a value it is made in a function of its own: the room of a value is cleared where a
@@ -190,29 +188,30 @@ fn return_of(returned: &Returned, vars: &[Word]) -> Wish
     }
 }
 
-/// What a call asks, in an activation that this event started, over this store.
-fn wish_of(request: &Request, event: u32, store: &Store) -> Wish
-    ensures { wanted_of result ≡ requested request.now event (store_of store.now) }
+/// What a call asks at what it names, in an activation that this event started, over this store.
+#[inline(always)]
+fn wish_of(request: &Request, named: u32, event: u32, store: &Store) -> Wish
+    ensures { wanted_of result ≡ requested request.now named event (store_of store.now) }
 {
     match request {
         Request::Admit => Wish::Admit { event },
         Request::Fetch { elem } => Wish::Fetch { elem: *elem },
-        Request::Write { elem, given } => write_of(*elem, given, &store.vars),
-        Request::Read { elem } => Wish::Read { elem: *elem },
-        Request::Invalidate { elem } => Wish::Invalidate { elem: *elem },
-        Request::IsUpdated { elem } => Wish::IsUpdated { elem: *elem },
-        Request::Send { elem, given } => send_of(*elem, given, &store.vars),
-        Request::Receive { elem } => Wish::Receive { elem: *elem },
-        Request::Ask { point, given } => ask_of(*point, given, &store.vars),
-        Request::Answer { point } => Wish::Answer { point: *point },
-        Request::TakeResult { point } => Wish::TakeResult { point: *point },
-        Request::Enter { area } => Wish::Enter { area: *area },
-        Request::Leave { area } => Wish::Leave { area: *area },
-        Request::Switch { machine, mode } => Wish::Switch {
-            machine: *machine,
+        Request::Write { given } => write_of(named, given, &store.vars),
+        Request::Read => Wish::Read { elem: named },
+        Request::Invalidate => Wish::Invalidate { elem: named },
+        Request::IsUpdated => Wish::IsUpdated { elem: named },
+        Request::Send { given } => send_of(named, given, &store.vars),
+        Request::Receive => Wish::Receive { elem: named },
+        Request::Ask { given } => ask_of(named, given, &store.vars),
+        Request::Answer => Wish::Answer { point: named },
+        Request::TakeResult => Wish::TakeResult { point: named },
+        Request::Enter => Wish::Enter { area: named },
+        Request::Leave => Wish::Leave { area: named },
+        Request::Switch { mode } => Wish::Switch {
+            machine: named,
             mode: *mode,
         },
-        Request::Mode { port } => Wish::Mode { port: *port },
+        Request::Mode => Wish::Mode { port: named },
         Request::Publish { elem, slot } => publish_of(*elem, *slot, store),
         Request::Return(returned) => return_of(returned, &store.vars),
         Request::End => Wish::End { event },
@@ -225,27 +224,45 @@ impl Frame {
         ensures { IfOk result (λ f. IsMadeFor t.now f) }
     {
         let bodies = t.bodies.items();
-        let vars = Vec::with_capacity(alloc, most_vars(bodies) as usize)?;
-        let counters = Vec::with_capacity(alloc, most_counters(bodies) as usize)?;
-        let fetched = Vec::with_capacity(alloc, most_fetched(bodies))?;
-        let written = Vec::with_capacity(alloc, most_written(bodies))?;
+        let vars = most_vars(bodies);
+        let counters = most_counters(bodies);
+        let fetched = most_fetched(bodies);
+        let written = most_written(bodies);
+        let at = Place::with_room(alloc, vars, counters, fetched, written)?;
         Ok(Frame {
             key: ActKey {
                 runnable: 0,
                 point: None,
             },
             event: 0,
-            at: Place {
-                left: 0,
-                place: 0,
-                store: Store {
-                    vars,
-                    fetched,
-                    written,
-                },
-                counters,
-            },
+            at,
         })
+    }
+
+    /// A frame in which an activation of the key begins with this Start. It has the room of that body alone, so it is for one activation. An
+    /// error says that there was no memory.
+    pub fn for_activation(
+        alloc: Global,
+        t: &TaskSet,
+        key: ActKey,
+        start: &Deed,
+    ) -> Result<Frame, Memory>
+        ensures { IfOk result (λ f. Stands t.now key start.now [] f) }
+    {
+        let event = event_of(start);
+        match t.bodies.items().get(key.runnable as usize) {
+            Some(body) => {
+                let (vars, counters) = (body.vars, body.counters);
+                let mut at = Place::with_room(alloc, vars, counters, body.fetched, body.written)?;
+                at.begin(body, first_place(t, event), words_of_start(start));
+                Ok(Frame { key, event, at })
+            }
+            None => {
+                let mut at = Place::with_room(alloc, 0, 0, 0, 0)?;
+                at.begin_nowhere();
+                Ok(Frame { key, event, at })
+            }
+        }
     }
 
     /// An activation of the key begins with this Start (SWS_RTE: runnable activation). The frame was made for these bodies.
@@ -273,9 +290,18 @@ impl Frame {
         if self.at.left == 0 {
             return Next::Over;
         }
-        let code = code_of(t, self.key.runnable);
-        if let Some(Instr::Call { request, .. }) = code.get(self.at.place) {
-            return Next::Call(wish_of(request, self.event, &self.at.store));
+        if let Some(body) = body_of(t, self.key.runnable) {
+            if let Some(
+                Instr::Call {
+                    request,
+                    access,
+                    ..
+                },
+            ) = body.at(self.at.place)
+            {
+                let named = body.targets.number(*access);
+                return Next::Call(wish_of(request, named, self.event, &self.at.store));
+            }
         }
         Next::Over
     }
@@ -286,6 +312,9 @@ impl Frame {
         ensures room { self.new.room ≡ self.old.room }
         ensures counters_room { self.new.counters_room ≡ self.old.counters_room }
     {
-        self.at.feed(code_of(t, self.key.runnable), answer);
+        match body_of(t, self.key.runnable) {
+            Some(body) => self.at.feed(body, answer),
+            None => self.at.feed_nowhere(answer),
+        }
     }
 }

@@ -1,11 +1,16 @@
 //! The instructions of a body.
 
+ghost use Rattle.std.specs.Prelude.{◌≡◌, ◌≤◌, ◌<◌, ◌^◌, length, get_or};
+ghost use Rattle.task_machine.specs.Targets.{number_at, fetched_at, written_at};
+
 use crate::given::Given;
 use crate::returned::Returned;
 use rte_text::Seq;
 use runnable_lang::Expr;
+use std::alloc::Global;
+use std::sync::Arc;
 
-/// What a body asks of the bus. Numbers are positions in the lists of the plan.
+/// What a body asks of the bus: at what its access names, or else at these positions in the lists of the plan.
 #[derive(Drop)]
 pub enum Request {
     /// To have the activation admitted (SWS_RTE: ModeDisablingDependency).
@@ -13,31 +18,31 @@ pub enum Request {
     /// To fetch an element (SWS_RTE: Rte_IRead, Rte_IrvIRead).
     Fetch { elem: u32 },
     /// To write these words (SWS_RTE: Rte_Write, Rte_IrvWrite).
-    Write { elem: u32, given: Given },
+    Write { given: Given },
     /// To read an element (SWS_RTE: Rte_Read, Rte_IrvRead).
-    Read { elem: u32 },
+    Read,
     /// To invalidate an element (SWS_RTE: Rte_Invalidate).
-    Invalidate { elem: u32 },
+    Invalidate,
     /// To see whether an element was updated (SWS_RTE: Rte_IsUpdated).
-    IsUpdated { elem: u32 },
+    IsUpdated,
     /// To send these words (SWS_RTE: Rte_Send).
-    Send { elem: u32, given: Given },
+    Send { given: Given },
     /// To receive from an element (SWS_RTE: Rte_Receive).
-    Receive { elem: u32 },
+    Receive,
     /// To call an operation with these arguments (SWS_RTE: Rte_Call).
-    Ask { point: u32, given: Given },
+    Ask { given: Given },
     /// To take the answer of a call that waits (SWS_RTE: Rte_Call, synchronous).
-    Answer { point: u32 },
+    Answer,
     /// To take the result of a call (SWS_RTE: Rte_Result).
-    TakeResult { point: u32 },
+    TakeResult,
     /// To enter an exclusive area (SWS_RTE: Rte_Enter).
-    Enter { area: u32 },
+    Enter,
     /// To leave it (SWS_RTE: Rte_Exit).
-    Leave { area: u32 },
+    Leave,
     /// To switch a machine to this mode (SWS_RTE: Rte_Switch).
-    Switch { machine: u32, mode: u32 },
+    Switch { mode: u32 },
     /// To see the mode at a mode port (SWS_RTE: Rte_Mode).
-    Mode { port: u32 },
+    Mode,
     /// To publish what was written into the slot (SWS_RTE: Rte_IWrite, Rte_IrvIWrite).
     Publish { elem: u32, slot: usize },
     /// To return from an operation.
@@ -72,27 +77,115 @@ pub enum Taken {
 #[derive(Drop)]
 pub enum Instr {
     /// The variable takes the value.
-    Set { var: u32, value: Expr },
-    /// The variables take what was fetched into the slot, from left to right. Where there are fewer words, the others stay.
-    Load { vars: Seq<u32>, slot: usize },
-    /// The slot takes these words, to be published, in the place of what was written into it before.
-    Keep { slot: usize, given: Given },
+    Set {
+        var: u32,
+        value: Expr,
+    },
+    /// The variables take what was fetched by an access, from left to right. Where there are fewer words, the others stay.
+    Load {
+        vars: Seq<u32>,
+        access: usize,
+    },
+    /// What an access is to publish is these words, in the place of what was written by it before.
+    Keep {
+        access: usize,
+        given: Given,
+    },
     /// So many instructions are passed over where the value is 0.
-    Unless { cond: Expr, past: u32 },
+    Unless {
+        cond: Expr,
+        past: u32,
+    },
     /// So many instructions are passed over where nothing was written into the slot.
-    Unwritten { slot: usize, past: u32 },
+    Unwritten {
+        slot: usize,
+        past: u32,
+    },
     /// So many instructions are passed over.
-    Skip { past: u32 },
+    Skip {
+        past: u32,
+    },
     /// A loop begins: its counter takes the number of times, or where that is 0 so many instructions are passed over.
-    Repeat { counter: u32, times: u32, past: u32 },
+    Repeat {
+        counter: u32,
+        times: u32,
+        past: u32,
+    },
     /// A loop has gone through its body: where its counter is above 1 it is lowered by 1, and so many instructions are gone
     /// back, counted from this one on.
-    Again { counter: u32, back: u32 },
-    /// The bus is called.
-    Call { request: Request, taken: Taken },
+    Again {
+        counter: u32,
+        back: u32,
+    },
+    /// The bus is called, at what an access names.
+    Call {
+        request: Request,
+        access: usize,
+        taken: Taken,
+    },
 }
 
-/// The body of a runnable. Its first instruction asks for admission; an activation whose event no mode disables begins behind it.
+/// What accesses name in an instance, by the number of the access. Number 0 is of none: it names the position 0.
+#[derive(Drop)]
+pub struct Targets {
+    /// For each access, in the order of the signature, the position of its target in a list of the plan.
+    pub numbers: Seq<u32>,
+    /// For each access that fetches, in this order, its slot.
+    pub fetched: Seq<usize>,
+    /// For each access that publishes, in this order, its slot.
+    pub written: Seq<usize>,
+}
+
+/// The number at a place, and 0 where there is none.
+fn number_in(numbers: &[u32], place: usize) -> u32
+    ensures { result ≡ get_or numbers.now place 0 }
+{
+    numbers.get(place).copied().unwrap_or(0)
+}
+
+/// The slot at a place, and 0 where there is none.
+fn slot_in(slots: &[usize], place: usize) -> usize
+    ensures { result ≡ get_or slots.now place 0 }
+{
+    slots.get(place).copied().unwrap_or(0)
+}
+
+impl Targets {
+    /// The position of what an access names.
+    pub fn number(&self, access: usize) -> u32
+        ensures { result ≡ number_at self.now access }
+    {
+        number_in(self.numbers.items(), access)
+    }
+
+    /// The slot of what an access fetches.
+    pub fn fetched_slot(&self, access: usize) -> usize
+        ensures { result ≡ fetched_at self.now access }
+    {
+        slot_in(self.fetched.items(), access)
+    }
+
+    /// The slot of what an access is to publish.
+    pub fn written_slot(&self, access: usize) -> usize
+        ensures { result ≡ written_at self.now access }
+    {
+        slot_in(self.written.items(), access)
+    }
+}
+
+/// The instructions of a program, which the runnables of all instances of a component share: they name accesses by number.
+#[derive(Drop)]
+pub struct Code {
+    pub instrs: Seq<Instr>,
+    /// The most instructions of them that one activation executes.
+    pub steps: u64,
+    /// How many loops stand within one another at most.
+    pub loops: u32,
+    pub ghost short: { length instrs < 2 ^ 32 },
+}
+
+/// The body of a runnable of an instance: instructions before its program, the program's, and instructions after it. The first one asks
+/// for admission; an activation whose event no mode disables begins behind it.
 #[derive(Drop)]
 pub struct Body {
     /// How many variables it has, which begin at 0, except the `in` arguments.
@@ -107,8 +200,16 @@ pub struct Body {
     pub counters: u32,
     /// The most instructions that one activation executes (OS: execution budget). An activation that has used them up is over.
     pub budget: u64,
-    /// Its instructions. The activation is over behind the last one.
-    pub code: Seq<Instr>,
+    /// What the accesses name in its instance.
+    pub targets: Targets,
+    /// Its instructions around the program: the admission and the fetches before it, and the publications, the return and the end after
+    /// it. The activation is over behind the last one.
+    pub around: Seq<Instr>,
+    /// How many of them stand before the program.
+    pub before: usize,
+    /// The instructions of its program.
+    pub code: Arc<Code, Global>,
+    pub ghost around_it: { before ≤ length around },
 }
 
 /// The bodies of all runnables.

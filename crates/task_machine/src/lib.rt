@@ -1,6 +1,7 @@
 //! The machine that runs task bodies: flat instructions, and frames that run them call by call.
 #![tactic(auto)]
 
+mod finding;
 mod frame;
 mod given;
 mod instr;
@@ -11,7 +12,7 @@ mod taking;
 
 pub use frame::{Frame, Next};
 pub use given::{Given, GivenWord};
-pub use instr::{Body, Instr, Request, Taken, TaskSet};
+pub use instr::{Body, Code, Instr, Request, Taken, Targets, TaskSet};
 pub use returned::Returned;
 
 /// There was no memory for what a call makes.

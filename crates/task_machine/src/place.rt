@@ -1,16 +1,19 @@
 //! Where an activation stands in its body.
 
-ghost use Rattle.std.specs.Prelude.{◌≡◌, ◌≤◌, ◌<◌, ◌^◌, ℕ, map, set, false, if◌then◌else◌, Some};
+ghost use Rattle.std.specs.Prelude.{◌≡◌, ◌≤◌, ◌<◌, ◌+◌, ◌^◌, ℕ, [], set, false, if◌then◌else◌, Some, IfOk};
 ghost use Rattle.std.specs.Vec.{vec_capacity};
 ghost use Rattle.task_machine.specs.Instructions.{instruction_of};
 ghost use Rattle.task_machine.specs.Machine.{Spot, Rest, silently, settled, answered};
-ghost use Rattle.task_machine.specs.Spots.{store_of, room_of, spot_of, first_spot, no_spot};
+ghost use Rattle.task_machine.specs.Spots.{store_of, room_of, spot_of, code_in, first_spot, no_spot};
 
-use crate::instr::{Body, Instr};
+use crate::Memory;
+use crate::finding::instr_at;
+use crate::instr::{Body, Instr, Targets};
 use crate::store::{Store, refill};
 use crate::taking::is_over;
 use bus_semantics::Deed;
 use rte_value::Word;
+use std::alloc::Global;
 
 /// Where an activation stands in its body. Clauses see it by `spot_of`.
 #[derive(Drop)]
@@ -36,10 +39,40 @@ fn count(counters: &mut Vec<u32>, counter: u32, number: u32)
 }
 
 impl Place {
+    /// A place with the room for so many variables, counters, slots for fetched values and slots for values to publish. No activation has
+    /// begun.
+    pub fn with_room(
+        alloc: Global,
+        vars: u32,
+        counters: u32,
+        fetched: usize,
+        written: usize,
+    ) -> Result<Place, Memory>
+        ensures vars { IfOk result (λ at. vars ≤ vec_capacity at.store.vars) }
+        ensures counters { IfOk result (λ at. counters ≤ vec_capacity at.counters) }
+        ensures fetched { IfOk result (λ at. fetched ≤ vec_capacity at.store.fetched) }
+        ensures written { IfOk result (λ at. written ≤ vec_capacity at.store.written) }
+    {
+        let vars = Vec::with_capacity(alloc, vars as usize)?;
+        let counters = Vec::with_capacity(alloc, counters as usize)?;
+        let fetched = Vec::with_capacity(alloc, fetched)?;
+        let written = Vec::with_capacity(alloc, written)?;
+        Ok(Place {
+            left: 0,
+            place: 0,
+            store: Store {
+                vars,
+                fetched,
+                written,
+            },
+            counters,
+        })
+    }
+
     /// Executes an instruction that asks nothing of the bus. Answers whether it is one; a call changes nothing.
-    fn step(&mut self, instr: &Instr) -> bool
-        requires within { self.old.place < 2 ^ 63 }
-        ensures stepped { (rest : Rest) (here : Spot) → silently (Some (instruction_of instr.now)) rest self.old.place (store_of self.old.store) self.old.counters.items here
+    fn step(&mut self, instr: &Instr, targets: &Targets) -> bool
+        requires within { self.old.place < 2 ^ 63 + 2 ^ 32 }
+        ensures stepped { (rest : Rest) (here : Spot) → silently (Some (instruction_of instr.now targets.now)) rest self.old.place (store_of self.old.store) self.old.counters.items here
             ≡ (if result then rest self.new.place (store_of self.new.store) self.new.counters.items else here) }
         ensures budget { self.new.left ≡ self.old.left }
         ensures call { result ≡ false → spot_of self.new ≡ spot_of self.old }
@@ -52,13 +85,13 @@ impl Place {
                 self.store.put(*var, word);
                 self.place += 1;
             }
-            Instr::Load { vars, slot } => {
-                self.store.load(vars.items(), *slot);
+            Instr::Load { vars, access } => {
+                self.store.load(vars.items(), targets.fetched_slot(*access));
                 self.place += 1;
             }
-            Instr::Keep { slot, given } => {
+            Instr::Keep { access, given } => {
                 let value = given.value(&self.store.vars);
-                self.store.keep(*slot, value);
+                self.store.keep(targets.written_slot(*access), value);
                 self.place += 1;
             }
             Instr::Unless { cond, past } => {
@@ -103,15 +136,18 @@ impl Place {
     }
 
     /// Executes the instructions that ask nothing of the bus, one after the other, while the budget lasts.
-    fn settle(&mut self, code: &[Instr])
-        ensures settled { spot_of self.new ≡ settled (map instruction_of code.now) self.old.left self.old.place (store_of self.old.store) self.old.counters.items }
+    fn settle(&mut self, body: &Body)
+        ensures settled { spot_of self.new ≡ settled (code_in body.now) self.old.left self.old.place (store_of self.old.store) self.old.counters.items }
         ensures room { room_of self.new.store ≡ room_of self.old.store }
         ensures counters_room { vec_capacity self.new.counters ≡ vec_capacity self.old.counters }
     {
+        let around = body.around.items();
+        let before = body.before;
+        let program = body.code.instrs.items();
         while self.left > 0 {
-            match code.get(self.place) {
+            match instr_at(around, before, program, self.place) {
                 Some(instr) => {
-                    if !self.step(instr) {
+                    if !self.step(instr, &body.targets) {
                         return;
                     }
                 }
@@ -135,7 +171,7 @@ impl Place {
         self.place = place;
         self.store.begin(body, words);
         refill(&mut self.counters, body.counters as usize, 0);
-        self.settle(body.code.items());
+        self.settle(body);
     }
 
     /// An activation begins where there is no body, and is over.
@@ -152,9 +188,9 @@ impl Place {
         self.counters.clear();
     }
 
-    /// Takes the answer to the call where it stands, and goes on to the next one, or is over with this answer.
-    pub fn feed(&mut self, code: &[Instr], answer: &Deed)
-        ensures answered { spot_of self.new ≡ answered (map instruction_of code.now) answer.now (spot_of self.old) }
+    /// Takes the answer to the call where it stands in a body, and goes on to the next one, or is over with this answer.
+    pub fn feed(&mut self, body: &Body, answer: &Deed)
+        ensures answered { spot_of self.new ≡ answered (code_in body.now) answer.now (spot_of self.old) }
         ensures room { room_of self.new.store ≡ room_of self.old.store }
         ensures counters_room { vec_capacity self.new.counters ≡ vec_capacity self.old.counters }
     {
@@ -165,11 +201,22 @@ impl Place {
         if self.left == 0 {
             return;
         }
-        if let Some(Instr::Call { taken, .. }) = code.get(self.place) {
+        if let Some(Instr::Call { taken, .. }) = body.at(self.place) {
             taken.take(answer, &mut self.store);
             self.place += 1 + taken.passes(answer);
             self.left -= 1;
-            self.settle(code);
+            self.settle(body);
+        }
+    }
+
+    /// An answer where there is no body changes nothing, but the last one ends the activation.
+    pub fn feed_nowhere(&mut self, answer: &Deed)
+        ensures answered { spot_of self.new ≡ answered [] answer.now (spot_of self.old) }
+        ensures room { room_of self.new.store ≡ room_of self.old.store }
+        ensures counters_room { vec_capacity self.new.counters ≡ vec_capacity self.old.counters }
+    {
+        if is_over(answer) {
+            self.left = 0;
         }
     }
 }

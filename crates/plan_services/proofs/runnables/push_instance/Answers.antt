@@ -24,3 +24,6 @@ push_component-requires-clause-signatures c =
     ∙ at_place (map accesses_of) (λ (t : Component). map (signature_in d.types t) t.behavior.runnables) c.args.signatures.now d.components c.requires.signatures c.args.instance.now.component
     c.index-signatures-position.result c.in-Some.component.now (slice_get_within d.components c.args.instance.now.component c.in-Some.component.now at)
     c.index-signatures-position.is (sym (get_or_from_slice_get d.components c.args.instance.now.component c.in-Some.component.now c.in-Some.component.now at))
+
+pub push_component-requires-clause-placed : goal.push_component-requires-clause-placed
+push_component-requires-clause-placed c = sym c.component_at.ensures ∙ ap option_copied c.in-Some.is

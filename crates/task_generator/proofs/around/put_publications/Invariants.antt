@@ -1,11 +1,9 @@
 use Rattle.std.proofs.Common.{◌≡◌, ◌++◌, map, drop}
-use Rattle.bus_semantics.specs.Plan.{runnable_of}
-use Rattle.implicit_buffers.specs.Buffers.{published_by}
 use Rattle.task_machine.specs.Instructions.{instruction_of}
 use Rattle.task_generator.specs.Code.{publishing_code}
+use Rattle.task_generator.specs.Shared.{fixed}
 use Rattle.task_generator.proofs.around.put_publications.Given as goal
 
 abbrev pub invariant-loop-elem : goal.invariant-loop-elem
 invariant-loop-elem l =
-    let all = published_by (runnable_of l.accesses.runnable.now) in
-    map instruction_of l.code.items ++ publishing_code all (drop l.elem-index all) ≡ map instruction_of l.fn.code.items ++ publishing_code all all
+    map instruction_of l.code.items ++ map fixed (publishing_code l.elements (drop l.elem-index l.elements)) ≡ map instruction_of l.fn.code.items ++ map fixed (publishing_code l.elements l.elements)

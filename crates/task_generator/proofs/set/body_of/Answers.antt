@@ -1,37 +1,48 @@
-use Rattle.std.proofs.Common.{◌≡◌, ◌<◌, length, map, max, sym, ap, ◌∙◌, arith}
-use Rattle.std.proofs.lemmas.List.{length-map}
+use Rattle.std.proofs.Common.{◌≡◌, ℕ, ◌+◌, ◌*◌, ◌<◌, ◌≤◌, ◌++◌, List, Option, length, map, take, drop, max, refl, ap, ◌∙◌, arith}
+use Rattle.std.specs.Arc.{arc_value}
+use Rattle.std.specs.Option.{option_copied}
 use Rattle.runnable_lang.specs.declared.program.Program.{Program}
+use Rattle.bus_semantics.specs.declared.plan.ServerPlan.{ServerPlan}
 use Rattle.bus_semantics.specs.Plan.{plan_of, runnable_of}
-use Rattle.task_machine.specs.Instructions.{instruction_of}
+use Rattle.implicit_buffers.specs.Buffers.{fetched_by, published_by}
+use Rattle.task_machine.specs.declared.instr.Code.{Code}
+use Rattle.task_machine.specs.declared.instr.Targets.{Targets}
+use Rattle.task_machine.specs.declared.instr.Instr.{Instr}
+use Rattle.task_machine.specs.Instructions.{instruction_of, resolved}
 use Rattle.task_generator.specs.Servers.{served, arguments_in, in_places}
+use Rattle.task_generator.specs.Bounds.{steps_of_body, loops_of_body}
+use Rattle.task_generator.specs.Shared.{targets_of, fixed, before_code, after_code}
+use Rattle.task_generator.specs.Coded.{CodeShape}
 use Rattle.task_generator.specs.Code.{activity_code}
-use Rattle.task_generator.specs.Bounds.{loops_of_body}
-use Rattle.task_generator.proofs.Few.{body_loops}
-use Rattle.task_generator.proofs.Activity.{activity_long}
+use Rattle.task_generator.specs.Shapes.{budget_of}
+use Rattle.task_generator.proofs.Few.{body_steps}
+use Rattle.task_generator.proofs.Whole.{whole_code, around_long}
 use Rattle.task_generator.proofs.set.body_of.Goals as goal
 
-pub budget_of-budget-requires-clause-few : goal.budget_of-budget-requires-clause-few
-budget_of-budget-requires-clause-few c =
+pub returns-clause-shape : goal.returns-clause-shape
+returns-clause-shape c coded =
     let p = plan_of c.args.p.now in
     let r = runnable_of c.args.runnable.now in
-    let code = c.in_ok-code.code in
-    let long : length code.items ≡ length (activity_code p r) = sym (length-map code.items instruction_of) ∙ ap length c.in_ok-code.ensures in
-    let room : code.cap < 9223372036854775808 = code.small in
-    omega (arith, long, room, code.ok.0, code.ok.1, activity_long p r, ap length c.requires.fetched, ap length c.requires.published)
-
-pub returns : goal.returns
-returns c =
-    let p = plan_of c.args.p.now in
-    let r = runnable_of c.args.runnable.now in
+    let code = arc_value c.args.code in
     let args = arguments_in (served p.servers r.server) in
     let found = c.arguments_of-arguments.ensures in
-    let body = c.deref-3.ensures.value ∙ ap (λ (q : Program). q.body.items) c.deref-2.ensures in
-    let loops = rw body at c.loops_of_body.ensures in
     let vars : c.max.result ≡ max r.program.vars (length args) = omega (arith, c.max.ensures, ap (λ (q : Program). q.vars) c.deref.ensures, ap length found) in
     let arguments : c.of.result ≡ in_places 0 args = c.of.ensures ∙ c.in_ok-places.ensures ∙ ap (in_places 0) found in
     let fetched = ap length c.requires.fetched in
     let written = ap length c.requires.published in
-    let counters : c.loops_of_body.result ≡ loops_of_body r.program.body = omega (arith, loops, body_loops r.program.body, c.requires.bounded.cost) in
-    let budget = c.budget_of-budget.ensures in
-    let code : map instruction_of c.of-2.result ≡ activity_code p r = ap (map instruction_of) c.of-2.ensures ∙ c.in_ok-code.ensures in
-    λ i. record { vars = vars i; arguments = arguments i; fetched = fetched i; written = written i; counters = counters i; budget = budget i; code = code i }
+    let counters : c.deref-2.result.now.loops ≡ loops_of_body r.program.body = ap (λ (k : Code). k.loops) c.deref-2.ensures ∙ ap (λ (s : CodeShape). s.loops) coded in
+    let steps : c.deref-3.result.now.steps ≡ steps_of_body r.program.body = ap (λ (k : Code). k.steps) c.deref-3.ensures ∙ ap (λ (s : CodeShape). s.steps) coded in
+    let server : option_copied c.served-server.result ≡ served p.servers r.server = c.served-server.ensures ∙ ap (λ (vs : List ServerPlan). served vs r.server) c.items.ensures in
+    let around = c.in_ok-around.around.code in
+    let put : map instruction_of around.items ≡ map fixed (before_code (fetched_by r)) ++ map fixed (after_code (published_by r) (served p.servers r.server)) =
+    c.in_ok-around.ensures.code ∙ (λ i. map fixed (before_code (c.requires.fetched i)) ++ map fixed (after_code (c.requires.published i) (server i))) in
+    let before : c.in_ok-around.around.before ≡ length (before_code (fetched_by r)) = c.in_ok-around.ensures.before ∙ ap (λ (xs : List ℕ). length (before_code xs)) c.requires.fetched in
+    let long = around_long around.items (fetched_by r) (published_by r) (served p.servers r.server) put in
+    let budget : c.budget_of.result ≡ budget_of r =
+    omega (arith, c.budget_of.ensures, steps, fetched, written, long, around.ok.0, around.ok.1, around.small, body_steps r.program.body, c.requires.bounded.cost) in
+    let instrs = ap (λ (s : CodeShape). s.instrs) coded in
+    let whole = whole_code r c.requires.bounded.targets around.items code.instrs c.in_ok-around.around.before (fetched_by r) (published_by r) (served p.servers r.server) r.program.body put before instrs in
+    let b = c.in_ok-around.around.before in
+    let all : resolved c.in_ok-targets.targets (map instruction_of (take b c.of-2.result ++ (code.instrs ++ drop b c.of-2.result))) ≡ activity_code p r =
+    (λ i. resolved (c.in_ok-targets.ensures i) (map instruction_of (take b (c.of-2.ensures i) ++ (code.instrs ++ drop b (c.of-2.ensures i))))) ∙ whole in
+    λ i. record { vars = vars i; arguments = arguments i; fetched = fetched i; written = written i; counters = counters i; budget = budget i; code = all i }

@@ -1,6 +1,6 @@
 use Rattle.std.proofs.Common.{◌≡◌, ap, ◌∙◌}
-use Rattle.runnable_lang.specs.Trees.{exprs, stmt_tree, calls, calls_and_goes_on}
-use Rattle.task_generator.proofs.Views.{tree_of_call, tree_of_acall}
+use Rattle.runnable_lang.specs.Trees.{exprs, stmt_tree, calls, calls_and_goes_on, takes_result}
+use Rattle.task_generator.proofs.Views.{tree_of_call, tree_of_acall, tree_of_take_result}
 use Rattle.task_generator.proofs.generator.Generator.other_call.Goals as goal
 
 pub returns-in-Call : goal.returns-in-Call
@@ -17,3 +17,11 @@ returns-in-ACall c =
     ap stmt_tree c.in-ACall.is ∙ tree_of_acall c.in-ACall.port c.in-ACall.item c.in-ACall.values c.in-ACall.status in
     let deref = c.deref-in-ACall.ensures.value in
     simp is (rw deref at c.ask.ensures)
+
+pub returns-in-TakeResult : goal.returns-in-TakeResult
+returns-in-TakeResult c =
+    let is : stmt_tree c.args.stmt.now ≡ takes_result c.in-TakeResult.port c.in-TakeResult.item c.in-TakeResult.vars.items c.in-TakeResult.status =
+    ap stmt_tree c.in-TakeResult.is ∙ tree_of_take_result c.in-TakeResult.port c.in-TakeResult.item c.in-TakeResult.vars c.in-TakeResult.status in
+    let deref = c.deref-in-TakeResult.ensures.value in
+    let number = c.number-access.ensures in
+    simp is (rw (deref, number) at c.take_words.ensures)
