@@ -2,3 +2,4 @@ pub mod PhaseStuck
 pub mod RowRuns
 pub mod RowSound
 pub mod RowPasts
+mod Lines

@@ -13,3 +13,4 @@ pub mod TwoMachines
 pub mod WaitingSwitch
 pub mod AcknowledgedSwitch
 pub mod UnsoundPlans
+pub mod Traces

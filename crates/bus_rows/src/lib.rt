@@ -1,10 +1,12 @@
 //! Worked rows as theorems: each is a legal run of its script, by computing, and wrong variants of it are refused by the clause that
-//! should refuse them. And plans that are not sound, each for one fact that it lacks.
+//! should refuse them. What traces of some of them are called, by the definition of the check, and why. And plans that are not sound, each for one fact that it lacks.
 #![tactic(auto)]
 
+mod checked;
 mod rows;
 mod unsound;
 
+pub use checked::{mode_switch_checked, ten_ticks_checked, traces_of_nothing};
 pub use rows::{
     acknowledged_mode_switch, area_is_held_until_it_is_left, asynchronous_mode_switch,
     coherent_list_is_fetched_at_one_moment, coherent_list_publishes_what_was_written,

@@ -23,16 +23,16 @@ closing_leaves : (script : List Line) (s : Session) (left : List Ordered) (word 
 closing_leaves script s left word leaves inside = record { orders = leaves.orders; placed = and_from (is_placed s) (is_inside s) leaves.placed inside }
 
 module _ (r : Rules) (s : Session) (old : Check) (stands : Stands r s old) where
-  pub along : IsAlong (plan_in r) old.state
+  pub along : IsAlong r.tasks.now (plan_in r) old.state
   along = record { history = history_of s; legal = legal_history (plan_in r) r.mapping.now s stands.legal; stands = stands.state }
 
   -- ---- an entry
 
-  pub entry_refused : (e : Entry) (left : List Ordered) (new : BusState) (clause : ℕ) → Leaves r.script.now.lines (made e ∷ s) left → Makes (plan_in r) (history_of s) e new (Some clause)
+  pub entry_refused : (e : Entry) (left : List Ordered) (new : BusState) (clause : ℕ) → Leaves r.script.now.lines (made e ∷ s) left → Makes r.tasks.now (plan_in r) (history_of s) e new (Some clause)
       → IsRefused (plan_in r) r.mapping.now r.script.now.lines s (made e) clause
   entry_refused e left new clause leaves makes = inr (record { in_order = begins r.script.now.lines (made e ∷ s) left leaves; broken = sym makes.clause })
 
-  pub entry_made : (e : Entry) (new : Check) → fits (plan_in r) e ≡ true → Leaves r.script.now.lines (made e ∷ s) new.orders → Makes (plan_in r) (history_of s) e new.state None
+  pub entry_made : (e : Entry) (new : Check) → fits (plan_in r) e ≡ true → Leaves r.script.now.lines (made e ∷ s) new.orders → Makes r.tasks.now (plan_in r) (history_of s) e new.state None
       → new.inside ≡ old.inside → new.made ≡ min (if is_environment e.actor then made_in_line s else suc (made_in_line s)) most_made → Stands r (made e ∷ s) new
   entry_made e new fit leaves makes inside count = record {
     legal = (stands.legal, (legal_then (plan_in r) (history_of s) e (legal_history (plan_in r) r.mapping.now s stands.legal) fit (sym makes.clause)).1);
@@ -47,7 +47,7 @@ module _ (r : Rules) (s : Session) (old : Check) (stands : Stands r s old) where
   pub mark_made : (new : Check) → Leaves r.script.now.lines (run_begins ∷ s) new.orders → new.state ≡ old.state → new.inside ≡ true → new.made ≡ 0 → Stands r (run_begins ∷ s) new
   mark_made new leaves same inside count = record {
     legal = stands.legal;
-    state = subst (StateStands (plan_in r) (history_of s)) (sym same) stands.state;
+    state = subst (StateStands r.tasks.now (plan_in r) (history_of s)) (sym same) stands.state;
     leaves = leaves;
     inside = inside;
     made = count;
@@ -76,7 +76,7 @@ module _ (r : Rules) (s : Session) (old : Check) (stands : Stands r s old) where
   pub holds_not : (word : Closing) → (Holds (plan_in r) r.mapping.now s word → ⊥) → IsRefused (plan_in r) r.mapping.now r.script.now.lines s (run_closes word) 15
   holds_not word not = record { closes_not = λ closes. not closes.holds; clause_is = refl }
 
-  pub closed : (word : Closing) (new : Check) → Holds (plan_in r) r.mapping.now s word → StateStands (plan_in r) (history_of s) new.state → old.inside ≡ true
+  pub closed : (word : Closing) (new : Check) → Holds (plan_in r) r.mapping.now s word → StateStands r.tasks.now (plan_in r) (history_of s) new.state → old.inside ≡ true
       → new.orders ≡ old.orders → new.inside ≡ false → new.made ≡ 0 → Stands r (run_closes word ∷ s) new
   closed word new holds state was same inside count =
       let within : is_inside s ≡ true = sym stands.inside ∙ was in

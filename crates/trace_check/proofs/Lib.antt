@@ -1,4 +1,5 @@
 mod FirstNewlines
+mod Ordering
 mod Taking
 mod Making
 mod LineCuts

@@ -20,6 +20,7 @@ use Rattle.bus_semantics.specs.Sound.{IsSound}
 use Rattle.check_laws.proofs.Clauses.{unbroken}
 use Rattle.port_objects.specs.declared.object.Object.{Object}
 use Rattle.port_objects.specs.Objects.{ArePlans}
+use Rattle.task_machine.specs.declared.instr.TaskSet.{TaskSet}
 use Rattle.trace_objects.specs.Resting.{Rests}
 use Rattle.trace_objects.specs.Standing.{IsTried, ObjectsStand}
 use Rattle.trace_objects.specs.Unrest.{AreAmong}
@@ -66,21 +67,21 @@ tried p m h e event sound legal fit program by = record { sound = sound; legal =
 
 -- ---- what making answers
 
-pub made_some : (p : Plan) (h : History) (e : Entry) (new : BusState) (clause : ℕ) → Some clause ≡ broken_clause p h e → Makes p h e new (Some clause)
-made_some p h e new clause is = record { clause = is; stands = λ none. absurd cc }
+pub made_some : (t : TaskSet) (p : Plan) (h : History) (e : Entry) (new : BusState) (clause : ℕ) → Some clause ≡ broken_clause p h e → Makes t p h e new (Some clause)
+made_some t p h e new clause is = record { clause = is; stands = λ none. absurd cc }
 
 -- ---- rest
 
-pub idle_then : (p : Plan) (m : Mapping) (h : History) (old new : BusState) → none_runs p h ≡ true → StateStands p h old → ArePlans p new.objects.items → new.walks ≡ old.walks → new.runners ≡ old.runners
-    → (b : Bool) → (b ≡ true → new.objects.items ≡ old.objects.items) → (b ≡ true → AreAmong p new.objects.items new.unrest) → Rests p m h b → Idles p m h new b
-idle_then p m h old new none stands planned walks runners true same among rest = (
+pub idle_then : (t : TaskSet) (p : Plan) (m : Mapping) (h : History) (old new : BusState) → none_runs p h ≡ true → StateStands t p h old → ArePlans p new.objects.items → new.walks ≡ old.walks → new.runners ≡ old.runners
+    → (b : Bool) → (b ≡ true → new.objects.items ≡ old.objects.items) → (b ≡ true → AreAmong p new.objects.items new.unrest) → Rests p m h b → Idles t p m h new b
+idle_then t p m h old new none stands planned walks runners true same among rest = (
   record { rest = rest; none = none },
   record {
     planned = planned;
     objects = subst (λ (os : List Object). ObjectsStand p h os) (sym (same refl)) stands.objects;
     unrest = among refl;
-    walks = subst (WalksStand p h) (sym walks) stands.walks;
+    walks = subst (WalksStand t p h) (sym walks) stands.walks;
     runners = subst (RunnersStand p h) (sym runners) stands.runners;
   },
 )
-idle_then p m h old new none stands planned walks runners false same among rest = λ idle. rest idle.rest
+idle_then t p m h old new none stands planned walks runners false same among rest = λ idle. rest idle.rest

@@ -7,7 +7,7 @@ use Rattle.bus_semantics.specs.declared.entries.Entry.{Entry}
 use Rattle.bus_semantics.specs.Wanted.{wanted_by}
 use Rattle.bus_semantics.specs.History.{is_environment}
 use Rattle.bus_semantics.specs.Run.{Ordered, Session, a_call, a_run, made, run_begins, IsBeginningOf, is_inside, is_placed, orders_of, orders_of_script}
-use Rattle.script_orders.specs.Orders.{Takes}
+use Rattle.trace_check.specs.Orders.{Takes}
 use Rattle.trace_check.specs.Order.{Leaves, TakesItem}
 
 module _ (script : List Line) (s : Session) (old : List Ordered) (leaves : Leaves script s old) where

@@ -20,7 +20,7 @@ most_made = 100000
 -- the session is a begun legal run of the script, and the check has of it what it needs
 pub record Stands (r : Rules) (s : Session) (c : Check) : Type 0 where
   pub legal : IsLegalRun (plan_in r) r.mapping.now s
-  pub state : StateStands (plan_in r) (history_of s) c.state
+  pub state : StateStands r.tasks.now (plan_in r) (history_of s) c.state
   pub leaves : Leaves r.script.now.lines s c.orders
   pub inside : c.inside ≡ is_inside s
   pub made : c.made ≡ min (made_in_line s) most_made

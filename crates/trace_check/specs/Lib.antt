@@ -1,5 +1,6 @@
 pub mod FirstLines
 pub mod Order
+pub mod Orders
 pub mod Along
 pub mod Checking
 pub mod Lines

@@ -13,23 +13,24 @@ use port_objects::{Object, make_objects, sound_plans_have_objects};
 use rte_text::Memory;
 use rte_value::ActKey;
 use std::alloc::Global;
+use task_machine::TaskSet;
 use trace_objects::{Unrest, make, may_rest};
 use trace_walks::{Runners, Walks};
 
 /// What is kept of a bus along a trace: its objects, what may come on them of its own, its activations, and which of them run.
 #[derive(Drop)]
-pub(crate) struct BusState<'a, 'p> {
+pub(crate) struct BusState {
     objects: Vec<Object>,
     unrest: Unrest,
-    walks: Walks<'a, 'p>,
+    walks: Walks,
     runners: Runners,
 }
 
-impl<'a, 'p> BusState<'a, 'p> {
+impl BusState {
     /// The bus before a trace. An error says that there was no memory.
-    pub(crate) fn new(alloc: Global, rules: &Rules<'a, 'p>) -> Result<BusState<'a, 'p>, Memory>
+    pub(crate) fn new(alloc: Global, rules: &Rules<'_, '_>) -> Result<BusState, Memory>
         requires sound { AreSound rules.now }
-        ensures { IfOk result (λ state. StateStands (plan_in rules.now) [] state) }
+        ensures { IfOk result (λ state. StateStands rules.now.tasks.now (plan_in rules.now) [] state) }
     {
         sound_plans_have_objects();
         let objects = make_objects(alloc, rules.plan)?;
@@ -49,16 +50,16 @@ impl<'a, 'p> BusState<'a, 'p> {
     pub(crate) fn make(
         &mut self,
         alloc: Global,
-        rules: &Rules<'a, 'p>,
+        rules: &Rules<'_, '_>,
         entry: &Entry,
     ) -> Result<Option<u8>, Memory>
         requires sound { AreSound rules.now }
-        requires along { IsAlong (plan_in rules.now) self.old }
+        requires along { IsAlong rules.now.tasks.now (plan_in rules.now) self.old }
         requires fits { fits (plan_in rules.now) entry.now ≡ true }
-        ensures { IfOk result (λ broken. (h : History) → IsLegal (plan_in rules.now) h → StateStands (plan_in rules.now) h self.old →
-            Makes (plan_in rules.now) h entry.now self.new broken) }
+        ensures { IfOk result (λ broken. (h : History) → IsLegal (plan_in rules.now) h → StateStands rules.now.tasks.now (plan_in rules.now) h self.old →
+            Makes rules.now.tasks.now (plan_in rules.now) h entry.now self.new broken) }
     {
-        if !self.walks.follows(rules.plan, entry) {
+        if !self.walks.follows(rules.plan, rules.tasks, entry) {
             return Ok(Some(6));
         }
         self.answer(alloc, rules, entry)
@@ -68,15 +69,15 @@ impl<'a, 'p> BusState<'a, 'p> {
     fn answer(
         &mut self,
         alloc: Global,
-        rules: &Rules<'a, 'p>,
+        rules: &Rules<'_, '_>,
         entry: &Entry,
     ) -> Result<Option<u8>, Memory>
         requires sound { AreSound rules.now }
-        requires asked { IsAsked (plan_in rules.now) self.old entry.now }
+        requires asked { IsAsked rules.now.tasks.now (plan_in rules.now) self.old entry.now }
         requires fits { fits (plan_in rules.now) entry.now ≡ true }
-        ensures { IfOk result (λ broken. (h : History) → IsLegal (plan_in rules.now) h → StateStands (plan_in rules.now) h self.old →
+        ensures { IfOk result (λ broken. (h : History) → IsLegal (plan_in rules.now) h → StateStands rules.now.tasks.now (plan_in rules.now) h self.old →
             follows_program (plan_in rules.now) h entry.now.actor entry.now.deed ≡ true →
-            Makes (plan_in rules.now) h entry.now self.new broken) }
+            Makes rules.now.tasks.now (plan_in rules.now) h entry.now self.new broken) }
     {
         let event = self.walks.event_for(rules.plan, entry);
         match make(
@@ -88,7 +89,7 @@ impl<'a, 'p> BusState<'a, 'p> {
         ) {
             Some(clause) => Ok(Some(clause)),
             None => {
-                self.walks.note(alloc, rules.programs, rules.plan, entry)?;
+                self.walks.note(alloc, rules.tasks, rules.plan, entry)?;
                 self.runners.note(entry);
                 Ok(None)
             }
@@ -96,17 +97,23 @@ impl<'a, 'p> BusState<'a, 'p> {
     }
 
     /// A guess at what the key does next, after the last deed of the trace, or where it starts by this event.
-    pub(crate) fn expected(&self, key: ActKey, last: &Deed, event: Option<u32>) -> Option<Deed> {
-        self.walks.expected(key, last, event)
+    pub(crate) fn expected(
+        &self,
+        t: &TaskSet,
+        key: ActKey,
+        last: &Deed,
+        event: Option<u32>,
+    ) -> Option<Deed> {
+        self.walks.expected(t, key, last, event)
     }
 
     /// Whether the word `idle` holds after the history for which the state stands: no activation runs, and the bus is at rest. If not, the
     /// state is of no use then.
-    pub(crate) fn is_idle(&mut self, rules: &Rules<'a, 'p>) -> bool
+    pub(crate) fn is_idle(&mut self, rules: &Rules<'_, '_>) -> bool
         requires sound { AreSound rules.now }
-        requires along { IsAlong (plan_in rules.now) self.old }
-        ensures { (h : History) → IsLegal (plan_in rules.now) h → StateStands (plan_in rules.now) h self.old →
-            Idles (plan_in rules.now) rules.now.mapping.now h self.new result }
+        requires along { IsAlong rules.now.tasks.now (plan_in rules.now) self.old }
+        ensures { (h : History) → IsLegal (plan_in rules.now) h → StateStands rules.now.tasks.now (plan_in rules.now) h self.old →
+            Idles rules.now.tasks.now (plan_in rules.now) rules.now.mapping.now h self.new result }
     {
         if !self.runners.none_runs() {
             return false;

@@ -8,13 +8,14 @@ ghost use Rattle.trace_check.specs.Along.{AreSound, plan_in};
 ghost use Rattle.trace_check.specs.Checking.{CanJudge, Judges, JudgesRead, ReadFits, Stands, most_made};
 
 use crate::bus_state::BusState;
+use crate::orders::Orders;
 use crate::rules::Rules;
 use crate::script::{takes_entry, takes_run};
 use bus_semantics::{Actor, Deed, Entry};
 use rte_text::Memory;
 use rte_value::ActKey;
-use script_orders::Orders;
 use std::alloc::Global;
+use task_machine::TaskSet;
 use trace_reading::LineRead;
 
 /// So many entries of a run line are counted.
@@ -33,8 +34,8 @@ pub(crate) enum Judged {
 
 /// What is kept along a trace.
 #[derive(Drop)]
-pub(crate) struct Check<'a, 'p> {
-    state: BusState<'a, 'p>,
+pub(crate) struct Check<'p> {
+    state: BusState,
     /// What the script has still to ask for.
     orders: Orders<'p>,
     /// Whether a run line is open.
@@ -53,9 +54,9 @@ fn counted(made: u32, actor: &Actor) -> u32
     }
 }
 
-impl<'a, 'p> Check<'a, 'p> {
+impl<'p> Check<'p> {
     /// The check before a trace. An error says that there was no memory.
-    pub(crate) fn new(alloc: Global, rules: &Rules<'a, 'p>) -> Result<Check<'a, 'p>, Memory>
+    pub(crate) fn new(alloc: Global, rules: &Rules<'_, 'p>) -> Result<Check<'p>, Memory>
         requires sound { AreSound rules.now }
         ensures { IfOk result (λ check. Stands rules.now [] check) }
     {
@@ -72,7 +73,7 @@ impl<'a, 'p> Check<'a, 'p> {
     fn judge_entry(
         &mut self,
         alloc: Global,
-        rules: &Rules<'a, 'p>,
+        rules: &Rules<'_, 'p>,
         entry: &Entry,
     ) -> Result<Judged, Memory>
         requires sound { AreSound rules.now }
@@ -93,7 +94,7 @@ impl<'a, 'p> Check<'a, 'p> {
     }
 
     /// Judges a run mark.
-    fn judge_run(&mut self, rules: &Rules<'a, 'p>) -> Judged
+    fn judge_run(&mut self, rules: &Rules<'_, 'p>) -> Judged
         ensures { (s : Session) → Stands rules.now s self.old → Judges rules.now s run_begins self.new result }
     {
         if !takes_run(&mut self.orders, self.inside) {
@@ -105,7 +106,7 @@ impl<'a, 'p> Check<'a, 'p> {
     }
 
     /// Judges the word `idle`.
-    fn judge_idle(&mut self, rules: &Rules<'a, 'p>) -> Judged
+    fn judge_idle(&mut self, rules: &Rules<'_, 'p>) -> Judged
         requires sound { AreSound rules.now }
         requires can { CanJudge rules.now self.old }
         ensures { (s : Session) → Stands rules.now s self.old → Judges rules.now s (run_closes idle) self.new result }
@@ -129,7 +130,7 @@ impl<'a, 'p> Check<'a, 'p> {
     }
 
     /// Judges the word `unsettled`.
-    fn judge_unsettled(&mut self, rules: &Rules<'a, 'p>) -> Judged
+    fn judge_unsettled(&mut self, rules: &Rules<'_, 'p>) -> Judged
         ensures { (s : Session) → Stands rules.now s self.old → Judges rules.now s (run_closes unsettled) self.new result }
     {
         if !self.is_unsettled() {
@@ -145,7 +146,7 @@ impl<'a, 'p> Check<'a, 'p> {
     pub(crate) fn judge(
         &mut self,
         alloc: Global,
-        rules: &Rules<'a, 'p>,
+        rules: &Rules<'_, 'p>,
         read: &LineRead,
     ) -> Result<Judged, Memory>
         requires sound { AreSound rules.now }
@@ -163,12 +164,18 @@ impl<'a, 'p> Check<'a, 'p> {
     }
 
     /// A guess at what the key does next, after the last deed of the trace, or where it starts by this event. Any line may come, whatever the guess.
-    pub(crate) fn expected(&self, key: ActKey, last: &Deed, event: Option<u32>) -> Option<Deed> {
-        self.state.expected(key, last, event)
+    pub(crate) fn expected(
+        &self,
+        t: &TaskSet,
+        key: ActKey,
+        last: &Deed,
+        event: Option<u32>,
+    ) -> Option<Deed> {
+        self.state.expected(t, key, last, event)
     }
 
     /// Whether the session for which the check stands is a whole one of the script: no run line is open, and nothing is left of the script.
-    pub(crate) fn is_whole(&self, rules: &Rules<'a, 'p>) -> bool
+    pub(crate) fn is_whole(&self, rules: &Rules<'_, 'p>) -> bool
         ensures { (s : Session) → Stands rules.now s self.now → IsTrue result ↔ IsSessionOf rules.now.script.now.lines s }
     {
         !self.inside && self.orders.is_over()

@@ -5,6 +5,7 @@ use bus_semantics::{Actor, BusPlan, Deed, Entry};
 use rte_text::Memory;
 use rte_value::ActKey;
 use std::alloc::Global;
+use task_machine::TaskSet;
 use trace_reading::LineRead;
 
 /// What was seen of a runnable.
@@ -78,10 +79,10 @@ impl<'t> Guesses<'t> {
     }
 
     /// The entry that the line is most likely that of. None where there is no good guess.
-    pub(crate) fn expected(&self, check: &Check<'_, '_>, line: &[u8]) -> Option<Entry> {
+    pub(crate) fn expected(&self, t: &TaskSet, check: &Check<'_>, line: &[u8]) -> Option<Entry> {
         let key = self.key_of(line)?;
         let event = self.habits.get(key.runnable as usize)?.event;
-        let deed = check.expected(key, &self.deed, event)?;
+        let deed = check.expected(t, key, &self.deed, event)?;
         Some(Entry {
             actor: Actor::Act(key),
             deed,

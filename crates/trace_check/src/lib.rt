@@ -5,6 +5,7 @@ mod bus_state;
 mod check;
 mod expecting;
 mod lines;
+mod orders;
 mod rules;
 mod script;
 mod trace;

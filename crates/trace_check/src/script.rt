@@ -5,8 +5,8 @@ ghost use Rattle.bus_semantics.specs.declared.script.Line.{Line};
 ghost use Rattle.bus_semantics.specs.Run.{Session, is_inside, made, run_begins};
 ghost use Rattle.trace_check.specs.Order.{Leaves, TakesItem};
 
+use crate::orders::Orders;
 use bus_semantics::{Actor, Entry, wish_of};
-use script_orders::Orders;
 
 /// Takes the order of an entry, and answers whether it may come next in the order of the script: the environment's calls are those of the
 /// script and stand outside run lines, all other entries stand inside. If not, what is left of the script is of no use.

@@ -16,13 +16,13 @@ use crate::rules::Rules;
 use bus_semantics::{BusPlan, Mapping, Script, Version};
 use check_definitions::Checked;
 use check_laws::traces_have_one_verdict;
-use program_steps::Programs;
 use rte_text::{LineBuf, Memory};
 use std::alloc::Global;
+use task_generator::generate;
 use trace_reading::{Reader, items_have_one_line, sound_plans_are_readable};
 
 /// What the end of a trace comes to, which is this line.
-fn end(rules: &Rules<'_, '_>, check: &Check<'_, '_>, line: u64) -> Checked
+fn end(rules: &Rules<'_, '_>, check: &Check<'_>, line: u64) -> Checked
     ensures { (v : Version) (trace : Letters) → Reaches v rules.now trace check.now [] line → VerdictOf rules.now trace result }
 {
     if check.is_whole(rules) {
@@ -33,9 +33,9 @@ fn end(rules: &Rules<'_, '_>, check: &Check<'_, '_>, line: u64) -> Checked
 }
 
 /// Checks the lines of a trace behind its header.
-fn check_lines<'a, 'p>(
+fn check_lines<'p>(
     alloc: Global,
-    rules: &Rules<'a, 'p>,
+    rules: &Rules<'_, 'p>,
     reader: &Reader<'p>,
     version: Version,
     text: &[u8],
@@ -52,7 +52,7 @@ fn check_lines<'a, 'p>(
     let mut out = LineBuf::new();
     'lines: while !left.is_empty() {
         let (first, more) = first_line(left);
-        let expected = guesses.expected(&check, first);
+        let expected = guesses.expected(rules.tasks, &check, first);
         let read = reader.read_expecting(version, first, expected.as_ref(), &mut out);
         match check.judge(alloc, rules, &read)? {
             Judged::Accepted => {
@@ -82,12 +82,12 @@ fn check_begun(
 {
     sound_plans_are_readable();
     let reader = Reader::new(alloc, p)?;
-    let programs = Programs::new(alloc, p, m)?;
+    let tasks = generate(alloc, p, m)?;
     let rules = Rules {
         plan: p,
         mapping: m,
         script,
-        programs: &programs,
+        tasks: &tasks,
     };
     check_lines(alloc, &rules, &reader, version, text)
 }

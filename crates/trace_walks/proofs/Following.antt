@@ -1,32 +1,37 @@
 -- What the walks answer is the actor rule, after the histories for which they stand.
 use Rattle.std.proofs.Common.{◌≡◌, ℕ, ◌<◌, Bool, true, false, ◌&&◌, not, if◌then◌else◌, refl, sym, ◌∙◌, ap, subst, arith, length, List, [], ◌∷◌, Option, Some, None}
 use Rattle.std.specs.Prelude.{nat_lt, unwrap_or, option_and_then}
-use Rattle.std.specs.List.{slice_get}
+use Rattle.std.specs.List.{slice_get, list_any}
 use Rattle.std.specs.Option.{option_or}
 use Rattle.std.proofs.lemmas.Bool.{and_parts, ltb-true, false≢true}
-use Rattle.std.proofs.lemmas.List.{append-nil}
 use Rattle.std.proofs.lemmas.Option.{slice_get_within, slice_get-get_or}
 use Rattle.rte_value.specs.declared.kinds.ActKey.{ActKey}
+use Rattle.rte_value.specs.declared.value.Value.{Value}
 use Rattle.rte_value.specs.Values.{words_of, same_number}
 use Rattle.bus_semantics.specs.declared.plan.PointPlan.{PointPlan}
 use Rattle.bus_semantics.specs.declared.entries.Actor.TheVariants.{Act}
 use Rattle.bus_semantics.specs.declared.entries.Deed.{Deed}
 use Rattle.bus_semantics.specs.declared.entries.Deed.TheVariants as deed
 use Rattle.bus_semantics.specs.declared.entries.Entry.{Entry}
-use Rattle.bus_semantics.specs.Plan.{Plan, caller_of, instance_of, runnable_of_event}
-use Rattle.bus_semantics.specs.Wanted.{wanted_by}
-use Rattle.bus_semantics.specs.History.{History, is_of, event_started, needs_event, note, runs, last_started}
+use Rattle.bus_semantics.specs.Plan.{Plan, Runnable, caller_of, instance_of, runnable_of_event}
+use Rattle.bus_semantics.specs.Wanted.{Wanted, wanted_by}
+use Rattle.bus_semantics.specs.Activations.{next_of_activity}
+use Rattle.bus_semantics.specs.History.{History, is_of, is_over, event_started, needs_event, note, runs, last_started}
 use Rattle.bus_semantics.specs.Objects.{served_by}
 use Rattle.bus_semantics.specs.Owners.{key_fits}
 use Rattle.bus_semantics.specs.Fitting.{activation_may_want, answer_fits, fits}
-use Rattle.bus_semantics.specs.Actor.{Activation, with_deed, activation_of, wanted_in, next_wish, asked_last, is_this, is_wanted_next, is_held_back, caller_has_asked, starts_or_goes_on, follows_program}
+use Rattle.bus_semantics.specs.Actor.{Activation, with_deed, activation_of, wanted_in, next_wish, asked_last, is_this, is_wanted_next, is_held_back, caller_has_asked, may_start, starts_or_goes_on, follows_program}
 use Rattle.bus_semantics.specs.Rest.{plain_key}
-use Rattle.program_steps.specs.Wants.{wants}
+use Rattle.activation_laws.specs.LookUps.{looked}
+use Rattle.history_laws.proofs.Lists.{there_is}
+use Rattle.task_machine.specs.declared.instr.TaskSet.{TaskSet}
+use Rattle.task_machine.specs.Frames.{Stands, asks}
+use Rattle.task_generator.specs.Promise.{AsksAsPlanned}
 use Rattle.trace_walks.specs.declared.walk.Running.{Running}
 use Rattle.trace_walks.specs.declared.walk.Walk.{Walk}
 use Rattle.trace_walks.specs.declared.walks.Walks.{Walks}
-use Rattle.trace_walks.specs.Walking.{entry_of, event_of, goes, is_wanted, RunningStands, WalkStands}
-use Rattle.trace_walks.specs.Standing.{WalksStand, asked_by, is_called, may_come, walk_of}
+use Rattle.trace_walks.specs.Walking.{entry_of, event_of, goes, IsRunning, RunningStands, WalkStands}
+use Rattle.trace_walks.specs.Standing.{WalksStand, asked_by, is_called, may_begin, walk_of}
 
 -- ---- the current activation has the event of the last start
 
@@ -45,29 +50,49 @@ last_event k (n ∷ h) a e = of_maker (is_of k n) refl e (λ b f. last_event k h
     of_maker true is f before = of_deed n.deed (activation_of k h) refl f before
     of_maker false is f before = before a f
 
+-- ---- what an activation asks is what the actor rule wants
+
+asks_ruled : (t : TaskSet) (p : Plan) (k : ActKey) (a : Activation) (point : Option ℕ) (value : Value) → AsksAsPlanned p t → key_fits p k ≡ true → list_any is_over a.deeds ≡ false → words_of value ≡ a.start
+    → asks t k (deed.Start a.event point value) a.deeds ≡ wanted_in p k a
+asks_ruled t p k a point value bodies fit goes words =
+    let within : k.runnable < length p.runnables = ltb-true k.runnable (length p.runnables) (and_parts (nat_lt k.runnable (length p.runnables)) _ fit).0 in
+    let r = there_is p.runnables k.runnable within in
+    bodies k r.0 a.event point value a.deeds r.1
+    ∙ ap (λ b. if b then None else next_of_activity p r.0 a.event (words_of value) a.deeds) goes
+    ∙ ap (λ ws. next_of_activity p r.0 a.event ws a.deeds) words
+    ∙ sym (looked p.runnables k.runnable r.0 (λ (x : Runnable). next_of_activity p x a.event a.start a.deeds) None r.1)
+
+-- what does not start goes on
+pub goes_as : (p : Plan) (h : History) (k : ActKey) (d : Deed) → ((event : ℕ) (point : Option ℕ) (value : Value) → d ≡ deed.Start event point value → ⊥) → {b : Bool} → b ≡ is_wanted_next p h k d → b ≡ starts_or_goes_on p h k d
+goes_as p h k (deed.Start event point value) other is = absurd (other event point value refl)
+goes_as p h k d other is = is
+
 -- ---- one key
 
-module _ (p : Plan) (k : ActKey) (h : History) (w : Walk) (stands : WalkStands p k h w) where
+module _ (t : TaskSet) (p : Plan) (k : ActKey) (h : History) (w : Walk) (stands : WalkStands t p k h w) where
   pub runs_is : goes w ≡ runs k h
   runs_is = by_running w.running refl stands.running
     where
-      by_running : (o : Option Running) → w.running ≡ o → RunningStands p k h o → goes w ≡ runs k h
+      by_running : (o : Option Running) → w.running ≡ o → RunningStands t k h o → goes w ≡ runs k h
       by_running None is none = rw is (sym none)
       by_running (Some r) is of = rw is (sym of.going)
 
-  wanted_is : (d : Deed) → is_wanted w d ≡ is_wanted_next p h k d
-  wanted_is d = by_running w.running refl stands.running
-    where
-      by_running : (o : Option Running) → w.running ≡ o → RunningStands p k h o → is_wanted w d ≡ is_wanted_next p h k d
-      by_running None is none = rw (is, none) refl
-      by_running (Some r) is of =
-          let a = of.activation in
-          let next : next_wish p h k ≡ wants r.steps [] =
-          rw (of.going, of.current) (sym (of.wants_are [] ∙ ap (λ (ds : List Deed). wanted_in p k (record { event = a.event; start = a.start; deeds = ds })) (append-nil a.deeds))) in
-          let event : unwrap_or (last_started k h) 0 ≡ r.event = ap (λ (o : Option ℕ). unwrap_or o 0) (last_event k h a of.current) ∙ sym of.event_is in
-          rw is (sym (λ i. is_this (wanted_by (event i) d) (next i)))
+  -- none runs, so none wants anything
+  pub wants_none : (d : Deed) → w.running ≡ None → false ≡ is_wanted_next p h k d
+  wants_none d is = let none : runs k h ≡ false = subst (RunningStands t k h) is stands.running in rw none refl
 
-module _ (p : Plan) (h : History) (ws : Walks) (stands : WalksStand p h ws) where
+  pub wants_this : (bodies : AsksAsPlanned p t) → key_fits p k ≡ true → (d : Deed) (r : Running) → w.running ≡ Some r
+      → (next : Option Wanted) → ((j : ActKey) (start : Deed) (answers : List Deed) → Stands t j start answers r.frame → next ≡ asks t j start answers)
+      → is_this (wanted_by r.event d) next ≡ is_wanted_next p h k d
+  wants_this bodies fit d r is next asked =
+      let of : IsRunning t k h r = subst (RunningStands t k h) is stands.running in
+      let a = of.activation in
+      let ruled : next_wish p h k ≡ wanted_in p k a = rw (of.going, of.current) refl in
+      let wish : next ≡ next_wish p h k = asked k (deed.Start a.event of.point of.value) a.deeds of.stands ∙ asks_ruled t p k a of.point of.value bodies fit of.goes_on of.words ∙ sym ruled in
+      let event : unwrap_or (last_started k h) 0 ≡ r.event = ap (λ (o : Option ℕ). unwrap_or o 0) (last_event k h a of.current) ∙ sym of.event_is in
+      λ i. is_this (wanted_by (sym event i) d) (wish i)
+
+module _ (t : TaskSet) (p : Plan) (h : History) (ws : Walks) (stands : WalksStand t p h ws) where
   asked_is : (r : ℕ) → asked_by ws r ≡ asked_last (plain_key r) h
   asked_is r = by_walk (slice_get ws.plain.items r) refl
     where
@@ -87,40 +112,36 @@ module _ (p : Plan) (h : History) (ws : Walks) (stands : WalksStand p h ws) wher
       by_point (Some q) at = by_caller q at (caller_of p q) refl
 
   -- the walk of a key that fits
-  pub walk_stands : (k : ActKey) (w : Walk) → key_fits p k ≡ true → walk_of ws k ≡ Some w → WalkStands p k h w
+  pub walk_stands : (k : ActKey) (w : Walk) → key_fits p k ≡ true → walk_of ws k ≡ Some w → WalkStands t p k h w
   walk_stands k w fit is = by_point k.point refl
     where
-      by_point : (o : Option ℕ) → k.point ≡ o → WalkStands p k h w
+      by_point : (o : Option ℕ) → k.point ≡ o → WalkStands t p k h w
       by_point None at =
           let same : plain_key k.runnable ≡ k = sym (λ i. record { runnable = k.runnable; point = at i }) in
-          subst (λ (j : ActKey). WalkStands p j h w) same (stands.plain k.runnable w (rw at at is))
+          subst (λ (j : ActKey). WalkStands t p j h w) same (stands.plain k.runnable w (rw at at is))
       by_point (Some q) at = stands.direct k q w at fit (rw at at is)
 
-  pub comes_is : (k : ActKey) (w : Walk) (d : Deed) → key_fits p k ≡ true → walk_of ws k ≡ Some w → may_come p ws k w d ≡ starts_or_goes_on p h k d
-  comes_is k w (deed.Start event point value) fit is =
-      let running = runs_is p k h w (walk_stands k w fit is) in
+  pub begins_is : (k : ActKey) (w : Walk) (event : ℕ) → key_fits p k ≡ true → walk_of ws k ≡ Some w → may_begin p ws k w event ≡ may_start p h k event
+  begins_is k w event fit is =
+      let running = runs_is t p k h w (walk_stands k w fit is) in
       λ i. (same_number (runnable_of_event p event) (Some k.runnable) && not (running i)) && called_is k i
-  comes_is k w d fit is = wanted_is p k h w (walk_stands k w fit is) d
 
   pub held_is : (k : ActKey) (w : Walk) → key_fits p k ≡ true → walk_of ws k ≡ Some w → w.held ≡ is_held_back p h k
   held_is k w fit is = let walk = walk_stands k w fit is in walk.held
 
   -- the actor rule, for an entry of a key
-  follows_is : (e : Entry) (k : ActKey) (w : Walk) → e.actor ≡ Act k → key_fits p k ≡ true → walk_of ws k ≡ Some w → follows_program p h e.actor e.deed ≡ (may_come p ws k w e.deed && not w.held)
-  follows_is e k w actor fit is =
-      let comes = comes_is k w e.deed fit is in
-      let held = held_is k w fit is in
-      ap (λ a. follows_program p h a e.deed) actor ∙ sym (λ i. comes i && not (held i))
+  follows_is : (e : Entry) (k : ActKey) (w : Walk) → e.actor ≡ Act k → key_fits p k ≡ true → walk_of ws k ≡ Some w → follows_program p h e.actor e.deed ≡ (starts_or_goes_on p h k e.deed && not w.held)
+  follows_is e k w actor fit is = let held = held_is k w fit is in ap (λ a. follows_program p h a e.deed) actor ∙ sym (λ i. starts_or_goes_on p h k e.deed && not (held i))
 
-  pub follows_free : (e : Entry) (k : ActKey) (w : Walk) → e.actor ≡ Act k → key_fits p k ≡ true → walk_of ws k ≡ Some w → not w.held ≡ true → may_come p ws k w e.deed ≡ follows_program p h e.actor e.deed
-  follows_free e k w actor fit is free = sym (follows_is e k w actor fit is ∙ ap (λ b. may_come p ws k w e.deed && b) free ∙ and_true (may_come p ws k w e.deed))
+  pub follows_free : (e : Entry) (k : ActKey) (w : Walk) → e.actor ≡ Act k → key_fits p k ≡ true → walk_of ws k ≡ Some w → not w.held ≡ true → starts_or_goes_on p h k e.deed ≡ follows_program p h e.actor e.deed
+  follows_free e k w actor fit is free = sym (follows_is e k w actor fit is ∙ ap (λ b. starts_or_goes_on p h k e.deed && b) free ∙ and_true (starts_or_goes_on p h k e.deed))
     where
       and_true : (b : Bool) → (b && true) ≡ b
       and_true true = refl
       and_true false = refl
 
   pub follows_held : (e : Entry) (k : ActKey) (w : Walk) → e.actor ≡ Act k → key_fits p k ≡ true → walk_of ws k ≡ Some w → not w.held ≡ false → false ≡ follows_program p h e.actor e.deed
-  follows_held e k w actor fit is held = sym (follows_is e k w actor fit is ∙ ap (λ b. may_come p ws k w e.deed && b) held ∙ and_false (may_come p ws k w e.deed))
+  follows_held e k w actor fit is held = sym (follows_is e k w actor fit is ∙ ap (λ b. starts_or_goes_on p h k e.deed && b) held ∙ and_false (starts_or_goes_on p h k e.deed))
     where
       and_false : (b : Bool) → (b && false) ≡ false
       and_false true = refl
@@ -165,13 +186,13 @@ key_of_entry p k e actor fit =
 
 -- ---- the event of a running activation
 
-pub event_is : (p : Plan) (h : History) (ws : Walks) (stands : WalksStand p h ws) (e : Entry) (k : ActKey) (w : Walk) → e.actor ≡ Act k → fits p e ≡ true → walk_of ws k ≡ Some w → needs_event e.deed ≡ true → runs k h ≡ true
+pub event_is : (t : TaskSet) (p : Plan) (h : History) (ws : Walks) (stands : WalksStand t p h ws) (e : Entry) (k : ActKey) (w : Walk) → e.actor ≡ Act k → fits p e ≡ true → walk_of ws k ≡ Some w → needs_event e.deed ≡ true → runs k h ≡ true
     → event_of w ≡ (note h e).event
-event_is p h ws stands e k w actor fit is needs running = by_running w.running refl walk.running
+event_is t p h ws stands e k w actor fit is needs running = by_running w.running refl walk.running
   where
-    walk : WalkStands p k h w
-    walk = walk_stands p h ws stands k w (key_of_entry p k e actor fit) is
+    walk : WalkStands t p k h w
+    walk = walk_stands t p h ws stands k w (key_of_entry p k e actor fit) is
 
-    by_running : (o : Option Running) → w.running ≡ o → RunningStands p k h o → event_of w ≡ (note h e).event
+    by_running : (o : Option Running) → w.running ≡ o → RunningStands t k h o → event_of w ≡ (note h e).event
     by_running None at none = absurd (false≢true (sym none ∙ running))
     by_running (Some r) at of = rw (at, needs, actor) (ap (λ n. Some n) of.event_is ∙ sym (last_event k h of.activation of.current))

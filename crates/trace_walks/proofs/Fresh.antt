@@ -4,6 +4,7 @@ use Rattle.std.proofs.lemmas.Bool.{false≢true}
 use Rattle.std.proofs.lemmas.Option.{same_Some}
 use Rattle.rte_value.specs.declared.kinds.ActKey.{ActKey}
 use Rattle.bus_semantics.specs.Plan.{Plan}
+use Rattle.task_machine.specs.declared.instr.TaskSet.{TaskSet}
 use Rattle.trace_walks.specs.declared.walk.Running.{Running}
 use Rattle.trace_walks.specs.declared.walk.Walk.{Walk}
 use Rattle.trace_walks.specs.Walking.{AreFresh, RunningStands, WalkStands}
@@ -12,16 +13,16 @@ pub record FreshSoFar (ws : List Walk) (counter : ℕ) : Type 0 where
   pub counted : length ws ≡ counter
   pub fresh : AreFresh ws
 
-pub one_more : (ws : List Walk) (w : Walk) → AreFresh ws → ((p : Plan) (k : ActKey) → WalkStands p k [] w) → AreFresh (ws ++ w ∷ [])
-one_more [] w all one zero x is = let same : w ≡ x = same_Some w x is in λ p k. subst (λ (y : Walk). WalkStands p k [] y) same (one p k)
+pub one_more : (ws : List Walk) (w : Walk) → AreFresh ws → ((t : TaskSet) (p : Plan) (k : ActKey) → WalkStands t p k [] w) → AreFresh (ws ++ w ∷ [])
+one_more [] w all one zero x is = let same : w ≡ x = same_Some w x is in λ t p k. subst (λ (y : Walk). WalkStands t p k [] y) same (one t p k)
 one_more [] w all one (suc i) x is = absurd (cc is)
 one_more (y ∷ ws) w all one zero x is = all zero x is
 one_more (y ∷ ws) w all one (suc i) x is = one_more ws w (λ j. all (suc j)) one i x is
 
 -- nothing runs where nothing has happened
-pub not_running : (p : Plan) (k : ActKey) (w : Walk) → WalkStands p k [] w → w.running ≡ None
-not_running p k w stands = by_running w.running refl stands.running
+pub not_running : (t : TaskSet) (p : Plan) (k : ActKey) (w : Walk) → WalkStands t p k [] w → w.running ≡ None
+not_running t p k w stands = by_running w.running refl stands.running
   where
-    by_running : (o : Option Running) → w.running ≡ o → RunningStands p k [] o → o ≡ None
+    by_running : (o : Option Running) → w.running ≡ o → RunningStands t k [] o → o ≡ None
     by_running None is none = refl
     by_running (Some r) is of = absurd (false≢true of.going)

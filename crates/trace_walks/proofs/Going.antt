@@ -1,7 +1,9 @@
 -- What a walk stands for after an entry.
 use Rattle.std.proofs.Common.{◌≡◌, ℕ, ℤ, Bool, true, false, not, if◌then◌else◌, refl, sym, ◌∙◌, ap, List, [], ◌∷◌, ◌++◌, Option, Some, None, is_some}
-use Rattle.std.specs.Prelude.{option_and_then}
-use Rattle.std.proofs.Common.{append_assoc}
+use Rattle.std.specs.Prelude.{option_and_then, ◌||◌}
+use Rattle.std.specs.List.{list_any}
+use Rattle.std.proofs.lemmas.Bool.{or_from}
+use Rattle.std.proofs.lemmas.List.Folds.{list_any-append}
 use Rattle.rte_value.specs.declared.kinds.ActKey.{ActKey}
 use Rattle.rte_value.specs.declared.value.Value.{Value}
 use Rattle.rte_value.specs.Values.{words_of, same_key}
@@ -11,9 +13,10 @@ use Rattle.bus_semantics.specs.declared.entries.Deed.TheVariants as deed
 use Rattle.bus_semantics.specs.declared.entries.Entry.{Entry}
 use Rattle.bus_semantics.specs.Plan.{Plan}
 use Rattle.bus_semantics.specs.History.{History, is_of, is_over, event_started, runs}
-use Rattle.bus_semantics.specs.Actor.{Activation, with_deed, wanted_in, direct_key, accepted_point, asked_last, is_held_back}
-use Rattle.program_steps.specs.declared.steps.Steps.{Steps}
-use Rattle.program_steps.specs.Wants.{wants}
+use Rattle.bus_semantics.specs.Actor.{Activation, with_deed, direct_key, accepted_point, asked_last, is_held_back}
+use Rattle.task_machine.specs.declared.instr.TaskSet.{TaskSet}
+use Rattle.task_machine.specs.Standing.{Standing}
+use Rattle.task_machine.specs.Frames.{Stands}
 use Rattle.trace_walks.specs.declared.walk.Running.{Running}
 use Rattle.trace_walks.specs.declared.walk.Walk.{Walk}
 use Rattle.trace_walks.specs.Walking.{entry_of, IsRunning, RunningStands, WalkStands}
@@ -26,7 +29,11 @@ grown : (d : Deed) (a : Activation) → event_started d ≡ None → with_deed d
 grown (deed.Start event point value) a other = absurd (cc other)
 grown d a other = refl
 
-module _ (p : Plan) (k : ActKey) (h : History) where
+-- nor does it end there
+goes_on_by : (ds : List Deed) (d : Deed) → list_any is_over ds ≡ false → is_over d ≡ false → list_any is_over (ds ++ d ∷ []) ≡ false
+goes_on_by ds d going last = list_any-append is_over ds (d ∷ []) ∙ or_from (list_any is_over ds) (is_over d || false) going (or_from (is_over d) false last refl)
+
+module _ (t : TaskSet) (p : Plan) (k : ActKey) (h : History) where
   runs_on : (d : Deed) → runs k (entry_of k d ∷ h) ≡ not (is_over d)
   runs_on d = rw (itself k) (by_over (is_over d))
     where
@@ -44,40 +51,48 @@ module _ (p : Plan) (k : ActKey) (h : History) where
       by_direct None is = rw (asked_now d, is) refl
       by_direct (Some j) is = rw (asked_now d, is, itself k) refl
 
-  pub begun : (event : ℕ) (point : Option ℕ) (value : Value) (words : List ℤ) → words ≡ words_of value → (steps : Steps)
-      → ((answers : List Deed) → wants steps answers ≡ wanted_in p k (record { event = event; start = words; deeds = answers }))
-      → WalkStands p k (entry_of k (deed.Start event point value) ∷ h) (record { running = Some (record { event = event; steps = steps }); asked = None; held = false })
-  begun event point value words same steps wants_are = record {
+  pub begun : (event : ℕ) (point : Option ℕ) (value : Value) (r : Running) → r.event ≡ event → Stands t k (deed.Start event point value) [] r.frame
+      → WalkStands t p k (entry_of k (deed.Start event point value) ∷ h) (record { running = Some r; asked = None; held = false })
+  begun event point value r is stands = record {
     running = record {
       going = runs_on (deed.Start event point value);
       activation = record { event = event; start = words_of value; deeds = [] };
       current = rw (itself k) refl;
-      event_is = refl;
-      wants_are = λ more. wants_are more ∙ ap (λ (ws : List ℤ). wanted_in p k (record { event = event; start = ws; deeds = more })) same;
+      goes_on = refl;
+      event_is = is;
+      point = point;
+      value = value;
+      words = refl;
+      stands = stands;
     };
     asked = sym (asked_now (deed.Start event point value));
     held = sym (held_now (deed.Start event point value));
   }
 
   module _ (d : Deed) (asked : Option ℕ) (held : Bool) (asks : asked ≡ accepted_point d) (holds : held ≡ is_some (option_and_then (direct_key p) (accepted_point d))) where
-    pub heard_last : is_over d ≡ true → WalkStands p k (entry_of k d ∷ h) (record { running = None; asked = asked; held = held })
+    pub heard_last : is_over d ≡ true → WalkStands t p k (entry_of k d ∷ h) (record { running = None; asked = asked; held = held })
     heard_last over = record {
       running = runs_on d ∙ ap not over;
       asked = asks ∙ sym (asked_now d);
       held = holds ∙ sym (held_now d);
     }
 
-    pub heard_more : is_over d ≡ false → event_started d ≡ None → (event : ℕ) (before after : Steps) → ((answers : List Deed) → wants after answers ≡ wants before (d ∷ answers))
-        → IsRunning p k h (record { event = event; steps = before }) → WalkStands p k (entry_of k d ∷ h) (record { running = Some (record { event = event; steps = after }); asked = asked; held = held })
-    heard_more over other event before after fed r =
+    pub heard_more : is_over d ≡ false → event_started d ≡ None → (before after : Running) → after.event ≡ before.event
+        → ((j : ActKey) (start : Deed) (answers : List Deed) → Stands t j start answers before.frame → Stands t j start (answers ++ d ∷ []) after.frame)
+        → IsRunning t k h before → WalkStands t p k (entry_of k d ∷ h) (record { running = Some after; asked = asked; held = held })
+    heard_more over other before after same fed r =
         let a = r.activation in
         record {
           running = record {
             going = runs_on d ∙ ap not over;
             activation = record { event = a.event; start = a.start; deeds = a.deeds ++ d ∷ [] };
             current = rw (itself k) (ap (with_deed d) r.current ∙ grown d a other);
-            event_is = r.event_is;
-            wants_are = λ more. fed more ∙ r.wants_are (d ∷ more) ∙ ap (λ (ds : List Deed). wanted_in p k (record { event = a.event; start = a.start; deeds = ds })) (sym (append_assoc a.deeds (d ∷ []) more));
+            goes_on = goes_on_by a.deeds d r.goes_on over;
+            event_is = same ∙ r.event_is;
+            point = r.point;
+            value = r.value;
+            words = r.words;
+            stands = fed k (deed.Start a.event r.point r.value) a.deeds r.stands;
           };
           asked = asks ∙ sym (asked_now d);
           held = holds ∙ sym (held_now d);
@@ -92,17 +107,21 @@ module _ (p : Plan) (k : ActKey) (h : History) where
     asked_still : asked_last k (e ∷ h) ≡ asked_last k h
     asked_still = rw other refl
 
-    running_still : (o : Option Running) → RunningStands p k h o → RunningStands p k (e ∷ h) o
+    running_still : (o : Option Running) → RunningStands t k h o → RunningStands t k (e ∷ h) o
     running_still None stands = runs_still ∙ stands
     running_still (Some r) stands = record {
       going = runs_still ∙ stands.going;
       activation = stands.activation;
       current = rw other stands.current;
+      goes_on = stands.goes_on;
       event_is = stands.event_is;
-      wants_are = stands.wants_are;
+      point = stands.point;
+      value = stands.value;
+      words = stands.words;
+      stands = stands.stands;
     }
 
-    pub passed : (w : Walk) (held : Bool) → held ≡ is_held_back p (e ∷ h) k → WalkStands p k h w → WalkStands p k (e ∷ h) (record { running = w.running; asked = w.asked; held = held })
+    pub passed : (w : Walk) (held : Bool) → held ≡ is_held_back p (e ∷ h) k → WalkStands t p k h w → WalkStands t p k (e ∷ h) (record { running = w.running; asked = w.asked; held = held })
     passed w held holds stands = record {
       running = running_still w.running stands.running;
       asked = stands.asked ∙ sym asked_still;

@@ -7,6 +7,7 @@ use Rattle.bus_semantics.specs.Plan.{Plan}
 use Rattle.bus_semantics.specs.History.{History, is_of, is_end}
 use Rattle.bus_semantics.specs.Actor.{direct_key, asked_last}
 use Rattle.bus_semantics.specs.Rest.{plain_key}
+use Rattle.task_machine.specs.declared.instr.TaskSet.{TaskSet}
 use Rattle.trace_walks.specs.declared.walk.Walk.{Walk}
 use Rattle.trace_walks.specs.declared.walks.Walks.{Walks}
 use Rattle.trace_walks.specs.Walking.{WalkStands}
@@ -14,14 +15,14 @@ use Rattle.trace_walks.specs.Standing.{WalksStand}
 use Rattle.trace_walks.proofs.Going.{passed}
 use Rattle.trace_walks.proofs.Freeing.{held_still}
 
-module _ (p : Plan) (h : History) (e : Entry) where
+module _ (t : TaskSet) (p : Plan) (h : History) (e : Entry) where
   -- another's entry, which is not the end of the direct activation that the key called
   pub still : (k : ActKey) (w : Walk) → is_of k e ≡ false → ((j : ActKey) → option_and_then (direct_key p) (asked_last k h) ≡ Some j → (is_of j e && is_end e.deed) ≡ false)
-      → WalkStands p k h w → WalkStands p k (e ∷ h) w
-  still k w other none stands = passed p k h e other w w.held (stands.held ∙ sym (held_still p h k e other none)) stands
+      → WalkStands t p k h w → WalkStands t p k (e ∷ h) w
+  still k w other none stands = passed t p k h e other w w.held (stands.held ∙ sym (held_still p h k e other none)) stands
 
   -- an entry of the environment, or of a machine
-  pub nobody : ((k : ActKey) → is_of k e ≡ false) → (ws : Walks) → WalksStand p h ws → WalksStand p (e ∷ h) ws
+  pub nobody : ((k : ActKey) → is_of k e ≡ false) → (ws : Walks) → WalksStand t p h ws → WalksStand t p (e ∷ h) ws
   nobody others ws stands = record {
     runnables = stands.runnables;
     points = stands.points;

@@ -10,35 +10,36 @@ use Rattle.bus_semantics.specs.History.{History}
 use Rattle.bus_semantics.specs.Owners.{key_fits}
 use Rattle.bus_semantics.specs.Actor.{asked_last, direct_key, starts_or_goes_on}
 use Rattle.bus_semantics.specs.Rest.{plain_key}
+use Rattle.task_machine.specs.declared.instr.TaskSet.{TaskSet}
 use Rattle.trace_walks.specs.declared.walk.Walk.{Walk}
 use Rattle.trace_walks.specs.declared.walks.Walks.{Walks}
-use Rattle.trace_walks.specs.Walking.{WalkStands, entry_of, is_wanted, goes}
+use Rattle.trace_walks.specs.Walking.{WalkStands, entry_of, goes}
 
 -- ---- what they stand for
 
 -- one for each runnable, and one for each point: at most one key with that point fits, and none where the point has no direct server
-pub record WalksStand (p : Plan) (h : History) (ws : Walks) : Type 0 where
+pub record WalksStand (t : TaskSet) (p : Plan) (h : History) (ws : Walks) : Type 0 where
   pub runnables : length ws.plain.items ≡ length p.runnables
   pub points : length ws.direct.items ≡ length p.points
-  pub plain : (r : ℕ) (w : Walk) → slice_get ws.plain.items r ≡ Some w → WalkStands p (plain_key r) h w
-  pub direct : (k : ActKey) (q : ℕ) (w : Walk) → k.point ≡ Some q → key_fits p k ≡ true → slice_get ws.direct.items q ≡ Some w → WalkStands p k h w
+  pub plain : (r : ℕ) (w : Walk) → slice_get ws.plain.items r ≡ Some w → WalkStands t p (plain_key r) h w
+  pub direct : (k : ActKey) (q : ℕ) (w : Walk) → k.point ≡ Some q → key_fits p k ≡ true → slice_get ws.direct.items q ≡ Some w → WalkStands t p k h w
   pub idle : (q : ℕ) (w : Walk) → direct_key p q ≡ None → slice_get ws.direct.items q ≡ Some w → w.running ≡ None
   pub outside : (r : ℕ) → slice_get ws.plain.items r ≡ None → asked_last (plain_key r) h ≡ None
 
 -- the walk at this place goes on by the deed, and the others stay
-pub record NotedAt (p : Plan) (k : ActKey) (d : Deed) (at : ℕ) (old new : List Walk) : Type 0 where
+pub record NotedAt (t : TaskSet) (p : Plan) (k : ActKey) (d : Deed) (at : ℕ) (old new : List Walk) : Type 0 where
   pub whole : length new ≡ length old
   pub here : (h : History) → starts_or_goes_on p h k d ≡ true → (before after : Walk) → slice_get old at ≡ Some before → slice_get new at ≡ Some after
-      → WalkStands p k h before → WalkStands p k (entry_of k d ∷ h) after
+      → WalkStands t p k h before → WalkStands t p k (entry_of k d ∷ h) after
   pub others : (i : ℕ) → (i ≡ at → ⊥) → slice_get new i ≡ slice_get old i
 
 -- the walk of the key goes on by the deed, and the others stay
-abbrev pub KeyNoted : Plan → ActKey → Deed → (old new : Walks) → Type 0
-KeyNoted p k d old new = by_point k.point
+abbrev pub KeyNoted : TaskSet → Plan → ActKey → Deed → (old new : Walks) → Type 0
+KeyNoted t p k d old new = by_point k.point
   where
     by_point : Option ℕ → Type 0
-    by_point None = NotedAt p k d k.runnable old.plain.items new.plain.items × (new.direct.items ≡ old.direct.items)
-    by_point (Some q) = NotedAt p k d q old.direct.items new.direct.items × (new.plain.items ≡ old.plain.items)
+    by_point None = NotedAt t p k d k.runnable old.plain.items new.plain.items × (new.direct.items ≡ old.direct.items)
+    by_point (Some q) = NotedAt t p k d q old.direct.items new.direct.items × (new.plain.items ≡ old.plain.items)
 
 -- the walk at this place waits no more, and the others stay
 pub record FreedAt (at : ℕ) (old new : List Walk) : Type 0 where
@@ -65,9 +66,9 @@ Freed p k deed.End old new = at_point k.point
 Freed p k d old new = new ≡ old
 
 -- an entry of the key: its walk goes on, then who waited for it is freed
-pub record IsNoted (p : Plan) (k : ActKey) (d : Deed) (old new : Walks) : Type 0 where
+pub record IsNoted (t : TaskSet) (p : Plan) (k : ActKey) (d : Deed) (old new : Walks) : Type 0 where
   pub between : Walks
-  pub gone : KeyNoted p k d old between
+  pub gone : KeyNoted t p k d old between
   pub freed : Freed p k d between new
 
 -- ---- what they answer
@@ -96,7 +97,6 @@ is_called p ws k = at_point k.point
     at_point None = true
     at_point (Some q) = by_caller q (caller_of p q)
 
--- whether a key may start by this event, or goes on with this deed
-abbrev pub may_come : Plan → Walks → ActKey → Walk → Deed → Bool
-may_come p ws k w (deed.Start event point value) = (same_number (runnable_of_event p event) (Some k.runnable) && not (goes w)) && is_called p ws k
-may_come p ws k w d = is_wanted w d
+-- whether a key may start by this event
+abbrev pub may_begin : Plan → Walks → ActKey → Walk → (event : ℕ) → Bool
+may_begin p ws k w event = (same_number (runnable_of_event p event) (Some k.runnable) && not (goes w)) && is_called p ws k

@@ -1,15 +1,19 @@
 -- What is kept of a key's activations along a trace, and what it stands for in a history (SWS_RTE: runnable activation; Rte_Call of a server
 -- without a queue). Histories stand the newest first, the deeds of an activation the oldest first.
-use Rattle.std.specs.Prelude.{◌≡◌, ℕ, List, [], ◌++◌, Bool, true, false, Option, Some, None, is_some, option_map, slice_get}
+use Rattle.std.specs.Prelude.{◌≡◌, ℕ, List, [], Bool, true, false, Option, Some, None, is_some, option_map, slice_get}
+use Rattle.std.specs.List.{list_any}
 use Rattle.rte_value.specs.declared.kinds.ActKey.{ActKey}
+use Rattle.rte_value.specs.declared.value.Value.{Value}
+use Rattle.rte_value.specs.Values.{words_of}
 use Rattle.bus_semantics.specs.declared.entries.Actor.TheVariants.{Act}
 use Rattle.bus_semantics.specs.declared.entries.Deed.{Deed}
+use Rattle.bus_semantics.specs.declared.entries.Deed.TheVariants.{Start}
 use Rattle.bus_semantics.specs.declared.entries.Entry.{Entry}
 use Rattle.bus_semantics.specs.Plan.{Plan}
-use Rattle.bus_semantics.specs.Wanted.{wanted_by}
-use Rattle.bus_semantics.specs.History.{History, runs}
-use Rattle.bus_semantics.specs.Actor.{Activation, activation_of, wanted_in, asked_last, is_held_back, is_this}
-use Rattle.program_steps.specs.Wants.{wants}
+use Rattle.bus_semantics.specs.History.{History, runs, is_over}
+use Rattle.bus_semantics.specs.Actor.{Activation, activation_of, asked_last, is_held_back}
+use Rattle.task_machine.specs.declared.instr.TaskSet.{TaskSet}
+use Rattle.task_machine.specs.Frames.{Stands}
 use Rattle.trace_walks.specs.declared.walk.Running.{Running}
 use Rattle.trace_walks.specs.declared.walk.Walk.{Walk}
 
@@ -19,38 +23,33 @@ entry_of k d = record { actor = Act k; deed = d }
 
 -- ---- what it stands for
 
--- an activation that runs: its event, and what it wants next after further answers
-pub record IsRunning (p : Plan) (k : ActKey) (h : History) (r : Running) : Type 0 where
+-- an activation that runs: the event of its Start, and a frame that stands for its Start and its answers so far, none of which is its last
+pub record IsRunning (t : TaskSet) (k : ActKey) (h : History) (r : Running) : Type 0 where
   pub going : runs k h ≡ true
   pub activation : Activation
   pub current : activation_of k h ≡ Some activation
+  pub goes_on : list_any is_over activation.deeds ≡ false
   pub event_is : r.event ≡ activation.event
-  pub wants_are : (more : List Deed) → wants r.steps more
-      ≡ wanted_in p k (record { event = activation.event; start = activation.start; deeds = activation.deeds ++ more })
+  pub point : Option ℕ
+  pub value : Value
+  pub words : words_of value ≡ activation.start
+  pub stands : Stands t k (Start activation.event point value) activation.deeds r.frame
 
-abbrev pub RunningStands : Plan → ActKey → History → Option Running → Type 0
-RunningStands p k h None = runs k h ≡ false
-RunningStands p k h (Some r) = IsRunning p k h r
+abbrev pub RunningStands : TaskSet → ActKey → History → Option Running → Type 0
+RunningStands t k h None = runs k h ≡ false
+RunningStands t k h (Some r) = IsRunning t k h r
 
 -- the point is that of the key's last entry, if that is an accepted ask
-pub record WalkStands (p : Plan) (k : ActKey) (h : History) (w : Walk) : Type 0 where
-  pub running : RunningStands p k h w.running
+pub record WalkStands (t : TaskSet) (p : Plan) (k : ActKey) (h : History) (w : Walk) : Type 0 where
+  pub running : RunningStands t k h w.running
   pub asked : w.asked ≡ asked_last k h
   pub held : w.held ≡ is_held_back p h k
 
 -- nothing has happened
 abbrev pub AreFresh : List Walk → Type 0
-AreFresh ws = (i : ℕ) (w : Walk) → slice_get ws i ≡ Some w → (p : Plan) (k : ActKey) → WalkStands p k [] w
+AreFresh ws = (i : ℕ) (w : Walk) → slice_get ws i ≡ Some w → (t : TaskSet) (p : Plan) (k : ActKey) → WalkStands t p k [] w
 
 -- ---- what it answers
-
--- whether the running activation wants this next
-abbrev pub is_wanted : Walk → Deed → Bool
-is_wanted w d = by_running w.running
-  where
-    by_running : Option Running → Bool
-    by_running None = false
-    by_running (Some r) = is_this (wanted_by r.event d) (wants r.steps [])
 
 -- whether an activation runs
 abbrev pub goes : Walk → Bool

@@ -3,6 +3,7 @@
 use crate::walks::Walks;
 use bus_semantics::{Deed, Wish};
 use rte_value::{ActKey, Code, Value};
+use task_machine::TaskSet;
 
 /// The deed, if it is about this element, point or port.
 fn if_same(deed: &Deed, one: u32, other: u32) -> Option<Deed> {
@@ -86,12 +87,18 @@ fn likely(wish: &Wish, last: &Deed) -> Option<Deed> {
     }
 }
 
-impl<'a, 'p> Walks<'a, 'p> {
+impl Walks {
     /// A guess at what the key does next, after the last deed of the trace: where an activation runs, what it wants, with the answer that is
     /// most likely; else it starts by this event, if there is one. None where there is no good guess. Any deed may come, whatever
     /// the guess.
-    pub fn expected(&self, key: ActKey, last: &Deed, event: Option<u32>) -> Option<Deed> {
-        match self.walk(key)?.next_call() {
+    pub fn expected(
+        &self,
+        t: &TaskSet,
+        key: ActKey,
+        last: &Deed,
+        event: Option<u32>,
+    ) -> Option<Deed> {
+        match self.walk(key)?.next_call(t) {
             Some(wish) => likely(&wish, last),
             None => Some(Deed::Start {
                 event: event?,

@@ -2,15 +2,17 @@
 
 ghost use Rattle.std.specs.Prelude.{◌≡◌, is_some, option_and_then};
 ghost use Rattle.bus_semantics.specs.History.{is_over};
-ghost use Rattle.bus_semantics.specs.Actor.{accepted_point, direct_key};
+ghost use Rattle.bus_semantics.specs.Actor.{accepted_point, direct_key, is_this};
 ghost use Rattle.bus_semantics.specs.Plan.{plan_of};
+ghost use Rattle.bus_semantics.specs.Wanted.{wanted_by};
+ghost use Rattle.task_machine.specs.Frames.{wanted_in};
 
 use crate::Memory;
 use bus_semantics::{BusPlan, Deed, Entry, Wish};
-use program_steps::{Programs, Steps};
-use rte_value::{ActKey, Value};
+use rte_value::ActKey;
 use same_entries::is_wish_of;
 use std::alloc::Global;
+use task_machine::{Frame, Next, TaskSet};
 
 /// Whether an activation is over with this deed: its End, or an admission that was refused.
 pub(crate) fn is_over(deed: &Deed) -> bool
@@ -56,37 +58,49 @@ fn holds_back(p: &BusPlan, deed: &Deed) -> bool
     }
 }
 
-/// An activation that runs: the event that started it, and its steps.
+/// Whether an entry is what an activation does next, which this event started.
+fn is_next(entry: &Entry, event: u32, next: &Next) -> bool
+    ensures { result ≡ is_this (wanted_by event entry.now.deed) (wanted_in next.now) }
+{
+    match next {
+        Next::Call(wish) => is_wish_of(entry, Some(event), wish),
+        Next::Over => false,
+    }
+}
+
+/// An activation that runs: the event that started it, and where it stands in its body.
 #[derive(Drop)]
-struct Running<'a, 'p> {
+struct Running {
     event: u32,
-    steps: Steps<'a, 'p>,
+    frame: Frame,
 }
 
 /// What is kept of the activations of a key along a trace: the one that runs, the point of its last entry if that is an accepted ask,
 /// and whether the direct activation that it called has not ended since.
 #[derive(Drop)]
-pub struct Walk<'a, 'p> {
-    running: Option<Running<'a, 'p>>,
+pub struct Walk {
+    running: Option<Running>,
     asked: Option<u32>,
     held: bool,
 }
 
-impl<'a, 'p> Walk<'a, 'p> {
+impl Walk {
     ghost use Rattle.std.specs.Prelude.{◌≡◌, [], ◌∷◌, ℕ, true, false, None, Option, OnOk, IfOk, is_some, length};
     ghost use Rattle.rte_value.specs.declared.kinds.ActKey.{ActKey};
+    ghost use Rattle.rte_value.specs.declared.value.Value.{Value};
     ghost use Rattle.bus_semantics.specs.declared.entries.Deed.TheVariants.{Start};
     ghost use Rattle.bus_semantics.specs.declared.entries.Entry.{Entry};
     ghost use Rattle.bus_semantics.specs.History.{History, event_started, is_of, runs};
-    ghost use Rattle.bus_semantics.specs.Actor.{is_held_back, starts_or_goes_on};
+    ghost use Rattle.bus_semantics.specs.Actor.{is_held_back, is_wanted_next, starts_or_goes_on};
+    ghost use Rattle.bus_semantics.specs.Owners.{key_fits};
     ghost use Rattle.bus_semantics.specs.Plan.{Plan, plan_of};
-    ghost use Rattle.bus_semantics.specs.Wanted.{wanted_by};
-    ghost use Rattle.program_steps.specs.Wants.{planned};
-    ghost use Rattle.trace_walks.specs.Walking.{AreFresh, WalkStands, entry_of, event_of, is_wanted};
+    ghost use Rattle.task_machine.specs.declared.instr.TaskSet.{TaskSet};
+    ghost use Rattle.task_generator.specs.Promise.{AsksAsPlanned};
+    ghost use Rattle.trace_walks.specs.Walking.{AreFresh, WalkStands, entry_of, event_of};
 
     /// A key to which nothing has happened.
-    pub fn new() -> Walk<'a, 'p>
-        ensures { (p : Plan) (k : ActKey) → WalkStands p k [] result }
+    pub fn new() -> Walk
+        ensures { (t : TaskSet) (p : Plan) (k : ActKey) → WalkStands t p k [] result }
     {
         Walk {
             running: None,
@@ -96,13 +110,13 @@ impl<'a, 'p> Walk<'a, 'p> {
     }
 
     /// So many keys to which nothing has happened. An error says that there was no memory.
-    pub(crate) fn fresh(alloc: Global, count: usize) -> Result<Vec<Walk<'a, 'p>>, Memory>
+    pub(crate) fn fresh(alloc: Global, count: usize) -> Result<Vec<Walk>, Memory>
         ensures whole { IfOk result (λ walks. length walks.items ≡ count) }
         ensures fresh { IfOk result (λ walks. AreFresh walks.items) }
     {
-        let mut walks: Vec<Walk<'a, 'p>> = Vec::new(alloc);
+        let mut walks: Vec<Walk> = Vec::new(alloc);
         for _ in 0..count {
-            let walk: Walk<'a, 'p> = Walk::new();
+            let walk: Walk = Walk::new();
             walks.push(walk)?;
         }
         Ok(walks)
@@ -126,58 +140,58 @@ impl<'a, 'p> Walk<'a, 'p> {
     }
 
     /// The call that the running activation makes next. It is used for a guess alone.
-    pub(crate) fn next_call(&self) -> Option<Wish> {
+    pub(crate) fn next_call(&self, t: &TaskSet) -> Option<Wish> {
         match &self.running {
-            Some(running) => running.steps.next_call(),
+            Some(running) => match running.frame.next_call(t) {
+                Next::Call(wish) => Some(wish),
+                Next::Over => None,
+            },
             None => None,
         }
     }
 
-    /// Whether the running activation wants this next.
-    pub fn wants(&self, entry: &Entry) -> bool
-        ensures { result ≡ is_wanted self.now entry.now.deed }
+    /// Whether the running activation wants this next, by the body of its runnable.
+    pub fn wants(&self, t: &TaskSet, entry: &Entry) -> bool
+        ensures { (p : Plan) (k : ActKey) (h : History) → AsksAsPlanned p t.now → key_fits p k ≡ true → WalkStands t.now p k h self.now →
+            result ≡ is_wanted_next p h k entry.now.deed }
     {
         match &self.running {
-            Some(running) => match running.steps.next_call() {
-                Some(next) => is_wish_of(entry, Some(running.event), &next),
-                None => false,
-            },
+            Some(running) => is_next(entry, running.event, &running.frame.next_call(t)),
             None => false,
         }
     }
 
-    /// An activation begins with its start, by this event and with these values. An error says that there was no memory.
+    /// An activation begins with this Start, by this event. An error says that there was no memory.
     pub fn begin(
         &mut self,
         alloc: Global,
-        programs: &'a Programs<'p>,
+        t: &TaskSet,
         key: ActKey,
         event: u32,
-        value: &Value,
+        start: &Deed,
     ) -> Result<(), Memory>
-        ensures { OnOk result ((h : History) (point : Option ℕ) →
-            WalkStands (planned programs.now) key (entry_of key (Start event point value.now) ∷ h) self.new) }
+        ensures { OnOk result ((p : Plan) (h : History) (point : Option ℕ) (value : Value) → start.now ≡ Start event point value →
+            WalkStands t.now p key (entry_of key start.now ∷ h) self.new) }
     {
-        let steps = programs.begin(alloc, key, event, value.words())?;
-        self.running = Some(Running { event, steps });
+        let frame = Frame::for_activation(alloc, t, key, start)?;
+        self.running = Some(Running { event, frame });
         self.asked = None;
         self.held = false;
         Ok(())
     }
 
-    /// The running activation hears what the bus answers to its wish. An error says that there was no memory.
-    pub fn hear(&mut self, p: &BusPlan, deed: &Deed) -> Result<(), Memory>
-        ensures { OnOk result ((k : ActKey) (h : History) → event_started deed.now ≡ None → runs k h ≡ true →
-            WalkStands (plan_of p.now) k h self.old → WalkStands (plan_of p.now) k (entry_of k deed.now ∷ h) self.new) }
+    /// The running activation hears what the bus answers to its wish.
+    pub fn hear(&mut self, p: &BusPlan, t: &TaskSet, deed: &Deed)
+        ensures { (k : ActKey) (h : History) → event_started deed.now ≡ None → runs k h ≡ true →
+            WalkStands t.now (plan_of p.now) k h self.old → WalkStands t.now (plan_of p.now) k (entry_of k deed.now ∷ h) self.new }
     {
         if is_over(deed) {
             self.running = None;
         } else if let Some(running) = &mut self.running {
-            running.steps.feed(deed)?;
+            running.frame.feed(t, deed);
         }
         self.asked = accepted_point(deed);
         self.held = holds_back(p, deed);
-        Ok(())
     }
 
     /// The key's entry: an activation begins, or the running one hears what the bus answers to its wish. An error says that there was no
@@ -185,29 +199,31 @@ impl<'a, 'p> Walk<'a, 'p> {
     pub fn note(
         &mut self,
         alloc: Global,
-        programs: &'a Programs<'p>,
+        t: &TaskSet,
         p: &BusPlan,
         key: ActKey,
         deed: &Deed,
     ) -> Result<(), Memory>
-        requires planned { planned programs.now ≡ plan_of p.now }
         ensures { OnOk result ((h : History) → starts_or_goes_on (plan_of p.now) h key deed.now ≡ true →
-            WalkStands (plan_of p.now) key h self.old → WalkStands (plan_of p.now) key (entry_of key deed.now ∷ h) self.new) }
+            WalkStands t.now (plan_of p.now) key h self.old → WalkStands t.now (plan_of p.now) key (entry_of key deed.now ∷ h) self.new) }
     {
         match deed {
-            Deed::Start { event, value, .. } => {
-                self.begin(alloc, programs, key, *event, value)?;
+            Deed::Start { event, .. } => {
+                self.begin(alloc, t, key, *event, deed)?;
                 Ok(())
             }
-            _ => self.hear(p, deed),
+            _ => {
+                self.hear(p, t, deed);
+                Ok(())
+            }
         }
     }
 
     /// The direct activation that the key called has ended.
     pub fn release(&mut self)
         ensures released { self.new ≡ record { running = self.old.running; asked = self.old.asked; held = false } }
-        ensures stands { (p : Plan) (k : ActKey) (h : History) (e : Entry) → is_of k e ≡ false → is_held_back p (e ∷ h) k ≡ false →
-            WalkStands p k h self.old → WalkStands p k (e ∷ h) self.new }
+        ensures stands { (t : TaskSet) (p : Plan) (k : ActKey) (h : History) (e : Entry) → is_of k e ≡ false → is_held_back p (e ∷ h) k ≡ false →
+            WalkStands t p k h self.old → WalkStands t p k (e ∷ h) self.new }
     {
         self.held = false;
     }

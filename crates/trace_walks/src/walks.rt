@@ -3,22 +3,21 @@
 ghost use Rattle.std.specs.Prelude.{◌≡◌, OnOk};
 ghost use Rattle.bus_semantics.specs.Plan.{plan_of};
 ghost use Rattle.bus_semantics.specs.History.{needs_event};
-ghost use Rattle.program_steps.specs.Wants.{planned};
 ghost use Rattle.trace_walks.specs.Standing.{FreedAt, NotedAt};
 
 use crate::Memory;
 use crate::walk::Walk;
 use bus_semantics::{Actor, BusPlan, Deed, Entry};
-use program_steps::Programs;
 use rte_value::ActKey;
 use std::alloc::Global;
+use task_machine::TaskSet;
 
 /// What is kept of all activations along a trace: a walk for each runnable, and one for each point, for the activation of a server without
 /// a queue that serves it.
 #[derive(Drop)]
-pub struct Walks<'a, 'p> {
-    plain: Vec<Walk<'a, 'p>>,
-    direct: Vec<Walk<'a, 'p>>,
+pub struct Walks {
+    plain: Vec<Walk>,
+    direct: Vec<Walk>,
 }
 
 /// Whether an entry with this deed needs the event that started its activation: an admission or an end.
@@ -29,21 +28,20 @@ fn needs_event(deed: &Deed) -> bool
 }
 
 /// The walk at this place goes on by the deed of its key. An error says that there was no memory.
-fn note_at<'a, 'p>(
-    walks: &mut Vec<Walk<'a, 'p>>,
+fn note_at(
+    walks: &mut Vec<Walk>,
     at: u32,
     alloc: Global,
-    programs: &'a Programs<'p>,
+    t: &TaskSet,
     p: &BusPlan,
     key: ActKey,
     deed: &Deed,
 ) -> Result<(), Memory>
-    requires planned { planned programs.now ≡ plan_of p.now }
-    ensures { OnOk result (NotedAt (plan_of p.now) key deed.now at walks.old.items walks.new.items) }
+    ensures { OnOk result (NotedAt t.now (plan_of p.now) key deed.now at walks.old.items walks.new.items) }
 {
     match walks.get_mut(at as usize) {
         Some(walk) => {
-            walk.note(alloc, programs, p, key, deed)?;
+            walk.note(alloc, t, p, key, deed)?;
             Ok(())
         }
         None => Ok(()),
@@ -51,7 +49,7 @@ fn note_at<'a, 'p>(
 }
 
 /// The walk at this place waits no more.
-fn free_at<'a, 'p>(walks: &mut Vec<Walk<'a, 'p>>, at: u32)
+fn free_at(walks: &mut Vec<Walk>, at: u32)
     ensures { FreedAt at walks.old.items walks.new.items }
 {
     if let Some(walk) = walks.get_mut(at as usize) {
@@ -59,25 +57,25 @@ fn free_at<'a, 'p>(walks: &mut Vec<Walk<'a, 'p>>, at: u32)
     }
 }
 
-impl<'a, 'p> Walks<'a, 'p> {
-    ghost use Rattle.std.specs.Prelude.{◌≡◌, [], ◌∷◌, ℕ, true, Option, IfOk, OnOk, option_map};
-    ghost use Rattle.rte_value.specs.declared.value.Value.{Value};
-    ghost use Rattle.bus_semantics.specs.declared.entries.Deed.TheVariants.{Start};
+impl Walks {
+    ghost use Rattle.std.specs.Prelude.{◌≡◌, [], ◌∷◌, Some, true, IfOk, OnOk, option_map};
     ghost use Rattle.bus_semantics.specs.Fitting.{fits};
     ghost use Rattle.bus_semantics.specs.History.{History, needs_event, note, runs};
     ghost use Rattle.rte_value.specs.declared.kinds.ActKey.{ActKey};
     ghost use Rattle.bus_semantics.specs.declared.entries.Actor.TheVariants.{Act};
-    ghost use Rattle.bus_semantics.specs.Actor.{follows_program};
+    ghost use Rattle.bus_semantics.specs.Actor.{follows_program, starts_or_goes_on};
+    ghost use Rattle.bus_semantics.specs.Owners.{key_fits};
     ghost use Rattle.bus_semantics.specs.Plan.{plan_of};
     ghost use Rattle.bus_semantics.specs.Legal.{IsLegal};
     ghost use Rattle.bus_semantics.specs.Sound.{IsSound};
     ghost use Rattle.bus_semantics.specs.declared.script.Mapping.{Mapping};
-    ghost use Rattle.program_steps.specs.Wants.{planned};
-    ghost use Rattle.trace_walks.specs.Standing.{CallerFreed, Freed, KeyNoted, WalksStand, asked_by, is_called, may_come, walk_of};
+    ghost use Rattle.task_machine.specs.declared.instr.TaskSet.{TaskSet};
+    ghost use Rattle.task_generator.specs.Promise.{AsksAsPlanned};
+    ghost use Rattle.trace_walks.specs.Standing.{CallerFreed, Freed, KeyNoted, WalksStand, asked_by, is_called, may_begin, walk_of};
 
     /// Those before a trace. An error says that there was no memory.
-    pub fn new(alloc: Global, p: &BusPlan) -> Result<Walks<'a, 'p>, Memory>
-        ensures { IfOk result (λ walks. WalksStand (plan_of p.now) [] walks) }
+    pub fn new(alloc: Global, p: &BusPlan) -> Result<Walks, Memory>
+        ensures { IfOk result (λ walks. (t : TaskSet) → WalksStand t (plan_of p.now) [] walks) }
     {
         let plain = Walk::fresh(alloc, p.runnables.items().len())?;
         let direct = Walk::fresh(alloc, p.points.items().len())?;
@@ -85,7 +83,7 @@ impl<'a, 'p> Walks<'a, 'p> {
     }
 
     /// The walk of a key.
-    pub(crate) fn walk(&self, key: ActKey) -> Option<&Walk<'a, 'p>>
+    pub(crate) fn walk(&self, key: ActKey) -> Option<&Walk>
         ensures { option_map (λ walk. walk.now) result ≡ walk_of self.now key }
     {
         match key.point {
@@ -124,8 +122,8 @@ impl<'a, 'p> Walks<'a, 'p> {
     }
 
     /// Whether a key may start by this event.
-    fn may_start(&self, p: &BusPlan, key: ActKey, walk: &Walk<'a, 'p>, event: u32) -> bool
-        ensures { (point : Option ℕ) (value : Value) → result ≡ may_come (plan_of p.now) self.now key walk.now (Start event point value) }
+    fn may_start(&self, p: &BusPlan, key: ActKey, walk: &Walk, event: u32) -> bool
+        ensures { result ≡ may_begin (plan_of p.now) self.now key walk.now event }
     {
         match p.events.items().get(event as usize) {
             Some(event) => {
@@ -136,12 +134,13 @@ impl<'a, 'p> Walks<'a, 'p> {
     }
 
     /// Whether a key may start by this event, or goes on with this deed.
-    fn may_come(&self, p: &BusPlan, key: ActKey, walk: &Walk<'a, 'p>, entry: &Entry) -> bool
-        ensures { result ≡ may_come (plan_of p.now) self.now key walk.now entry.now.deed }
+    fn may_come(&self, p: &BusPlan, t: &TaskSet, key: ActKey, walk: &Walk, entry: &Entry) -> bool
+        ensures { (h : History) → AsksAsPlanned (plan_of p.now) t.now → WalksStand t.now (plan_of p.now) h self.now → key_fits (plan_of p.now) key ≡ true →
+            walk_of self.now key ≡ Some walk.now → result ≡ starts_or_goes_on (plan_of p.now) h key entry.now.deed }
     {
         match entry.deed {
             Deed::Start { event, .. } => self.may_start(p, key, walk, event),
-            _ => walk.wants(entry),
+            _ => walk.wants(t, entry),
         }
     }
 
@@ -149,17 +148,16 @@ impl<'a, 'p> Walks<'a, 'p> {
     fn go_on(
         &mut self,
         alloc: Global,
-        programs: &'a Programs<'p>,
+        t: &TaskSet,
         p: &BusPlan,
         key: ActKey,
         deed: &Deed,
     ) -> Result<(), Memory>
-        requires planned { planned programs.now ≡ plan_of p.now }
-        ensures { OnOk result (KeyNoted (plan_of p.now) key deed.now self.old self.new) }
+        ensures { OnOk result (KeyNoted t.now (plan_of p.now) key deed.now self.old self.new) }
     {
         match key.point {
-            None => note_at(&mut self.plain, key.runnable, alloc, programs, p, key, deed)?,
-            Some(point) => note_at(&mut self.direct, point, alloc, programs, p, key, deed)?,
+            None => note_at(&mut self.plain, key.runnable, alloc, t, p, key, deed)?,
+            Some(point) => note_at(&mut self.direct, point, alloc, t, p, key, deed)?,
         }
         Ok(())
     }
@@ -177,14 +175,15 @@ impl<'a, 'p> Walks<'a, 'p> {
 
     /// Whether the entry is what the program of its actor asks for after the entries for which the walks stand (SWS_RTE: runnable
     /// activation): an activation starts where none of its key runs, and then does what its program says; a caller of a server without a
-    /// queue goes on after its end. The entry fits.
-    pub fn follows(&self, p: &BusPlan, entry: &Entry) -> bool
+    /// queue goes on after its end. The entry fits, and the bodies are the plan's.
+    pub fn follows(&self, p: &BusPlan, t: &TaskSet, entry: &Entry) -> bool
         requires fits { fits (plan_of p.now) entry.now ≡ true }
-        ensures { (h : History) → WalksStand (plan_of p.now) h self.now → result ≡ follows_program (plan_of p.now) h entry.now.actor entry.now.deed }
+        requires bodies { AsksAsPlanned (plan_of p.now) t.now }
+        ensures { (h : History) → WalksStand t.now (plan_of p.now) h self.now → result ≡ follows_program (plan_of p.now) h entry.now.actor entry.now.deed }
     {
         match entry.actor {
             Actor::Act(key) => match self.walk(key) {
-                Some(walk) => !walk.is_held() && self.may_come(p, key, walk, entry),
+                Some(walk) => !walk.is_held() && self.may_come(p, t, key, walk, entry),
                 None => false,
             },
             _ => true,
@@ -205,17 +204,16 @@ impl<'a, 'p> Walks<'a, 'p> {
     pub fn note(
         &mut self,
         alloc: Global,
-        programs: &'a Programs<'p>,
+        t: &TaskSet,
         p: &BusPlan,
         entry: &Entry,
     ) -> Result<(), Memory>
-        requires planned { planned programs.now ≡ plan_of p.now }
         ensures { OnOk result ((m : Mapping) (h : History) → IsSound (plan_of p.now) m → IsLegal (plan_of p.now) (entry.now ∷ h) →
-            WalksStand (plan_of p.now) h self.old → WalksStand (plan_of p.now) (entry.now ∷ h) self.new) }
+            WalksStand t.now (plan_of p.now) h self.old → WalksStand t.now (plan_of p.now) (entry.now ∷ h) self.new) }
     {
         match entry.actor {
             Actor::Act(key) => {
-                self.go_on(alloc, programs, p, key, &entry.deed)?;
+                self.go_on(alloc, t, p, key, &entry.deed)?;
                 self.free(p, key, &entry.deed);
                 Ok(())
             }
@@ -227,7 +225,7 @@ impl<'a, 'p> Walks<'a, 'p> {
     /// has one.
     pub fn event_for(&self, p: &BusPlan, entry: &Entry) -> Option<u32>
         requires fits { fits (plan_of p.now) entry.now ≡ true }
-        ensures { (h : History) → WalksStand (plan_of p.now) h self.now →
+        ensures { (t : TaskSet) (h : History) → WalksStand t (plan_of p.now) h self.now →
             (needs_event entry.now.deed ≡ true → (k : ActKey) → entry.now.actor ≡ Act k → runs k h ≡ true) → result ≡ (note h entry.now).event }
     {
         if !needs_event(&entry.deed) {

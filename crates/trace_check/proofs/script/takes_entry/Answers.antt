@@ -2,7 +2,7 @@ use Rattle.std.proofs.Common.{◌≡◌, true, false, sym, ap, ◌∙◌, subst,
 use Rattle.bus_semantics.specs.History.{is_environment}
 use Rattle.bus_semantics.specs.Run.{a_call}
 use Rattle.bus_semantics.specs.Wanted.{Wanted}
-use Rattle.script_orders.specs.Orders.{Takes}
+use Rattle.trace_check.specs.Orders.{Takes}
 use Rattle.trace_check.proofs.Taking.{call_judged}
 use Rattle.trace_check.proofs.script.takes_entry.Goals as goal
 

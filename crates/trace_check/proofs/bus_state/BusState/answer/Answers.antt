@@ -12,7 +12,7 @@ make-requires-clause-tried c =
       mapping = r.mapping.now;
       history = a.history;
       tried = tried (plan_in r) r.mapping.now a.history e c.event_for-event.result c.requires.sound.sound a.legal c.requires.fits a.program
-          (c.event_for-event.ensures a.history a.stands.walks (λ needs k who. runs_then (plan_in r) a.history e a.program needs k who));
+          (c.event_for-event.ensures r.tasks.now a.history a.stands.walks (λ needs k who. runs_then (plan_in r) a.history e a.program needs k who));
       stand = a.stands.objects;
     }
 
@@ -35,15 +35,15 @@ pub returns-in-Some : goal.returns-in-Some
 returns-in-Some c = λ h legal stands program.
     let r = c.args.rules.now in
     let e = c.args.entry.now in
-    let by = c.event_for-event.ensures h stands.walks (λ needs k who. runs_then (plan_in r) h e program needs k who) in
+    let by = c.event_for-event.ensures r.tasks.now h stands.walks (λ needs k who. runs_then (plan_in r) h e program needs k who) in
     let asked = tried (plan_in r) r.mapping.now h e c.event_for-event.result c.requires.sound.sound legal c.requires.fits program by in
-    made_some (plan_in r) h e _ c.in-Some.clause (c.in-Some.ensures.broken r.mapping.now h asked stands.objects)
+    made_some r.tasks.now (plan_in r) h e _ c.in-Some.clause (c.in-Some.ensures.broken r.mapping.now h asked stands.objects)
 
 pub returns-in_ok-note-in-None : goal.returns-in_ok-note-in-None
 returns-in_ok-note-in-None c = λ h legal stands program.
     let r = c.args.rules.now in
     let e = c.args.entry.now in
-    let by = c.event_for-event.ensures h stands.walks (λ needs k who. runs_then (plan_in r) h e program needs k who) in
+    let by = c.event_for-event.ensures r.tasks.now h stands.walks (λ needs k who. runs_then (plan_in r) h e program needs k who) in
     let asked = tried (plan_in r) r.mapping.now h e c.event_for-event.result c.requires.sound.sound legal c.requires.fits program by in
     let unbroken = c.in-None.ensures.broken r.mapping.now h asked stands.objects in
     let later = legal_then (plan_in r) h e legal c.requires.fits (sym unbroken) in

@@ -16,5 +16,5 @@ returns c = λ h legal stands.
     let r = c.args.rules.now in
     let none : c.none_runs.result ≡ true = search rules in
     let quiet : none_runs (plan_in r) h ≡ true = sym (c.none_runs.ensures.none (plan_in r) r.mapping.now h c.requires.sound.sound stands.runners) ∙ none in
-    idle_then (plan_in r) r.mapping.now h c.args.self.now _ quiet stands c.may_rest.ensures.planned refl c.none_runs.ensures.same c.may_rest.result c.may_rest.ensures.same c.may_rest.ensures.among
+    idle_then r.tasks.now (plan_in r) r.mapping.now h c.args.self.now _ quiet stands c.may_rest.ensures.planned refl c.none_runs.ensures.same c.may_rest.result c.may_rest.ensures.same c.may_rest.ensures.among
     (c.may_rest.ensures.rest r.mapping.now h c.requires.sound.sound legal quiet stands.objects)

@@ -21,7 +21,7 @@ returns-in-Some c = λ s stands.
     let next : c.takes_entry.result ≡ true = search rules in
     let leaves = subst (TakesItem r.script.now.lines s (made e) c.takes_entry.new.orders) next (c.takes_entry.ensures r.script.now.lines s stands.leaves stands.inside) in
     let makes = c.in_ok-clause.ensures (history_of s) (legal_history (plan_in r) r.mapping.now s stands.legal) stands.state in
-    entry_refused r s c.args.self.now stands e c.takes_entry.new.orders c.make.new.self c.in-Some.clause leaves (subst (Makes (plan_in r) (history_of s) e c.make.new.self) c.in-Some.is makes)
+    entry_refused r s c.args.self.now stands e c.takes_entry.new.orders c.make.new.self c.in-Some.clause leaves (subst (Makes r.tasks.now (plan_in r) (history_of s) e c.make.new.self) c.in-Some.is makes)
 
 pub returns-in-None : goal.returns-in-None
 returns-in-None c = λ s stands.
@@ -31,4 +31,4 @@ returns-in-None c = λ s stands.
     let leaves = subst (TakesItem r.script.now.lines s (made e) c.takes_entry.new.orders) next (c.takes_entry.ensures r.script.now.lines s stands.leaves stands.inside) in
     let makes = c.in_ok-clause.ensures (history_of s) (legal_history (plan_in r) r.mapping.now s stands.legal) stands.state in
     let fit = (and_parts (fits (plan_in r) e) _ c.requires.fits).0 in
-    entry_made r s c.args.self.now stands e _ fit leaves (subst (Makes (plan_in r) (history_of s) e c.make.new.self) c.in-None.is makes) refl (c.counted-self.ensures (made_in_line s) stands.made)
+    entry_made r s c.args.self.now stands e _ fit leaves (subst (Makes r.tasks.now (plan_in r) (history_of s) e c.make.new.self) c.in-None.is makes) refl (c.counted-self.ensures (made_in_line s) stands.made)

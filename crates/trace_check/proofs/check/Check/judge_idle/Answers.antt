@@ -18,7 +18,7 @@ returns-then-not-is_idle c = λ s stands.
     let r = c.args.rules.now in
     let told : c.is_idle.result ≡ false = search rules in
     let idles = c.is_idle.ensures (history_of s) (legal_history (plan_in r) r.mapping.now s stands.legal) stands.state in
-    holds_not r s c.args.self.now stands idle (subst (Idles (plan_in r) r.mapping.now (history_of s) c.is_idle.new.self) told idles)
+    holds_not r s c.args.self.now stands idle (subst (Idles r.tasks.now (plan_in r) r.mapping.now (history_of s) c.is_idle.new.self) told idles)
 
 pub returns : goal.returns
 returns c = λ s stands.
@@ -26,5 +26,5 @@ returns c = λ s stands.
     let told : c.is_idle.result ≡ true = search rules in
     let within : c.args.self.now.inside ≡ true = search rules in
     let idles = c.is_idle.ensures (history_of s) (legal_history (plan_in r) r.mapping.now s stands.legal) stands.state in
-    let both = subst (Idles (plan_in r) r.mapping.now (history_of s) c.is_idle.new.self) told idles in
+    let both = subst (Idles r.tasks.now (plan_in r) r.mapping.now (history_of s) c.is_idle.new.self) told idles in
     closed r s c.args.self.now stands idle _ both.0 both.1 within refl refl refl

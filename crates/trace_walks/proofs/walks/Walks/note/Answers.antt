@@ -10,8 +10,8 @@ returns-in_ok-go_on-in-Act c = λ m h sound legal stands.
     let k = c.in-Act.key in
     let old = c.args.self.now in
     let new = c.free.new.self in
-    let of : IsNoted p k e.deed old new = record { between = c.go_on.new.self; gone = c.in_ok-go_on-in-Act.ensures; freed = c.free.ensures } in
-    noted_stands p m h e k old new c.in-Act.is sound legal stands of
+    let of : IsNoted c.args.t.now p k e.deed old new = record { between = c.go_on.new.self; gone = c.in_ok-go_on-in-Act.ensures; freed = c.free.ensures } in
+    noted_stands c.args.t.now p m h e k old new c.in-Act.is sound legal stands of
 
 pub returns-in_default : goal.returns-in_default
-returns-in_default c = λ m h sound legal stands. others_stand (plan_of c.args.p.now) h c.args.entry.now c.args.self.now c.in_default.not-Act stands
+returns-in_default c = λ m h sound legal stands. others_stand c.args.t.now (plan_of c.args.p.now) h c.args.entry.now c.args.self.now c.in_default.not-Act stands

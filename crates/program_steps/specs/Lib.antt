@@ -1,9 +1,0 @@
-pub mod Found
-pub mod Served
-pub mod Few
-pub mod Planned
-pub mod Store
-pub mod Parts
-pub mod Groups
-pub mod Weights
-pub mod Wants
