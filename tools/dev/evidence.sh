@@ -115,6 +115,10 @@ a turn gives its entries in another order|core_runtime|run_round|stamps|the stam
 a turn keeps no entry|core_runtime|run_round|lawful|the objects stand for a history that has each entry
 the serial pass begins at the second core|core_runtime|serial_pass|rest|a pass without an entry is rest of all cores
 a write, a return or a leave wakes nobody|core_runtime|serial_pass|rest|what sleeps may not start
+the serial pass takes its cores from the last on, or one of them twice|core_runtime|serial_pass|order|each core takes one turn, in the order of their numbers
+a line at rest is closed with `unsettled`|script_run|put_lap|closes|after a pass without an entry the word is `idle`
+a line goes on after 100,000 entries|script_run|put_lap|rises|a line that goes on has made fewer
+a turn in a lane never looks|core_lanes|turn_by_guide|looked|without an entry each look at what is awake said so
 a core counts no entry that it made|core_lanes|turn_once|taken|without an entry the core and its bench are as they were
 a round has room for 1,025 entries of a core|core_lanes|run_together|its one clause|each core makes at most 1,024
 an object is acted on whose lock another core has|cross_core_table|act_at|knows|an entry comes only of a try that took the object
@@ -141,10 +145,10 @@ covered() {
     done < <(covered_bodies)
 }
 
-# ---- what was refused once, as the page has it: the tool that says it is run by hand
+# ---- what was refused once and what was counted, as the page has it: the tools that say it are run by hand
 
 refused() {
-    awk '/^## / { held = /^## What was refused once$/ } held' "$top/docs/EVIDENCE.md"
+    awk '/^## / { held = /^## What was (refused once|counted)$/ } held' "$top/docs/EVIDENCE.md"
 }
 
 rows=$(table)

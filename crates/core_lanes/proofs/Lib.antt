@@ -1,3 +1,5 @@
+pub mod Guides
+pub mod Leaving
 pub mod Lists
 pub mod MergedTurns
 pub mod Merging

@@ -21,6 +21,7 @@ use Rattle.core_lanes.specs.declared.together.Places.{Places}
 use Rattle.core_lanes.specs.declared.together.Together.{Together}
 use Rattle.core_lanes.specs.declared.together.Together.TheVariants.{Ran, Memory}
 use Rattle.core_lanes.specs.Rooms.{HaveRoom}
+use Rattle.core_lanes.specs.Guiding.{AreGuides}
 
 abbrev pub AllReady : Plan → Mapping → TaskSet → List CoreState → Type 0
 AllReady p m t cores = (i : ℕ) (c : CoreState) → slice_get cores i ≡ Some c → IsReady p m t c
@@ -43,13 +44,14 @@ RunTogether p t old (Memory same) = (same.cores.items ≡ old.cores.items) × (s
 
 -- ---- how they are run
 
--- room for so many cores
-pub record HasPlaces (count : ℕ) (x : Places) : Type 0 where
-  pub lanes : (x.lanes.items ≡ []) × (count ≤ vec_capacity x.lanes)
-  pub cores : (x.cores.items ≡ []) × (count ≤ vec_capacity x.cores)
-  pub seats : (x.seats.items ≡ []) × (count ≤ vec_capacity x.seats)
+-- room for these cores, and what guides each
+pub record HasPlaces (of : List CoreState) (x : Places) : Type 0 where
+  pub guides : AreGuides of x.guides.items
+  pub lanes : (x.lanes.items ≡ []) × (length of ≤ vec_capacity x.lanes)
+  pub cores : (x.cores.items ≡ []) × (length of ≤ vec_capacity x.cores)
+  pub seats : (x.seats.items ≡ []) × (length of ≤ vec_capacity x.seats)
 
 -- a round over these objects is open, each core has its seat, and no core has made a turn
 pub record HasBegun (p : Plan) (objects : List Object) (b : Begun) : Type 0 where
   pub opened : IsOpened p objects (length b.cores.items) 1024 b.round b.seats.items
-  pub places : HasPlaces (length b.cores.items) b.places
+  pub places : HasPlaces b.cores.items b.places

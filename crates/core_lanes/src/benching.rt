@@ -2,30 +2,35 @@
 
 ghost use Rattle.std.specs.Prelude.{◌≡◌, ◌≤◌, ◌<◌, ◌++◌, [], length, map};
 ghost use Rattle.std.specs.Vec.{vec_capacity};
+ghost use Rattle.core_lanes.specs.Guiding.{AreGuides};
 ghost use Rattle.core_lanes.specs.Lanes.{lanes_of, core_in, with_seat, seats_in};
 
-use crate::guided::Guided;
+use crate::guided::{Guide, Guided};
 use crate::lanes::Lane;
 use core_turn::Core;
 use cross_core_table::CoreSeat;
-use std::alloc::Global;
 
-/// A lane for each core, with the seat at the core's place. Where there is no memory for what guides a core, nothing guides it.
+/// A lane for each core, with its guide and the seat at the core's place.
 pub(crate) fn seat_all(
-    alloc: Global,
     cores: Vec<Core>,
+    guides: Vec<Guide>,
     seats: Vec<CoreSeat>,
     lanes: Vec<Lane>,
 ) -> Vec<Lane>
+    requires guides { AreGuides cores.items guides.items }
     requires empty { lanes.items ≡ [] }
     requires space { length cores.items ≤ vec_capacity lanes }
     ensures { result.items ≡ lanes_of cores.items seats.items }
 {
     let mut lanes = lanes;
+    let mut guides = guides.into_iter();
     let mut seats = seats.into_iter();
     for core in cores {
+        let Some(guide) = guides.next() else {
+            unreachable!()
+        };
+        let core = Guided::of(core, guide);
         let seat = seats.next();
-        let core = Guided::of(alloc, core);
         lanes.push_reserved(Lane { core, seat });
     }
     lanes

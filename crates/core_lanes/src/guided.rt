@@ -1,14 +1,17 @@
 //! Cores that look first where an entry may have started something.
 
-ghost use Rattle.std.specs.Prelude.{◌≡◌, ◌<◌, IfOk, length};
+ghost use Rattle.std.specs.Prelude.{◌≡◌, ◌<◌, false, IfOk, length};
 ghost use Rattle.bus_semantics.specs.declared.script.Mapping.{Mapping};
 ghost use Rattle.bus_semantics.specs.Plan.{plan_of};
 ghost use Rattle.task_generator.specs.Promise.{AsksAsPlanned};
+ghost use Rattle.core_turn.specs.Awake.{looks_of_awake};
+ghost use Rattle.core_turn.specs.Cores.{looks_in};
 ghost use Rattle.core_turn.specs.Ready.{IsReady};
 ghost use Rattle.cross_core_table.specs.Logs.{plan_in};
 ghost use Rattle.core_lanes.specs.Rooms.{HasRoom};
 ghost use Rattle.core_lanes.specs.Benching.{IsTaken};
-ghost use Rattle.core_lanes.specs.Guiding.{IsGuide};
+ghost use Rattle.core_lanes.specs.Guiding.{IsGuide, AreGuides};
+ghost use Rattle.core_lanes.specs.Leaving.{IsEmptyTurn, looks_due};
 
 use crate::guesses::Guesses;
 use crate::turns::turn_once;
@@ -32,15 +35,14 @@ pub(crate) struct Guide {
     pub idle: bool,
 }
 
-/// A core and what guides it. Without memory nothing does, and each of its turns looks at all.
+/// A core and what guides it.
 #[derive(Drop)]
 pub(crate) struct Guided {
     core: Core,
-    guide: Option<Guide>,
+    guide: Guide,
 }
 
 impl Model for Guided {
-    ghost use Rattle.std.specs.Prelude.{IfSome};
     ghost use Rattle.core_turn.specs.Cores.{CoreState};
     ghost use Rattle.core_lanes.specs.Guiding.{IsGuide};
 
@@ -48,7 +50,7 @@ impl Model for Guided {
 
     ghost view = { λ g. g.core };
 
-    ghost invariant = { λ g. IfSome g.guide (IsGuide g.core) };
+    ghost invariant = { λ g. IsGuide g.core g.guide };
 }
 
 /// A guide by which all of a core is awake.
@@ -62,6 +64,17 @@ fn guide_of(alloc: Global, core: &Core) -> Result<Guide, AllocError>
         made,
         idle: false,
     })
+}
+
+/// A guide for each of these cores, by which all of it is awake. The only error is that there is no memory.
+pub(crate) fn guides_of(alloc: Global, cores: &[Core]) -> Result<Vec<Guide>, AllocError>
+    ensures { IfOk result (λ guides. AreGuides cores.now guides.items) }
+{
+    let mut guides = Vec::new(alloc);
+    for core in cores {
+        guides.push(guide_of(alloc, core)?)?;
+    }
+    Ok(guides)
 }
 
 /// A core hears of what others did, and wakes what that may start. An idle core waits for it a while, if others are not idle.
@@ -95,7 +108,8 @@ fn note(guide: &mut Guide, guesses: &Guesses, made: bool)
     guide.idle = !made;
 }
 
-/// A turn of a core over what is awake of it. The answer is whether it made an entry.
+/// A turn of a core over what is awake of it. The answer is whether it made an entry. It made none if each look at what is awake said that
+/// nothing may come, or if another core held the object.
 fn turn_by_guide(
     p: &BusPlan,
     t: &TaskSet,
@@ -116,6 +130,7 @@ fn turn_by_guide(
     ensures ready { (m : Mapping) → IsReady (plan_of p.now) m t.now core.old → IsReady (plan_of p.now) m t.now core.new }
     ensures room { HasRoom core.new }
     ensures taken { IsTaken (plan_of p.now) t.now core.old core.new bench.old.view.made bench.new.view.made result }
+    ensures looked { result ≡ false → IsEmptyTurn (looks_of_awake (plan_of p.now) core.old.slots guide.old.awake) bench.old.view bench.new.view }
     ensures guide { IsGuide core.new guide.new }
 {
     last_entries_are_last();
@@ -151,6 +166,7 @@ fn turn_past_guide(
     ensures ready { (m : Mapping) → IsReady (plan_of p.now) m t.now core.old → IsReady (plan_of p.now) m t.now core.new }
     ensures room { HasRoom core.new }
     ensures taken { IsTaken (plan_of p.now) t.now core.old core.new bench.old.view.made bench.new.view.made result }
+    ensures looked { result ≡ false → IsEmptyTurn (looks_in (plan_of p.now) core.old.slots) bench.old.view bench.new.view }
     ensures guide { IsGuide core.new guide.new }
 {
     let made = turn_once(p, t, core, bench);
@@ -161,11 +177,11 @@ fn turn_past_guide(
 }
 
 impl Guided {
-    /// A core of which all is awake.
-    pub(crate) fn of(alloc: Global, core: Core) -> Guided
+    /// A core and a guide that was made for it.
+    pub(crate) fn of(core: Core, guide: Guide) -> Guided
+        requires { IsGuide core guide }
         ensures { result ≡ core }
     {
-        let guide = guide_of(alloc, &core).ok();
         Guided { core, guide }
     }
 
@@ -179,9 +195,8 @@ impl Guided {
     /// The core leaves the round: others count on no entry of it.
     pub(crate) fn retire(&self, guesses: &Guesses, number: u32) {
         guesses.news.leave(number);
-        match &self.guide {
-            Some(guide) if guide.idle => {}
-            _ => guesses.news.rest(),
+        if !self.guide.idle {
+            guesses.news.rest();
         }
     }
 
@@ -207,17 +222,50 @@ impl Guided {
         ensures ready { (m : Mapping) → IsReady (plan_of p.now) m t.now self.old → IsReady (plan_of p.now) m t.now self.new }
         ensures room { HasRoom self.new }
         ensures taken { IsTaken (plan_of p.now) t.now self.old self.new bench.old.view.made bench.new.view.made result }
+        ensures looked { result ≡ false → IsEmptyTurn (looks_due (plan_of p.now) self.old.slots quiet) bench.old.view bench.new.view }
     {
-        match &mut self.guide {
-            Some(guide) => {
-                hear(&self.core, guide, guesses, number);
-                let made = turn_by_guide(p, t, &mut self.core, guide, bench, guesses, number)
-                    || (quiet == LOOKS_AT_ALL
-                        && turn_past_guide(p, t, &mut self.core, guide, bench));
-                note(guide, guesses, made);
-                made
-            }
-            None => turn_once(p, t, &mut self.core, bench),
+        hear(&self.core, &mut self.guide, guesses, number);
+        let made = self.look(p, t, bench, guesses, number, quiet);
+        note(&mut self.guide, guesses, made);
+        made
+    }
+
+    /// The turn itself.
+    fn look(
+        &mut self,
+        p: &BusPlan,
+        t: &TaskSet,
+        bench: &mut SeatBench,
+        guesses: &Guesses,
+        number: u32,
+        quiet: u32,
+    ) -> bool
+        requires plan { plan_in bench.old.round.opening ≡ plan_of p.now }
+        requires bodies { AsksAsPlanned (plan_of p.now) t.now }
+        requires ready { (m : Mapping) × IsReady (plan_of p.now) m t.now self.old }
+        requires room { HasRoom self.old }
+        requires bench_room { length bench.old.view.made < bench.old.round.opening.room }
+        ensures round { bench.new.round ≡ bench.old.round }
+        ensures number { bench.new.core ≡ bench.old.core }
+        ensures ready { (m : Mapping) → IsReady (plan_of p.now) m t.now self.old → IsReady (plan_of p.now) m t.now self.new }
+        ensures room { HasRoom self.new }
+        ensures taken { IsTaken (plan_of p.now) t.now self.old self.new bench.old.view.made bench.new.view.made result }
+        ensures looked { result ≡ false → IsEmptyTurn (looks_due (plan_of p.now) self.old.slots quiet) bench.old.view bench.new.view }
+    {
+        if turn_by_guide(
+            p,
+            t,
+            &mut self.core,
+            &mut self.guide,
+            bench,
+            guesses,
+            number,
+        ) {
+            return true;
         }
+        if quiet != LOOKS_AT_ALL {
+            return false;
+        }
+        turn_past_guide(p, t, &mut self.core, &mut self.guide, bench)
     }
 }

@@ -12,6 +12,7 @@ ghost use Rattle.core_lanes.specs.Together.{AllReady, HasPlaces, HasBegun, HasRu
 
 use crate::benching::{part_all, seat_all};
 use crate::guesses::Guesses;
+use crate::guided::{Guide, guides_of};
 use crate::lanes::{Lane, go_all};
 use crate::laws::rounds_on_threads_keep_the_law;
 use bus_semantics::{BusPlan, Stamped};
@@ -41,12 +42,15 @@ pub enum Together {
     Memory(Changing),
 }
 
-/// Room for the lanes of a round, and for its cores and seats when they are taken apart.
+/// What guides the cores of a round, room for its lanes, and for its cores and seats when they are taken apart.
 #[derive(Drop)]
 pub(crate) struct Places {
+    pub guides: Vec<Guide>,
     pub lanes: Vec<Lane>,
     pub cores: Vec<Core>,
     pub seats: Vec<CoreSeat>,
+    /// Without room: what a round leaves in place of the list that it gives away.
+    pub entries: Vec<Stamped>,
 }
 
 /// Cores with a round that is open, in which none has made a turn.
@@ -58,24 +62,28 @@ pub(crate) struct Begun {
     pub places: Places,
 }
 
-/// Takes room for so many cores.
-fn take_places(alloc: Global, count: usize) -> Result<Places, AllocError>
-    requires { count ≤ 8 }
-    ensures { IfOk result (HasPlaces count) }
+/// Takes room for these cores, and for what guides them.
+fn take_places(alloc: Global, of: &[Core]) -> Result<Places, AllocError>
+    requires { length of.now ≤ 8 }
+    ensures { IfOk result (HasPlaces of.now) }
 {
+    let count = of.len();
+    let guides = guides_of(alloc, of)?;
     let lanes = Vec::with_capacity(alloc, count)?;
     let cores = Vec::with_capacity(alloc, count)?;
     let seats = Vec::with_capacity(alloc, count)?;
     Ok(Places {
+        guides,
         lanes,
         cores,
         seats,
+        entries: Vec::new(alloc),
     })
 }
 
 /// Cores, 1 to 8 and each at its number, make turns at the same time over the objects of a plan: each in a thread of its own, by its
 /// seat of a round, until it leaves, after 1,024 entries of its own or 64 turns in a row without one. A core passes the gate before
-/// each turn. All memory is taken before the first turn. `guesses` tells where a core looks first.
+/// each turn. All memory is taken before the round is open. `guesses` tells where a core looks first.
 pub fn run_together<R: Threads + Sync, G: Gate>(
     rt: &R,
     alloc: Global,
@@ -93,7 +101,7 @@ pub fn run_together<R: Threads + Sync, G: Gate>(
     requires room { HaveRoom changing.cores.items }
     ensures { RunTogether (plan_of p.now) t.now changing result }
 {
-    let places = match take_places(alloc, changing.cores.len()) {
+    let places = match take_places(alloc, changing.cores.as_slice()) {
         Ok(places) => places,
         Err(_) => return Together::Memory(changing),
     };
@@ -110,7 +118,7 @@ pub fn run_together<R: Threads + Sync, G: Gate>(
                 cores,
                 places,
             };
-            let (changing, entries) = run_begun(rt, alloc, p, t, begun, guesses, gate);
+            let (changing, entries) = run_begun(rt, p, t, begun, guesses, gate);
             Together::Ran(changing, entries)
         }
         Opened::Memory(objects) => Together::Memory(Changing {
@@ -121,10 +129,9 @@ pub fn run_together<R: Threads + Sync, G: Gate>(
     }
 }
 
-/// The cores of a round that is open make their turns, and the round is closed. What guides the cores takes memory, before their first turns and only if there is some.
+/// The cores of a round that is open make their turns, and the round is closed. It takes no memory, and has no allocator.
 fn run_begun<R: Threads + Sync, G: Gate>(
     rt: &R,
-    alloc: Global,
     p: &BusPlan,
     t: &TaskSet,
     begun: Begun,
@@ -146,11 +153,13 @@ fn run_begun<R: Threads + Sync, G: Gate>(
         places,
     } = begun;
     let Places {
+        guides,
         lanes,
         cores: mut back,
         seats: mut returned,
+        entries: none,
     } = places;
-    let mut lanes = seat_all(alloc, cores, seats, lanes);
+    let mut lanes = seat_all(cores, guides, seats, lanes);
     go_all(rt, p, t, &round, guesses, lanes.as_mut_slice(), gate);
     part_all(lanes, &mut back, &mut returned);
     let closed = round.close(returned);
@@ -158,7 +167,7 @@ fn run_begun<R: Threads + Sync, G: Gate>(
         cores: back,
         objects: closed.objects,
         spare: Spare {
-            entries: Vec::new(alloc),
+            entries: none,
             rooms: closed.rooms,
         },
     };

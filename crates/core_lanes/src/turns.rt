@@ -1,14 +1,16 @@
 //! The turns of a core at its bench.
 
-ghost use Rattle.std.specs.Prelude.{◌≡◌, ◌<◌, [], length};
+ghost use Rattle.std.specs.Prelude.{◌≡◌, ◌<◌, [], false, length};
 ghost use Rattle.bus_semantics.specs.declared.script.Mapping.{Mapping};
 ghost use Rattle.bus_semantics.specs.Plan.{plan_of};
 ghost use Rattle.task_generator.specs.Promise.{AsksAsPlanned};
+ghost use Rattle.core_turn.specs.Cores.{looks_in};
 ghost use Rattle.core_turn.specs.Ready.{IsReady};
 ghost use Rattle.cross_core_table.specs.Logs.{plan_in};
 ghost use Rattle.core_lanes.specs.Taking.{TakesTurns};
 ghost use Rattle.core_lanes.specs.Rooms.{HasRoom};
 ghost use Rattle.core_lanes.specs.Benching.{IsTaken};
+ghost use Rattle.core_lanes.specs.Leaving.{IsEmptyTurn, MayLeave};
 
 use crate::guesses::Guesses;
 use crate::guided::Guided;
@@ -22,8 +24,8 @@ use task_machine::TaskSet;
 /// So many turns a core makes in a round at most: 1,024 with an entry, and before each of them 63 without one, or 64 at the end.
 const MOST_TURNS: u32 = 1024 * 64;
 
-/// A core makes a turn at its bench, and the answer is whether it made an entry. A turn that found its object held by another core
-/// made none. The trace is empty again then, since the seat keeps the entry.
+/// A core makes a turn at its bench over all of its slots, and the answer is whether it made an entry; then the trace is empty again,
+/// since the seat keeps the entry. It made none if each look said that nothing may come, or if another core held the object.
 pub(crate) fn turn_once(p: &BusPlan, t: &TaskSet, core: &mut Core, bench: &mut SeatBench) -> bool
     requires plan { plan_in bench.old.round.opening ≡ plan_of p.now }
     requires bodies { AsksAsPlanned (plan_of p.now) t.now }
@@ -35,6 +37,7 @@ pub(crate) fn turn_once(p: &BusPlan, t: &TaskSet, core: &mut Core, bench: &mut S
     ensures ready { (m : Mapping) → IsReady (plan_of p.now) m t.now core.old → IsReady (plan_of p.now) m t.now core.new }
     ensures room { HasRoom core.new }
     ensures taken { IsTaken (plan_of p.now) t.now core.old core.new bench.old.view.made bench.new.view.made result }
+    ensures looked { result ≡ false → IsEmptyTurn (looks_in (plan_of p.now) core.old.slots) bench.old.view bench.new.view }
 {
     match turn(p, t, core, bench) {
         Turned::Stepped => {
@@ -67,6 +70,7 @@ pub(crate) fn make_turns<G: Gate>(
     ensures number { bench.new.core ≡ bench.old.core }
     ensures room { HasRoom core.new }
     ensures turns { TakesTurns (plan_of p.now) t.now core.old bench.new.view.made core.new }
+    ensures left { MayLeave (plan_of p.now) core.new.slots bench.new.view }
 {
     let mut stay = Stay { made: 0, quiet: 0 };
     for turns in 0..MOST_TURNS {

@@ -14,7 +14,7 @@ use Rattle.port_objects.specs.Benches.{Plain}
 use Rattle.task_machine.specs.declared.instr.TaskSet.{TaskSet}
 use Rattle.core_turn.specs.Cores.{CoreState}
 use Rattle.core_lanes.specs.Rooms.{HasRoom}
-use Rattle.core_runtime.specs.Rounds.{RoundState, IsRound, IsLater, Rested, IsTurn}
+use Rattle.core_runtime.specs.Rounds.{RoundState, IsRound, IsLater, Rested, Stepped, IsTurn}
 use Rattle.core_turn.specs.Ready.{IsReady}
 use Rattle.core_runtime.specs.Turns.{AreReady, NothingOf, NothingMayCome, IsStep, Made}
 use Rattle.core_runtime.proofs.Turning.{step_on, step_next, step_room, set_room, set_ready, set_found}
@@ -81,7 +81,15 @@ module _ (p : BusPlan) (t : TaskSet) (cores : List CoreState) (number : ℕ) (ol
     turn_on = of_step b step
       where
         of_step : (b : Bool) → IsStep (plan_of p) t old new before now entries all b → IsTurn (round_of p t cores before entries spare) (round_of p t (set cores number new) now all spare) number b
-        of_step true step = ap length step.added ∙ length_push entries step.made
+        of_step true step = record {
+          made = step.made;
+          added = step.added;
+          core = old;
+          stepped = new;
+          there = found;
+          cores = refl;
+          order = step.order;
+        }
         of_step false step = record {
           cores = ap (set cores number) step.core ∙ set_found cores number old found;
           objects = step.objects;
@@ -89,8 +97,11 @@ module _ (p : BusPlan) (t : TaskSet) (cores : List CoreState) (number : ℕ) (ol
           none = λ c is_c. subst (NothingOf (plan_of p) t before.objects) (same_Some _ _ (sym found ∙ is_c)) step.none;
         }
 
+pub turn_more : (old new : RoundState) (number : ℕ) → Stepped old new number → length new.entries ≡ length old.entries + 1
+turn_more old new number turn = ap length turn.added ∙ length_push old.entries turn.made
+
 pub turn_few : (old new : RoundState) (number : ℕ) (b : Bool) → IsTurn old new number b → length new.entries ≤ length old.entries + 1
-turn_few old new number true turn = omega (arith, turn)
+turn_few old new number true turn = let one = turn_more old new number turn in omega (arith, one)
 turn_few old new number false turn = omega (arith, ap length turn.entries)
 
 -- ---- where nothing was made
@@ -117,7 +128,7 @@ nothing_as p q t u objects objects_are c a b d nothing = subst (λ (x : BusPlan)
 
 module _ (start old new : RoundState) (number : ℕ) (later : IsLater start old) where
   pub quiet_on : (b : Bool) → IsTurn old new number b → (old.entries ≡ [] → SoFar start old number) → new.entries ≡ [] → SoFar start new (number + 1)
-  quiet_on true turn far none = absurd (let more : length new.entries ≡ 0 = ap length none in omega (arith, turn, more))
+  quiet_on true turn far none = absurd (let more : length new.entries ≡ 0 = ap length none in let one = turn_more old new number turn in omega (arith, one, more))
   quiet_on false turn far none =
       let so = far (sym turn.entries ∙ none) in
       record {

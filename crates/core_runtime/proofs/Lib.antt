@@ -14,6 +14,7 @@ pub mod Starting
 pub mod Seated
 pub mod Turned
 pub mod Later
+pub mod InOrder
 pub mod Rounded
 pub mod Known
 pub mod Together

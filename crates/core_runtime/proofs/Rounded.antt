@@ -9,7 +9,7 @@ use Rattle.task_machine.specs.declared.instr.TaskSet.{TaskSet}
 use Rattle.core_runtime.specs.declared.live.Live.{Live}
 use Rattle.core_runtime.specs.Nodes.{IsNode}
 use Rattle.core_runtime.specs.Rounds.{RoundState, IsLater}
-use Rattle.core_runtime.specs.Turns.{Made, NothingMayCome}
+use Rattle.core_runtime.specs.Turns.{Made, NothingMayCome, EachTakesOne}
 use Rattle.core_runtime.specs.Watching.{IsWatch}
 use Rattle.core_runtime.proofs.Ending.{node_on}
 use Rattle.core_runtime.proofs.Turning.{made_nothing}
@@ -46,6 +46,15 @@ module _ {p : BusPlan} {m : Mapping} {t : TaskSet} {live taken : Live} {room : �
       subst (λ (u : TaskSet). IsWatch (plan_of p) u given.objects.items None given.cores.items given.watch) since.bodies
           (subst (λ (q : BusPlan). IsWatch (plan_of q) now.bodies given.objects.items None given.cores.items given.watch) since.plan watched),
     )
+
+    -- where each core took one turn
+    pub in_order : EachTakesOne (plan_of start.plan) start.bodies start.cores now.cores start.objects now.objects now.entries
+        → EachTakesOne (plan_of p) t live.cores.items given.cores.items live.objects.items given.objects.items given.entries.items
+    in_order each =
+        subst (λ cs. EachTakesOne (plan_of p) t live.cores.items cs live.objects.items given.objects.items given.entries.items) (sym cores)
+        (subst (λ os. EachTakesOne (plan_of p) t live.cores.items now.cores live.objects.items os given.entries.items) (sym objects)
+        (subst (λ es. EachTakesOne (plan_of p) t live.cores.items now.cores live.objects.items now.objects es) (sym entries)
+        (subst (λ (r : RoundState). EachTakesOne (plan_of r.plan) r.bodies r.cores now.cores r.objects now.objects now.entries) from each)))
 
     -- where its last turns could make nothing
     pub nothing_at_last : NothingMayCome (plan_of now.plan) now.bodies now.cores now.objects → NothingMayCome (plan_of p) t given.cores.items given.objects.items

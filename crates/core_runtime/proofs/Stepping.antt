@@ -38,15 +38,16 @@ module _ (p : Plan) (t : TaskSet) (old : CoreState) (before now : Plain) (entrie
   KeepsLaw turned s = (m : Mapping) (cores : List CoreState) (i : ℕ) (h : History) → IsLawful p m t cores before.objects h → slice_get cores i ≡ Some old → IsReady p m t turned
       → IsLawful p m t (set cores i turned) now.objects (s.entry ∷ h)
 
-  pub makes : (turned new : CoreState) (s : Stamped) (all : List Stamped) → StepsApart p t old turned (told_by before) (told_by now) s → IsSameCore turned new → all ≡ entries ++ s ∷ []
+  pub makes : (turned new : CoreState) (s : Stamped) (all : List Stamped) → StepsApart p t old turned (told_by before) (told_by now) s → IsSameCore turned new → new.first ≡ turned.first → all ≡ entries ++ s ∷ []
       → ((m : Mapping) → IsReady p m t old → IsReady p m t turned) → KeepsLaw turned s → Makes p t old new before now entries all
-  makes turned new s all steps same added ready law = record {
+  makes turned new s all steps same first added ready law = record {
     made = s;
     added = added;
     within = own_within p steps.slot s.entry.actor steps.step.own;
     stamp = steps.next.0;
     next = same_Some _ _ steps.next.1;
     room = steps.bench_room;
+    order = record { at = steps.at; slot = steps.slot; there = steps.there; order = steps.order; first = first ∙ steps.first };
     ready = λ m is. same_ready p t turned new same m (ready m is);
     goes = λ m cores i found is h lawful. same_lawful p m t turned new same cores i old found now.objects (s.entry ∷ h) (law m cores i h lawful found (ready m is));
   }

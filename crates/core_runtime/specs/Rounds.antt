@@ -1,5 +1,5 @@
 -- What turns work on.
-use Rattle.std.specs.Prelude.{◌≡◌, ◌≤◌, ℕ, ◌+◌, List, length, slice_get, Bool, true, false, Some}
+use Rattle.std.specs.Prelude.{◌≡◌, ◌≤◌, ℕ, ◌+◌, List, [], ◌∷◌, ◌++◌, length, set, slice_get, Bool, true, false, Some}
 use Rattle.bus_semantics.specs.declared.entries.Stamped.{Stamped}
 use Rattle.bus_semantics.specs.declared.plan.BusPlan.{BusPlan}
 use Rattle.bus_semantics.specs.declared.script.Mapping.{Mapping}
@@ -10,7 +10,7 @@ use Rattle.task_machine.specs.declared.instr.TaskSet.{TaskSet}
 use Rattle.task_generator.specs.Promise.{AsksAsPlanned}
 use Rattle.core_turn.specs.Cores.{CoreState}
 use Rattle.core_lanes.specs.Rooms.{HaveRoom}
-use Rattle.core_runtime.specs.Turns.{AreReady, NothingOf, Made}
+use Rattle.core_runtime.specs.Turns.{AreReady, NothingOf, MakesInOrder, Made}
 
 -- the plan and the bodies, the cores by number, the objects by number, the entries so far, how many more it may make, and for how many
 -- there is memory in all
@@ -51,7 +51,17 @@ pub record Rested (old new : RoundState) (number : ℕ) : Type 0 where
   pub entries : new.entries ≡ old.entries
   pub none : (c : CoreState) → slice_get old.cores number ≡ Some c → NothingOf (plan_of old.plan) old.bodies old.objects c
 
+-- a turn that made an entry, the last of all: that which comes first in the core's order
+pub record Stepped (old new : RoundState) (number : ℕ) : Type 0 where
+  pub made : Stamped
+  pub added : new.entries ≡ old.entries ++ made ∷ []
+  pub core : CoreState
+  pub stepped : CoreState
+  pub there : slice_get old.cores number ≡ Some core
+  pub cores : new.cores ≡ set old.cores number stepped
+  pub order : MakesInOrder (plan_of old.plan) old.bodies core stepped old.objects new.objects made
+
 -- a turn of the core of a number, with an entry or without one
 abbrev pub IsTurn : (old new : RoundState) → (number : ℕ) → (made : Bool) → Type 0
-IsTurn old new number true = length new.entries ≡ length old.entries + 1
+IsTurn old new number true = Stepped old new number
 IsTurn old new number false = Rested old new number

@@ -8,11 +8,12 @@ use Rattle.bus_semantics.specs.History.{History}
 use Rattle.port_objects.specs.declared.object.Object.{Object}
 use Rattle.port_objects.specs.Benches.{Plain}
 use Rattle.task_machine.specs.declared.instr.TaskSet.{TaskSet}
+use Rattle.task_slots.specs.declared.slot.Slot.{Slot}
 use Rattle.core_turn.specs.Cores.{CoreState}
 use Rattle.core_turn.specs.Lawful.{IsLawful}
 use Rattle.port_objects.specs.Benches.{Told}
 use Rattle.core_turn.specs.Ready.{IsReady}
-use Rattle.core_turn.specs.Turning.{NothingComes}
+use Rattle.core_turn.specs.Turning.{NothingComes, FirstInOrder}
 use Rattle.core_runtime.specs.After.{after, is_within, are_within}
 use Rattle.core_lanes.specs.Rooms.{HaveRoom}
 
@@ -37,6 +38,29 @@ pub record NothingOf (p : Plan) (t : TaskSet) (objects : List Object) (c : CoreS
 abbrev pub NothingMayCome : Plan → TaskSet → List CoreState → List Object → Type 0
 NothingMayCome p t cores objects = (i : ℕ) (c : CoreState) → slice_get cores i ≡ Some c → NothingOf p t objects c
 
+-- ---- turns in order
+
+-- a core made an entry over these objects: nothing of its slots that come before may come, and of this one the first that may was made
+pub record MakesInOrder (p : Plan) (t : TaskSet) (old new : CoreState) (objects after : List Object) (s : Stamped) : Type 0 where
+  pub at : ℕ
+  pub slot : Slot
+  pub there : slice_get old.slots at ≡ Some slot
+  pub order : FirstInOrder p t old at slot objects (Some after) s
+  pub first : new.first ≡ suc at
+
+-- a turn of a core: that entry, or none where nothing of the core may come
+abbrev pub TakesOne : Plan → TaskSet → (old new : CoreState) → (objects after : List Object) → (made : List Stamped) → Type 0
+TakesOne p t old new objects after [] = NothingOf p t objects old × (new ≡ old) × (after ≡ objects)
+TakesOne p t old new objects after (s ∷ []) = MakesInOrder p t old new objects after s
+TakesOne p t old new objects after (s ∷ r ∷ more) = ⊥
+
+-- each core takes one turn, in the order of their numbers, over the objects as the one before left them
+abbrev pub EachTakesOne : Plan → TaskSet → (cores now : List CoreState) → (objects later : List Object) → (entries : List Stamped) → Type 0
+EachTakesOne p t [] [] objects later entries = (later ≡ objects) × (entries ≡ [])
+EachTakesOne p t (c ∷ cores) (n ∷ now) objects later entries = (after : List Object) × (made : List Stamped) × (more : List Stamped) × (entries ≡ made ++ more)
+    × TakesOne p t c n objects after made × EachTakesOne p t cores now after later more
+EachTakesOne p t _ _ objects later entries = ⊥
+
 -- ---- one turn
 
 -- a core made an entry, the last of all
@@ -47,6 +71,7 @@ pub record Makes (p : Plan) (t : TaskSet) (old new : CoreState) (before now : Pl
   pub stamp : made.stamp ≡ before.next
   pub next : now.next ≡ suc before.next
   pub room : before.room ≡ suc now.room
+  pub order : MakesInOrder p t old new before.objects now.objects made
   pub ready : (m : Mapping) → IsReady p m t old → IsReady p m t new
   pub goes : (m : Mapping) (cores : List CoreState) (i : ℕ) → slice_get cores i ≡ Some old → IsReady p m t old → GoesOn p m t cores (set cores i new) before.objects now.objects (made ∷ [])
 

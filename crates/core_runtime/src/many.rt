@@ -31,10 +31,10 @@ fn refilled(entries: Vec<Stamped>, made: &[Stamped]) -> Vec<Stamped>
     entries
 }
 
-/// Empties a list, and takes room in it for so many entries, if there is memory.
-fn make_room(list: &mut Vec<Stamped>, room: usize) {
+/// Empties a list, and takes room in it for so many entries. The only error is that there is no memory.
+fn make_room(_alloc: Global, list: &mut Vec<Stamped>, room: usize) -> Result<(), AllocError> {
     list.clear();
-    list.reserve(room).ok();
+    list.reserve(room)
 }
 
 /// The entries of a round, in a list with as much room as the list of earlier ones has, and a list whose room is spare. If both lists
@@ -71,15 +71,16 @@ impl Node {
         ensures stamps { OnOk result (stamps_count self.new.entries ≡ true) }
         ensures lawful { OnOk result ((h : History) → IsLawfulNode self.old h → IsLawfulNode self.new (after self.new.entries h)) }
     {
+        let room = self.live.entries.capacity();
+        make_room(alloc, &mut self.live.spare.entries, room)?;
         let live = mem::replace(&mut self.live, Live::none(alloc));
         let Live {
             cores,
             objects,
             mut watch,
             entries,
-            mut spare,
+            spare,
         } = live;
-        make_room(&mut spare.entries, entries.capacity());
         let changing = Changing {
             cores,
             objects,

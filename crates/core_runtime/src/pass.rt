@@ -9,7 +9,7 @@ ghost use Rattle.bus_semantics.specs.Rest.{IsIdle};
 ghost use Rattle.core_runtime.specs.After.{after, are_within};
 ghost use Rattle.core_runtime.specs.Nodes.{IsLawfulNode};
 ghost use Rattle.core_runtime.specs.Rounds.{IsLater};
-ghost use Rattle.core_runtime.specs.Turns.{NothingMayCome};
+ghost use Rattle.core_runtime.specs.Turns.{NothingMayCome, EachTakesOne};
 
 use crate::live::Live;
 use crate::node::Node;
@@ -25,6 +25,7 @@ impl<'a> Round<'a> {
         requires empty { self.old.entries ≡ [] }
         ensures later { IsLater self.old self.new }
         ensures few { length self.new.entries ≤ length self.old.cores }
+        ensures order { EachTakesOne (plan_of self.old.plan) self.old.bodies self.old.cores self.new.cores self.old.objects self.new.objects self.new.entries }
         ensures rest { self.new.entries ≡ [] → NothingMayCome (plan_of self.old.plan) self.old.bodies self.old.cores self.old.objects }
     {
         for number in 0..self.cores.len() {
@@ -33,8 +34,9 @@ impl<'a> Round<'a> {
     }
 }
 
-/// Each core makes one turn, in the order of their numbers; what they make takes the place of earlier entries. It takes no
-/// memory: there has to be room for an entry of each core, as each round makes it.
+/// Each core makes one turn, in the order of their numbers: the first entry that may come in the order of its slots, or none if none may
+/// come. What they make takes the place of earlier entries. It takes no memory: there has to be room for an entry of each core, as each
+/// round makes it.
 ///
 /// A pass without an entry is rest, and then all is quiet: no activation runs, no event is due, and each mode machine is stable and has
 /// begun every accepted switch.
@@ -45,6 +47,7 @@ pub fn serial_pass(n: &mut Node)
     ensures bodies { n.new.bodies ≡ n.old.bodies }
     ensures spare { n.new.spare ≡ n.old.spare }
     ensures few { length n.new.entries ≤ n.old.mapping.cores }
+    ensures order { EachTakesOne (plan_of n.old.plan) n.old.bodies n.old.cores n.new.cores n.old.objects n.new.objects n.new.entries }
     ensures within { are_within n.new.entries ≡ true }
     ensures stamps { stamps_count n.new.entries ≡ true }
     ensures lawful { (h : History) → IsLawfulNode n.old h → IsLawfulNode n.new (after n.new.entries h) }

@@ -23,8 +23,8 @@ pub enum RoundRun {
     Memory,
 }
 
-/// Takes room for the entries of a round.
-fn make_ready(n: &mut Node) -> Result<(), AllocError>
+/// Takes room for the entries of a round. The only error is that there is no memory.
+fn make_ready(_alloc: Global, n: &mut Node) -> Result<(), AllocError>
     ensures room { OnOk result (1024 * n.old.mapping.cores ≤ n.new.spare) }
     ensures kept { n.old.spare ≤ n.new.spare }
     ensures same { IsSameNode n.old n.new }
@@ -57,7 +57,7 @@ pub fn run_round<R: Threads + Sync, G: Gate>(
     ensures one_core { result ≡ Ran → n.old.mapping.cores ≡ 1 → (length n.new.entries ≡ 1024)
         ⊎ ((h : History) → IsLawfulNode n.old h → IsIdle (plan_of n.old.plan) n.old.mapping (after n.new.entries h)) }
 {
-    if make_ready(n).is_err() {
+    if make_ready(alloc, n).is_err() {
         return RoundRun::Memory;
     }
     if n.mapping.cores == 1 {

@@ -12,5 +12,6 @@ pub mod Order
 pub mod Waiters
 pub mod Awakes
 pub mod Left
+pub mod Counting
 pub mod Settling
 pub mod AllAwake

@@ -1,6 +1,7 @@
 -- Which slots and events of a core may step. What sleeps is held: no start of it and no phase may come, as the objects are; and an activation
 -- that waits at an area may not enter it, or another that waits there is awake and is tried before it.
-use Rattle.std.specs.Prelude.{◌≡◌, ◌<◌, ◌≤◌, ◌⊎◌, ◌++◌, ◌∷◌, [], ℕ, suc, List, Bool, true, false, ◌&&◌, ◌==◌, length, map, replicate, set, slice_get, slice_index_or, Option, Some, None}
+use Rattle.std.specs.Prelude.{◌≡◌, ◌<◌, ◌≤◌, ◌⊎◌, ◌++◌, ◌∷◌, [], ℕ, suc, List, Bool, true, false, ◌&&◌, ◌==◌, if◌then◌else◌, length, map, replicate, set, slice_get, slice_index_or, Option, Some, None}
+use Rattle.std.specs.Option.{option_map_or}
 use Rattle.bus_semantics.specs.declared.entries.Stamped.{Stamped}
 use Rattle.bus_semantics.specs.Plan.{Plan}
 use Rattle.bus_semantics.specs.Objects.{touched_by}
@@ -8,12 +9,13 @@ use Rattle.bus_semantics.specs.Rest.{start_try}
 use Rattle.port_objects.specs.declared.object.Object.{Object}
 use Rattle.port_objects.specs.Objects.{kept_of}
 use Rattle.port_objects.specs.Waking.{IsClosed}
+use Rattle.port_objects.specs.Benches.{Work, IsFurther}
 use Rattle.task_machine.specs.declared.instr.TaskSet.{TaskSet}
 use Rattle.task_slots.specs.declared.slot.Slot.{Slot}
 use Rattle.task_slots.specs.Slots.{events_of_slot, slot_tries}
 use Rattle.task_slots.specs.Looking.{AllHeld}
 use Rattle.task_slots.specs.Stepping.{noting_of}
-use Rattle.task_slots.specs.Waiting.{is_free, idle_tries, WaitsAt, HearsAt}
+use Rattle.task_slots.specs.Waiting.{is_free, idle_tries, WaitsAt, HearsAt, sum_below, looks_awake}
 use Rattle.core_turn.specs.declared.passed.Passed.{Passed}
 use Rattle.core_turn.specs.declared.passed.Passed.TheVariants as pass
 use Rattle.core_turn.specs.declared.turning.Turned.{Turned}
@@ -207,3 +209,28 @@ pub record WakesSlot (place : ℕ) (old new : AwakeState) : Type 0 where
   pub width : length row ≡ length (slice_index_or old.events place [])
   pub all : AllAre true row
   pub areas : new.areas ≡ old.areas
+
+-- ---- how many looks it takes to see that nothing of what is awake may come
+
+-- at the slot of a place, if it is awake
+abbrev pub looks_at_place : Plan → List Slot → AwakeState → (place : ℕ) → ℕ
+looks_at_place p slots a i = if slice_index_or a.slots i false then option_map_or (λ (s : Slot). looks_awake p s (slice_index_or a.events i [])) (slice_get slots i) 0 else 0
+
+-- at all of a core's
+abbrev pub looks_of_awake : Plan → List Slot → AwakeState → ℕ
+looks_of_awake p slots a = sum_below (looks_at_place p slots a) (length slots)
+
+-- where a turn found nothing, so many looks answered NotYet
+abbrev pub TurnCounted : (looks : ℕ) → (old new : Option Work) → Turned → Type 0
+TurnCounted n old new NothingNow = IsFurther old new [] n 0
+TurnCounted n old new r = Unit {0}
+
+-- so where looks from one place up to another found nothing
+abbrev pub PassCounted : (looks : ℕ) → (old new : Option Work) → Passed → Type 0
+PassCounted n old new pass.Nothing = IsFurther old new [] n 0
+PassCounted n old new r = Unit {0}
+
+-- before a place the same is awake
+pub record SameBefore (place : ℕ) (old new : AwakeState) : Type 0 where
+  pub slots : (i : ℕ) → i < place → slice_index_or new.slots i false ≡ slice_index_or old.slots i false
+  pub events : (i : ℕ) → i < place → slice_index_or new.events i [] ≡ slice_index_or old.events i []

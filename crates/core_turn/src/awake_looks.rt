@@ -1,6 +1,6 @@
 //! Looks at the slots and events of a core that are awake.
 
-ghost use Rattle.std.specs.Prelude.{◌≡◌, ◌<◌, ◌≤◌, ℕ, length, Some, None, slice_get};
+ghost use Rattle.std.specs.Prelude.{◌≡◌, ◌<◌, ◌≤◌, ◌-◌, ℕ, length, Some, None, slice_get};
 ghost use Rattle.std.specs.Vec.{vec_capacity};
 ghost use Rattle.bus_semantics.specs.declared.script.Mapping.{Mapping};
 ghost use Rattle.bus_semantics.specs.Plan.{plan_of};
@@ -8,9 +8,9 @@ ghost use Rattle.bus_semantics.specs.Sound.{IsSound};
 ghost use Rattle.task_generator.specs.Promise.{AsksAsPlanned};
 ghost use Rattle.task_slots.specs.declared.slot.Slot.{Slot};
 ghost use Rattle.task_slots.specs.Ready.{IsReadySlot};
-ghost use Rattle.task_slots.specs.Waiting.{is_free};
+ghost use Rattle.task_slots.specs.Waiting.{is_free, sum_below};
 ghost use Rattle.core_turn.specs.Turning.{IsPass};
-ghost use Rattle.core_turn.specs.Awake.{Fits, HeldTold, HeldPassed, IsSettled};
+ghost use Rattle.core_turn.specs.Awake.{Fits, HeldTold, HeldPassed, IsSettled, PassCounted, SameBefore, looks_at_place};
 
 use crate::awake::Awake;
 use crate::passed::Passed;
@@ -71,6 +71,9 @@ fn look_among<B: Bench>(
         (B.told bench.old) (B.told bench.new) made.old.items made.new.items result }
     ensures fits { Fits slots.new.items a.old.first a.new }
     ensures held { HeldPassed (plan_of p.now) t.now (B.told bench.old).objects slots.new.items to a.new made.old.items made.new.items result }
+    ensures counted { PassCounted (sum_below (looks_at_place (plan_of p.now) slots.old.items a.old) to - sum_below (looks_at_place (plan_of p.now) slots.old.items a.old) from)
+        (B.told bench.old).work (B.told bench.new).work result }
+    ensures before { SameBefore from a.old a.new }
 {
     areas_are_closed_alike();
     last_entries_are_last();
@@ -119,6 +122,9 @@ pub(crate) fn look_through<B: Bench>(
         (B.told bench.old) (B.told bench.new) made.old.items made.new.items result }
     ensures fits { Fits slots.new.items a.old.first a.new }
     ensures held { HeldPassed (plan_of p.now) t.now (B.told bench.old).objects slots.new.items to a.new made.old.items made.new.items result }
+    ensures counted { PassCounted (sum_below (looks_at_place (plan_of p.now) slots.old.items a.old) to - sum_below (looks_at_place (plan_of p.now) slots.old.items a.old) from)
+        (B.told bench.old).work (B.told bench.new).work result }
+    ensures before { SameBefore from a.old a.new }
 {
     // Each second pass of a core with one slot.
     if from == to {

@@ -7,7 +7,7 @@ ghost use Rattle.bus_semantics.specs.Plan.{plan_of};
 ghost use Rattle.task_generator.specs.Promise.{AsksAsPlanned};
 ghost use Rattle.core_turn.specs.Ready.{IsReady};
 ghost use Rattle.core_turn.specs.Turning.{IsTurnInto};
-ghost use Rattle.core_turn.specs.Awake.{Fits, HeldTold, HeldTurned};
+ghost use Rattle.core_turn.specs.Awake.{Fits, HeldTold, HeldTurned, TurnCounted, looks_of_awake};
 
 use crate::awake::Awake;
 use crate::awake_looks::look_through;
@@ -24,7 +24,8 @@ use task_machine::TaskSet;
 ///
 /// Where the bench tells its objects, what sleeps is held by them as they are before the turn, and so is what it puts to
 /// sleep, except those that wait at the area which its entry touched. Where it tells none, what sleeps is a guess: an entry
-/// is one that `turn` may make, and `NothingNow` says only that nothing of what is awake may come.
+/// is one that `turn` may make, and `NothingNow` says only that nothing of what is awake may come. Where the bench tells its
+/// work, each look that it takes to see this answered NotYet.
 pub fn turn_of_awake<B: Bench>(
     p: &BusPlan,
     t: &TaskSet,
@@ -48,6 +49,7 @@ pub fn turn_of_awake<B: Bench>(
         (B.told b.old) (B.told b.new) made.old.items made.new.items result }
     ensures fits { Fits c.new.slots c.new.first a.new }
     ensures held { HeldTurned (plan_of p.now) t.now (B.told b.old).objects c.new a.new made.old.items made.new.items result }
+    ensures counted { TurnCounted (looks_of_awake (plan_of p.now) c.old.slots a.old) (B.told b.old).work (B.told b.new).work result }
 {
     let first = c.first;
     let count = c.slots.len();

@@ -1,5 +1,5 @@
 -- What a step of one seat leaves as it was: what other seats know, and what is on the table.
-use Rattle.std.proofs.Common.{◌≡◌, ◌≢◌, ◌<◌, ◌≤◌, ℕ, suc, true, false, is_some, List, [], ◌∷◌, ◌++◌, length, length-set, set, get_or, sym, ◌∙◌, ap, subst, ⊎_elim, append_assoc, Option, Some, None}
+use Rattle.std.proofs.Common.{◌≡◌, ◌≢◌, ◌<◌, ◌≤◌, ℕ, suc, true, is_some, List, [], ◌∷◌, ◌++◌, length, length-set, set, get_or, sym, ◌∙◌, ap, subst, ⊎_elim, append_assoc, Option, Some, None}
 use mathlib.Core.Logic.{dite}
 use native.Mathlib.Decide.{ℕ_discrete}
 use mathlib.Core.Option as option
@@ -17,6 +17,7 @@ use Rattle.cross_core_table.specs.declared.views.View.{View}
 use Rattle.cross_core_table.specs.Logs.{on_object, made_by, AreCounted, AreOf, plan_in}
 use Rattle.cross_core_table.specs.Rules.{Table, word_of, IsHolding, Holds, Looked, IsSpent, AreJoined, IsSeated, IsAtHome, IsTaken, RoundRule}
 use Rattle.cross_core_table.proofs.Lists.{at_within}
+use Rattle.cross_core_table.proofs.Parts.{before_set, once_kept, alone_kept}
 
 -- what a step of the seat id may do to words and log, as other seats see it
 pub record Goes (k : Opening) (ws ws' : List ℕ) (log log' : List Logged) (id : ℕ) : Type 0 where
@@ -92,19 +93,20 @@ holds_word k ws log j x h q e = subst (λ (y : Option Held). Holds k ws log j y)
 -- ---- a step of one seat
 
 pub stepped_by : (k : Opening) (s : Table) (r : RoundRule k s) (id : ℕ) (v w : View) (ws' : List ℕ) (hs' : List (option.Option Object)) (log' : List Logged)
-    → get_elem? s.views id ≡ some v → is_some v.opening ≡ true → w.opening ≡ v.opening → w.given ≡ v.given
+    → get_elem? s.views id ≡ some v → is_some v.opening ≡ true → w.opening ≡ v.opening → w.given ≡ v.given → w.joined ≡ v.joined
     → Goes k s.words ws' r.log log' id → length ws' ≡ length s.words → length hs' ≡ length s.homes
     → AreCounted log' → get_or ws' 0 0 ≡ length log' → AreOf (length s.views) log' → ((c : ℕ) → length (made_by c log') ≤ k.room)
     → IsSeated k ws' (set s.views id w) log' id w
     → ((o : ℕ) → o < length s.homes → word_of ws' o ≡ 0 → IsAtHome k hs' log' o)
     → ((o c : ℕ) → o < length s.homes → word_of ws' o ≡ suc c → IsTaken (set s.views id w) c o)
     → RoundRule k record { words = ws'; homes = hs'; views = set s.views id w }
-stepped_by k s r id v w ws' hs' log' me live opening given goes wide long stamps count cores room mine free taken =
+stepped_by k s r id v w ws' hs' log' me live opening given joined goes wide long stamps count cores room mine free taken =
     let vs' : List View = set s.views id w in
     let same : length vs' ≡ length s.views = length-set s.views id w in
     let lively : is_some w.opening ≡ true = ap (λ (x : Option Opening). is_some x) opening ∙ live in
     let m : (c : ℕ) (u : View) → get_elem? s.views c ≡ some u → IsSpent u → made_by c log' ≡ made_by c r.log = λ c u at gone. goes.made c (not_spent s.views id c v u me live at gone) in
     let stay : StaySpent s.views vs' = set_spends_none s.views id v w me live in
+    let before = before_set s.views id v w me opening joined in
     record {
       log = log';
       stamps = stamps;
@@ -121,6 +123,8 @@ stepped_by k s r id v w ws' hs' log' me live opening given goes wide long stamps
       takers = λ j u at. ⊎_elim
           (λ t. ap (λ (x : View). x.given) (sym t.1) ∙ (given ∙ r.takers j v (subst (λ (i : ℕ). get_elem? s.views i ≡ some v) (sym t.0) me)))
           (λ t. r.takers j u t.1) (at_set s.views id (suc j) w u at);
+      once = λ x at c u there. once_kept k s r c x u (before 0 x at) (before c u there);
+      alone = λ j u at. alone_kept k s r j u (before (suc j) u at);
       seated = λ j u at alive. ⊎_elim
           (λ t. subst (λ (i : ℕ). IsSeated k ws' vs' log' i u) (sym t.0) (subst (λ (x : View). IsSeated k ws' vs' log' id x) t.1 mine))
           (λ t. seat_kept k s.words ws' s.views vs' r.log log' id j u goes m stay t.0 (r.seated j u t.1 alive)) (at_set s.views id j w u at);

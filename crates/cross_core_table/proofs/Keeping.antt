@@ -58,7 +58,7 @@ tries_on k s r i id m o n me live nonzero other =
     let vs' : List View = set s.views id w in
     let m' : (c : ℕ) (u : View) → get_elem? s.views c ≡ some u → IsSpent u → made_by c r.log ≡ made_by c r.log = λ c u at gone. refl in
     subst (λ (ws : List ℕ). RoundRule k record { words = ws; homes = s.homes; views = vs' }) (sym (set-get_or s.words i 0))
-    (stepped_by k s r id v w s.words s.homes r.log me (alive k v live) refl refl (stays k s.words r.log id) refl refl r.stamps r.count r.cores r.room
+    (stepped_by k s r id v w s.words s.homes r.log me (alive k v live) refl refl refl (stays k s.words r.log id) refl refl r.stamps r.count r.cores r.room
     (record {
       opening = q.opening;
       core = q.core;
@@ -87,7 +87,7 @@ takes_it k s r id m o me live near none zero-word t =
     let here : word_of ws' o ≡ suc id = get_or-set_same s.words (suc o) (suc id) 0 inside in
     let there : (x : ℕ) → x ≢ o → word_of ws' x ≡ word_of s.words x = λ x ne. get_or-set_other s.words (suc o) (suc x) (suc id) 0 (λ e. ne (omega arith)) in
     let m' : (c : ℕ) (u : View) → get_elem? s.views c ≡ some u → IsSpent u → made_by c r.log ≡ made_by c r.log = λ c u at gone. refl in
-    stepped_by k s r id v w ws' hs' r.log me (alive k v live) refl refl
+    stepped_by k s r id v w ws' hs' r.log me (alive k v live) refl refl refl
     (record { made = λ j ne. refl; held = λ j x ne e. (there x (λ is. absurd (omega (arith, e, ap (λ (i : ℕ). word_of s.words i) is, zero-word))) ∙ e, refl); newer = λ x. ([], refl) })
     (length-set s.words (suc o) (suc id)) (length-set s.homes o option.none) r.stamps
     (get_or-set_other s.words (suc o) 0 (suc id) 0 (λ e. omega arith) ∙ r.count) r.cores r.room
@@ -184,7 +184,7 @@ grown k s r id v w x word me live added stamp room opening core given made look 
     } in
     let same_parts : (c : ℕ) (u : View) → get_elem? s.views c ≡ some u → IsSpent u → made_by c log' ≡ made_by c r.log =
     λ c u at gone. made_there id c x r.log (not_spent s.views id c v u me (alive k v live) at gone) in
-    stepped_by k s r id v w ws' s.homes log' me (alive k v live) opening given goes
+    stepped_by k s r id v w ws' s.homes log' me (alive k v live) opening given joined goes
     (length-set s.words 0 word) refl (stamp ∙ r.count, r.stamps) count (near, r.cores)
     (λ c. dite (ℕ_discrete c id)
     (λ e. subst (λ (y : ℕ). length (made_by y log') ≤ k.room) (sym e)
@@ -272,7 +272,7 @@ gives_back k s r id v w o object h me live has is near kept planned opening core
     let here : word_of ws' o ≡ 0 = get_or-set_same s.words (suc o) 0 0 (omega (arith, r.words)) in
     let there : (x : ℕ) → x ≢ o → word_of ws' x ≡ word_of s.words x = λ x ne. get_or-set_other s.words (suc o) (suc x) 0 0 (λ e. ne (omega arith)) in
     let m' : (c : ℕ) (u : View) → get_elem? s.views c ≡ some u → IsSpent u → made_by c r.log ≡ made_by c r.log = λ c u at gone. refl in
-    stepped_by k s r id v w ws' hs' r.log me (alive k v live) opening given
+    stepped_by k s r id v w ws' hs' r.log me (alive k v live) opening given joined
     (record { made = λ j ne. refl; held = λ j x ne e. (there x (λ z. ne (omega (arith, e, ap (λ (i : ℕ). word_of s.words i) z, its))) ∙ e, refl); newer = λ x. ([], refl) })
     (length-set s.words (suc o) 0) (length-set s.homes o (some object)) r.stamps
     (get_or-set_other s.words (suc o) 0 0 0 (λ e. omega arith) ∙ r.count) r.cores r.room

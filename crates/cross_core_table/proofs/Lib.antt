@@ -1,5 +1,6 @@
 mod Lists
 mod Logs
+mod Parts
 mod Frames
 mod Keeping
 mod Seating

@@ -1,5 +1,5 @@
 -- The rule where seats are given and taken in, at the opening, and at the close.
-use Rattle.std.proofs.Common.{◌≡◌, ◌≢◌, ◌<◌, ◌≤◌, ◌+◌, ◌^◌, ℕ, zero, suc, true, false, is_some, List, [], ◌∷◌, ◌++◌, map, length, length-append, length-set, set, get_or, refl, sym, ◌∙◌, ap, subst, ⊎_elim, arith, slice_get, Option, Some, None}
+use Rattle.std.proofs.Common.{◌≡◌, ◌≢◌, ◌<◌, ◌≤◌, ◌^◌, ℕ, zero, suc, Bool, true, is_some, if◌then◌else◌, List, [], ◌∷◌, ◌++◌, map, length, length-append, length-set, set, get_or, refl, sym, ◌∙◌, ap, subst, ⊎_elim, arith, slice_get, Option, Some, None}
 use Rattle.std.proofs.lemmas.List.{length-map}
 use Rattle.std.proofs.lemmas.Bool.{false≢true}
 use mathlib.Core.Option.{some, some-injective}
@@ -14,14 +14,19 @@ use Rattle.cross_core_table.specs.declared.views.Part.{Part}
 use Rattle.cross_core_table.specs.declared.views.Held.{Held}
 use Rattle.cross_core_table.specs.declared.views.View.{View}
 use Rattle.cross_core_table.specs.Logs.{made_by, AreOf, plan_in}
-use Rattle.cross_core_table.specs.Rules.{Table, IsSpent, AreJoined, IsSeated, IsGone, RoundRule}
+use Rattle.cross_core_table.specs.Rules.{Table, IsSpent, AreJoined, IsSeated, IsGone, RoundRule, parts_of, times_joined}
 use Rattle.cross_core_table.specs.Plays.{giving, newcomer, part_of_view, joining, spent, first_view}
 use Rattle.cross_core_table.proofs.Lists.{at_within, at_end, at_somes, at_only}
 use Rattle.cross_core_table.proofs.Logs.{of_more, none_above, kept_first}
+use Rattle.cross_core_table.proofs.Parts.{before_set, once_kept, alone_kept, one_more, no_more, none_beyond}
 use Rattle.cross_core_table.proofs.Frames.{Goes, joined_kept, not_spent, StaySpent, seat_kept, set_spends_none, taken_set}
 
 alive : (k : Opening) (v : View) → v.opening ≡ Some k → is_some v.opening ≡ true
 alive k v e = ap (λ (x : Option Opening). is_some x) e
+
+-- its part was not joined
+lives : (k : Opening) (v : View) → v.opening ≡ Some k → times_joined v ≡ 0
+lives k v e = ap (λ (b : Bool). if b then 0 else 1) (alive k v e)
 
 -- what the seat with others to give is: the first
 pub is_first : (k : Opening) (s : Table) (r : RoundRule k s) (id : ℕ) (v : View) → get_elem? s.views id ≡ some v → 0 < v.given → (id ≡ 0) × (v.given ≡ length s.views)
@@ -47,6 +52,9 @@ splits k id v live some-given few s r me =
     let near : id < length s.views = at_within s.views id v me in
     let stay : StaySpent s.views vs'' = λ c x at gone. let t = set_spends_none s.views id v w me (alive k v live) c x at gone in (t.0, at_longer vs' (u ∷ []) c t.0 t.1, t.2) in
     let parts : (c : ℕ) (x : View) → get_elem? s.views c ≡ some x → IsSpent x → made_by c r.log ≡ made_by c r.log = λ c x at gone. refl in
+    let before = before_set s.views id v w me refl refl in
+    let firsts : (x : View) → get_elem? vs' 0 ≡ some x → x.joined ≡ v.joined = λ x here. let b = before 0 x here in
+    sym b.joined ∙ ap (λ (z : View). z.joined) (some-injective b.was v (sym b.there ∙ subst (λ (i : ℕ). get_elem? s.views i ≡ some v) first.0 me)) in
     let fresh : made_by v.given r.log ≡ [] = subst (λ (c : ℕ). made_by c r.log ≡ []) (sym first.1) (none_above (length s.views) (length s.views) r.log (omega arith) r.cores) in
     record {
       log = r.log;
@@ -64,6 +72,14 @@ splits k id v live some-given few s r me =
       takers = λ j x at. ⊎_elim
           (λ y. ⊎_elim (λ t. absurd (omega (arith, t.0, first.0))) (λ t. r.takers j x t.1) (at_set s.views id (suc j) w x y))
           (λ t. ap (λ (z : View). z.given) (sym t.1)) (at_end vs' u x (suc j) at);
+      once = λ x at c y there. ⊎_elim
+          (λ here. ⊎_elim
+          (λ own. once_kept k s r c x y (before 0 x here) (before c y own))
+          (λ t. ap (λ (xs : List Part). length (parts_of c xs)) (firsts x here)
+          ∙ (none_beyond s.views r.log c v.joined (omega (arith, t.0, same)) q.joined ∙ (sym (lives k v live) ∙ ap (λ (z : View). times_joined z) t.1)))
+          (at_end vs' u y c there))
+          (λ t. absurd (omega (arith, t.0, near, same))) (at_end vs' u x 0 at);
+      alone = λ j x at. ⊎_elim (λ y. alone_kept k s r j x (before (suc j) x y)) (λ t. ap (λ (z : View). z.joined) (sym t.1)) (at_end vs' u x (suc j) at);
       seated = λ j x at living. ⊎_elim
           (λ y. ⊎_elim
           (λ t. subst (λ (i : ℕ). IsSeated k s.words vs'' r.log i x) (sym t.0) (subst (λ (z : View). IsSeated k s.words vs'' r.log id z) t.1 (record {
@@ -121,6 +137,11 @@ joins k id v other u live some-given living none s r me apart them =
       gone,
     ) in
     let parts : (c : ℕ) (x : View) → get_elem? s.views c ≡ some x → IsSpent x → made_by c r.log ≡ made_by c r.log = λ c x there gone. refl in
+    let zeroth : get_elem? s.views 0 ≡ some v = subst (λ (i : ℕ). get_elem? s.views i ≡ some v) first.0 me in
+    let joined_once : length (parts_of other w.joined) ≡ 1 = one_more other v.joined (part_of_view u) qu.core ∙ ap suc (r.once v zeroth other u at ∙ lives k u living) in
+    let taker : (x : View) → get_elem? vs'' 0 ≡ some x → w ≡ x = λ x there. ⊎_elim (λ t. absurd (apart (sym t.0 ∙ sym first.0)))
+    (λ t. ⊎_elim (λ y. y.1) (λ y. absurd (y.0 (sym first.0))) (at_set s.views id 0 w x t.1))
+    (at_set vs' other 0 spent x there) in
     let mine : IsSeated k s.words vs'' r.log id w = record {
       opening = q.opening;
       core = q.core;
@@ -146,6 +167,15 @@ joins k id v other u live some-given living none s r me apart them =
           (at_set vs' other 0 spent x there);
       takers = λ j x there. ⊎_elim (λ t. ap (λ (z : View). z.given) (sym t.1))
           (λ t. ⊎_elim (λ y. absurd (omega (arith, y.0, first.0))) (λ y. r.takers j x y.1) (at_set s.views id (suc j) w x t.1))
+          (at_set vs' other (suc j) spent x there);
+      once = λ x here c y there. subst (λ (z : View). length (parts_of c z.joined) ≡ times_joined y) (taker x here) (⊎_elim
+          (λ t. subst (λ (z : View). length (parts_of c w.joined) ≡ times_joined z) t.1 (subst (λ (i : ℕ). length (parts_of i w.joined) ≡ 1) (sym t.0) (joined_once)))
+          (λ t. no_more c v.joined (part_of_view u) (λ e. t.0 (sym e ∙ qu.core)) ∙ ⊎_elim
+          (λ y'. r.once v zeroth c v (subst (λ (i : ℕ). get_elem? s.views i ≡ some v) (sym y'.0) me) ∙ ap (λ (z : View). times_joined z) y'.1)
+          (λ y'. r.once v zeroth c y y'.1) (at_set s.views id c w y t.1))
+          (at_set vs' other c spent y there));
+      alone = λ j x there. ⊎_elim (λ t. ap (λ (z : View). z.joined) (sym t.1))
+          (λ t. ⊎_elim (λ y. absurd (omega (arith, y.0, first.0))) (λ y. r.alone j x y.1) (at_set s.views id (suc j) w x t.1))
           (at_set vs' other (suc j) spent x there);
       seated = λ j x there living'. ⊎_elim (λ t. absurd (false≢true (ap (λ (z : View). is_some z.opening) t.1 ∙ living')))
           (λ t. ⊎_elim
@@ -188,6 +218,8 @@ opens k ws objects small same planned long zeros =
       seats = omega arith;
       giver = λ u at. ap (λ (x : View). x.given) (sym (at_only v u 0 at).1);
       takers = λ j u at. absurd (omega (arith, (at_only v u (suc j) at).0));
+      once = λ x at c u there. ap (λ (z : View). length (parts_of c z.joined)) (sym (at_only v x 0 at).1) ∙ ap (λ (z : View). times_joined z) (at_only v u c there).1;
+      alone = λ j u at. absurd (omega (arith, (at_only v u (suc j) at).0));
       seated = λ j u at living. let t = at_only v u j at in
           subst (λ (i : ℕ). IsSeated k ws (v ∷ []) [] i u) (sym t.0) (subst (λ (x : View). IsSeated k ws (v ∷ []) [] 0 x) t.1
           (record { opening = refl; core = refl; made = refl; held = tt; look = tt; tried = tt; joined = tt }));

@@ -1,6 +1,6 @@
 -- The rule of a round: what holds between any two atomic steps of any number of seats, on any threads. Word 0 counts stamps, and each object has a word
 -- (0, or 1 plus the number of the core that holds it) and a slot. The table, its words and its seats are this project's own.
-use Rattle.std.specs.Prelude.{◌≡◌, ◌≢◌, ◌<◌, ◌≤◌, ◌^◌, ℕ, suc, List, [], ◌∷◌, ◌++◌, length, slice_index, true, false, is_some, Option, Some, None}
+use Rattle.std.specs.Prelude.{◌≡◌, ◌≢◌, ◌<◌, ◌≤◌, ◌^◌, ◌==◌, ℕ, suc, List, [], ◌∷◌, ◌++◌, length, filter, slice_index, true, false, is_some, if◌then◌else◌, Option, Some, None}
 use mathlib.Core.Option as option
 use lib.ListN.{get_elem?}
 use Rattle.atomic_table.specs.Table.{State}
@@ -53,6 +53,14 @@ abbrev pub AreJoined : List View → List Logged → List Part → Type 0
 AreJoined vs log [] = Unit {0}
 AreJoined vs log (x ∷ xs) = (x.entries ≡ made_by x.core log) × ((u : View) × (get_elem? vs x.core ≡ option.some u) × IsSpent u) × AreJoined vs log xs
 
+-- those that are of a core
+abbrev pub parts_of : (core : ℕ) → List Part → List Part
+parts_of c xs = filter (λ (x : Part). x.core == c) xs
+
+-- how often the part of a seat was joined: once if the seat was taken in
+abbrev pub times_joined : View → ℕ
+times_joined u = if is_some u.opening then 0 else 1
+
 -- what holds of a seat that was not taken in
 pub record IsSeated (k : Opening) (ws : List ℕ) (vs : List View) (log : List Logged) (j : ℕ) (v : View) : Type 0 where
   pub opening : v.opening ≡ Some k
@@ -103,6 +111,9 @@ pub record RoundRule (k : Opening) (s : Table) : Type 0 where
   -- the first seat gives the others
   pub giver : (v : View) → get_elem? s.views 0 ≡ option.some v → v.given ≡ length s.views
   pub takers : (j : ℕ) (v : View) → get_elem? s.views (suc j) ≡ option.some v → v.given ≡ 0
+  -- among the parts that the first seat has joined that of each seat which was taken in stands once, and that of no other; other seats have joined none
+  pub once : (v : View) → get_elem? s.views 0 ≡ option.some v → (c : ℕ) (u : View) → get_elem? s.views c ≡ option.some u → length (parts_of c v.joined) ≡ times_joined u
+  pub alone : (j : ℕ) (v : View) → get_elem? s.views (suc j) ≡ option.some v → v.joined ≡ []
   -- what each seat knows
   pub seated : (j : ℕ) (v : View) → get_elem? s.views j ≡ option.some v → is_some v.opening ≡ true → IsSeated k s.words s.views log j v
   pub gone : (j : ℕ) (v : View) → get_elem? s.views j ≡ option.some v → is_some v.opening ≡ false → IsGone v

@@ -1,10 +1,12 @@
 //! A seat at its bench.
 
-ghost use Rattle.std.specs.Prelude.{◌≡◌, ◌<◌, length, Some};
+ghost use Rattle.std.specs.Prelude.{◌≡◌, ◌<◌, ℕ, length, Some};
+ghost use Rattle.std.specs.Vec.{vec_capacity};
 ghost use Rattle.bus_semantics.specs.Plan.{plan_of};
 ghost use Rattle.bus_semantics.specs.Wanted.{wanted_of};
-ghost use Rattle.port_objects.specs.Benches.{IsAsked, written_last, benched, IsWritten};
+ghost use Rattle.port_objects.specs.Benches.{IsAsked, IsActed, written_last, benched, IsWritten};
 ghost use Rattle.cross_core_table.specs.Logs.{plan_in};
+ghost use Rattle.cross_core_table.specs.OpenRounds.{OpenRound, told_of};
 ghost use Rattle.cross_core_table.specs.Places.{KnowsAfter};
 ghost use Rattle.cross_core_table.specs.Seats.{IsSeatOf, view_of, core_of};
 
@@ -127,7 +129,15 @@ impl<'a> Bench for SeatBench<'a> {
 
     ghost told = { told_of };
 
-    fn act(&mut self, object: u32, who: &Actor, wish: &Wish) -> Benched {
+    /// As `act_once`.
+    fn act(&mut self, object: u32, who: &Actor, wish: &Wish) -> Benched
+        requires room { 0 < (told_of self.old).room }
+        requires asked { IsAsked (plan_in self.old.round.opening) object who.now (wanted_of wish.now) }
+        ensures home { ◌≡◌ {A = OpenRound × ℕ} (self.new.round, self.new.core) (self.old.round, self.old.core) }
+        ensures plan { plan_in self.new.round.opening ≡ plan_in self.old.round.opening }
+        ensures acted { IsActed (plan_in self.old.round.opening) object who.now (wanted_of wish.now) (told_of self.old) (told_of self.new) result }
+        ensures knows { KnowsAfter self.old.round.opening self.old.core object who.now (wanted_of wish.now) self.old.view self.new.view result }
+    {
         self.act_once(object, who, wish)
     }
 
@@ -135,13 +145,24 @@ impl<'a> Bench for SeatBench<'a> {
         stamp_at(self.round.top(), &mut self.seat, entry)
     }
 
+    /// As `act_once`, and writes the entry down at the end of this list.
     fn act_into(
         &mut self,
         object: u32,
         who: &Actor,
         wish: &Wish,
         made: &mut Vec<Stamped>,
-    ) -> Answered {
+    ) -> Answered
+        requires room { 0 < (told_of self.old).room }
+        requires asked { IsAsked (plan_in self.old.round.opening) object who.now (wanted_of wish.now) }
+        requires space { length made.old.items < vec_capacity made.old }
+        ensures home { ◌≡◌ {A = OpenRound × ℕ} (self.new.round, self.new.core) (self.old.round, self.old.core) }
+        ensures plan { plan_in self.new.round.opening ≡ plan_in self.old.round.opening }
+        ensures capacity { vec_capacity made.new ≡ vec_capacity made.old }
+        ensures written { IsWritten made.old.items made.new.items result }
+        ensures acted { IsActed (plan_in self.old.round.opening) object who.now (wanted_of wish.now) (told_of self.old) (told_of self.new) (benched result made.new.items) }
+        ensures knows { KnowsAfter self.old.round.opening self.old.core object who.now (wanted_of wish.now) self.old.view self.new.view (benched result made.new.items) }
+    {
         last_entries_are_last();
         let answered = self.act_in_place(object, who, wish);
         if let Answered::Made = answered {

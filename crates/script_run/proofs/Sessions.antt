@@ -1,5 +1,5 @@
 -- One more item of a session, or entries of a round: a call, a run mark, a closing word.
-use Rattle.std.proofs.Common.{◌≡◌, ◌≢◌, ℕ, suc, ◌+◌, ◌-◌, ◌<◌, ◌≤◌, true, false, List, [], ◌∷◌, ◌++◌, length, take, drop, replicate, get_or, Option, refl, sym, ap, ◌∙◌, subst, append_assoc, append-nil, drop-cons, arith}
+use Rattle.std.proofs.Common.{◌≡◌, ◌≢◌, ℕ, suc, ◌+◌, ◌-◌, ◌^◌, ◌<◌, ◌≤◌, ◌==◌, min, true, false, List, [], ◌∷◌, ◌++◌, length, take, drop, replicate, get_or, Option, refl, sym, ap, ◌∙◌, subst, append_assoc, append-nil, drop-cons, arith}
 use Rattle.std.specs.List.{list_all}
 use Rattle.std.proofs.lemmas.Bool.{le-leb, and_from}
 use Rattle.std.proofs.lemmas.List.{replicate-append-replicate, take_more, take-append-drop}
@@ -31,7 +31,7 @@ use Rattle.script_run.specs.Legal.{IsLegalFrom}
 use Rattle.script_run.specs.Texts.{entries_text}
 use Rattle.script_run.specs.Running.{PrintsRun, PrintsBeginning}
 use Rattle.script_run.specs.Sizes.{is_sized_entry, is_sized_stamped, is_sized_item}
-use Rattle.script_run.specs.Standing.{Place, outside, inside, IsAt, Stands, IsCut, GoesOn, came_of, Carries, CarriesLap}
+use Rattle.script_run.specs.Standing.{Place, outside, inside, IsAt, Stands, IsCut, GoesOn, came_of, Carries, CarriesLap, LapCloses, word_after, EndsWith}
 use Rattle.script_run.proofs.Items.{items_after, sized-items, items_fit, history-items, spelling-items, legal-items, inside-items, placed-items, orders-items, made-items}
 use Rattle.script_run.proofs.Quieting.{QuietLaw, idles_are_quiet}
 
@@ -105,7 +105,7 @@ mark_carries v n put before now told p m h orders base s =
 
 pub entries_carry : (v : Version) (old new : NodeState) (es : List Stamped) (put : Put) (before now : Option (List ℕ)) (q : Plan) (count total : ℕ)
     → new.plan ≡ old.plan → new.mapping ≡ old.mapping
-    → are_within es ≡ true → list_all is_sized_stamped es ≡ true → total ≤ count + length es
+    → are_within es ≡ true → list_all is_sized_stamped es ≡ true → total ≡ min (count + length es) (2 ^ 64 - 1)
     → ((h : History) → IsLawfulNode old h → IsLawfulNode new (after es h))
     → q ≡ plan_of new.plan → ToldAfter put before now (entries_text v q es)
     → Carries v (came_of put) [] (inside count) (inside total) old new before now
@@ -198,29 +198,26 @@ cut_before v Failed first left from between to a b before now cut f p m h orders
 cut_before v Memory first left from between to a b before now cut f p m h orders base s =
     subst (λ os. IsCut v p m h os base now) (append_assoc orders first left) (left_more v p m h (orders ++ first) left base now (f p m h orders base s))
 
--- it made fewer entries too
-pub fewer : (v : Version) (more : List Ordered) (from : Place) (many few : ℕ) (a b : NodeState) (before after : Option (List ℕ)) → few ≤ many
-    → Carries v Finished more from (inside many) a b before after → Carries v Finished more from (inside few) a b before after
-fewer v more from many few a b before now less f p m h orders base s =
-    let there = f p m h orders base s in
-    record {
-      session = there.session;
-      did = there.did;
-      placed = there.placed;
-      at = (there.at.0, let n = there.at.1 in omega (arith, n, less));
-      sized = there.sized;
-      legal = there.legal;
-      plan = there.plan;
-      mapping = there.mapping;
-      lawful = there.lawful;
-      text = there.text;
-    }
-
 -- entries of a round, and then the pass
 pub lap_then : (v : Version) (lap : Lap) (few count : ℕ) (a b c : NodeState) (before between after : Option (List ℕ))
     → Carries v Finished [] (inside few) (inside count) a b before between → CarriesLap v lap count b c between after → CarriesLap v lap few a c before after
 lap_then v (Made more) few count a b c before between now f g = carries_then v Finished [] [] (inside few) (inside count) (inside more) a b c before between now f g
 lap_then v (Ended answer) few count a b c before between now f g = carries_then v answer [] [] (inside few) (inside count) outside a b c before between now f g
+
+-- ---- what closes a line
+
+pub idle_closes : (pass : List Stamped) (put : Put) (before after : Option (List ℕ)) → pass ≡ [] → ToldAfter put before after (closing_text idle) → LapCloses (Ended (came_of put)) pass after
+idle_closes pass putting.Done before now none told = subst (λ es. EndsWith (word_after es) now) (sym none) (before, told)
+idle_closes pass putting.Failed before now none told = tt
+
+-- a pass that has an entry
+pub late_closes : (lap : Lap) (pass : List Stamped) (told : Option (List ℕ)) → (length pass == 0) ≡ false → ((s : Stamped) (es : List Stamped) → LapCloses lap (s ∷ es) told) → LapCloses lap pass told
+late_closes lap [] told some closes = absurd (cc some)
+late_closes lap (s ∷ es) told some closes = closes s es
+
+pub some_entries : (es : List Stamped) → (length es == 0) ≡ false → 0 < length es
+some_entries [] some = absurd (cc some)
+some_entries (e ∷ es) some = omega arith
 
 -- so many, one, and the rest are all of them
 pub all_of : {X : Type 0} → (x : X) (i count : ℕ) → i < count → replicate i x ++ (x ∷ [] ++ replicate (count - suc i) x) ≡ replicate count x

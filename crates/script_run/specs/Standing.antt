@@ -1,15 +1,16 @@
 -- Where a node stands within a run of a script, and how its lines carry it on.
-use Rattle.std.specs.Prelude.{◌≡◌, ◌≤◌, ◌+◌, ◌-◌, ◌^◌, min, ℕ, List, [], ◌++◌, true, false, Option}
+use Rattle.std.specs.Prelude.{◌≡◌, ◌<◌, ◌-◌, ◌^◌, min, ℕ, List, [], ◌∷◌, ◌++◌, true, false, Option}
 use Rattle.std.specs.List.{list_all}
 use Rattle.rte_text.specs.declared.sink.Put.{Put}
 use Rattle.rte_text.specs.declared.sink.Put.TheVariants as putting
 use Rattle.rte_text.specs.Sinks.{AppendsWhereTold, AppendsPrefixWhereTold}
+use Rattle.bus_semantics.specs.declared.entries.Stamped.{Stamped}
 use Rattle.bus_semantics.specs.declared.script.Mapping.{Mapping}
 use Rattle.bus_semantics.specs.declared.version.Version.{Version}
 use Rattle.bus_semantics.specs.Plan.{Plan, plan_of}
 use Rattle.bus_semantics.specs.History.{History}
-use Rattle.bus_semantics.specs.Run.{Session, history_of, Ordered, orders_of, is_placed, is_inside, made_in_line}
-use Rattle.bus_semantics.specs.Spelling.{spelling_of}
+use Rattle.bus_semantics.specs.Run.{Closing, idle, unsettled, Session, history_of, Ordered, orders_of, is_placed, is_inside, made_in_line}
+use Rattle.bus_semantics.specs.Spelling.{closing_text, spelling_of}
 use Rattle.core_runtime.specs.Nodes.{NodeState, IsLawfulNode}
 use Rattle.script_run.specs.declared.script.ScriptRun.{ScriptRun}
 use Rattle.script_run.specs.declared.script.ScriptRun.TheVariants as run
@@ -19,14 +20,14 @@ use Rattle.script_run.specs.Legal.{IsLegalFrom}
 use Rattle.script_run.specs.Running.{FaultsAfter}
 use Rattle.script_run.specs.Sizes.{is_sized_item}
 
--- outside run lines, or inside one that has made at least so many entries
+-- outside run lines, or inside one that has made so many entries, as far as a `u64` counts
 pub data Place : Type 0 where
   outside : Place
   inside : (made : ℕ) → Place
 
 abbrev pub IsAt : Place → Session → Type 0
 IsAt outside s = is_inside s ≡ false
-IsAt (inside n) s = (is_inside s ≡ true) × (n ≤ made_in_line s)
+IsAt (inside n) s = (is_inside s ≡ true) × (n ≡ min (made_in_line s) (2 ^ 64 - 1))
 
 -- a legal run that goes on from the history and did these orders was put after `base`, and the node is lawful for both
 pub record Stands (v : Version) (p : Plan) (m : Mapping) (h : History) (orders : List Ordered) (place : Place) (base : Option (List ℕ)) (n : NodeState) (told : Option (List ℕ)) : Type 0 where
@@ -70,10 +71,26 @@ abbrev pub CarriesLap : Version → Lap → (made : ℕ) → NodeState → NodeS
 CarriesLap v (lap.Made more) made old new before after = Carries v run.Finished [] (inside made) (inside more) old new before after
 CarriesLap v (lap.Ended answer) made old new before after = Carries v answer [] (inside made) outside old new before after
 
--- more entries than before, as far as a `u64` counts
+-- a lap that closes nothing made entries, and too few of them to close the line
 abbrev pub LapRises : Lap → (made : ℕ) → Type 0
-LapRises (lap.Made more) made = min (made + 1) (2 ^ 64 - 1) ≤ more
+LapRises (lap.Made more) made = (made < more) × (more < 100000)
 LapRises (lap.Ended answer) made = Unit {0}
+
+-- the word that closes a line after a pass with these entries, if one does
+abbrev pub word_after : List Stamped → Closing
+word_after [] = idle
+word_after (s ∷ more) = unsettled
+
+-- what was put ends with the line of this word
+abbrev pub EndsWith : Closing → Option (List ℕ) → Type 0
+EndsWith word told = (before : Option (List ℕ)) × AppendsWhereTold before told (closing_text word)
+
+-- the line goes on only after a pass with entries; a lap that closes it puts `idle` after a pass without one, and `unsettled` after any other
+abbrev pub LapCloses : Lap → (pass : List Stamped) → Option (List ℕ) → Type 0
+LapCloses (lap.Made more) pass told = word_after pass ≡ unsettled
+LapCloses (lap.Ended run.Finished) pass told = EndsWith (word_after pass) told
+LapCloses (lap.Ended run.Failed) pass told = Unit {0}
+LapCloses (lap.Ended run.Memory) pass told = Unit {0}
 
 abbrev pub LapFaults : Lap → ℕ → ℕ → Type 0
 LapFaults (lap.Made more) before after = after ≡ before

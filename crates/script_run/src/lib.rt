@@ -11,5 +11,6 @@ mod script;
 mod sizes;
 
 pub use laws::runs_from_nothing_are_runs;
+pub use run_line::{Lap, put_lap};
 pub use script::{ScriptRun, run_script};
 pub use script_reading::{ScriptRead, read_script};

@@ -1,10 +1,13 @@
 //! Run lines: rounds of the cores, until nothing may come.
 
-ghost use Rattle.std.specs.Prelude.{◌≡◌, ◌+◌, ◌<◌, ◌≤◌, ℕ, [], ◌∷◌, length};
+ghost use Rattle.std.specs.Prelude.{◌≡◌, ◌+◌, ◌-◌, ◌^◌, ◌<◌, ◌≤◌, min, ℕ, List, [], ◌∷◌, length};
+ghost use Rattle.bus_semantics.specs.declared.entries.Stamped.{Stamped};
+ghost use Rattle.bus_semantics.specs.declared.version.Version.{Version};
 ghost use Rattle.bus_semantics.specs.Run.{a_run};
 ghost use Rattle.script_run.specs.declared.script.ScriptRun.TheVariants.{Finished};
+ghost use Rattle.core_runtime.specs.Nodes.{NodeState};
 ghost use Rattle.script_run.specs.Running.{FaultsAfter};
-ghost use Rattle.script_run.specs.Standing.{Carries, CarriesLap, LapFaults, LapRises, inside, outside};
+ghost use Rattle.script_run.specs.Standing.{Carries, CarriesLap, LapCloses, LapFaults, LapRises, inside, outside};
 
 use crate::lines::{came_of, put_entries};
 use crate::script::ScriptRun;
@@ -19,9 +22,9 @@ use trace_text::{idle_line, run_line, unsettled_line};
 const MOST_MADE: u64 = 100_000;
 
 /// What came of a round and the serial pass after it.
-#[derive(Clone, Copy)]
-pub(crate) enum Lap {
-    /// Entries: so many in all since the mark of the run line, as far as a `u64` counts. Nothing closes the line yet.
+#[derive(Clone, Copy, Debug, PartialEq, Eq)]
+pub enum Lap {
+    /// Entries, of which the pass made one at least: so many in all since the mark of the run line. Nothing closes the line yet.
     Made(u64),
     /// The end: the line is closed, or the whole run was cut off.
     Ended(ScriptRun),
@@ -40,13 +43,26 @@ fn put_round<R: Threads + Sync, K: Sink, G: Gate>(
     ensures plan { n.new.plan ≡ n.old.plan }
     ensures mapping { n.new.mapping ≡ n.old.mapping }
     ensures room { result ≡ Finished → n.new.mapping.cores ≤ n.new.spare }
-    ensures carries { (made : ℕ) → Carries v result [] (inside made) (inside (made + length n.new.entries)) n.old n.new (K.told out.old) (K.told out.new) }
+    ensures carries { (made : ℕ) → Carries v result [] (inside made) (inside (min (made + length n.new.entries) (2 ^ 64 - 1))) n.old n.new (K.told out.old) (K.told out.new) }
     ensures faults { FaultsAfter result (K.faults out.old) (K.faults out.new) }
 {
     match run_round(rt, alloc, n, gate) {
         RoundRun::Ran => came_of(put_entries(n.plan(), n.entries(), v, out, line)),
         RoundRun::Memory => ScriptRun::Memory,
     }
+}
+
+/// Closes the run line if it has made 100,000 entries or more.
+fn close_late<K: Sink>(made: u64, out: &mut K) -> Lap
+    ensures carries { (v : Version) (n : NodeState) → CarriesLap v result made n n (K.told out.old) (K.told out.new) }
+    ensures rises { (before : ℕ) → (made < 100000 → before < made) → LapRises result before }
+    ensures closes { (s : Stamped) (pass : List Stamped) → LapCloses result (s ∷ pass) (K.told out.new) }
+    ensures faults { LapFaults result (K.faults out.old) (K.faults out.new) }
+{
+    if made < MOST_MADE {
+        return Lap::Made(made);
+    }
+    Lap::Ended(came_of(out.put(unsettled_line())))
 }
 
 /// Makes a serial pass after so many entries, and puts its entries; or closes the run line at rest, where there are none.
@@ -56,6 +72,7 @@ fn put_pass<K: Sink>(n: &mut Node, made: u64, v: Version, out: &mut K, line: &mu
     ensures mapping { n.new.mapping ≡ n.old.mapping }
     ensures carries { CarriesLap v result made n.old n.new (K.told out.old) (K.told out.new) }
     ensures rises { LapRises result made }
+    ensures closes { LapCloses result n.new.entries (K.told out.new) }
     ensures faults { LapFaults result (K.faults out.old) (K.faults out.new) }
 {
     serial_pass(n);
@@ -63,13 +80,15 @@ fn put_pass<K: Sink>(n: &mut Node, made: u64, v: Version, out: &mut K, line: &mu
         return Lap::Ended(came_of(out.put(idle_line())));
     }
     match put_entries(n.plan(), n.entries(), v, out, line) {
-        Put::Done => Lap::Made(made.saturating_add(n.entries().len() as u64)),
+        Put::Done => close_late(made.saturating_add(n.entries().len() as u64), out),
         Put::Failed => Lap::Ended(ScriptRun::Failed),
     }
 }
 
-/// Makes a round and a serial pass, after so many entries since the mark of the run line.
-fn put_lap<R: Threads + Sync, K: Sink, G: Gate>(
+/// Makes a round and a serial pass, after so many entries since the mark of the run line, and puts their entries. A pass without an entry
+/// closes the line with `idle`, however many entries there were. After any other the line is closed with `unsettled` if it has made
+/// 100,000 entries, and else goes on with more entries than before. So a line is closed after the first lap with 100,000 entries.
+pub fn put_lap<R: Threads + Sync, K: Sink, G: Gate>(
     rt: &R,
     alloc: Global,
     n: &mut Node,
@@ -83,6 +102,7 @@ fn put_lap<R: Threads + Sync, K: Sink, G: Gate>(
     ensures mapping { n.new.mapping ≡ n.old.mapping }
     ensures carries { CarriesLap v result made n.old n.new (K.told out.old) (K.told out.new) }
     ensures rises { LapRises result made }
+    ensures closes { LapCloses result n.new.entries (K.told out.new) }
     ensures faults { LapFaults result (K.faults out.old) (K.faults out.new) }
 {
     match put_round(rt, alloc, n, v, out, line, gate) {
@@ -124,9 +144,6 @@ pub(crate) fn put_run<R: Threads + Sync, K: Sink, G: Gate>(
         match put_lap(rt, alloc, n, made, v, out, line, gate) {
             Lap::Made(more) => made = more,
             Lap::Ended(answer) => return answer,
-        }
-        if MOST_MADE <= made {
-            return came_of(out.put(unsettled_line()));
         }
     }
 }

@@ -10,6 +10,7 @@ pub mod Changing
 pub mod Wishes
 pub mod Stepping
 pub mod Starts
+pub mod Counted
 pub mod Beginning
 pub mod Steps
 pub mod Calling

@@ -1,6 +1,6 @@
 -- Slots that may sleep: a free task of whose events none may start, a machine whose next phase is held (SWS_RTE: mode machine instance), and
 -- an activation that waits at an exclusive area (SWS_RTE: Rte_Enter) or for an answer (SWS_RTE: Rte_Call).
-use Rattle.std.specs.Prelude.{◌≡◌, ℕ, List, [], ◌∷◌, Bool, true, false, Option, Some, None, slice_get}
+use Rattle.std.specs.Prelude.{◌≡◌, ◌+◌, ◌&&◌, ℕ, zero, suc, List, [], ◌∷◌, length, Bool, true, false, if◌then◌else◌, Option, Some, None, slice_get, slice_index_or}
 use Rattle.rte_value.specs.declared.kinds.ActKey.{ActKey}
 use Rattle.bus_semantics.specs.declared.entries.Actor.TheVariants.{Act, Machine}
 use Rattle.bus_semantics.specs.Plan.{Plan}
@@ -15,7 +15,10 @@ use Rattle.task_slots.specs.declared.slot.Slot.{Slot}
 use Rattle.task_slots.specs.declared.slot.Slot.TheVariants as slot
 use Rattle.task_slots.specs.declared.slot.Activity.{Activity}
 use Rattle.task_slots.specs.declared.slot.Activity.TheVariants.{Free}
-use Rattle.task_slots.specs.Slots.{asked_by, slot_tries, is_key_of, events_of_slot}
+use Rattle.port_objects.specs.Benches.{Work, IsFurther}
+use Rattle.task_slots.specs.declared.look.Looks.{Looks}
+use Rattle.task_slots.specs.declared.look.Looks.TheVariants as looks
+use Rattle.task_slots.specs.Slots.{asked_by, slot_tries, is_key_of, events_of_slot, waits}
 use Rattle.task_slots.specs.Looking.{AllHeld}
 
 -- where a bench tells its objects: no event of one slot that sleeps may start
@@ -69,3 +72,32 @@ pub record HearsAt (p : Plan) (t : TaskSet) (s : Slot) (point : ℕ) : Type 0 wh
   pub there : object_of p (Act key) (to_hear point) ≡ Some object
   pub plain : key.point ≡ None
   pub own : is_key_of p (events_of_slot s) key ≡ true
+
+-- ---- how many looks it takes at what is awake
+
+-- the sum of a number of each place below one
+abbrev pub sum_below : (each : ℕ → ℕ) → (places : ℕ) → ℕ
+sum_below f zero = 0
+sum_below f (suc n) = sum_below f n + f n
+
+-- one look at the event of a place if it is awake and has an object
+abbrev pub event_looks : Plan → (events : List ℕ) → (row : List Bool) → (place : ℕ) → ℕ
+event_looks p events row i = if slice_index_or row i false && waits p (slice_index_or events i 0) then 1 else 0
+
+abbrev pub row_looks : Plan → (events : List ℕ) → (row : List Bool) → ℕ
+row_looks p events row = sum_below (event_looks p events row) (length events)
+
+-- of a free task so many looks; else one
+abbrev pub task_looks_awake : Plan → (events : List ℕ) → (row : List Bool) → Activity → ℕ
+task_looks_awake p events row Free = row_looks p events row
+task_looks_awake p events row a = 1
+
+-- of a slot whose events these are awake
+abbrev pub looks_awake : Plan → Slot → (row : List Bool) → ℕ
+looks_awake p (slot.Task s) row = task_looks_awake p s.events.items row s.activity
+looks_awake p (slot.Machine n) row = 1
+
+-- where nothing came, so many looks answered NotYet
+abbrev pub LooksCounted : (looks : ℕ) → (old new : Option Work) → Looks → Type 0
+LooksCounted n old new looks.Nothing = IsFurther old new [] n 0
+LooksCounted n old new r = Unit {0}

@@ -12,7 +12,7 @@ ghost use Rattle.task_slots.specs.Ready.{IsReadyTask, IsReadySlot};
 ghost use Rattle.task_slots.specs.Look.{IsWrittenLook, look_of};
 ghost use Rattle.task_slots.specs.Looking.{Looked};
 ghost use Rattle.task_slots.specs.Stepping.{SlotLooked};
-ghost use Rattle.task_slots.specs.Waiting.{EventsHeld};
+ghost use Rattle.task_slots.specs.Waiting.{EventsHeld, LooksCounted, looks_awake};
 
 use crate::look::Looks;
 use crate::looking::look_at_task;
@@ -50,6 +50,7 @@ fn look_at_task_awake<B: Bench>(
     ensures slot { SlotLooked (plan_of p.now) t.now (slots.Task slot.old) (slots.Task slot.new) (look_of result made.new.items) }
     ensures width { length row.new ≡ length slot.old.events.items }
     ensures held { EventsHeld (plan_of p.now) (B.told bench.old).objects slot.old.events.items row.new }
+    ensures counted { LooksCounted (looks_awake (plan_of p.now) (slots.Task slot.old) row.old) (B.told bench.old).work (B.told bench.new).work result }
 {
     match slot.activity {
         Activity::Free => start_due(p, t, slot, row, bench, made),
@@ -59,7 +60,7 @@ fn look_at_task_awake<B: Bench>(
 
 /// Tries what a slot may do as `look_at` does. Of the events of a free task it looks at those of the row alone, which are awake, by
 /// position. Where the bench tells its objects, what sleeps is held by the objects before, and so is what it puts to sleep. Where
-/// the bench tells its work, `Nothing` counts no look, since not every event was looked at. It takes no memory.
+/// the bench tells its work, `Nothing` counts a look for each that is awake. It takes no memory.
 pub fn look_at_awake<B: Bench>(
     p: &BusPlan,
     t: &TaskSet,
@@ -85,6 +86,7 @@ pub fn look_at_awake<B: Bench>(
     ensures slot { SlotLooked (plan_of p.now) t.now slot.old slot.new (look_of result made.new.items) }
     ensures width { length row.new ≡ length (events_of_slot slot.old) }
     ensures held { EventsHeld (plan_of p.now) (B.told bench.old).objects (events_of_slot slot.old) row.new }
+    ensures counted { LooksCounted (looks_awake (plan_of p.now) slot.old row.old) (B.told bench.old).work (B.told bench.new).work result }
 {
     match slot {
         Slot::Task(task) => look_at_task_awake(p, t, task, row, bench, made),

@@ -14,7 +14,7 @@ ghost use Rattle.task_slots.specs.Ready.{may_be_mapped, IsReadyTask};
 ghost use Rattle.task_slots.specs.Look.{IsWrittenLook, look_of};
 ghost use Rattle.task_slots.specs.Looking.{StartBy, Looked};
 ghost use Rattle.task_slots.specs.Stepping.{SlotLooked};
-ghost use Rattle.task_slots.specs.Waiting.{EventsHeld};
+ghost use Rattle.task_slots.specs.Waiting.{EventsHeld, LooksCounted, row_looks};
 
 use crate::asking::what_is_asked_may_be_tried;
 use crate::look::Looks;
@@ -49,6 +49,7 @@ fn start_first<B: Bench>(
         (B.told bench.old) (B.told bench.new) (look_of result made.new.items) }
     ensures width { length row.new ≡ length events.now }
     ensures held { EventsHeld (plan_of p.now) (B.told bench.old).objects events.now row.new }
+    ensures counted { LooksCounted (row_looks (plan_of p.now) events.now row.old) (B.told bench.old).work (B.told bench.new).work result }
 {
     last_entries_are_last();
     let mut from = 0;
@@ -89,6 +90,7 @@ pub(crate) fn start_due<B: Bench>(
     ensures slot { SlotLooked (plan_of p.now) t.now (slots.Task slot.old) (slots.Task slot.new) (look_of result made.new.items) }
     ensures width { length row.new ≡ length slot.old.events.items }
     ensures held { EventsHeld (plan_of p.now) (B.told bench.old).objects slot.old.events.items row.new }
+    ensures counted { LooksCounted (row_looks (plan_of p.now) slot.old.events.items row.old) (B.told bench.old).work (B.told bench.new).work result }
 {
     what_is_asked_may_be_tried();
     match start_first(p, slot.events.as_slice(), row, bench, made) {

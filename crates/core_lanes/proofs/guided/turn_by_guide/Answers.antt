@@ -8,6 +8,7 @@ use Rattle.bus_semantics.specs.Locality.{starts_its_own}
 use Rattle.bus_semantics.specs.Objects.{touched_by, IsObject}
 use Rattle.port_objects.specs.Benches.{written_last}
 use Rattle.core_lanes.proofs.Taken.{stepped_taken, last_is}
+use Rattle.core_lanes.proofs.Leaving.{nothing_said, another_held}
 use Rattle.core_lanes.proofs.guided.turn_by_guide.Goals as goal
 
 pub wake_after-requires-clause-within : goal.wake_after-requires-clause-within
@@ -23,3 +24,9 @@ pub returns-in-Stepped-clause-taken : goal.returns-in-Stepped-clause-taken
 returns-in-Stepped-clause-taken c =
     let turned = c.in-Stepped.ensures.turned in
     stepped_taken (plan_of c.args.p.now) c.args.t.now c.args.core.now c.turn_of_awake.new.c c.args.bench.now c.turn_of_awake.new.b c.turn_of_awake.new.c turned.0 c.in-Stepped.ensures.ready turned.1.apart (record { number = refl; slots = refl })
+
+pub returns-in-NothingNow-clause-looked : goal.returns-in-NothingNow-clause-looked
+returns-in-NothingNow-clause-looked c = λ none. nothing_said (plan_of c.args.p.now) c.args.t.now c.args.core.now c.turn_of_awake.new.c c.args.bench.now c.turn_of_awake.new.b _ _ c.in-NothingNow.ensures.turned.1 c.in-NothingNow.ensures.counted
+
+pub returns-in-Contended-clause-looked : goal.returns-in-Contended-clause-looked
+returns-in-Contended-clause-looked c = λ none. another_held (plan_of c.args.p.now) c.args.t.now c.args.core.now c.turn_of_awake.new.c c.args.bench.now c.turn_of_awake.new.b _ _ c.in-Contended.ensures.turned.1

@@ -2,6 +2,7 @@ use Rattle.std.proofs.Common.{sym, subst}
 use Rattle.bus_semantics.specs.Plan.{plan_of}
 use Rattle.core_lanes.specs.Rooms.{HasRoom}
 use Rattle.core_lanes.proofs.Taken.{stepped_taken, none_taken, lost_taken, cleared_room}
+use Rattle.core_lanes.proofs.Leaving.{nothing_said, another_held}
 use Rattle.core_lanes.proofs.MergedTurns.{same_ready}
 use Rattle.core_lanes.proofs.turns.turn_once.Goals as goal
 
@@ -29,3 +30,9 @@ returns-in-Contended-clause-room c = subst HasRoom (sym c.in-Contended.ensures.t
 
 pub returns-in-Contended-clause-taken : goal.returns-in-Contended-clause-taken
 returns-in-Contended-clause-taken c = lost_taken (plan_of c.args.p.now) c.args.t.now c.args.core.now c.turn.new.c c.args.bench.now c.turn.new.b _ c.in-Contended.ensures.turned
+
+pub returns-in-NothingNow-clause-looked : goal.returns-in-NothingNow-clause-looked
+returns-in-NothingNow-clause-looked c = λ none. nothing_said (plan_of c.args.p.now) c.args.t.now c.args.core.now c.turn.new.c c.args.bench.now c.turn.new.b _ _ c.in-NothingNow.ensures.turned c.in-NothingNow.ensures.turned.work
+
+pub returns-in-Contended-clause-looked : goal.returns-in-Contended-clause-looked
+returns-in-Contended-clause-looked c = λ none. another_held (plan_of c.args.p.now) c.args.t.now c.args.core.now c.turn.new.c c.args.bench.now c.turn.new.b _ _ c.in-Contended.ensures.turned

@@ -3,8 +3,9 @@ use Rattle.bus_semantics.specs.Plan.{plan_of}
 use Rattle.bus_semantics.specs.Rest.{IsIdle}
 use Rattle.bus_semantics.specs.Quiet.{IsQuiet}
 use Rattle.core_runtime.specs.Nodes.{NodeState, IsLawfulNode}
+use Rattle.core_runtime.specs.Turns.{EachTakesOne}
 use Rattle.core_runtime.proofs.Ending.{is_idle, is_quiet}
-use Rattle.core_runtime.proofs.Rounded.{made_by, node_after, nothing_at_first}
+use Rattle.core_runtime.proofs.Rounded.{made_by, node_after, nothing_at_first, in_order}
 use Rattle.core_runtime.proofs.pass.serial_pass.Goals as goal
 
 pub invariant_of-n : goal.invariant_of-n
@@ -43,3 +44,10 @@ returns-clause-quiet c = λ none h lawful.
     (is_quiet c.nothing_now_is_rest_of_the_core.ensures c.resting_cores_are_at_rest.ensures.rest c.no_history_stalls.ensures.quiet
     (plan_of c.n.inside.plan) c.n.inside.mapping c.n.inside.bodies c.n.inside.live.cores.items c.n.inside.live.objects.items h
     c.n.invariant.0.sound c.n.invariant.0.bodies c.n.invariant.0.cores_are (subst (λ (n : NodeState). IsLawfulNode n h) (sym c.n.view_is) lawful) nothing)
+
+pub returns-clause-order : goal.returns-clause-order
+returns-clause-order c =
+    let given = c.into_live.ensures in
+    let live = c.into_live.result in
+    subst (λ (n : NodeState). EachTakesOne (plan_of n.plan) n.bodies n.cores live.cores.items n.objects live.objects.items live.entries.items) c.n.view_is
+    (in_order c.n.invariant.0 c.replace-live.ensures.value c.new-round.ensures c.give_turns.ensures.later live given.cores given.objects given.entries c.give_turns.ensures.order)

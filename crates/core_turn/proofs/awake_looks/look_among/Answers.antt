@@ -1,23 +1,22 @@
-use Rattle.std.proofs.Common.{◌≡◌, ◌<◌, ◌≤◌, suc, ◌+◌, [], ◌∷◌, ◌++◌, length, get_or, set, refl, sym, ◌∙◌, ap, subst, arith, inl, inr, Some, None}
+use Rattle.std.proofs.Common.{◌≡◌, ◌<◌, ◌≤◌, suc, ◌+◌, [], ◌∷◌, ◌++◌, length, get_or, set, sym, ◌∙◌, ap, subst, arith, inl, inr, Some, None}
 use Rattle.std.specs.List.{slice_get}
 use Rattle.std.proofs.lemmas.Bool.{cases_lt}
 use Rattle.std.proofs.lemmas.List.{get_or-set_same}
+use Rattle.std.proofs.lemmas.Option.{get_or_from_slice_get}
 use Rattle.bus_semantics.specs.Plan.{plan_of}
 use Rattle.bus_semantics.specs.Objects.{touched_by}
-use Rattle.bus_semantics.specs.Rest.{gathered}
 use Rattle.place_set.specs.Places.{NoneBetween, IsFirst}
 use Rattle.task_slots.specs.declared.slot.Slot.{Slot}
-use Rattle.task_slots.specs.Look.{Made, Nothing}
+use Rattle.task_slots.specs.Look.{Made}
 use Rattle.task_slots.specs.Slots.{listed_in, slot_tries, events_of_slot}
 use Rattle.task_slots.specs.Ready.{IsReadySlot}
 use Rattle.task_slots.specs.Looking.{Looked, ObjectsLooked}
-use Rattle.core_turn.specs.Awake.{AwakeState, Fits, HeldTold, IsSettled}
+use Rattle.core_turn.specs.Awake.{AwakeState, Fits, HeldTold, IsSettled, SameBefore}
+use Rattle.core_turn.proofs.Counting.{SameFrom, before_row, before_settled, from_settled, counted_to, counted_at}
 use Rattle.task_slots.specs.Waiting.{is_free, EventsHeld}
 use Rattle.task_slots.specs.Stepping.{noting_of, SlotLooked, SlotStep}
-use Rattle.task_slots.proofs.Onward.{looked_uncounted}
 use Rattle.task_slots.proofs.Written.{look_is}
-use Rattle.core_turn.specs.Cores.{slots_between}
-use Rattle.core_turn.proofs.Passing.{none_passed, set_same, pass_made, pass_lost}
+use Rattle.core_turn.proofs.Passing.{set_same, pass_made, pass_lost}
 use Rattle.task_slots.proofs.Unchanged.{TriesHeld, unchanged_on, unchanged_by, held_by, looked_at}
 use Rattle.core_turn.proofs.Awakes.{events_held, with_rows}
 use Rattle.core_turn.proofs.Settling.{between_held, passed_on, held_onward, slot_within, slot_found, row_found, fits_made, held_made, fits_nothing, held_nothing}
@@ -374,5 +373,99 @@ loop-at-preserved g c =
             let own_one : x ≡ s = cc in
             subst (λ y. TriesHeld p o (slot_tries p t y)) (sym own_one) tries
       ];
+      later = from_settled p t s (is_free s) c.args.a.now a c.settle.new.a at c.look_at_awake.new.row settled behind after (subst (SameFrom behind c.args.a.now) same loop.later);
+      before = before_settled p t s (is_free s) c.args.a.now a c.settle.new.a at c.look_at_awake.new.row settled c.args.from (omega (arith, begun, after)) (subst (SameBefore c.args.from c.args.a.now) same loop.before);
+      counted = counted_at p xs c.args.a.now a c.args.from behind begun (subst (SameFrom behind c.args.a.now) same loop.later) _ _ loop.counted at s c.index_mut-in-Some.result.now _ after next.none next.chosen found
+          (get_or_from_slice_get a.events at c.index_mut-in-Some.result.now [] (row_found xs a first fits at next.within _ c.index_mut-in-Some.ensures.value))
+          c.in-Nothing.ensures.counted;
       same = unchanged_on _ _ _ loop.same (unchanged_by p _ _ _ _ c.in-Nothing.ensures.looked);
     }
+
+pub returns-then-at-to-clause-before : goal.returns-then-at-to-clause-before
+returns-then-at-to-clause-before g c =
+    let p = plan_of c.args.p.now in
+    let t = c.args.t.now in
+    let xs = c.args.slots.now.items in
+    let first = c.args.a.now.first in
+    let loop = c.loop-at.invariant in
+    let behind = c.loop-at.behind in
+    let a : AwakeState = record { slots = c.next.new.self; events = c.a.inside.events.items; waiting = c.a.inside.waiting; areas = c.a.inside.areas.items; first = c.a.inside.first } in
+    let same : c.loop-at.a ≡ a = sym c.a.view_is ∙ (λ i. record { slots = sym c.in-Some.ensures.same i; events = a.events; waiting = a.waiting; areas = a.areas; first = a.first }) in
+    subst (SameBefore c.args.from c.args.a.now) same loop.before
+
+pub returns-then-at-to-clause-counted : goal.returns-then-at-to-clause-counted
+returns-then-at-to-clause-counted g c =
+    let p = plan_of c.args.p.now in
+    let t = c.args.t.now in
+    let xs = c.args.slots.now.items in
+    let first = c.args.a.now.first in
+    let loop = c.loop-at.invariant in
+    let behind = c.loop-at.behind in
+    let a : AwakeState = record { slots = c.next.new.self; events = c.a.inside.events.items; waiting = c.a.inside.waiting; areas = c.a.inside.areas.items; first = c.a.inside.first } in
+    let same : c.loop-at.a ≡ a = sym c.a.view_is ∙ (λ i. record { slots = sym c.in-Some.ensures.same i; events = a.events; waiting = a.waiting; areas = a.areas; first = a.first }) in
+    let at = c.in-Some.at in
+    let next : IsFirst a.slots behind (length a.slots) at = subst (λ f. IsFirst f behind (length f) at) (sym c.in-Some.ensures.same) c.in-Some.ensures.next in
+    let past = c.if-at-to.true in
+    counted_to p xs c.args.a.now a c.args.from behind loop.begun (subst (SameFrom behind c.args.a.now) same loop.later) _ _ loop.counted c.args.to loop.short
+    (λ j begun less. next.none j begun (omega (arith, past, less)))
+
+pub returns-clause-before : goal.returns-clause-before
+returns-clause-before g c =
+    let p = plan_of c.args.p.now in
+    let t = c.args.t.now in
+    let xs = c.args.slots.now.items in
+    let first = c.args.a.now.first in
+    let loop = c.loop-at.invariant in
+    let behind = c.loop-at.behind in
+    let a : AwakeState = record { slots = c.next.new.self; events = c.a.inside.events.items; waiting = c.a.inside.waiting; areas = c.a.inside.areas.items; first = c.a.inside.first } in
+    let same : c.loop-at.a ≡ a = sym c.a.view_is ∙ (λ i. record { slots = sym c.in_default.ensures.same i; events = a.events; waiting = a.waiting; areas = a.areas; first = a.first }) in
+    subst (SameBefore c.args.from c.args.a.now) same loop.before
+
+pub returns-clause-counted : goal.returns-clause-counted
+returns-clause-counted g c =
+    let p = plan_of c.args.p.now in
+    let t = c.args.t.now in
+    let xs = c.args.slots.now.items in
+    let first = c.args.a.now.first in
+    let loop = c.loop-at.invariant in
+    let behind = c.loop-at.behind in
+    let a : AwakeState = record { slots = c.next.new.self; events = c.a.inside.events.items; waiting = c.a.inside.waiting; areas = c.a.inside.areas.items; first = c.a.inside.first } in
+    let same : c.loop-at.a ≡ a = sym c.a.view_is ∙ (λ i. record { slots = sym c.in_default.ensures.same i; events = a.events; waiting = a.waiting; areas = a.areas; first = a.first }) in
+    let fits : Fits xs first a = subst (Fits xs first) same loop.fits in
+    let none : NoneBetween a.slots behind (length a.slots) = subst (λ f. NoneBetween f behind (length f)) (sym c.in_default.ensures.same) c.in_default.ensures.next in
+    let count = fits.count in
+    let less : c.args.to ≤ length a.slots = omega (arith, c.requires.within) in
+    counted_to p xs c.args.a.now a c.args.from behind loop.begun (subst (SameFrom behind c.args.a.now) same loop.later) _ _ loop.counted c.args.to loop.short
+    (λ j begun low. none j begun (omega (arith, less, low)))
+
+pub returns-in-Made-clause-before : goal.returns-in-Made-clause-before
+returns-in-Made-clause-before g c =
+    let p = plan_of c.args.p.now in
+    let t = c.args.t.now in
+    let xs = c.args.slots.now.items in
+    let first = c.args.a.now.first in
+    let loop = c.loop-at.invariant in
+    let behind = c.loop-at.behind in
+    let a : AwakeState = record { slots = c.next.new.self; events = c.a.inside.events.items; waiting = c.a.inside.waiting; areas = c.a.inside.areas.items; first = c.a.inside.first } in
+    let same : c.loop-at.a ≡ a = sym c.a.view_is ∙ (λ i. record { slots = sym c.in-Some.ensures.same i; events = a.events; waiting = a.waiting; areas = a.areas; first = a.first }) in
+    let at = c.in-Some.at in
+    let next : IsFirst a.slots behind (length a.slots) at = subst (λ f. IsFirst f behind (length f) at) (sym c.in-Some.ensures.same) c.in-Some.ensures.next in
+    let begun = loop.begun in
+    let low = next.behind in
+    before_row c.args.from at c.args.a.now a c.look_at_awake.new.row (omega (arith, begun, low)) (subst (SameBefore c.args.from c.args.a.now) same loop.before)
+
+pub returns-in-Contended-clause-before : goal.returns-in-Contended-clause-before
+returns-in-Contended-clause-before g c =
+    let p = plan_of c.args.p.now in
+    let t = c.args.t.now in
+    let xs = c.args.slots.now.items in
+    let first = c.args.a.now.first in
+    let loop = c.loop-at.invariant in
+    let behind = c.loop-at.behind in
+    let a : AwakeState = record { slots = c.next.new.self; events = c.a.inside.events.items; waiting = c.a.inside.waiting; areas = c.a.inside.areas.items; first = c.a.inside.first } in
+    let same : c.loop-at.a ≡ a = sym c.a.view_is ∙ (λ i. record { slots = sym c.in-Some.ensures.same i; events = a.events; waiting = a.waiting; areas = a.areas; first = a.first }) in
+    let at = c.in-Some.at in
+    let next : IsFirst a.slots behind (length a.slots) at = subst (λ f. IsFirst f behind (length f) at) (sym c.in-Some.ensures.same) c.in-Some.ensures.next in
+    let begun = loop.begun in
+    let low = next.behind in
+    before_row c.args.from at c.args.a.now a c.look_at_awake.new.row (omega (arith, begun, low)) (subst (SameBefore c.args.from c.args.a.now) same loop.before)

@@ -1,9 +1,12 @@
-use Rattle.std.proofs.Common.{◌≡◌, ◌-◌, ◌<◌, length, sym, ◌∙◌, ap, subst, refl, arith, [], ◌∷◌, ◌++◌, ◌+◌, suc, Some, None}
+use Rattle.std.proofs.Common.{◌≡◌, ◌-◌, ◌<◌, ◌≤◌, length, sym, ◌∙◌, ap, subst, refl, arith, [], ◌∷◌, ◌++◌, ◌+◌, suc, Some, None}
 use Rattle.std.specs.List.{slice_get}
 use Rattle.bus_semantics.specs.Plan.{plan_of}
 use Rattle.bus_semantics.specs.Objects.{touched_by}
 use Rattle.core_turn.specs.Cores.{CoreState}
-use Rattle.core_turn.specs.Awake.{Fits, HeldTold}
+use Rattle.port_objects.specs.Benches.{IsFurther}
+use Rattle.task_slots.specs.Waiting.{sum_below}
+use Rattle.core_turn.specs.Awake.{Fits, HeldTold, looks_at_place}
+use Rattle.core_turn.proofs.Counting.{turn_counted}
 use Rattle.task_slots.specs.Stepping.{noting_of}
 use Rattle.core_turn.proofs.Settling.{begins_at, held_round, held_turned, fits_begins}
 use Rattle.core_turn.proofs.Stepped.{ready_on, back_steps, front_steps, nothing_found, pass_at, made_within, behind_all, before_all, back_contended, front_contended, behind_lost, before_lost}
@@ -140,3 +143,20 @@ returns-in-Contended-look_through-clause-turned g c =
     let lost = before_lost (plan_of c.args.p.now) c.args.t.now c.args.c.now c.look_through.new.slots.items c.c.inside.first _ _ (c.in-Nothing.ensures.pass.same ∙ ap (λ (k : CoreState). k.slots) c.c.view_is) (ap (λ (k : CoreState). k.first) c.c.view_is) c.in-Contended-look_through.object c.in-Contended-look_through.ensures.pass.looked in
     let same = ap (λ (xs : _). record { number = c.c.inside.number; slots = xs; first = c.c.inside.first; trace = c.c.inside.trace.items; room = Rattle.std.specs.Vec.vec_capacity c.c.inside.trace - length c.c.inside.trace.items }) (c.in-Contended-look_through.ensures.pass.same ∙ c.in-Nothing.ensures.pass.same) ∙ c.c.view_is in
     (c.in-Contended-look_through.ensures.pass.none ∙ c.in-Nothing.ensures.pass.none, front_contended (plan_of c.args.p.now) c.args.t.now c.args.c.now _ _ _ _ c.in-Contended-look_through.object same _ back lost)
+
+pub returns-in-Nothing-look_through-clause-counted : goal.returns-in-Nothing-look_through-clause-counted
+returns-in-Nothing-look_through-clause-counted g c =
+    let p = plan_of c.args.p.now in
+    let xs = c.c.inside.slots.items in
+    let first = c.c.inside.first in
+    let a = c.args.a.now in
+    let b = c.look_through.new.a in
+    let count : c.len-count.result ≡ length xs = omega arith in
+    let le : first ≤ c.len-count.result = omega arith in
+    let told = (g.B.Bench.told c.args.b.now).work in
+    let mid = (g.B.Bench.told c.look_through.new.bench).work in
+    let now = (g.B.Bench.told c.look_through-in-Nothing.new.bench).work in
+    let front : IsFurther mid now [] (sum_below (looks_at_place p xs b) first - sum_below (looks_at_place p xs b) 0) 0 =
+    subst (λ ys. IsFurther mid now [] (sum_below (looks_at_place p ys b) first - sum_below (looks_at_place p ys b) 0) 0) c.in-Nothing.ensures.pass.same c.in-Nothing-look_through.ensures.counted in
+    subst (λ ys. IsFurther told now [] (sum_below (looks_at_place p ys a) (length ys)) 0) (ap (λ (k : CoreState). k.slots) c.c.view_is)
+    (turn_counted p xs a b first c.len-count.result told mid now le count c.in-Nothing.ensures.before c.in-Nothing.ensures.counted front)

@@ -1,11 +1,10 @@
 use Rattle.std.proofs.lemmas.Bool.{and_parts}
 use Rattle.bus_semantics.specs.Plan.{plan_of}
 use Rattle.bus_semantics.specs.SoundNames.{names_fit}
-use Rattle.trace_text.proofs.ShortLists.{lists_short}
 use Rattle.script_run.proofs.lines.put_entry.Goals as goal
 
 pub write_entry-requires-clause-names : goal.write_entry-requires-clause-names
 write_entry-requires-clause-names g c = (and_parts (names_fit (plan_of c.args.p.now)) _ c.requires.1.names).0
 
 pub write_entry-requires-clause-lists : goal.write_entry-requires-clause-lists
-write_entry-requires-clause-lists g c = lists_short (plan_of c.args.p.now) c.requires.1.none_listed
+write_entry-requires-clause-lists g c = c.requires.1.lists

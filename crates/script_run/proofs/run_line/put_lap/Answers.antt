@@ -1,5 +1,6 @@
-use Rattle.std.proofs.Common.{◌+◌, ◌≤◌, [], length, ap, arith}
-use Rattle.script_run.specs.Standing.{inside}
+use Rattle.std.proofs.Common.{◌≡◌, ◌+◌, ◌-◌, ◌^◌, min, [], length, ap, subst, arith}
+use Rattle.script_run.specs.declared.script.ScriptRun.TheVariants.{Finished}
+use Rattle.script_run.specs.Standing.{Carries, inside}
 use Rattle.script_run.proofs.Sessions as by
 use Rattle.script_run.proofs.run_line.put_lap.Goals as goal
 
@@ -9,9 +10,9 @@ returns-in-Finished-clause-carries g c =
     let made = c.args.made in
     let mid = c.put_round.new.n in
     let same = ap length c.entries.ensures in
-    let few : c.saturating_add.result ≤ made + length mid.entries = omega (arith, c.saturating_add.ensures, same) in
+    let count : min (made + length mid.entries) (2 ^ 64 - 1) ≡ c.saturating_add.result = omega (arith, c.saturating_add.ensures, same) in
     by.lap_then c.args.v c.put_pass.result made c.saturating_add.result c.args.n.now mid c.put_pass.new.n (told c.args.out.now) (told c.put_round.new.out) (told c.put_pass.new.out)
-    (by.fewer c.args.v [] (inside made) (made + length mid.entries) c.saturating_add.result c.args.n.now mid (told c.args.out.now) (told c.put_round.new.out) few (c.in-Finished.ensures.carries made))
+    (subst (λ n. Carries c.args.v Finished [] (inside made) (inside n) c.args.n.now mid (told c.args.out.now) (told c.put_round.new.out)) count (c.in-Finished.ensures.carries made))
     c.put_pass.ensures.carries
 
 pub returns-in-Failed-clause-carries : goal.returns-in-Failed-clause-carries

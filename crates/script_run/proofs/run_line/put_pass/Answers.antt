@@ -1,4 +1,4 @@
-use Rattle.std.proofs.Common.{◌≡◌, ◌+◌, ◌≤◌, ◌==◌, true, [], ◌∷◌, List, length, refl, sym, ap, ◌∙◌, subst, arith}
+use Rattle.std.proofs.Common.{◌≡◌, ◌+◌, ◌-◌, ◌^◌, min, ◌==◌, true, [], ◌∷◌, List, length, refl, sym, ap, ◌∙◌, subst, arith}
 use Rattle.std.specs.List.{list_all}
 use Rattle.std.proofs.lemmas.Bool.{eqb-true}
 use Rattle.rte_text.specs.Sinks.{ToldAfter}
@@ -9,6 +9,7 @@ use Rattle.bus_semantics.specs.Plan.{plan_of}
 use Rattle.core_runtime.specs.After.{after}
 use Rattle.core_runtime.specs.Nodes.{IsLawfulNode}
 use Rattle.script_run.specs.Sizes.{is_sized_stamped}
+use Rattle.script_run.specs.Standing.{LapCloses}
 use Rattle.script_run.specs.Texts.{entries_text}
 use Rattle.script_run.proofs.Sessions as by
 use Rattle.script_run.proofs.run_line.put_pass.Goals as goal
@@ -36,10 +37,12 @@ returns-in-Done-clause-carries g c =
     let passed = c.serial_pass.ensures in
     let same = ap length c.entries-in-Done.ensures in
     let sized = subst (λ (xs : List Stamped). list_all is_sized_stamped xs ≡ true) c.entries-2.ensures c.in-Done.ensures.sized in
-    let few : c.saturating_add.result ≤ c.args.made + length new.entries = omega (arith, c.saturating_add.ensures, same) in
-    by.entries_carry c.args.v c.args.n.now new new.entries Done (told c.args.out.now) (told c.put_entries.new.out) (plan_of c.plan.result.now) c.args.made c.saturating_add.result
+    let few : c.saturating_add.result ≡ min (c.args.made + length new.entries) (2 ^ 64 - 1) = omega (arith, c.saturating_add.ensures, same) in
+    by.lap_then c.args.v c.close_late.result c.args.made c.saturating_add.result c.args.n.now new new (told c.args.out.now) (told c.put_entries.new.out) (told c.close_late.new.out)
+    (by.entries_carry c.args.v c.args.n.now new new.entries Done (told c.args.out.now) (told c.put_entries.new.out) (plan_of c.plan.result.now) c.args.made c.saturating_add.result
     passed.plan passed.mapping passed.within sized few passed.lawful (ap plan_of c.plan.ensures.plan)
-    (subst (λ (xs : List Stamped). ToldAfter Done (told c.args.out.now) (told c.put_entries.new.out) (entries_text c.args.v (plan_of c.plan.result.now) xs)) c.entries-2.ensures c.in-Done.ensures.told)
+    (subst (λ (xs : List Stamped). ToldAfter Done (told c.args.out.now) (told c.put_entries.new.out) (entries_text c.args.v (plan_of c.plan.result.now) xs)) c.entries-2.ensures c.in-Done.ensures.told))
+    (c.close_late.ensures.carries c.args.v new)
 
 pub returns-in-Failed-clause-carries : goal.returns-in-Failed-clause-carries
 returns-in-Failed-clause-carries g c =
@@ -47,7 +50,28 @@ returns-in-Failed-clause-carries g c =
     let new = c.serial_pass.new.n in
     let passed = c.serial_pass.ensures in
     let sized = subst (λ (xs : List Stamped). list_all is_sized_stamped xs ≡ true) c.entries-2.ensures c.in-Failed.ensures.sized in
-    let few : c.args.made ≤ c.args.made + length new.entries = omega arith in
-    by.entries_carry c.args.v c.args.n.now new new.entries Failed (told c.args.out.now) (told c.put_entries.new.out) (plan_of c.plan.result.now) c.args.made c.args.made
-    passed.plan passed.mapping passed.within sized few passed.lawful (ap plan_of c.plan.ensures.plan)
+    by.entries_carry c.args.v c.args.n.now new new.entries Failed (told c.args.out.now) (told c.put_entries.new.out) (plan_of c.plan.result.now) c.args.made (min (c.args.made + length new.entries) (2 ^ 64 - 1))
+    passed.plan passed.mapping passed.within sized refl passed.lawful (ap plan_of c.plan.ensures.plan)
     (subst (λ (xs : List Stamped). ToldAfter Failed (told c.args.out.now) (told c.put_entries.new.out) (entries_text c.args.v (plan_of c.plan.result.now) xs)) c.entries-2.ensures c.in-Failed.ensures.told)
+
+pub returns-then-is_empty-clause-closes : goal.returns-then-is_empty-clause-closes
+returns-then-is_empty-clause-closes g c =
+    let told = g.K.Sink.told in
+    let new = c.serial_pass.new.n in
+    let no_entry : new.entries ≡ [] = sym c.entries.ensures ∙ none c.entries.result.now (sym c.is_empty.ensures ∙ c.if-is_empty.true) in
+    rw c.came_of.ensures
+    (by.idle_closes new.entries c.put.result (told c.args.out.now) (told c.put.new.self) no_entry
+    (subst (ToldAfter c.put.result (told c.args.out.now) (told c.put.new.self)) c.idle_line.ensures c.put.ensures.told))
+
+pub returns-in-Done-clause-rises : goal.returns-in-Done-clause-rises
+returns-in-Done-clause-rises g c =
+    let some = by.some_entries c.entries.result.now (sym c.is_empty.ensures ∙ c.if-is_empty.false) in
+    let same = ap length c.entries.ensures in
+    let other = ap length c.entries-in-Done.ensures in
+    c.close_late.ensures.rises c.args.made (λ few. omega (arith, few, some, same, other, c.saturating_add.ensures))
+
+pub returns-in-Done-clause-closes : goal.returns-in-Done-clause-closes
+returns-in-Done-clause-closes g c =
+    let told = g.K.Sink.told c.close_late.new.out in
+    subst (λ (es : List Stamped). LapCloses c.close_late.result es told) c.entries.ensures
+    (by.late_closes c.close_late.result c.entries.result.now told (sym c.is_empty.ensures ∙ c.if-is_empty.false) c.close_late.ensures.closes)

@@ -1,4 +1,4 @@
-use Rattle.std.proofs.Common.{◌≡◌, ◌+◌, ◌≤◌, true, [], List, length, refl, ap, subst, arith}
+use Rattle.std.proofs.Common.{◌≡◌, ◌+◌, ◌-◌, ◌^◌, min, true, [], List, length, refl, ap, subst}
 use Rattle.std.specs.List.{list_all}
 use Rattle.rte_text.specs.Sinks.{ToldAfter}
 use Rattle.bus_semantics.specs.declared.entries.Stamped.{Stamped}
@@ -15,13 +15,12 @@ returns-in-Ran-clause-carries g c = λ made.
     let told = g.K.Sink.told in
     let ran = c.in-Ran.ensures in
     let es = c.run_round.new.n.entries in
-    let enough : made + length es ≤ made + length es = omega arith in
     let put = subst (λ (xs : List Stamped). ToldAfter c.put_entries.result (told c.args.out.now) (told c.put_entries.new.out) (entries_text c.args.v (plan_of c.plan.result.now) xs)) c.entries.ensures c.put_entries.ensures.told in
     let sized = subst (λ (xs : List Stamped). list_all is_sized_stamped xs ≡ true) c.entries.ensures c.put_entries.ensures.sized in
     rw c.came_of.ensures
-    (by.entries_carry c.args.v c.args.n.now c.run_round.new.n es c.put_entries.result (told c.args.out.now) (told c.put_entries.new.out) (plan_of c.plan.result.now) made (made + length es)
-    ran.plan ran.mapping (ran.within refl) sized enough (ran.lawful refl) (ap plan_of c.plan.ensures.plan) put)
+    (by.entries_carry c.args.v c.args.n.now c.run_round.new.n es c.put_entries.result (told c.args.out.now) (told c.put_entries.new.out) (plan_of c.plan.result.now) made (min (made + length es) (2 ^ 64 - 1))
+    ran.plan ran.mapping (ran.within refl) sized refl (ran.lawful refl) (ap plan_of c.plan.ensures.plan) put)
 
 pub returns-in-Memory-clause-carries : goal.returns-in-Memory-clause-carries
 returns-in-Memory-clause-carries g c = λ made.
-    by.stops c.args.v Memory [] (inside made) (inside (made + length c.run_round.new.n.entries)) c.args.n.now c.run_round.new.n (g.K.Sink.told c.args.out.now) (λ e. cc)
+    by.stops c.args.v Memory [] (inside made) (inside (min (made + length c.run_round.new.n.entries) (2 ^ 64 - 1))) c.args.n.now c.run_round.new.n (g.K.Sink.told c.args.out.now) (λ e. cc)

@@ -28,20 +28,3 @@ returns-in-Ended-clause-carries g c =
     let told = g.K.Sink.told in
     by.carries_then c.args.v c.in-Ended.answer (a_run ∷ []) [] outside (inside c.laps.made) outside c.args.n.now c.laps.n c.put_lap.new.n
     (told c.args.out.now) (told c.laps.out) (told c.put_lap.new.out) c.laps.invariant.carries c.in-Ended.ensures.carries
-
-pub returns-then-made-ge-MOST_MADE-clause-carries : goal.returns-then-made-ge-MOST_MADE-clause-carries
-returns-then-made-ge-MOST_MADE-clause-carries g c =
-    let told = g.K.Sink.told in
-    let new = c.put_lap.new.n in
-    let more = c.in-Made.more in
-    let before = told c.args.out.now in
-    let between = told c.put_lap.new.out in
-    let after = told c.put-then-made-ge-MOST_MADE.new.self in
-    let put = c.put-then-made-ge-MOST_MADE.result in
-    let many : 100000 ≤ more = omega arith in
-    let so_far = by.carries_then c.args.v Finished (a_run ∷ []) [] outside (inside c.laps.made) (inside more) c.args.n.now c.laps.n new
-    before (told c.laps.out) between c.laps.invariant.carries c.in-Made.ensures.carries in
-    rw c.came_of.ensures
-    (by.carries_then c.args.v (came_of put) (a_run ∷ []) [] outside (inside more) outside c.args.n.now new new before between after so_far
-    (by.unsettled_carries c.args.v new put between after more many
-    (subst (ToldAfter put between after) c.unsettled_line.ensures c.put-then-made-ge-MOST_MADE.ensures.told)))

@@ -1,4 +1,4 @@
-use Rattle.std.proofs.Common.{◌≡◌, ◌+◌, ◌<◌, length, get_or, take, set, false, sym, ◌∙◌, ap, subst, arith}
+use Rattle.std.proofs.Common.{◌≡◌, ◌+◌, ◌<◌, [], length, get_or, get_or-set_other, take, set, false, sym, ◌∙◌, ap, subst, arith}
 use Rattle.std.proofs.lemmas.List.{length-set}
 use Rattle.std.proofs.Math.Seq.{take-length}
 use Rattle.std.proofs.lemmas.Option.{slice_get-get_or}
@@ -6,7 +6,9 @@ use Rattle.bus_semantics.specs.Plan.{plan_of}
 use Rattle.bus_semantics.specs.Rest.{gathered, start_try}
 use Rattle.place_set.specs.Places.{NoneBetween}
 use Rattle.task_slots.specs.Looking.{Looked}
-use Rattle.task_slots.specs.Waiting.{EventsHeld}
+use Rattle.port_objects.specs.Benches.{IsFurther}
+use Rattle.task_slots.specs.Waiting.{EventsHeld, sum_below, event_looks}
+use Rattle.task_slots.proofs.Counted.{sum_none, sum_next, asleep_looks, awake_looks, counts_on}
 use Rattle.task_slots.proofs.Starts.{event_made, event_lost}
 use Rattle.task_slots.proofs.Written.{look_is, written_on}
 use Rattle.task_slots.proofs.Unchanged.{TriesHeld, held_more, unchanged_on, unchanged_by, held_by, looked_at, none_on, none_more, asleep_before}
@@ -49,6 +51,7 @@ loop-at-preserved g c =
     let inside = first.within in
     let width = loop.width in
     let within : at < length c.args.events.now = omega arith in
+    let low = first.behind in
     let taken : c.remove.new.self ≡ set row at false = c.remove.ensures ∙ ap (λ xs. set xs at false) c.in-Some.ensures.same in
     record {
       home = c.in-Nothing.ensures.home ∙ loop.home;
@@ -60,6 +63,12 @@ loop-at-preserved g c =
           (held_more p (g.B.Bench.told c.args.bench.now).objects c.args.events.now row at (get_or c.args.events.now at 0) (slice_get-get_or c.args.events.now at 0 within)
           (held_by p (start_try p (get_or c.args.events.now at 0)) _ _ _ _ loop.same c.in-Nothing.ensures.looked) loop.held);
       asleep = subst (λ xs. NoneBetween xs 0 (at + 1)) (sym taken) (none_more row at inside (none_on row c.loop-at.from at loop.asleep first.none));
+      short = omega arith;
+      later = λ i behind. ap (λ xs. get_or xs i false) taken ∙ (get_or-set_other row at i false false (λ e. omega (arith, behind, e)) ∙ loop.later i (omega (arith, behind, low)));
+      counted = counts_on _ _ _ _ _ _ (sum_next (event_looks p c.args.events.now c.args.row.now) c.loop-at.from at low
+          (λ i behind before. asleep_looks p c.args.events.now c.args.row.now i (sym (loop.later i behind) ∙ first.none i behind before))
+          ∙ ap (λ n. sum_below (event_looks p c.args.events.now c.args.row.now) c.loop-at.from + n) (awake_looks p c.args.events.now c.args.row.now at (sym (loop.later at low) ∙ first.chosen)))
+          loop.counted c.in-Nothing.ensures.looked.work;
       same = unchanged_on _ _ _ loop.same (unchanged_by p _ _ _ _ c.in-Nothing.ensures.looked);
     }
 
@@ -71,3 +80,13 @@ returns-clause-looked g c =
     let asleep = asleep_before p (g.B.Bench.told c.args.bench.now).objects c.args.events.now c.loop-at.row (length c.loop-at.row) loop.width loop.held all in
     let whole : take (length c.loop-at.row) c.args.events.now ≡ c.args.events.now = ap (λ n. take n c.args.events.now) loop.width ∙ take-length c.args.events.now in
     looked_at p _ _ _ loop.same (subst (λ xs. TriesHeld p (g.B.Bench.told c.args.bench.now).objects (gathered (start_try p) xs)) whole asleep)
+
+pub returns-clause-counted : goal.returns-clause-counted
+returns-clause-counted g c =
+    let p = plan_of c.args.p.now in
+    let loop = c.loop-at.invariant in
+    let events = c.args.events.now in
+    let f = event_looks p events c.args.row.now in
+    let all : sum_below f (length events) ≡ sum_below f c.loop-at.from = sum_none f c.loop-at.from (length events) loop.short
+    (λ i behind before. asleep_looks p events c.args.row.now i (sym (loop.later i behind) ∙ c.in_default.ensures.next i behind (let width = loop.width in omega (arith, before, width)))) in
+    subst (λ n. IsFurther (g.B.Bench.told c.args.bench.now).work (g.B.Bench.told c.loop-at.bench).work [] n 0) (sym all) loop.counted

@@ -1,8 +1,9 @@
-use Rattle.std.proofs.Common.{◌≡◌, ◌-◌, length}
+use Rattle.std.proofs.Common.{◌≡◌, ◌-◌, ◌≤◌, ℕ, [], false, get_or, length}
 use Rattle.std.specs.Vec.{vec_capacity}
 use Rattle.bus_semantics.specs.Plan.{plan_of}
 use Rattle.place_set.specs.Places.{NoneBetween}
-use Rattle.task_slots.specs.Waiting.{EventsHeld}
+use Rattle.port_objects.specs.Benches.{IsFurther}
+use Rattle.task_slots.specs.Waiting.{EventsHeld, sum_below, event_looks}
 use Rattle.task_slots.proofs.Unchanged.{Unchanged}
 use Rattle.task_slots.proofs.starting_awake.start_first.Given as goal
 
@@ -15,6 +16,9 @@ invariant-loop-at g l = record {
   width : length l.row ≡ length l.events;
   held : EventsHeld (plan_of l.p) (g.B.Bench.told l.initial.bench).objects l.events l.row;
   asleep : NoneBetween l.row 0 l.from;
+  short : l.from ≤ length l.events;
+  later : (i : ℕ) → l.from ≤ i → get_or l.row i false ≡ get_or l.initial.row i false;
+  counted : IsFurther (g.B.Bench.told l.initial.bench).work (g.B.Bench.told l.bench).work [] (sum_below (event_looks (plan_of l.p) l.events l.initial.row) l.from) 0;
   same : Unchanged
       (g.B.Bench.told l.initial.bench)
       (g.B.Bench.told l.bench);

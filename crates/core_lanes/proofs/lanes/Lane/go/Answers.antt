@@ -3,6 +3,7 @@ use Rattle.std.proofs.lemmas.Option.{same_Some}
 use Rattle.bus_semantics.specs.Plan.{plan_of}
 use Rattle.cross_core_table.specs.OpenRounds.{OpenRound}
 use Rattle.cross_core_table.specs.Seats.{IsSeatOf, made_of, core_of}
+use Rattle.core_lanes.specs.Leaving.{MayLeave}
 use Rattle.core_lanes.specs.Taking.{TakesTurns}
 use Rattle.core_lanes.proofs.lanes.Lane.go.Goals as goal
 
@@ -18,5 +19,6 @@ returns g c =
       has = refl;
       of = subst (λ (r : OpenRound). IsSeatOf r c.args.number c.leave.result) round (subst (λ n. IsSeatOf c.make_turns.new.bench.round n c.leave.result) core c.leave.ensures.seat);
       room = c.make_turns.ensures.room;
+      left = subst (λ v. MayLeave (plan_of c.args.p.now) c.make_turns.new.core.slots v) (sym c.leave.ensures.view) c.make_turns.ensures.left;
       turns = subst (λ part. TakesTurns (plan_of c.args.p.now) c.args.t.now c.args.self.now.core part c.make_turns.new.core) (sym kept) c.make_turns.ensures.turns;
     }

@@ -29,8 +29,8 @@ wake_all-requires g c =
       subst (λ (now : List CoreState). HaveSameTasks live.cores.items now) (sym c.as_slice.ensures.value) (ran_tasks c.self.invariant.0 c.replace-live.ensures.value c.in-Ran.ensures),
     )
 
-pub invariant_of-self : goal.invariant_of-self
-invariant_of-self g c =
+pub invariant_of-self-in-Ran : goal.invariant_of-self-in-Ran
+invariant_of-self-in-Ran g c =
     let p = plan_of c.self.inside.plan in
     let t = c.self.inside.bodies in
     let live = c.self.inside.live in

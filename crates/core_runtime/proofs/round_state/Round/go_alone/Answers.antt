@@ -1,5 +1,5 @@
 use Rattle.std.proofs.Common.{inr, length, ◌∙◌, ap, arith}
-use Rattle.core_runtime.proofs.Later.{later_then, alone_rests}
+use Rattle.core_runtime.proofs.Later.{later_then, alone_rests, turn_more}
 use Rattle.core_runtime.proofs.round_state.Round.go_alone.Goals as goal
 
 pub step-made-requires-clause-number : goal.step-made-requires-clause-number
@@ -15,7 +15,7 @@ loop-turns-preserved g c =
     let i = c.loop-turns.invariant in
     record {
       later = later_then c.args.self.now c.loop-turns.self c.step-made.new.self i.later c.if-not-made.ensures.later;
-      count = omega (arith, i.count, c.if-not-made.ensures.turn);
+      count = omega (arith, i.count, turn_more c.loop-turns.self c.step-made.new.self 0 c.if-not-made.ensures.turn);
     }
 
 pub returns-then-not-made-clause-later : goal.returns-then-not-made-clause-later

@@ -12,7 +12,7 @@ use Rattle.port_objects.specs.Benches.{written_last}
 use Rattle.core_turn.specs.Cores.{CoreState}
 use Rattle.task_slots.specs.Slots.{events_of_slot, table_of}
 use Rattle.core_lanes.specs.Rooms.{HasRoom}
-use Rattle.core_runtime.specs.Rounds.{RoundState, IsRound, IsLater, Rested}
+use Rattle.core_runtime.specs.Rounds.{RoundState, IsRound, IsLater, Rested, Stepped}
 use Rattle.core_runtime.specs.Watching.{IsAfter, IsWatch}
 use Rattle.core_lanes.proofs.Places.{found_at}
 use Rattle.core_runtime.proofs.Areas.{still_waiting}
@@ -105,7 +105,7 @@ invariant_of-self c =
     let found = found_at cores c.args.number old within c.index_mut-core.ensures.value in
     let room : HasRoom new = room_kept old new turned.1.trace turned.1.room (c.self.invariant.0.core_room c.args.number old found) in
     let made : c.last_written-made.result.now ≡ turned.0 = last_is c.last_entries_are_last.ensures _ entries.items turned.0 _ turned.1.written (ap written_last (sym c.as_slice.ensures.value) ∙ c.last_written-made.ensures) in
-    let step = makes p t old before now entries.items new new turned.0 all.items steps (record { number = refl; slots = refl }) turned.1.written c.in-Stepped.ensures.ready
+    let step = makes p t old before now entries.items new new turned.0 all.items steps (record { number = refl; slots = refl }) refl turned.1.written c.in-Stepped.ensures.ready
     (λ m xs i h lawful at ready. c.turns_keep_the_law.ensures.stepped _ m _ xs i _ _ _ _ _ _ turned.0 h lawful at ready refl refl steps) in
     let events = ap (map events_of_slot) steps.slots ∙ events_kept old.slots steps.at steps.slot steps.stepped steps.there steps.step.table in
     let held = c.in-Stepped.ensures.held turned.0 turned.1.written in
@@ -145,11 +145,33 @@ returns-in-Stepped-clause-later c =
     let within : c.args.number < length cores = omega (arith, c.requires.number, ap (λ (r : RoundState). length r.cores) c.self.view_is) in
     let found = found_at cores c.args.number old within c.index_mut-core.ensures.value in
     let room : HasRoom new = room_kept old new turned.1.trace turned.1.room (c.self.invariant.0.core_room c.args.number old found) in
-    let step = makes p t old before now entries.items new new turned.0 all.items steps (record { number = refl; slots = refl }) turned.1.written c.in-Stepped.ensures.ready
+    let step = makes p t old before now entries.items new new turned.0 all.items steps (record { number = refl; slots = refl }) refl turned.1.written c.in-Stepped.ensures.ready
     (λ m xs i h lawful at ready. c.turns_keep_the_law.ensures.stepped _ m _ xs i _ _ _ _ _ _ turned.0 h lawful at ready refl refl steps) in
     subst (λ (r : RoundState). IsLater r (round_of c.self.inside.plan.now t (set cores c.args.number new) now all.items (vec_capacity all))) c.self.view_is
     (subst (λ n. IsLater (round_of c.self.inside.plan.now t cores before entries.items (vec_capacity entries)) (round_of c.self.inside.plan.now t (set cores c.args.number new) now all.items n)) (sym c.in-Stepped.ensures.capacity)
     (later_on c.self.inside.plan.now t cores c.args.number old new before now entries.items all.items (vec_capacity entries) found room c.self.invariant.0 true step))
+
+pub returns-in-Stepped-clause-turn : goal.returns-in-Stepped-clause-turn
+returns-in-Stepped-clause-turn c =
+    let p = plan_of c.self.inside.plan.now in
+    let t = c.self.inside.bodies.now in
+    let old = c.index_mut-core.result.now in
+    let new = c.turn_of_awake.new.c in
+    let cores = c.self.inside.cores.items in
+    let before = c.self.inside.bench in
+    let now = c.turn_of_awake.new.b in
+    let entries = c.self.inside.entries in
+    let all = c.turn_of_awake.new.made in
+    let turned = c.in-Stepped.ensures.turned in
+    let steps = turned.1.apart in
+    let within : c.args.number < length cores = omega (arith, c.requires.number, ap (λ (r : RoundState). length r.cores) c.self.view_is) in
+    let found = found_at cores c.args.number old within c.index_mut-core.ensures.value in
+    let room : HasRoom new = room_kept old new turned.1.trace turned.1.room (c.self.invariant.0.core_room c.args.number old found) in
+    let step = makes p t old before now entries.items new new turned.0 all.items steps (record { number = refl; slots = refl }) refl turned.1.written c.in-Stepped.ensures.ready
+    (λ m xs i h lawful at ready. c.turns_keep_the_law.ensures.stepped _ m _ xs i _ _ _ _ _ _ turned.0 h lawful at ready refl refl steps) in
+    subst (λ (r : RoundState). Stepped r (round_of c.self.inside.plan.now t (set cores c.args.number new) now all.items (vec_capacity all)) c.args.number) c.self.view_is
+    (subst (λ n. Stepped (round_of c.self.inside.plan.now t cores before entries.items (vec_capacity entries)) (round_of c.self.inside.plan.now t (set cores c.args.number new) now all.items n) c.args.number) (sym c.in-Stepped.ensures.capacity)
+    (turn_on c.self.inside.plan.now t cores c.args.number old new before now entries.items all.items (vec_capacity entries) found room c.self.invariant.0 true step))
 
 pub invariant_of-self-in-NothingNow : goal.invariant_of-self-in-NothingNow
 invariant_of-self-in-NothingNow c =
