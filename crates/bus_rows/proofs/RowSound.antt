@@ -1,6 +1,6 @@
 -- A plan with its mapping is sound exactly if no fact that is computed is broken and the tasks have an order; and a way to have one.
 use Rattle.std.specs.Prelude.{◌≡◌, ℕ, ◌+◌, List, [], ◌∷◌, Bool, true, false, ◌&&◌, if◌then◌else◌, length, nat_le, Some, refl}
-use Rattle.std.proofs.lemmas.Bool.{and_parts, and_from, eqb-true, eq-eqb, false≢true}
+use Rattle.std.proofs.lemmas.Bool.{and_parts, and_from, false≢true}
 use Rattle.runnable_lang.specs.Costs.{body_cost}
 use Rattle.bus_semantics.specs.declared.script.Mapping.{Mapping}
 use Rattle.bus_semantics.specs.Plan.{Plan, Runnable, every_from}
@@ -117,7 +117,6 @@ sound_of p m e order =
       few_points = w.1.1.1.1.1.0;
       lists = w.1.1.1.1.1.1.0;
       bundles = w.1.1.1.1.1.1.1.0;
-      none_listed = eqb-true (length p.lists) 0 w.1.1.1.1.1.1.1.1.0;
       order = order;
     }
 
@@ -132,7 +131,7 @@ none_broken p m s =
     let f = apart programs (bounded p) 0 p.runnables b.1 in
     let g = apart costs (few p) 0 p.runnables f.1 in
     let h = apart variables (arguments p) 0 p.runnables g.1 in
-    none (facts p m) (n.0, (d.0, (k.0, (k.1, (s.ports, (s.arranged, (s.instances, (s.groups, (s.objects, (s.elements, (s.joins, (s.machines, (s.mode_ports, (s.points, (s.operations, (a.0, (c.0, (c.1, (f.0, (g.0, (h.0, (h.1, (s.events, (s.servers, (s.direct, (s.lengths, (s.tasks, (s.few_points, (s.lists, (s.bundles, (eq-eqb (length p.lists) 0 s.none_listed, tt)))))))))))))))))))))))))))))))
+    none (facts p m) (n.0, (d.0, (k.0, (k.1, (s.ports, (s.arranged, (s.instances, (s.groups, (s.objects, (s.elements, (s.joins, (s.machines, (s.mode_ports, (s.points, (s.operations, (a.0, (c.0, (c.1, (f.0, (g.0, (h.0, (h.1, (s.events, (s.servers, (s.direct, (s.lengths, (s.tasks, (s.few_points, (s.lists, (s.bundles, tt))))))))))))))))))))))))))))))
 
 -- ---- what a plan lacks
 

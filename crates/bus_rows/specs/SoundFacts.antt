@@ -1,5 +1,5 @@
 -- What a plan with its mapping lacks to be sound: the facts that are computed, each by a name of its own.
-use Rattle.std.specs.Prelude.{◌≡◌, List, [], ◌∷◌, Bool, ◌&&◌, ◌==◌, nat_lt, nat_le, length, if◌then◌else◌, Some}
+use Rattle.std.specs.Prelude.{◌≡◌, List, [], ◌∷◌, Bool, ◌&&◌, nat_lt, nat_le, length, if◌then◌else◌, Some}
 use Rattle.std.specs.List.{list_all}
 use Rattle.runnable_lang.specs.Costs.{body_cost}
 use Rattle.bus_semantics.specs.declared.plan.ModePortPlan.{ModePortPlan}
@@ -46,7 +46,6 @@ pub data Fact : Type 0 where
   PointsFew : Fact
   ListsSound : Fact
   BundlesFit : Fact
-  NothingListed : Fact
 
 abbrev pub facts : Plan → Mapping → List (Fact × Bool)
 facts p m =
@@ -80,7 +79,6 @@ facts p m =
     ∷ (PointsFew, nat_le (length p.points) 262144)
     ∷ (ListsSound, lists_sound p)
     ∷ (BundlesFit, bundles_fit p)
-    ∷ (NothingListed, length p.lists == 0)
     ∷ []
 
 -- those that do not hold

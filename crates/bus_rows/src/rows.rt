@@ -1,6 +1,6 @@
 //! Worked rows, by computing.
 
-ghost use Rattle.std.specs.Prelude.{◌≡◌, [], ◌∷◌, true, false};
+ghost use Rattle.std.specs.Prelude.{◌≡◌, true, false};
 ghost use Rattle.bus_semantics.specs.Fitting.{fits};
 ghost use Rattle.bus_semantics.specs.Legal.{is_legal};
 ghost use Rattle.bus_semantics.specs.Quiet.{IsQuiet};
@@ -13,7 +13,7 @@ ghost use Rattle.bus_rows.specs.RowParts.{IsRefusedBy, PartsIntoPasts, ten_ticks
 ghost use Rattle.bus_rows.specs.OneWriter.{one_writer, one_task, ten_ticks_and_run, written_then_read, written_then_read_text, until_look, six_read};
 ghost use Rattle.bus_rows.specs.Queues.{one_queue, one_event, three_sends, third_lost, third_lost_text, two_sent, third_accepted, until_take, oldest_overwritten, loss_untold, two_queues, two_events, two_sends, one_full, one_full_text, until_taken, blocked_for_all};
 ghost use Rattle.bus_rows.specs.ImplicitAccess.{early_reader, two_tasks, fetched_kept, fetched_kept_text, until_written, read_again, late_publisher, published_late, published_late_text, until_between, seen_at_once, first_published};
-ghost use Rattle.bus_rows.specs.SoundFacts.{ListsSound, NothingListed, broken_facts, LacksOnly};
+ghost use Rattle.bus_rows.specs.SoundFacts.{ListsSound, LacksOnly};
 ghost use Rattle.bus_rows.specs.CoherentLists.{writes_both, writes_second, two_lists, listed_twice, until_published, until_fetched, both_fetched, both_fetched_text, until_second_fetched, second_fetched, second_fetched_text, fetched_at_two_moments, both_seen, both_published, fetched_too_few, fetched_alone, published_first, published_none, published_crossed, published_alone, publication_too_short, marks_past_the_list, foreign_list, list_of_writes};
 ghost use Rattle.bus_rows.specs.AreaHeld.{two_counters, two_cores, both_counted, both_counted_text, while_held, second_enters};
 ghost use Rattle.bus_rows.specs.OutsideCall.{outside_caller, server_task, asks_and_results, served_once, served_once_text, asked_once, second_accepted, until_served, results_crossed};
@@ -91,14 +91,14 @@ pub fn implicit_write_is_published_at_the_end()
 
 /// The elements of a coherent list that an activation wrote are published together at its end, and those of another's list are
 /// fetched together at its start. That they are fetched as of two moments, or some of their words, or one by one, is refused; so
-/// is that one of them is published, or none, or each with the other's value, or each alone.
+/// is that one of them is published, or none, or each with the other's value, or each alone. A plan whose list names an element
+/// twice is not sound (`twice`).
 pub fn coherent_list_is_fetched_at_one_moment()
     ensures runs { IsRunOf (two_lists writes_both) one_task ten_ticks_and_run both_fetched }
     ensures spelled { Spells One (two_lists writes_both) both_fetched_text both_fetched }
     ensures legal { is_legal (two_lists writes_both) (history_of both_fetched) ≡ true }
-    // For now no plan with a list is sound: this one lacks nothing else. A list that names an element twice is never sound.
-    ensures lacks { LacksOnly NothingListed (two_lists writes_both) one_task }
-    ensures twice { broken_facts listed_twice one_task ≡ ListsSound ∷ NothingListed ∷ [] }
+    ensures sound { IsSound (two_lists writes_both) one_task }
+    ensures twice { LacksOnly ListsSound listed_twice one_task }
     ensures quiet { IsQuiet (two_lists writes_both) (history_of both_fetched) }
     ensures parted { PartsIntoPasts (two_lists writes_both) both_fetched }
     ensures wrong { IsRefusedBy (two_lists writes_both) 7 until_fetched fetched_at_two_moments }
@@ -120,7 +120,7 @@ pub fn coherent_list_publishes_what_was_written()
     ensures runs { IsRunOf (two_lists writes_second) one_task ten_ticks_and_run second_fetched }
     ensures spelled { Spells One (two_lists writes_second) second_fetched_text second_fetched }
     ensures legal { is_legal (two_lists writes_second) (history_of second_fetched) ≡ true }
-    ensures lacks { LacksOnly NothingListed (two_lists writes_second) one_task }
+    ensures sound { IsSound (two_lists writes_second) one_task }
     ensures quiet { IsQuiet (two_lists writes_second) (history_of second_fetched) }
     ensures parted { PartsIntoPasts (two_lists writes_second) second_fetched }
     ensures wrong { IsRefusedBy (two_lists writes_second) 7 until_second_fetched both_seen }

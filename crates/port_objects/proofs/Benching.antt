@@ -1,6 +1,6 @@
 -- One entry on an object among all.
 use Rattle.std.proofs.Common.{◌≡◌, ℕ, zero, suc, ◌+◌, ◌<◌, ◌==◌, refl, sym, ◌∙◌, ap, subst, arith, List, [], ◌∷◌, length, get_or, Some}
-use Rattle.std.specs.Prelude.{nat_le, set, unwrap_or}
+use Rattle.std.specs.Prelude.{set, unwrap_or}
 use Rattle.std.specs.List.{slice_get}
 use Rattle.std.proofs.lemmas.Option.{slice_get-get_or}
 use Rattle.std.proofs.lemmas.Bool.{and_parts, eqb-true}

@@ -20,7 +20,9 @@ use Rattle.object_kinds.specs.Flags.{given}
 use Rattle.object_kinds.proofs.Proper.{noting}
 use Rattle.data_objects.specs.Kept as group
 use Rattle.data_objects.specs.Leading as group_leading
+use Rattle.bundle_objects.specs.Kept as bundle
 use Rattle.queue_objects.specs.Kept as queue
+use Rattle.bundle_objects.specs.Leading as bundle_leading
 use Rattle.queue_objects.specs.Leading as queue_leading
 use Rattle.server_objects.specs.Kept as server
 use Rattle.area_objects.specs.Kept as area
@@ -30,7 +32,7 @@ use Rattle.area_objects.specs.Leading as area_leading
 use Rattle.machine_objects.specs.Leading as machine_leading
 use Rattle.clock_objects.specs.Kept as clock
 use Rattle.clock_objects.specs.Leading as clock_leading
-use Rattle.port_objects.specs.Kept.{Kept, of_group, of_queues, of_server, of_area, of_machine, of_clock}
+use Rattle.port_objects.specs.Kept.{Kept, of_group, of_bundle, of_queues, of_server, of_area, of_machine, of_clock}
 use Rattle.port_objects.specs.Leading.{lead_by_kind, lead}
 use Rattle.port_objects.specs.Waking.{is_leave, IsClosed}
 use Rattle.port_objects.proofs.Gate.{passed, opens, stays_shut}
@@ -45,6 +47,9 @@ enters d by x is = absurd (cc is)
 closed_group : (p : Plan) (object : ℕ) (k : group.Kept) → IsClosed p object (of_group k)
 closed_group p object k n x is = stays_shut p object (of_group k) n
     (ap (λ d. option_map of_group (option_map (λ (v : _). record { events = k.events; unqueued = v }) (group_leading.lead_of_group p (group_at p object) k.events k.unqueued d))) (enters n.entry.deed (unwrap_or n.event 0) x is))
+
+closed_bundle : (p : Plan) (object : ℕ) (k : bundle.Kept) → IsClosed p object (of_bundle k)
+closed_bundle p object k n x is = stays_shut p object (of_bundle k) n (ap (λ d. option_map of_bundle (bundle_leading.lead_by p k n d)) (enters n.entry.deed (unwrap_or n.event 0) x is))
 
 closed_queues : (p : Plan) (object : ℕ) (k : queue.Kept) → IsClosed p object (of_queues k)
 closed_queues p object k n x is = stays_shut p object (of_queues k) n
@@ -90,6 +95,7 @@ module _ (p : Plan) (object x : ℕ) (a : ActKey) (fit : wish_fits p (Act a) (to
   pub closed_alike : (k : Kept) → ((n : Noted) → n.entry.actor ≡ Act a → wanted_by (unwrap_or n.event 0) n.entry.deed ≡ to_enter x → lead p object k n ≡ None) → IsClosed p object k
   unfolding entry
   closed_alike (of_group k) none = closed_group p object k
+  closed_alike (of_bundle k) none = closed_bundle p object k
   closed_alike (of_queues k) none = closed_queues p object k
   closed_alike (of_server k) none = closed_server p object k
   closed_alike (of_machine k) none = closed_machine p object k
@@ -123,6 +129,11 @@ module _ (p : Plan) (object : ℕ) where
       of_lead : (o : Option group.Kept) → option_map of_group o ≡ Some after → IsClosed p object after
       of_lead None leads = absurd (cc leads)
       of_lead (Some j) leads = let same : of_group j ≡ after = cc in subst (IsClosed p object) same (closed_group p object j)
+  by_kind (of_bundle k) after n other leads = of_lead (bundle_leading.lead p k n) leads
+    where
+      of_lead : (o : Option bundle.Kept) → option_map of_bundle o ≡ Some after → IsClosed p object after
+      of_lead None leads = absurd (cc leads)
+      of_lead (Some j) leads = let same : of_bundle j ≡ after = cc in subst (IsClosed p object) same (closed_bundle p object j)
   by_kind (of_queues k) after n other leads = of_lead (queue_leading.lead p k n) leads
     where
       of_lead : (o : Option queue.Kept) → option_map of_queues o ≡ Some after → IsClosed p object after

@@ -20,13 +20,14 @@ use Rattle.object_kinds.proofs.Proper.{noting}
 use Rattle.server_objects.specs.Kept as server
 use Rattle.object_kinds.specs.Layout.{group_at}
 use Rattle.data_objects.specs.Leading as group_leading
+use Rattle.bundle_objects.specs.Leading as bundle_leading
 use Rattle.queue_objects.specs.Leading as queue_leading
 use Rattle.server_objects.specs.Leading as server_leading
 use Rattle.area_objects.specs.Leading as area_leading
 use Rattle.machine_objects.specs.Leading as machine_leading
 use Rattle.clock_objects.specs.Leading as clock_leading
 use Rattle.server_objects.proofs.Hearing.{none_heard_by, may_be_heard}
-use Rattle.port_objects.specs.Kept.{Kept, of_group, of_queues, of_server, of_area, of_machine, of_clock}
+use Rattle.port_objects.specs.Kept.{Kept, of_group, of_bundle, of_queues, of_server, of_area, of_machine, of_clock}
 use Rattle.port_objects.specs.Leading.{lead}
 use Rattle.port_objects.specs.Waking.{may_hear_in}
 use Rattle.port_objects.proofs.Gate.{opens, stays_shut}
@@ -45,6 +46,9 @@ pub none_heard : (p : Plan) (object : ℕ) (k : Kept) (n : Noted) (q : ℕ) → 
 none_heard p object (of_group k) n q is off =
     let h = hears n.entry.deed (unwrap_or n.event 0) q is in
     stays_shut p object (of_group k) n (ap (λ d. option_map of_group (option_map (λ (v : _). record { events = k.events; unqueued = v }) (group_leading.lead_of_group p (group_at p object) k.events k.unqueued d))) h.is)
+none_heard p object (of_bundle k) n q is off =
+    let h = hears n.entry.deed (unwrap_or n.event 0) q is in
+    stays_shut p object (of_bundle k) n (ap (λ d. option_map of_bundle (bundle_leading.lead_by p k n d)) h.is)
 none_heard p object (of_queues k) n q is off =
     let h = hears n.entry.deed (unwrap_or n.event 0) q is in
     stays_shut p object (of_queues k) n (ap (λ d. option_map of_queues (option_map (queue_leading.with_queues k) (queue_leading.lead_of_queues p k.receivers k.events k.queued d))) h.is)
@@ -88,6 +92,7 @@ module _ (p : Plan) (object q : ℕ) (a : ActKey) (fit : wish_fits p (Act a) (to
 pub held_is_none : (p : Plan) (object q : ℕ) (k : Kept) (a : ActKey) → wish_fits p (Act a) (to_hear q) ≡ true → object_of p (Act a) (to_hear q) ≡ Some object
     → ((n : Noted) → n.entry.actor ≡ Act a → wanted_by (unwrap_or n.event 0) n.entry.deed ≡ to_hear q → lead p object k n ≡ None) → may_hear_in k q ≡ false
 held_is_none p object q (of_group k) a fit there none = refl
+held_is_none p object q (of_bundle k) a fit there none = refl
 held_is_none p object q (of_queues k) a fit there none = refl
 held_is_none p object q (of_area k) a fit there none = refl
 held_is_none p object q (of_machine k) a fit there none = refl

@@ -8,5 +8,6 @@ mod Sounds
 mod Freeing
 mod Closed
 mod Hearing
+mod Listing
 mod Written
 mod OneGroup

@@ -1,5 +1,5 @@
 -- A bundle that is a group by itself, as it is made.
-use Rattle.std.proofs.Common.{◌≡◌, ◌<◌, ℕ, Bool, true, false, sym, ◌∙◌, ap, subst, arith, [], List, length}
+use Rattle.std.proofs.Common.{◌≡◌, ◌<◌, ℕ, Bool, true, false, sym, ◌∙◌, ap, subst, arith, List, length}
 use Rattle.std.proofs.lemmas.Option.{slice_get_within}
 use Rattle.bus_semantics.specs.Plan.{Plan}
 use Rattle.bus_semantics.specs.SoundLists.{bundles_fit}
@@ -8,15 +8,11 @@ use Rattle.object_kinds.specs.Layout.{group_at, events_of, waits_for_data, waits
 use Rattle.object_kinds.proofs.Alone.{alone_events}
 use Rattle.data_objects.specs.Kept as groups
 use Rattle.data_objects.specs.Plans as group_plans
-use Rattle.data_objects.specs.Layout.{IsUnqueuedGroup}
 use Rattle.queue_objects.specs.Kept as queues
 use Rattle.queue_objects.specs.Plans as queue_plans
-use Rattle.port_objects.specs.declared.object.Object.TheVariants.{Unqueued, Queued}
 use Rattle.port_objects.specs.Kept.{of_group, of_queues}
-use Rattle.port_objects.specs.Objects.{IsOfPlan}
-use Rattle.port_objects.specs.Opening.{opening_of_kind, opening_of_bundle}
-use Rattle.port_objects.specs.Plans.{has_queues, QueuesFit, IsOfOneKind, IsOneGroup}
-use Rattle.port_objects.specs.Standing.{Keeps, Stands}
+use Rattle.port_objects.specs.Opening.{opening_of_kind, opening_where}
+use Rattle.port_objects.specs.Plans.{has_queues, IsOfOneKind, IsOneGroup}
 
 -- the group that code found is the bundle's, and of the kind that code found
 module _ (p : Plan) (b g : ℕ) (one : IsOneGroup p b) (is : g ≡ group_at p b) where
@@ -29,13 +25,13 @@ module _ (p : Plan) (b g : ℕ) (one : IsOneGroup p b) (is : g ≡ group_at p b)
   pub events_are : (es : List ℕ) → es ≡ events_of p (waits_in_bundle p b) → es ≡ events_of p (waits_for_data p g)
   events_are es waiting = waiting ∙ alone_events p b one.alone ∙ ap (λ h. events_of p (waits_for_data p h)) (sym is)
 
-  pub queues_open : (k : queues.Kept) → k ≡ queues.opening p g → true ≡ has_queues p g → of_queues k ≡ opening_of_bundle p b
+  pub queues_open : (k : queues.Kept) → k ≡ queues.opening p g → true ≡ has_queues p g → of_queues k ≡ opening_where p b false
   queues_open k made found = ap of_queues made ∙ ap (λ q. opening_of_kind p g q) found ∙ ap (λ h. opening_of_kind p h (has_queues p h)) is
 
   pub queues_planned : (k : queues.Kept) → queue_plans.IsGroupOfPlan p g k → queue_plans.IsOfPlan p b k
   queues_planned k own = record { alone = one.alone; group = subst (λ h. queue_plans.IsGroupOfPlan p h k) is own }
 
-  pub group_opens : (k : groups.Kept) → k ≡ groups.opening p g → false ≡ has_queues p g → of_group k ≡ opening_of_bundle p b
+  pub group_opens : (k : groups.Kept) → k ≡ groups.opening p g → false ≡ has_queues p g → of_group k ≡ opening_where p b false
   group_opens k made found = ap of_group made ∙ ap (λ q. opening_of_kind p g q) found ∙ ap (λ h. opening_of_kind p h (has_queues p h)) is
 
   pub group_planned : (k : groups.Kept) → group_plans.IsGroupOfPlan p g k → group_plans.IsOfPlan p b k

@@ -12,8 +12,11 @@ use Rattle.object_kinds.specs.Kinds.{StandsFor, LeadsFollow, LeadsKeep, MissesNo
 use Rattle.data_objects.specs.Kept as group
 use Rattle.data_objects.specs.Leading as group_leading
 use Rattle.data_objects.specs.Standing as group_standing
+use Rattle.bundle_objects.specs.Kept as bundle
 use Rattle.queue_objects.specs.Kept as queue
+use Rattle.bundle_objects.specs.Leading as bundle_leading
 use Rattle.queue_objects.specs.Leading as queue_leading
+use Rattle.bundle_objects.specs.Standing as bundle_standing
 use Rattle.queue_objects.specs.Standing as queue_standing
 use Rattle.server_objects.specs.Kept as server
 use Rattle.area_objects.specs.Kept as area
@@ -27,7 +30,7 @@ use Rattle.machine_objects.specs.Standing as machine_standing
 use Rattle.clock_objects.specs.Kept as clock
 use Rattle.clock_objects.specs.Leading as clock_leading
 use Rattle.clock_objects.specs.Standing as clock_standing
-use Rattle.port_objects.specs.Kept.{Kept, of_group, of_queues, of_server, of_area, of_machine, of_clock}
+use Rattle.port_objects.specs.Kept.{Kept, of_group, of_bundle, of_queues, of_server, of_area, of_machine, of_clock}
 use Rattle.port_objects.specs.Leading.{lead_by_kind, lead}
 use Rattle.port_objects.specs.Standing.{Keeps, Stands}
 use Rattle.port_objects.specs.Waking.{may_start_in}
@@ -43,6 +46,9 @@ pub record Row {K : Type 0} (p : Plan) (object : ℕ) (of : K → Kept) (keeps :
 
 pub group_row : (p : Plan) (object : ℕ) → Row p object of_group (group_standing.Keeps p object) (group_leading.lead p object) group.may_start group_leading.why_held
 group_row p object = record { leads = λ k n. refl; flags = λ k event. refl; shows = λ k w. refl; gives = λ k l keeps. keeps; takes = λ k l keeps. keeps }
+
+pub bundle_row : (p : Plan) (object : ℕ) → Row p object of_bundle (bundle_standing.Keeps p object) (bundle_leading.lead p) bundle.may_start bundle_leading.why_held
+bundle_row p object = record { leads = λ k n. refl; flags = λ k event. refl; shows = λ k w. refl; gives = λ k l keeps. keeps; takes = λ k l keeps. keeps }
 
 pub queue_row : (p : Plan) (object : ℕ) → Row p object of_queues (queue_standing.Keeps p object) (queue_leading.lead p) queue.may_start queue_leading.why_held
 queue_row p object = record { leads = λ k n. refl; flags = λ k event. refl; shows = λ k w. refl; gives = λ k l keeps. keeps; takes = λ k l keeps. keeps }

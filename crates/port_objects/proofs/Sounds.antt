@@ -1,8 +1,9 @@
 -- A sound plan has what its objects need, and a wish that fits touches an object that there is.
-use Rattle.std.proofs.Common.{◌≡◌, ℕ, zero, suc, ◌+◌, ◌<◌, ◌≤◌, ◌^◌, Bool, true, false, not, ◌&&◌, ◌==◌, refl, sym, ◌∙◌, ap, subst, arith, List, [], ◌∷◌, length, map, Option, Some, None}
-use Rattle.std.specs.Prelude.{IfSome, nat_lt, nat_le, option_map, sum}
-use Rattle.std.specs.List.{list_all, slice_get}
-use Rattle.std.proofs.lemmas.Bool.{and_parts, eqb-true, false≢true}
+use Rattle.std.proofs.Common.{◌≡◌, ℕ, zero, suc, ◌+◌, ◌<◌, ◌≤◌, ◌^◌, Bool, true, false, not, ◌&&◌, ◌||◌, ◌==◌, ◌⊎◌, inl, inr, refl, sym, ◌∙◌, ap, subst, arith, List, [], ◌∷◌, length, map, Option, Some, None}
+use Rattle.std.specs.Prelude.{IfSome, nat_lt, nat_le, option_map, option_and_then, sum}
+use Rattle.std.specs.List.{list_all, list_any, slice_get}
+use Rattle.std.specs.Option.{option_map_or}
+use Rattle.std.proofs.lemmas.Bool.{and_parts, or_left, or_right, eqb-true, false≢true}
 use Rattle.std.proofs.lemmas.Bool.Decides.{nat_tests}
 use Rattle.std.proofs.lemmas.Option.{slice_get_within}
 use Rattle.rte_value.specs.Values.{same_number}
@@ -16,7 +17,7 @@ use Rattle.bus_semantics.specs.declared.entries.Actor.{Actor}
 use Rattle.bus_semantics.specs.declared.entries.Actor.TheVariants.{Env, Machine, Act}
 use Rattle.bus_semantics.specs.declared.entries.Deed.{Deed}
 use Rattle.bus_semantics.specs.declared.entries.Deed.TheVariants as deed
-use Rattle.bus_semantics.specs.Plan.{Plan, look, every_from, kind_of, instance_of, server_of, machine_of_port}
+use Rattle.bus_semantics.specs.Plan.{Plan, look, every_from, group_of, kind_of, instance_of, server_of, machine_of_port}
 use Rattle.bus_semantics.specs.Bundles.{home_of, bundle_of, bundle_of_list}
 use Rattle.bus_semantics.specs.SoundLists.{bundles_fit}
 use Rattle.bus_semantics.specs.Wanted.{Wanted, to_tick, to_start, to_admit, to_fetch, to_write, to_read, to_invalidate, to_see_updated, to_send, to_receive, to_ask, to_hear, to_take_result, to_return, to_enter, to_leave, to_switch, to_see_mode, to_move_on, to_publish, to_fetch_all, to_publish_all, to_end, wanted_by}
@@ -29,20 +30,26 @@ use Rattle.bus_semantics.specs.Unqueued.{is_in_group}
 use Rattle.bus_semantics.specs.Queued.{places_at}
 use Rattle.bus_semantics.specs.Sound.{IsSound}
 use Rattle.queue_objects.specs.Layout.{receivers_of, is_queued_at, IsQueuedGroup}
+use Rattle.data_objects.specs.Layout.{IsUnqueuedGroup}
 use Rattle.server_objects.specs.Layout.{IsServer}
 use Rattle.server_objects.specs.Plans.{AreJoined}
 use Rattle.machine_objects.specs.Layout.{IsMachine}
 use Rattle.machine_objects.specs.Plans.{AreTheirs}
 use Rattle.clock_objects.specs.Layout.{has_period}
-use Rattle.bus_laws.proofs.Bundling.{no_list_bundle, homes_counted, there_home}
+use Rattle.bus_laws.proofs.Bundling.{homes_counted, there_home}
+use Rattle.bus_laws.proofs.OneBundle.{list_home}
+use Rattle.bus_laws.proofs.ObjectLists.{IsNamed, IsUnnamed, named_or_not, unnamed_untouched}
+use Rattle.bus_semantics.specs.declared.plan.CoherentList.{CoherentList}
 use Rattle.object_kinds.specs.Layout.{group_at, members_of}
 use Rattle.object_kinds.proofs.Alone.{untouched_bundle}
 use Rattle.object_kinds.proofs.Lists.{all_at}
 use Rattle.object_kinds.proofs.Members.{member_placed, members_all}
+use Rattle.object_kinds.proofs.Options.{clash, number_is, is_number}
 use Rattle.object_kinds.proofs.Placing.{place_at}
+use Rattle.object_kinds.proofs.Touching.{listed_not_queued}
 use Rattle.object_kinds.proofs.Proper.{by_actor}
 use Rattle.object_kinds.proofs.Ranges.{sought, kind_fits, bundle_within, list_within, invoked_server, switching_machine, acked_machine, disabling_machine, joined_server, port_machine, serving_server}
-use Rattle.port_objects.specs.Plans.{has_queues, QueuesFit, IsOfOneKind, HasObjects}
+use Rattle.port_objects.specs.Plans.{has_queues, QueuesFit, IsOfOneKind, is_listed, IsOfKind, HasObjects}
 
 all_where : {X : Type 0} (test : X → Bool) (xs : List X) → ((i : ℕ) (x : X) → slice_get xs i ≡ Some x → test x ≡ true) → list_all test xs ≡ true
 all_where test [] each = refl
@@ -79,6 +86,40 @@ one_kind p g within whole few false is = record { number = within; unqueued = no
         let parts = and_parts (is_in_group p g x) (list_all (is_in_group p g) xs) all in
         λ i. is_unqueued x parts.0 (is_queued_at p x) refl i && none_queued xs parts.1 i
 
+-- which list touches a bundle
+record Listing (p : Plan) (b : ℕ) : Type 0 where
+  list : ℕ
+  touched : bundle_of_list p list ≡ Some b
+
+list_is : (p : Plan) (l : ℕ) (c : CoherentList) → slice_get p.lists l ≡ Some c → bundle_of_list p l ≡ option_and_then (bundle_of p) (slice_get c.elems 0)
+list_is p l c at = ap (λ (o : Option CoherentList). option_and_then (bundle_of p) (slice_get (option_map_or (λ (d : CoherentList). d.elems) o []) 0)) at
+
+any_at : (f : CoherentList → Bool) (cs : List CoherentList) (l : ℕ) (c : CoherentList) → slice_get cs l ≡ Some c → f c ≡ true → list_any f cs ≡ true
+any_at f [] l c at on = absurd (cc at)
+any_at f (d ∷ cs) zero c at on = let same : d ≡ c = cc in or_left (f d) (list_any f cs) (subst (λ e. f e ≡ true) (sym same) on)
+any_at f (d ∷ cs) (suc l) c at on = or_right (f d) (list_any f cs) (any_at f cs l c at on)
+
+any_found : (f : CoherentList → Bool) (cs : List CoherentList) → list_any f cs ≡ true → (l : ℕ) × ((c : CoherentList) × ((slice_get cs l ≡ Some c) × (f c ≡ true)))
+any_found f [] any = absurd (false≢true any)
+any_found f (c ∷ cs) any = by_first (f c) refl any (any_found f cs)
+  where
+    by_first : (b : Bool) → f c ≡ b → (b || list_any f cs) ≡ true → (list_any f cs ≡ true → (l : ℕ) × ((d : CoherentList) × ((slice_get cs l ≡ Some d) × (f d ≡ true))))
+        → (l : ℕ) × ((d : CoherentList) × ((slice_get (c ∷ cs) l ≡ Some d) × (f d ≡ true)))
+    by_first true is any rest = (0, (c, (refl, is)))
+    by_first false is any rest = let found = rest any in (suc found.0, (found.1.0, (found.1.1.0, found.1.1.1)))
+
+listing : (p : Plan) (b : ℕ) → is_listed p b ≡ true → Listing p b
+listing p b is =
+    let found = any_found (λ (c : CoherentList). same_number (option_and_then (bundle_of p) (slice_get c.elems 0)) (Some b)) p.lists is in
+    record { list = found.0; touched = list_is p found.0 found.1.0 found.1.1.0 ∙ number_is (option_and_then (bundle_of p) (slice_get found.1.0.elems 0)) b found.1.1.1 }
+
+unlisted : (p : Plan) (b : ℕ) → is_listed p b ≡ false → (l : ℕ) → bundle_of_list p l ≡ Some b → ⊥
+unlisted p b off l is = by_list (slice_get p.lists l) refl
+  where
+    by_list : (o : Option CoherentList) → slice_get p.lists l ≡ o → ⊥
+    by_list None at = cc (sym (ap (λ (o : Option CoherentList). option_and_then (bundle_of p) (slice_get (option_map_or (λ (d : CoherentList). d.elems) o []) 0)) at) ∙ is)
+    by_list (Some c) at = false≢true (sym off ∙ any_at (λ (d : CoherentList). same_number (option_and_then (bundle_of p) (slice_get d.elems 0)) (Some b)) p.lists l c at (is_number (option_and_then (bundle_of p) (slice_get c.elems 0)) b (sym (list_is p l c at) ∙ is)))
+
 -- what has a home is one of the plan's groups
 home_below : (p : Plan) → bundles_fit p ≡ true → (g b : ℕ) → home_of p g ≡ Some b → g < length p.groups
 home_below p fit g b home = omega (arith, slice_get_within p.homes g b (there_home p fit g b home), homes_counted p fit)
@@ -90,9 +131,7 @@ pub has_objects : (p : Plan) (m : Mapping) → (sound : IsSound p m) → ((group
 has_objects p m sound whole few servers joined machines theirs = record {
   groups = sound.groups;
   bundles = sound.bundles;
-  kinds = λ b within.
-      let alone = untouched_bundle p m sound b within (λ l is. cc (sym (no_list_bundle p sound.none_listed l) ∙ is)) in
-      record { alone = alone; kind = group_kind (group_at p b) (home_below p sound.bundles (group_at p b) b alone.home) };
+  kinds = λ b within. by_lists b within (is_listed p b) refl;
   servers = λ s within. servers s sound within;
   joined = joined sound;
   machines = λ n within. machines (first_machine p + n) sound (omega arith) (omega (arith, within));
@@ -104,6 +143,33 @@ has_objects p m sound whole few servers joined machines theirs = record {
   where
     group_kind : (g : ℕ) → g < length p.groups → IsOfOneKind p g (has_queues p g)
     group_kind g within = one_kind p g within (λ h x. whole h x sound) (few g sound) (has_queues p g) refl
+
+    -- a group that a list names is unqueued
+    named_kind : (g : ℕ) → g < length p.groups → IsNamed p g → IsUnqueuedGroup p g
+    named_kind g within named = by_kind (has_queues p g) (group_kind g within)
+      where
+        by_kind : (b : Bool) → IsOfOneKind p g b → IsUnqueuedGroup p g
+        by_kind false is = is
+        by_kind true is =
+            let inside : is_in_group p g named.elem ≡ true = is_number (group_of p named.elem) g named.group in
+            let there = member_placed p g named.elem inside in
+            clash (is_queued_at p named.elem) (all_at (is_queued_at p) (members_of p g) there.at named.elem is.queued.queued (place_at named.elem (members_of p g) there.at there.is)) (listed_not_queued p m sound named.list named.elem named.there)
+
+    touched_kind : (b g l : ℕ) → bundle_of_list p l ≡ Some b → home_of p g ≡ Some b → IsNamed p g ⊎ IsUnnamed p g → IsUnqueuedGroup p g
+    touched_kind b g l touched home (inl named) = named_kind g (home_below p sound.bundles g b home) named
+    touched_kind b g l touched home (inr unnamed) = absurd (unnamed_untouched p m sound g b unnamed home l touched)
+
+    by_lists : (b : ℕ) → b < length p.bundles → (listed : Bool) → is_listed p b ≡ listed → IsOfKind p b listed
+    by_lists b within true is =
+        let touching = listing p b is in
+        record {
+          number = within;
+          groups = λ g home. touched_kind b g touching.list touching.touched home (named_or_not p g);
+          together = λ list elem home there. list_home p m sound list elem there ∙ home;
+        }
+    by_lists b within false is =
+        let alone = untouched_bundle p m sound b within (unlisted p b is) in
+        record { alone = alone; kind = group_kind (group_at p b) (home_below p sound.bundles (group_at p b) b alone.home) }
 
     of_kind : (e r : ℕ) (home : Option ℕ) (k : EventKind) → kind_sound p e r home k ≡ true → has_period k ≡ true
     of_kind e r home (Timing period) fit = (and_parts (nat_le 1 period) (nat_le period 1000000) fit).0

@@ -14,13 +14,14 @@ use Rattle.object_kinds.specs.declared.acted.Acted.{Acted}
 use Rattle.object_kinds.specs.declared.acted.Acted.TheVariants.{Done, NotYet}
 use Rattle.object_kinds.specs.declared.acted.Shown.{Shown}
 use Rattle.data_objects.specs.Leading as groups
+use Rattle.bundle_objects.specs.Leading as bundles
 use Rattle.queue_objects.specs.Leading as queues
 use Rattle.server_objects.specs.Leading as servers
 use Rattle.area_objects.specs.Leading as areas
 use Rattle.machine_objects.specs.Leading as machines
 use Rattle.clock_objects.specs.Leading as clocks
 use Rattle.port_objects.specs.declared.object.Object.{Object}
-use Rattle.port_objects.specs.Kept.{Kept, of_group, of_queues, of_server, of_area, of_machine, of_clock}
+use Rattle.port_objects.specs.Kept.{Kept, of_group, of_bundle, of_queues, of_server, of_area, of_machine, of_clock}
 use Rattle.port_objects.specs.Leading.{lead}
 use Rattle.port_objects.specs.Objects.{kept_of}
 use Rattle.port_objects.specs.Waking.{may_start_in, Tells, TellsPoint}
@@ -38,6 +39,7 @@ pub record IsMade (p : Plan) (object : ℕ) (a : Actor) (w : Wanted) (old new : 
 -- why a wish may not come, by the kind of the object
 abbrev pub why_held : Kept → Wanted → Shown
 why_held (of_group k) w = groups.why_held k w
+why_held (of_bundle k) w = bundles.why_held k w
 why_held (of_queues k) w = queues.why_held k w
 why_held (of_server k) w = servers.why_held k w
 why_held (of_area k) w = areas.why_held k w

@@ -7,16 +7,18 @@ use Rattle.bus_semantics.specs.History.{Noted}
 use Rattle.bus_semantics.specs.Objects.{touches}
 use Rattle.bus_semantics.specs.Locality.{is_proper}
 use Rattle.data_objects.specs.Leading as groups
+use Rattle.bundle_objects.specs.Leading as bundles
 use Rattle.queue_objects.specs.Leading as queues
 use Rattle.server_objects.specs.Leading as servers
 use Rattle.area_objects.specs.Leading as areas
 use Rattle.machine_objects.specs.Leading as machines
 use Rattle.clock_objects.specs.Leading as clocks
-use Rattle.port_objects.specs.Kept.{Kept, of_group, of_queues, of_server, of_area, of_machine, of_clock}
+use Rattle.port_objects.specs.Kept.{Kept, of_group, of_bundle, of_queues, of_server, of_area, of_machine, of_clock}
 
 -- by the kind of the object
 abbrev pub lead_by_kind : Plan → (object : ℕ) → Kept → Noted → Option Kept
 lead_by_kind p object (of_group k) n = option_map of_group (groups.lead p object k n)
+lead_by_kind p object (of_bundle k) n = option_map of_bundle (bundles.lead p k n)
 lead_by_kind p object (of_queues k) n = option_map of_queues (queues.lead p k n)
 lead_by_kind p object (of_server k) n = option_map of_server (servers.lead k n)
 lead_by_kind p object (of_area k) n = option_map of_area (areas.lead k n)

@@ -4,15 +4,16 @@ use Rattle.bus_semantics.specs.Plan.{Plan, positions}
 use Rattle.bus_semantics.specs.Objects.{first_server}
 use Rattle.object_kinds.specs.Layout.{group_at}
 use Rattle.data_objects.specs.Kept as groups
+use Rattle.bundle_objects.specs.Kept as bundles
 use Rattle.queue_objects.specs.Kept as queues
 use Rattle.server_objects.specs.Kept as servers
 use Rattle.area_objects.specs.Kept as areas
 use Rattle.machine_objects.specs.Kept as machines
 use Rattle.clock_objects.specs.Kept as clocks
 use Rattle.port_objects.specs.declared.object.Object.{Object}
-use Rattle.port_objects.specs.Kept.{Kept, of_group, of_queues, of_server, of_area, of_machine, of_clock}
+use Rattle.port_objects.specs.Kept.{Kept, of_group, of_bundle, of_queues, of_server, of_area, of_machine, of_clock}
 use Rattle.port_objects.specs.Objects.{kept_of, IsOfPlan, ArePlans}
-use Rattle.port_objects.specs.Plans.{has_queues}
+use Rattle.port_objects.specs.Plans.{has_queues, is_listed}
 use Rattle.port_objects.specs.Standing.{Stands}
 
 -- a group, by the kind of its elements
@@ -20,9 +21,13 @@ abbrev pub opening_of_kind : Plan → (group : ℕ) → (queued : Bool) → Kept
 opening_of_kind p g true = of_queues (queues.opening p g)
 opening_of_kind p g false = of_group (groups.opening p g)
 
--- a bundle that is a group by itself
+-- a bundle that coherent lists touch, or a group by itself
+abbrev pub opening_where : Plan → (bundle : ℕ) → (listed : Bool) → Kept
+opening_where p b true = of_bundle (bundles.opening p b)
+opening_where p b false = opening_of_kind p (group_at p b) (has_queues p (group_at p b))
+
 abbrev pub opening_of_bundle : Plan → (bundle : ℕ) → Kept
-opening_of_bundle p b = opening_of_kind p (group_at p b) (has_queues p (group_at p b))
+opening_of_bundle p b = opening_where p b (is_listed p b)
 
 -- the objects of a plan that stand before those of a kind, and the kind's: its bundles in order, then its servers, areas, machines and the clock
 abbrev pub before_servers : Plan → List Kept

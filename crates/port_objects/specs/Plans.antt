@@ -1,12 +1,17 @@
 -- What is asked of the plans whose objects are made. A sound plan has it.
-use Rattle.std.specs.Prelude.{◌≡◌, ◌<◌, ◌+◌, ◌^◌, ℕ, length, map, sum, Bool, true, false, nat_le}
+use Rattle.std.specs.Prelude.{◌≡◌, ◌<◌, ◌+◌, ◌^◌, ℕ, length, map, sum, Bool, true, false, nat_le, Some, option_and_then, slice_get}
+use Rattle.std.specs.List.{list_any}
+use Rattle.rte_value.specs.Values.{same_number}
+use Rattle.bus_semantics.specs.declared.plan.CoherentList.{CoherentList}
 use Rattle.bus_semantics.specs.Plan.{Plan, look}
+use Rattle.bus_semantics.specs.Bundles.{bundle_of}
 use Rattle.bus_semantics.specs.Objects.{first_server, first_machine}
 use Rattle.bus_semantics.specs.Queued.{places_at}
 use Rattle.bus_semantics.specs.SoundPlan.{groups_fit, objects_counted}
 use Rattle.bus_semantics.specs.SoundLists.{bundles_fit}
 use Rattle.object_kinds.specs.Layout.{group_at, IsAlone, members_of}
 use Rattle.data_objects.specs.Layout.{IsUnqueuedGroup}
+use Rattle.bundle_objects.specs.Layout.{IsBundle}
 use Rattle.queue_objects.specs.Layout.{receivers_of, is_queued_at, IsQueuedGroup}
 use Rattle.server_objects.specs.Layout.{IsServer}
 use Rattle.server_objects.specs.Plans.{AreJoined}
@@ -33,12 +38,21 @@ pub record IsOneGroup (p : Plan) (bundle : ℕ) : Type 0 where
   pub alone : IsAlone p bundle
   pub kind : IsOfOneKind p (group_at p bundle) (has_queues p (group_at p bundle))
 
+-- a coherent list touches the bundle
+abbrev pub is_listed : Plan → (bundle : ℕ) → Bool
+is_listed p b = list_any (λ (c : CoherentList). same_number (option_and_then (bundle_of p) (slice_get c.elems 0)) (Some b)) p.lists
+
+-- a bundle that lists touch has unqueued groups alone; any other one is a group
+abbrev pub IsOfKind : Plan → (bundle : ℕ) → (listed : Bool) → Type 0
+IsOfKind p b true = IsBundle p b
+IsOfKind p b false = IsOneGroup p b
+
 -- groups list their elements, bundles list their groups and are of one kind each, servers and machines are such that are made and own the
 -- points and events that name them, the objects and events are counted, and no period is empty
 pub record HasObjects (p : Plan) : Type 0 where
   pub groups : groups_fit p ≡ true
   pub bundles : bundles_fit p ≡ true
-  pub kinds : (bundle : ℕ) → bundle < length p.bundles → IsOneGroup p bundle
+  pub kinds : (bundle : ℕ) → bundle < length p.bundles → IsOfKind p bundle (is_listed p bundle)
   pub servers : (server : ℕ) → server < length p.servers → IsServer p (first_server p + server)
   pub joined : AreJoined p
   pub machines : (machine : ℕ) → machine < length p.machines → IsMachine p (first_machine p + machine)

@@ -8,20 +8,22 @@ use Rattle.bus_semantics.specs.Plan.{Plan}
 use Rattle.bus_semantics.specs.Wanted.{to_enter, wanted_by}
 use Rattle.bus_semantics.specs.History.{Noted}
 use Rattle.data_objects.specs.Kept as groups
+use Rattle.bundle_objects.specs.Kept as bundles
 use Rattle.queue_objects.specs.Kept as queues
 use Rattle.server_objects.specs.Kept as servers
 use Rattle.area_objects.specs.Kept as areas
 use Rattle.machine_objects.specs.Kept as machines
 use Rattle.clock_objects.specs.Kept as clocks
 use Rattle.port_objects.specs.declared.object.Object.{Object}
-use Rattle.port_objects.specs.declared.object.Object.TheVariants.{Unqueued, Queued, Server, Area, Machine, Clock}
-use Rattle.port_objects.specs.Kept.{Kept, of_group, of_queues, of_server, of_area, of_machine, of_clock}
+use Rattle.port_objects.specs.declared.object.Object.TheVariants.{Unqueued, Bundle, Queued, Server, Area, Machine, Clock}
+use Rattle.port_objects.specs.Kept.{Kept, of_group, of_bundle, of_queues, of_server, of_area, of_machine, of_clock}
 use Rattle.port_objects.specs.Leading.{lead}
 use Rattle.port_objects.specs.Objects.{kept_of}
 
 -- whether a start by an event may come where an object keeps this
 abbrev pub may_start_in : Kept → (event : ℕ) → Bool
 may_start_in (of_group k) e = groups.may_start k e
+may_start_in (of_bundle k) e = bundles.may_start k e
 may_start_in (of_queues k) e = queues.may_start k e
 may_start_in (of_server k) e = servers.may_start k e
 may_start_in (of_area k) e = areas.may_start k e
@@ -44,6 +46,7 @@ wakes _ = false
 -- the events that the last entry on an object that can make a start come made pending
 abbrev pub woken_in : Object → List ℕ
 woken_in (Unqueued g) = g.woken
+woken_in (Bundle b) = b.woken
 woken_in (Queued g) = g.woken
 woken_in (Server s) = s.woken
 woken_in (Area a) = []
@@ -57,6 +60,7 @@ Tells before now = (event : ℕ) → may_start_in before event ≡ false → may
 -- whether an Answer at a point may come where an object keeps this (SWS_RTE: Rte_Call)
 abbrev pub may_hear_in : Kept → (point : ℕ) → Bool
 may_hear_in (of_group k) q = false
+may_hear_in (of_bundle k) q = false
 may_hear_in (of_queues k) q = false
 may_hear_in (of_server k) q = servers.may_hear k q
 may_hear_in (of_area k) q = false
@@ -66,6 +70,7 @@ may_hear_in (of_clock k) q = false
 -- the point to which the last Return on an object went
 abbrev pub heard_in : Object → Option ℕ
 heard_in (Unqueued g) = None
+heard_in (Bundle b) = None
 heard_in (Queued g) = None
 heard_in (Server s) = s.heard
 heard_in (Area a) = None

@@ -55,6 +55,7 @@ fn act_by_kind(p: &BusPlan, object: &mut Object, who: &Actor, wish: &Wish) -> Ac
 {
     match object {
         Object::Unqueued(group) => group.act(p, who, wish),
+        Object::Bundle(bundle) => bundle.act(p, who, wish),
         Object::Queued(group) => group.act(p, who, wish),
         Object::Server(server) => server.act(who, wish),
         Object::Area(area) => area.act(who, wish),

@@ -41,6 +41,7 @@ pub fn leads_are_legal()
     area_objects::leads_are_legal();
     machine_objects::leads_are_legal();
     clock_objects::leads_are_legal();
+    bundle_objects::leads_are_legal();
 }
 
 /// The lead misses no entry that may come: if an object of a sound plan stands for a list of entries, and a further entry may
@@ -55,6 +56,7 @@ pub fn leads_miss_nothing()
     area_objects::leads_miss_nothing();
     machine_objects::leads_miss_nothing();
     clock_objects::leads_miss_nothing();
+    bundle_objects::leads_miss_nothing();
 }
 
 /// A sound plan has what `make_objects` asks of a plan, and what a wish that fits its actor touches is an

@@ -1,18 +1,22 @@
 //! The objects of a plan.
 
-ghost use Rattle.std.specs.Prelude.{◌≡◌, ◌<◌, ◌^◌, ℕ, length, map, slice_get, [], Some, IfOk, OnOk};
+ghost use Rattle.std.specs.Prelude.{◌≡◌, ◌<◌, ◌^◌, ℕ, Bool, length, map, set, option_and_then, slice_get, true, false, [], Some, IfOk, OnOk};
+ghost use Rattle.std.specs.Option.{option_map_or};
 ghost use Rattle.bus_semantics.specs.Plan.{plan_of};
+ghost use Rattle.bus_semantics.specs.Bundles.{bundle_of};
+ghost use Rattle.bus_semantics.specs.SoundLists.{bundles_fit};
 ghost use Rattle.object_kinds.specs.Layout.{events_of, group_at, waits_in_bundle};
 ghost use Rattle.queue_objects.specs.Layout.{is_queued_at};
 ghost use Rattle.port_objects.specs.Objects.{kept_of, IsOfPlan, ArePlans};
-ghost use Rattle.port_objects.specs.Opening.{before_servers, before_areas, before_machines, before_clock, opening, opening_of_bundle, AreFirst, AreMade};
-ghost use Rattle.port_objects.specs.Plans.{HasObjects, IsOneGroup, has_queues};
+ghost use Rattle.port_objects.specs.Opening.{before_servers, before_areas, before_machines, before_clock, opening, opening_of_bundle, opening_where, AreFirst, AreMade};
+ghost use Rattle.port_objects.specs.Plans.{HasObjects, IsOneGroup, has_queues, is_listed};
 ghost use Rattle.port_objects.specs.Standing.{Stands};
 
 use crate::Memory;
 use crate::object::Object;
 use area_objects::AreaObject;
-use bus_semantics::{BusPlan, ElemKind};
+use bundle_objects::Bundle;
+use bus_semantics::{BusPlan, CoherentList, ElemKind};
 use clock_objects::Ticks;
 use data_objects::Group;
 use machine_objects::{MachineObject, mattering_events};
@@ -54,11 +58,70 @@ fn push_bundles(alloc: Global, p: &BusPlan, objects: &mut Vec<Object>) -> Result
     ensures { OnOk result (AreFirst (plan_of p.now) (before_servers (plan_of p.now)) objects.new.items) }
 {
     let mut waiting = bundle_events(alloc, p)?;
+    let listed = listed_bundles(alloc, p)?;
     for bundle in 0..p.bundles.len() as u32 {
         let events = take_list(alloc, &mut waiting, bundle);
-        objects.push(make_group(alloc, p, bundle, events)?)?;
+        objects.push(make_bundle(alloc, p, bundle, listed[bundle as usize], events)?)?;
     }
     Ok(())
+}
+
+/// For each bundle whether a coherent list touches it.
+fn listed_bundles(alloc: Global, p: &BusPlan) -> Result<Vec<bool>, Memory>
+    requires bundles { bundles_fit (plan_of p.now) ≡ true }
+    ensures long { IfOk result (λ listed. length listed.items ≡ length p.now.bundles) }
+    ensures listed { IfOk result (λ listed. (bundle : ℕ) (is : Bool) → slice_get listed.items bundle ≡ Some is → is ≡ is_listed (plan_of p.now) bundle) }
+{
+    let mut listed = vec![in alloc; false; p.bundles.len()]?;
+    for list in p.lists.items() {
+        mark_bundle(p, &mut listed, list);
+    }
+    Ok(listed)
+}
+
+/// Marks the bundle that a coherent list touches.
+fn mark_bundle(p: &BusPlan, listed: &mut Vec<bool>, list: &CoherentList)
+    requires bundles { bundles_fit (plan_of p.now) ≡ true }
+    requires long { length listed.old.items ≡ length p.now.bundles }
+    ensures { listed.new.items ≡ option_map_or (λ bundle. set listed.old.items bundle true) (option_and_then (bundle_of (plan_of p.now)) (slice_get list.now.elems 0)) listed.old.items }
+{
+    if let Some(bundle) = list_bundle(p, list) {
+        listed[bundle as usize] = true;
+    }
+}
+
+/// The bundle that a coherent list touches.
+fn list_bundle(p: &BusPlan, list: &CoherentList) -> Option<u32>
+    ensures { result ≡ option_and_then (bundle_of (plan_of p.now)) (slice_get list.now.elems 0) }
+{
+    match list.elems.items().first() {
+        Some(elem) => p.bundle_of(*elem),
+        None => None,
+    }
+}
+
+/// The object of a bundle for whose groups these events wait: a bundle where coherent lists touch it, else a group.
+fn make_bundle(
+    alloc: Global,
+    p: &BusPlan,
+    bundle: u32,
+    listed: bool,
+    events: Vec<u32>,
+) -> Result<Object, Memory>
+    requires sound { HasObjects (plan_of p.now) }
+    requires within { bundle < length p.now.bundles }
+    requires listed { listed ≡ is_listed (plan_of p.now) bundle }
+    requires waiting { events.items ≡ events_of (plan_of p.now) (waits_in_bundle (plan_of p.now) bundle) }
+    ensures kept { IfOk result (λ o. kept_of o ≡ opening_of_bundle (plan_of p.now) bundle) }
+    ensures planned { IfOk result (λ o. IsOfPlan (plan_of p.now) bundle o) }
+    ensures standing { IfOk result (λ o. Stands (plan_of p.now) bundle (kept_of o) []) }
+{
+    bundle_objects::first_bundle_stands_for_nothing();
+    if listed {
+        Ok(Object::Bundle(Bundle::new(alloc, p, bundle, events)?))
+    } else {
+        make_group(alloc, p, bundle, events)
+    }
 }
 
 /// Appends each server.
@@ -126,7 +189,7 @@ fn make_group(alloc: Global, p: &BusPlan, bundle: u32, events: Vec<u32>) -> Resu
     requires within { bundle < length p.now.bundles }
     requires one { IsOneGroup (plan_of p.now) bundle }
     requires waiting { events.items ≡ events_of (plan_of p.now) (waits_in_bundle (plan_of p.now) bundle) }
-    ensures kept { IfOk result (λ o. kept_of o ≡ opening_of_bundle (plan_of p.now) bundle) }
+    ensures kept { IfOk result (λ o. kept_of o ≡ opening_where (plan_of p.now) bundle false) }
     ensures planned { IfOk result (λ o. IsOfPlan (plan_of p.now) bundle o) }
     ensures standing { IfOk result (λ o. Stands (plan_of p.now) bundle (kept_of o) []) }
 {

@@ -1,6 +1,7 @@
 //! The objects of the bus.
 
 use area_objects::AreaObject;
+use bundle_objects::Bundle;
 use clock_objects::Ticks;
 use data_objects::Group;
 use machine_objects::MachineObject;
@@ -12,6 +13,8 @@ use server_objects::ServerObject;
 pub enum Object {
     /// A group of joined unqueued data elements, or a variable.
     Unqueued(Group),
+    /// Groups of joined unqueued data elements that coherent access lists connect.
+    Bundle(Bundle),
     /// A group of joined queued data elements.
     Queued(QueueGroup),
     /// A server with the points that call it.

@@ -24,6 +24,7 @@ pub fn may_start(object: &Object, event: u32) -> bool
 {
     match object {
         Object::Unqueued(group) => group.may_start(event),
+        Object::Bundle(bundle) => bundle.may_start(event),
         Object::Queued(group) => group.may_start(event),
         Object::Server(server) => server.may_start(event),
         Object::Area(_) => false,
@@ -33,7 +34,7 @@ pub fn may_start(object: &Object, event: u32) -> bool
 }
 
 /// The events, by number, that the last entry which can make a start come made pending on an object (SWS_RTE: activation of
-/// runnables): DataReceivedEvents of a group, OperationInvokedEvents and AsynchronousServerCallReturnsEvents of a server,
+/// runnables): DataReceivedEvents of a group or a bundle, OperationInvokedEvents and AsynchronousServerCallReturnsEvents of a server,
 /// SwcModeSwitchEvents and ModeSwitchedAckEvents of a machine, TimingEvents of the clock, none of an area. Each start that the last entry
 /// made come is by one of them; no clause says that there are no others among them. It changes nothing.
 pub fn woken(object: &Object) -> &[u32]
@@ -41,6 +42,7 @@ pub fn woken(object: &Object) -> &[u32]
 {
     match object {
         Object::Unqueued(group) => group.woken(),
+        Object::Bundle(bundle) => bundle.woken(),
         Object::Queued(group) => group.woken(),
         Object::Server(server) => server.woken(),
         Object::Area(_) => &[],
@@ -88,6 +90,7 @@ pub fn held_starts_lead_nowhere()
     area_objects::starts_go_by_flags();
     machine_objects::starts_go_by_flags();
     clock_objects::starts_go_by_flags();
+    bundle_objects::starts_go_by_flags();
 }
 
 /// An entry that cannot make a start come leaves each start that an object does not allow so.
@@ -101,6 +104,7 @@ pub fn other_entries_wake_nothing()
     area_objects::other_entries_wake_nothing();
     machine_objects::other_entries_wake_nothing();
     clock_objects::other_entries_wake_nothing();
+    bundle_objects::other_entries_wake_nothing();
 }
 
 /// An Answer at a point comes exactly if its object allows it (SWS_RTE: Rte_Call): if not, none leads on; and if none of an activation

@@ -6,10 +6,10 @@ use Rattle.bus_semantics.specs.Run.{history_of}
 use Rattle.bus_semantics.specs.Plan.{Plan, positions}
 use Rattle.bus_laws.proofs.Resting.{could}
 use Rattle.bus_rows.specs.OneWriter.{one_task, ten_ticks_and_run}
-use Rattle.bus_rows.specs.CoherentLists.{writes_both, two_lists, both_fetched}
+use Rattle.bus_rows.specs.CoherentLists.{writes_both, two_lists, listed_twice, both_fetched}
 use Rattle.bus_rows.proofs.RowPasts.{pasts_of}
 use Rattle.bus_rows.proofs.RowRuns.{words_hold, run_of}
-use Rattle.bus_rows.proofs.RowSound.{lacks, unordered}
+use Rattle.bus_rows.proofs.RowSound.{lacks, sound_of, unordered}
 use Rattle.bus_rows.proofs.rows.coherent_list_is_fetched_at_one_moment.Goals as goal
 
 abbrev plan : Plan
@@ -32,8 +32,8 @@ returns-clause-spelled c = refl
 pub returns-clause-legal : goal.returns-clause-legal
 returns-clause-legal c = legal
 
-pub returns-clause-lacks : goal.returns-clause-lacks
-returns-clause-lacks c = lacks _ plan one_task refl (unordered plan one_task (λ a n w. absurd (false≢true w)))
+pub returns-clause-sound : goal.returns-clause-sound
+returns-clause-sound c = sound_of plan one_task refl (unordered plan one_task (λ a n w. absurd (false≢true w)))
 
 pub returns-clause-quiet : goal.returns-clause-quiet
 returns-clause-quiet c = record { none = refl; due = refl; machines = refl }
@@ -42,7 +42,7 @@ pub returns-clause-parted : goal.returns-clause-parted
 returns-clause-parted c = pasts_of plan both_fetched (positions plan.objects) refl
 
 pub returns-clause-twice : goal.returns-clause-twice
-returns-clause-twice c = refl
+returns-clause-twice c = lacks _ listed_twice one_task refl (unordered listed_twice one_task (λ a n w. absurd (false≢true w)))
 
 pub returns-clause-wrong : goal.returns-clause-wrong
 returns-clause-wrong c = record { before = refl; fit = refl; broken = refl }

@@ -9,7 +9,7 @@ use Rattle.bus_rows.specs.OneWriter.{one_task, ten_ticks_and_run}
 use Rattle.bus_rows.specs.CoherentLists.{writes_second, two_lists, second_fetched}
 use Rattle.bus_rows.proofs.RowPasts.{pasts_of}
 use Rattle.bus_rows.proofs.RowRuns.{words_hold, run_of}
-use Rattle.bus_rows.proofs.RowSound.{lacks, unordered}
+use Rattle.bus_rows.proofs.RowSound.{sound_of, unordered}
 use Rattle.bus_rows.proofs.rows.coherent_list_publishes_what_was_written.Goals as goal
 
 abbrev plan : Plan
@@ -32,8 +32,8 @@ returns-clause-spelled c = refl
 pub returns-clause-legal : goal.returns-clause-legal
 returns-clause-legal c = legal
 
-pub returns-clause-lacks : goal.returns-clause-lacks
-returns-clause-lacks c = lacks _ plan one_task refl (unordered plan one_task (λ a n w. absurd (false≢true w)))
+pub returns-clause-sound : goal.returns-clause-sound
+returns-clause-sound c = sound_of plan one_task refl (unordered plan one_task (λ a n w. absurd (false≢true w)))
 
 pub returns-clause-quiet : goal.returns-clause-quiet
 returns-clause-quiet c = record { none = refl; due = refl; machines = refl }

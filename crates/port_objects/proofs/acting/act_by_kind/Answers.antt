@@ -7,8 +7,11 @@ use Rattle.bus_semantics.specs.Objects.{touched}
 use Rattle.data_objects.specs.Kept as groups
 use Rattle.data_objects.specs.Leading as group_leading
 use Rattle.data_objects.specs.Standing as group_standing
+use Rattle.bundle_objects.specs.Kept as bundles
 use Rattle.queue_objects.specs.Kept as queues
+use Rattle.bundle_objects.specs.Leading as bundle_leading
 use Rattle.queue_objects.specs.Leading as queue_leading
+use Rattle.bundle_objects.specs.Standing as bundle_standing
 use Rattle.queue_objects.specs.Standing as queue_standing
 use Rattle.server_objects.specs.Kept as servers
 use Rattle.area_objects.specs.Kept as areas
@@ -23,11 +26,11 @@ use Rattle.clock_objects.specs.Kept as clocks
 use Rattle.clock_objects.specs.Leading as clock_leading
 use Rattle.clock_objects.specs.Standing as clock_standing
 use Rattle.machine_objects.specs.Plans.{IsAskedOf}
-use Rattle.port_objects.specs.declared.object.Object.TheVariants.{Unqueued, Queued, Server, Area, Machine, Clock}
-use Rattle.port_objects.specs.Kept.{of_group, of_queues, of_server, of_area, of_machine, of_clock}
+use Rattle.port_objects.specs.declared.object.Object.TheVariants.{Unqueued, Bundle, Queued, Server, Area, Machine, Clock}
+use Rattle.port_objects.specs.Kept.{of_group, of_bundle, of_queues, of_server, of_area, of_machine, of_clock}
 use Rattle.port_objects.specs.Objects.{IsOfPlan}
 use Rattle.port_objects.specs.Answers.{IsAnswer}
-use Rattle.port_objects.proofs.Rows.{group_row, queue_row, server_row, area_row, machine_row, clock_row}
+use Rattle.port_objects.proofs.Rows.{group_row, bundle_row, queue_row, server_row, area_row, machine_row, clock_row}
 use Rattle.port_objects.proofs.Answering.{answered}
 use Rattle.port_objects.proofs.acting.act_by_kind.Goals as goal
 
@@ -43,6 +46,19 @@ returns-in-Unqueued-clause-lead c =
     (answered p a w of_group (group_standing.Keeps p o) (group_leading.lead p o) groups.may_start group_leading.why_held (group_row p o)
     c.requires.touching c.requires.fits c.requires.own (Unqueued old) (Unqueued new) old.kept new.kept c.act.result refl refl
     c.act.ensures.answer (λ shown is. ap Unqueued (c.act.ensures.same shown is)) c.act.ensures.told (λ point off on. absurd (false≢true on)))
+
+pub returns-in-Bundle-clause-lead : goal.returns-in-Bundle-clause-lead
+returns-in-Bundle-clause-lead c =
+    let p = plan_of c.args.p.now in
+    let a = c.args.who.now in
+    let w = wanted_of c.args.wish.now in
+    let o = touched p a w in
+    let old = c.in-Bundle.bundle in
+    let new = c.act-in-Bundle.new.self in
+    subst (λ x. IsAnswer p o a w x (Bundle new) c.act-in-Bundle.result) (sym c.in-Bundle.is)
+    (answered p a w of_bundle (bundle_standing.Keeps p o) (bundle_leading.lead p) bundles.may_start bundle_leading.why_held (bundle_row p o)
+    c.requires.touching c.requires.fits c.requires.own (Bundle old) (Bundle new) old.kept new.kept c.act-in-Bundle.result refl refl
+    c.act-in-Bundle.ensures.answer (λ shown is. ap Bundle (c.act-in-Bundle.ensures.same shown is)) c.act-in-Bundle.ensures.told (λ point off on. absurd (false≢true on)))
 
 pub returns-in-Queued-clause-lead : goal.returns-in-Queued-clause-lead
 returns-in-Queued-clause-lead c =

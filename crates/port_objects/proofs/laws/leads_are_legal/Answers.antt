@@ -5,8 +5,11 @@ use Rattle.bus_semantics.specs.Pasts.{Follows}
 use Rattle.data_objects.specs.Kept as groups
 use Rattle.data_objects.specs.Leading as group_leading
 use Rattle.data_objects.specs.Standing as group_standing
+use Rattle.bundle_objects.specs.Kept as bundles
 use Rattle.queue_objects.specs.Kept as queues
+use Rattle.bundle_objects.specs.Leading as bundle_leading
 use Rattle.queue_objects.specs.Leading as queue_leading
+use Rattle.bundle_objects.specs.Standing as bundle_standing
 use Rattle.queue_objects.specs.Standing as queue_standing
 use Rattle.server_objects.specs.Kept as servers
 use Rattle.area_objects.specs.Kept as areas
@@ -20,10 +23,10 @@ use Rattle.machine_objects.specs.Standing as machine_standing
 use Rattle.clock_objects.specs.Kept as clocks
 use Rattle.clock_objects.specs.Leading as clock_leading
 use Rattle.clock_objects.specs.Standing as clock_standing
-use Rattle.port_objects.specs.Kept.{Kept, of_group, of_queues, of_server, of_area, of_machine, of_clock}
+use Rattle.port_objects.specs.Kept.{Kept, of_group, of_bundle, of_queues, of_server, of_area, of_machine, of_clock}
 use Rattle.port_objects.specs.Leading.{lead}
 use Rattle.port_objects.specs.Standing.{Stands}
-use Rattle.port_objects.proofs.Rows.{group_row, queue_row, server_row, area_row, machine_row, clock_row, follows_by, stands_by}
+use Rattle.port_objects.proofs.Rows.{group_row, bundle_row, queue_row, server_row, area_row, machine_row, clock_row, follows_by, stands_by}
 use Rattle.port_objects.proofs.laws.leads_are_legal.Goals as goal
 
 pub returns-clause-follows : goal.returns-clause-follows
@@ -32,6 +35,8 @@ returns-clause-follows c = by_kind
     by_kind : (p : Plan) (object : ℕ) (before after : Kept) (l : Past) (n : Noted) → Stands p object before l → lead p object before n ≡ Some after → Follows p object l n
     by_kind p object (of_group k) = follows_by p object of_group (group_standing.Keeps p object) (group_leading.lead p object) groups.may_start group_leading.why_held (group_row p object)
         (c.leads_are_legal.ensures.follow p object) k
+    by_kind p object (of_bundle k) = follows_by p object of_bundle (bundle_standing.Keeps p object) (bundle_leading.lead p) bundles.may_start bundle_leading.why_held (bundle_row p object)
+        (c.leads_are_legal-7.ensures.follow p object) k
     by_kind p object (of_queues k) = follows_by p object of_queues (queue_standing.Keeps p object) (queue_leading.lead p) queues.may_start queue_leading.why_held (queue_row p object)
         (c.leads_are_legal-2.ensures.follow p object) k
     by_kind p object (of_server k) = follows_by p object of_server (server_standing.Keeps p object) server_leading.lead servers.may_start server_leading.why_held (server_row p object)
@@ -49,6 +54,8 @@ returns-clause-stands c = by_kind
     by_kind : (p : Plan) (object : ℕ) (before after : Kept) (l : Past) (n : Noted) → Stands p object before l → lead p object before n ≡ Some after → Stands p object after (n ∷ l)
     by_kind p object (of_group k) = stands_by p object of_group (group_standing.Keeps p object) (group_leading.lead p object) groups.may_start group_leading.why_held (group_row p object)
         (c.leads_are_legal.ensures.follow p object) (c.leads_are_legal.ensures.keep p object) k
+    by_kind p object (of_bundle k) = stands_by p object of_bundle (bundle_standing.Keeps p object) (bundle_leading.lead p) bundles.may_start bundle_leading.why_held (bundle_row p object)
+        (c.leads_are_legal-7.ensures.follow p object) (c.leads_are_legal-7.ensures.keep p object) k
     by_kind p object (of_queues k) = stands_by p object of_queues (queue_standing.Keeps p object) (queue_leading.lead p) queues.may_start queue_leading.why_held (queue_row p object)
         (c.leads_are_legal-2.ensures.follow p object) (c.leads_are_legal-2.ensures.keep p object) k
     by_kind p object (of_server k) = stands_by p object of_server (server_standing.Keeps p object) server_leading.lead servers.may_start server_leading.why_held (server_row p object)

@@ -7,8 +7,11 @@ use Rattle.bus_semantics.specs.Sound.{IsSound}
 use Rattle.data_objects.specs.Kept as groups
 use Rattle.data_objects.specs.Leading as group_leading
 use Rattle.data_objects.specs.Standing as group_standing
+use Rattle.bundle_objects.specs.Kept as bundles
 use Rattle.queue_objects.specs.Kept as queues
+use Rattle.bundle_objects.specs.Leading as bundle_leading
 use Rattle.queue_objects.specs.Leading as queue_leading
+use Rattle.bundle_objects.specs.Standing as bundle_standing
 use Rattle.queue_objects.specs.Standing as queue_standing
 use Rattle.server_objects.specs.Kept as servers
 use Rattle.area_objects.specs.Kept as areas
@@ -22,10 +25,10 @@ use Rattle.machine_objects.specs.Standing as machine_standing
 use Rattle.clock_objects.specs.Kept as clocks
 use Rattle.clock_objects.specs.Leading as clock_leading
 use Rattle.clock_objects.specs.Standing as clock_standing
-use Rattle.port_objects.specs.Kept.{Kept, of_group, of_queues, of_server, of_area, of_machine, of_clock}
+use Rattle.port_objects.specs.Kept.{Kept, of_group, of_bundle, of_queues, of_server, of_area, of_machine, of_clock}
 use Rattle.port_objects.specs.Leading.{lead}
 use Rattle.port_objects.specs.Standing.{Stands}
-use Rattle.port_objects.proofs.Rows.{group_row, queue_row, server_row, area_row, machine_row, clock_row, misses_nothing_by}
+use Rattle.port_objects.proofs.Rows.{group_row, bundle_row, queue_row, server_row, area_row, machine_row, clock_row, misses_nothing_by}
 use Rattle.port_objects.proofs.laws.leads_miss_nothing.Goals as goal
 
 pub returns : goal.returns
@@ -34,6 +37,8 @@ returns c = by_kind
     by_kind : (p : Plan) (m : Mapping) (object : ℕ) (before : Kept) (l : Past) (n : Noted) → IsSound p m → Stands p object before l → Follows p object l n → is_some (lead p object before n) ≡ true
     by_kind p m object (of_group k) l n sound = misses_nothing_by p object of_group (group_standing.Keeps p object) (group_leading.lead p object) groups.may_start group_leading.why_held (group_row p object)
         (c.leads_miss_nothing.ensures p m object sound) k l n
+    by_kind p m object (of_bundle k) l n sound = misses_nothing_by p object of_bundle (bundle_standing.Keeps p object) (bundle_leading.lead p) bundles.may_start bundle_leading.why_held (bundle_row p object)
+        (c.leads_miss_nothing-7.ensures p m object sound) k l n
     by_kind p m object (of_queues k) l n sound = misses_nothing_by p object of_queues (queue_standing.Keeps p object) (queue_leading.lead p) queues.may_start queue_leading.why_held (queue_row p object)
         (c.leads_miss_nothing-2.ensures p m object sound) k l n
     by_kind p m object (of_server k) l n sound = misses_nothing_by p object of_server (server_standing.Keeps p object) server_leading.lead servers.may_start server_leading.why_held (server_row p object)

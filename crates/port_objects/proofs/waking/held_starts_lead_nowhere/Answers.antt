@@ -5,8 +5,11 @@ use Rattle.object_kinds.specs.Kinds.{IsPlainStart}
 use Rattle.data_objects.specs.Kept as groups
 use Rattle.data_objects.specs.Leading as group_leading
 use Rattle.data_objects.specs.Standing as group_standing
+use Rattle.bundle_objects.specs.Kept as bundles
 use Rattle.queue_objects.specs.Kept as queues
+use Rattle.bundle_objects.specs.Leading as bundle_leading
 use Rattle.queue_objects.specs.Leading as queue_leading
+use Rattle.bundle_objects.specs.Standing as bundle_standing
 use Rattle.queue_objects.specs.Standing as queue_standing
 use Rattle.server_objects.specs.Kept as servers
 use Rattle.area_objects.specs.Kept as areas
@@ -20,10 +23,10 @@ use Rattle.machine_objects.specs.Standing as machine_standing
 use Rattle.clock_objects.specs.Kept as clocks
 use Rattle.clock_objects.specs.Leading as clock_leading
 use Rattle.clock_objects.specs.Standing as clock_standing
-use Rattle.port_objects.specs.Kept.{Kept, of_group, of_queues, of_server, of_area, of_machine, of_clock}
+use Rattle.port_objects.specs.Kept.{Kept, of_group, of_bundle, of_queues, of_server, of_area, of_machine, of_clock}
 use Rattle.port_objects.specs.Leading.{lead}
 use Rattle.port_objects.specs.Waking.{may_start_in}
-use Rattle.port_objects.proofs.Rows.{group_row, queue_row, server_row, area_row, machine_row, clock_row, held_by}
+use Rattle.port_objects.proofs.Rows.{group_row, bundle_row, queue_row, server_row, area_row, machine_row, clock_row, held_by}
 use Rattle.port_objects.proofs.waking.held_starts_lead_nowhere.Goals as goal
 
 pub returns : goal.returns
@@ -32,6 +35,8 @@ returns c = by_kind
     by_kind : (p : Plan) (object : ℕ) (k : Kept) (event : ℕ) (n : Noted) → may_start_in k event ≡ false → IsPlainStart event n → lead p object k n ≡ None
     by_kind p object (of_group k) = held_by p object of_group (group_standing.Keeps p object) (group_leading.lead p object) groups.may_start group_leading.why_held (group_row p object)
         (c.starts_go_by_flags.ensures p object) k
+    by_kind p object (of_bundle k) = held_by p object of_bundle (bundle_standing.Keeps p object) (bundle_leading.lead p) bundles.may_start bundle_leading.why_held (bundle_row p object)
+        (c.starts_go_by_flags-7.ensures p) k
     by_kind p object (of_queues k) = held_by p object of_queues (queue_standing.Keeps p object) (queue_leading.lead p) queues.may_start queue_leading.why_held (queue_row p object)
         (c.starts_go_by_flags-2.ensures p) k
     by_kind p object (of_server k) = held_by p object of_server (server_standing.Keeps p object) server_leading.lead servers.may_start server_leading.why_held (server_row p object) c.starts_go_by_flags-3.ensures k

@@ -6,8 +6,11 @@ use Rattle.bus_semantics.specs.History.{Noted}
 use Rattle.data_objects.specs.Kept as groups
 use Rattle.data_objects.specs.Leading as group_leading
 use Rattle.data_objects.specs.Standing as group_standing
+use Rattle.bundle_objects.specs.Kept as bundles
 use Rattle.queue_objects.specs.Kept as queues
+use Rattle.bundle_objects.specs.Leading as bundle_leading
 use Rattle.queue_objects.specs.Leading as queue_leading
+use Rattle.bundle_objects.specs.Standing as bundle_standing
 use Rattle.queue_objects.specs.Standing as queue_standing
 use Rattle.server_objects.specs.Kept as servers
 use Rattle.area_objects.specs.Kept as areas
@@ -21,10 +24,10 @@ use Rattle.machine_objects.specs.Standing as machine_standing
 use Rattle.clock_objects.specs.Kept as clocks
 use Rattle.clock_objects.specs.Leading as clock_leading
 use Rattle.clock_objects.specs.Standing as clock_standing
-use Rattle.port_objects.specs.Kept.{Kept, of_group, of_queues, of_server, of_area, of_machine, of_clock}
+use Rattle.port_objects.specs.Kept.{Kept, of_group, of_bundle, of_queues, of_server, of_area, of_machine, of_clock}
 use Rattle.port_objects.specs.Leading.{lead}
 use Rattle.port_objects.specs.Waking.{may_start_in, wakes}
-use Rattle.port_objects.proofs.Rows.{group_row, queue_row, server_row, area_row, machine_row, clock_row, wakes_nothing_by}
+use Rattle.port_objects.proofs.Rows.{group_row, bundle_row, queue_row, server_row, area_row, machine_row, clock_row, wakes_nothing_by}
 use Rattle.port_objects.proofs.waking.other_entries_wake_nothing.Goals as goal
 
 -- what can make no start come can make none come on an object of any kind
@@ -32,6 +35,12 @@ group_quiet : (d : Deed) → wakes d ≡ false → group_leading.wakes d ≡ fal
 group_quiet (deed.Write x value) none = none
 group_quiet (deed.Publish x value) none = none
 group_quiet d none = refl
+
+bundle_quiet : (d : Deed) → wakes d ≡ false → bundle_leading.wakes d ≡ false
+bundle_quiet (deed.Write x value) none = none
+bundle_quiet (deed.Publish x value) none = none
+bundle_quiet (deed.PublishAll l written value) none = none
+bundle_quiet d none = refl
 
 queue_quiet : (d : Deed) → wakes d ≡ false → queue_leading.wakes d ≡ false
 queue_quiet (deed.Send x value code) none = none
@@ -57,6 +66,8 @@ returns c = by_kind
     by_kind : (p : Plan) (object : ℕ) (before after : Kept) (n : Noted) → lead p object before n ≡ Some after → wakes n.entry.deed ≡ false → (event : ℕ) → may_start_in before event ≡ false → may_start_in after event ≡ false
     by_kind p object (of_group k) after n leads other = wakes_nothing_by p object of_group (group_standing.Keeps p object) (group_leading.lead p object) groups.may_start group_leading.why_held (group_row p object)
         group_leading.wakes (c.other_entries_wake_nothing.ensures p object) k after n leads (group_quiet n.entry.deed other)
+    by_kind p object (of_bundle k) after n leads other = wakes_nothing_by p object of_bundle (bundle_standing.Keeps p object) (bundle_leading.lead p) bundles.may_start bundle_leading.why_held (bundle_row p object)
+        bundle_leading.wakes (c.other_entries_wake_nothing-7.ensures p) k after n leads (bundle_quiet n.entry.deed other)
     by_kind p object (of_queues k) after n leads other = wakes_nothing_by p object of_queues (queue_standing.Keeps p object) (queue_leading.lead p) queues.may_start queue_leading.why_held (queue_row p object)
         queue_leading.wakes (c.other_entries_wake_nothing-2.ensures p) k after n leads (queue_quiet n.entry.deed other)
     by_kind p object (of_server k) after n leads other = wakes_nothing_by p object of_server (server_standing.Keeps p object) server_leading.lead servers.may_start server_leading.why_held (server_row p object)
