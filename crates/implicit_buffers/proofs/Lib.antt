@@ -1,3 +1,4 @@
-pub mod Ordering
+pub mod Unlisted
 pub mod Naming
 pub mod Keeping
+pub mod Listing

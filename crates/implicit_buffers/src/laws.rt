@@ -1,28 +1,27 @@
 //! Laws of what is fetched and published.
 
-ghost use Rattle.std.specs.Prelude.{◌≡◌, ℕ, List, map};
+ghost use Rattle.std.specs.Prelude.{◌≡◌, ℕ, List, [], map};
 ghost use Rattle.runnable_lang.specs.declared.program.AccessKind.TheVariants.{IRead, IrvIRead};
 ghost use Rattle.runnable_lang.specs.Trees.{BodyTree, reads_early, reads_variable_early};
 ghost use Rattle.bus_semantics.specs.declared.entries.Deed.{Deed};
 ghost use Rattle.bus_semantics.specs.Plan.{Plan, Runnable};
-ghost use Rattle.bus_semantics.specs.Sound.{NoneListed};
 ghost use Rattle.bus_semantics.specs.State.{State, access, put_all, words_under};
 ghost use Rattle.bus_semantics.specs.Programs.{Go, running, run_program};
 ghost use Rattle.bus_semantics.specs.Activations.{one, fetches_of, publications_of, fetching, publishing};
 ghost use Rattle.implicit_buffers.specs.Buffers.{fetched_by, published_by, fetching_each, publishing_each};
 
-/// Where the plan has no coherent list, an activation fetches the fetched elements of its runnable, one after the other, in declared
+/// An activation of a runnable without coherent lists fetches the fetched elements of its runnable, one after the other, in declared
 /// order.
 pub fn runnables_fetch_in_declared_order()
-    ensures elements { (p : Plan) (r : Runnable) → NoneListed p → fetches_of p r ≡ map one (fetched_by r) }
-    ensures fetches { (p : Plan) (r : Runnable) → NoneListed p → fetching p r ≡ fetching_each (fetched_by r) }
+    ensures elements { (p : Plan) (r : Runnable) → r.lists ≡ [] → fetches_of p r ≡ map one (fetched_by r) }
+    ensures fetches { (p : Plan) (r : Runnable) → r.lists ≡ [] → fetching p r ≡ fetching_each (fetched_by r) }
 {}
 
-/// Where the plan has no coherent list, an activation publishes the published elements of its runnable that it wrote, one after the
+/// An activation of a runnable without coherent lists publishes the published elements of its runnable that it wrote, one after the
 /// other, in declared order.
 pub fn runnables_publish_in_declared_order()
-    ensures elements { (p : Plan) (r : Runnable) → NoneListed p → publications_of p r ≡ map one (published_by r) }
-    ensures publications { (p : Plan) (r : Runnable) → NoneListed p → publishing p r ≡ publishing_each (published_by r) }
+    ensures elements { (p : Plan) (r : Runnable) → r.lists ≡ [] → publications_of p r ≡ map one (published_by r) }
+    ensures publications { (p : Plan) (r : Runnable) → r.lists ≡ [] → publishing p r ≡ publishing_each (published_by r) }
 {}
 
 /// What an activation fetched stays what it was, whatever its program does and whatever it is answered meanwhile. So an implicit read

@@ -1,9 +1,11 @@
 //! What each runnable fetches at its start and publishes at its end.
 #![tactic(auto)]
 
+mod fetchings;
 mod laws;
 mod planning;
 
+pub use fetchings::{Fetching, fetches_of, publications_of};
 pub use laws::{
     programs_leave_what_was_fetched, runnables_fetch_in_declared_order,
     runnables_publish_in_declared_order,

@@ -35,7 +35,7 @@ pub fn is_written_late(kind: AccessKind) -> bool
 }
 
 /// Whether an access of this kind fetches, or else whether it publishes.
-fn is_implicit(kind: AccessKind, fetches: bool) -> bool
+pub fn is_implicit(kind: AccessKind, fetches: bool) -> bool
     ensures { result ≡ is_implicit fetches kind }
 {
     if fetches {

@@ -6,13 +6,11 @@ use Rattle.std.proofs.lemmas.Option.{slice_get-get_or, slice_get_past}
 use Rattle.bus_semantics.specs.declared.entries.Deed.{Deed}
 use Rattle.bus_semantics.specs.declared.plan.Disabling.{Disabling}
 use Rattle.bus_semantics.specs.Plan.{Plan, Runnable, disabling_of}
-use Rattle.bus_semantics.specs.Sound.{NoneListed}
 use Rattle.bus_semantics.specs.Wanted.{to_admit}
 use Rattle.bus_semantics.specs.State.{State}
 use Rattle.bus_semantics.specs.Programs.{Outcome, Stop, Go, Running, goes_on, both, calling, takes_nothing, run_program}
-use Rattle.bus_semantics.specs.Activations.{admitting, returning, ending, activity, wanted_next}
-use Rattle.implicit_buffers.specs.Buffers.{fetched_by, published_by, fetching_each, publishing_each}
-use Rattle.implicit_buffers.proofs.Ordering.{fetches, publications}
+use Rattle.bus_semantics.specs.Activations.{fetches_of, publications_of, admitting, fetching, returning, ending, wanted_next}
+use Rattle.implicit_buffers.specs.Buffers.{fetched_by, published_by}
 use Rattle.task_machine.specs.declared.instr.Taken.TheVariants as taken
 use Rattle.task_machine.specs.Store.{Store}
 use Rattle.task_machine.specs.Instructions.{Instruction, change_of}
@@ -21,11 +19,12 @@ use Rattle.task_generator.specs.Servers.{served}
 use Rattle.task_generator.specs.Code.{code_of_body, fetching_code, publishing_code, returning_code, ending_code, activity_code}
 use Rattle.task_generator.specs.Bounds.{steps_of_body, loops_of_body}
 use Rattle.task_generator.specs.Shapes.{budget_of}
-use Rattle.task_generator.proofs.Slots.{all_have_slots}
+use Rattle.task_generator.proofs.Listed.{AreSlotted}
+use Rattle.task_generator.proofs.Cutting.{cutting, cut_activity}
 use Rattle.task_generator.proofs.Agreeing.{Slots, store_in}
 use Rattle.task_generator.proofs.Following.{Keeps, Keeps-itself, Keeps-further, Fit, Follows, asked_from, after_hearing, with_more, ends_at, keeping, joined, call_runs}
 use Rattle.task_generator.proofs.Simulation.{HasAt, has_front, has_back, body_runs}
-use Rattle.task_generator.proofs.Surrounding.{returning_is, fetching_runs, publishing_runs, returning_runs, ending_runs}
+use Rattle.task_generator.proofs.Surrounding.{returning_is, fetching_long, fetching_runs, publishing_long, publishing_runs, returning_runs, ending_runs}
 
 -- all instructions stand at their places
 has_all : (is pre : List Instruction) → HasAt (pre ++ is) (length pre) is
@@ -69,52 +68,23 @@ module _ (code : List Instruction) (event : ℕ) where
   asks_outcome fs ps P n a e m cs ds (Stop w) none f = f n (omega arith)
   asks_outcome fs ps P n a e m cs ds (Go t es) none f = let x = f n 0 (omega arith) in x.is ∙ over x.left e (store_in t x.slots) x.counters es none
 
--- ---- the lengths
+-- ---- an activity whose publications are cut
 
-pub fetching_long : (all xs : List ℕ) → length (fetching_code all xs) ≡ length xs
-fetching_long all [] = refl
-fetching_long all (x ∷ xs) = ap (λ n. suc n) (fetching_long all xs)
-
-pub publishing_long : (all xs : List ℕ) → length (publishing_code all xs) ≡ 2 * length xs
-publishing_long all [] = refl
-publishing_long all (x ∷ xs) = let rest = publishing_long all xs in omega (arith, rest)
-
--- all instructions of an activation
-pub activity_long : (p : Plan) (r : Runnable) → length (fetched_by r) + 2 * length (published_by r) ≤ length (activity_code p r)
-activity_long p r =
-    let fetching = fetching_code (fetched_by r) (fetched_by r) in
-    let program = code_of_body r 0 r.program.body in
-    let publishing = publishing_code (published_by r) (published_by r) in
-    let return = returning_code (served p.servers r.server) in
-    omega (
-      arith,
-      fetching_long (fetched_by r) (fetched_by r),
-      publishing_long (published_by r) (published_by r),
-      length-append fetching (program ++ (publishing ++ (return ++ ending_code))),
-      length-append program (publishing ++ (return ++ ending_code)),
-      length-append publishing (return ++ ending_code),
-    )
-
--- ---- an activity, by the elements that it fetches and publishes
-
-module _ (p : Plan) (none : NoneListed p) (r : Runnable) (event : ℕ) where
+module _ (p : Plan) (r : Runnable) (event : ℕ) where
   abbrev pub behind : Running
-  behind = both (run_program r r.program.body) (both (publishing_each (published_by r)) (both (returning p r) (ending event)))
+  behind = both (run_program r r.program.body) (both (cutting p r) (both (returning p r) (ending event)))
 
   abbrev pub begun : Running
-  begun = both (fetching_each (fetched_by r)) behind
+  begun = both (fetching p r) behind
 
-  activity_is : activity p r event ≡ both (admitting p event) begun
-  activity_is = λ i. both (admitting p event) (both (fetches p none r i) (both (run_program r r.program.body) (both (publications p none r i) (both (returning p r) (ending event)))))
-
-  admits_all : (s : State) (ds : List Deed) → disabling_of p event ≡ None → activity p r event s ds ≡ begun s ds
-  admits_all s ds enabled = ap (λ (f : Running). f s ds) activity_is ∙ ap (goes_on begun) (no_admission enabled)
+  admits_all : (s : State) (ds : List Deed) → disabling_of p event ≡ None → cut_activity p r event s ds ≡ begun s ds
+  admits_all s ds enabled = ap (goes_on begun) (no_admission enabled)
     where
       no_admission : disabling_of p event ≡ None → admitting p event s ds ≡ Go s ds
       no_admission enabled = rw enabled refl
 
-  asks_admission : (s : State) (ds : List Deed) (d : Disabling) → disabling_of p event ≡ Some d → activity p r event s ds ≡ goes_on begun (calling (to_admit event) takes_nothing s ds)
-  asks_admission s ds d disabled = ap (λ (f : Running). f s ds) activity_is ∙ ap (goes_on begun) (admission disabled)
+  asks_admission : (s : State) (ds : List Deed) (d : Disabling) → disabling_of p event ≡ Some d → cut_activity p r event s ds ≡ goes_on begun (calling (to_admit event) takes_nothing s ds)
+  asks_admission s ds d disabled = ap (goes_on begun) (admission disabled)
     where
       admission : disabling_of p event ≡ Some d → admitting p event s ds ≡ calling (to_admit event) takes_nothing s ds
       admission disabled = rw disabled refl
@@ -130,14 +100,14 @@ module _ (p : Plan) (none : NoneListed p) (r : Runnable) (event : ℕ) where
   abbrev pub ps : List ℕ
   ps = published_by r
 
-  abbrev pub fetching : List Instruction
-  fetching = fetching_code fs fs
+  abbrev pub fetch_code : List Instruction
+  fetch_code = fetching_code p fs (fetches_of p r)
 
   abbrev pub program : List Instruction
   program = code_of_body r 0 r.program.body
 
-  abbrev pub publishing : List Instruction
-  publishing = publishing_code ps ps
+  abbrev pub publish_code : List Instruction
+  publish_code = publishing_code p ps (publications_of p r)
 
   abbrev pub return : List Instruction
   return = returning_code (served p.servers r.server)
@@ -145,90 +115,94 @@ module _ (p : Plan) (none : NoneListed p) (r : Runnable) (event : ℕ) where
   all : HasAt code 0 code
   all = has_all code []
 
-  from_program : HasAt code (0 + 1 + length fetching) (program ++ (publishing ++ (return ++ ending_code)))
-  from_program = has_back code (0 + 1) fetching (program ++ (publishing ++ (return ++ ending_code))) all.1
+  from_program : HasAt code (0 + 1 + length fetch_code) (program ++ (publish_code ++ (return ++ ending_code)))
+  from_program = has_back code (0 + 1) fetch_code (program ++ (publish_code ++ (return ++ ending_code))) all.1
 
-  from_publishing : HasAt code (0 + 1 + length fetching + length program) (publishing ++ (return ++ ending_code))
-  from_publishing = has_back code (0 + 1 + length fetching) program (publishing ++ (return ++ ending_code)) from_program
+  from_publishing : HasAt code (0 + 1 + length fetch_code + length program) (publish_code ++ (return ++ ending_code))
+  from_publishing = has_back code (0 + 1 + length fetch_code) program (publish_code ++ (return ++ ending_code)) from_program
 
-  from_return : HasAt code (0 + 1 + length fetching + length program + length publishing) (return ++ ending_code)
-  from_return = has_back code (0 + 1 + length fetching + length program) publishing (return ++ ending_code) from_publishing
+  from_return : HasAt code (0 + 1 + length fetch_code + length program + length publish_code) (return ++ ending_code)
+  from_return = has_back code (0 + 1 + length fetch_code + length program) publish_code (return ++ ending_code) from_publishing
 
   abbrev pub end : ℕ
-  end = 0 + 1 + length fetching + length program + length publishing + length return
+  end = 0 + 1 + length fetch_code + length program + length publish_code + length return
 
   from_end : HasAt code end ending_code
-  from_end = has_back code (0 + 1 + length fetching + length program + length publishing) return ending_code from_return
+  from_end = has_back code (0 + 1 + length fetch_code + length program + length publish_code) return ending_code from_return
 
   nothing_behind : slice_get code (end + 1) ≡ None
   nothing_behind = slice_get_past code (end + 1) (omega (
     arith,
-    length-append fetching (program ++ (publishing ++ (return ++ ending_code))),
-    length-append program (publishing ++ (return ++ ending_code)),
-    length-append publishing (return ++ ending_code),
+    length-append fetch_code (program ++ (publish_code ++ (return ++ ending_code))),
+    length-append program (publish_code ++ (return ++ ending_code)),
+    length-append publish_code (return ++ ending_code),
     length-append return ending_code,
   ))
 
   -- ---- from the last part to the first
 
-  module _ (cs : List ℕ) (room : loops_of_body r.program.body ≤ length cs) where
+  module _ (fetches : AreSlotted p fs (fetches_of p r)) (publications : AreSlotted p ps (publications_of p r)) (cs : List ℕ) (room : loops_of_body r.program.body ≤ length cs) where
     abbrev pub Same : List ℕ → Type 0
     Same = Keeps 0 cs
 
     return_on : (s : State) (c : Slots) (us : List ℕ) (ds : List Deed) → Fit code event fs ps s c → Same us
-        → Follows code event fs ps Same 2 (0 + 1 + length fetching + length program + length publishing) (end + 1) (store_in s c) us ds (both (returning p r) (ending event) s ds)
+        → Follows code event fs ps Same (length return + 1) (0 + 1 + length fetch_code + length program + length publish_code) (end + 1) (store_in s c) us ds (both (returning p r) (ending event) s ds)
     return_on s c us ds fit keeps =
-        joined code event fs ps Same Same 1 1 (0 + 1 + length fetching + length program + length publishing) end (end + 1) (store_in s c) us ds (returning p r s ds) (ending event)
-        (subst (Follows code event fs ps Same 1 (0 + 1 + length fetching + length program + length publishing) end (store_in s c) us ds) (sym (returning_is p r s ds))
-        (returning_runs code event fs ps Same (served p.servers r.server) (0 + 1 + length fetching + length program + length publishing) s c us ds
-        (has_front code (0 + 1 + length fetching + length program + length publishing) return ending_code from_return) fit keeps))
-        (λ t e es ws fits kept. ending_runs code event fs ps Same end t e ws es from_end fits kept)
+        joined code event fs ps Same Same (length return) 1 (0 + 1 + length fetch_code + length program + length publish_code) end (end + 1) (store_in s c) us ds (returning p r s ds) (ending event)
+        (subst (Follows code event fs ps Same (length return) (0 + 1 + length fetch_code + length program + length publish_code) end (store_in s c) us ds) (sym (returning_is p r s ds))
+        (returning_runs p code event fs ps Same (served p.servers r.server) (0 + 1 + length fetch_code + length program + length publish_code) s c us ds
+        (has_front code (0 + 1 + length fetch_code + length program + length publish_code) return ending_code from_return) fit keeps))
+        (λ t e es ws fits kept. ending_runs p code event fs ps Same end t e ws es from_end fits kept)
 
     publish_on : (s : State) (c : Slots) (us : List ℕ) (ds : List Deed) → Fit code event fs ps s c → Same us
-        → Follows code event fs ps Same (2 * length ps + 2) (0 + 1 + length fetching + length program) (end + 1) (store_in s c) us ds (both (publishing_each ps) (both (returning p r) (ending event)) s ds)
+        → Follows code event fs ps Same (length publish_code + (length return + 1)) (0 + 1 + length fetch_code + length program) (end + 1) (store_in s c) us ds (both (cutting p r) (both (returning p r) (ending event)) s ds)
     publish_on s c us ds fit keeps =
-        let here = 0 + 1 + length fetching + length program in
-        let there : here + 2 * length ps ≡ here + length publishing = omega (arith, publishing_long ps ps) in
-        joined code event fs ps Same Same (2 * length ps) 2 here (here + length publishing) (end + 1) (store_in s c) us ds (publishing_each ps s ds) (both (returning p r) (ending event))
-        (ends_at code event fs ps Same (2 * length ps) here (here + 2 * length ps) (here + length publishing) (store_in s c) us ds (publishing_each ps s ds) there
-        (publishing_runs code event fs ps Same ps here s c us ds (all_have_slots ps) (has_front code here publishing (return ++ ending_code) from_publishing) fit keeps))
+        let here = 0 + 1 + length fetch_code + length program in
+        let its = publications_of p r in
+        let there : here + 2 * length its ≡ here + length publish_code = omega (arith, publishing_long p code event fs ps Same its) in
+        joined code event fs ps Same Same (length publish_code) (length return + 1) here (here + length publish_code) (end + 1) (store_in s c) us ds (cutting p r s ds) (both (returning p r) (ending event))
+        (with_more code event fs ps Same (2 * length its) (length publish_code) here (here + length publish_code) (store_in s c) us ds (cutting p r s ds) (omega (arith, publishing_long p code event fs ps Same its))
+        (ends_at code event fs ps Same (2 * length its) here (here + 2 * length its) (here + length publish_code) (store_in s c) us ds (cutting p r s ds) there
+        (publishing_runs p code event fs ps Same its here s c us ds publications (has_front code here publish_code (return ++ ending_code) from_publishing) fit keeps)))
         (λ t e es ws fits kept. return_on t e ws es fits kept)
 
     program_on : (s : State) (c : Slots) (us : List ℕ) (ds : List Deed) → Fit code event fs ps s c → Same us
-        → Follows code event fs ps Same (steps_of_body r.program.body + (2 * length ps + 2)) (0 + 1 + length fetching) (end + 1) (store_in s c) us ds (behind s ds)
+        → Follows code event fs ps Same (steps_of_body r.program.body + (length publish_code + (length return + 1))) (0 + 1 + length fetch_code) (end + 1) (store_in s c) us ds (behind s ds)
     program_on s c us ds fit keeps =
-        let here = 0 + 1 + length fetching in
+        let here = 0 + 1 + length fetch_code in
         let long = keeps.long in
-        joined code event fs ps Same Same (steps_of_body r.program.body) (2 * length ps + 2) here (here + length program) (end + 1) (store_in s c) us ds (run_program r r.program.body s ds)
-        (both (publishing_each ps) (both (returning p r) (ending event)))
+        joined code event fs ps Same Same (steps_of_body r.program.body) (length publish_code + (length return + 1)) here (here + length program) (end + 1) (store_in s c) us ds (run_program r r.program.body s ds)
+        (both (cutting p r) (both (returning p r) (ending event)))
         (keeping code event fs ps (Keeps 0 us) Same (steps_of_body r.program.body) here (here + length program) (store_in s c) us ds (run_program r r.program.body s ds)
         (λ ws more. Keeps-further 0 0 cs us ws (omega arith) keeps more)
-        (body_runs code event r r.program.body 0 here s c us ds fit (has_front code here program (publishing ++ (return ++ ending_code)) from_program) (omega arith)))
+        (body_runs code event r r.program.body 0 here s c us ds fit (has_front code here program (publish_code ++ (return ++ ending_code)) from_program) (omega arith)))
         (λ t e es ws fits kept. publish_on t e ws es fits kept)
 
     fetch_on : (s : State) (c : Slots) (us : List ℕ) (ds : List Deed) → Fit code event fs ps s c → Same us
-        → Follows code event fs ps Same (length fs + (steps_of_body r.program.body + (2 * length ps + 2))) (0 + 1) (end + 1) (store_in s c) us ds (begun s ds)
+        → Follows code event fs ps Same (length fetch_code + (steps_of_body r.program.body + (length publish_code + (length return + 1)))) (0 + 1) (end + 1) (store_in s c) us ds (begun s ds)
     fetch_on s c us ds fit keeps =
-        let there : 0 + 1 + length fs ≡ 0 + 1 + length fetching = omega (arith, fetching_long fs fs) in
-        joined code event fs ps Same Same (length fs) (steps_of_body r.program.body + (2 * length ps + 2)) (0 + 1) (0 + 1 + length fetching) (end + 1) (store_in s c) us ds (fetching_each fs s ds) behind
-        (ends_at code event fs ps Same (length fs) (0 + 1) (0 + 1 + length fs) (0 + 1 + length fetching) (store_in s c) us ds (fetching_each fs s ds) there
-        (fetching_runs code event fs ps Same fs (0 + 1) s c us ds (all_have_slots fs) (has_front code (0 + 1) fetching (program ++ (publishing ++ (return ++ ending_code))) all.1) fit keeps))
+        let its = fetches_of p r in
+        let there : 0 + 1 + length its ≡ 0 + 1 + length fetch_code = omega (arith, fetching_long p code event fs ps Same its) in
+        joined code event fs ps Same Same (length fetch_code) (steps_of_body r.program.body + (length publish_code + (length return + 1))) (0 + 1) (0 + 1 + length fetch_code) (end + 1) (store_in s c) us ds (fetching p r s ds) behind
+        (with_more code event fs ps Same (length its) (length fetch_code) (0 + 1) (0 + 1 + length fetch_code) (store_in s c) us ds (fetching p r s ds) (omega (arith, fetching_long p code event fs ps Same its))
+        (ends_at code event fs ps Same (length its) (0 + 1) (0 + 1 + length its) (0 + 1 + length fetch_code) (store_in s c) us ds (fetching p r s ds) there
+        (fetching_runs p code event fs ps Same its (0 + 1) s c us ds fetches (has_front code (0 + 1) fetch_code (program ++ (publish_code ++ (return ++ ending_code))) all.1) fit keeps)))
         (λ t e es ws fits kept. program_on t e ws es fits kept)
 
     admit_on : (s : State) (c : Slots) (ds : List Deed) (o : Option Disabling) → disabling_of p event ≡ o → Fit code event fs ps s c
-        → Follows code event fs ps Same (budget_of r) (if is_some o then 0 else 1) (end + 1) (store_in s c) cs ds (activity p r event s ds)
+        → Follows code event fs ps Same (budget_of p r) (if is_some o then 0 else 1) (end + 1) (store_in s c) cs ds (cut_activity p r event s ds)
     admit_on s c ds None enabled fit =
-        subst (Follows code event fs ps Same (budget_of r) 1 (end + 1) (store_in s c) cs ds) (sym (admits_all s ds enabled))
-        (with_more code event fs ps Same (length fs + (steps_of_body r.program.body + (2 * length ps + 2))) (budget_of r) 1 (end + 1) (store_in s c) cs ds (begun s ds) (omega arith)
+        subst (Follows code event fs ps Same (budget_of p r) 1 (end + 1) (store_in s c) cs ds) (sym (admits_all s ds enabled))
+        (with_more code event fs ps Same (length fetch_code + (steps_of_body r.program.body + (length publish_code + (length return + 1)))) (budget_of p r) 1 (end + 1) (store_in s c) cs ds (begun s ds) (omega arith)
         (fetch_on s c cs ds fit (Keeps-itself 0 cs)))
     admit_on s c ds (Some d) disabled fit =
-        subst (Follows code event fs ps Same (budget_of r) 0 (end + 1) (store_in s c) cs ds) (sym (asks_admission s ds d disabled))
-        (joined code event fs ps Same Same 1 (length fs + (steps_of_body r.program.body + (2 * length ps + 2))) 0 (0 + 1) (end + 1) (store_in s c) cs ds (calling (to_admit event) takes_nothing s ds) begun
+        subst (Follows code event fs ps Same (budget_of p r) 0 (end + 1) (store_in s c) cs ds) (sym (asks_admission s ds d disabled))
+        (joined code event fs ps Same Same 1 (length fetch_code + (steps_of_body r.program.body + (length publish_code + (length return + 1)))) 0 (0 + 1) (end + 1) (store_in s c) cs ds (calling (to_admit event) takes_nothing s ds) begun
         (call_runs code event fs ps Same 0 s c cs ds (λ event m. to_admit event) (change_of taken.Nothing) takes_nothing (λ d. refl) (λ d. fit) all.0 (Keeps-itself 0 cs))
-        (λ t e es ws fits kept. fetch_on t e ws es fits kept))
+        (λ t e es us fits kept. fetch_on t e us es fits kept))
 
     -- the whole body
     pub whole : (s : State) (c : Slots) (ds : List Deed) (o : Option Disabling) → disabling_of p event ≡ o → Fit code event fs ps s c
-        → asked_from code event (budget_of r) (if is_some o then 0 else 1) (store_in s c) cs ds ≡ wanted_next (activity p r event s ds)
+        → asked_from code event (budget_of p r) (if is_some o then 0 else 1) (store_in s c) cs ds ≡ wanted_next (cut_activity p r event s ds)
     whole s c ds o is fit =
-        asks_outcome code event fs ps Same (budget_of r) (if is_some o then 0 else 1) (end + 1) (store_in s c) cs ds (activity p r event s ds) nothing_behind (admit_on s c ds o is fit)
+        asks_outcome code event fs ps Same (budget_of p r) (if is_some o then 0 else 1) (end + 1) (store_in s c) cs ds (cut_activity p r event s ds) nothing_behind (admit_on s c ds o is fit)

@@ -7,6 +7,9 @@ pub mod Agreeing
 pub mod Following
 pub mod Simulation
 pub mod Arguments
+pub mod Together
+pub mod Listed
+pub mod Cutting
 pub mod Surrounding
 pub mod Activity
 pub mod Promising

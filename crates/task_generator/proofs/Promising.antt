@@ -13,7 +13,8 @@ use Rattle.bus_semantics.specs.declared.entries.Deed.{Deed}
 use Rattle.bus_semantics.specs.declared.entries.Deed.TheVariants as deed
 use Rattle.bus_semantics.specs.declared.plan.EventPlan.{EventPlan}
 use Rattle.bus_semantics.specs.Plan.{Plan, Runnable, disabling_of}
-use Rattle.bus_semantics.specs.Sound.{NoneListed}
+use Rattle.bus_semantics.specs.declared.script.Mapping.{Mapping}
+use Rattle.bus_semantics.specs.Sound.{IsSound}
 use Rattle.bus_semantics.specs.Wanted.{Wanted, same_wanted}
 use Rattle.bus_semantics.proofs.SameWanted.{same_wanted-Decides}
 use Rattle.bus_semantics.specs.State.{stored}
@@ -33,6 +34,8 @@ use Rattle.task_generator.specs.Promise.{AsksAsPlanned}
 use Rattle.task_generator.proofs.Agreeing.{no_slots, starts_agreeing}
 use Rattle.task_generator.proofs.Following.{asked_from, after_hearing}
 use Rattle.task_generator.proofs.Arguments.{variables_begin}
+use Rattle.task_generator.proofs.Listed.{fetches_slotted, publications_slotted}
+use Rattle.task_generator.proofs.Cutting.{nothing_is_cut}
 use Rattle.task_generator.proofs.Activity.{whole}
 
 -- ---- after the last deed nothing is asked
@@ -77,16 +80,17 @@ unfolding shape_asks
 asks_by_shape t None event point value answers = refl
 asks_by_shape t (Some b) event point value answers = refl
 
-some_asks : (p : Plan) → NoneListed p → (r : Runnable) (event : ℕ) (ws : List ℤ) (answers : List Deed) → shape_asks (Some (shape_of p r)) (if is_some (disabling_of p event) then 0 else 1) event ws answers ≡ next_of_activity p r event ws answers
+some_asks : (p : Plan) (m : Mapping) → IsSound p m → (i : ℕ) (r : Runnable) → slice_get p.runnables i ≡ Some r → (event : ℕ) (ws : List ℤ) (answers : List Deed) → shape_asks (Some (shape_of p r)) (if is_some (disabling_of p event) then 0 else 1) event ws answers ≡ next_of_activity p r event ws answers
 unfolding shape_asks
-some_asks p none r event ws answers =
+some_asks p m sound i r there event ws answers =
     let counters = replicate (loops_of_body r.program.body) 0 in
     let long : length counters ≡ loops_of_body r.program.body = length-replicate (loops_of_body r.program.body) 0 in
     let x = shape_of p r in
     let place = if is_some (disabling_of p event) then 0 else 1 in
     let slots = no_slots (fetched_by r) (published_by r) in
     ap (λ vars. let m : Store = record { vars = vars; fetched = slots.fetched; written = slots.written } in asked_from x.code event x.budget place m counters answers) (variables_begin p r ws)
-    ∙ whole p none r event counters (omega arith) (state_at_start p r ws) slots answers (disabling_of p event) refl (starts_agreeing (fetched_by r) (published_by r))
+    ∙ whole p r event (fetches_slotted p m sound i r there) (publications_slotted p m sound i r there) counters (omega arith) (state_at_start p r ws) slots answers (disabling_of p event) refl (starts_agreeing (fetched_by r) (published_by r))
+    ∙ nothing_is_cut p m sound i r there event ws answers
 
 -- wishes are the same in one way at most
 same_or_not : Discrete (Option Wanted)
@@ -102,8 +106,8 @@ same_or_not (Some v) (Some w) = by_test (same_wanted v w) refl
 pub wants_alike : IsSet (Option Wanted)
 wants_alike = hedberg same_or_not
 
-pub asks_as_planned : (p : Plan) → NoneListed p → (t : TaskSet) → map shape_of_body t.bodies ≡ map (shape_of p) p.runnables → t.disabled ≡ map (λ (v : EventPlan). is_some v.disabled) p.events → AsksAsPlanned p t
-asks_as_planned p none t same disabled k r event point value answers at =
+pub asks_as_planned : (p : Plan) (m : Mapping) → IsSound p m → (t : TaskSet) → map shape_of_body t.bodies ≡ map (shape_of p) p.runnables → t.disabled ≡ map (λ (v : EventPlan). is_some v.disabled) p.events → AsksAsPlanned p t
+asks_as_planned p m sound t same disabled k r event point value answers at =
     let o = slice_get t.bodies k.runnable in
     let body : option_map shape_of_body o ≡ Some (shape_of p r) =
     sym (slice_get-map shape_of_body t.bodies k.runnable) ∙ ap (λ xs. slice_get xs k.runnable) same ∙ slice_get-map (shape_of p) p.runnables k.runnable ∙ ap (option_map (shape_of p)) at in
@@ -114,4 +118,4 @@ asks_as_planned p none t same disabled k r event point value answers at =
     (asks_by_shape t o event point value answers
     ∙ ap (λ x. shape_asks x (first_place t event) event (words_of value) answers) body
     ∙ ap (λ n. shape_asks (Some (shape_of p r)) n event (words_of value) answers) place
-    ∙ some_asks p none r event (words_of value) answers)
+    ∙ some_asks p m sound k.runnable r at event (words_of value) answers)

@@ -6,13 +6,16 @@ use Rattle.runnable_lang.specs.Trees.{ExprTree, StmtTree, sets, chooses, repeats
 use Rattle.runnable_lang.specs.Expressions.{worth}
 use Rattle.bus_semantics.specs.declared.plan.ServerPlan.{ServerPlan}
 use Rattle.bus_semantics.specs.Plan.{Plan, Runnable}
-use Rattle.bus_semantics.specs.Wanted.{Wanted, to_admit, to_fetch, to_write, to_read, to_invalidate, to_see_updated, to_send, to_receive, to_ask, to_hear, to_take_result, to_enter, to_leave, to_switch, to_see_mode, to_publish, to_return, to_end}
+use Rattle.bus_semantics.specs.Wanted.{Wanted, to_admit, to_fetch, to_write, to_read, to_invalidate, to_see_updated, to_send, to_receive, to_ask, to_hear, to_take_result, to_enter, to_leave, to_switch, to_see_mode, to_publish, to_fetch_all, to_publish_all, to_return, to_end}
 use Rattle.bus_semantics.specs.State.{Access, access}
-use Rattle.bus_semantics.specs.Activations.{declared_code, results}
+use Rattle.bus_semantics.specs.Lists.{elems_of, words_at}
+use Rattle.bus_semantics.specs.Activations.{Implicit, one, all_of, fetches_of, publications_of, declared_code, results}
+use Rattle.task_machine.specs.declared.instr.SlotPart.{SlotPart}
 use Rattle.task_machine.specs.declared.instr.Taken.{Taken}
 use Rattle.task_machine.specs.declared.instr.Taken.TheVariants as taken
 use Rattle.task_machine.specs.Store.{Store, written_in, words_or_none}
-use Rattle.task_machine.specs.Instructions.{Instruction, assign, load, keep, unless, unwritten, skip, begin_loop, end_loop, call, change_of, passes_of}
+use Rattle.task_machine.specs.Listed.{marks_of, words_written}
+use Rattle.task_machine.specs.Instructions.{Instruction, assign, load, keep, unless, unwritten, none_written, skip, begin_loop, end_loop, call, change_of, passes_of}
 use Rattle.implicit_buffers.specs.Buffers.{fetched_by, published_by}
 use Rattle.task_generator.specs.Slots.{slot_of}
 use Rattle.task_generator.specs.Nothing.{does_nothing}
@@ -73,16 +76,33 @@ abbrev mutual
 abbrev pub admitting_code : List Instruction
 admitting_code = call (λ event m. to_admit event) (change_of taken.Nothing) (passes_of taken.Nothing) ∷ []
 
--- a fetch of each of these elements, which are among all those fetched
-abbrev pub fetching_code : (all : List ℕ) → List ℕ → List Instruction
-fetching_code all [] = []
-fetching_code all (x ∷ xs) = call (λ event m. to_fetch x) (change_of (taken.Slot (slot_of x all))) (passes_of (taken.Slot (slot_of x all))) ∷ fetching_code all xs
+-- the slots of some elements, which are among all, and how many words each has
+abbrev pub slots_among : (all : List ℕ) → List ℕ → List ℕ
+slots_among all xs = map (λ x. slot_of x all) xs
 
--- a publication of each of these elements, which are among all those published. It is passed over where nothing was written
-abbrev pub publishing_code : (all : List ℕ) → List ℕ → List Instruction
-publishing_code all [] = []
-publishing_code all (x ∷ xs) =
-    unwritten (slot_of x all) 1 ∷ call (λ event m. to_publish x (words_or_none (written_in (slot_of x all) m))) (change_of taken.Nothing) (passes_of taken.Nothing) ∷ publishing_code all xs
+abbrev pub part_of : Plan → (all : List ℕ) → (elem : ℕ) → SlotPart
+part_of p all x = record { slot = slot_of x all; words = words_at p x }
+
+abbrev pub parts_of : Plan → (all : List ℕ) → List ℕ → List SlotPart
+parts_of p all xs = map (part_of p all) xs
+
+-- one fetch of each of these elements and lists, whose elements are among all those fetched
+abbrev pub fetching_code : Plan → (all : List ℕ) → List Implicit → List Instruction
+fetching_code p all [] = []
+fetching_code p all (one x ∷ its) = call (λ event m. to_fetch x) (change_of (taken.Slot (slot_of x all))) (passes_of (taken.Slot (slot_of x all))) ∷ fetching_code p all its
+fetching_code p all (all_of l ∷ its) =
+    call (λ event m. to_fetch_all l) (change_of (taken.Slots (parts_of p all (elems_of p l)))) (passes_of (taken.Slots (parts_of p all (elems_of p l)))) ∷ fetching_code p all its
+
+-- one publication of each of these elements and lists, whose elements are among all those published. It is passed over where nothing was
+-- written
+abbrev pub publishing_code : Plan → (all : List ℕ) → List Implicit → List Instruction
+publishing_code p all [] = []
+publishing_code p all (one x ∷ its) =
+    unwritten (slot_of x all) 1 ∷ call (λ event m. to_publish x (words_or_none (written_in (slot_of x all) m))) (change_of taken.Nothing) (passes_of taken.Nothing) ∷ publishing_code p all its
+publishing_code p all (all_of l ∷ its) =
+    none_written (slots_among all (elems_of p l)) 1
+    ∷ call (λ event m. to_publish_all l (marks_of (slots_among all (elems_of p l)) m) (words_written (slots_among all (elems_of p l)) m)) (change_of taken.Nothing) (passes_of taken.Nothing)
+    ∷ publishing_code p all its
 
 abbrev pub returning_code : Option ServerPlan → List Instruction
 returning_code None = []
@@ -94,5 +114,5 @@ ending_code = call (λ event m. to_end event) (change_of taken.Nothing) (passes_
 -- a whole activation
 abbrev pub activity_code : Plan → Runnable → List Instruction
 activity_code p r =
-    admitting_code ++ (fetching_code (fetched_by r) (fetched_by r) ++ (code_of_body r 0 r.program.body ++ (publishing_code (published_by r) (published_by r)
+    admitting_code ++ (fetching_code p (fetched_by r) (fetches_of p r) ++ (code_of_body r 0 r.program.body ++ (publishing_code p (published_by r) (publications_of p r)
     ++ (returning_code (served p.servers r.server) ++ ending_code))))

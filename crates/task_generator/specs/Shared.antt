@@ -4,7 +4,8 @@ use Rattle.runnable_lang.specs.declared.program.AccessKind.TheVariants as kind
 use Rattle.runnable_lang.specs.declared.program.AccessSig.{AccessSig}
 use Rattle.runnable_lang.specs.Trees.{ExprTree, StmtTree, sets, chooses, repeats, in_area, writes, reads, invalidates, asks_updated, sends, receives, writes_late, reads_early, writes_variable, reads_variable, writes_variable_late, reads_variable_early, calls, calls_and_goes_on, takes_result, switches, asks_mode, BodyTree, done, next}
 use Rattle.bus_semantics.specs.declared.plan.ServerPlan.{ServerPlan}
-use Rattle.bus_semantics.specs.Plan.{Runnable}
+use Rattle.bus_semantics.specs.Plan.{Plan, Runnable}
+use Rattle.bus_semantics.specs.Activations.{Implicit}
 use Rattle.bus_semantics.specs.Wanted.{Wanted, to_write, to_read, to_invalidate, to_see_updated, to_send, to_receive, to_ask, to_hear, to_take_result, to_enter, to_leave, to_switch, to_see_mode}
 use Rattle.task_machine.specs.declared.instr.Request.{Request}
 use Rattle.task_machine.specs.declared.instr.Taken.{Taken}
@@ -28,11 +29,11 @@ abbrev pub fixed : Instruction → Shared
 fixed i t = i
 
 -- the instructions before a program, and those after it
-abbrev pub before_code : (fetched : List ℕ) → List Instruction
-before_code fs = admitting_code ++ fetching_code fs fs
+abbrev pub before_code : Plan → (fetched : List ℕ) → List Implicit → List Instruction
+before_code p fs its = admitting_code ++ fetching_code p fs its
 
-abbrev pub after_code : (published : List ℕ) → Option ServerPlan → List Instruction
-after_code ps server = publishing_code ps ps ++ (returning_code server ++ ending_code)
+abbrev pub after_code : Plan → (published : List ℕ) → List Implicit → Option ServerPlan → List Instruction
+after_code p ps its server = publishing_code p ps its ++ (returning_code server ++ ending_code)
 
 -- a call at what an access names
 abbrev pub called : Request → (access : ℕ) → Taken → Shared

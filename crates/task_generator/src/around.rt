@@ -2,18 +2,23 @@
 
 ghost use Rattle.std.specs.Prelude.{◌≡◌, ◌≤◌, ◌++◌, ◌∷◌, [], length, OnOk, IfOk, map};
 ghost use Rattle.std.specs.Option.{option_copied};
+ghost use Rattle.bus_semantics.specs.Plan.{plan_of, runnable_of};
+ghost use Rattle.bus_semantics.specs.Lists.{elems_of};
+ghost use Rattle.bus_semantics.specs.Activations.{all_of, fetches_of, publications_of};
+ghost use Rattle.implicit_buffers.specs.Fetchings.{implicit_of, implicits_of};
 ghost use Rattle.task_machine.specs.Instructions.{instruction_of};
 ghost use Rattle.task_generator.specs.Servers.{served, arguments_in, in_places};
-ghost use Rattle.task_generator.specs.Code.{fetching_code, publishing_code, returning_code};
+ghost use Rattle.task_generator.specs.Code.{slots_among, parts_of, fetching_code, publishing_code, returning_code};
 ghost use Rattle.task_generator.specs.Shared.{fixed, before_code, after_code};
 
 use crate::Memory;
 use crate::code::{put, put_call};
 use crate::targets::slot_of;
-use bus_semantics::{ArgPlan, ServerPlan};
+use bus_semantics::{ArgPlan, BusPlan, RunnablePlan, ServerPlan};
+use implicit_buffers::{Fetching, fetches_of, publications_of};
 use rte_text::Seq;
 use std::alloc::Global;
-use task_machine::{Instr, Request, Returned, Taken};
+use task_machine::{Instr, Request, Returned, SlotPart, Taken};
 
 /// The server of this number.
 pub fn served(servers: &[ServerPlan], server: Option<u32>) -> Option<&ServerPlan>
@@ -39,33 +44,144 @@ pub fn in_places(alloc: Global, arguments: &[ArgPlan]) -> Result<Vec<u32>, Memor
     Ok(places)
 }
 
-/// A fetch of each element, into its slot (SWS_RTE: Rte_IRead, Rte_IrvIRead).
-fn put_fetches(code: &mut Vec<Instr>, elements: &[u32]) -> Result<(), Memory>
-    ensures { OnOk result (map instruction_of code.new.items ≡ map instruction_of code.old.items ++ map fixed (fetching_code elements.now elements.now)) }
+/// The slots of some elements among these, and how many words each has.
+fn parts_of(
+    alloc: Global,
+    p: &BusPlan,
+    elements: &[u32],
+    some: &[u32],
+) -> Result<Vec<SlotPart>, Memory>
+    ensures { IfOk result (λ parts. parts.items ≡ parts_of (plan_of p.now) elements.now some.now) }
 {
-    for elem in elements {
+    let mut parts = Vec::new(alloc);
+    for elem in some {
         let slot = slot_of(elements, *elem);
-        put_call(code, Request::Fetch { elem: *elem }, 0, Taken::Slot(slot))?;
+        let words = p.words_at(*elem);
+        parts.push(SlotPart { slot, words })?;
+    }
+    Ok(parts)
+}
+
+/// The slots of some elements among these.
+fn slots_among(alloc: Global, elements: &[u32], some: &[u32]) -> Result<Vec<usize>, Memory>
+    ensures { IfOk result (λ slots. slots.items ≡ slots_among elements.now some.now) }
+{
+    let mut slots = Vec::new(alloc);
+    for elem in some {
+        slots.push(slot_of(elements, *elem))?;
+    }
+    Ok(slots)
+}
+
+/// A fetch of an element into its slot, or of the elements of a coherent list into theirs.
+fn put_fetch(
+    alloc: Global,
+    code: &mut Vec<Instr>,
+    p: &BusPlan,
+    elements: &[u32],
+    fetch: &Fetching,
+) -> Result<(), Memory>
+    ensures { OnOk result (map instruction_of code.new.items ≡ map instruction_of code.old.items ++ map fixed (fetching_code (plan_of p.now) elements.now (implicit_of fetch.now ∷ []))) }
+{
+    match fetch {
+        Fetching::One(elem) => {
+            let slot = slot_of(elements, *elem);
+            put_call(code, Request::Fetch { elem: *elem }, 0, Taken::Slot(slot))
+        }
+        Fetching::List(list) => {
+            let parts = parts_of(alloc, p, elements, p.elems_of(*list))?;
+            let taken = Taken::Slots(Seq::of(parts));
+            put_call(code, Request::FetchAll { list: *list }, 0, taken)
+        }
+    }
+}
+
+/// All fetches (SWS_RTE: Rte_IRead, Rte_IrvIRead).
+fn put_fetches(
+    alloc: Global,
+    code: &mut Vec<Instr>,
+    p: &BusPlan,
+    elements: &[u32],
+    fetches: &[Fetching],
+) -> Result<(), Memory>
+    ensures { OnOk result (map instruction_of code.new.items ≡ map instruction_of code.old.items ++ map fixed (fetching_code (plan_of p.now) elements.now (implicits_of fetches.now))) }
+{
+    for fetch in fetches {
+        put_fetch(alloc, code, p, elements, fetch)?;
     }
     Ok(())
 }
 
-/// The publication of an element, which is passed over where nothing was written.
-fn put_publication(code: &mut Vec<Instr>, elements: &[u32], elem: u32) -> Result<(), Memory>
-    ensures { OnOk result (map instruction_of code.new.items ≡ map instruction_of code.old.items ++ map fixed (publishing_code elements.now (elem ∷ []))) }
+/// The slots of the elements of a coherent list.
+fn slots_of_list(
+    alloc: Global,
+    p: &BusPlan,
+    elements: &[u32],
+    list: u32,
+) -> Result<Seq<usize>, Memory>
+    ensures { IfOk result (λ slots. slots ≡ slots_among elements.now (elems_of (plan_of p.now) list)) }
 {
-    let slot = slot_of(elements, elem);
-    put(code, Instr::Unwritten { slot, past: 1 })?;
-    put_call(code, Request::Publish { elem, slot }, 0, Taken::Nothing)?;
+    let slots = slots_among(alloc, elements, p.elems_of(list))?;
+    Ok(Seq::of(slots))
+}
+
+/// The publication of a coherent list, which is passed over where nothing was written into any slot.
+fn put_list_publication(
+    alloc: Global,
+    code: &mut Vec<Instr>,
+    p: &BusPlan,
+    elements: &[u32],
+    list: u32,
+) -> Result<(), Memory>
+    ensures { OnOk result (map instruction_of code.new.items ≡ map instruction_of code.old.items ++ map fixed (publishing_code (plan_of p.now) elements.now (all_of list ∷ []))) }
+{
+    let passed = slots_of_list(alloc, p, elements, list)?;
+    let slots = slots_of_list(alloc, p, elements, list)?;
+    put(
+        code,
+        Instr::NoneWritten {
+            slots: passed,
+            past: 1,
+        },
+    )?;
+    put_call(code, Request::PublishAll { list, slots }, 0, Taken::Nothing)?;
     Ok(())
 }
 
-/// The publications of all elements (SWS_RTE: Rte_IWrite, Rte_IrvIWrite).
-fn put_publications(code: &mut Vec<Instr>, elements: &[u32]) -> Result<(), Memory>
-    ensures { OnOk result (map instruction_of code.new.items ≡ map instruction_of code.old.items ++ map fixed (publishing_code elements.now elements.now)) }
+/// The publication of an element, which is passed over where nothing was written, or of a coherent list.
+fn put_publication(
+    alloc: Global,
+    code: &mut Vec<Instr>,
+    p: &BusPlan,
+    elements: &[u32],
+    publication: &Fetching,
+) -> Result<(), Memory>
+    ensures { OnOk result (map instruction_of code.new.items ≡ map instruction_of code.old.items ++ map fixed (publishing_code (plan_of p.now) elements.now (implicit_of publication.now ∷ []))) }
 {
-    for elem in elements {
-        put_publication(code, elements, *elem)?;
+    match publication {
+        Fetching::One(elem) => {
+            let elem = *elem;
+            let slot = slot_of(elements, elem);
+            put(code, Instr::Unwritten { slot, past: 1 })?;
+            put_call(code, Request::Publish { elem, slot }, 0, Taken::Nothing)?;
+            Ok(())
+        }
+        Fetching::List(list) => put_list_publication(alloc, code, p, elements, *list),
+    }
+}
+
+/// All publications (SWS_RTE: Rte_IWrite, Rte_IrvIWrite).
+fn put_publications(
+    alloc: Global,
+    code: &mut Vec<Instr>,
+    p: &BusPlan,
+    elements: &[u32],
+    publications: &[Fetching],
+) -> Result<(), Memory>
+    ensures { OnOk result (map instruction_of code.new.items ≡ map instruction_of code.old.items ++ map fixed (publishing_code (plan_of p.now) elements.now (implicits_of publications.now))) }
+{
+    for publication in publications {
+        put_publication(alloc, code, p, elements, publication)?;
     }
     Ok(())
 }
@@ -97,23 +213,28 @@ pub struct Around {
     pub before: usize,
 }
 
-/// The instructions around the program of a runnable that fetches these elements, publishes those, and returns as this server, which
-/// has at most 16 arguments.
+/// The instructions around the program of a runnable, which fetches these elements, publishes those, and returns as a server that has at
+/// most 16 arguments.
 pub fn around_of(
     alloc: Global,
+    p: &BusPlan,
+    runnable: &RunnablePlan,
     fetched: &[u32],
     published: &[u32],
-    server: Option<&ServerPlan>,
 ) -> Result<Around, Memory>
-    requires few { length (arguments_in (option_copied server)) ≤ 16 }
-    ensures code { IfOk result (λ a. map instruction_of a.code.items ≡ map fixed (before_code fetched.now) ++ map fixed (after_code published.now (option_copied server.entry))) }
-    ensures before { IfOk result (λ a. a.before ≡ length (before_code fetched.now)) }
+    requires few { length (arguments_in (served (plan_of p.now).servers (runnable_of runnable.now).server)) ≤ 16 }
+    ensures code { IfOk result (λ a. map instruction_of a.code.items ≡ map fixed (before_code (plan_of p.now) fetched.now (fetches_of (plan_of p.now) (runnable_of runnable.now)))
+        ++ map fixed (after_code (plan_of p.now) published.now (publications_of (plan_of p.now) (runnable_of runnable.now)) (served (plan_of p.now).servers (runnable_of runnable.now).server))) }
+    ensures before { IfOk result (λ a. a.before ≡ length (before_code (plan_of p.now) fetched.now (fetches_of (plan_of p.now) (runnable_of runnable.now)))) }
 {
+    let fetches = fetches_of(alloc, p, runnable)?;
+    let publications = publications_of(alloc, p, runnable)?;
+    let server = served(p.servers.items(), runnable.server);
     let mut code = Vec::new(alloc);
     put_call(&mut code, Request::Admit, 0, Taken::Nothing)?;
-    put_fetches(&mut code, fetched)?;
+    put_fetches(alloc, &mut code, p, fetched, fetches.as_slice())?;
     let before = code.len();
-    put_publications(&mut code, published)?;
+    put_publications(alloc, &mut code, p, published, publications.as_slice())?;
     put_return(alloc, &mut code, server)?;
     put_call(&mut code, Request::End, 0, Taken::Nothing)?;
     Ok(Around { code, before })

@@ -1,6 +1,6 @@
 //! The bodies of all runnables.
 
-ghost use Rattle.std.specs.Prelude.{◌≡◌, ◌≤◌, ◌+◌, ◌*◌, ℕ, Some, IfOk, [], length, map, min, slice_get, get_or, is_some};
+ghost use Rattle.std.specs.Prelude.{◌≡◌, ◌≤◌, ℕ, Some, IfOk, [], length, map, slice_get, get_or, is_some};
 ghost use Rattle.std.specs.Arc.{arc_value};
 ghost use Rattle.bus_semantics.specs.declared.plan.EventPlan.{EventPlan};
 ghost use Rattle.bus_semantics.specs.Codes.{HaveOneCode, coded_of};
@@ -24,18 +24,6 @@ use rte_text::Seq;
 use std::alloc::Global;
 use std::sync::Arc;
 use task_machine::{Body, Code, TaskSet};
-
-/// The budget of an activation: of its program so many instructions, and of those around it one for each fetch, two for each
-/// publication, and three. It is counted up to 2^64 - 1.
-fn budget_of(steps: u64, fetched: &[u32], published: &[u32]) -> u64
-    ensures { result ≡ min (steps + (length fetched.now + 2 * length published.now + 3)) 18446744073709551615 }
-{
-    steps
-        .saturating_add(fetched.len() as u64)
-        .saturating_add(published.len() as u64)
-        .saturating_add(published.len() as u64)
-        .saturating_add(3)
-}
 
 /// The arguments of the operation that a runnable serves, in declared order.
 fn arguments_of<'p>(p: &'p BusPlan, runnable: &RunnablePlan) -> &'p [ArgPlan]
@@ -65,15 +53,15 @@ fn body_of(
     let arguments = arguments_of(p, runnable);
     let places = in_places(alloc, arguments)?;
     let targets = targets_of(alloc, runnable, fetched, published)?;
-    let server = served(p.servers.items(), runnable.server);
-    let around = around_of(alloc, fetched, published, server)?;
+    let around = around_of(alloc, p, runnable, fetched, published)?;
+    let count = around.code.len() as u64;
     Ok(Body {
         vars: runnable.program.vars.max(arguments.len() as u32),
         arguments: Seq::of(places),
         fetched: fetched.len(),
         written: published.len(),
         counters: code.loops,
-        budget: budget_of(code.steps, fetched, published),
+        budget: code.steps.saturating_add(count),
         targets,
         around: Seq::of(around.code),
         before: around.before,

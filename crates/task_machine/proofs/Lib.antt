@@ -3,3 +3,4 @@ pub mod Answered
 pub mod Most
 pub mod Settling
 pub mod Returning
+pub mod Listing

@@ -2,7 +2,7 @@
 use Rattle.std.specs.Prelude.{ℕ, zero, suc, ℤ, pos, List, map, length, get_or, set, ◌==◌, if◌then◌else◌}
 use Rattle.runnable_lang.specs.Trees.{ExprTree, expr_tree}
 use Rattle.bus_semantics.specs.declared.entries.Deed.{Deed}
-use Rattle.bus_semantics.specs.Wanted.{Wanted, to_write, to_read, to_invalidate, to_see_updated, to_send, to_receive, to_ask, to_hear, to_take_result, to_enter, to_leave, to_switch, to_see_mode, to_end, to_admit, to_fetch, to_publish, to_return}
+use Rattle.bus_semantics.specs.Wanted.{Wanted, to_write, to_read, to_invalidate, to_see_updated, to_send, to_receive, to_ask, to_hear, to_take_result, to_enter, to_leave, to_switch, to_see_mode, to_end, to_admit, to_fetch, to_publish, to_fetch_all, to_publish_all, to_return}
 use Rattle.bus_semantics.specs.State.{stored, code_in, words_in, number_in}
 use Rattle.bus_semantics.specs.Activations.{declared_code, results}
 use Rattle.task_machine.specs.declared.instr.Request.{Request}
@@ -15,6 +15,7 @@ use Rattle.task_machine.specs.declared.instr.Targets.{Targets}
 use Rattle.task_machine.specs.Words.{words_given}
 use Rattle.task_machine.specs.Targets.{number_at, fetched_at, written_at}
 use Rattle.task_machine.specs.Store.{Store, with_vars, with_fetched, written_in, words_or_none}
+use Rattle.task_machine.specs.Listed.{marks_of, words_written, with_parts}
 
 -- an instruction. A call is what it wants of the bus, in an activation that an event started and over a store; what it takes of the
 -- answer; and how many instructions the answer passes over
@@ -24,6 +25,7 @@ pub data Instruction : Type 0 where
   keep : (slot : ℕ) → (Store → List ℤ) → Instruction
   unless : ExprTree → (past : ℕ) → Instruction
   unwritten : (slot : ℕ) → (past : ℕ) → Instruction
+  none_written : (slots : List ℕ) → (past : ℕ) → Instruction
   skip : (past : ℕ) → Instruction
   begin_loop : (counter : ℕ) → (turns : ℕ) → (past : ℕ) → Instruction
   end_loop : (counter : ℕ) → (back : ℕ) → Instruction
@@ -51,6 +53,8 @@ requested request.Leave n event m = to_leave n
 requested (request.Switch mode) n event m = to_switch n mode
 requested request.Mode n event m = to_see_mode n
 requested (request.Publish x slot) n event m = to_publish x (words_or_none (written_in slot m))
+requested (request.FetchAll l) n event m = to_fetch_all l
+requested (request.PublishAll l slots) n event m = to_publish_all l (marks_of slots m) (words_written slots m)
 requested (request.Return r) n event m = to_return (declared_code r.errors (get_or m.vars (length r.arguments.items) (pos 0))) (results r.arguments.items m.vars)
 requested request.End n event m = to_end event
 
@@ -72,6 +76,7 @@ change_of (taken.Value vs) d m = with_vars (stored vs (words_in d) m.vars) m
 change_of (taken.Words vs status) d m = with_vars (set (stored vs (words_in d) m.vars) status (pos (code_in d))) m
 change_of (taken.Refusal status) d m = takes_refusal status d m
 change_of (taken.Slot slot) d m = with_fetched slot (words_in d) m
+change_of (taken.Slots parts) d m = with_parts parts (words_in d) m
 
 -- an answer passes over nothing; but a refused ask over what would hear the answer of the operation
 abbrev pub passes_nothing : Deed → ℕ
@@ -90,6 +95,7 @@ instruction_of (instr.Load vs a) t = load vs (fetched_at t a)
 instruction_of (instr.Keep a given) t = keep (written_at t a) (λ m. words_given m.vars given.words.items)
 instruction_of (instr.Unless c past) t = unless (expr_tree c) past
 instruction_of (instr.Unwritten slot past) t = unwritten slot past
+instruction_of (instr.NoneWritten slots past) t = none_written slots past
 instruction_of (instr.Skip past) t = skip past
 instruction_of (instr.Repeat c n past) t = begin_loop c n past
 instruction_of (instr.Again c back) t = end_loop c back

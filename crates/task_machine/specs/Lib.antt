@@ -1,5 +1,6 @@
 pub mod Words
 pub mod Store
+pub mod Listed
 pub mod Targets
 pub mod Instructions
 pub mod Machine

@@ -8,7 +8,8 @@ use Rattle.bus_semantics.specs.Wanted.{Wanted}
 use Rattle.bus_semantics.specs.State.{stored}
 use Rattle.bus_semantics.specs.History.{is_over}
 use Rattle.task_machine.specs.Store.{Store, with_vars, with_written, fetched_in, written_in}
-use Rattle.task_machine.specs.Instructions.{Instruction, assign, load, keep, unless, unwritten, skip, begin_loop, end_loop, call}
+use Rattle.task_machine.specs.Listed.{any_written}
+use Rattle.task_machine.specs.Instructions.{Instruction, assign, load, keep, unless, unwritten, none_written, skip, begin_loop, end_loop, call}
 
 -- where an activation stands in its body: how many instructions it may still execute, the place of the next one, its store, and the
 -- counters of its loops
@@ -41,6 +42,7 @@ silently (Some (load vs slot)) rest place m cs here = rest (place + 1) (with_var
 silently (Some (keep slot words)) rest place m cs here = rest (place + 1) (with_written slot (words m) m) cs
 silently (Some (unless c past)) rest place m cs here = rest (if int_eq (worth m.vars c) (pos 0) then place + 1 + past else place + 1) m cs
 silently (Some (unwritten slot past)) rest place m cs here = rest (if is_none (written_in slot m) then place + 1 + past else place + 1) m cs
+silently (Some (none_written slots past)) rest place m cs here = rest (if any_written slots m then place + 1 else place + 1 + past) m cs
 silently (Some (skip past)) rest place m cs here = rest (place + 1 + past) m cs
 silently (Some (begin_loop c n past)) rest place m cs here = entered n rest place m cs c past
 silently (Some (end_loop c back)) rest place m cs here = turned (get_or cs c 0) rest place m cs c back

@@ -5,11 +5,12 @@ ghost use Rattle.std.specs.Option.{option_copied};
 ghost use Rattle.rte_value.specs.declared.kinds.ActKey.{ActKey};
 ghost use Rattle.bus_semantics.specs.declared.entries.Deed.{Deed};
 ghost use Rattle.bus_semantics.specs.Activations.{declared_code, results};
-ghost use Rattle.bus_semantics.specs.Wanted.{wanted_of, to_write, to_send, to_ask, to_publish, to_return};
+ghost use Rattle.bus_semantics.specs.Wanted.{wanted_of, to_write, to_send, to_ask, to_publish, to_publish_all, to_return};
 ghost use Rattle.task_machine.specs.declared.instr.Body.{Body};
 ghost use Rattle.task_machine.specs.Instructions.{requested};
 ghost use Rattle.task_machine.specs.Spots.{store_of};
 ghost use Rattle.task_machine.specs.Store.{written_in, words_or_none};
+ghost use Rattle.task_machine.specs.Listed.{marks_of, words_written};
 ghost use Rattle.task_machine.specs.Words.{words_given};
 ghost use Rattle.task_machine.specs.Frames.{event_in, words_started, first_place, most, asks, Stands, IsMadeFor, wanted_in};
 
@@ -177,6 +178,18 @@ fn publish_of(elem: u32, slot: usize, store: &Store) -> Wish
     }
 }
 
+/// What a publication of a coherent list asks.
+#[inline(never)]
+fn publish_all_of(list: u32, slots: &[usize], store: &Store) -> Wish
+    ensures { wanted_of result ≡ to_publish_all list (marks_of slots.now (store_of store.now)) (words_written slots.now (store_of store.now)) }
+{
+    Wish::PublishAll {
+        list,
+        written: store.marks(slots),
+        value: store.published_together(slots),
+    }
+}
+
 /// What a return asks.
 fn return_of(returned: &Returned, vars: &[Word]) -> Wish
     ensures { wanted_of result ≡ to_return (declared_code returned.now.errors (get_or vars.now (length returned.now.arguments.items) (pos 0)))
@@ -213,6 +226,8 @@ fn wish_of(request: &Request, named: u32, event: u32, store: &Store) -> Wish
         },
         Request::Mode => Wish::Mode { port: named },
         Request::Publish { elem, slot } => publish_of(*elem, *slot, store),
+        Request::FetchAll { list } => Wish::FetchAll { list: *list },
+        Request::PublishAll { list, slots } => publish_all_of(*list, slots.items(), store),
         Request::Return(returned) => return_of(returned, &store.vars),
         Request::End => Wish::End { event },
     }

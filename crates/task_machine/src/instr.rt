@@ -45,6 +45,11 @@ pub enum Request {
     Mode,
     /// To publish what was written into the slot (SWS_RTE: Rte_IWrite, Rte_IrvIWrite).
     Publish { elem: u32, slot: usize },
+    /// To fetch the elements of a coherent list at one moment (SWS_RTE: Rte_IRead).
+    FetchAll { list: u32 },
+    /// To publish at one moment what was written into the slots of a coherent list's elements, in the list's order (SWS_RTE: Rte_IWrite).
+    /// There are at most 16 slots, and 16 words in them.
+    PublishAll { list: u32, slots: Seq<usize> },
     /// To return from an operation.
     Return(Returned),
     /// To end the activation.
@@ -71,6 +76,16 @@ pub enum Taken {
     Refusal(u32),
     /// What was fetched, into this slot.
     Slot(usize),
+    /// What was fetched together, into these slots: each takes so many words from the left. Where there are fewer words, the later slots
+    /// take the words that are left, or none.
+    Slots(Seq<SlotPart>),
+}
+
+/// A slot, and how many words its element has.
+#[derive(Clone, Copy)]
+pub struct SlotPart {
+    pub slot: usize,
+    pub words: u8,
 }
 
 /// An instruction of a body. It counts instructions from the next one on.
@@ -99,6 +114,11 @@ pub enum Instr {
     /// So many instructions are passed over where nothing was written into the slot.
     Unwritten {
         slot: usize,
+        past: u32,
+    },
+    /// So many instructions are passed over where nothing was written into any of the slots.
+    NoneWritten {
+        slots: Seq<usize>,
         past: u32,
     },
     /// So many instructions are passed over.

@@ -5,6 +5,7 @@ mod finding;
 mod frame;
 mod given;
 mod instr;
+mod listed;
 mod place;
 mod returned;
 mod store;
@@ -12,7 +13,7 @@ mod taking;
 
 pub use frame::{Frame, Next};
 pub use given::{Given, GivenWord};
-pub use instr::{Body, Code, Instr, Request, Taken, Targets, TaskSet};
+pub use instr::{Body, Code, Instr, Request, SlotPart, Taken, Targets, TaskSet};
 pub use returned::Returned;
 
 /// There was no memory for what a call makes.

@@ -108,6 +108,13 @@ impl Place {
                     self.place += 1;
                 }
             }
+            Instr::NoneWritten { slots, past } => {
+                if self.store.any_written(slots.items()) {
+                    self.place += 1;
+                } else {
+                    self.place += 1 + *past as usize;
+                }
+            }
             Instr::Skip { past } => self.place += 1 + *past as usize,
             Instr::Repeat {
                 counter,

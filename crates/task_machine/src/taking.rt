@@ -5,9 +5,10 @@ ghost use Rattle.rte_value.specs.Values.{words_of};
 ghost use Rattle.bus_semantics.specs.State.{words_in};
 ghost use Rattle.bus_semantics.specs.History.{is_over};
 ghost use Rattle.task_machine.specs.Instructions.{change_of, passes_of};
+ghost use Rattle.task_machine.specs.Listed.{with_parts};
 ghost use Rattle.task_machine.specs.Spots.{store_of, room_of};
 
-use crate::instr::Taken;
+use crate::instr::{SlotPart, Taken};
 use crate::store::Store;
 use bus_semantics::{Deed, code_of, number_of, words_of_answer};
 use rte_value::{Value, Word};
@@ -50,6 +51,16 @@ fn value_of_answer(answer: &Deed) -> Value
     }
 }
 
+/// The slots take what was fetched together. It stays a function of its own, since the room of a value is cleared where a function begins.
+#[inline(never)]
+fn take_together(parts: &[SlotPart], answer: &Deed, store: &mut Store)
+    ensures store { store_of store.new ≡ with_parts parts.now (words_in answer.now) (store_of store.old) }
+    ensures room { room_of store.new ≡ room_of store.old }
+{
+    let value = value_of_answer(answer);
+    store.fetch_together(parts, &value);
+}
+
 impl Taken {
     /// The store takes what is taken of the answer.
     pub fn take(&self, answer: &Deed, store: &mut Store)
@@ -73,6 +84,7 @@ impl Taken {
                 }
             }
             Taken::Slot(slot) => store.fetch(*slot, value_of_answer(answer)),
+            Taken::Slots(parts) => take_together(parts.items(), answer, store),
         }
     }
 

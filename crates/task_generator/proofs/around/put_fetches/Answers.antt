@@ -1,15 +1,6 @@
-use Rattle.std.proofs.Common.{[], ◌∷◌, ◌++◌, get_or, map, ap, ◌∙◌}
-use Rattle.bus_semantics.specs.Wanted.{to_fetch}
-use Rattle.task_machine.specs.declared.instr.Taken.TheVariants as taken
-use Rattle.task_machine.specs.Instructions.{instruction_of, call, change_of, passes_of}
-use Rattle.task_generator.specs.Shared.{fixed}
+use Rattle.bus_semantics.specs.Plan.{plan_of}
 use Rattle.task_generator.proofs.Publications.{fetches_more}
 use Rattle.task_generator.proofs.around.put_fetches.Goals as goal
 
-pub loop-elem-preserved : goal.loop-elem-preserved
-loop-elem-preserved c =
-    let x = get_or c.args.elements.now c.loop-elem.elem-index 0 in
-    let old = map instruction_of c.loop-elem.code.items in
-    fetches_more c.args.elements.now c.loop-elem.elem-index 0 _ _ _ c.loop-elem-test.true
-    (c.in_ok-put_call.ensures ∙ ap (λ n. old ++ fixed (call (λ event m. to_fetch x) (change_of (taken.Slot n)) (passes_of (taken.Slot n))) ∷ []) c.slot_of-slot.ensures)
-    c.loop-elem.invariant
+pub loop-fetch-preserved : goal.loop-fetch-preserved
+loop-fetch-preserved c = fetches_more (plan_of c.args.p.now) c.args.elements.now c.args.fetches.now c.loop-fetch.fetch-index _ _ _ _ c.loop-fetch-test.true c.in_ok-put_fetch.ensures c.loop-fetch.invariant

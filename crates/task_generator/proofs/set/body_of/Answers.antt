@@ -1,17 +1,14 @@
-use Rattle.std.proofs.Common.{◌≡◌, ℕ, ◌+◌, ◌*◌, ◌<◌, ◌≤◌, ◌++◌, List, Option, length, map, take, drop, max, refl, ap, ◌∙◌, arith}
+use Rattle.std.proofs.Common.{◌≡◌, ℕ, ◌+◌, ◌++◌, List, length, map, take, drop, max, ap, ◌∙◌, arith}
 use Rattle.std.specs.Arc.{arc_value}
-use Rattle.std.specs.Option.{option_copied}
 use Rattle.runnable_lang.specs.declared.program.Program.{Program}
-use Rattle.bus_semantics.specs.declared.plan.ServerPlan.{ServerPlan}
 use Rattle.bus_semantics.specs.Plan.{plan_of, runnable_of}
+use Rattle.bus_semantics.specs.Activations.{fetches_of, publications_of}
 use Rattle.implicit_buffers.specs.Buffers.{fetched_by, published_by}
 use Rattle.task_machine.specs.declared.instr.Code.{Code}
-use Rattle.task_machine.specs.declared.instr.Targets.{Targets}
-use Rattle.task_machine.specs.declared.instr.Instr.{Instr}
 use Rattle.task_machine.specs.Instructions.{instruction_of, resolved}
 use Rattle.task_generator.specs.Servers.{served, arguments_in, in_places}
 use Rattle.task_generator.specs.Bounds.{steps_of_body, loops_of_body}
-use Rattle.task_generator.specs.Shared.{targets_of, fixed, before_code, after_code}
+use Rattle.task_generator.specs.Shared.{fixed, before_code, after_code}
 use Rattle.task_generator.specs.Coded.{CodeShape}
 use Rattle.task_generator.specs.Code.{activity_code}
 use Rattle.task_generator.specs.Shapes.{budget_of}
@@ -32,16 +29,18 @@ returns-clause-shape c coded =
     let written = ap length c.requires.published in
     let counters : c.deref-2.result.now.loops ≡ loops_of_body r.program.body = ap (λ (k : Code). k.loops) c.deref-2.ensures ∙ ap (λ (s : CodeShape). s.loops) coded in
     let steps : c.deref-3.result.now.steps ≡ steps_of_body r.program.body = ap (λ (k : Code). k.steps) c.deref-3.ensures ∙ ap (λ (s : CodeShape). s.steps) coded in
-    let server : option_copied c.served-server.result ≡ served p.servers r.server = c.served-server.ensures ∙ ap (λ (vs : List ServerPlan). served vs r.server) c.items.ensures in
+    let fetches = fetches_of p r in
+    let publications = publications_of p r in
+    let server = served p.servers r.server in
     let around = c.in_ok-around.around.code in
-    let put : map instruction_of around.items ≡ map fixed (before_code (fetched_by r)) ++ map fixed (after_code (published_by r) (served p.servers r.server)) =
-    c.in_ok-around.ensures.code ∙ (λ i. map fixed (before_code (c.requires.fetched i)) ++ map fixed (after_code (c.requires.published i) (server i))) in
-    let before : c.in_ok-around.around.before ≡ length (before_code (fetched_by r)) = c.in_ok-around.ensures.before ∙ ap (λ (xs : List ℕ). length (before_code xs)) c.requires.fetched in
-    let long = around_long around.items (fetched_by r) (published_by r) (served p.servers r.server) put in
-    let budget : c.budget_of.result ≡ budget_of r =
-    omega (arith, c.budget_of.ensures, steps, fetched, written, long, around.ok.0, around.ok.1, around.small, body_steps r.program.body, c.requires.bounded.cost) in
+    let put : map instruction_of around.items ≡ map fixed (before_code p (fetched_by r) fetches) ++ map fixed (after_code p (published_by r) publications server) =
+    c.in_ok-around.ensures.code ∙ (λ i. map fixed (before_code p (c.requires.fetched i) fetches) ++ map fixed (after_code p (c.requires.published i) publications server)) in
+    let before : c.in_ok-around.around.before ≡ length (before_code p (fetched_by r) fetches) = c.in_ok-around.ensures.before ∙ ap (λ (xs : List ℕ). length (before_code p xs fetches)) c.requires.fetched in
+    let long = around_long p fetches publications around.items (fetched_by r) (published_by r) server put in
+    let budget : c.saturating_add.result ≡ budget_of p r =
+    omega (arith, c.saturating_add.ensures, steps, long, around.ok.0, around.ok.1, around.small, body_steps r.program.body, c.requires.bounded.cost) in
     let instrs = ap (λ (s : CodeShape). s.instrs) coded in
-    let whole = whole_code r c.requires.bounded.targets around.items code.instrs c.in_ok-around.around.before (fetched_by r) (published_by r) (served p.servers r.server) r.program.body put before instrs in
+    let whole = whole_code p fetches publications r c.requires.bounded.targets around.items code.instrs c.in_ok-around.around.before (fetched_by r) (published_by r) server r.program.body put before instrs in
     let b = c.in_ok-around.around.before in
     let all : resolved c.in_ok-targets.targets (map instruction_of (take b c.of-2.result ++ (code.instrs ++ drop b c.of-2.result))) ≡ activity_code p r =
     (λ i. resolved (c.in_ok-targets.ensures i) (map instruction_of (take b (c.of-2.ensures i) ++ (code.instrs ++ drop b (c.of-2.ensures i))))) ∙ whole in

@@ -18,4 +18,4 @@ returns c k r event point value answers at =
     ∥∥₁_elim c.args.p.now.coded (wants_alike _ _)
     (λ one.
     let bodies : map shape_of_body c.of.result ≡ map (shape_of p) p.runnables = ap (map shape_of_body) c.of.ensures ∙ c.in_ok-bodies.ensures one in
-    asks_as_planned p c.requires.sound.none_listed (record { bodies = c.of.result; disabled = c.of-2.result }) bodies disabled k r event point value answers at)
+    asks_as_planned p c.args._m.now c.requires.sound (record { bodies = c.of.result; disabled = c.of-2.result }) bodies disabled k r event point value answers at)
