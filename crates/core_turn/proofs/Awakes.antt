@@ -16,7 +16,7 @@ use Rattle.task_slots.specs.declared.slot.Activity.{Activity}
 use Rattle.task_slots.specs.declared.slot.Activity.TheVariants.{Free, Runs, Calls, Serves}
 use Rattle.task_slots.specs.Slots.{tries_of, slot_tries, events_of_slot}
 use Rattle.task_slots.specs.Looking.{AllHeld}
-use Rattle.task_slots.specs.Waiting.{EventsHeld, is_free_task, is_free, idle_tries}
+use Rattle.task_slots.specs.Waiting.{flags, EventsHeld, is_free_task, is_free, idle_tries}
 use Rattle.task_slots.proofs.Placed.{Placed, here, there, placed}
 use Rattle.task_slots.proofs.Unchanged.{TriesHeld}
 use Rattle.core_turn.specs.Awake.{AwakeState, all_awake, Fits, AreHeld, StartsHeld, IsQuiet, HeldTold, IsSettled, with_slots}
@@ -121,14 +121,16 @@ starts_on p t objects slots a n place row at held = record {
 -- ---- where a bench tells its objects
 
 module _ (p : Plan) where
-  pub events_held : (t : TaskSet) (o : Option (List Object)) (slots : List Slot) (first : ℕ) (a : AwakeState) (i : ℕ) (s : Slot) (row : List Bool) → slice_get slots i ≡ Some s → slice_get a.events i ≡ Some row → HeldTold p t o None slots first a
-      → EventsHeld p o (events_of_slot s) row
-  events_held t None slots first a i s row found at held = tt
-  events_held t (Some objects) slots first a i s row found at held = λ j e event sleeps. held.starts.events i j e s row found at event sleeps
+  pub events_held : (t : TaskSet) (o : Option (List Object)) (slots : List Slot) (first : ℕ) (a : AwakeState) (i : ℕ) (s : Slot) (row : List Bool) → slice_get slots i ≡ Some s → slice_get a.events i ≡ Some row → length row ≡ length (events_of_slot s) → HeldTold p t o None slots first a
+      → EventsHeld p o (events_of_slot s) (flags row)
+  events_held t None slots first a i s row found at width held = tt
+  events_held t (Some objects) slots first a i s row found at width held = λ j e event sleeps.
+      let within : j < length (events_of_slot s) = slice_get_within (events_of_slot s) j e event in
+      held.starts.events i j e s row found at event (slice_get-get_or row j false (omega (arith, width, within)) ∙ ap (λ b. Some b) sleeps)
 
   module _ (objects : List Object) where
     -- the events of one slot fell asleep
-    pub starts_row : (t : TaskSet) (slots : List Slot) (a : AwakeState) (at : ℕ) (s : Slot) (row : List Bool) → slice_get slots at ≡ Some s → EventsHeld p (Some objects) (events_of_slot s) row
+    pub starts_row : (t : TaskSet) (slots : List Slot) (a : AwakeState) (at : ℕ) (s : Slot) (row : List Bool) → slice_get slots at ≡ Some s → EventsHeld p (Some objects) (events_of_slot s) (flags row)
         → StartsHeld p t objects slots a → StartsHeld p t objects slots (with_rows a (set a.events at row))
     starts_row t slots a at s row found held before = record {
       events = λ i j e x r there_it at_it event sleeps. of_place i j e x r there_it event sleeps (placed a.events at row i r at_it);
@@ -139,7 +141,7 @@ module _ (p : Plan) where
         of_place i j e x r there_it event sleeps (here same is) =
             let one : Some x ≡ Some s = sym there_it ∙ ap (slice_get slots) same ∙ found in
             let own : x ≡ s = cc in
-            held j e (subst (λ y. slice_get (events_of_slot y) j ≡ Some e) own event) (subst (λ y. slice_get y j ≡ Some false) is sleeps)
+            held j e (subst (λ y. slice_get (events_of_slot y) j ≡ Some e) own event) (get_or_from_slice_get row j false false (subst (λ y. slice_get y j ≡ Some false) is sleeps))
         of_place i j e x r there_it event sleeps (there other here_it) = before.events i j e x r there_it here_it event sleeps
 
     -- a slot of which nothing may come fell asleep

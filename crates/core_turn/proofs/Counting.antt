@@ -9,7 +9,7 @@ use Rattle.port_objects.specs.Benches.{Work, IsFurther}
 use Rattle.place_set.specs.Places.{NoneBetween}
 use Rattle.task_machine.specs.declared.instr.TaskSet.{TaskSet}
 use Rattle.task_slots.specs.declared.slot.Slot.{Slot}
-use Rattle.task_slots.specs.Waiting.{sum_below, looks_awake}
+use Rattle.task_slots.specs.Waiting.{flags, sum_below, looks_awake}
 use Rattle.task_slots.proofs.Onward.{work_same}
 use Rattle.task_slots.proofs.Counted.{sum_none, sum_next, sum_same, counts_on}
 use Rattle.core_turn.specs.Awake.{AwakeState, IsSettled, SameBefore, looks_at_place}
@@ -18,17 +18,17 @@ use Rattle.core_turn.proofs.Awakes.{with_rows}
 -- ---- one place
 
 pub awake_place : (p : Plan) (slots : List Slot) (a : AwakeState) (i : ℕ) (s : Slot) (row : List Bool) → get_or a.slots i false ≡ true → slice_get slots i ≡ Some s → get_or a.events i [] ≡ row
-    → looks_at_place p slots a i ≡ looks_awake p s row
-awake_place p slots a i s row awake found is = λ j. if awake j then option_map_or (λ (x : Slot). looks_awake p x (is j)) (found j) 0 else 0
+    → looks_at_place p slots a i ≡ looks_awake p s (flags row)
+awake_place p slots a i s row awake found is = λ j. if awake j then option_map_or (λ (x : Slot). looks_awake p x (flags (is j))) (found j) 0 else 0
 
 pub asleep_place : (p : Plan) (slots : List Slot) (a : AwakeState) (i : ℕ) → get_or a.slots i false ≡ false → looks_at_place p slots a i ≡ 0
-asleep_place p slots a i asleep = ap (λ (b : Bool). if b then option_map_or (λ (s : Slot). looks_awake p s (get_or a.events i [])) (slice_get slots i) 0 else 0) asleep
+asleep_place p slots a i asleep = ap (λ (b : Bool). if b then option_map_or (λ (s : Slot). looks_awake p s (flags (get_or a.events i []))) (slice_get slots i) 0 else 0) asleep
 
 -- before a place the same is awake, so as many looks are made
 pub same_looks : (p : Plan) (slots : List Slot) (old new : AwakeState) (place : ℕ) → SameBefore place old new
     → sum_below (looks_at_place p slots new) place ≡ sum_below (looks_at_place p slots old) place
 same_looks p slots old new place same = sum_same (looks_at_place p slots new) (looks_at_place p slots old) place
-    (λ i low j. if same.slots i low j then option_map_or (λ (s : Slot). looks_awake p s (same.events i low j)) (slice_get slots i) 0 else 0)
+    (λ i low j. if same.slots i low j then option_map_or (λ (s : Slot). looks_awake p s (flags (same.events i low j))) (slice_get slots i) 0 else 0)
 
 -- ---- a slot is settled
 
@@ -98,14 +98,14 @@ module _ (p : Plan) (slots : List Slot) (first a : AwakeState) (from behind : �
 
     -- the next slot that is awake
     pub counted_at : (at : ℕ) (s : Slot) (row : List Bool) (later : Option Work) → behind ≤ at → NoneBetween a.slots behind at → get_or a.slots at false ≡ true → slice_get slots at ≡ Some s → get_or a.events at [] ≡ row
-        → IsFurther now later [] (looks_awake p s row) 0
+        → IsFurther now later [] (looks_awake p s (flags row)) 0
         → IsFurther told later [] (sum_below (looks_at_place p slots first) (at + 1) - sum_below (looks_at_place p slots first) from) 0
     counted_at at s row later le none chosen found is look =
         let f : ℕ → ℕ = looks_at_place p slots first in
-        let here : f at ≡ looks_awake p s row = awake_place p slots first at s row (sym (so.slots at le) ∙ chosen) found (sym (so.events at le) ∙ is) in
+        let here : f at ≡ looks_awake p s (flags row) = awake_place p slots first at s row (sym (so.slots at le) ∙ chosen) found (sym (so.events at le) ∙ is) in
         let next : sum_below f (at + 1) ≡ sum_below f behind + f at = sum_next f behind at le (none_counts at none) in
         let grown : sum_below f from ≤ sum_below f behind = sum_more f from behind begun in
-        let all : sum_below f (at + 1) - sum_below f from ≡ sum_below f behind - sum_below f from + looks_awake p s row = omega (arith, here, next, grown) in
+        let all : sum_below f (at + 1) - sum_below f from ≡ sum_below f behind - sum_below f from + looks_awake p s (flags row) = omega (arith, here, next, grown) in
         counts_on told now later _ _ _ all counted look
 
 -- a pass over no slots

@@ -16,7 +16,7 @@ use Rattle.task_slots.specs.Looking.{ObjectsLooked}
 use Rattle.bus_semantics.specs.Rest.{gathered}
 use Rattle.core_turn.specs.Cores.{slots_between}
 use Rattle.core_turn.specs.Awake.{AwakeState, Fits, AreHeld, HeldTold, IsSettled}
-use Rattle.task_slots.specs.Waiting.{is_free, EventsHeld}
+use Rattle.task_slots.specs.Waiting.{flags, is_free, EventsHeld}
 use Rattle.task_slots.specs.Stepping.{noting_of}
 use Rattle.task_slots.proofs.Unchanged.{TriesHeld, gathered_held, taken, dropped}
 use Rattle.core_turn.proofs.Awakes.{asleep_held, with_rows, starts_row, starts_settled, starts_stepped, fits_settled, fits_row, fits_stepped}
@@ -109,11 +109,11 @@ module _ (slots : List Slot) (a : AwakeState) (first : ℕ) (fits : Fits slots f
   fits_nothing p t a' s row is width settled = fits_settled p t slots first (with_rows a (set a.events at row)) a' at s (is_free s) settled (fits_row slots first a at s row (slot_found s is) width fits)
 
   module _ (p : Plan) (t : TaskSet) (o : Option (List Object)) (from : ℕ) (begun : from ≤ at) (none : NoneBetween a.slots from at) (chosen : get_or a.slots at false ≡ true) (held : HeldTold p t o None slots from a) where
-    pub held_made : (s stepped : Slot) (row : List Bool) (e : Stamped) (after : Option (List Object)) → s ≡ get_or slots at s → EventsHeld p o (events_of_slot s) row → events_of_slot stepped ≡ events_of_slot s → ObjectsLooked p (slot_tries p t s) o after (Made e)
+    pub held_made : (s stepped : Slot) (row : List Bool) (e : Stamped) (after : Option (List Object)) → s ≡ get_or slots at s → EventsHeld p o (events_of_slot s) (flags row) → events_of_slot stepped ≡ events_of_slot s → ObjectsLooked p (slot_tries p t s) o after (Made e)
         → HeldTold p t o (touched_by p (noting_of e)) (set slots at stepped) (suc at) (with_rows a (set a.events at row))
     held_made s stepped row e after is asleep events looked = of_told o held asleep looked
       where
-        of_told : (o : Option (List Object)) → HeldTold p t o None slots from a → EventsHeld p o (events_of_slot s) row → ObjectsLooked p (slot_tries p t s) o after (Made e)
+        of_told : (o : Option (List Object)) → HeldTold p t o None slots from a → EventsHeld p o (events_of_slot s) (flags row) → ObjectsLooked p (slot_tries p t s) o after (Made e)
             → HeldTold p t o (touched_by p (noting_of e)) (set slots at stepped) (suc at) (with_rows a (set a.events at row))
         of_told None held asleep looked = tt
         of_told (Some objects) held asleep looked = record {
@@ -122,11 +122,11 @@ module _ (slots : List Slot) (a : AwakeState) (first : ℕ) (fits : Fits slots f
               (λ object waits. touches_own p t s object objects after e waits looked) held.waiters;
         }
 
-    pub held_nothing : AlikeLaw → (a' : AwakeState) (s : Slot) (row : List Bool) → s ≡ get_or slots at s → EventsHeld p o (events_of_slot s) row → TriesHeld p o (slot_tries p t s) → IsSettled p t s (is_free s) at (with_rows a (set a.events at row)) a'
+    pub held_nothing : AlikeLaw → (a' : AwakeState) (s : Slot) (row : List Bool) → s ≡ get_or slots at s → EventsHeld p o (events_of_slot s) (flags row) → TriesHeld p o (slot_tries p t s) → IsSettled p t s (is_free s) at (with_rows a (set a.events at row)) a'
         → HeldTold p t o None slots (suc at) a'
     held_nothing alike a' s row is asleep tries settled = of_told o held asleep tries
       where
-        of_told : (o : Option (List Object)) → HeldTold p t o None slots from a → EventsHeld p o (events_of_slot s) row → TriesHeld p o (slot_tries p t s) → HeldTold p t o None slots (suc at) a'
+        of_told : (o : Option (List Object)) → HeldTold p t o None slots from a → EventsHeld p o (events_of_slot s) (flags row) → TriesHeld p o (slot_tries p t s) → HeldTold p t o None slots (suc at) a'
         of_told None held asleep tries = tt
         of_told (Some objects) held asleep tries =
             let count = fits.count in

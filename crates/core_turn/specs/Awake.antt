@@ -15,7 +15,7 @@ use Rattle.task_slots.specs.declared.slot.Slot.{Slot}
 use Rattle.task_slots.specs.Slots.{events_of_slot, slot_tries}
 use Rattle.task_slots.specs.Looking.{AllHeld}
 use Rattle.task_slots.specs.Stepping.{noting_of}
-use Rattle.task_slots.specs.Waiting.{is_free, idle_tries, WaitsAt, HearsAt, sum_below, looks_awake}
+use Rattle.task_slots.specs.Waiting.{is_free, idle_tries, WaitsAt, HearsAt, flags, sum_below, looks_awake}
 use Rattle.core_turn.specs.declared.passed.Passed.{Passed}
 use Rattle.core_turn.specs.declared.passed.Passed.TheVariants as pass
 use Rattle.core_turn.specs.declared.turning.Turned.{Turned}
@@ -214,7 +214,7 @@ pub record WakesSlot (place : ℕ) (old new : AwakeState) : Type 0 where
 
 -- at the slot of a place, if it is awake
 abbrev pub looks_at_place : Plan → List Slot → AwakeState → (place : ℕ) → ℕ
-looks_at_place p slots a i = if slice_index_or a.slots i false then option_map_or (λ (s : Slot). looks_awake p s (slice_index_or a.events i [])) (slice_get slots i) 0 else 0
+looks_at_place p slots a i = if slice_index_or a.slots i false then option_map_or (λ (s : Slot). looks_awake p s (flags (slice_index_or a.events i []))) (slice_get slots i) 0 else 0
 
 -- at all of a core's
 abbrev pub looks_of_awake : Plan → List Slot → AwakeState → ℕ

@@ -17,7 +17,7 @@ use crate::passed::Passed;
 use bus_semantics::{BusPlan, Stamped};
 use port_objects::{Bench, areas_are_closed_alike, last_entries_are_last};
 use task_machine::TaskSet;
-use task_slots::{Looks, Slot, area_tried, is_free, look_at_awake, point_tried};
+use task_slots::{Looks, Slot, area_tried, is_free, look_at, point_tried};
 
 /// A slot of which nothing may come falls asleep, if nothing runs in it (a free task, a machine between two phases) or its
 /// activation waits at an area or for an answer. What other activations wait for wakes no slot.
@@ -82,7 +82,7 @@ fn look_among<B: Bench>(
         if at >= to {
             return Passed::Nothing;
         }
-        match look_at_awake(p, t, &mut slots[at], &mut a.events[at], bench, made) {
+        match look_at(p, t, &mut slots[at], &mut a.events[at], bench, made) {
             Looks::Made => return Passed::Made(at),
             Looks::Nothing => settle(p, t, &slots[at], at, a),
             Looks::Contended(object) => return Passed::Contended(object),

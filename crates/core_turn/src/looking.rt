@@ -15,7 +15,7 @@ use crate::passed::Passed;
 use bus_semantics::{BusPlan, Stamped};
 use port_objects::{Bench, last_entries_are_last};
 use task_machine::TaskSet;
-use task_slots::{Looks, Slot, look_at};
+use task_slots::{All, Looks, Slot, look_at};
 
 /// Looks at the slots from one place up to another, until one of them steps. Its entry goes to the end of the list, which has room
 /// for it.
@@ -43,8 +43,9 @@ pub(crate) fn look_through<B: Bench>(
         (B.told bench.old) (B.told bench.new) made.old.items made.new.items result }
 {
     last_entries_are_last();
+    let mut all = All;
     for at in from..to {
-        match look_at(p, t, &mut slots[at], bench, made) {
+        match look_at(p, t, &mut slots[at], &mut all, bench, made) {
             Looks::Made => return Passed::Made(at),
             Looks::Nothing => {}
             Looks::Contended(object) => return Passed::Contended(object),

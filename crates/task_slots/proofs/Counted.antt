@@ -1,19 +1,19 @@
 -- How many looks it takes at what is awake.
-use Rattle.std.proofs.Common.{◌≡◌, ◌≢◌, ◌≤◌, ◌<◌, ◌+◌, ◌&&◌, ℕ, zero, suc, Bool, true, false, if◌then◌else◌, List, [], get_or, refl, sym, ◌∙◌, ap, subst, arith, Option}
+use Rattle.std.proofs.Common.{◌≡◌, ◌≢◌, ◌≤◌, ◌<◌, ◌+◌, ◌&&◌, ℕ, zero, suc, Bool, true, false, if◌then◌else◌, List, [], ◌∷◌, length, take, get_or, refl, sym, ◌∙◌, ap, subst, arith, Option}
 use mathlib.Core.Logic.{dite}
 use native.Mathlib.Decide.{ℕ_discrete}
+use Rattle.std.proofs.lemmas.List.{take_more}
+use Rattle.std.proofs.Math.Seq.{take-length}
 use Rattle.bus_semantics.specs.Plan.{Plan}
+use Rattle.bus_semantics.specs.History.{count}
 use Rattle.port_objects.specs.Benches.{Work, IsFurther}
+use Rattle.task_slots.specs.declared.slot.Slot.{Slot}
+use Rattle.task_slots.specs.declared.slot.Slot.TheVariants as slot
 use Rattle.task_slots.specs.declared.slot.Activity.{Activity}
 use Rattle.task_slots.specs.declared.slot.Activity.TheVariants.{Free, Runs, Calls, Serves}
-use Rattle.task_slots.specs.declared.look.Looks.{Looks}
-use Rattle.task_slots.specs.declared.look.Looks.TheVariants as looks
-use Rattle.task_slots.specs.Look.{look_of}
-use Rattle.task_slots.specs.Looking.{WorkLooked}
-use Rattle.task_slots.specs.Slots.{waits, looks_of}
-use Rattle.task_slots.specs.Waiting.{sum_below, event_looks, task_looks_awake, LooksCounted}
-use Rattle.bus_semantics.specs.declared.entries.Stamped.{Stamped}
-use Rattle.task_slots.proofs.Onward.{work_on}
+use Rattle.task_slots.specs.Slots.{waits, looks_of, looks}
+use Rattle.task_slots.specs.Waiting.{sum_below, event_looks, task_looks_awake, looks_awake}
+use Rattle.task_slots.proofs.Onward.{work_on, count_on}
 
 -- ---- sums
 
@@ -45,22 +45,39 @@ sum_next f from at le none =
 
 -- ---- events
 
-pub asleep_looks : (p : Plan) (events : List ℕ) (row : List Bool) (i : ℕ) → get_or row i false ≡ false → event_looks p events row i ≡ 0
-asleep_looks p events row i asleep = ap (λ (b : Bool). if b && waits p (get_or events i 0) then 1 else 0) asleep
+pub asleep_looks : (p : Plan) (events : List ℕ) (awake : ℕ → Bool) (i : ℕ) → awake i ≡ false → event_looks p events awake i ≡ 0
+asleep_looks p events awake i asleep = ap (λ (b : Bool). if b && waits p (get_or events i 0) then 1 else 0) asleep
 
-pub awake_looks : (p : Plan) (events : List ℕ) (row : List Bool) (i : ℕ) → get_or row i false ≡ true → event_looks p events row i ≡ (if waits p (get_or events i 0) then 1 else 0)
-awake_looks p events row i awake = ap (λ (b : Bool). if b && waits p (get_or events i 0) then 1 else 0) awake
+pub awake_looks : (p : Plan) (events : List ℕ) (awake : ℕ → Bool) (i : ℕ) → awake i ≡ true → event_looks p events awake i ≡ (if waits p (get_or events i 0) then 1 else 0)
+awake_looks p events awake i chosen = ap (λ (b : Bool). if b && waits p (get_or events i 0) then 1 else 0) chosen
+
+-- where all are awake, each event that has an object takes one
+first_looks : (p : Plan) (events : List ℕ) (n : ℕ) → n ≤ length events → sum_below (event_looks p events (λ i. true)) n ≡ count (waits p) (take n events)
+first_looks p events zero le = refl
+first_looks p events (suc n) le =
+    let next : suc n ≡ n + 1 = omega arith in
+    let more : count (waits p) (take (n + 1) events) ≡ count (waits p) (take n events) + (if waits p (get_or events n 0) then 1 else 0) =
+    ap (count (waits p)) (take_more events n 0 (omega arith)) ∙ count_on (waits p) (take n events) (get_or events n 0 ∷ []) in
+    ap (λ k. k + (if waits p (get_or events n 0) then 1 else 0)) (first_looks p events n (omega arith)) ∙ sym more ∙ ap (λ k. count (waits p) (take k events)) (sym next)
+
+pub all_looks : (p : Plan) (s : Slot) → looks_awake p s (λ i. true) ≡ looks p s
+all_looks p (slot.Task s) = of_activity s.activity
+  where
+    of_activity : (a : Activity) → task_looks_awake p s.events.items (λ i. true) a ≡ looks_of p s.events.items a
+    of_activity Free = first_looks p s.events.items (length s.events.items) (omega arith) ∙ ap (count (waits p)) (take-length s.events.items)
+    of_activity (Runs k) = refl
+    of_activity (Calls k) = refl
+    of_activity (Serves k) = refl
+all_looks p (slot.Machine n) = refl
+
+-- an activation takes one look
+pub running_looks : (p : Plan) (events : List ℕ) (awake : ℕ → Bool) (a : Activity) → a ≢ Free → looks_of p events a ≡ task_looks_awake p events awake a
+running_looks p events awake Free runs = absurd (runs refl)
+running_looks p events awake (Runs k) runs = refl
+running_looks p events awake (Calls k) runs = refl
+running_looks p events awake (Serves k) runs = refl
 
 -- ---- counts
 
 pub counts_on : (a b c : Option Work) (m n k : ℕ) → k ≡ m + n → IsFurther a b [] m 0 → IsFurther b c [] n 0 → IsFurther a c [] k 0
 counts_on a b c m n k is first second = subst (λ j. IsFurther a c [] j 0) (sym is) (work_on a b c [] [] m n 0 0 first second)
-
--- an activation takes one look
-pub running_counts : (p : Plan) (events : List ℕ) (row : List Bool) (a : Activity) (old new : Option Work) (r : Looks) (made : List Stamped) → a ≢ Free → WorkLooked (looks_of p events a) old new (look_of r made)
-    → LooksCounted (task_looks_awake p events row a) old new r
-running_counts p events row Free old new r made runs work = absurd (runs refl)
-running_counts p events row (Runs k) old new looks.Nothing made runs work = work
-running_counts p events row (Calls k) old new looks.Nothing made runs work = work
-running_counts p events row (Serves k) old new looks.Nothing made runs work = work
-running_counts p events row a old new r made runs work = tt

@@ -10,7 +10,6 @@ use Rattle.bus_semantics.specs.declared.entries.Stamped.{Stamped}
 use Rattle.bus_semantics.specs.declared.script.Mapping.{Mapping}
 use Rattle.bus_semantics.specs.Plan.{Plan, kind_of, runnable_of_event}
 use Rattle.bus_semantics.specs.Wanted.{Wanted, to_start}
-use Rattle.bus_semantics.specs.History.{count}
 use Rattle.bus_semantics.specs.Objects.{object_of_kind, object_of, IsObject}
 use Rattle.bus_semantics.specs.Owners.{key_fits}
 use Rattle.bus_semantics.specs.Fitting.{wish_fits}
@@ -21,7 +20,7 @@ use Rattle.port_objects.specs.Benches.{Told}
 use Rattle.task_slots.specs.Look.{Look, Made, Nothing, Contended}
 use Rattle.task_slots.specs.Slots.{waits}
 use Rattle.task_slots.specs.Looking.{IsTried, IsFree, looks_at, EntryOf, StartBy, Looked}
-use Rattle.task_slots.proofs.Onward.{looked_on, looked_as, made_more, lost_more, gathered_on, gathered_one, count_on}
+use Rattle.task_slots.proofs.Onward.{looked_on, looked_as, made_more, lost_more, gathered_on, gathered_one}
 use Rattle.task_slots.specs.Ready.{may_be_mapped}
 use Rattle.task_slots.proofs.Facts.{event_known, started, key_is, start_fits}
 
@@ -66,21 +65,12 @@ module _ (p : Plan) (event n : ℕ) (starts : runnable_of_event p event ≡ Some
 -- ---- one event after the other
 
 module _ (p : Plan) (xs : List ℕ) (i : ℕ) (within : i < length xs) where
-  event_tried : (m n k : ℕ) (a b c : Told) (l : Look) → m + n ≡ k → Looked p (gathered (start_try p) (take i xs)) m a b Nothing → Looked p (start_try p (get_or xs i 0)) n b c l
+  pub event_tried : (m n k : ℕ) (a b c : Told) (l : Look) → m + n ≡ k → Looked p (gathered (start_try p) (take i xs)) m a b Nothing → Looked p (start_try p (get_or xs i 0)) n b c l
       → Looked p (gathered (start_try p) (take (i + 1) xs)) k a c l
   event_tried m n k a b c l counted before now =
       let tries : gathered (start_try p) (take i xs) ++ start_try p (get_or xs i 0) ≡ gathered (start_try p) (take (i + 1) xs) =
       sym (ap (gathered (start_try p)) (take_more xs i 0 within) ∙ gathered_one (start_try p) (take i xs) (get_or xs i 0)) in
       looked_as p _ _ _ _ a c l tries counted (looked_on p _ _ m n a b c l before now)
-
-  pub event_on : (a b c : Told) (l : Look) → Looked p (gathered (start_try p) (take i xs)) (count (waits p) (take i xs)) a b Nothing
-      → Looked p (start_try p (get_or xs i 0)) (if waits p (get_or xs i 0) then 1 else 0) b c l
-      → Looked p (gathered (start_try p) (take (i + 1) xs)) (count (waits p) (take (i + 1) xs)) a c l
-  event_on a b c l before now =
-      let e = get_or xs i 0 in
-      let counted : count (waits p) (take i xs) + (if waits p e then 1 else 0) ≡ count (waits p) (take (i + 1) xs) =
-      sym (ap (count (waits p)) (take_more xs i 0 within) ∙ count_on (waits p) (take i xs) (e ∷ [])) in
-      event_tried _ _ _ a b c l counted before now
 
   whole : gathered (start_try p) (take (i + 1) xs) ++ gathered (start_try p) (drop (i + 1) xs) ≡ gathered (start_try p) xs
   whole = sym (gathered_on (start_try p) (take (i + 1) xs) (drop (i + 1) xs)) ∙ ap (gathered (start_try p)) (take-append-drop (i + 1) xs)

@@ -1,19 +1,19 @@
 -- Looks of which nothing came and which are not counted: a bench tells the same after them, and no count of its work falls.
-use Rattle.std.proofs.Common.{◌≡◌, ◌≢◌, ℕ, suc, ◌+◌, ◌<◌, Bool, false, refl, sym, ◌∙◌, ap, subst, arith, List, [], ◌∷◌, length, take, drop, set, get_or, length-drop, length-take, inl, inr, Option, Some, None}
+use Rattle.std.proofs.Common.{◌≡◌, ◌≢◌, ℕ, suc, ◌+◌, ◌<◌, ◌≤◌, Bool, true, refl, sym, ◌∙◌, ap, subst, arith, List, [], ◌∷◌, ◌++◌, length, take, drop, length-drop, length-take, Option, Some, None}
 use Rattle.std.specs.List.{slice_get}
-use Rattle.std.proofs.lemmas.Bool.{cases_lt}
-use Rattle.std.proofs.lemmas.List.{get_or-take, get_or-drop, get_or-set_other, get_or-set_same}
+use Rattle.std.proofs.lemmas.Bool.{false≢true}
+use Rattle.std.proofs.lemmas.List.{get_or-take, get_or-drop, take-take, take-append-drop}
+use mathlib.Core.Logic.{dite}
+use native.Mathlib.Decide.{ℕ_discrete}
 use Rattle.std.proofs.lemmas.Option.{get_or_from_slice_get, slice_get-get_or, slice_get_within}
 use Rattle.bus_semantics.specs.Plan.{Plan}
 use Rattle.bus_semantics.specs.Rest.{Try, gathered, start_try}
 use Rattle.port_objects.specs.declared.object.Object.{Object}
 use Rattle.port_objects.specs.Benches.{Work, IsFurther, StampAfter, Told}
-use Rattle.place_set.specs.Places.{NoneBetween}
 use Rattle.task_slots.specs.Look.{Look, Made, Nothing, Contended}
 use Rattle.task_slots.specs.Looking.{AllHeld, ObjectsLooked, WorkLooked, Looked}
-use Rattle.task_slots.specs.Waiting.{EventsHeld}
-use Rattle.task_slots.proofs.Onward.{work_same, work_on, work_uncounted, next_same, next_still, all_on}
-use Rattle.task_slots.proofs.Placed.{Placed, here, there, placed}
+use Rattle.task_slots.specs.Waiting.{EventsHeld, NoneAwake}
+use Rattle.task_slots.proofs.Onward.{work_same, work_on, work_uncounted, next_same, next_still, all_on, looked_on, looked_as, gathered_on}
 
 -- ---- where a bench tells its objects
 
@@ -22,17 +22,21 @@ abbrev pub TriesHeld : Plan → Option (List Object) → List Try → Type 0
 TriesHeld p None ts = Unit {0}
 TriesHeld p (Some objects) ts = AllHeld p objects ts
 
--- an event that may not start falls asleep
-pub held_more : (p : Plan) (o : Option (List Object)) (events : List ℕ) (row : List Bool) (at e : ℕ) → slice_get events at ≡ Some e → TriesHeld p o (start_try p e) → EventsHeld p o events row → EventsHeld p o events (set row at false)
-held_more p None events row at e found held before = tt
-held_more p (Some objects) events row at e found held before = λ j d event sleeps. of_place j d event (placed row at false j false sleeps)
-  where
-    of_place : (j d : ℕ) → slice_get events j ≡ Some d → Placed Bool row at false j false → AllHeld p objects (start_try p d)
-    of_place j d event (here same is) =
-        let one : Some d ≡ Some e = sym event ∙ ap (slice_get events) same ∙ found in
-        let own : d ≡ e = cc in
-        subst (λ x. AllHeld p objects (start_try p x)) (sym own) held
-    of_place j d event (there other sleeps) = before j d event sleeps
+-- an event that may not start may fall asleep
+pub held_more : (p : Plan) (o : Option (List Object)) (events : List ℕ) (awake later : ℕ → Bool) (at e : ℕ) → slice_get events at ≡ Some e → TriesHeld p o (start_try p e) → ((i : ℕ) → i ≢ at → later i ≡ awake i)
+    → EventsHeld p o events awake → EventsHeld p o events later
+held_more p None events awake later at e found held others before = tt
+held_more p (Some objects) events awake later at e found held others before = λ j d event sleeps. dite (ℕ_discrete j at)
+    (λ same.
+    let one : Some d ≡ Some e = sym event ∙ ap (slice_get events) same ∙ found in
+    let own : d ≡ e = cc in
+    subst (λ x. AllHeld p objects (start_try p x)) (sym own) held)
+    (λ other. before j d event (sym (others j other) ∙ sleeps))
+
+-- where all are awake none sleeps
+pub none_asleep : (p : Plan) (o : Option (List Object)) (events : List ℕ) → EventsHeld p o events (λ i. true)
+none_asleep p None events = tt
+none_asleep p (Some objects) events = λ j e found sleeps. absurd (false≢true (sym sleeps))
 
 -- ---- a bench that made nothing
 
@@ -121,23 +125,24 @@ dropped xs n i x found =
     let inside : n + i < length xs = omega (arith, length-drop n xs) in
     slice_get-get_or xs (n + i) x inside ∙ ap (λ y. Some y) (sym (get_or-drop n xs i x) ∙ get_or_from_slice_get (drop n xs) i x x found)
 
--- ---- flags that are not set
-
-pub none_on : (flags : List Bool) (from to : ℕ) → NoneBetween flags 0 from → NoneBetween flags from to → NoneBetween flags 0 to
-none_on flags from to before behind = λ place _ within. elim (cases_lt place from) [ inl low ↦ before place (omega arith) low | inr high ↦ behind place high within ]
-
--- one more was taken out
-pub none_more : (flags : List Bool) (at : ℕ) → at < length flags → NoneBetween flags 0 at → NoneBetween (set flags at false) 0 (at + 1)
-none_more flags at inside before = λ place _ within. elim (cases_lt place at) [
-  | inl low ↦ let other : place ≢ at = omega arith in rw get_or-set_other (before place (omega arith) low)
-  | inr high ↦ let here : place ≡ at = omega arith in ap (λ n. get_or (set flags at false) n false) here ∙ get_or-set_same flags at false false inside
-]
+-- ---- events that are passed
 
 -- events of which none is awake
-pub asleep_before : (p : Plan) (o : Option (List Object)) (xs : List ℕ) (row : List Bool) (n : ℕ) → length row ≡ length xs → EventsHeld p o xs row → NoneBetween row 0 n → TriesHeld p o (gathered (start_try p) (take n xs))
-asleep_before p None xs row n width held asleep = tt
-asleep_before p (Some objects) xs row n width held asleep = gathered_held p (Some objects) (start_try p) (take n xs) (λ i e found.
-    let at = taken xs n i e found in
-    let within : i < length xs = slice_get_within xs i e at.1 in
-    let inside : i < length row = omega arith in
-    held i e at.1 (slice_get-get_or row i false inside ∙ ap (λ b. Some b) (asleep i (omega arith) at.0)))
+asleep_between : (p : Plan) (o : Option (List Object)) (xs : List ℕ) (awake : ℕ → Bool) (from at : ℕ) → EventsHeld p o xs awake → NoneAwake awake from at → TriesHeld p o (gathered (start_try p) (drop from (take at xs)))
+asleep_between p None xs awake from at held none = tt
+asleep_between p (Some objects) xs awake from at held none = gathered_held p (Some objects) (start_try p) (drop from (take at xs)) (λ i e found.
+    let there = taken xs at (from + i) e (dropped (take at xs) from i e found) in
+    let behind : from ≤ from + i = omega arith in
+    held (from + i) e there.1 (none (from + i) behind there.0))
+
+-- they need no look
+pub passed_by : (p : Plan) (xs : List ℕ) (awake : ℕ → Bool) (from at n : ℕ) (a b : Told) → from ≤ at → EventsHeld p a.objects xs awake → NoneAwake awake from at → Looked p (gathered (start_try p) (take from xs)) n a b Nothing
+    → Looked p (gathered (start_try p) (take at xs)) n a b Nothing
+passed_by p xs awake from at n a b le held none before =
+    let same = unchanged_by p _ _ a b before in
+    let asleep = subst (λ o. TriesHeld p o (gathered (start_try p) (drop from (take at xs)))) (sym same.objects) (asleep_between p a.objects xs awake from at held none) in
+    let parts : take from xs ++ drop from (take at xs) ≡ take at xs = ap (λ x. x ++ drop from (take at xs)) (sym (take-take from at xs le)) ∙ take-append-drop from (take at xs) in
+    let tries : gathered (start_try p) (take from xs) ++ gathered (start_try p) (drop from (take at xs)) ≡ gathered (start_try p) (take at xs) =
+    sym (gathered_on (start_try p) (take from xs) (drop from (take at xs))) ∙ ap (gathered (start_try p)) parts in
+    let counted : n + 0 ≡ n = omega arith in
+    looked_as p _ _ _ _ a b Nothing tries counted (looked_on p _ _ n 0 a b b Nothing before (looked_at p _ b b (unchanged_none b) asleep))

@@ -1,6 +1,6 @@
 -- Slots that may sleep: a free task of whose events none may start, a machine whose next phase is held (SWS_RTE: mode machine instance), and
 -- an activation that waits at an exclusive area (SWS_RTE: Rte_Enter) or for an answer (SWS_RTE: Rte_Call).
-use Rattle.std.specs.Prelude.{◌≡◌, ◌+◌, ◌&&◌, ℕ, zero, suc, List, [], ◌∷◌, length, Bool, true, false, if◌then◌else◌, Option, Some, None, slice_get, slice_index_or}
+use Rattle.std.specs.Prelude.{◌≡◌, ◌<◌, ◌≤◌, ◌+◌, ◌&&◌, ℕ, zero, suc, List, [], ◌∷◌, length, Bool, true, false, if◌then◌else◌, Option, Some, None, slice_get, slice_index_or}
 use Rattle.rte_value.specs.declared.kinds.ActKey.{ActKey}
 use Rattle.bus_semantics.specs.declared.entries.Actor.TheVariants.{Act, Machine}
 use Rattle.bus_semantics.specs.Plan.{Plan}
@@ -15,16 +15,35 @@ use Rattle.task_slots.specs.declared.slot.Slot.{Slot}
 use Rattle.task_slots.specs.declared.slot.Slot.TheVariants as slot
 use Rattle.task_slots.specs.declared.slot.Activity.{Activity}
 use Rattle.task_slots.specs.declared.slot.Activity.TheVariants.{Free}
-use Rattle.port_objects.specs.Benches.{Work, IsFurther}
-use Rattle.task_slots.specs.declared.look.Looks.{Looks}
-use Rattle.task_slots.specs.declared.look.Looks.TheVariants as looks
 use Rattle.task_slots.specs.Slots.{asked_by, slot_tries, is_key_of, events_of_slot, waits}
 use Rattle.task_slots.specs.Looking.{AllHeld}
 
+-- ---- events that sleep
+
+-- the events for which these flags stand are awake
+abbrev pub flags : (row : List Bool) → (place : ℕ) → Bool
+flags row i = slice_index_or row i false
+
+-- no event from one place up to another is awake
+abbrev pub NoneAwake : (awake : ℕ → Bool) → (from to : ℕ) → Type 0
+NoneAwake awake from to = (i : ℕ) → from ≤ i → i < to → awake i ≡ false
+
+-- the event at this place is the first of them that is
+pub record IsFirstAwake (awake : ℕ → Bool) (from to at : ℕ) : Type 0 where
+  pub behind : from ≤ at
+  pub within : at < to
+  pub chosen : awake at ≡ true
+  pub none : NoneAwake awake from at
+
+-- the first of them that is, where there is one
+abbrev pub IsNextAwake : (awake : ℕ → Bool) → (from to : ℕ) → Option ℕ → Type 0
+IsNextAwake awake from to None = NoneAwake awake from to
+IsNextAwake awake from to (Some at) = IsFirstAwake awake from to at
+
 -- where a bench tells its objects: no event of one slot that sleeps may start
-abbrev pub EventsHeld : Plan → Option (List Object) → (events : List ℕ) → (row : List Bool) → Type 0
-EventsHeld p None events row = Unit {0}
-EventsHeld p (Some objects) events row = (j e : ℕ) → slice_get events j ≡ Some e → slice_get row j ≡ Some false → AllHeld p objects (start_try p e)
+abbrev pub EventsHeld : Plan → Option (List Object) → (events : List ℕ) → (awake : ℕ → Bool) → Type 0
+EventsHeld p None events awake = Unit {0}
+EventsHeld p (Some objects) events awake = (j e : ℕ) → slice_get events j ≡ Some e → awake j ≡ false → AllHeld p objects (start_try p e)
 
 -- an activation asks to enter the area which is this object
 pub record AsksAt (p : Plan) (t : TaskSet) (key : ActKey) (f : Standing) (object : ℕ) : Type 0 where
@@ -81,23 +100,18 @@ sum_below f zero = 0
 sum_below f (suc n) = sum_below f n + f n
 
 -- one look at the event of a place if it is awake and has an object
-abbrev pub event_looks : Plan → (events : List ℕ) → (row : List Bool) → (place : ℕ) → ℕ
-event_looks p events row i = if slice_index_or row i false && waits p (slice_index_or events i 0) then 1 else 0
+abbrev pub event_looks : Plan → (events : List ℕ) → (awake : ℕ → Bool) → (place : ℕ) → ℕ
+event_looks p events awake i = if awake i && waits p (slice_index_or events i 0) then 1 else 0
 
-abbrev pub row_looks : Plan → (events : List ℕ) → (row : List Bool) → ℕ
-row_looks p events row = sum_below (event_looks p events row) (length events)
+abbrev pub row_looks : Plan → (events : List ℕ) → (awake : ℕ → Bool) → ℕ
+row_looks p events awake = sum_below (event_looks p events awake) (length events)
 
 -- of a free task so many looks; else one
-abbrev pub task_looks_awake : Plan → (events : List ℕ) → (row : List Bool) → Activity → ℕ
-task_looks_awake p events row Free = row_looks p events row
-task_looks_awake p events row a = 1
+abbrev pub task_looks_awake : Plan → (events : List ℕ) → (awake : ℕ → Bool) → Activity → ℕ
+task_looks_awake p events awake Free = row_looks p events awake
+task_looks_awake p events awake a = 1
 
 -- of a slot whose events these are awake
-abbrev pub looks_awake : Plan → Slot → (row : List Bool) → ℕ
-looks_awake p (slot.Task s) row = task_looks_awake p s.events.items row s.activity
-looks_awake p (slot.Machine n) row = 1
-
--- where nothing came, so many looks answered NotYet
-abbrev pub LooksCounted : (looks : ℕ) → (old new : Option Work) → Looks → Type 0
-LooksCounted n old new looks.Nothing = IsFurther old new [] n 0
-LooksCounted n old new r = Unit {0}
+abbrev pub looks_awake : Plan → Slot → (awake : ℕ → Bool) → ℕ
+looks_awake p (slot.Task s) awake = task_looks_awake p s.events.items awake s.activity
+looks_awake p (slot.Machine n) awake = 1

@@ -4,21 +4,20 @@
 mod asking;
 mod direct;
 mod going;
+mod hints;
 mod inside;
 mod look;
 mod looking;
-mod looking_awake;
 mod making;
 mod phasing;
 mod slot;
 mod starting;
-mod starting_awake;
 mod trying;
 mod waiting;
 
+pub use hints::{All, Hints};
 pub use look::Looks;
 pub use looking::look_at;
-pub use looking_awake::look_at_awake;
 pub use slot::{Activity, Call, Slot, TaskSlot};
 pub use waiting::{area_tried, is_free, point_tried};
 

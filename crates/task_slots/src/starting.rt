@@ -7,19 +7,20 @@ ghost use Rattle.rte_value.specs.declared.kinds.ActKey.{ActKey};
 ghost use Rattle.bus_semantics.specs.declared.entries.Actor.TheVariants.{Act};
 ghost use Rattle.bus_semantics.specs.declared.script.Mapping.{Mapping};
 ghost use Rattle.bus_semantics.specs.Plan.{plan_of, runnable_of_event};
-ghost use Rattle.bus_semantics.specs.History.{count};
 ghost use Rattle.bus_semantics.specs.Rest.{gathered, start_try};
 ghost use Rattle.bus_semantics.specs.Sound.{IsSound};
 ghost use Rattle.task_machine.specs.Frames.{IsMadeFor};
 ghost use Rattle.task_slots.specs.declared.slot.Slot.TheVariants as slots;
 ghost use Rattle.task_slots.specs.declared.slot.Activity.TheVariants.{Free};
-ghost use Rattle.task_slots.specs.Slots.{waits, task_tries, task_looks};
+ghost use Rattle.task_slots.specs.Slots.{waits, task_tries};
 ghost use Rattle.task_slots.specs.Ready.{may_be_mapped, IsReadyTask};
 ghost use Rattle.task_slots.specs.Stepping.{BegunBy, SlotLooked};
 ghost use Rattle.task_slots.specs.Look.{IsWrittenLook, look_of};
 ghost use Rattle.task_slots.specs.Looking.{StartBy, Looked};
+ghost use Rattle.task_slots.specs.Waiting.{EventsHeld, row_looks};
 
 use crate::asking::what_is_asked_may_be_tried;
+use crate::hints::Hints;
 use crate::look::Looks;
 use crate::slot::{Activity, TaskSlot};
 use crate::trying::try_wish;
@@ -64,10 +65,11 @@ pub(crate) fn try_event<B: Bench>(
     try_wish(p, &Actor::Act(key), &Wish::Start { event }, bench, made)
 }
 
-/// The first of these events that may start its runnable does so.
-fn start_first<B: Bench>(
+/// The first of the events that are awake that may start its runnable does so. Those before it may fall asleep.
+fn start_first<B: Bench, H: Hints>(
     p: &BusPlan,
     events: &[u32],
+    hints: &mut H,
     bench: &mut B,
     made: &mut Vec<Stamped>,
 ) -> Looks
@@ -76,21 +78,28 @@ fn start_first<B: Bench>(
     requires plan { B.plan bench.old ≡ plan_of p.now }
     requires sound { (m : Mapping) × IsSound (plan_of p.now) m }
     requires there { list_all (may_be_mapped (plan_of p.now)) events.now ≡ true }
+    requires width { H.fits hints.old (length events.now) }
+    requires held { EventsHeld (plan_of p.now) (B.told bench.old).objects events.now (H.awake hints.old) }
     ensures home { B.home bench.new ≡ B.home bench.old }
     ensures plan { B.plan bench.new ≡ B.plan bench.old }
     ensures capacity { vec_capacity made.new ≡ vec_capacity made.old }
     ensures written { IsWrittenLook made.old.items made.new.items result }
     ensures start { StartBy (plan_of p.now) events.now (look_of result made.new.items) }
-    ensures looked { Looked (plan_of p.now) (gathered (start_try (plan_of p.now)) events.now) (count (waits (plan_of p.now)) events.now)
+    ensures looked { Looked (plan_of p.now) (gathered (start_try (plan_of p.now)) events.now) (row_looks (plan_of p.now) events.now (H.awake hints.old))
         (B.told bench.old) (B.told bench.new) (look_of result made.new.items) }
+    ensures width { H.fits hints.new (length events.now) }
+    ensures held { EventsHeld (plan_of p.now) (B.told bench.old).objects events.now (H.awake hints.new) }
 {
     last_entries_are_last();
-    for event in events {
-        match try_event(p, *event, bench, made) {
+    let count = events.len();
+    let mut from = 0;
+    while let Some(at) = hints.next_awake(from, count) {
+        match try_event(p, events[at], bench, made) {
             Looks::Made => return Looks::Made,
-            Looks::Nothing => {}
+            Looks::Nothing => hints.rest(at),
             Looks::Contended(object) => return Looks::Contended(object),
         }
+        from = at + 1;
     }
     Looks::Nothing
 }
@@ -106,11 +115,12 @@ pub(crate) fn begin(t: &TaskSet, slot: &mut TaskSlot, entry: &Entry)
     }
 }
 
-/// A free task starts the first of its events, in order of position, that may.
-pub(crate) fn start_due<B: Bench>(
+/// A free task starts the first of its events that are awake, in order of position, that may.
+pub(crate) fn start_due<B: Bench, H: Hints>(
     p: &BusPlan,
     t: &TaskSet,
     slot: &mut TaskSlot,
+    hints: &mut H,
     bench: &mut B,
     made: &mut Vec<Stamped>,
 ) -> Looks
@@ -120,16 +130,20 @@ pub(crate) fn start_due<B: Bench>(
     requires sound { (m : Mapping) × IsSound (plan_of p.now) m }
     requires ready { IsReadyTask (plan_of p.now) t.now slot.old }
     requires free { slot.old.activity ≡ Free }
+    requires width { H.fits hints.old (length slot.old.events.items) }
+    requires held { EventsHeld (plan_of p.now) (B.told bench.old).objects slot.old.events.items (H.awake hints.old) }
     ensures home { B.home bench.new ≡ B.home bench.old }
     ensures plan { B.plan bench.new ≡ B.plan bench.old }
     ensures capacity { vec_capacity made.new ≡ vec_capacity made.old }
     ensures written { IsWrittenLook made.old.items made.new.items result }
-    ensures looked { Looked (plan_of p.now) (task_tries (plan_of p.now) t.now slot.old) (task_looks (plan_of p.now) slot.old)
+    ensures looked { Looked (plan_of p.now) (task_tries (plan_of p.now) t.now slot.old) (row_looks (plan_of p.now) slot.old.events.items (H.awake hints.old))
         (B.told bench.old) (B.told bench.new) (look_of result made.new.items) }
     ensures slot { SlotLooked (plan_of p.now) t.now (slots.Task slot.old) (slots.Task slot.new) (look_of result made.new.items) }
+    ensures width { H.fits hints.new (length slot.old.events.items) }
+    ensures held { EventsHeld (plan_of p.now) (B.told bench.old).objects slot.old.events.items (H.awake hints.new) }
 {
     what_is_asked_may_be_tried();
-    match start_first(p, slot.events.as_slice(), bench, made) {
+    match start_first(p, slot.events.as_slice(), hints, bench, made) {
         Looks::Made => {
             begin(t, slot, &last_written(made).entry);
             Looks::Made
