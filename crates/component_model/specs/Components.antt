@@ -9,6 +9,7 @@ use Rattle.description_types.specs.declared.component.DisabledInModes.{DisabledI
 use Rattle.description_types.specs.declared.component.Event.{Event}
 use Rattle.description_types.specs.declared.component.EventKind.{EventKind}
 use Rattle.description_types.specs.declared.component.EventKind.TheVariants as event
+use Rattle.description_types.specs.declared.component.ItemPair.{ItemPair}
 use Rattle.description_types.specs.declared.component.ModeActivation.{ModeActivation}
 use Rattle.description_types.specs.declared.component.ModeActivation.TheVariants.{OnEntry, OnExit, OnTransition}
 use Rattle.description_types.specs.declared.component.Variable.{Variable}
@@ -17,7 +18,7 @@ use Rattle.declared_names.specs.declared.scopes.InterfaceNames.{InterfaceNames}
 use Rattle.declared_names.specs.declared.scopes.TypeNames.{TypeNames}
 use Rattle.declared_names.specs.Components.{item_in, mode_in}
 use Rattle.declared_names.specs.Names.{position_in}
-use Rattle.declared_names.specs.Values.{items_at, number_at, text_at, text_in, text_of_part, text_of_part_at}
+use Rattle.declared_names.specs.Values.{items_at, items_in, number_at, text_at, text_in, text_of_part, text_of_part_at}
 use Rattle.component_model.specs.Ports.{init_value_reading}
 use Rattle.program_reading.specs.Words.{access_kind_of}
 
@@ -54,6 +55,14 @@ access_reading interfaces names d = record {
   port = port_of_access names (access_kind_of (text_of_part 0 d)) d;
   item = item_of_access interfaces names (access_kind_of (text_of_part 0 d)) d;
 }
+
+-- an item that a coherent access list names
+abbrev pub pair_reading : InterfaceNames → ComponentNames → Data → ItemPair
+pair_reading interfaces names d = record { port = position_in names.ports (text_of_part 0 d); item = item_in interfaces names (position_in names.ports (text_of_part 0 d)) (text_of_part 1 d) }
+
+-- a coherent access list
+abbrev pub coherent_reading : InterfaceNames → ComponentNames → Data → List ItemPair
+coherent_reading interfaces names d = map (pair_reading interfaces names) (items_in d)
 
 -- the port that an event names, and an item of it
 abbrev pub port_of_event : ComponentNames → Data → ℕ

@@ -8,6 +8,7 @@ use Rattle.description_types.specs.declared.component.Access.{Access}
 use Rattle.description_types.specs.declared.component.Behavior.{Behavior}
 use Rattle.description_types.specs.declared.component.Component.{Component}
 use Rattle.description_types.specs.declared.component.Event.{Event}
+use Rattle.description_types.specs.declared.component.ItemPair.{ItemPair}
 use Rattle.description_types.specs.declared.component.Port.{Port}
 use Rattle.description_types.specs.declared.component.Runnable.{Runnable}
 use Rattle.description_types.specs.declared.component.Variable.{Variable}
@@ -19,7 +20,7 @@ use Rattle.declared_names.specs.Components.{component_names}
 use Rattle.declared_names.specs.Names.{Names, position_in, texts}
 use Rattle.declared_names.specs.Values.{flag_at, items_at, text_at}
 use Rattle.program_reading.specs.Programs.{program_reading}
-use Rattle.component_model.specs.Components.{access_reading, event_reading, item_of_event, port_of_event, variable_reading}
+use Rattle.component_model.specs.Components.{access_reading, coherent_reading, event_reading, item_of_event, port_of_event, variable_reading}
 use Rattle.component_model.specs.Ports.{port_reading}
 
 -- A runnable, a behavior and a component with its programs as trees; all else as it stands.
@@ -27,6 +28,7 @@ pub record RunnableTree : Type 0 where
   pub short_name : List ℕ
   pub can_be_invoked_concurrently : Bool
   pub accesses : List Access
+  pub coherent : List (List ItemPair)
   pub program : ProgramTree
 
 pub record BehaviorTree : Type 0 where
@@ -45,6 +47,7 @@ runnable_tree r = record {
   short_name = r.short_name;
   can_be_invoked_concurrently = r.can_be_invoked_concurrently;
   accesses = r.accesses;
+  coherent = r.coherent;
   program = program_tree (arc_value r.program);
 }
 
@@ -83,6 +86,7 @@ runnable_reading interfaces names events servers d = record {
   short_name = text_at (codes "shortName") d;
   can_be_invoked_concurrently = flag_at (codes "canBeInvokedConcurrently") d;
   accesses = map (access_reading interfaces names) (items_at (codes "accesses") d);
+  coherent = map (coherent_reading interfaces names) (items_at (codes "coherent") d);
   program = program_reading interfaces names (first_names interfaces names (slice_get events (position_in servers (text_at (codes "shortName") d)))) (unwrap_or (get (codes "program") d) null);
 }
 

@@ -4,18 +4,20 @@ ghost use Rattle.std.specs.Prelude.{◌≡◌, IfOk, codes, option_map};
 ghost use Rattle.serde_json.specs.Find.{get};
 ghost use Rattle.serde_json.specs.View.{view};
 ghost use Rattle.declared_names.specs.Components.{mode_in};
-ghost use Rattle.component_model.specs.Components.{access_reading, activation_reading, disabling_modes_reading, disabling_reading, event_kind_reading, event_reading, item_of_access, item_of_event, mode_of_event, port_of_access, port_of_event, variable_reading};
+ghost use Rattle.component_model.specs.Components.{access_reading, activation_reading, coherent_reading, disabling_modes_reading, disabling_reading, event_kind_reading, event_reading, item_of_access, item_of_event, mode_of_event, pair_reading, port_of_access, port_of_event, variable_reading};
 ghost use Rattle.declared_names.specs.Values.{text_in};
 
 use crate::from_value::{FromValue, read_list};
 use crate::port_reading::init_value;
 use declared_names::{
-    InComponent, TypeNames, copy_at, items_at, number_at, text_at, text_in, text_of_part,
+    InComponent, TypeNames, copy_at, items_at, items_in, number_at, text_at, text_in, text_of_part,
     text_of_part_at,
 };
-use description_types::{Access, DisabledInModes, Event, EventKind, ModeActivation, Variable};
+use description_types::{
+    Access, DisabledInModes, Event, EventKind, ItemPair, ModeActivation, Variable,
+};
 use program_reading::access_kind_of;
-use rte_text::Memory;
+use rte_text::{Memory, Seq};
 use runnable_lang::AccessKind;
 use serde_json::Value;
 use std::alloc::Global;
@@ -73,6 +75,34 @@ impl<'s, 'a> FromValue<InComponent<'s, 'a>> for Access {
             port: port_of_access(scope, kind, value),
             item: item_of_access(scope, kind, value),
         })
+    }
+}
+
+impl<'s, 'a> FromValue<InComponent<'s, 'a>> for ItemPair {
+    ghost reading = { λ s d. pair_reading s.interfaces.now s.names.now d };
+
+    fn from_value(
+        _alloc: Global,
+        scope: &InComponent<'s, 'a>,
+        value: &Value,
+    ) -> Result<ItemPair, Memory> {
+        let port = scope.port(text_of_part(value, 0));
+        Ok(ItemPair {
+            port,
+            item: scope.item(port, text_of_part(value, 1)),
+        })
+    }
+}
+
+impl<'s, 'a> FromValue<InComponent<'s, 'a>> for Seq<ItemPair> {
+    ghost reading = { λ s d. coherent_reading s.interfaces.now s.names.now d };
+
+    fn from_value(
+        alloc: Global,
+        scope: &InComponent<'s, 'a>,
+        value: &Value,
+    ) -> Result<Seq<ItemPair>, Memory> {
+        read_list(alloc, scope, items_in(value))
     }
 }
 

@@ -71,12 +71,16 @@ fn read_runnable(
         ≡ runnable_reading scope.now.interfaces.now scope.now.names.now (map seen servers.now.events.items) servers.now.runnables (view value.now)) }
 {
     let short_name = copy_at(alloc, value, "shortName")?;
-    let accesses = read_list(alloc, scope, items_at(value, "accesses"))?;
+    let accessed = items_at(value, "accesses");
+    let listed = items_at(value, "coherent");
+    let accesses = read_list(alloc, scope, accessed)?;
+    let coherent = read_list(alloc, scope, listed)?;
     let program = program(alloc, scope, servers, value)?;
     Ok(Runnable {
         short_name,
         can_be_invoked_concurrently: flag_at(value, "canBeInvokedConcurrently"),
         accesses,
+        coherent,
         program,
     })
 }

@@ -2,3 +2,4 @@ pub mod Firsts
 pub mod Tallying
 pub mod Passing
 pub mod Modes
+pub mod Spending

@@ -9,6 +9,7 @@ ghost use Rattle.plan_definitions.specs.WellFormed.{types_fit};
 
 use crate::accesses::misfit;
 use crate::calls::mixed;
+use crate::coherent::incoherent;
 use crate::events::{misplaced, wrongly_disabled};
 use crate::invocations::wrongly_served;
 use crate::places::{program_text, spot_text};
@@ -28,6 +29,7 @@ fn number_of(rule: ComponentRule) -> u16
         ComponentRule::Invocations => 22,
         ComponentRule::Calls => 23,
         ComponentRule::Disablings => 24,
+        ComponentRule::CoherentLists => 31,
     }
 }
 
@@ -45,6 +47,7 @@ fn broken_in(
         ComponentRule::Invocations => wrongly_served(alloc, types, component),
         ComponentRule::Calls => mixed(alloc, component),
         ComponentRule::Disablings => Ok(wrongly_disabled(types, component)),
+        ComponentRule::CoherentLists => incoherent(alloc, types, component),
     }
 }
 
@@ -143,4 +146,16 @@ pub fn check_components(alloc: Global, d: &Description) -> Result<(), Refused>
     check_rule(alloc, ComponentRule::Accesses, d)?;
     check_programs(alloc, d)?;
     check_events(alloc, d)
+}
+
+/// Whether the coherent access lists of each component, used or not, fit (31, at the list): a list has 2 to 16 items with at most 16
+/// words, each of which comes once in the lists of its runnable; its runnable reads all of them implicitly, or writes all of them
+/// so. An error names the first list in the order of the document that does not. This rule comes after those on the mapping and on
+/// the size of the plan, and so apart.
+///
+/// An error of `Memory` may come at any time.
+pub fn check_coherent(alloc: Global, d: &Description) -> Result<(), Refused>
+    ensures { Tells (of_rule rules.CoherentLists d.now) result }
+{
+    check_rule(alloc, ComponentRule::CoherentLists, d)
 }

@@ -5,6 +5,7 @@
 mod accesses;
 mod calls;
 mod check;
+mod coherent;
 mod events;
 mod invocations;
 mod items;
@@ -13,5 +14,5 @@ mod programs;
 mod signatures;
 mod tally;
 
-pub use check::check_components;
+pub use check::{check_coherent, check_components};
 pub use signatures::signature_of;

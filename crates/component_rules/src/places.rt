@@ -51,6 +51,20 @@ fn access_text(
     Ok(text)
 }
 
+fn list_text(
+    alloc: Global,
+    component: usize,
+    runnable: usize,
+    list: usize,
+) -> Result<Vec<u8>, Memory>
+    ensures { IfOk result (λ text. text.items ≡ spot_text component (Spot.List runnable list)) }
+{
+    let mut text = runnable_text(alloc, component, runnable)?;
+    text.extend_from_slice("/coherent/".as_bytes())?;
+    put_number(&mut text, list)?;
+    Ok(text)
+}
+
 /// The JSON pointer of a place in a component.
 pub fn spot_text(alloc: Global, component: usize, spot: Spot) -> Result<Text, Memory>
     ensures { IfOk result (λ text. text ≡ spot_text component spot) }
@@ -59,6 +73,7 @@ pub fn spot_text(alloc: Global, component: usize, spot: Spot) -> Result<Text, Me
         Spot::Port(port) => in_component(alloc, component, "/ports/", port)?,
         Spot::Access { runnable, access } => access_text(alloc, component, runnable, access)?,
         Spot::Event(event) => in_component(alloc, component, "/behavior/events/", event)?,
+        Spot::List { runnable, list } => list_text(alloc, component, runnable, list)?,
     };
     Ok(Text::of(text))
 }

@@ -1,10 +1,10 @@
 //! The signatures of runnables.
 
-ghost use Rattle.std.specs.Prelude.{◌≡◌, ◌++◌, IfOk, OnOk, replicate, true, option_copied};
-ghost use Rattle.plan_definitions.specs.Signatures.{limits_of, words_of, goes, arguments_of, words_of_item, kind_at, words_at, words_of_variable, given, taken, mode_count, modes_of, access_sig, signature};
+ghost use Rattle.std.specs.Prelude.{◌≡◌, ◌++◌, IfOk, OnOk, replicate, true};
+ghost use Rattle.plan_definitions.specs.Signatures.{limits_of, words_of, goes, arguments_of, words_of_item, words_at, words_of_variable, given, taken, mode_count, modes_of, access_sig, signature};
 ghost use Rattle.plan_definitions.specs.WellFormed.{types_fit};
 
-use crate::items::item_at;
+use crate::items::{item_at, kind_at};
 use description_types::{Access, Component};
 use interface_types::{Argument, DataType, Direction, InterfaceKind, TypeTable};
 use plan_definitions::Item;
@@ -78,14 +78,6 @@ fn words_of_item(
         },
         InterfaceKind::ModeSwitch(_) => Ok(Vec::new(alloc)),
     }
-}
-
-fn kind_at<'a>(types: &'a TypeTable, component: &Component, port: u32) -> Option<&'a InterfaceKind>
-    ensures { option_copied result ≡ kind_at types.now component.now port }
-{
-    let found = component.ports.items().get(port as usize)?;
-    let interface = types.interfaces.items().get(found.interface as usize)?;
-    Some(&interface.kind)
 }
 
 fn words_at(

@@ -443,7 +443,7 @@ module _ (ds : List Declared) (vars : Names) where
 -- the program of a runnable
 pub program_law : (ds : List Declared) (interfaces : InterfaceNames) (names : ComponentNames) (first : Names) (x : Data) (s : Spot) → Kept ds x of_kind.Runnable s
     → is_well_formed (program_reading interfaces names first (unwrap_or (get (codes "program") x) null)) ≡ true
-program_law ds interfaces names first x s kept = from_value (optional_value ds x of_kind.Runnable s 3 (optional "program" of_kind.Statements) refl refl kept)
+program_law ds interfaces names first x s kept = from_value (optional_value ds x of_kind.Runnable s 4 (optional "program" of_kind.Statements) refl refl kept)
   where
     from_value : (get (codes "program") x ≡ None) ⊎ Value ds x of_kind.Runnable s (optional "program" of_kind.Statements) → is_well_formed (program_reading interfaces names first (unwrap_or (get (codes "program") x) null)) ≡ true
     from_value (inl e) = ap (λ o. is_well_formed (program_reading interfaces names first (unwrap_or o null))) e

@@ -6,7 +6,7 @@ use Rattle.std.proofs.lemmas.Grind.{flat_map-append}
 use Rattle.std.proofs.lemmas.List.Folds.{list_all-append}
 use Rattle.serde_json.specs.Data.{Data, null, boolean, number, string, array, object, Items, no_items, item, Members, no_members, member}
 use Rattle.description_places.specs.declared.kind.Kind.{Kind}
-use Rattle.description_places.specs.declared.kind.Kind.TheVariants.{Anything, Description, DataType, ModeGroup, SenderReceiverInterface, ClientServerInterface, ModeSwitchInterface, UnknownInterface, DataElement, Operation, Argument, OperationError, ModeElement, Component, Port, ComSpec, Variable, Runnable, TimingEvent, InitEvent, DataReceivedEvent, OperationInvokedEvent, CallReturnsEvent, ModeSwitchEvent, ModeTransitionEvent, ModeSwitchAckEvent, UnknownEvent, Composition, Prototype, Task, MappedEvent, Interface, Event, Connector, Access, Statement, Expression, DataElements, Operations, Compositions, PortOfPrototype, ItemAccess, VariableAccess, PortAccess, AreaAccess, SetStatement, IfStatement, RepeatStatement, AreaStatement, GivingStatement, TakingStatement, ItemStatement, LateWrite, EarlyRead, VariableWrite, VariableRead, CallStatement, SwitchStatement, ModeStatement, Operator, DeclaredName, DeclaredMode, DeclaredArea, ComSpecItem, Position, UnknownAccess, UnknownStatement, UnknownExpression, UnknownConnector}
+use Rattle.description_places.specs.declared.kind.Kind.TheVariants.{Anything, Description, DataType, ModeGroup, SenderReceiverInterface, ClientServerInterface, ModeSwitchInterface, UnknownInterface, DataElement, Operation, Argument, OperationError, ModeElement, Component, Port, ComSpec, Variable, Runnable, TimingEvent, InitEvent, DataReceivedEvent, OperationInvokedEvent, CallReturnsEvent, ModeSwitchEvent, ModeTransitionEvent, ModeSwitchAckEvent, UnknownEvent, Composition, Prototype, Task, MappedEvent, Interface, Event, Connector, Access, Statement, Expression, DataElements, Operations, Compositions, PortOfPrototype, ItemAccess, VariableAccess, PortAccess, AreaAccess, ItemPair, SetStatement, IfStatement, RepeatStatement, AreaStatement, GivingStatement, TakingStatement, ItemStatement, LateWrite, EarlyRead, VariableWrite, VariableRead, CallStatement, SwitchStatement, ModeStatement, Operator, DeclaredName, DeclaredMode, DeclaredArea, ComSpecItem, Position, UnknownAccess, UnknownStatement, UnknownExpression, UnknownConnector}
 use Rattle.description_places.specs.Alternatives.{Choice, choices_of, kind_of, pick_if, word_at, first_word, by_activation, resolved}
 use Rattle.description_places.specs.Around.{owner_of}
 use Rattle.description_places.specs.Declarations.{Declared, declarations, declared_by, list_of_object}
@@ -96,6 +96,7 @@ parts_fine ItemAccess owner i h = row_fine (λ k. is_fine k ItemAccess 2) (row_o
 parts_fine VariableAccess owner i h = row_fine (λ k. is_fine k VariableAccess 2) (row_of VariableAccess) i refl refl
 parts_fine PortAccess owner i h = row_fine (λ k. is_fine k PortAccess 2) (row_of PortAccess) i refl refl
 parts_fine AreaAccess owner i h = row_fine (λ k. is_fine k AreaAccess 2) (row_of AreaAccess) i refl refl
+parts_fine ItemPair owner i h = row_fine (λ k. is_fine k ItemPair 1) (row_of ItemPair) i refl refl
 parts_fine SetStatement owner i h = row_fine (λ k. is_fine k SetStatement 1) (row_of SetStatement) i refl refl
 parts_fine IfStatement owner i h = row_fine (λ k. is_fine k IfStatement 1) (row_of IfStatement) i refl refl
 parts_fine RepeatStatement owner i h = row_fine (λ k. is_fine k RepeatStatement 1) (row_of RepeatStatement) i refl refl

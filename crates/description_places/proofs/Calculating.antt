@@ -279,6 +279,7 @@ module _ (ds : List Declared) where
   finds kind.ComSpecItem d around h = absurd (false≢true h)
   finds kind.EventItem d around h = absurd (false≢true h)
   finds kind.AccessItem d around h = absurd (false≢true h)
+  finds kind.PairItem d around h = absurd (false≢true h)
   finds kind.JoinedPrototype d around h = absurd (false≢true h)
   finds kind.JoinedPort d around h = absurd (false≢true h)
   finds kind.CoreNumber d around h = absurd (false≢true h)

@@ -2,7 +2,7 @@
 use Rattle.std.proofs.Common.{◌≡◌, List, [], ◌∷◌, ◌++◌, ℕ, map, Bool, true, false, not, cond, bytes_eq, Option, Some, None, option_map, is_some, codes, refl, ap, ◌∙◌}
 use Rattle.serde_json.specs.Data.{Data}
 use Rattle.description_places.specs.declared.kind.Kind.{Kind}
-use Rattle.description_places.specs.declared.kind.Kind.TheVariants.{TypeName, GroupName, InterfaceName, PrototypeTypeName, RootName, TaskName, InitialMode, RunnableName, ComponentPort, OuterPort, AreaName, VariableName, ComSpecItem, EventItem, AccessItem, JoinedPrototype, JoinedPort}
+use Rattle.description_places.specs.declared.kind.Kind.TheVariants.{TypeName, GroupName, InterfaceName, PrototypeTypeName, RootName, TaskName, InitialMode, RunnableName, ComponentPort, OuterPort, AreaName, VariableName, ComSpecItem, EventItem, AccessItem, PairItem, JoinedPrototype, JoinedPort}
 use Rattle.description_places.specs.Around.{text_in, text_at, text_part, named, place_at, value_at}
 use Rattle.description_places.specs.Declarations.{Declared}
 use Rattle.description_places.specs.Gathered.{without_place}
@@ -68,6 +68,7 @@ module _ (ds : List Declared) where
   found ComSpecItem d around = interface (text_in d) (named (codes "/interfaces") (text_at (codes "interface") (value_at 2 around)))
   found EventItem d around = port (text_in d) (key_around (codes "/ports") (text_at (codes "port") (value_at 0 around)) around)
   found AccessItem d around = port (text_in d) (key_around (codes "/ports") (text_part 1 (value_at 0 around)) around)
+  found PairItem d around = port (text_in d) (key_around (codes "/ports") (text_part 0 (value_at 0 around)) around)
   found JoinedPort d around = prototype (text_in d) (key_around (codes "/prototypes") (text_part 0 (value_at 0 around)) around)
   found _ d around = refl
 

@@ -2,7 +2,7 @@
 use Rattle.description_places.specs.declared.form.Form.{Form}
 use Rattle.description_places.specs.declared.form.Form.TheVariants as form
 use Rattle.description_places.specs.declared.kind.Kind.{Kind}
-use Rattle.description_places.specs.declared.kind.Kind.TheVariants.{Anything, DataType, ModeGroup, DataElement, Operation, Argument, OperationError, Component, Port, ComSpec, Variable, Runnable, Composition, Prototype, Task, MappedEvent, Interface, Event, Connector, Access, Statement, Expression, DataTypes, ModeGroups, DeclaredModes, Interfaces, DataElements, Operations, Arguments, OperationErrors, Components, Ports, ComSpecs, Words, DeclaredAreas, Variables, Runnables, Accesses, Statements, Events, OneMode, TwoModes, SomeModes, Compositions, Prototypes, Connectors, Tasks, MappedEvents, Expressions, LocalNames, PortOfPrototype, ItemAccess, VariableAccess, PortAccess, AreaAccess, UnknownAccess, SetStatement, IfStatement, RepeatStatement, AreaStatement, GivingStatement, TakingStatement, ItemStatement, LateWrite, EarlyRead, VariableWrite, VariableRead, CallStatement, SwitchStatement, ModeStatement, UnknownStatement, Operator, UnknownExpression, DeclaredName, DeclaredMode, DeclaredArea, RootName, InitialMode, TypeName, GroupName, InterfaceName, ComSpecItem, RunnableName, ComponentPort, EventItem, AccessItem, AreaName, VariableName, ModeName, PrototypeTypeName, JoinedPrototype, JoinedPort, OuterPort, TaskName, EventName, LocalName, InstancePath, BaseType, Policy, Direction, PortKind, InterfaceKind, EventKind, ConnectorKind, Activation, Limit, Word, CoreNumber, Constant, WordCount, ErrorNumber, QueueLength, Period, CoreCount, Position, RepeatCount, Flag}
+use Rattle.description_places.specs.declared.kind.Kind.TheVariants.{Anything, DataType, ModeGroup, DataElement, Operation, Argument, OperationError, Component, Port, ComSpec, Variable, Runnable, Composition, Prototype, Task, MappedEvent, Interface, Event, Connector, Access, Statement, Expression, DataTypes, ModeGroups, DeclaredModes, Interfaces, DataElements, Operations, Arguments, OperationErrors, Components, Ports, ComSpecs, Words, DeclaredAreas, Variables, Runnables, Accesses, CoherentLists, CoherentList, Statements, Events, OneMode, TwoModes, SomeModes, Compositions, Prototypes, Connectors, Tasks, MappedEvents, Expressions, LocalNames, PortOfPrototype, ItemAccess, VariableAccess, PortAccess, AreaAccess, UnknownAccess, ItemPair, SetStatement, IfStatement, RepeatStatement, AreaStatement, GivingStatement, TakingStatement, ItemStatement, LateWrite, EarlyRead, VariableWrite, VariableRead, CallStatement, SwitchStatement, ModeStatement, UnknownStatement, Operator, UnknownExpression, DeclaredName, DeclaredMode, DeclaredArea, RootName, InitialMode, TypeName, GroupName, InterfaceName, ComSpecItem, RunnableName, ComponentPort, EventItem, AccessItem, PairItem, AreaName, VariableName, ModeName, PrototypeTypeName, JoinedPrototype, JoinedPort, OuterPort, TaskName, EventName, LocalName, InstancePath, BaseType, Policy, Direction, PortKind, InterfaceKind, EventKind, ConnectorKind, Activation, Limit, Word, CoreNumber, Constant, WordCount, ErrorNumber, QueueLength, Period, CoreCount, Position, RepeatCount, Flag}
 
 -- what a value of the kind is: a kind that is not named here is an object
 abbrev pub form_of : Kind → Form
@@ -23,6 +23,8 @@ form_of DeclaredAreas = form.List DeclaredArea
 form_of Variables = form.List Variable
 form_of Runnables = form.List Runnable
 form_of Accesses = form.List Access
+form_of CoherentLists = form.List CoherentList
+form_of CoherentList = form.List ItemPair
 form_of Statements = form.List Statement
 form_of Events = form.List Event
 form_of OneMode = form.Counted 1 1 ModeName
@@ -40,6 +42,7 @@ form_of ItemAccess = form.Row
 form_of VariableAccess = form.Row
 form_of PortAccess = form.Row
 form_of AreaAccess = form.Row
+form_of ItemPair = form.Row
 form_of SetStatement = form.Row
 form_of IfStatement = form.Row
 form_of RepeatStatement = form.Row
@@ -71,6 +74,7 @@ form_of RunnableName = form.Name
 form_of ComponentPort = form.Name
 form_of EventItem = form.Name
 form_of AccessItem = form.Name
+form_of PairItem = form.Name
 form_of AreaName = form.Name
 form_of VariableName = form.Name
 form_of ModeName = form.Name

@@ -4,7 +4,7 @@ use Rattle.std.specs.List.{find}
 use Rattle.serde_json.specs.Data.{Data}
 use Rattle.serde_json.specs.Find.{as_number, as_u64}
 use Rattle.description_places.specs.declared.kind.Kind.{Kind}
-use Rattle.description_places.specs.declared.kind.Kind.TheVariants.{Composition, TypeName, GroupName, InterfaceName, PrototypeTypeName, RootName, TaskName, InitialMode, RunnableName, ComponentPort, OuterPort, AreaName, VariableName, ComSpecItem, EventItem, AccessItem, JoinedPrototype, JoinedPort, CoreNumber}
+use Rattle.description_places.specs.declared.kind.Kind.TheVariants.{Composition, TypeName, GroupName, InterfaceName, PrototypeTypeName, RootName, TaskName, InitialMode, RunnableName, ComponentPort, OuterPort, AreaName, VariableName, ComSpecItem, EventItem, AccessItem, PairItem, JoinedPrototype, JoinedPort, CoreNumber}
 use Rattle.description_places.specs.Around.{text_in, text_at, text_part, number_at, named, place_at, value_at, component_around}
 use Rattle.description_places.specs.Declarations.{Declared, has_key}
 use Rattle.description_places.specs.Shape.{holds}
@@ -54,7 +54,7 @@ abbrev pub is_core : Data → Data → Bool
 is_core mapping d = holds (λ n. nat_lt n (number_at (codes "cores") mapping)) (option_and_then as_u64 (as_number d))
 
 -- What a value of the kind refers to is declared. An item is named beside its port: by an event under the key `port`, by an
--- access or a statement in the part before, and by a com spec in that port; a port of a prototype in the part after it.
+-- access, a statement or a coherent list in the part before, and by a com spec in that port; a port of a prototype in the part after it.
 abbrev pub is_found : List Declared → Kind → Data → List Level → Bool
 is_found ds TypeName d around = is_declared ds (named (codes "/dataTypes") (text_in d))
 is_found ds GroupName d around = is_declared ds (named (codes "/modeGroups") (text_in d))
@@ -72,6 +72,7 @@ is_found ds JoinedPrototype d around = is_declared ds (key_around (codes "/proto
 is_found ds ComSpecItem d around = interface_has ds (text_in d) (named (codes "/interfaces") (text_at (codes "interface") (value_at 2 around)))
 is_found ds EventItem d around = port_has ds (text_in d) (key_around (codes "/ports") (text_at (codes "port") (value_at 0 around)) around)
 is_found ds AccessItem d around = port_has ds (text_in d) (key_around (codes "/ports") (text_part 1 (value_at 0 around)) around)
+is_found ds PairItem d around = port_has ds (text_in d) (key_around (codes "/ports") (text_part 0 (value_at 0 around)) around)
 is_found ds JoinedPort d around = prototype_has ds (text_in d) (key_around (codes "/prototypes") (text_part 0 (value_at 0 around)) around)
 is_found ds CoreNumber d around = is_core (value_at 2 around) d
 is_found ds _ d around = true

@@ -2,7 +2,7 @@
 use Rattle.std.specs.Prelude.{ℕ, List, [], ◌∷◌, codes}
 use Rattle.std.specs.Borrow.{Bor}
 use Rattle.description_places.specs.declared.kind.Kind.{Kind}
-use Rattle.description_places.specs.declared.kind.Kind.TheVariants.{Anything, Expression, Statements, Expressions, LocalNames, PortOfPrototype, ItemAccess, VariableAccess, PortAccess, AreaAccess, SetStatement, IfStatement, RepeatStatement, AreaStatement, GivingStatement, TakingStatement, ItemStatement, LateWrite, EarlyRead, VariableWrite, VariableRead, CallStatement, SwitchStatement, ModeStatement, Operator, ComponentPort, AccessItem, AreaName, VariableName, ModeName, JoinedPrototype, JoinedPort, LocalName, BaseType, Policy, Direction, PortKind, InterfaceKind, EventKind, ConnectorKind, Activation, RepeatCount}
+use Rattle.description_places.specs.declared.kind.Kind.TheVariants.{Anything, Expression, Statements, Expressions, LocalNames, PortOfPrototype, ItemAccess, VariableAccess, PortAccess, AreaAccess, ItemPair, SetStatement, IfStatement, RepeatStatement, AreaStatement, GivingStatement, TakingStatement, ItemStatement, LateWrite, EarlyRead, VariableWrite, VariableRead, CallStatement, SwitchStatement, ModeStatement, Operator, ComponentPort, AccessItem, PairItem, AreaName, VariableName, ModeName, JoinedPrototype, JoinedPort, LocalName, BaseType, Policy, Direction, PortKind, InterfaceKind, EventKind, ConnectorKind, Activation, RepeatCount}
 
 -- what the parts of an array are, the first of a statement, access or operator its keyword
 abbrev pub row_of : Kind → List Kind
@@ -11,6 +11,7 @@ row_of ItemAccess = Anything ∷ ComponentPort ∷ AccessItem ∷ []
 row_of VariableAccess = Anything ∷ VariableName ∷ []
 row_of PortAccess = Anything ∷ ComponentPort ∷ []
 row_of AreaAccess = Anything ∷ AreaName ∷ []
+row_of ItemPair = ComponentPort ∷ PairItem ∷ []
 row_of SetStatement = Anything ∷ LocalName ∷ Expression ∷ []
 row_of IfStatement = Anything ∷ Expression ∷ Statements ∷ Statements ∷ []
 row_of RepeatStatement = Anything ∷ RepeatCount ∷ Statements ∷ []

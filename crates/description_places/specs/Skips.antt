@@ -4,7 +4,7 @@ use Rattle.serde_json.specs.Data.{Data}
 use Rattle.description_places.specs.declared.form.Form.{Form}
 use Rattle.description_places.specs.declared.form.Form.TheVariants as form
 use Rattle.description_places.specs.declared.kind.Kind.{Kind}
-use Rattle.description_places.specs.declared.kind.Kind.TheVariants.{DeclaredName, DeclaredMode, DeclaredArea, ComSpecItem, Position, TypeName, GroupName, InterfaceName, PrototypeTypeName, RootName, TaskName, InitialMode, RunnableName, ComponentPort, OuterPort, AreaName, VariableName, EventItem, AccessItem, JoinedPrototype, JoinedPort, CoreNumber}
+use Rattle.description_places.specs.declared.kind.Kind.TheVariants.{DeclaredName, DeclaredMode, DeclaredArea, ComSpecItem, Position, TypeName, GroupName, InterfaceName, PrototypeTypeName, RootName, TaskName, InitialMode, RunnableName, ComponentPort, OuterPort, AreaName, VariableName, EventItem, AccessItem, PairItem, JoinedPrototype, JoinedPort, CoreNumber}
 use Rattle.description_places.specs.Forms.{form_of}
 use Rattle.description_places.specs.Spots.{Spot}
 use Rattle.description_places.specs.Visits.{Visit, visits, first_broken}
@@ -48,6 +48,7 @@ is_referring_kind VariableName = true
 is_referring_kind ComSpecItem = true
 is_referring_kind EventItem = true
 is_referring_kind AccessItem = true
+is_referring_kind PairItem = true
 is_referring_kind JoinedPrototype = true
 is_referring_kind JoinedPort = true
 is_referring_kind CoreNumber = true

@@ -56,6 +56,8 @@ pub fn form_of(kind: Kind) -> Form
         Kind::Variables => Form::List(Kind::Variable),
         Kind::Runnables => Form::List(Kind::Runnable),
         Kind::Accesses => Form::List(Kind::Access),
+        Kind::CoherentLists => Form::List(Kind::CoherentList),
+        Kind::CoherentList => Form::List(Kind::ItemPair),
         Kind::Statements => Form::List(Kind::Statement),
         Kind::Events => Form::List(Kind::Event),
         Kind::OneMode => Form::Counted(1, 1, Kind::ModeName),
@@ -73,6 +75,7 @@ pub fn form_of(kind: Kind) -> Form
         | Kind::VariableAccess
         | Kind::PortAccess
         | Kind::AreaAccess
+        | Kind::ItemPair
         | Kind::SetStatement
         | Kind::IfStatement
         | Kind::RepeatStatement
@@ -102,6 +105,7 @@ pub fn form_of(kind: Kind) -> Form
         | Kind::ComponentPort
         | Kind::EventItem
         | Kind::AccessItem
+        | Kind::PairItem
         | Kind::AreaName
         | Kind::VariableName
         | Kind::ModeName

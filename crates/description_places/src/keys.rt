@@ -140,6 +140,7 @@ pub fn keys_of(kind: Kind) -> &'static [Field]
             needed!("shortName", DeclaredName),
             optional!("canBeInvokedConcurrently", Flag),
             optional!("accesses", Accesses),
+            optional!("coherent", CoherentLists),
             optional!("program", Statements),
         ],
         Kind::TimingEvent => &[

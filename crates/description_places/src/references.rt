@@ -265,6 +265,7 @@ fn is_found(
             trail,
         ),
         Kind::AccessItem => port_around_has(alloc, declared, name, part_around(trail, 1), trail),
+        Kind::PairItem => port_around_has(alloc, declared, name, part_around(trail, 0), trail),
         Kind::JoinedPort => prototype_around_has(alloc, declared, name, trail),
         Kind::CoreNumber => Ok(is_core(value, trail)),
         _ => Ok(true),

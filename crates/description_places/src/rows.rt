@@ -15,6 +15,7 @@ pub fn row_of(kind: Kind) -> &'static [Kind]
         Kind::VariableAccess => &[Kind::Anything, Kind::VariableName],
         Kind::PortAccess => &[Kind::Anything, Kind::ComponentPort],
         Kind::AreaAccess => &[Kind::Anything, Kind::AreaName],
+        Kind::ItemPair => &[Kind::ComponentPort, Kind::PairItem],
         Kind::SetStatement => &[Kind::Anything, Kind::LocalName, Kind::Expression],
         Kind::IfStatement => &[
             Kind::Anything,

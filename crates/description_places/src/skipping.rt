@@ -48,6 +48,7 @@ fn is_referring_kind(kind: Kind) -> bool
         | Kind::ComSpecItem
         | Kind::EventItem
         | Kind::AccessItem
+        | Kind::PairItem
         | Kind::JoinedPrototype
         | Kind::JoinedPort
         | Kind::CoreNumber => true,

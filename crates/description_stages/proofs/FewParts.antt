@@ -23,7 +23,7 @@ use Rattle.declared_names.specs.Scopes.{scope_of}
 use Rattle.declared_names.specs.Sizes.{AreFew, size, sizes}
 use Rattle.declared_names.specs.Values.{items_at, text_at, text_in}
 use Rattle.declared_names.proofs.Sizes.{at_size, get_size, length_sizes, some}
-use Rattle.component_model.specs.Components.{access_reading, event_reading, variable_reading}
+use Rattle.component_model.specs.Components.{access_reading, coherent_reading, event_reading, variable_reading}
 use Rattle.component_model.specs.Compositions.{composition_reading}
 use Rattle.component_model.specs.Descriptions.{DescriptionTree, description_of}
 use Rattle.component_model.specs.Ports.{port_reading}
@@ -77,6 +77,16 @@ accesses_of interfaces names events servers (r ∷ rs) (d ∷ ds) are =
     let rest : map runnable_tree rs ≡ map (runnable_reading interfaces names events servers) ds = cc in
     omega (arith, many_at (access_reading interfaces names) (codes "accesses") d r.accesses (ap (λ (t : RunnableTree). t.accesses) first), accesses_of interfaces names events servers rs ds rest)
 
+-- their coherent access lists
+lists_of : (interfaces : InterfaceNames) (names : ComponentNames) (events : List Data) (servers : Names) (rs : List Runnable) (ds : List Data) → map runnable_tree rs ≡ map (runnable_reading interfaces names events servers) ds
+    → sum_of (λ (r : Runnable). length r.coherent) rs ≤ sizes ds
+lists_of interfaces names events servers [] ds are = omega arith
+lists_of interfaces names events servers (r ∷ rs) [] are = cc
+lists_of interfaces names events servers (r ∷ rs) (d ∷ ds) are =
+    let first : runnable_tree r ≡ runnable_reading interfaces names events servers d = cc in
+    let rest : map runnable_tree rs ≡ map (runnable_reading interfaces names events servers) ds = cc in
+    omega (arith, many_at (coherent_reading interfaces names) (codes "coherent") d r.coherent (ap (λ (t : RunnableTree). t.coherent) first), lists_of interfaces names events servers rs ds rest)
+
 few_inside : (scope : Scope) (e : Data) (c : Component) → component_reading scope e ≡ component_tree c → size e < 2 ^ 22 → HasFewInside c
 few_inside scope e c is small =
     let b = behavior_in e in
@@ -90,11 +100,13 @@ few_inside scope e c is small =
     (omega (arith, inside, small, many_at (event_reading scope.interfaces names) (codes "events") b c.behavior.events (ap (λ (t : ComponentTree). t.behavior.events) (sym is))))
     (omega (arith, inside, small, many_at text_in (codes "exclusiveAreas") b c.behavior.exclusive_areas (ap (λ (t : ComponentTree). t.behavior.exclusive_areas) (sym is)))) in
     let reached : sum_of (λ (r : Runnable). length r.accesses) c.behavior.runnables < 2 ^ 22 = omega (arith, inside, small, accesses_of scope.interfaces names events (runnable_names events) c.behavior.runnables rs runnables, at_size (codes "runnables") b) in
+    let listed : sum_of (λ (r : Runnable). length r.coherent) c.behavior.runnables < 2 ^ 22 = omega (arith, inside, small, lists_of scope.interfaces names events (runnable_names events) c.behavior.runnables rs runnables, at_size (codes "runnables") b) in
     record {
       ports = omega (arith, small, many_at (port_reading scope.interfaces) (codes "ports") e c.ports (ap (λ (t : ComponentTree). t.ports) (sym is)));
       variables = omega (arith, inside, small, many_at (variable_reading scope.types) (codes "variables") b c.behavior.variables (ap (λ (t : ComponentTree). t.behavior.variables) (sym is)));
       parts = each;
       accesses = reached;
+      lists = listed;
     }
   where
     by : (part : Part) → length c.behavior.runnables < 2 ^ 22 → length c.behavior.events < 2 ^ 22 → length c.behavior.exclusive_areas < 2 ^ 22 → counted part c < 2 ^ 22

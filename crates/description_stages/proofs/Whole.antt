@@ -1,5 +1,5 @@
 -- The stages of a description put together.
-use Rattle.std.proofs.Common.{◌≡◌, ◌<◌, ◌^◌, ℕ, sym, subst, length, List}
+use Rattle.std.proofs.Common.{◌<◌, ◌^◌, ℕ, sym, subst, length, List}
 use Rattle.description_types.specs.declared.description.Description.{Description}
 use Rattle.component_model.specs.Descriptions.{description_of}
 use Rattle.component_model.specs.Refusals.{IsRead}

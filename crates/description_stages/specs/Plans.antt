@@ -1,4 +1,4 @@
--- What the stages of a description give to their end: rules 1 to 30, and the plan and the mapping.
+-- What the stages of a description give to their end: rules 1 to 31, and the plan and the mapping.
 use Rattle.std.specs.Prelude.{◌≡◌, ℕ, List, Option, Some, None, ◌⊎◌}
 use Rattle.rte_text.specs.declared.refusal.Refused.{Refused}
 use Rattle.rte_text.specs.declared.refusal.Refused.TheVariants.{Rule, Memory}
@@ -16,7 +16,7 @@ use Rattle.description_stages.specs.declared.planning.PlannedDescription.{Planne
 use Rattle.description_stages.specs.Stages.{IsJoinedOf}
 use Rattle.description_stages.specs.Stages as joining
 
--- the plan and the mapping of a joined description, which breaks none of rules 16 to 30
+-- the plan and the mapping of a joined description, which breaks none of rules 16 to 31
 pub record IsPlannedFrom (j : JoinedDescription) (x : PlannedDescription) : Type 0 where
   pub description : x.description ≡ j.description
   pub flat : x.flat ≡ j.flat
@@ -25,7 +25,7 @@ pub record IsPlannedFrom (j : JoinedDescription) (x : PlannedDescription) : Type
   pub is_plan : seen x.plan ≡ plan_of j.description j.flat
   pub is_mapping : x.mapping ≡ mapping_of j.description j.flat
 
--- the bytes are read as the description, it breaks none of the thirty rules, and the plan with its mapping is sound
+-- the bytes are read as the description, it breaks none of the rules, and the plan with its mapping is sound
 pub record IsPlannedOf (bytes : List ℕ) (x : PlannedDescription) : Type 0 where
   pub is_read : IsRead bytes (description_of x.description)
   pub is_whole : IsWhole x.description x.flat x.plan x.mapping
@@ -36,7 +36,7 @@ abbrev pub IsToldBy : (Option (ℕ × List ℕ) → Type 0) → Refused → Type
 IsToldBy is_refusal (Rule r) = is_refusal (Some (r.rule, r.place))
 IsToldBy is_refusal Memory = Unit {0}
 
--- the bytes are a description that breaks none of rules 1 to 15, and the refusal is that of rules 16 to 30
+-- the bytes are a description that breaks none of rules 1 to 15, and the refusal is that of rules 16 to 31
 pub record BreaksMapping (bytes : List ℕ) (r : Refused) : Type 0 where
   pub joined : JoinedDescription
   pub is_joined : IsJoinedOf bytes joined

@@ -17,7 +17,7 @@ use flat_descriptions::Flat;
 use rte_text::Refused;
 use std::alloc::Global;
 
-/// A description that breaks none of the thirty rules, made flat, with its plan and its mapping, which are sound.
+/// A description that breaks none of the rules, made flat, with its plan and its mapping, which are sound.
 #[derive(Drop)]
 pub struct PlannedDescription {
     pub description: Description,
@@ -47,7 +47,7 @@ fn planned(alloc: Global, joined: JoinedDescription) -> Result<PlannedDescriptio
     }
 }
 
-/// The description that the bytes are, made flat, with its plan and its mapping, where it breaks none of rules 1 to 30: those
+/// The description that the bytes are, made flat, with its plan and its mapping, where it breaks none of rules 1 to 31: those
 /// of `join_description`, and those of `map_events` of `event_mapping`. The plan is sound with the mapping. `Rule` names the
 /// least rule that is broken, with its first place; `Memory` is answered where memory ran out, and never tells anything of
 /// the bytes. They are read as fewer values than 32 bits number.

@@ -9,21 +9,21 @@ ghost use Rattle.bus_semantics.specs.Sound.{IsSound};
 ghost use Rattle.plan_definitions.specs.Whole.{IsWhole};
 
 use sound_behavior::{
-    direct_servers_fit, events_fit, points_are_named_once, points_fit_their_servers,
-    points_stand_by_caller, runnables_fit, servers_serve, tasks_fit, waits_are_ordered,
+    direct_servers_fit, events_fit, lists_of_plans_are_sound, points_are_named_once,
+    points_fit_their_servers, points_stand_by_caller, runnables_fit, servers_serve, tasks_fit,
+    waits_are_ordered,
 };
 use sound_elements::{
     bundles_of_plans_fit, elements_of_plans_are_sound, groups_of_plans_fit,
-    joined_elements_of_plans_agree, lists_of_plans_are_sound, machines_of_plans_are_sound,
-    objects_of_plans_are_counted, plans_have_no_lists, points_of_plans_are_few,
-    queues_of_plans_are_bounded,
+    joined_elements_of_plans_agree, machines_of_plans_are_sound, objects_of_plans_are_counted,
+    points_of_plans_are_few, queues_of_plans_are_bounded,
 };
 use sound_names::{
     mode_ports_have_machines, names_of_plans_fit, plans_are_arranged, plans_name_their_instances,
     ports_stand_together, things_of_plans_are_named_once,
 };
 
-/// The plan of a description that breaks none of the thirty rules is sound with its mapping.
+/// The plan of a description that breaks none of the rules is sound with its mapping.
 pub fn plans_are_sound()
     ensures { (d : Description) (f : Flat) (p : BusPlan) (m : Mapping) → IsWhole d f p m → IsSound (plan_of p) m }
 {
@@ -49,7 +49,6 @@ pub fn plans_are_sound()
     points_of_plans_are_few();
     lists_of_plans_are_sound();
     bundles_of_plans_fit();
-    plans_have_no_lists();
     tasks_fit();
     waits_are_ordered();
 }

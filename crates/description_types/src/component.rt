@@ -62,6 +62,8 @@ pub struct Runnable {
     /// False where the description does not say.
     pub can_be_invoked_concurrently: bool,
     pub accesses: Seq<Access>,
+    /// Its coherent access lists: the items of each are fetched at one moment, or published at one.
+    pub coherent: Seq<Seq<ItemPair>>,
     /// Its program, which the plan of each instance shares.
     pub program: Arc<Program, Global>,
 }
@@ -74,6 +76,15 @@ pub struct Access {
     pub port: u32,
     /// The position of the item in the port's interface, or of the variable or area in the component, and 0 for `Switch` and
     /// `Mode`.
+    pub item: u32,
+}
+
+/// An item of a port, as a coherent access list names it.
+#[derive(Clone, Copy, Debug, PartialEq, Eq)]
+pub struct ItemPair {
+    /// The position of the port in the component.
+    pub port: u32,
+    /// The position of the item in the port's interface.
     pub item: u32,
 }
 

@@ -9,8 +9,8 @@ mod component;
 mod description;
 
 pub use component::{
-    Access, Behavior, Component, DisabledInModes, Event, EventKind, ModeActivation, Port, PortKind,
-    Runnable, Variable,
+    Access, Behavior, Component, DisabledInModes, Event, EventKind, ItemPair, ModeActivation, Port,
+    PortKind, Runnable, Variable,
 };
 pub use description::{
     Composition, Connector, Description, InnerPort, MappedEvent, Prototype, PrototypeType, Task,

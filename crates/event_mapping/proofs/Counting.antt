@@ -26,6 +26,7 @@ use Rattle.plan_definitions.proofs.Sites.{sites_apart}
 use Rattle.plan_definitions.proofs.Lists.{as_many}
 use Rattle.event_mapping.specs.Foretold.{AreShort}
 use Rattle.event_mapping.proofs.Alone.{named, named_few}
+use Rattle.event_mapping.proofs.ManyLists.{few_lists}
 use Rattle.event_mapping.proofs.Foretelling.{elements_listed, machines_listed, servers_listed}
 
 -- ---- what instances have
@@ -94,5 +95,6 @@ few_things d f few instances joins told = record {
   machines = omega (arith, joins, told.objects, machines_listed d f);
   mode_ports = omega (arith, joins, few_mode_ports d f);
   pairs = λ part. all_few (λ i x. numbered i (counted_at part d x)) (pairs_at d few part) f.instances instances;
+  lists = few_lists d f few instances;
   points = let same : length (points d f) ≡ length (callings d f) = length-map (callings d f) (point_of d f) in omega (arith, told.points, same);
 }

@@ -1,5 +1,5 @@
 -- 32 bits number what a plan that keeps rule 30 has of each kind.
-use Rattle.std.proofs.Common.{◌≡◌, ℕ, ◌+◌, ◌^◌, ◌<◌, ◌≤◌, List, length, Bool, true, false, cond, ◌||◌, nat_lt, Option, Some, None, unwrap_or, refl, sym, ap, ◌∙◌, arith}
+use Rattle.std.proofs.Common.{◌≡◌, ℕ, ◌^◌, ◌<◌, ◌≤◌, List, length, Bool, true, false, cond, ◌||◌, nat_lt, Option, Some, None, unwrap_or, refl, sym, ap, ◌∙◌, arith}
 use Rattle.std.proofs.lemmas.Bool.{ltb-false, or_parts}
 use Rattle.std.proofs.lemmas.List.{length-map}
 use Rattle.bus_semantics.specs.declared.plan.BusPlan.{BusPlan}
@@ -7,17 +7,16 @@ use Rattle.description_types.specs.declared.description.Description.{Description
 use Rattle.flat_descriptions.specs.declared.flat.Flat.{Flat}
 use Rattle.plan_definitions.specs.declared.site.Site.{Site}
 use Rattle.plan_definitions.specs.ComponentRefusals as components
-use Rattle.plan_definitions.specs.Elements.{elem_seen, leaders}
-use Rattle.plan_definitions.specs.ElementGroups.{groups}
+use Rattle.plan_definitions.specs.Elements.{elem_seen}
 use Rattle.plan_definitions.specs.MappingRefusals.{IsAfter, mapping_text}
 use Rattle.plan_definitions.specs.MappingRefusals as mapping
 use Rattle.plan_definitions.specs.Modes.{mode_port_at}
 use Rattle.plan_definitions.specs.Planned.{Planned, plan_of, seen}
-use Rattle.plan_definitions.specs.PlanRefusals.{IsOfSize, IsRefusal, IsThen}
-use Rattle.plan_definitions.specs.PlanRules.{is_too_large, queue_lengths}
+use Rattle.plan_definitions.specs.PlanRefusals.{IsOfLists, IsOfSize, IsRefusal, IsThen}
+use Rattle.plan_definitions.specs.PlanRules.{is_too_large, queue_lengths, things}
 use Rattle.plan_definitions.specs.Things.{mode_ports_of}
 use Rattle.event_mapping.proofs.Counting.{few_mode_ports}
-use Rattle.event_mapping.proofs.Foretelling.{elements_listed, elements_most, machines_listed}
+use Rattle.event_mapping.proofs.Foretelling.{elements_listed, elements_most}
 
 -- its elements, points, mode machines and required mode elements
 pub record AreFewNumbers (p : BusPlan) : Type 0 where
@@ -34,21 +33,21 @@ keeps_size d f kept = by (components.refusal d) kept
     of_size true h = cc
     of_size false h = refl
 
-    by : (o : Option (ℕ × List ℕ)) → IsAfter o (IsThen (mapping.IsRefusal d f) (IsOfSize d f)) None → is_too_large (plan_of d f) ≡ false
-    by None h = of_size (is_too_large (plan_of d f)) h.1
+    by : (o : Option (ℕ × List ℕ)) → IsAfter o (IsThen (mapping.IsRefusal d f) (IsThen (IsOfSize d f) (IsOfLists d))) None → is_too_large (plan_of d f) ≡ false
+    by None h = of_size (is_too_large (plan_of d f)) h.1.0
     by (Some x) h = cc
 
-within : (p : Planned) → is_too_large p ≡ false → (p.objects ≤ 16384) × (length p.points ≤ 262144)
+within : (p : Planned) → is_too_large p ≡ false → (things p ≤ 16384) × (length p.points ≤ 262144)
 within p fits =
-    let parts = or_parts (nat_lt 16384 p.objects || nat_lt 16384 (length p.events)) (nat_lt 65536 (queue_lengths p) || nat_lt 262144 (length p.points)) fits in
-    let first = or_parts (nat_lt 16384 p.objects) (nat_lt 16384 (length p.events)) parts.0 in
+    let parts = or_parts (nat_lt 16384 (things p) || nat_lt 16384 (length p.events)) (nat_lt 65536 (queue_lengths p) || nat_lt 262144 (length p.points)) fits in
+    let first = or_parts (nat_lt 16384 (things p)) (nat_lt 16384 (length p.events)) parts.0 in
     let last = or_parts (nat_lt 65536 (queue_lengths p)) (nat_lt 262144 (length p.points)) parts.1 in
-    (ltb-false 16384 p.objects first.0, ltb-false 262144 (length p.points) last.1)
+    (ltb-false 16384 (things p) first.0, ltb-false 262144 (length p.points) last.1)
 
 pub few_numbers : (p : BusPlan) (d : Description) (f : Flat) → seen p ≡ plan_of d f → is_too_large (plan_of d f) ≡ false → length f.joins ≤ 65536 → AreFewNumbers p
 few_numbers p d f same fits joins =
     let few = within (plan_of d f) fits in
-    let objects : (plan_of d f).objects ≤ 16384 = few.0 in
+    let objects : things (plan_of d f) ≤ 16384 = few.0 in
     let as_many_elements : length p.elements ≡ length (plan_of d f).elements = sym (length-map p.elements elem_seen) ∙ ap (λ (x : Planned). length x.elements) same in
     let as_many_points : length p.points ≡ length (plan_of d f).points = ap (λ (x : Planned). length x.points) same in
     let as_many_machines : length p.machines ≡ length (plan_of d f).machines = ap (λ (x : Planned). length x.machines) same in

@@ -23,7 +23,7 @@ use Rattle.plan_definitions.proofs.Sites.{sites_apart}
 use Rattle.event_mapping.specs.Foretold.{IsForetold, listed}
 use Rattle.event_mapping.specs.Guard.{event_count, events_of_instance, is_counted, item_count, point_count}
 use Rattle.plan_definitions.specs.Planned.{area_of, areas, areas_at, named_areas, plan_of}
-use Rattle.plan_definitions.specs.PlanRules.{is_too_large, queue_lengths}
+use Rattle.plan_definitions.specs.PlanRules.{is_too_large, queue_lengths, things}
 use Rattle.event_mapping.proofs.Alone.{groups_most}
 use Rattle.event_mapping.proofs.Spending.{some_left}
 use Rattle.event_mapping.proofs.Totals.{areas_in, by_kind, callings_counted, length_from, sites_counted}
@@ -71,7 +71,7 @@ module _ (d : Description) (f : Flat) where
   pub elements_most : length (elements_of d f) ≤ length (groups (leaders d f)) + (length f.joins + length f.joins)
   elements_most = groups_most f.joins (elements_of d f) (apart_filter key_of (λ (s : Site). is_element s.kind) (sites d f) (sites_apart d f))
 
-  objects_most : item_count d f < (plan_of d f).objects + (length f.joins + length f.joins)
+  objects_most : item_count d f < things (plan_of d f) + (length f.joins + length f.joins)
   objects_most = omega (arith, all_listed, elements_most, elements_listed)
 
   pub foretold : (answer : Bool) (most left few rest : ℕ) → answer ≡ ((left == 0) || ((few == 0) || (rest == 0))) → left ≡ 16385 - event_count d f → few ≡ 262145 - point_count d f
@@ -79,7 +79,7 @@ module _ (d : Description) (f : Flat) where
   foretold true most left few rest is events_are points_are items_are most_is = ⊎_elim many_events (λ h. ⊎_elim many_points many_objects (or_cases (few == 0) (rest == 0) h)) (or_cases (left == 0) ((few == 0) || (rest == 0)) (sym is))
     where
       objects_over : Bool
-      objects_over = nat_lt 16384 (plan_of d f).objects
+      objects_over = nat_lt 16384 (things (plan_of d f))
 
       events_over : Bool
       events_over = nat_lt 16384 (length (events d f))
@@ -100,7 +100,7 @@ module _ (d : Description) (f : Flat) where
 
       many_objects : (rest == 0) ≡ true → is_too_large (plan_of d f) ≡ true
       many_objects none = let spent = eqb-true rest 0 none in or_left (objects_over || events_over) (lengths_over || points_over)
-          (or_left objects_over events_over (lt-ltb 16384 (plan_of d f).objects (omega (arith, spent, objects_most, items_are, most_is))))
+          (or_left objects_over events_over (lt-ltb 16384 (things (plan_of d f)) (omega (arith, spent, objects_most, items_are, most_is))))
   foretold false most left few rest is events_are points_are items_are most_is =
       let parts = or_parts (left == 0) ((few == 0) || (rest == 0)) (sym is) in
       let others = or_parts (few == 0) (rest == 0) parts.1 in

@@ -6,5 +6,6 @@ pub mod Totals
 pub mod Spending
 pub mod Sized
 pub mod Foretelling
+mod ManyLists
 mod Counting
 pub mod FewNumbers

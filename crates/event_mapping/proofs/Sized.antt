@@ -1,32 +1,52 @@
--- A plan with too many objects, or with few.
-use Rattle.std.proofs.Common.{◌≡◌, ◌<◌, ◌^◌, ℕ, List, Bool, true, false, cond, ◌||◌, nat_le, nat_lt, length, Some, None, refl, ap, subst, arith}
-use Rattle.std.proofs.lemmas.Bool.{leb-false, leb-true, lt-ltb, or_left}
-use Rattle.plan_definitions.specs.Planned.{Planned, object_count}
-use Rattle.plan_definitions.specs.PlanRules.{is_too_large, queue_lengths}
-use Rattle.event_mapping.specs.Sized.{few_objects}
+-- A plan with too many things, or with few, and what its pieces tell of that.
+use Rattle.std.proofs.Common.{◌≡◌, ◌+◌, ◌^◌, ◌<◌, ◌≤◌, ℕ, List, map, Bool, true, false, cond, not, ◌||◌, nat_le, nat_lt, length, is_some, Some, None, refl, ap, arith}
+use Rattle.std.proofs.lemmas.Bool.{leb-false, leb-true, ltb-false, ltb-true, or_parts}
+use Rattle.std.specs.List.{sum_by}
+use Rattle.description_types.specs.declared.description.Description.{Description}
+use Rattle.flat_descriptions.specs.declared.flat.Flat.{Flat}
+use Rattle.bus_semantics.specs.declared.plan.CoherentList.{CoherentList}
+use Rattle.bus_semantics.specs.declared.plan.MachinePlan.{MachinePlan}
+use Rattle.plan_definitions.specs.Elements.{Elem}
+use Rattle.plan_definitions.specs.ElementGroups.{groups}
+use Rattle.plan_definitions.specs.Listed.{groups_listed}
+use Rattle.plan_definitions.specs.Planned.{object_count, plan_of}
+use Rattle.plan_definitions.specs.PlanRules.{is_too_large, received, requested}
+use Rattle.plan_definitions.proofs.Labels.{groups_few, many_leaders}
+use Rattle.plan_bundles.specs.Bundled.{leaders_over}
+use Rattle.event_mapping.specs.declared.pieces.Pieces.{Pieces}
+use Rattle.event_mapping.specs.Pieces.{ArePieces}
+use Rattle.event_mapping.specs.Sized.{are_too_large, few_things, queues_of, things_of}
 
-pub few : (n c : ℕ) → Some c ≡ few_objects n → c ≡ n
-few n c is = by (nat_le n 16384) is
+-- more than there may be
+pub many_things : (n : ℕ) → not (is_some (few_things n)) ≡ nat_lt 16384 n
+many_things n = by (nat_le n 16384) (nat_lt 16384 n) refl refl
   where
-    by : (b : Bool) → Some c ≡ cond b (Some n) None → c ≡ n
-    by true is = cc
-    by false is = cc
+    by : (b c : Bool) → nat_le n 16384 ≡ b → nat_lt 16384 n ≡ c → not (is_some (cond b (Some n) None)) ≡ c
+    by true false h k = refl
+    by false true h k = refl
+    by true true h k = let few = leb-true n 16384 h in let many = ltb-true 16384 n k in absurd (omega (arith, few, many))
+    by false false h k = let many = leb-false n 16384 h in let few = ltb-false 16384 n k in absurd (omega (arith, few, many))
 
--- then 32 bits number its groups
-pub few_groups : {X : Type 0} (xs ys : List X) (s a m c : ℕ) → Some c ≡ few_objects (object_count (length ys) s a m) → xs ≡ ys → length xs < 2 ^ 32
-few_groups xs ys s a m c is same = by (nat_le (object_count (length ys) s a m) 16384) refl is
-  where
-    by : (b : Bool) → nat_le (object_count (length ys) s a m) 16384 ≡ b → Some c ≡ cond b (Some (object_count (length ys) s a m)) None → length xs < 2 ^ 32
-    by true h is = let most = leb-true (object_count (length ys) s a m) 16384 h in let long : length xs ≡ length ys = ap length same in omega (arith, most, long)
-    by false h is = absurd cc
+-- what the pieces tell, the plan tells
+pub same_size : (d : Description) (f : Flat) (x : Pieces) → ArePieces d f x → are_too_large x ≡ is_too_large (plan_of d f)
+same_size d f x are = λ j.
+    (nat_lt 16384 (object_count (length (are.items.groups j)) (length (are.services.servers j)) (length (are.services.areas j)) (length (are.modes.machines j))) || nat_lt 16384 (length (are.events j)))
+    || (nat_lt 65536 (sum_by received (are.items.elements j) + (sum_by requested (are.services.servers j) + sum_by (λ (m : MachinePlan). m.queue) (are.modes.machines j)))
+    || nat_lt 262144 (length (are.services.points j)))
 
-many : (n : ℕ) → None ≡ few_objects n → nat_lt 16384 n ≡ true
-many n is = by (nat_le n 16384) refl is
-  where
-    by : (b : Bool) → nat_le n 16384 ≡ b → None ≡ cond b (Some n) None → nat_lt 16384 n ≡ true
-    by true h is = cc
-    by false h is = let more = leb-false n 16384 h in lt-ltb 16384 n (omega (arith, more))
+-- there are few things in what is not too large
+few : (x : Pieces) → are_too_large x ≡ false → things_of x ≤ 16384
+few x fits =
+    let parts = or_parts (nat_lt 16384 (things_of x) || nat_lt 16384 (length x.events)) (nat_lt 65536 (queues_of x) || nat_lt 262144 (length x.services.points)) fits in
+    ltb-false 16384 (things_of x) (or_parts (nat_lt 16384 (things_of x)) (nat_lt 16384 (length x.events)) parts.0).0
 
-pub too_many : (p : Planned) (n : ℕ) → None ≡ few_objects n → n ≡ p.objects → is_too_large p ≡ true
-too_many p n none is = or_left (nat_lt 16384 p.objects || nat_lt 16384 (length p.events)) (nat_lt 65536 (queue_lengths p) || nat_lt 262144 (length p.points))
-    (or_left (nat_lt 16384 p.objects) (nat_lt 16384 (length p.events)) (subst (λ m. nat_lt 16384 m ≡ true) is (many n none)))
+-- so 32 bits number its groups
+pub few_groups : (x : Pieces) → are_too_large x ≡ false → length x.items.groups < 2 ^ 32
+few_groups x fits = omega (arith, few x fits)
+
+-- and lists make no more objects of it
+pub few_objects : (x : Pieces) → are_too_large x ≡ false → (es : List Elem) (lists : List CoherentList) (n : ℕ) (bundles : List (List ℕ))
+    → n ≡ length x.items.groups → bundles ≡ groups (leaders_over es lists n) → object_count (length bundles) (length x.services.servers) (length x.services.areas) (length x.modes.machines) ≤ 16384
+few_objects x fits es lists n bundles counted are =
+    let as_many : length bundles ≡ length (groups (leaders_over es lists n)) = ap length are in
+    omega (arith, few x fits, counted, as_many, groups_few (leaders_over es lists n), many_leaders n (map (groups_listed es) lists))

@@ -1,5 +1,5 @@
 -- What an answer tells, of one check after another.
-use Rattle.std.proofs.Common.{◌≡◌, ℕ, List, Bool, true, false, if◌then◌else◌, ap, Option, Some, None, Result, Ok, Err, OnOk, inl, inr, refl, sym, subst, ◌∙◌}
+use Rattle.std.proofs.Common.{◌≡◌, ℕ, List, Bool, true, false, if◌then◌else◌, ap, Option, Some, None, Result, Ok, Err, OnOk, inl, inr, refl, sym, subst}
 use Rattle.description_types.specs.declared.description.Description.{Description}
 use Rattle.flat_descriptions.specs.declared.flat.Flat.{Flat}
 use Rattle.rte_text.specs.declared.refusal.Refused.{Refused}
@@ -15,15 +15,25 @@ pub still_says : (U V : Type 0) (o : Option (ℕ × List ℕ)) (x : Refused) →
 still_says U V o (Rule x) says = says
 still_says U V o Memory says = tt
 
-module _ (first : Option (ℕ × List ℕ) → Type 0) (o : Option (ℕ × List ℕ)) where
+-- the same as a relation, and of another type of what is accepted
+pub as_told : {U : Type 0} (o : Option (ℕ × List ℕ)) (r : Result U Refused) → Says o r → Tells (λ x. o ≡ x) r
+as_told o (Ok u) says = says
+as_told o (Err (Rule x)) says = says
+as_told o (Err Memory) says = tt
+
+pub still_tells : (U V : Type 0) (told : Option (ℕ × List ℕ) → Type 0) (x : Refused) → Tells {U = U} told (Err x) → Tells {U = V} told (Err x)
+still_tells U V told (Rule x) tells = tells
+still_tells U V told Memory tells = tt
+
+module _ (first later : Option (ℕ × List ℕ) → Type 0) where
   -- the first refuses nothing
-  pub then_later : {U : Type 0} (r : Result U Refused) → first None → Says o r → Tells (IsThen first (λ x. o ≡ x)) r
-  then_later (Ok u) none says = (none, says)
-  then_later (Err (Rule x)) none says = inr (none, says)
-  then_later (Err Memory) none says = tt
+  pub then_later : {U : Type 0} (r : Result U Refused) → first None → Tells later r → Tells (IsThen first later) r
+  then_later (Ok u) none tells = (none, tells)
+  then_later (Err (Rule x)) none tells = inr (none, tells)
+  then_later (Err Memory) none tells = tt
 
   -- it refuses
-  pub then_first : (U V : Type 0) (x : Refused) → Tells {U = U} first (Err x) → Tells {U = V} (IsThen first (λ y. o ≡ y)) (Err x)
+  pub then_first : (U V : Type 0) (x : Refused) → Tells {U = U} first (Err x) → Tells {U = V} (IsThen first later) (Err x)
   then_first U V (Rule x) tells = inl tells
   then_first U V Memory tells = tt
 
@@ -48,11 +58,12 @@ on_ok P (Err x) p = tt
 abbrev by_size : Bool → Option (ℕ × List ℕ)
 by_size large = if large then Some (30, mapping_text) else None
 
-pub size_refused : {U : Type 0} (p : Planned) (r : Result U Refused) (large : Bool) → large ≡ true → large ≡ is_too_large p → Says (Some (30, mapping_text)) r → Says (of_size p) r
-size_refused p r large so is says = subst (λ b. Says (by_size b) r) (sym so ∙ is) says
+pub size_refused : (V : Type 0) (p : Planned) (later : Option (ℕ × List ℕ) → Type 0) (x : Refused) → is_too_large p ≡ true → Says {U = Unit} (Some (30, mapping_text)) (Err x)
+    → Tells {U = V} (IsThen (λ y. of_size p ≡ y) later) (Err x)
+size_refused V p later x large says = then_first (λ y. of_size p ≡ y) later Unit V x (as_told {U = Unit} (of_size p) (Err x) (subst (λ o. Says {U = Unit} o (Err x)) (sym (ap by_size large)) says))
 
-pub size_kept : (p : Planned) (large : Bool) → large ≡ false → large ≡ is_too_large p → of_size p ≡ None
-size_kept p large so is = sym (ap by_size (sym so ∙ is))
+pub size_kept : {U : Type 0} (p : Planned) (later : Option (ℕ × List ℕ) → Type 0) (r : Result U Refused) → is_too_large p ≡ false → Tells later r → Tells (IsThen (λ y. of_size p ≡ y) later) r
+size_kept p later r fits tells = then_later (λ y. of_size p ≡ y) later r (ap by_size fits) tells
 
 -- what is told of a description and its flat form is told of the same ones
 pub moved : (P : Description → Flat → Type 0) (d e : Description) (f g : Flat) → d ≡ e → f ≡ g → P d f → P e g

@@ -1,20 +1,17 @@
 -- The lists of a plan, piece by piece.
-use Rattle.std.specs.Prelude.{◌≡◌, ℕ, [], map}
-use Rattle.bus_semantics.specs.Codes.{HaveOneCode}
-use Rattle.bus_semantics.specs.Plan.{positions, runnable_of}
+use Rattle.std.specs.Prelude.{◌≡◌, map}
 use Rattle.flat_descriptions.specs.declared.flat.Flat.{Flat}
 use Rattle.description_types.specs.declared.description.Description.{Description}
 use Rattle.plan_definitions.specs.Elements.{elem_seen, elements, leaders}
 use Rattle.plan_definitions.specs.ElementGroups.{groups}
-use Rattle.plan_definitions.specs.Started.{events, runnables}
+use Rattle.plan_definitions.specs.Started.{events}
 use Rattle.plan_definitions.specs.Modes.{machines, mode_ports}
 use Rattle.plan_definitions.specs.Services.{points, servers}
-use Rattle.event_mapping.specs.declared.bundling.Bundling.{Bundling}
-use Rattle.event_mapping.specs.declared.pieces.Behavior.{Behavior}
+use Rattle.event_mapping.specs.declared.pieces.Pieces.{Pieces}
 use Rattle.event_mapping.specs.declared.pieces.Items.{Items}
 use Rattle.event_mapping.specs.declared.pieces.Modes.{Modes}
 use Rattle.event_mapping.specs.declared.pieces.Services.{Services}
-use Rattle.plan_definitions.specs.Planned.{alone, areas}
+use Rattle.plan_definitions.specs.Planned.{areas}
 
 pub record AreItems (d : Description) (f : Flat) (x : Items) : Type 0 where
   pub names : x.names ≡ map (λ i. i.path) f.instances
@@ -30,13 +27,8 @@ pub record AreModes (d : Description) (f : Flat) (x : Modes) : Type 0 where
   pub machines : x.machines ≡ machines d f
   pub mode_ports : x.mode_ports ≡ mode_ports d f
 
-pub record IsBehavior (d : Description) (f : Flat) (x : Behavior) : Type 0 where
+pub record ArePieces (d : Description) (f : Flat) (x : Pieces) : Type 0 where
+  pub items : AreItems d f x.items
+  pub services : AreServices d f x.services
+  pub modes : AreModes d f x.modes
   pub events : x.events ≡ events d f
-  pub runnables : map runnable_of x.runnables ≡ runnables d f
-  pub coded : HaveOneCode x.runnables
-
--- no list, and each of so many groups a bundle by itself
-pub record AreAlone (groups : ℕ) (x : Bundling) : Type 0 where
-  pub lists : x.lists ≡ []
-  pub homes : x.homes ≡ positions groups
-  pub bundles : x.bundles ≡ map alone (positions groups)

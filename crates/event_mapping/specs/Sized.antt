@@ -1,16 +1,21 @@
--- A plan that has not too many objects.
-use Rattle.std.specs.Prelude.{◌≡◌, ℕ, true, nat_le, if◌then◌else◌, Option, Some, None}
-use Rattle.bus_semantics.specs.declared.plan.BusPlan.{BusPlan}
-use Rattle.description_types.specs.declared.description.Description.{Description}
-use Rattle.flat_descriptions.specs.declared.flat.Flat.{Flat}
-use Rattle.plan_definitions.specs.Planned.{plan_of, seen}
-use Rattle.plan_definitions.specs.PlanRules.{is_too_large}
+-- How large a plan is, by its pieces.
+use Rattle.std.specs.Prelude.{ℕ, ◌+◌, length, map, sum_by, Bool, ◌||◌, nat_le, nat_lt, if◌then◌else◌, Option, Some, None}
+use Rattle.plan_definitions.specs.Elements.{elem_seen}
+use Rattle.plan_definitions.specs.Planned.{object_count}
+use Rattle.plan_definitions.specs.PlanRules.{received, requested}
+use Rattle.event_mapping.specs.declared.pieces.Pieces.{Pieces}
 
--- so many objects, if there may be so many
-abbrev pub few_objects : ℕ → Option ℕ
-few_objects n = if nat_le n 16384 then Some n else None
+-- so many things, if there may be so many
+abbrev pub few_things : ℕ → Option ℕ
+few_things n = if nat_le n 16384 then Some n else None
 
--- the plan, or none that may be
-abbrev pub IsPlan : Option BusPlan → Description → Flat → Type 0
-IsPlan None d f = is_too_large (plan_of d f) ≡ true
-IsPlan (Some plan) d f = seen plan ≡ plan_of d f
+-- the groups, servers, areas, machines and the clock
+abbrev pub things_of : Pieces → ℕ
+things_of x = object_count (length x.items.groups) (length x.services.servers) (length x.services.areas) (length x.modes.machines)
+
+abbrev pub queues_of : Pieces → ℕ
+queues_of x = sum_by received (map elem_seen x.items.elements) + (sum_by requested x.services.servers + sum_by (λ m. m.queue) x.modes.machines)
+
+-- rule 30, of pieces
+abbrev pub are_too_large : Pieces → Bool
+are_too_large x = (nat_lt 16384 (things_of x) || nat_lt 16384 (length x.events)) || (nat_lt 65536 (queues_of x) || nat_lt 262144 (length x.services.points))

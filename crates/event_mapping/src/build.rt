@@ -1,101 +1,87 @@
 //! The whole plan.
 
-ghost use Rattle.std.specs.Prelude.{◌≡◌, IfOk, length, map, true};
-ghost use Rattle.plan_definitions.specs.Mapped.{is_mapped};
-ghost use Rattle.plan_definitions.specs.Parts.{events_of};
+ghost use Rattle.std.specs.Prelude.{◌≡◌, ◌≤◌, IfOk, false, length, map, true};
+ghost use Rattle.bus_semantics.specs.Codes.{HaveOneCode};
+ghost use Rattle.bus_semantics.specs.Plan.{runnable_of};
 ghost use Rattle.plan_definitions.specs.Callings.{callings as all_callings};
-ghost use Rattle.plan_definitions.specs.Planned.{object_count};
-ghost use Rattle.plan_definitions.specs.Sizes.{HasFewThings};
+ghost use Rattle.plan_definitions.specs.Listed.{list_numbers};
+ghost use Rattle.plan_definitions.specs.Planned.{object_count, plan_of, seen};
+ghost use Rattle.plan_definitions.specs.Started.{runnables};
 ghost use Rattle.plan_definitions.specs.WellFormed.{types_fit};
-ghost use Rattle.event_mapping.specs.Sized.{IsPlan, few_objects};
+ghost use Rattle.event_mapping.specs.Pieces.{ArePieces};
+ghost use Rattle.event_mapping.specs.Sized.{are_too_large};
 
-use crate::bundling::bundling_of;
-use crate::pieces::{Items, Modes, Services, behavior_of, items_of, modes_of, services_of};
-use crate::size::OBJECTS;
-use bus_semantics::BusPlan;
-use description_types::Description;
-use flat_descriptions::Flat;
-use plan_numbers::Source;
-use plan_services::Callings;
-use rte_text::Memory;
+use crate::pieces::Pieces;
+use bus_semantics::{BusPlan, RunnablePlan};
+use plan_bundles::{bundle_lists, lists_over};
+use plan_numbers::{Source, position};
+use plan_services::{Callings, runnable_plans};
+use rte_text::{Memory, Seq};
 use std::alloc::Global;
 
-/// How many objects a plan has: its groups, each a bundle, servers, areas and machines, and the clock. None where it may not have
-/// so many.
-fn object_count(groups: usize, servers: usize, areas: usize, machines: usize) -> Option<u32>
-    ensures { result ≡ few_objects (object_count groups servers areas machines) }
+/// How many objects a plan has: its bundles, servers, areas and machines, and the clock.
+fn object_count(bundles: usize, servers: usize, areas: usize, machines: usize) -> u32
+    requires { object_count bundles servers areas machines ≤ 16384 }
+    ensures { result ≡ object_count bundles servers areas machines }
 {
-    let room = (OBJECTS as usize - 1).checked_sub(groups)?;
-    let room = room.checked_sub(servers)?;
-    let room = room.checked_sub(areas)?;
-    let room = room.checked_sub(machines)?;
-    Some(OBJECTS - room as u32)
+    (bundles + (servers + (areas + (machines + 1)))) as u32
 }
 
-fn objects_of(items: &Items, services: &Services, modes: &Modes) -> Option<u32>
-    ensures { result ≡ few_objects (object_count (length items.now.groups) (length services.now.servers) (length services.now.areas) (length modes.now.machines)) }
-{
-    object_count(
-        items.groups.len(),
-        services.servers.len(),
-        services.areas.len(),
-        modes.machines.len(),
-    )
-}
-
-fn plan_over(
+fn runnables_of(
     alloc: Global,
     source: &Source<'_>,
     callings: &Callings,
-    mapped: &[bool],
-) -> Result<Option<BusPlan>, Memory>
+    numbers: &[Seq<u32>],
+) -> Result<Seq<RunnablePlan>, Memory>
     requires calls { callings.now ≡ all_callings source.now.d.now source.now.f.now }
-    requires mapping { mapped.now ≡ map (is_mapped source.now.d.now source.now.f.now) (events_of source.now.d.now source.now.f.now) }
+    requires lists { numbers.now ≡ list_numbers source.now.d.now source.now.f.now }
     requires types { types_fit source.now.d.now.types ≡ true }
-    ensures { IfOk result (λ found. IsPlan found source.now.d.now source.now.f.now) }
+    ensures listed { IfOk result (λ list. map runnable_of list ≡ runnables source.now.d.now source.now.f.now) }
+    ensures coded { IfOk result (λ list. HaveOneCode list) }
 {
-    let items = items_of(alloc, source)?;
-    let services = services_of(alloc, source, callings, mapped)?;
-    let modes = modes_of(alloc, source)?;
-    let behavior = behavior_of(alloc, source, callings)?;
-    match objects_of(&items, &services, &modes) {
-        Some(objects) => {
-            let bundling = bundling_of(alloc, items.groups.items())?;
-            Ok(Some(BusPlan {
-                names: items.names,
-                elements: items.elements,
-                groups: items.groups,
-                points: services.points,
-                servers: services.servers,
-                areas: services.areas,
-                machines: modes.machines,
-                mode_ports: modes.mode_ports,
-                events: behavior.events,
-                runnables: behavior.runnables,
-                lists: bundling.lists,
-                homes: bundling.homes,
-                bundles: bundling.bundles,
-                objects,
-            }))
-        }
-        None => Ok(None),
-    }
+    let list = runnable_plans(alloc, source, callings, numbers)?;
+    Ok(Seq::of(list))
 }
 
-/// The plan of a description made flat, and none where it has too many objects. `mapped` tells of each event, by its number,
-/// whether it is mapped to a task. The only error is want of memory.
-pub fn build_plan(
+/// The plan of these pieces, which may be so large, with its runnables, coherent lists and bundles. The only error is want of
+/// memory.
+pub fn whole_plan(
     alloc: Global,
-    d: &Description,
-    f: &Flat,
-    mapped: &[bool],
-) -> Result<Option<BusPlan>, Memory>
-    requires mapping { mapped.now ≡ map (is_mapped d.now f.now) (events_of d.now f.now) }
-    requires types { types_fit d.now.types ≡ true }
-    requires few { HasFewThings d.now f.now }
-    ensures { IfOk result (λ found. IsPlan found d.now f.now) }
+    source: &Source<'_>,
+    callings: &Callings,
+    pieces: Pieces,
+) -> Result<BusPlan, Memory>
+    requires calls { callings.now ≡ all_callings source.now.d.now source.now.f.now }
+    requires types { types_fit source.now.d.now.types ≡ true }
+    requires pieces { ArePieces source.now.d.now source.now.f.now pieces }
+    requires size { are_too_large pieces ≡ false }
+    ensures { IfOk result (λ plan. seen plan ≡ plan_of source.now.d.now source.now.f.now) }
 {
-    let source = Source::new(alloc, d, f)?;
-    let callings = Callings::of(alloc, source.d, source.f)?;
-    plan_over(alloc, &source, &callings, mapped)
+    let listed = lists_over(alloc, source)?;
+    let runnables = runnables_of(alloc, source, callings, listed.numbers.items())?;
+    let groups = position(pieces.items.groups.len());
+    let elements = pieces.items.elements.items();
+    let bundling = bundle_lists(alloc, elements, listed.lists.items(), groups)?;
+    let objects = object_count(
+        bundling.bundles.len(),
+        pieces.services.servers.len(),
+        pieces.services.areas.len(),
+        pieces.modes.machines.len(),
+    );
+    Ok(BusPlan {
+        names: pieces.items.names,
+        elements: pieces.items.elements,
+        groups: pieces.items.groups,
+        points: pieces.services.points,
+        servers: pieces.services.servers,
+        areas: pieces.services.areas,
+        machines: pieces.modes.machines,
+        mode_ports: pieces.modes.mode_ports,
+        events: pieces.events,
+        runnables,
+        lists: listed.lists,
+        homes: bundling.homes,
+        bundles: bundling.bundles,
+        objects,
+    })
 }

@@ -1,24 +1,30 @@
 //! The checks of a description made flat, and its plan and mapping where it keeps them.
 
-ghost use Rattle.std.specs.Prelude.{◌≡◌, ◌≤◌, Err, IfOk, OnOk, Some, length, true};
+ghost use Rattle.std.specs.Prelude.{◌≡◌, ◌≤◌, Err, IfOk, OnOk, Some, false, length, true};
+ghost use Rattle.plan_definitions.specs.Callings.{callings as all_callings};
 ghost use Rattle.plan_definitions.specs.Telling.{Tells as Says};
 ghost use Rattle.plan_definitions.specs.MappingRefusals.{Tells, mapping_text};
 ghost use Rattle.plan_definitions.specs.MappingRefusals as rules;
 ghost use Rattle.plan_definitions.specs.MappingRules.{HaveOrder};
 ghost use Rattle.plan_definitions.specs.Tasks.{are_mapped, mapping_of};
 ghost use Rattle.plan_definitions.specs.Planned.{plan_of, seen};
-ghost use Rattle.plan_definitions.specs.PlanRefusals.{IsOfSize, IsRefusal, IsThen, of_size};
+ghost use Rattle.plan_definitions.specs.PlanRefusals.{IsOfLists, IsOfSize, IsRefusal, IsThen};
 ghost use Rattle.plan_definitions.specs.Sizes.{HasFewParts, HasFewThings};
 ghost use Rattle.plan_definitions.specs.WellFormed.{types_fit};
+ghost use Rattle.event_mapping.specs.Pieces.{ArePieces};
+ghost use Rattle.event_mapping.specs.Sized.{are_too_large};
 
-use crate::build::build_plan;
+use crate::build::whole_plan;
 use crate::guard::is_foretold;
-use crate::size::is_too_large;
+use crate::pieces::{Pieces, pieces_of};
+use crate::size::are_too_large;
 use bus_semantics::{BusPlan, Mapping};
-use component_rules::check_components;
+use component_rules::{check_coherent, check_components};
 use description_types::Description;
 use flat_descriptions::Flat;
 use mapping_rules::{KeptMapping, check_mapping, list_mapping};
+use plan_numbers::Source;
+use plan_services::Callings;
 use rte_text::{Refusal, Refused, Text};
 use std::alloc::Global;
 
@@ -31,28 +37,67 @@ fn size_refusal(alloc: Global) -> Refused
     }
 }
 
-fn sized(alloc: Global, plan: BusPlan) -> Result<BusPlan, Refused>
-    ensures size { Says (of_size (seen plan)) result }
-    ensures plan { IfOk result (λ found. seen found ≡ seen plan) }
+/// The plan of these pieces, which may be so large, where each coherent access list fits. So lists are listed only where they fit.
+fn coherent_plan(
+    alloc: Global,
+    source: &Source<'_>,
+    callings: &Callings,
+    pieces: Pieces,
+) -> Result<BusPlan, Refused>
+    requires calls { callings.now ≡ all_callings source.now.d.now source.now.f.now }
+    requires types { types_fit source.now.d.now.types ≡ true }
+    requires pieces { ArePieces source.now.d.now source.now.f.now pieces }
+    requires size { are_too_large pieces ≡ false }
+    ensures lists { Tells (IsOfLists source.now.d.now) result }
+    ensures plan { IfOk result (λ plan. seen plan ≡ plan_of source.now.d.now source.now.f.now) }
 {
-    if is_too_large(&plan) {
+    match check_coherent(alloc, source.d) {
+        Ok(()) => {
+            let plan = whole_plan(alloc, source, callings, pieces)?;
+            Ok(plan)
+        }
+        Err(broken) => Err(broken),
+    }
+}
+
+fn sized(
+    alloc: Global,
+    source: &Source<'_>,
+    callings: &Callings,
+    pieces: Pieces,
+) -> Result<BusPlan, Refused>
+    requires calls { callings.now ≡ all_callings source.now.d.now source.now.f.now }
+    requires types { types_fit source.now.d.now.types ≡ true }
+    requires pieces { ArePieces source.now.d.now source.now.f.now pieces }
+    ensures refusal { Tells (IsThen (IsOfSize source.now.d.now source.now.f.now) (IsOfLists source.now.d.now)) result }
+    ensures plan { IfOk result (λ plan. seen plan ≡ plan_of source.now.d.now source.now.f.now) }
+{
+    if are_too_large(&pieces) {
         return Err(size_refusal(alloc));
     }
-    Ok(plan)
+    coherent_plan(alloc, source, callings, pieces)
+}
+
+fn plan_over(alloc: Global, source: &Source<'_>, mapped: &[bool]) -> Result<BusPlan, Refused>
+    requires mapping { mapped.now ≡ are_mapped source.now.d.now source.now.f.now }
+    requires types { types_fit source.now.d.now.types ≡ true }
+    ensures refusal { Tells (IsThen (IsOfSize source.now.d.now source.now.f.now) (IsOfLists source.now.d.now)) result }
+    ensures plan { IfOk result (λ plan. seen plan ≡ plan_of source.now.d.now source.now.f.now) }
+{
+    let callings = Callings::of(alloc, source.d, source.f)?;
+    let pieces = pieces_of(alloc, source, &callings, mapped)?;
+    sized(alloc, source, &callings, pieces)
 }
 
 fn sized_plan(alloc: Global, d: &Description, f: &Flat, mapped: &[bool]) -> Result<BusPlan, Refused>
     requires mapping { mapped.now ≡ are_mapped d.now f.now }
     requires types { types_fit d.now.types ≡ true }
     requires few { HasFewThings d.now f.now }
-    ensures size { Says (of_size (plan_of d.now f.now)) result }
+    ensures refusal { Tells (IsThen (IsOfSize d.now f.now) (IsOfLists d.now)) result }
     ensures plan { IfOk result (λ plan. seen plan ≡ plan_of d.now f.now) }
 {
-    let found = build_plan(alloc, d, f, mapped)?;
-    match found {
-        Some(plan) => sized(alloc, plan),
-        None => Err(size_refusal(alloc)),
-    }
+    let source = Source::new(alloc, d, f)?;
+    plan_over(alloc, &source, mapped)
 }
 
 fn listed(
@@ -65,7 +110,7 @@ fn listed(
     requires description { kept.d.now ≡ d.now }
     requires flat { kept.f.now ≡ f.now }
     requires few { HasFewThings d.now f.now }
-    ensures size { Says (of_size (plan_of d.now f.now)) result }
+    ensures refusal { Tells (IsThen (IsOfSize d.now f.now) (IsOfLists d.now)) result }
     ensures plan { IfOk result (λ found. seen found.0 ≡ plan_of d.now f.now) }
     ensures mapping { IfOk result (λ found. found.1 ≡ mapping_of d.now f.now) }
 {
@@ -89,7 +134,7 @@ fn planned(
     requires parts { HasFewParts d.now }
     requires instances { length f.now.instances ≤ 1024 }
     requires joins { length f.now.joins ≤ 65536 }
-    ensures size { Says (of_size (plan_of d.now f.now)) result }
+    ensures refusal { Tells (IsThen (IsOfSize d.now f.now) (IsOfLists d.now)) result }
     ensures plan { IfOk result (λ found. seen found.0 ≡ plan_of d.now f.now) }
     ensures mapping { IfOk result (λ found. found.1 ≡ mapping_of d.now f.now) }
 {
@@ -105,7 +150,7 @@ fn mapped_plan(alloc: Global, d: &Description, f: &Flat) -> Result<(BusPlan, Map
     requires parts { HasFewParts d.now }
     requires instances { length f.now.instances ≤ 1024 }
     requires joins { length f.now.joins ≤ 65536 }
-    ensures refusal { Tells (IsThen (rules.IsRefusal d.now f.now) (IsOfSize d.now f.now)) result }
+    ensures refusal { Tells (IsThen (rules.IsRefusal d.now f.now) (IsThen (IsOfSize d.now f.now) (IsOfLists d.now))) result }
     ensures plan { IfOk result (λ found. seen found.0 ≡ plan_of d.now f.now) }
     ensures mapping { IfOk result (λ found. found.1 ≡ mapping_of d.now f.now) }
     ensures order { OnOk result (HaveOrder d.now f.now) }
@@ -123,11 +168,13 @@ fn mapped_plan(alloc: Global, d: &Description, f: &Flat) -> Result<(BusPlan, Map
 ///   JSON pointer, the first in the order of the document.
 /// - The mapping and the instances keep those that `check_mapping` names: 25 at the mapped event, a JSON pointer; 26 and 28 at
 ///   `INSTANCE.EVENT`; 27 at `INSTANCE:RUNNABLE`; 29 at `/mapping`.
-/// - The plan has at most 16,384 objects (groups of elements, servers, exclusive areas, mode machines, and the clock) and 16,384
+/// - The plan has at most 16,384 groups of elements, servers, exclusive areas and mode machines together with the clock, and 16,384
 ///   events, the queue lengths of all receivers, queued servers and mode machines are together at most 65,536, and there are at
 ///   most 262,144 points, one for each call of a runnable and one for each operation that the root provides (30, at `/mapping`).
-///   Every required queued element is a receiver, joined or not, the environment's too. Too many objects, events or points are
+///   Every required queued element is a receiver, joined or not, the environment's too. Too many groups, events or points are
 ///   told from counts, before the plan and the mapping are listed, unless joins may put enough elements into common groups.
+/// - The coherent access lists of each component, used or not, fit, as `check_coherent` says (31, at the list). Lists are listed
+///   only where they do.
 ///
 /// The types of the description fit and it has few parts, as a description has that is read from a file; and rule 10 holds: it has at
 /// most 1,024 instances and 65,536 joins. So 32 bits number what a plan numbers.

@@ -7,7 +7,7 @@ ghost use Rattle.plan_definitions.specs.Sites.{count_at, kind_at, provides_at, r
 ghost use Rattle.event_mapping.specs.Foretold.{IsForetold};
 ghost use Rattle.event_mapping.specs.Guard.{at_most, counted_with, events_of_instance, item_count, items_at, items_in, items_of_ports, outer_points, point_count, points_at, points_in, points_of_runnable};
 
-use crate::size::{EVENTS, OBJECTS, POINTS};
+use crate::size::{EVENTS, POINTS, THINGS};
 use description_types::{Access, Component, Description, Port, PortKind, Runnable};
 use flat_descriptions::{Flat, Instance, Join};
 use interface_types::{InterfaceKind, TypeTable};
@@ -256,7 +256,7 @@ fn after_points(alloc: Global, most: usize, d: &Description, f: &Flat) -> Result
 fn least_beyond(joins: &[Join]) -> usize
     ensures { result ≡ 16384 + (length joins.now + length joins.now) }
 {
-    OBJECTS as usize + (joins.len() + joins.len())
+    THINGS as usize + (joins.len() + joins.len())
 }
 
 fn is_beyond(events: usize, points: usize, items: usize) -> bool

@@ -3,7 +3,6 @@
 
 mod areas;
 mod build;
-mod bundling;
 mod check;
 mod guard;
 mod pieces;

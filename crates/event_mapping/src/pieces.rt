@@ -1,24 +1,23 @@
 //! The lists of a plan, piece by piece.
 
-ghost use Rattle.std.specs.Prelude.{◌≡◌, IfOk, map, true};
+ghost use Rattle.std.specs.Prelude.{◌≡◌, IfOk, map};
 ghost use Rattle.plan_definitions.specs.Mapped.{is_mapped};
 ghost use Rattle.plan_definitions.specs.Parts.{events_of};
 ghost use Rattle.plan_definitions.specs.Callings.{callings as all_callings};
 ghost use Rattle.plan_definitions.specs.Services.{points, servers};
 ghost use Rattle.plan_definitions.specs.Planned.{areas};
-ghost use Rattle.plan_definitions.specs.WellFormed.{types_fit};
-ghost use Rattle.event_mapping.specs.Pieces.{AreItems, AreModes, AreServices, IsBehavior};
+ghost use Rattle.plan_definitions.specs.Started.{events};
+ghost use Rattle.event_mapping.specs.Pieces.{AreItems, AreModes, ArePieces, AreServices};
 
 use crate::areas::areas_of_plan;
 use bus_semantics::{
-    AreaPlan, ElemPlan, EventPlan, MachinePlan, ModePortPlan, PointPlan, RunnablePlan, ServerPlan,
+    AreaPlan, ElemPlan, EventPlan, MachinePlan, ModePortPlan, PointPlan, ServerPlan,
 };
 use flat_descriptions::Instance;
 use plan_elements::{element_plans, group_lists, groups_over};
 use plan_numbers::Source;
 use plan_services::{
-    Callings, event_plans, machine_plans, mode_port_plans, point_plans, runnable_plans,
-    server_plans,
+    Callings, event_plans, machine_plans, mode_port_plans, point_plans, server_plans,
 };
 use rte_text::{Memory, Seq, Text};
 use std::alloc::Global;
@@ -46,11 +45,13 @@ pub struct Modes {
     pub mode_ports: Seq<ModePortPlan>,
 }
 
-/// Events, and the runnables that they start.
+/// All of a plan but its runnables and their lists.
 #[derive(Drop)]
-pub struct Behavior {
+pub struct Pieces {
+    pub items: Items,
+    pub services: Services,
+    pub modes: Modes,
     pub events: Seq<EventPlan>,
-    pub runnables: Seq<RunnablePlan>,
 }
 
 fn names_of(alloc: Global, instances: &[Instance]) -> Result<Seq<Text>, Memory>
@@ -145,19 +146,37 @@ pub fn modes_of(alloc: Global, source: &Source<'_>) -> Result<Modes, Memory>
     })
 }
 
-/// The events and runnables of a plan.
-pub fn behavior_of(
+fn events_of(
     alloc: Global,
     source: &Source<'_>,
     callings: &Callings,
-) -> Result<Behavior, Memory>
-    requires calls { callings.now ≡ all_callings source.now.d.now source.now.f.now }
-    requires types { types_fit source.now.d.now.types ≡ true }
-    ensures { IfOk result (λ behavior. IsBehavior source.now.d.now source.now.f.now behavior) }
+) -> Result<Seq<EventPlan>, Memory>
+    requires { callings.now ≡ all_callings source.now.d.now source.now.f.now }
+    ensures { IfOk result (λ list. list ≡ events source.now.d.now source.now.f.now) }
 {
-    let event_list = event_plans(alloc, source, callings)?;
-    let runnable_list = runnable_plans(alloc, source, callings)?;
-    let events = Seq::of(event_list);
-    let runnables = Seq::of(runnable_list);
-    Ok(Behavior { events, runnables })
+    let list = event_plans(alloc, source, callings)?;
+    Ok(Seq::of(list))
+}
+
+/// All of a plan but its runnables and their lists. `mapped` tells of each numbered event whether it is mapped.
+pub fn pieces_of(
+    alloc: Global,
+    source: &Source<'_>,
+    callings: &Callings,
+    mapped: &[bool],
+) -> Result<Pieces, Memory>
+    requires calls { callings.now ≡ all_callings source.now.d.now source.now.f.now }
+    requires mapping { mapped.now ≡ map (is_mapped source.now.d.now source.now.f.now) (events_of source.now.d.now source.now.f.now) }
+    ensures { IfOk result (λ pieces. ArePieces source.now.d.now source.now.f.now pieces) }
+{
+    let items = items_of(alloc, source)?;
+    let services = services_of(alloc, source, callings, mapped)?;
+    let modes = modes_of(alloc, source)?;
+    let events = events_of(alloc, source, callings)?;
+    Ok(Pieces {
+        items,
+        services,
+        modes,
+        events,
+    })
 }

@@ -1,14 +1,16 @@
 //! How large a plan is.
 
-ghost use Rattle.std.specs.Prelude.{◌≡◌, ◌-◌, ◌==◌, ◌||◌, nat_lt, sum_by};
+ghost use Rattle.std.specs.Prelude.{◌≡◌, ◌-◌, ◌==◌, ◌||◌, is_some, length, nat_lt, not, sum_by};
 ghost use Rattle.plan_definitions.specs.Elements.{elem_seen};
-ghost use Rattle.plan_definitions.specs.Planned.{seen};
-ghost use Rattle.plan_definitions.specs.PlanRules.{is_queued, is_too_large, queue_lengths, received, requested};
+ghost use Rattle.plan_definitions.specs.Planned.{object_count};
+ghost use Rattle.plan_definitions.specs.PlanRules.{is_queued, received, requested};
+ghost use Rattle.event_mapping.specs.Sized.{are_too_large, few_things, queues_of, things_of};
 
-use bus_semantics::{BusPlan, ElemKind, ElemPlan, MachinePlan, ServerPlan};
+use crate::pieces::Pieces;
+use bus_semantics::{ElemKind, ElemPlan, MachinePlan, ServerPlan};
 
-/// How many objects a plan may have.
-pub const OBJECTS: u32 = 16_384;
+/// How many groups, servers, areas and machines a plan may have, with the clock.
+pub const THINGS: u32 = 16_384;
 
 /// How many events a plan may have.
 pub const EVENTS: usize = 16_384;
@@ -82,25 +84,48 @@ fn after_switches(left: u32, machines: &[MachinePlan]) -> u32
 }
 
 /// What is left, after all queues of a plan, of the least length that is too much. It goes down, so that no sum is too large.
-fn after_queues(plan: &BusPlan) -> u32
-    ensures { result ≡ 65537 - queue_lengths (seen plan.now) }
+fn after_queues(pieces: &Pieces) -> u32
+    ensures { result ≡ 65537 - queues_of pieces.now }
 {
-    let received = after_received(QUEUES + 1, plan.elements.items());
-    let requested = after_requested(received, plan.servers.items());
-    after_switches(requested, plan.machines.items())
+    let received = after_received(QUEUES + 1, pieces.items.elements.items());
+    let requested = after_requested(received, pieces.services.servers.items());
+    after_switches(requested, pieces.modes.machines.items())
 }
 
-fn is_beyond(objects: u32, events: usize, left: u32, points: usize) -> bool
-    ensures { result ≡ ((nat_lt 16384 objects || nat_lt 16384 events) || ((left == 0) || nat_lt 262144 points)) }
+/// How many groups, servers, areas and machines there are, with the clock. None where there may not be so many.
+fn thing_count(groups: usize, servers: usize, areas: usize, machines: usize) -> Option<u32>
+    ensures { result ≡ few_things (object_count groups servers areas machines) }
 {
-    (objects > OBJECTS || events > EVENTS) || (left == 0 || points > POINTS)
+    let room = (THINGS as usize - 1).checked_sub(groups)?;
+    let room = room.checked_sub(servers)?;
+    let room = room.checked_sub(areas)?;
+    let room = room.checked_sub(machines)?;
+    Some(THINGS - room as u32)
 }
 
-/// Whether a plan has more than 16,384 objects or events, its queues are together longer than 65,536, or it has more than 262,144
-/// points.
-pub fn is_too_large(plan: &BusPlan) -> bool
-    ensures { result ≡ is_too_large (seen plan.now) }
+fn things_of(pieces: &Pieces) -> Option<u32>
+    ensures { result ≡ few_things (things_of pieces.now) }
 {
-    let left = after_queues(plan);
-    is_beyond(plan.objects, plan.events.len(), left, plan.points.len())
+    thing_count(
+        pieces.items.groups.len(),
+        pieces.services.servers.len(),
+        pieces.services.areas.len(),
+        pieces.modes.machines.len(),
+    )
+}
+
+fn is_beyond(things: Option<u32>, events: usize, left: u32, points: usize) -> bool
+    ensures { result ≡ ((not (is_some things) || nat_lt 16384 events) || ((left == 0) || nat_lt 262144 points)) }
+{
+    (things.is_none() || events > EVENTS) || (left == 0 || points > POINTS)
+}
+
+/// Whether a plan has more than 16,384 groups, servers, areas and machines with the clock, or more events than that, its queues are
+/// together longer than 65,536, or it has more than 262,144 points.
+pub fn are_too_large(pieces: &Pieces) -> bool
+    ensures { result ≡ are_too_large pieces.now }
+{
+    let left = after_queues(pieces);
+    let points = pieces.services.points.len();
+    is_beyond(things_of(pieces), pieces.events.len(), left, points)
 }

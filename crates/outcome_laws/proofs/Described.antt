@@ -36,7 +36,7 @@ nothing_small = record { few = omega arith }
 
 with_program : (t : RunnableTree) → (p : Program) × (program_tree p ≡ t.program) → (r : Runnable) × (runnable_tree r ≡ t)
 with_program t (p, is) = let (a, holds) = arc_of p in (
-  record { short_name = t.short_name; can_be_invoked_concurrently = t.can_be_invoked_concurrently; accesses = t.accesses; program = a },
+  record { short_name = t.short_name; can_be_invoked_concurrently = t.can_be_invoked_concurrently; accesses = t.accesses; coherent = t.coherent; program = a },
   λ i. record t { program = (ap program_tree holds ∙ is) i },
 )
 

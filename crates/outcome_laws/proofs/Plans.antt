@@ -110,7 +110,7 @@ module _ (d : Description) (f : Flat) where
         signature = given;
         targets = map (target_of d f i m) r.accesses;
         server = (started.runnable_of d f i c m r).server;
-        lists = [];
+        lists = (started.runnable_of d f i c m r).lists;
       },
       coded_there d n m c r there here ∙ (λ j. Some (program_tree (arc_value r.program), (sym holds j).accesses)),
     ) ∷ [],

@@ -17,12 +17,13 @@ use Rattle.component_model.specs.Descriptions.{description_of, reading}
 use Rattle.component_model.specs.Refusals.{IsRead, refusal}
 use Rattle.flat_descriptions.specs.declared.flat.Flat.{Flat}
 use Rattle.flat_descriptions.specs.Flattening.{IsFlatOf}
+use Rattle.plan_definitions.specs.declared.component_rule.ComponentRule.TheVariants as rule
 use Rattle.plan_definitions.specs.ComponentRefusals as components
 use Rattle.plan_definitions.specs.JoinRefusals as joins
 use Rattle.plan_definitions.specs.MappingRefusals as mapping
 use Rattle.plan_definitions.specs.MappingRefusals.{IsAfter, IsOfTasks, mapping_text}
 use Rattle.plan_definitions.specs.MappingRules.{HaveOrder, ReachesItself}
-use Rattle.plan_definitions.specs.PlanRefusals.{IsOfSize, IsRefusal, IsThen}
+use Rattle.plan_definitions.specs.PlanRefusals.{IsOfLists, IsOfSize, IsRefusal, IsThen}
 use Rattle.plan_definitions.specs.Planned.{plan_of, seen}
 use Rattle.plan_definitions.specs.PlanRules.{is_too_large}
 use Rattle.plan_definitions.specs.Tasks.{mapping_of}
@@ -38,7 +39,7 @@ use Rattle.outcome_laws.proofs.Waits.{order_or_circle}
 abbrev Outcome : List ℕ → Type 0
 Outcome bytes = HasPlan bytes ⊎ HasRefusal bytes
 
--- ---- rules 16 to 30
+-- ---- rules 16 to 31
 
 module _ (d : Description) (f : Flat) where
   -- what is refused, or nothing, and the tasks have an order
@@ -46,16 +47,20 @@ module _ (d : Description) (f : Flat) where
   Judged is_refusal = ((x : ℕ × List ℕ) × is_refusal (Some x)) ⊎ (is_refusal None × HaveOrder d f)
 
   abbrev Later : Option (ℕ × List ℕ) → Type 0
-  Later = IsThen (mapping.IsRefusal d f) (IsOfSize d f)
+  Later = IsThen (mapping.IsRefusal d f) (IsThen (IsOfSize d f) (IsOfLists d))
 
   of_events : (o : Option (ℕ × List ℕ)) → mapping.of_events d f ≡ o → HaveOrder d f ⊎ ReachesItself d f → Judged (mapping.IsRefusal d f)
   of_events (Some x) is tasks = inl (x, subst (λ o. IsAfter o (IsOfTasks d f) (Some x)) (sym is) refl)
   of_events None is (inl order) = inr (subst (λ o. IsAfter o (IsOfTasks d f) None) (sym is) (never_reaches d f order), order)
   of_events None is (inr circle) = inl ((29, mapping_text), subst (λ o. IsAfter o (IsOfTasks d f) (Some (29, mapping_text))) (sym is) (refl, circle))
 
+  of_lists : (o : Option (ℕ × List ℕ)) → components.of_rule rule.CoherentLists d ≡ o → mapping.IsRefusal d f None → IsOfSize d f None → HaveOrder d f → Judged Later
+  of_lists (Some x) is keeps size order = inl (x, inr (keeps, inr (size, is)))
+  of_lists None is keeps size order = inr ((keeps, (size, is)), order)
+
   of_size : (b : Bool) → is_too_large (plan_of d f) ≡ b → mapping.IsRefusal d f None → HaveOrder d f → Judged Later
-  of_size true is keeps order = inl ((30, mapping_text), inr (keeps, ap (λ b. cond b (Some (30, mapping_text)) None) is))
-  of_size false is keeps order = inr ((keeps, ap (λ b. cond b (Some (30, mapping_text)) None) is), order)
+  of_size true is keeps order = inl ((30, mapping_text), inr (keeps, inl (ap (λ b. cond b (Some (30, mapping_text)) None) is)))
+  of_size false is keeps order = of_lists (components.of_rule rule.CoherentLists d) refl keeps (ap (λ b. cond b (Some (30, mapping_text)) None) is) order
 
   of_mapping : Judged (mapping.IsRefusal d f) → Judged Later
   of_mapping (inl (x, broken)) = inl (x, inl broken)

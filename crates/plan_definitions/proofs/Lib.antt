@@ -6,4 +6,5 @@ pub mod Sites
 pub mod Stands
 pub mod Chains
 pub mod Words
+pub mod Labels
 pub mod Coding

@@ -9,6 +9,7 @@ use Rattle.plan_definitions.specs.declared.component_rule.ComponentRule.TheVaria
 use Rattle.plan_definitions.specs.declared.spot.Spot.{Spot}
 use Rattle.plan_definitions.specs.Accesses.{misfit}
 use Rattle.plan_definitions.specs.Calls.{mixed}
+use Rattle.plan_definitions.specs.Coherent.{incoherent}
 use Rattle.plan_definitions.specs.Events.{misplaced, wrongly_disabled}
 use Rattle.plan_definitions.specs.Firsts.{first_of}
 use Rattle.plan_definitions.specs.Invocations.{wrongly_served}
@@ -22,6 +23,7 @@ number_of rule.EventKinds = 21
 number_of rule.Invocations = 22
 number_of rule.Calls = 23
 number_of rule.Disablings = 24
+number_of rule.CoherentLists = 31
 
 abbrev pub broken_in : rules.ComponentRule → TypeTable → Component → Option Spot
 broken_in rule.Accesses types c = misfit types c
@@ -29,6 +31,7 @@ broken_in rule.EventKinds types c = misplaced types c
 broken_in rule.Invocations types c = wrongly_served types c
 broken_in rule.Calls types c = mixed c
 broken_in rule.Disablings types c = wrongly_disabled types c
+broken_in rule.CoherentLists types c = incoherent types c
 
 -- the first component that breaks the rule, in the order of the document, with the place in it
 abbrev pub first_broken : rules.ComponentRule → Description → Option (ℕ × Spot)
@@ -49,6 +52,6 @@ of_programs d = option_or (of_program 17 d) (option_or (of_program 18 d) (option
 abbrev pub of_events : Description → Option (ℕ × List ℕ)
 of_events d = option_or (of_rule rule.EventKinds d) (option_or (of_rule rule.Invocations d) (option_or (of_rule rule.Calls d) (of_rule rule.Disablings d)))
 
--- the refusal: the least rule of these that is broken, with its first place
+-- the refusal: the least rule of these but the last that is broken, with its first place
 abbrev pub refusal : Description → Option (ℕ × List ℕ)
 refusal d = option_or (of_rule rule.Accesses d) (option_or (of_programs d) (of_events d))

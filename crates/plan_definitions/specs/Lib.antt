@@ -2,6 +2,7 @@ pub mod Accesses
 pub mod Callings
 pub mod Calls
 pub mod Coding
+pub mod Coherent
 pub mod ComponentRefusals
 pub mod Connectors
 pub mod ElementGroups
@@ -17,6 +18,7 @@ pub mod JoinRefusals
 pub mod Joined
 pub mod JoinedItems
 pub mod Joins
+pub mod Listed
 pub mod Keys
 pub mod Lists
 pub mod Mapped

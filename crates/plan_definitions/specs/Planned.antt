@@ -1,6 +1,6 @@
 -- The plan of a description made flat (Software Component Template, flattened): each list by instance and in declared order, what
 -- belongs to the environment last.
-use Rattle.std.specs.Prelude.{ℕ, List, [], ◌∷◌, map, length, ◌+◌, slice_get}
+use Rattle.std.specs.Prelude.{ℕ, List, [], map, length, ◌+◌, slice_get}
 use Rattle.std.specs.Option.{option_map_or}
 use Rattle.description_types.specs.declared.description.Description.{Description}
 use Rattle.flat_descriptions.specs.declared.flat.Flat.{Flat}
@@ -14,9 +14,10 @@ use Rattle.bus_semantics.specs.declared.plan.MachinePlan.{MachinePlan}
 use Rattle.bus_semantics.specs.declared.plan.ModePortPlan.{ModePortPlan}
 use Rattle.bus_semantics.specs.declared.plan.PointPlan.{PointPlan}
 use Rattle.bus_semantics.specs.declared.plan.ServerPlan.{ServerPlan}
-use Rattle.bus_semantics.specs.Plan.{Runnable, positions, runnable_of}
+use Rattle.bus_semantics.specs.Plan.{Runnable, runnable_of}
 use Rattle.plan_definitions.specs.Elements.{Elem, elem_seen, elements, leaders}
 use Rattle.plan_definitions.specs.ElementGroups.{groups}
+use Rattle.plan_definitions.specs.Listed.{bundles, homes, lists}
 use Rattle.plan_definitions.specs.Modes.{machines, mode_ports}
 use Rattle.plan_definitions.specs.Services.{points, servers}
 use Rattle.plan_definitions.specs.Started.{events, runnables}
@@ -70,21 +71,10 @@ areas_at d x = option_map_or (λ c. c.behavior.exclusive_areas) (slice_get d.com
 abbrev pub areas : Description → Flat → List AreaPlan
 areas d f = from 0 (λ i x. named_areas i (areas_at d x)) f.instances
 
--- ---- bundles. Descriptions name no coherent lists, so each group is a bundle by itself
-
-abbrev pub homes : Description → Flat → List ℕ
-homes d f = positions (length (groups (leaders d f)))
-
-abbrev pub alone : ℕ → List ℕ
-alone g = g ∷ []
-
-abbrev pub bundles : Description → Flat → List (List ℕ)
-bundles d f = map alone (homes d f)
-
--- ---- the whole; the objects are the groups, each a bundle, servers, areas, machines and the clock
+-- ---- the whole; the objects are the bundles, servers, areas, machines and the clock
 
 abbrev pub object_count : ℕ → ℕ → ℕ → ℕ → ℕ
-object_count groups servers areas machines = groups + (servers + (areas + (machines + 1)))
+object_count bundles servers areas machines = bundles + (servers + (areas + (machines + 1)))
 
 abbrev pub plan_of : Description → Flat → Planned
 plan_of d f = record {
@@ -98,8 +88,8 @@ plan_of d f = record {
   mode_ports = mode_ports d f;
   events = events d f;
   runnables = runnables d f;
-  lists = [];
+  lists = lists d f;
   homes = homes d f;
   bundles = bundles d f;
-  objects = object_count (length (groups (leaders d f))) (length (servers d f)) (length (areas d f)) (length (machines d f));
+  objects = object_count (length (bundles d f)) (length (servers d f)) (length (areas d f)) (length (machines d f));
 }

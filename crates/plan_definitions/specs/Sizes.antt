@@ -10,6 +10,7 @@ use Rattle.flat_descriptions.specs.declared.flat.Flat.{Flat}
 use Rattle.flat_descriptions.specs.Members.{sum_of}
 use Rattle.plan_definitions.specs.declared.part.Part.{Part}
 use Rattle.plan_definitions.specs.Callings.{callings}
+use Rattle.plan_definitions.specs.Listed.{lists}
 use Rattle.plan_definitions.specs.Parts.{counted, parts_of}
 use Rattle.plan_definitions.specs.Things.{elements_of, machines_of, mode_ports_of, servers_of}
 use Rattle.plan_definitions.specs.WellFormed.{item_count}
@@ -18,12 +19,17 @@ use Rattle.plan_definitions.specs.WellFormed.{item_count}
 abbrev pub access_count : Component → ℕ
 access_count c = sum_of (λ r. length r.accesses) c.behavior.runnables
 
--- a component has few ports, variables, runnables, events, areas and accesses
+-- and their coherent access lists
+abbrev pub list_count : Component → ℕ
+list_count c = sum_of (λ r. length r.coherent) c.behavior.runnables
+
+-- a component has few ports, variables, runnables, events, areas, accesses and coherent access lists
 pub record HasFewInside (c : Component) : Type 0 where
   pub ports : length c.ports < 2 ^ 22
   pub variables : length c.behavior.variables < 2 ^ 22
   pub parts : (part : Part) → counted part c < 2 ^ 22
   pub accesses : access_count c < 2 ^ 22
+  pub lists : list_count c < 2 ^ 22
 
 -- each interface has few items
 pub record HasShortInterfaces (types : TypeTable) : Type 0 where
@@ -45,3 +51,4 @@ pub record HasFewThings (d : Description) (f : Flat) : Type 0 where
   pub mode_ports : length (mode_ports_of d f) < 2 ^ 32
   pub pairs : (part : Part) → length (parts_of part d f) < 2 ^ 32
   pub points : length (callings d f) < 2 ^ 32
+  pub lists : length (lists d f) < 2 ^ 32

@@ -15,6 +15,7 @@ abbrev pub spot_text : (component : ℕ) → Spot → List ℕ
 spot_text component (spot.Port k) = in_component component (codes "/ports/") k
 spot_text component (spot.Access m k) = (runnable_text component m ++ codes "/accesses/") ++ decimal k
 spot_text component (spot.Event k) = in_component component (codes "/behavior/events/") k
+spot_text component (spot.List m k) = (runnable_text component m ++ codes "/coherent/") ++ decimal k
 
 -- the positions of a path, each after a `/`
 abbrev pub path_text : List ℕ → List ℕ

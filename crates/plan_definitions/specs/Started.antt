@@ -1,5 +1,5 @@
 -- Events and runnables of instances (Software Component Template: RTEEvent, RunnableEntity).
-use Rattle.std.specs.Prelude.{ℕ, List, [], ◌∷◌, map, nat_eq, Option, Some, None, option_map, if◌then◌else◌}
+use Rattle.std.specs.Prelude.{ℕ, List, [], ◌∷◌, map, get_or, nat_eq, Option, Some, None, option_map, if◌then◌else◌}
 use Rattle.std.specs.Arc.{arc_value}
 use Rattle.std.specs.Option.{option_map_or}
 use Rattle.runnable_lang.specs.declared.program.AccessKind.{AccessKind}
@@ -24,6 +24,7 @@ use Rattle.bus_semantics.specs.declared.plan.Moment.{Moment}
 use Rattle.bus_semantics.specs.declared.plan.Moment.TheVariants as moment
 use Rattle.bus_semantics.specs.Plan.{Runnable}
 use Rattle.plan_definitions.specs.Signatures.{signature}
+use Rattle.plan_definitions.specs.Listed.{list_numbers}
 use Rattle.plan_definitions.specs.Lists.{from}
 use Rattle.plan_definitions.specs.Parts.{areas_of, of_instances, runnables_of}
 use Rattle.plan_definitions.specs.Keys.{pair_number}
@@ -102,7 +103,7 @@ runnable_of d f i c m r = record {
   accesses = signature d.types c r.accesses;
   targets = map (target_of d f i m) r.accesses;
   server = option_map (served_number d f i) (served_by c.behavior.events m);
-  lists = [];
+  lists = get_or (list_numbers d f) (pair_number (runnables_of d f) (i, m)) [];
 }
 
 abbrev pub runnables_of_component : Description → Flat → ℕ → Component → List Runnable

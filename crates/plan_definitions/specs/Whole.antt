@@ -1,4 +1,4 @@
--- A description that breaks none of the thirty rules, made flat, with its plan and its mapping.
+-- A description that breaks none of the rules, made flat, with its plan and its mapping.
 use Rattle.std.specs.Prelude.{◌≡◌, None}
 use Rattle.description_types.specs.declared.description.Description.{Description}
 use Rattle.flat_descriptions.specs.declared.flat.Flat.{Flat}

@@ -13,4 +13,7 @@ pub enum ComponentRule {
     Calls,
     /// Modes disable only events that they may disable, and are of the group of an R-port.
     Disablings,
+    /// Each coherent access list has 2 to 16 items of one kind of implicit access, each in no other list of its runnable, with at
+    /// most 16 words.
+    CoherentLists,
 }

@@ -7,4 +7,6 @@ pub enum Spot {
     /// An access of a runnable.
     Access { runnable: usize, access: usize },
     Event(usize),
+    /// A coherent access list of a runnable.
+    List { runnable: usize, list: usize },
 }

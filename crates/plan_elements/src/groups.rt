@@ -3,7 +3,7 @@
 ghost use Rattle.std.specs.Prelude.{◌≡◌, ◌+◌, ◌<◌, ◌^◌, [], ◌∷◌, ◌++◌, IfOk, OnOk, length, map, nat_eq, if◌then◌else◌};
 ghost use Rattle.plan_definitions.specs.Elements.{leaders as all_leaders};
 ghost use Rattle.plan_elements.specs.Grouped.{AreGroups};
-ghost use Rattle.plan_definitions.specs.ElementGroups.{groups as all_groups, heads};
+ghost use Rattle.plan_definitions.specs.ElementGroups.{group_number, groups as all_groups, heads};
 ghost use Rattle.plan_elements.specs.Lists.{ranks};
 ghost use Rattle.plan_elements.specs.Spreads.{number_at};
 
@@ -71,18 +71,38 @@ fn numbers_of(alloc: Global, ranks: &[u32], leaders: &[u32]) -> Result<Vec<u32>,
     Ok(list)
 }
 
-/// The groups of a description.
+/// Groups of some things: for each the number of its group, and how many groups there are.
+#[derive(Drop)]
+pub struct Grouping {
+    pub numbers: Vec<u32>,
+    pub count: usize,
+}
+
+/// The groups of things of which the least in the group of each is known. They are numbered by their least things.
 #[tactic(auto, using(crate::proofs::Ranking::ranks_are))]
+pub fn grouping_of(alloc: Global, leaders: &[u32]) -> Result<Grouping, Memory>
+    requires { length leaders.now < 2 ^ 32 }
+    ensures numbers { IfOk result (λ grouping. grouping.numbers.items ≡ map (group_number leaders.now) leaders.now) }
+    ensures count { IfOk result (λ grouping. grouping.count ≡ length (heads leaders.now)) }
+{
+    let ranks = ranks_of(alloc, leaders)?;
+    let numbers = numbers_of(alloc, ranks.numbers.as_slice(), leaders)?;
+    Ok(Grouping {
+        numbers,
+        count: ranks.count as usize,
+    })
+}
+
+/// The groups of a description.
 pub fn groups_over(alloc: Global, source: &Source<'_>) -> Result<Groups, Memory>
     ensures { IfOk result (λ groups. AreGroups source.now.d.now source.now.f.now groups) }
 {
     let Ends { pairs, joined } = ends_of(alloc, source)?;
     let leaders = leaders_of(alloc, source, pairs.as_slice())?;
-    let ranks = ranks_of(alloc, leaders.as_slice())?;
-    let numbers = numbers_of(alloc, ranks.numbers.as_slice(), leaders.as_slice())?;
+    let Grouping { numbers, count } = grouping_of(alloc, leaders.as_slice())?;
     Ok(Groups {
         numbers,
-        count: ranks.count as usize,
+        count,
         joined,
     })
 }

@@ -11,4 +11,5 @@ mod spread;
 mod types;
 
 pub use elements::element_plans;
-pub use groups::{Groups, group_lists, groups_over};
+pub use groups::{Grouping, Groups, group_lists, grouping_of, groups_over};
+pub use members::all_members;

@@ -19,6 +19,7 @@ use Rattle.plan_definitions.specs.declared.component_rule.ComponentRule.TheVaria
 use Rattle.plan_definitions.specs.declared.spot.Spot.TheVariants as spot
 use Rattle.plan_definitions.specs.Accesses.{misfit, misfit_among}
 use Rattle.plan_definitions.specs.Calls.{access_keeps, called, called_by, event_keeps, is_left, left, left_by, mixed, mixed_access, mixed_event}
+use Rattle.plan_definitions.specs.Coherent.{incoherent, incoherent_among}
 use Rattle.plan_definitions.specs.Events.{misplaced, wrongly_disabled}
 use Rattle.plan_definitions.specs.Firsts.{first_of, unless}
 use Rattle.plan_definitions.specs.Invocations.{wrongly_served}
@@ -27,7 +28,7 @@ use Rattle.plan_definitions.specs.ComponentRefusals.{broken_in, number_of, of_pr
 use Rattle.plan_definitions.specs.Signatures.{signature}
 use Rattle.plan_definitions.specs.Spots.{program_text, spot_text}
 use Rattle.plan_definitions.specs.Counts.{count, same_operation}
-use Rattle.plan_laws.proofs.Held.{bare, held_as, on_each, on_first}
+use Rattle.plan_laws.proofs.Held.{bare, held_as, on_each, on_first, running}
 
 -- ---- a component
 
@@ -79,12 +80,17 @@ mixed-again : (a b : Component) → component_tree a ≡ component_tree b → mi
 mixed-again a b e = let same = runnables_of a b e in
     λ i. option_or (mixed_access-again a.behavior.runnables b.behavior.runnables same i) ((mixed_event-again a.behavior.runnables b.behavior.runnables same a.behavior.events ∙ ap (mixed_event b.behavior.runnables) (ap (λ t. t.behavior.events) e)) i)
 
+incoherent-again : (types : TypeTable) (a b : Component) → component_tree a ≡ component_tree b → incoherent types a ≡ incoherent types b
+incoherent-again types a b e = on_first runnable_tree (λ m r. incoherent_among types a m r) (λ m r. incoherent_among types b m r)
+    (λ m r s same. λ i. incoherent_among types (bare (e i)) m (running r.program (same i))) 0 a.behavior.runnables b.behavior.runnables (runnables_of a b e)
+
 broken_in-again : (r : rules.ComponentRule) (types : TypeTable) (a b : Component) → component_tree a ≡ component_tree b → broken_in r types a ≡ broken_in r types b
 broken_in-again rule.Accesses types a b e = misfit-again types a b e
 broken_in-again rule.EventKinds types a b e = ap (λ t. misplaced types (bare t)) e
 broken_in-again rule.Invocations types a b e = ap (λ t. wrongly_served types (bare t)) e
 broken_in-again rule.Calls types a b e = mixed-again a b e
 broken_in-again rule.Disablings types a b e = ap (λ t. wrongly_disabled types (bare t)) e
+broken_in-again rule.CoherentLists types a b e = incoherent-again types a b e
 
 pub signature-again : (types : TypeTable) (a b : Component) → component_tree a ≡ component_tree b → (accesses : List Access) → signature types a accesses ≡ signature types b accesses
 signature-again types a b e accesses = ap (λ t. signature types (bare t) accesses) e
@@ -102,7 +108,7 @@ refused_in-again wanted types a b e = on_first runnable_tree
 -- ---- a description
 
 module _ (d : Description) (cs : List Component) (same : map component_tree d.components ≡ map component_tree cs) where
-  of_rule-again : (r : rules.ComponentRule) → of_rule r d ≡ of_rule r (held_as d cs)
+  pub of_rule-again : (r : rules.ComponentRule) → of_rule r d ≡ of_rule r (held_as d cs)
   of_rule-again r = ap (λ o. option_map (λ x. (number_of r, spot_text x.0 x.1)) o)
       (on_first component_tree (λ n c. option_map (λ place. (n, place)) (broken_in r d.types c)) (λ n c. option_map (λ place. (n, place)) (broken_in r d.types c))
       (λ n a b e. ap (option_map (λ place. (n, place))) (broken_in-again r d.types a b e)) 0 d.components cs same)

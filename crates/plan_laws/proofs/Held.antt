@@ -31,7 +31,7 @@ bare t = record {
 }
 
 abbrev pub running : Shared → RunnableTree → Runnable
-running p t = record { short_name = t.short_name; can_be_invoked_concurrently = t.can_be_invoked_concurrently; accesses = t.accesses; program = p }
+running p t = record { short_name = t.short_name; can_be_invoked_concurrently = t.can_be_invoked_concurrently; accesses = t.accesses; coherent = t.coherent; program = p }
 
 -- ---- what two functions give that tell nothing but the tree
 

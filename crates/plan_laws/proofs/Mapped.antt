@@ -36,7 +36,7 @@ module _ (d : Description) (cs : List Component) (same : map component_tree d.co
   pub at_events : {X : Type 0} (n : ℕ) (g : List Event → Option X) → option_and_then (λ c. g c.behavior.events) (component_of d f n) ≡ option_and_then (λ c. g c.behavior.events) (component_of (held_as d cs) f n)
   at_events n g = look_on component_tree (λ c. g c.behavior.events) (λ c. g c.behavior.events) (λ a b e. ap (λ t. g t.behavior.events) e) (component_of d f n) (component_of (held_as d cs) f n) (component_of-again d cs same f n)
 
-  at_runnable : (n m : ℕ) → option_map runnable_tree (option_and_then (λ c. slice_get c.behavior.runnables m) (component_of d f n))
+  pub at_runnable : (n m : ℕ) → option_map runnable_tree (option_and_then (λ c. slice_get c.behavior.runnables m) (component_of d f n))
       ≡ option_map runnable_tree (option_and_then (λ c. slice_get c.behavior.runnables m) (component_of (held_as d cs) f n))
   at_runnable n m = look_within component_tree runnable_tree (λ c. slice_get c.behavior.runnables m)
       (λ a b e. at_place runnable_tree a.behavior.runnables b.behavior.runnables (ap (λ t. t.behavior.runnables) e) m) (component_of d f n) (component_of (held_as d cs) f n) (component_of-again d cs same f n)

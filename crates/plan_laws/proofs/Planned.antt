@@ -1,5 +1,5 @@
 -- The plan, where programs are held elsewhere.
-use Rattle.std.proofs.Common.{◌≡◌, ℕ, ◌==◌, List, [], ◌∷◌, ◌++◌, map, length, slice_get, Bool, false, not, ◌&&◌, ◌||◌, is_some, if◌then◌else◌, Option, Some, None, option_map, option_and_then, refl, ap}
+use Rattle.std.proofs.Common.{◌≡◌, ℕ, ◌==◌, List, [], ◌∷◌, ◌++◌, map, length, get_or, slice_get, Bool, false, not, ◌&&◌, ◌||◌, is_some, if◌then◌else◌, Option, Some, None, option_map, option_and_then, refl, ap}
 use Rattle.std.specs.List.{flat_map, list_any}
 use Rattle.std.specs.Option.{option_map_or, unwrap_or}
 use Rattle.runnable_lang.specs.declared.program.AccessKind.{AccessKind}
@@ -13,6 +13,7 @@ use Rattle.description_types.specs.declared.component.Component.{Component}
 use Rattle.description_types.specs.declared.component.Event.{Event}
 use Rattle.description_types.specs.declared.component.EventKind as declared_kind
 use Rattle.description_types.specs.declared.component.EventKind.TheVariants as event
+use Rattle.description_types.specs.declared.component.ItemPair.{ItemPair}
 use Rattle.description_types.specs.declared.component.Port.{Port}
 use Rattle.description_types.specs.declared.component.Runnable as declared_runnable
 use Rattle.description_types.specs.declared.description.Description.{Description}
@@ -21,7 +22,7 @@ use Rattle.flat_descriptions.specs.declared.flat.Flat.{Flat}
 use Rattle.flat_descriptions.specs.declared.flat.Instance.{Instance}
 use Rattle.bus_semantics.specs.declared.plan.ElemKind.TheVariants as elem
 use Rattle.bus_semantics.specs.declared.plan.EventKind.TheVariants as plan_event
-use Rattle.bus_semantics.specs.Plan.{positions}
+use Rattle.bus_semantics.specs.Bundles.{leaders_by}
 use Rattle.plan_definitions.specs.Signatures.{arguments_of}
 use Rattle.plan_definitions.specs.declared.site.Site.{Site}
 use Rattle.plan_definitions.specs.Joined.{end_at, end_of, is_joined, provider_of}
@@ -30,7 +31,7 @@ use Rattle.plan_definitions.specs.Lists.{from}
 use Rattle.plan_definitions.specs.Parts.{component_of}
 use Rattle.plan_definitions.specs.Sites.{root_ports}
 use Rattle.plan_definitions.specs.Elements.{declared_at, element_in, element_of, elements, given_of, group_of, held, is_provided, keeps_last, keeps_queue, kind_of, leaders, limits_of, never_received_of, policy_kind, queue_of, type_of, variable_at, words_of, zeros}
-use Rattle.plan_definitions.specs.ElementGroups.{group_number, groups, leader_of}
+use Rattle.plan_definitions.specs.ElementGroups.{all_members, group_number, groups, leader_of}
 use Rattle.plan_definitions.specs.declared.calling.Calling.{Calling}
 use Rattle.plan_definitions.specs.Callings.{calling_of, callings, callings_in, callings_of_component, first_calling, is_calling, leaves, outer_callings, owner_of, point_number}
 use Rattle.plan_definitions.specs.Modes.{group_at, group_in, machine_at, machines, mode_port_at, mode_ports, refuses_asynchronous, is_user, waits_of}
@@ -38,11 +39,12 @@ use Rattle.plan_definitions.specs.Services as services
 use Rattle.plan_definitions.specs.Services.{argument_of, operation_at, operation_in, point_of, point_words, points, server_at, server_of, servers, started_by}
 use Rattle.plan_definitions.specs.Started.{disabling_of, event_of, events, moment_of, runnable_of, runnables, served_by, target_of}
 use Rattle.plan_definitions.specs.Started as started
-use Rattle.plan_definitions.specs.Planned.{alone, areas, areas_at, named_areas, object_count, plan_of}
+use Rattle.plan_definitions.specs.Listed.{bundle_leaders, groups_listed, is_required, list_numbers, list_of, lists, lists_at, reads, runnable_at}
+use Rattle.plan_definitions.specs.Planned.{areas, areas_at, named_areas, object_count, plan_of}
 use Rattle.plan_laws.proofs.Components.{signature-again}
 use Rattle.plan_laws.proofs.Held.{held_as, look, look_on, on_from}
-use Rattle.plan_laws.proofs.Mapped.{at_events, invocation_of-again, is_mapped-again}
-use Rattle.plan_laws.proofs.Parts.{areas_of-again, com_spec_of-again, component_of-again, element_number-again, events_of-again, found, interface_of-again, item_text-again, machine_for-again, machine_number-again, mode_port_number-again, mode_ports_of-again, of_instances-again, of_kind-again, queue_length_of-again, runnables_of-again, server_number-again, site_name-again}
+use Rattle.plan_laws.proofs.Mapped.{at_events, at_runnable, invocation_of-again, is_mapped-again}
+use Rattle.plan_laws.proofs.Parts.{areas_of-again, com_spec_of-again, component_of-again, element_number-again, events_of-again, found, interface_of-again, item_text-again, machine_for-again, machine_number-again, mode_port_number-again, mode_ports_of-again, of_instances-again, of_kind-again, ports_of-again, queue_length_of-again, runnables_of-again, server_number-again, site_name-again}
 
 module _ (d : Description) (cs : List Component) (same : map component_tree d.components ≡ map component_tree cs) (f : Flat) where
   -- ---- elements
@@ -261,6 +263,30 @@ module _ (d : Description) (cs : List Component) (same : map component_tree d.co
       by kind.Enter = ap (λ ps. pair_number ps (n, a.item)) (areas_of-again d cs same f)
       by _ = element_number-again d cs same f n (Some a.port) a.item
 
+  -- ---- coherent lists and bundles
+
+  reads-again : (i : ℕ) (pairs : List ItemPair) → reads d f i pairs ≡ reads (held_as d cs) f i pairs
+  reads-again i [] = refl
+  reads-again i (x ∷ more) = ap (λ ps. option_map_or (λ (port : Port). is_required port.kind) (slice_get ps x.port) false) (ports_of-again d cs same f (Some i))
+
+  list_of-again : (n i : ℕ) (pairs : List ItemPair) → list_of d f n i pairs ≡ list_of (held_as d cs) f n i pairs
+  list_of-again n i pairs = λ j. record { runnable = n; elems = map (λ (x : ItemPair). element_number-again d cs same f i (Some x.port) x.item j) pairs; reads = reads-again i pairs j }
+
+  lists_at-again : (n : ℕ) (x : ℕ × ℕ) → lists_at d f n x ≡ lists_at (held_as d cs) f n x
+  lists_at-again n x = look runnable_tree (λ r. map (list_of d f n x.0) r.coherent) (λ r. map (list_of (held_as d cs) f n x.0) r.coherent) []
+      (λ a b e. λ j. map (λ ps. list_of-again n x.0 ps j) ((e j).coherent)) (runnable_at d f x) (runnable_at (held_as d cs) f x) (at_runnable d cs same f x.0 x.1)
+
+  lists-again : lists d f ≡ lists (held_as d cs) f
+  lists-again = λ j. from 0 (λ n x. lists_at-again n x j) (runnables_of-again d cs same f j)
+
+  list_numbers-again : list_numbers d f ≡ list_numbers (held_as d cs) f
+  list_numbers-again = λ j. all_members (length (runnables_of-again d cs same f j)) (map (λ c. c.runnable) (lists-again j))
+
+  bundle_leaders-again : bundle_leaders d f ≡ bundle_leaders (held_as d cs) f
+  bundle_leaders-again = λ j. leaders_by (length (groups (leaders-again j))) (map (groups_listed (elements-again j)) (lists-again j))
+
+  -- ---- runnables
+
   runnable_of-again : (n : ℕ) (a b : Component) → component_tree a ≡ component_tree b → (m : ℕ) (r s : declared_runnable.Runnable) → runnable_tree r ≡ runnable_tree s → runnable_of d f n a m r ≡ runnable_of (held_as d cs) f n b m s
   runnable_of-again n a b e m r s x = λ i. record {
     instance = n;
@@ -269,7 +295,7 @@ module _ (d : Description) (cs : List Component) (same : map component_tree d.co
     accesses = signature-again d.types a b e ((x i).accesses) i;
     targets = map (λ y. target_of-again n m y i) ((x i).accesses);
     server = option_map (λ y. server_number-again d cs same f (Some n, Some y.0, y.1) i) (served_by ((e i).behavior.events) m);
-    lists = [];
+    lists = get_or (list_numbers-again i) (pair_number (runnables_of-again d cs same f i) (n, m)) [];
   }
 
   runnables-again : runnables d f ≡ runnables (held_as d cs) f
@@ -291,8 +317,8 @@ module _ (d : Description) (cs : List Component) (same : map component_tree d.co
     mode_ports = mode_ports-again i;
     events = events-again i;
     runnables = runnables-again i;
-    lists = [];
-    homes = positions (length (groups (leaders-again i)));
-    bundles = map alone (positions (length (groups (leaders-again i))));
-    objects = object_count (length (groups (leaders-again i))) (length (servers-again i)) (length (areas-again i)) (length (machines-again i));
+    lists = lists-again i;
+    homes = map (group_number (bundle_leaders-again i)) (bundle_leaders-again i);
+    bundles = groups (bundle_leaders-again i);
+    objects = object_count (length (groups (bundle_leaders-again i))) (length (servers-again i)) (length (areas-again i)) (length (machines-again i));
   }

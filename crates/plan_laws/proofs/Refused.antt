@@ -9,10 +9,11 @@ use Rattle.flat_descriptions.specs.Paths.{ContainsItself}
 use Rattle.flat_descriptions.specs.declared.flat.Flat.{Flat}
 use Rattle.flat_descriptions.specs.Flattening.{IsFlatOf, IsRefusedAt, composition_place, connector_place}
 use Rattle.plan_definitions.specs.JoinRefusals as joins
+use Rattle.plan_definitions.specs.declared.component_rule.ComponentRule.TheVariants as rule
 use Rattle.plan_definitions.specs.ComponentRefusals as components
 use Rattle.plan_definitions.specs.MappingRefusals.{IsAfter, IsOfTasks, mapping_text, of_events}
 use Rattle.plan_definitions.specs.MappingRefusals as mapping
-use Rattle.plan_definitions.specs.PlanRefusals.{IsOfSize, IsRefusal, IsThen, of_size}
+use Rattle.plan_definitions.specs.PlanRefusals.{IsOfLists, IsOfSize, IsRefusal, IsThen, of_size}
 use Rattle.plan_laws.proofs.Components as again
 use Rattle.plan_laws.proofs.Flat.{flat_as, refused_as}
 use Rattle.plan_laws.proofs.Held.{held_as}
@@ -85,7 +86,7 @@ refused_not_flat d r p f (inl (is, (c, first, at))) flat = none_first (ContainsI
 refused_not_flat d r p f (inr (inl (is, nesting, past, at))) flat = past flat.limits
 refused_not_flat d r p f (inr (inr (is, nesting, limits, (x, first, at)))) flat = none_broken d x flat.connectors first
 
--- ---- rules 12 to 30
+-- ---- rules 12 to 31
 
 after_once : (found : Found) (later : Found → Type 0) → IsOnce later → IsOnce (IsAfter found later)
 after_once None later once o p a b = once o p a b
@@ -114,8 +115,12 @@ tasks_once d f (Some x) (Some y) (is, reaches) (also, again) = ap (λ z. Some z)
 size_once : (d : Description) (f : Flat) → IsOnce (IsOfSize d f)
 size_once d f o p a b = sym a ∙ b
 
+lists_once : (d : Description) → IsOnce (IsOfLists d)
+lists_once d o p a b = sym a ∙ b
+
 mapping_once : (d : Description) (f : Flat) → IsOnce (IsRefusal d f)
-mapping_once d f = after_once (components.refusal d) _ (then_once (mapping.IsRefusal d f) (IsOfSize d f) (after_once (of_events d f) (IsOfTasks d f) (tasks_once d f)) (size_once d f))
+mapping_once d f = after_once (components.refusal d) _ (then_once (mapping.IsRefusal d f) (IsThen (IsOfSize d f) (IsOfLists d)) (after_once (of_events d f) (IsOfTasks d f) (tasks_once d f))
+    (then_once (IsOfSize d f) (IsOfLists d) (size_once d f) (lists_once d)))
 
 pub after_first : (found : Found) (later : Found → Type 0) (x : ℕ × List ℕ) → found ≡ Some x → IsAfter found later (Some x)
 after_first None later x e = absurd (none_some x e)
@@ -146,10 +151,17 @@ module _ (d : Description) (cs : List Component) (same : map component_tree d.co
   size_as : (f : Flat) (o : Found) → IsOfSize d f o → IsOfSize (held_as d cs) f o
   size_as f o is = subst (λ p. of_size p ≡ o) (plan_of-again d cs same f) is
 
-  then_as : (f : Flat) (o : Found) → IsThen (mapping.IsRefusal d f) (IsOfSize d f) o → IsThen (mapping.IsRefusal (held_as d cs) f) (IsOfSize (held_as d cs) f) o
-  then_as f None (none, size) = (refusal_as d cs same f None none, size_as f None size)
-  then_as f (Some x) (inl is) = inl (refusal_as d cs same f (Some x) is)
-  then_as f (Some x) (inr (none, size)) = inr (refusal_as d cs same f None none, size_as f (Some x) size)
+  lists_as : (o : Found) → IsOfLists d o → IsOfLists (held_as d cs) o
+  lists_as o is = subst (λ p. p ≡ o) (again.of_rule-again d cs same rule.CoherentLists) is
+
+  either_as : (p q r s : Found → Type 0) → ((o : Found) → p o → q o) → ((o : Found) → r o → s o) → (o : Found) → IsThen p r o → IsThen q s o
+  either_as p q r s first later None (none, is) = (first None none, later None is)
+  either_as p q r s first later (Some x) (inl is) = inl (first (Some x) is)
+  either_as p q r s first later (Some x) (inr (none, is)) = inr (first None none, later (Some x) is)
+
+  then_as : (f : Flat) (o : Found) → IsThen (mapping.IsRefusal d f) (IsThen (IsOfSize d f) (IsOfLists d)) o → IsThen (mapping.IsRefusal (held_as d cs) f) (IsThen (IsOfSize (held_as d cs) f) (IsOfLists (held_as d cs))) o
+  then_as f = either_as (mapping.IsRefusal d f) (mapping.IsRefusal (held_as d cs) f) _ _ (refusal_as d cs same f)
+      (either_as (IsOfSize d f) (IsOfSize (held_as d cs) f) (IsOfLists d) (IsOfLists (held_as d cs)) (size_as f) lists_as)
 
   after_as : (a b : Found) → a ≡ b → (p q : Found → Type 0) → ((o : Found) → p o → q o) → (o : Found) → IsAfter a p o → IsAfter b q o
   after_as None None e p q to o is = to o is

@@ -31,8 +31,8 @@ use Rattle.plan_definitions.specs.Callings.{callings}
 use Rattle.plan_definitions.specs.Services.{point_of, server_of}
 use Rattle.plan_definitions.specs.Started.{event_of, events}
 use Rattle.plan_definitions.specs.Planned.{areas, areas_at, named_areas, plan_of}
-use Rattle.plan_definitions.specs.PlanRules.{is_queued, is_too_large, received, requested}
-use Rattle.plan_laws.specs.Sizes.{is_past, objects_of, waiting_at}
+use Rattle.plan_definitions.specs.PlanRules.{is_queued, is_too_large, received, requested, things}
+use Rattle.plan_laws.specs.Sizes.{is_past, things_of, waiting_at}
 
 -- ---- lengths
 
@@ -68,8 +68,8 @@ module _ (d : Description) (f : Flat) where
       by i None = refl
       by i (Some c) = as_long (event_of d f i) c.behavior.events
 
-  objects_counted : (plan_of d f).objects ≡ objects_of d f
-  objects_counted = λ i. groups_listed (leaders d f) i + (as_long (server_of d f) (servers_of d f) i + (areas_listed i + (as_long (λ (s : Site). machine_at d f s.owner (unwrap_or s.port 0)) (machines_of d f) i + 1)))
+  things_counted : things (plan_of d f) ≡ things_of d f
+  things_counted = λ i. groups_listed (leaders d f) i + (as_long (server_of d f) (servers_of d f) i + (areas_listed i + (as_long (λ (s : Site). machine_at d f s.owner (unwrap_or s.port 0)) (machines_of d f) i + 1)))
 
 -- ---- queues: a variable stands at no port
 
@@ -201,4 +201,4 @@ module _ (d : Description) (f : Flat) where
 
 -- the law
 pub plan_counts : (d : Description) (f : Flat) → is_too_large (plan_of d f) ≡ is_past d f
-plan_counts d f = λ i. (nat_lt 16384 (objects_counted d f i) || nat_lt 16384 (events_listed d f i)) || (nat_lt 65536 (counted_alike d f (sites d f) (sites_fair d f) i) || nat_lt 262144 (as_long (point_of d f) (callings d f) i))
+plan_counts d f = λ i. (nat_lt 16384 (things_counted d f i) || nat_lt 16384 (events_listed d f i)) || (nat_lt 65536 (counted_alike d f (sites d f) (sites_fair d f) i) || nat_lt 262144 (as_long (point_of d f) (callings d f) i))

@@ -1,5 +1,6 @@
--- Rule 30 over what is listed (Software Component Template, flattened; profile: the limits of a bus). There are at most 16,384 objects and
--- 16,384 events, in all queues together at most 65,536 values, requests and switches may wait, and there are at most 262,144 points.
+-- Rule 30 over what is listed (Software Component Template, flattened; profile: the limits of a bus). There are at most 16,384 groups,
+-- servers, areas and machines together with the clock, and 16,384 events, in all queues together at most 65,536 values, requests and
+-- switches may wait, and there are at most 262,144 points.
 use Rattle.std.specs.Prelude.{ℕ, ◌+◌, length, sum_by, Bool, false, ◌||◌, nat_lt, if◌then◌else◌}
 use Rattle.std.specs.Option.{unwrap_or}
 use Rattle.description_types.specs.declared.description.Description.{Description}
@@ -18,8 +19,8 @@ use Rattle.plan_definitions.specs.PlanRules.{is_queued}
 use Rattle.plan_definitions.specs.Callings.{callings}
 
 -- the groups of data elements, each by its least element, the servers, the exclusive areas, the mode machines, and the clock
-abbrev pub objects_of : Description → Flat → ℕ
-objects_of d f = length (heads (leaders d f)) + (length (servers_of d f) + (length (areas_of d f) + (length (machines_of d f) + 1)))
+abbrev pub things_of : Description → Flat → ℕ
+things_of d f = length (heads (leaders d f)) + (length (servers_of d f) + (length (areas_of d f) + (length (machines_of d f) + 1)))
 
 -- how many may wait: at a required element that is queued, joined or not, the environment's too; at a server whose event is mapped; at a machine
 abbrev pub waiting_at : Description → Flat → Site → ℕ
@@ -33,4 +34,4 @@ waiting_at d f s = by s.kind
 
 -- rule 30 is broken
 abbrev pub is_past : Description → Flat → Bool
-is_past d f = (nat_lt 16384 (objects_of d f) || nat_lt 16384 (length (events_of d f))) || (nat_lt 65536 (sum_by (waiting_at d f) (sites d f)) || nat_lt 262144 (length (callings d f)))
+is_past d f = (nat_lt 16384 (things_of d f) || nat_lt 16384 (length (events_of d f))) || (nat_lt 65536 (sum_by (waiting_at d f) (sites d f)) || nat_lt 262144 (length (callings d f)))

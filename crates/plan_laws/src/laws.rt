@@ -33,7 +33,7 @@ pub fn no_refused_description_has_a_plan()
     ensures { (bytes : List ℕ) (r : Refusal) (x : PlannedDescription) → IsPlanRefusalOf bytes (Rule r) → ¬ IsPlannedOf bytes x }
 {}
 
-/// Rule 30 counts what is listed: the plan has as many objects, events, places in queues and points.
+/// Rule 30 counts what is listed: the plan has as many groups, servers, areas and machines, events, places in queues and points.
 pub fn plans_count_what_is_listed()
     ensures { (d : Description) (f : Flat) → is_too_large (plan_of d f) ≡ is_past d f }
 {}

@@ -1,13 +1,16 @@
 //! The runnables of a plan.
 
-ghost use Rattle.std.specs.Prelude.{◌≡◌, ◌<◌, ◌^◌, ℕ, Some, true, [], ◌∷◌, ◌++◌, IfOk, OnOk, length, map, nat_eq, option_map, slice_get};
+ghost use Rattle.std.specs.Prelude.{◌≡◌, ◌<◌, ◌^◌, ℕ, Some, true, [], ◌∷◌, ◌++◌, IfOk, OnOk, get_or, length, map, nat_eq, option_map, slice_get};
 ghost use Rattle.std.specs.List.{flat_map};
 ghost use Rattle.std.specs.Map.{lookup};
 ghost use Rattle.std.specs.Option.{option_map_or};
 ghost use Rattle.bus_semantics.specs.Codes.{HaveOneCode};
 ghost use Rattle.bus_semantics.specs.Plan.{runnable_of as seen};
 ghost use Rattle.description_types.specs.declared.component.Runnable.{Runnable};
+ghost use Rattle.plan_definitions.specs.Keys.{pair_number};
+ghost use Rattle.plan_definitions.specs.Listed.{list_numbers};
 ghost use Rattle.plan_definitions.specs.Lists.{from};
+ghost use Rattle.plan_definitions.specs.Parts.{runnables_of};
 ghost use Rattle.plan_definitions.specs.Coding.{coded_in, coded_at, IsCoded, AreCoded};
 ghost use Rattle.plan_services.specs.Served.{served_entry};
 ghost use Rattle.plan_services.specs.Shared.{AreOfAll, AreSignatures, accesses_of, signature_in};
@@ -29,13 +32,37 @@ use rte_text::{Memory, Seq, Text};
 use std::alloc::Global;
 use std::sync::Arc;
 
-/// What all instances of a component have: its number, it itself, the operations that its runnables serve, and their signatures.
+/// What all instances of a component have: its number, it itself, the operations that its runnables serve, and their signatures; and the
+/// numbers of the coherent lists of all runnables.
 #[derive(Clone, Copy)]
 struct Common<'a> {
     number: u32,
     component: &'a Component,
     served: &'a Table<u32, Operation>,
     signatures: &'a [Shared],
+    lists: &'a [Seq<u32>],
+}
+
+/// The numbers of the coherent lists of a runnable of an instance.
+fn lists_of(
+    alloc: Global,
+    source: &Source<'_>,
+    lists: &[Seq<u32>],
+    instance: u32,
+    runnable: u32,
+) -> Result<Seq<u32>, Memory>
+    ensures { IfOk result (λ numbers. numbers ≡ get_or lists.now (pair_number (runnables_of source.now.d.now source.now.f.now) (instance, runnable)) []) }
+{
+    match lists.get(source.runnable_number(instance, runnable) as usize) {
+        Some(numbers) => {
+            let copied = Vec::from_slice(alloc, numbers.items())?;
+            Ok(Seq::of(copied))
+        }
+        None => {
+            let none = Vec::new(alloc);
+            Ok(Seq::of(none))
+        }
+    }
 }
 
 fn server_of(
@@ -65,6 +92,7 @@ fn runnable_of(
     requires calls { callings.now ≡ all_callings source.now.d.now source.now.f.now }
     requires serves { common.now.served.now.entries.items ≡ flat_map served_entry common.now.component.now.behavior.events }
     requires signature { accesses_of signature.now ≡ signature_in source.now.d.now.types common.now.component.now runnable.now }
+    requires lists { common.now.lists.now ≡ list_numbers source.now.d.now source.now.f.now }
     requires own { coded_at source.now.d.now (common.now.number, position) ≡ Some (coded_in source.now.d.now common.now.component.now runnable.now) }
     ensures seen { IfOk result (λ found. seen found ≡ runnable_of source.now.d.now source.now.f.now instance common.now.component.now position runnable.now) }
     ensures coded { IfOk result (λ found. IsCoded source.now.d.now found) }
@@ -74,7 +102,7 @@ fn runnable_of(
     let shared = Arc::try_clone(signature)?;
     let accesses = runnable.accesses.items();
     let targets = targets_of(alloc, source, callings, instance, position, accesses)?;
-    let no_lists = Vec::new(alloc);
+    let lists = lists_of(alloc, source, common.lists, instance, position)?;
     Ok(RunnablePlan {
         instance,
         name,
@@ -83,7 +111,7 @@ fn runnable_of(
         signature: shared,
         targets,
         server: server_of(source, common.served, instance, position),
-        lists: Seq::of(no_lists),
+        lists,
     })
 }
 
@@ -102,6 +130,7 @@ fn push_runnable(
     requires calls { callings.now ≡ all_callings source.now.d.now source.now.f.now }
     requires serves { common.now.served.now.entries.items ≡ flat_map served_entry common.now.component.now.behavior.events }
     requires signature { accesses_of signature.now ≡ signature_in source.now.d.now.types common.now.component.now runnable.now }
+    requires lists { common.now.lists.now ≡ list_numbers source.now.d.now source.now.f.now }
     requires own { coded_at source.now.d.now (common.now.number, number) ≡ Some (coded_in source.now.d.now common.now.component.now runnable.now) }
     requires coded { AreCoded source.now.d.now list.old.items }
     ensures listed { OnOk result (map seen list.new.items ≡ map seen list.old.items ++ runnable_of source.now.d.now source.now.f.now instance common.now.component.now number runnable.now ∷ []) }
@@ -128,6 +157,7 @@ fn push_runnables(
     requires calls { callings.now ≡ all_callings source.now.d.now source.now.f.now }
     requires serves { common.now.served.now.entries.items ≡ flat_map served_entry common.now.component.now.behavior.events }
     requires signatures { map accesses_of common.now.signatures.now ≡ map (signature_in source.now.d.now.types common.now.component.now) runnables.now }
+    requires lists { common.now.lists.now ≡ list_numbers source.now.d.now source.now.f.now }
     requires own { (m : ℕ) (r : Runnable) → slice_get runnables.now m ≡ Some r → coded_at source.now.d.now (common.now.number, m) ≡ Some (coded_in source.now.d.now common.now.component.now r) }
     requires coded { AreCoded source.now.d.now list.old.items }
     ensures listed { OnOk result (map seen list.new.items ≡ map seen list.old.items ++ from 0 (λ m r. runnable_of source.now.d.now source.now.f.now instance common.now.component.now m r ∷ []) runnables.now) }
@@ -152,11 +182,13 @@ fn push_component(
     instance: &Instance,
     component: &Component,
     signatures: &[Shared],
+    lists: &[Seq<u32>],
 ) -> Result<(), Memory>
     requires number { number < 2 ^ 32 }
     requires runnables { length component.now.behavior.runnables < 2 ^ 32 }
     requires calls { callings.now ≡ all_callings source.now.d.now source.now.f.now }
     requires signatures { AreSignatures source.now.d.now.types component.now signatures.now }
+    requires lists { lists.now ≡ list_numbers source.now.d.now source.now.f.now }
     requires placed { slice_get source.now.d.now.components instance.now.component ≡ Some component.now }
     requires coded { AreCoded source.now.d.now list.old.items }
     ensures listed { OnOk result (map seen list.new.items ≡ map seen list.old.items ++ runnables_of_component source.now.d.now source.now.f.now number component.now) }
@@ -168,6 +200,7 @@ fn push_component(
         component,
         served: &served,
         signatures,
+        lists,
     };
     let runnables = component.behavior.runnables.items();
     push_runnables(
@@ -187,12 +220,14 @@ fn push_instance(
     source: &Source<'_>,
     callings: &Callings,
     signatures: &[Seq<Shared>],
+    lists: &[Seq<u32>],
     number: usize,
     instance: &Instance,
 ) -> Result<(), Memory>
     requires number { number < 2 ^ 32 }
     requires calls { callings.now ≡ all_callings source.now.d.now source.now.f.now }
     requires signatures { AreOfAll source.now.d.now signatures.now }
+    requires lists { lists.now ≡ list_numbers source.now.d.now source.now.f.now }
     requires coded { AreCoded source.now.d.now list.old.items }
     ensures listed { OnOk result (map seen list.new.items ≡ map seen list.old.items ++ option_map_or (runnables_of_component source.now.d.now source.now.f.now number) (slice_get source.now.d.now.components instance.now.component) []) }
     ensures coded { OnOk result (AreCoded source.now.d.now list.new.items) }
@@ -202,7 +237,7 @@ fn push_instance(
             let position = instance.component as usize;
             let shared = signatures[position].items();
             push_component(
-                list, alloc, source, callings, number, instance, component, shared,
+                list, alloc, source, callings, number, instance, component, shared, lists,
             )
         }
         None => Ok(()),
@@ -215,28 +250,34 @@ fn push_instances(
     source: &Source<'_>,
     callings: &Callings,
     signatures: &[Seq<Shared>],
+    lists: &[Seq<u32>],
     instances: &[Instance],
 ) -> Result<(), Memory>
     requires instances { length instances.now < 2 ^ 32 }
     requires calls { callings.now ≡ all_callings source.now.d.now source.now.f.now }
     requires signatures { AreOfAll source.now.d.now signatures.now }
+    requires lists { lists.now ≡ list_numbers source.now.d.now source.now.f.now }
     requires coded { AreCoded source.now.d.now list.old.items }
     ensures listed { OnOk result (map seen list.new.items ≡ map seen list.old.items ++ from 0 (λ i x. option_map_or (runnables_of_component source.now.d.now source.now.f.now i) (slice_get source.now.d.now.components x.component) []) instances.now) }
     ensures coded { OnOk result (AreCoded source.now.d.now list.new.items) }
 {
     for (number, instance) in instances.iter().enumerate() {
-        push_instance(list, alloc, source, callings, signatures, number, instance)?;
+        push_instance(
+            list, alloc, source, callings, signatures, lists, number, instance,
+        )?;
     }
     Ok(())
 }
 
-/// The runnables of all instances, by instance and in declared order.
+/// The runnables of all instances, by instance and in declared order. `lists` has the numbers of the coherent lists of each.
 pub fn runnable_plans(
     alloc: Global,
     source: &Source<'_>,
     callings: &Callings,
+    lists: &[Seq<u32>],
 ) -> Result<Vec<RunnablePlan>, Memory>
     requires calls { callings.now ≡ all_callings source.now.d.now source.now.f.now }
+    requires lists { lists.now ≡ list_numbers source.now.d.now source.now.f.now }
     requires types { types_fit source.now.d.now.types ≡ true }
     ensures listed { IfOk result (λ list. map seen list.items ≡ all_runnables source.now.d.now source.now.f.now) }
     ensures coded { IfOk result (λ list. HaveOneCode list.items) }
@@ -249,6 +290,7 @@ pub fn runnable_plans(
         source,
         callings,
         signatures.as_slice(),
+        lists,
         source.f.instances.items(),
     )?;
     Ok(list)

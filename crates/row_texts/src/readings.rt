@@ -13,7 +13,7 @@ use std::alloc::{AllocError, Global};
 use trace_reading::{LineRead, read_entry, sound_plans_are_readable};
 use trace_text::{header, write_entry};
 
-/// The plan of a description, which rules 1 to 30 accept.
+/// The plan of a description, which rules 1 to 31 accept.
 fn plan_of_description(alloc: Global, description: &[u8]) -> Result<PlannedDescription, Fault>
     requires { length description.now ≤ 8388608 }
     ensures { IfOk result (λ found. IsReadable (plan_of found.plan)) }

@@ -26,7 +26,7 @@ three_back (x ∷ y ∷ z ∷ w ∷ cs) a b c e = absurd cc
 component_back : (c : Component) (t : ComponentTree) (r : RunnableTree) → t.behavior.runnables ≡ r ∷ [] → component_tree c ≡ t → (p : Shared) × (program_tree (arc_value p) ≡ r.program) × (c ≡ holding t p)
 component_back c t r one e =
     let (x, is, tree) = one_back c.behavior.runnables r (ap (λ u. u.behavior.runnables) e ∙ one) in
-    let same : x ≡ running x.program r = λ i. record { short_name = (tree i).short_name; can_be_invoked_concurrently = (tree i).can_be_invoked_concurrently; accesses = (tree i).accesses; program = x.program } in
+    let same : x ≡ running x.program r = λ i. record { short_name = (tree i).short_name; can_be_invoked_concurrently = (tree i).can_be_invoked_concurrently; accesses = (tree i).accesses; coherent = (tree i).coherent; program = x.program } in
     let runnables : c.behavior.runnables ≡ map (running x.program) t.behavior.runnables = is ∙ (ap (λ y. y ∷ []) same ∙ ap (map (running x.program)) (sym one)) in (
       x.program,
       ap (λ u. u.program) tree,

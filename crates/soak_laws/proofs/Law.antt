@@ -22,7 +22,7 @@ use Rattle.flat_descriptions.specs.Members.{Among}
 use Rattle.plan_definitions.specs.JoinRefusals as joins
 use Rattle.plan_definitions.specs.MappingRefusals as mapping
 use Rattle.plan_definitions.specs.MappingRefusals.{IsAfter, IsOfTasks, mapping_text, of_events}
-use Rattle.plan_definitions.specs.PlanRefusals.{IsOfSize, IsRefusal, IsThen}
+use Rattle.plan_definitions.specs.PlanRefusals.{IsOfLists, IsOfSize, IsRefusal, IsThen}
 use Rattle.description_stages.specs.Plans.{IsPlanRefusalOf}
 use Rattle.plan_laws.proofs.Sizes.{plan_counts}
 use Rattle.soak_maker.specs.Soak.{soak_value}
@@ -32,7 +32,7 @@ use Rattle.soak_laws.proofs.Flat.{instances_are, joined, not_refused, soak_insta
 use Rattle.soak_laws.proofs.Held.{IsSoaked, soaked_back}
 use Rattle.soak_laws.proofs.Joins.{may_join}
 use Rattle.soak_laws.proofs.Mapped.{events_keep, none_reaches_itself}
-use Rattle.soak_laws.proofs.Programs.{components_keep}
+use Rattle.soak_laws.proofs.Programs.{components_keep, lists_keep}
 use Rattle.soak_laws.proofs.Reading.{reading_is}
 use Rattle.soak_laws.proofs.References.{references}
 use Rattle.soak_laws.proofs.Shapes.{names, none_passes, shapes, unbroken}
@@ -60,7 +60,7 @@ module _ (n : ℕ) (few : n ≤ 64) where
   pub keeps_reading : early.refusal (soak_value n) ≡ None
   keeps_reading = λ i. option_or (keeps_base i) ((ap typed_refusal (reading_is n few) ∙ typed_keeps) i)
 
--- ---- rules 9 to 30
+-- ---- rules 9 to 31
 
 module _ (n : ℕ) (few : n ≤ 64) (d : Description) (is : IsSoaked n d) where
   open is use {producing as p, consuming as q, serving as s}
@@ -87,6 +87,9 @@ module _ (n : ℕ) (few : n ≤ 64) (d : Description) (is : IsSoaked n d) where
       let f : Flat = record { instances = soak_instances n; joins = js } in
       none-some x (sym (ap (λ b. if b then Some (30, mapping_text) else None) (plan_counts (soaked n p q s) f ∙ small n few p q s js)) ∙ refused)
 
+  no_list_refusal : (x : ℕ × List ℕ) → IsOfLists (soaked n p q s) (Some x) → ⊥
+  no_list_refusal x refused = none-some x (sym (lists_keep n p q s is.producer_is is.consumer_is is.server_is) ∙ refused)
+
   module _ (js : List Join) (all : (j : Join) → Among j js → Among j (soak_joins n)) (x : ℕ × List ℕ) where
     abbrev made_flat : Flat
     made_flat = record { instances = soak_instances n; joins = js }
@@ -96,8 +99,8 @@ module _ (n : ℕ) (few : n ≤ 64) (d : Description) (is : IsSoaked n d) where
 
     no_mapping_refusal : IsRefusal (soaked n p q s) made_flat (Some x) → ⊥
     no_mapping_refusal refused =
-        ⊎_elim no_task_refusal (λ later. no_size_refusal js x later.1)
-        (subst (λ o. IsAfter o (IsThen (mapping.IsRefusal (soaked n p q s) made_flat) (IsOfSize (soaked n p q s) made_flat)) (Some x)) (components_keep n p q s is.producer_is is.consumer_is is.server_is) refused)
+        ⊎_elim no_task_refusal (λ later. ⊎_elim (no_size_refusal js x) (λ last. no_list_refusal x last.1) later.1)
+        (subst (λ o. IsAfter o (IsThen (mapping.IsRefusal (soaked n p q s) made_flat) (IsThen (IsOfSize (soaked n p q s) made_flat) (IsOfLists (soaked n p q s)))) (Some x)) (components_keep n p q s is.producer_is is.consumer_is is.server_is) refused)
 
   no_refusal : (f : Flat) → IsFlatOf d f → (x : ℕ × List ℕ) → IsRefusal d f (Some x) → ⊥
   no_refusal f flat x refused = let here = flat_of f flat in

@@ -1,4 +1,4 @@
--- Rules 16 to 24: components and their programs.
+-- Rules 16 to 24, and 31: components and their programs.
 use Rattle.std.proofs.Common.{◌≡◌, ℕ, List, Option, Some, None, option_map, option_and_then, refl, ap}
 use Rattle.std.specs.Arc.{arc_value}
 use Rattle.std.specs.Option.{option_or}
@@ -38,6 +38,9 @@ module _ (n : ℕ) (p q s : Shared) (p_is : program_tree (arc_value p) ≡ produ
 
   events_keep : of_events (soaked n p q s) ≡ None
   events_keep = refl
+
+  pub lists_keep : of_rule rule.CoherentLists (soaked n p q s) ≡ None
+  lists_keep = refl
 
   abbrev told : ℕ → Option (ℕ × (ℕ × List ℕ)) → Found
   told r found = option_map (λ (x : ℕ × (ℕ × List ℕ)). (r, program_text x.0 x.1.0 x.1.1)) found

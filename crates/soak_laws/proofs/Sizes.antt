@@ -27,7 +27,7 @@ use Rattle.plan_definitions.specs.Ports.{com_spec_of, port_of, ports_of, queue_l
 use Rattle.plan_definitions.specs.Services.{is_numbered_mapped}
 use Rattle.plan_definitions.specs.Sites.{sites, sites_of_instance}
 use Rattle.plan_definitions.specs.Things.{elements_of}
-use Rattle.plan_laws.specs.Sizes.{is_past, objects_of, waiting_at}
+use Rattle.plan_laws.specs.Sizes.{is_past, things_of, waiting_at}
 use Rattle.plan_laws.proofs.Held.{Shared}
 use Rattle.soak_laws.proofs.Lists.{AllAt, at_start, length-three, three_at}
 use Rattle.soak_laws.proofs.Soaked.{acc_name, c_name, p_name, soaked}
@@ -179,8 +179,8 @@ module _ (n : ℕ) (few : n ≤ 64) (p q s : Shared) (js : List Join) where
       let elements = few_of is_element in
       omega (arith, each, all, elements)
 
-  few_objects : objects_of soak made_flat ≤ 16384
-  few_objects = let groups = few_groups in let servers = few_of is_server in let areas = few_areas in let machines = few_of is_machine in omega (arith, groups, servers, areas, machines)
+  few_things : things_of soak made_flat ≤ 16384
+  few_things = let groups = few_groups in let servers = few_of is_server in let areas = few_areas in let machines = few_of is_machine in omega (arith, groups, servers, areas, machines)
 
   few_waiting : sum_by (waiting_at soak made_flat) (sites soak made_flat) ≤ 65536
   few_waiting = let sum = sum_by-le (waiting_at soak made_flat) 64 (sites soak made_flat) (λ k d h. waiting_few (slice_index_or (sites soak made_flat) k d)) in let all = few_sites in omega (arith, sum, all)
@@ -188,5 +188,5 @@ module _ (n : ℕ) (few : n ≤ 64) (p q s : Shared) (js : List Join) where
   pub small : is_past soak made_flat ≡ false
   small =
       let events = few_events in let points = few_callings in
-      λ i. (le-ltb 16384 (objects_of soak made_flat) few_objects i || le-ltb 16384 (length (events_of soak made_flat)) (omega (arith, events)) i)
+      λ i. (le-ltb 16384 (things_of soak made_flat) few_things i || le-ltb 16384 (length (events_of soak made_flat)) (omega (arith, events)) i)
       || (le-ltb 65536 (sum_by (waiting_at soak made_flat) (sites soak made_flat)) few_waiting i || le-ltb 262144 (length (callings soak made_flat)) (omega (arith, points)) i)

@@ -87,6 +87,7 @@ making = record {
   short_name = codes "Make";
   can_be_invoked_concurrently = false;
   accesses = access kind.IrvRead 0 0 ∷ access kind.Send 0 0 ∷ access kind.IrvWrite 0 0 ∷ access kind.Call 1 0 ∷ [];
+  coherent = [];
   program = producer_program;
 }
 
@@ -107,6 +108,7 @@ taking = record {
   short_name = codes "Take";
   can_be_invoked_concurrently = false;
   accesses = access kind.Enter 0 0 ∷ access kind.Receive 0 0 ∷ access kind.IrvRead 0 0 ∷ access kind.IrvWrite 0 0 ∷ [];
+  coherent = [];
   program = consumer_program;
 }
 
@@ -127,6 +129,7 @@ adding = record {
   short_name = codes "Add";
   can_be_invoked_concurrently = false;
   accesses = access kind.IrvRead 0 0 ∷ access kind.IrvWrite 0 0 ∷ [];
+  coherent = [];
   program = server_program;
 }
 

@@ -73,14 +73,16 @@ module _ (d : Description) (f : Flat) (es : List ElemPlan) (seen : map elem_seen
       declared = ap (λ o. option_and_then (λ z. element_in z n) (option_map (λ (z : Interface). z.kind) (option_and_then (λ (q : Port). slice_get d.types.interfaces q.interface) o))) here
           ∙ ap (λ o. option_and_then (λ z. element_in z n) (option_map (λ (z : Interface). z.kind) o)) x.has ∙ ap (λ z. element_in z n) data_in.is ∙ data_in.there
 
+      pub data_site : slice_get (elements_of d f) (element_number d f i (Some k) n) ≡ Some (site (Some i) (Some k) n (Element (provides_at (Some i) side)))
+      data_site = numbered_kind d f is_element (place_of d f (Some i, Some k, n)) (site (Some i) (Some k) n (Element (provides_at (Some i) side)))
+          (site_there d f (Some i) k x.port (Element (provides_at (Some i) side)) (length data_in.all) n here shape (slice_get_within data_in.all n data_in.element data_in.there)) refl
+
       pub data_elem : ElemAt (element_number d f i (Some k) n) (site (Some i) (Some k) n (Element (provides_at (Some i) side))) (policy_kind policy) (provides_at (Some i) side) (slice_get d.types.data_types data_in.element.of_type)
       data_elem = seen_with (element_number d f i (Some k) n) (site (Some i) (Some k) n (Element (provides_at (Some i) side))) (kind_of d f (site (Some i) (Some k) n (Element (provides_at (Some i) side)))) (policy_kind policy) (provides_at (Some i) side)
           (type_of d f (site (Some i) (Some k) n (Element (provides_at (Some i) side)))) (slice_get d.types.data_types data_in.element.of_type)
           (ap (λ o. option_map_or (λ (e : DataElement). policy_kind e.sw_impl_policy) o elem.Unqueued) declared ∙ ap policy_kind data_in.kept)
           (ap (option_and_then (λ (e : DataElement). slice_get d.types.data_types e.of_type)) declared)
-          (elem_at (element_number d f i (Some k) n) (site (Some i) (Some k) n (Element (provides_at (Some i) side)))
-          (numbered_kind d f is_element (place_of d f (Some i, Some k, n)) (site (Some i) (Some k) n (Element (provides_at (Some i) side)))
-          (site_there d f (Some i) k x.port (Element (provides_at (Some i) side)) (length data_in.all) n here shape (slice_get_within data_in.all n data_in.element data_in.there)) refl))
+          (elem_at (element_number d f i (Some k) n) (site (Some i) (Some k) n (Element (provides_at (Some i) side))) data_site)
 
     -- a variable
     pub variable_elem : (n : ℕ) (v : DeclaredVariable) → slice_get c.behavior.variables n ≡ Some v → ElemAt (element_number d f i None n) (site (Some i) None n Variable) elem.Variable false (slice_get d.types.data_types v.of_type)

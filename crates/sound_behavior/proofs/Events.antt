@@ -34,7 +34,7 @@ use Rattle.plan_definitions.specs.declared.item.Item.TheVariants.{Data, Modes}
 use Rattle.plan_definitions.specs.Events as starting
 use Rattle.plan_definitions.specs.Items.{item_at}
 use Rattle.plan_definitions.specs.Planned.{plan_of as whole_plan}
-use Rattle.plan_definitions.specs.PlanRules.{queue_lengths}
+use Rattle.plan_definitions.specs.PlanRules.{queue_lengths, things}
 use Rattle.plan_definitions.specs.Elements.{elem_seen, elements, policy_kind}
 use Rattle.plan_definitions.specs.Keys.{pair_number}
 use Rattle.plan_definitions.specs.Parts.{events_of, runnables_of}
@@ -217,8 +217,8 @@ module _ (d : Description) (f : Flat) (p : BusPlan) (m : Mapping) (w : IsWhole d
 
   few : nat_le (length (events d f)) 16384 ≡ true
   few =
-      let a = or_parts (nat_lt 16384 (whole_plan d f).objects || nat_lt 16384 (length (events d f))) (nat_lt 65536 (queue_lengths (whole_plan d f)) || nat_lt 262144 (length (whole_plan d f).points)) (of_size d f p m w) in
-      let b = (or_parts (nat_lt 16384 (whole_plan d f).objects) (nat_lt 16384 (length (events d f))) a.0).1 in
+      let a = or_parts (nat_lt 16384 (things (whole_plan d f)) || nat_lt 16384 (length (events d f))) (nat_lt 65536 (queue_lengths (whole_plan d f)) || nat_lt 262144 (length (whole_plan d f).points)) (of_size d f p m w) in
+      let b = (or_parts (nat_lt 16384 (things (whole_plan d f))) (nat_lt 16384 (length (events d f))) a.0).1 in
       le-leb (length (events d f)) 16384 (ltb-false 16384 (length (events d f)) b)
 
   pub all_events : (every_from 0 (event_sound (planned d f es)) (events d f) && nat_le (length (events d f)) 16384) ≡ true

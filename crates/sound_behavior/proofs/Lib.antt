@@ -22,4 +22,6 @@ pub mod Arranged
 pub mod Operations
 pub mod Uses
 pub mod Runnables
+mod Runs
+mod Coherent
 mod PointNames

@@ -5,6 +5,7 @@ use Rattle.std.specs.Option.{option_or}
 use Rattle.description_types.specs.declared.component.Access.{Access}
 use Rattle.description_types.specs.declared.component.Component.{Component}
 use Rattle.description_types.specs.declared.component.Event.{Event}
+use Rattle.description_types.specs.declared.component.ItemPair.{ItemPair}
 use Rattle.description_types.specs.declared.component.Port.{Port}
 use Rattle.description_types.specs.declared.component.Runnable.{Runnable}
 use Rattle.description_types.specs.declared.component.Variable.{Variable}
@@ -20,6 +21,7 @@ use Rattle.plan_definitions.specs.declared.component_rule.ComponentRule.TheVaria
 use Rattle.plan_definitions.specs.declared.spot.Spot.TheVariants as spot
 use Rattle.plan_definitions.specs.Accesses as reaches
 use Rattle.plan_definitions.specs.Calls as waiting
+use Rattle.plan_definitions.specs.Coherent as coherent
 use Rattle.plan_definitions.specs.Events as starting
 use Rattle.plan_definitions.specs.Firsts.{first_of, unless}
 use Rattle.plan_definitions.specs.Invocations as serving
@@ -33,7 +35,8 @@ use Rattle.plan_definitions.specs.ElementGroups.{groups}
 use Rattle.plan_definitions.specs.Modes.{machines, mode_ports}
 use Rattle.plan_definitions.specs.Services.{points, servers}
 use Rattle.plan_definitions.specs.Started.{events, runnables}
-use Rattle.plan_definitions.specs.Planned.{areas, bundles, homes, object_count, seen}
+use Rattle.plan_definitions.specs.Listed.{bundles, homes, lists}
+use Rattle.plan_definitions.specs.Planned.{areas, object_count, seen}
 use Rattle.plan_definitions.specs.Planned.{plan_of as whole_plan}
 use Rattle.plan_definitions.specs.PlanRefusals as whole
 use Rattle.plan_definitions.specs.PlanRules.{is_too_large}
@@ -58,10 +61,10 @@ planned d f es = record {
   mode_ports = mode_ports d f;
   events = events d f;
   runnables = runnables d f;
-  lists = [];
+  lists = lists d f;
   homes = homes d f;
   bundles = bundles d f;
-  objects = object_count (length (groups (leaders d f))) (length (servers d f)) (length (areas d f)) (length (machines d f));
+  objects = object_count (length (bundles d f)) (length (servers d f)) (length (areas d f)) (length (machines d f));
 }
 
 pub plan_is : (d : Description) (f : Flat) (p : BusPlan) → seen p ≡ whole_plan d f → plan_of p ≡ planned d f p.elements
@@ -112,14 +115,20 @@ after_none (Some x) later h = not_some x h
 -- ---- the rules on components
 
 module _ (d : Description) (f : Flat) (p : BusPlan) (m : Mapping) (w : IsWhole d f p m) where
+  kept : (components.refusal d ≡ None) × whole.IsThen (mapping.IsRefusal d f) (whole.IsThen (whole.IsOfSize d f) (whole.IsOfLists d)) None
+  kept = after_none (components.refusal d) (whole.IsThen (mapping.IsRefusal d f) (whole.IsThen (whole.IsOfSize d f) (whole.IsOfLists d))) w.keeps_rules
+
   of_components : components.refusal d ≡ None
-  of_components = (after_none (components.refusal d) (whole.IsThen (mapping.IsRefusal d f) (whole.IsOfSize d f)) w.keeps_rules).0
+  of_components = kept.0
 
   of_mapping : mapping.IsRefusal d f None
-  of_mapping = (after_none (components.refusal d) (whole.IsThen (mapping.IsRefusal d f) (whole.IsOfSize d f)) w.keeps_rules).1.0
+  of_mapping = kept.1.0
+
+  of_lists : components.of_rule rule.CoherentLists d ≡ None
+  of_lists = kept.1.1.1
 
   pub of_size : is_too_large (whole_plan d f) ≡ false
-  of_size = by (is_too_large (whole_plan d f)) (after_none (components.refusal d) (whole.IsThen (mapping.IsRefusal d f) (whole.IsOfSize d f)) w.keeps_rules).1.1
+  of_size = by (is_too_large (whole_plan d f)) kept.1.1.0
     where
       by : (b : Bool) → cond {A = Option (ℕ × List ℕ)} b (Some (30, mapping.mapping_text)) None ≡ None → b ≡ false
       by true e = absurd (cc e)
@@ -178,6 +187,12 @@ module _ (d : Description) (f : Flat) (p : BusPlan) (m : Mapping) (w : IsWhole d
     -- rule 24
     pub disabling_kept : (k : ℕ) (e : Event) → slice_get c.behavior.events k ≡ Some e → starting.disabling_fits d.types c.ports e.kind e.disabled_in_modes ≡ true
     disabling_kept k e at = rule_kept (λ i (x : Event). starting.disabling_fits d.types c.ports x.kind x.disabled_in_modes) (λ i x. spot.Event i) c.behavior.events k e (component_kept rule.Disablings event_rules.3) at
+
+    -- rule 31
+    pub list_kept : (k : ℕ) (r : Runnable) (j : ℕ) (pairs : List ItemPair) → slice_get c.behavior.runnables k ≡ Some r → slice_get r.coherent j ≡ Some pairs → coherent.list_fits d.types c r pairs ≡ true
+    list_kept k r j pairs at here =
+        rule_kept (λ i x. coherent.list_fits d.types c r x) (λ i x. spot.List k i) r.coherent j pairs
+        (none_at (λ i x. coherent.incoherent_among d.types c i x) c.behavior.runnables k r (component_kept rule.CoherentLists of_lists) at) here
 
     -- rules 17 to 20
     program_free : (wanted : ℕ) → components.of_program wanted d ≡ None → (k : ℕ) (r : Runnable) → slice_get c.behavior.runnables k ≡ Some r → option_and_then (programs.path_of (Some wanted)) (programs.program_refusal d.types c r) ≡ None

@@ -9,6 +9,7 @@ ghost use Rattle.bus_semantics.specs.declared.script.Mapping.{Mapping};
 ghost use Rattle.bus_semantics.specs.Plan.{plan_of, every_from};
 ghost use Rattle.bus_semantics.specs.Sound.{WaitOrder, mapping_fits};
 ghost use Rattle.bus_semantics.specs.SoundAccesses.{points_arranged, points_fit};
+ghost use Rattle.bus_semantics.specs.SoundLists.{lists_sound};
 ghost use Rattle.bus_semantics.specs.SoundNames.{caller_rank, named_once};
 ghost use Rattle.bus_semantics.specs.SoundPrograms.{runnable_sound};
 ghost use Rattle.bus_semantics.specs.SoundEvents.{direct_sound, event_sound, server_served, serves_back};
@@ -27,6 +28,12 @@ pub fn tasks_fit()
 /// invoked has no other event. There are at most 16,384 of them.
 pub fn events_fit()
     ensures { (d : Description) (f : Flat) (p : BusPlan) (m : Mapping) → IsWhole d f p m → (every_from 0 (event_sound (plan_of p)) (plan_of p).events && nat_le (length (plan_of p).events) 16384) ≡ true }
+{}
+
+/// Each list is one of the runnable that it names: 2 to 16 elements with at most 16 words, each of which the runnable reads, or
+/// each of which it writes, implicitly; no element stands twice in the lists of a runnable.
+pub fn lists_of_plans_are_sound()
+    ensures { (d : Description) (f : Flat) (p : BusPlan) (m : Mapping) → IsWhole d f p m → lists_sound (plan_of p) ≡ true }
 {}
 
 /// Servers are sound (Software Component Template, OperationInvokedEvent): their queues, arguments and error codes are in

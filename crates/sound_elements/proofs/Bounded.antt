@@ -1,7 +1,6 @@
 -- The lists of a plan, and how large it is by rule 30.
-use Rattle.std.proofs.Common.{◌≡◌, ℕ, zero, suc, ◌+◌, ◌≤◌, List, [], ◌∷◌, map, length, length-append, fold, Bool, true, false, if◌then◌else◌, not, ◌&&◌, ◌||◌, ◌==◌, nat_lt, nat_le, Option, Some, None, unwrap_or, refl, sym, ap, subst, ◌∙◌, arith}
+use Rattle.std.proofs.Common.{◌≡◌, ℕ, ◌+◌, ◌≤◌, List, [], ◌∷◌, map, length, fold, Bool, true, false, if◌then◌else◌, not, ◌&&◌, ◌||◌, ◌==◌, nat_lt, nat_le, Option, Some, None, unwrap_or, refl, sym, ap, subst, ◌∙◌, arith}
 use Rattle.std.proofs.lemmas.Bool.{and_from, eq-eqb, le-leb, ltb-false, or_parts}
-use Rattle.std.proofs.lemmas.List.{length-map}
 use Rattle.std.specs.List.{sum_by}
 use Rattle.description_types.specs.declared.description.Description.{Description}
 use Rattle.flat_descriptions.specs.declared.flat.Flat.{Flat}
@@ -12,7 +11,7 @@ use Rattle.bus_semantics.specs.declared.plan.ServerPlan.{ServerPlan}
 use Rattle.bus_semantics.specs.declared.script.Mapping.{Mapping}
 use Rattle.bus_semantics.specs.Objects.{clock}
 use Rattle.bus_semantics.specs.Owners.{is_queued}
-use Rattle.bus_semantics.specs.Plan.{plan_of, positions as bus_positions}
+use Rattle.bus_semantics.specs.Plan.{plan_of}
 use Rattle.bus_semantics.specs.Sound.{number_or_0, queue_lengths, sum_over}
 use Rattle.bus_semantics.specs.SoundPlan.{objects_counted, things}
 use Rattle.plan_definitions.specs.ComponentRefusals as components
@@ -22,10 +21,12 @@ use Rattle.plan_definitions.specs.Elements.{elem_seen, elements, leaders}
 use Rattle.plan_definitions.specs.ElementGroups.{groups}
 use Rattle.plan_definitions.specs.Modes.{machines}
 use Rattle.plan_definitions.specs.Services.{servers}
-use Rattle.plan_definitions.specs.Planned.{alone, areas, object_count, plan_of as planned}
-use Rattle.plan_definitions.specs.PlanRefusals.{IsOfSize, IsRefusal, IsThen}
-use Rattle.plan_definitions.specs.PlanRules.{is_too_large, queue_lengths as all_lengths, received, requested}
+use Rattle.plan_definitions.specs.Listed.{bundle_leaders, bundles, groups_listed, homes, lists}
+use Rattle.plan_definitions.specs.Planned.{areas, object_count, plan_of as planned}
+use Rattle.plan_definitions.specs.PlanRefusals.{IsOfLists, IsOfSize, IsRefusal, IsThen}
+use Rattle.plan_definitions.specs.PlanRules.{is_too_large, queue_lengths as all_lengths, received, requested, things as few_of}
 use Rattle.plan_definitions.specs.Whole.{IsWhole}
+use Rattle.plan_definitions.proofs.Labels.{groups_few, many_leaders}
 use Rattle.sound_names.proofs.Seen.{areas_are, elements_are, machines_are, servers_are}
 
 -- ---- rule 30
@@ -42,7 +43,7 @@ of_fair_size true h = cc
 of_fair_size false h = refl
 
 pub fair_size : (d : Description) (f : Flat) → IsRefusal d f None → is_too_large (planned d f) ≡ false
-fair_size d f keeps = of_fair_size (is_too_large (planned d f)) (after_none (components.refusal d) (IsThen (mapping.IsRefusal d f) (IsOfSize d f)) keeps).1
+fair_size d f keeps = of_fair_size (is_too_large (planned d f)) (after_none (components.refusal d) (IsThen (mapping.IsRefusal d f) (IsThen (IsOfSize d f) (IsOfLists d))) keeps).1.0
 
 -- ---- sums
 
@@ -62,10 +63,6 @@ sum_seen : {X Y : Type 0} (g : X → Y) (f : Y → ℕ) (xs : List X) → sum_ov
 sum_seen g f [] = refl
 sum_seen g f (x ∷ xs) = ap (λ n. f (g x) + n) (sum_seen g f xs)
 
-many_positions : (n : ℕ) → length (bus_positions n) ≡ n
-many_positions zero = refl
-many_positions (suc n) = length-append (bus_positions n) (n ∷ []) ∙ (ap (λ m. m + 1) (many_positions n) ∙ omega arith)
-
 is_number : (o : Option ℕ) → number_or_0 o ≡ unwrap_or o 0
 is_number None = refl
 is_number (Some n) = refl
@@ -76,24 +73,23 @@ module _ (d : Description) (f : Flat) (p : BusPlan) (m : Mapping) (w : IsWhole d
   pub groups_are : p.groups ≡ groups (leaders d f)
   groups_are = ap (λ q. q.groups) w.is_plan
 
-  -- no list, and as many bundles as groups
-  pub lists_are : p.lists ≡ []
+  pub lists_are : p.lists ≡ lists d f
   lists_are = ap (λ q. q.lists) w.is_plan
 
-  pub homes_are : p.homes ≡ bus_positions (length p.groups)
-  homes_are = ap (λ q. q.homes) w.is_plan ∙ ap (λ gs. bus_positions (length gs)) (sym groups_are)
+  pub homes_are : p.homes ≡ homes d f
+  homes_are = ap (λ q. q.homes) w.is_plan
 
-  pub bundles_are : p.bundles ≡ map alone (bus_positions (length p.groups))
-  bundles_are = ap (λ q. q.bundles) w.is_plan ∙ ap (λ gs. map alone (bus_positions (length gs))) (sym groups_are)
+  pub bundles_are : p.bundles ≡ bundles d f
+  bundles_are = ap (λ q. q.bundles) w.is_plan
 
-  many_bundles : length p.bundles ≡ length (groups (leaders d f))
-  many_bundles = ap length bundles_are ∙ (length-map (bus_positions (length p.groups)) alone ∙ (many_positions (length p.groups) ∙ ap length groups_are))
+  few_bundles : length (bundles d f) ≤ length (groups (leaders d f))
+  few_bundles = omega (arith, groups_few (bundle_leaders d f), many_leaders (length (groups (leaders d f))) (map (groups_listed (elements d f)) (lists d f)))
 
-  small : ((nat_lt 16384 (planned d f).objects || nat_lt 16384 (length (planned d f).events)) ≡ false) × ((nat_lt 65536 (all_lengths (planned d f)) || nat_lt 262144 (length (planned d f).points)) ≡ false)
-  small = or_parts (nat_lt 16384 (planned d f).objects || nat_lt 16384 (length (planned d f).events)) (nat_lt 65536 (all_lengths (planned d f)) || nat_lt 262144 (length (planned d f).points)) (fair_size d f w.keeps_rules)
+  small : ((nat_lt 16384 (few_of (planned d f)) || nat_lt 16384 (length (planned d f).events)) ≡ false) × ((nat_lt 65536 (all_lengths (planned d f)) || nat_lt 262144 (length (planned d f).points)) ≡ false)
+  small = or_parts (nat_lt 16384 (few_of (planned d f)) || nat_lt 16384 (length (planned d f).events)) (nat_lt 65536 (all_lengths (planned d f)) || nat_lt 262144 (length (planned d f).points)) (fair_size d f w.keeps_rules)
 
-  few_objects : (planned d f).objects ≤ 16384
-  few_objects = ltb-false 16384 (planned d f).objects (or_parts (nat_lt 16384 (planned d f).objects) (nat_lt 16384 (length (planned d f).events)) small.0).0
+  few_all : few_of (planned d f) ≤ 16384
+  few_all = ltb-false 16384 (few_of (planned d f)) (or_parts (nat_lt 16384 (few_of (planned d f))) (nat_lt 16384 (length (planned d f).events)) small.0).0
 
   few_waiting : all_lengths (planned d f) ≤ 65536
   few_waiting = ltb-false 65536 (all_lengths (planned d f)) (or_parts (nat_lt 65536 (all_lengths (planned d f))) (nat_lt 262144 (length (planned d f).points)) small.1).0
@@ -108,21 +104,21 @@ module _ (d : Description) (f : Flat) (p : BusPlan) (m : Mapping) (w : IsWhole d
   objects = and_from (p.objects == clock (plan_of p) + 1) (nat_le p.objects 16384 && nat_le (things (plan_of p)) 16384)
       (eq-eqb p.objects (clock (plan_of p) + 1) (are ∙ counted))
       (and_from (nat_le p.objects 16384) (nat_le (things (plan_of p)) 16384)
-      (le-leb p.objects 16384 (subst (λ n. n ≤ 16384) (sym are) few_objects))
-      (le-leb (things (plan_of p)) 16384 (subst (λ n. n ≤ 16384) each few_objects)))
+      (le-leb p.objects 16384 (omega (arith, are, few_bundles, few_all)))
+      (le-leb (things (plan_of p)) 16384 (omega (arith, each, few_all))))
     where
-      are : p.objects ≡ object_count (length (groups (leaders d f))) (length (servers d f)) (length (areas d f)) (length (machines d f))
+      are : p.objects ≡ object_count (length (bundles d f)) (length (servers d f)) (length (areas d f)) (length (machines d f))
       are = ap (λ q. q.objects) w.is_plan
 
-      counted : object_count (length (groups (leaders d f))) (length (servers d f)) (length (areas d f)) (length (machines d f)) ≡ clock (plan_of p) + 1
+      counted : object_count (length (bundles d f)) (length (servers d f)) (length (areas d f)) (length (machines d f)) ≡ clock (plan_of p) + 1
       counted =
-          let b : length p.bundles ≡ length (groups (leaders d f)) = many_bundles in
+          let b = ap (λ l. length l) bundles_are in
           let s = ap (λ l. length l) (servers_are d f p w.is_plan) in
           let a = ap (λ l. length l) (areas_are d f p w.is_plan) in
           let n = ap (λ l. length l) (machines_are d f p w.is_plan) in
           omega arith
 
-      each : object_count (length (groups (leaders d f))) (length (servers d f)) (length (areas d f)) (length (machines d f)) ≡ things (plan_of p)
+      each : few_of (planned d f) ≡ things (plan_of p)
       each =
           let g = ap (λ l. length l) groups_are in
           let s = ap (λ l. length l) (servers_are d f p w.is_plan) in

@@ -60,7 +60,7 @@ module _ {X : Type 0} (of : X → ℕ) where
       ∙ ap (λ m. every_from (i + 1) (is_other g m) xs) s
       ∙ one_place g (i + 1) k xs x is
 
-  kept_are : (g : ℕ) (test : ℕ → Bool) (i : ℕ) (xs : List X) → ((k : ℕ) (x : X) → slice_get xs k ≡ Some x → test (i + k) ≡ nat_eq (of x) g) → filter test (positions i (length xs)) ≡ from i (member_at g) (map of xs)
+  pub kept_are : (g : ℕ) (test : ℕ → Bool) (i : ℕ) (xs : List X) → ((k : ℕ) (x : X) → slice_get xs k ≡ Some x → test (i + k) ≡ nat_eq (of x) g) → filter test (positions i (length xs)) ≡ from i (member_at g) (map of xs)
   kept_are g test i [] each = refl
   kept_are g test i (x ∷ xs) each =
       let z : i ≡ i + 0 = omega arith in
@@ -87,7 +87,7 @@ module _ {X : Type 0} (of : X → ℕ) where
       not_not false = refl
 
   module _ (xs : List X) (ls : List ℕ) (low : AreLow ls) (same : map of xs ≡ map (group_number ls) ls) where
-    each_within : list_all (λ e. nat_lt (of e) (length (groups ls))) xs ≡ true
+    pub each_within : list_all (λ e. nat_lt (of e) (length (groups ls))) xs ≡ true
     each_within = sym (list_all-map (λ g. nat_lt g (length (groups ls))) of xs) ∙ ap (list_all (λ g. nat_lt g (length (groups ls)))) same
         ∙ all_from (λ g. nat_lt g (length (groups ls))) (map (group_number ls) ls) each
       where

@@ -1,10 +1,10 @@
 mod Heads
-mod Grouping
+pub mod Grouping
 mod Stars
 mod Kept
 mod Bounded
+mod Leaders
 mod Bundled
-mod Unlisted
 mod Machines
 pub mod Elems
 mod Leading

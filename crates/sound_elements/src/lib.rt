@@ -6,7 +6,7 @@ mod bundles;
 mod elements;
 mod sizes;
 
-pub use bundles::{bundles_of_plans_fit, lists_of_plans_are_sound, plans_have_no_lists};
+pub use bundles::bundles_of_plans_fit;
 pub use elements::{
     elements_of_plans_are_sound, groups_are_what_joins_connect, groups_of_plans_fit,
     joined_elements_of_plans_agree,

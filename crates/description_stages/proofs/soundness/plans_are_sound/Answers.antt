@@ -33,7 +33,6 @@ returns c = λ d f p m whole. record {
   few_points = c.points_of_plans_are_few.ensures d f p m whole;
   lists = c.lists_of_plans_are_sound.ensures d f p m whole;
   bundles = c.bundles_of_plans_fit.ensures d f p m whole;
-  none_listed = c.plans_have_no_lists.ensures d f p m whole;
   tasks = c.tasks_fit.ensures d f p m whole;
   order = c.waits_are_ordered.ensures d f p m whole;
 }

@@ -3,10 +3,9 @@ use Rattle.bus_semantics.specs.declared.plan.BusPlan.{BusPlan}
 use Rattle.bus_semantics.specs.declared.script.Mapping.{Mapping}
 use Rattle.plan_definitions.specs.declared.part.Part.TheVariants.{Events}
 use Rattle.plan_definitions.specs.Parts.{events_of}
-use Rattle.plan_definitions.specs.Planned.{plan_of}
-use Rattle.plan_definitions.specs.PlanRefusals.{of_size}
+use Rattle.plan_definitions.specs.PlanRefusals.{IsOfLists, IsOfSize, IsThen}
 use Rattle.plan_definitions.specs.Tasks.{mapping_of}
-use Rattle.event_mapping.proofs.Telling.{moved, still_says}
+use Rattle.event_mapping.proofs.Telling.{moved, still_tells}
 use Rattle.event_mapping.proofs.check.listed.Goals as goal
 
 pub list_mapping-requires : goal.list_mapping-requires
@@ -14,11 +13,11 @@ list_mapping-requires c = moved (λ d f. length (events_of d f) < 2 ^ 32) c.args
     (c.requires.few.pairs Events)
 
 pub returns-in-Ok : goal.returns-in-Ok
-returns-in-Ok c = record { size = c.in-Ok.ensures.size; plan = c.in-Ok.ensures.plan; mapping = c.in_ok-mapping.ensures.mapping ∙ (λ j. mapping_of (c.requires.description j) (c.requires.flat j)) }
+returns-in-Ok c = record { refusal = c.in-Ok.ensures.refusal; plan = c.in-Ok.ensures.plan; mapping = c.in_ok-mapping.ensures.mapping ∙ (λ j. mapping_of (c.requires.description j) (c.requires.flat j)) }
 
 pub returns-in-Err : goal.returns-in-Err
 returns-in-Err c = record {
-  size = still_says BusPlan (BusPlan × Mapping) (of_size (plan_of c.args.d.now c.args.f.now)) c.in-Err.refused c.in-Err.ensures.size;
+  refusal = still_tells BusPlan (BusPlan × Mapping) (IsThen (IsOfSize c.args.d.now c.args.f.now) (IsOfLists c.args.d.now)) c.in-Err.refused c.in-Err.ensures.refusal;
   plan = tt;
   mapping = tt;
 }

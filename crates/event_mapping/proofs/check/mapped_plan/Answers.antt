@@ -3,14 +3,13 @@ use Rattle.bus_semantics.specs.declared.script.Mapping.{Mapping}
 use Rattle.mapping_rules.specs.declared.kept.KeptMapping.{KeptMapping}
 use Rattle.plan_definitions.specs.MappingRefusals as rules
 use Rattle.plan_definitions.specs.MappingRules.{HaveOrder}
-use Rattle.plan_definitions.specs.Planned.{plan_of}
-use Rattle.plan_definitions.specs.PlanRefusals.{of_size}
+use Rattle.plan_definitions.specs.PlanRefusals.{IsOfLists, IsOfSize, IsThen}
 use Rattle.event_mapping.proofs.Telling.{on_ok, then_first, then_later}
 use Rattle.event_mapping.proofs.check.mapped_plan.Goals as goal
 
 pub returns-in-Ok : goal.returns-in-Ok
 returns-in-Ok c = record {
-  refusal = then_later (rules.IsRefusal c.args.d.now c.args.f.now) (of_size (plan_of c.args.d.now c.args.f.now)) c.planned.result c.in-Ok.ensures.refusal c.planned.ensures.size;
+  refusal = then_later (rules.IsRefusal c.args.d.now c.args.f.now) (IsThen (IsOfSize c.args.d.now c.args.f.now) (IsOfLists c.args.d.now)) c.planned.result c.in-Ok.ensures.refusal c.planned.ensures.refusal;
   plan = c.planned.ensures.plan;
   mapping = c.planned.ensures.mapping;
   order = on_ok (HaveOrder c.args.d.now c.args.f.now) c.planned.result c.in-Ok.ensures.order;
@@ -18,7 +17,7 @@ returns-in-Ok c = record {
 
 pub returns-in-Err : goal.returns-in-Err
 returns-in-Err c = record {
-  refusal = then_first (rules.IsRefusal c.args.d.now c.args.f.now) (of_size (plan_of c.args.d.now c.args.f.now)) KeptMapping (BusPlan × Mapping) c.in-Err.refused c.in-Err.ensures.refusal;
+  refusal = then_first (rules.IsRefusal c.args.d.now c.args.f.now) (IsThen (IsOfSize c.args.d.now c.args.f.now) (IsOfLists c.args.d.now)) KeptMapping (BusPlan × Mapping) c.in-Err.refused c.in-Err.ensures.refusal;
   plan = tt;
   mapping = tt;
   order = tt;

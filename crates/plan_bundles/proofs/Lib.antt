@@ -1,0 +1,3 @@
+pub mod Lowest
+mod Listing
+pub mod Connecting
