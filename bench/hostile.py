@@ -41,6 +41,8 @@ LEAST_SECONDS, LEAST_MEMORY = 0.1, 32
 CUT_SECONDS, CUT_MEMORY = 30, 2048  # what no run gets: it ends by a signal, or out of memory
 
 KNOWN = {
+    "runnables_inside": "each runnable of each instance has a record in the plan",
+    "lists_inside": "each coherent list of each instance has a record in the plan",
     "lists": "each list of a JSON text takes memory of its own",
     "objects": "each object of a JSON text takes memory of its own",
 }

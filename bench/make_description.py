@@ -3,7 +3,7 @@
 
     make_description.py MEBIBYTES [BREAK]
 
-It breaks none of the rules 1 to 30, and has every kind of object, access and statement. At most
+It breaks no rule, and has every kind of object, access and statement. At most
 1,000 instances of its components stand below the root, since a description may have 1,024. With BREAK the last name of the
 file refers to nothing, so that each rule of names is looked at to the end of the file.
 """

@@ -359,6 +359,54 @@ def programs(n):
     return made
 
 
+MOST_GROUPS = 16_383  # that a plan may have beside the clock
+
+
+def pairs(first, last):
+    """Coherent lists of two neighbours each."""
+    return [[["i", f"e{k}"], ["i", f"e{k + 1}"]] for k in range(first, last - 1, 2)]
+
+
+def reader(name, elements, coherent):
+    """A runnable that reads elements implicitly, in these lists."""
+    return {"shortName": name, "accesses": [["iread", "i", f"e{k}"] for k in range(elements)], "coherent": coherent}
+
+
+def reading(elements, runnables, instances):
+    """A component of one port with so many elements, and so many instances of it."""
+    made = {"shortName": "V", "ports": [port("R", "i", "I")], "behavior": {"runnables": runnables}}
+    stand = top([prototype(f"v{k}", "V") for k in range(instances)], [])
+    return whole([interface("I", *(f"e{k}" for k in range(elements)))], [made], [stand])
+
+
+def coherent(n):
+    """Very many coherent lists of 16 elements each, of a component without instances; the last one has an element alone."""
+    listed = [[["i", f"e{k}"] for k in range(first, first + 16)] for first in range(0, n - 16, 16)]
+    return reading(n, [reader("r", n, [*listed, [["i", f"e{n - 1}"]]])], 0)
+
+
+def coherent_twice(n):
+    """Very many coherent lists of the same two elements."""
+    return reading(2, [reader("r", 2, pairs(0, 2) * n)], 1)
+
+
+def bundles(n):
+    """Coherent lists of two elements that connect as many groups as there may be, no two of them connected before; and more lists of these."""
+    elements = min(n, MOST_GROUPS)
+    turns = max(2, 4 * n // elements - 2)
+    return reading(elements, [reader(f"r{k}", elements, pairs(k % 2, elements)) for k in range(turns)], 1)
+
+
+def runnables_inside(n):
+    """Very many runnables of each of 1,022 instances, which no event starts."""
+    return reading(2, [{"shortName": f"r{k}"} for k in range(n)], 1022)
+
+
+def lists_inside(n):
+    """A coherent list of each of as many runnables, of each of 1,022 instances."""
+    return reading(2, [reader(f"r{k}", 2, pairs(0, 2)) for k in range(n)], 1022)
+
+
 def lists(n):
     """Lists that each hold one other, 120 within one another."""
     held = []
@@ -380,7 +428,8 @@ def members(n):
 CASES = [
     connectors, connectors_apart, near, hubs_own, both_hubs, overlaps, ways, instances_apart, equal, names, names_own,
     names_split, names_split_own, alternate, instances, instances_joined, inner, outers, hub_joined, levels, above_cycle,
-    between_cycles, points, points_inside, programs, lists, objects, members,
+    between_cycles, points, points_inside, programs, coherent, coherent_twice, bundles, runnables_inside, lists_inside,
+    lists, objects, members,
 ]
 
 MOST_LINES = 99_999  # a script may have one more

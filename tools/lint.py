@@ -11,6 +11,7 @@ Each warning is a line `FILE:LINE:COLUMN: TEXT`. It warns of
   - values that are clamped in any case
   - events that are disabled in every mode
   - a queue of which each start takes one value, and a variable of which a write may be lost
+  - elements that one runnable writes and another one fetches one by one, in another task and in no coherent list
   - accesses, com specs and types that nothing uses, and keys that stand twice
   - a script that runs nothing, or nothing after a line
 

@@ -77,7 +77,7 @@ memory=$(awk '/^MemTotal/ { printf "%d", $2 / 1048576 + 0.5 }' /proc/meminfo)
 
 wrong_bodies() {
     cat <<'END'
-C breaks none of the thirty rules|compatibility/accepts_many_to_many
+C breaks no rule|compatibility/accepts_many_to_many
 S is a script over the plan of C|script_reading/accepts_a_word_past_the_limits
 the bytes are the text of a run|script_run/puts_no_run_mark script_run/puts_no_entries_of_the_round rte_text/drops_the_last_byte
 the run has the script's calls and run lines, all of them, in order|script_reading/skips_a_line script_run/hides_a_call script_run/skips_run_lines

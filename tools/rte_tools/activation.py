@@ -4,7 +4,7 @@ from __future__ import annotations
 
 from collections import defaultdict
 from dataclasses import dataclass, field
-from typing import Any, Generator, Iterable
+from typing import Any, Generator, Iterable, Iterator
 
 from rte_tools.bus_plan import BusPlan, arguments
 
@@ -15,12 +15,16 @@ Value = tuple[int, ...]
 
 @dataclass(frozen=True)
 class Wish:
-    """A line without what the bus answers: its verb, the target, and the value, code or mode that the runnable gives."""
+    """A line without what the bus answers: its verb, the target, and the value, code or mode that the runnable gives.
+
+    The target of a coherent list is its place among the lists of the runnable.
+    """
 
     verb: str
     target: str = ""
     value: Value = ()
     number: int = 0  # the code of a return, the mode of a switch
+    marks: str = ""  # of a list that is published: 1 for each element that was written, and 0
     computed: Value = field(default=(), compare=False)  # the words before they were clamped, of a value that was computed
 
 
@@ -64,6 +68,7 @@ class Activation:
     def __init__(self, plan: BusPlan, instance: str, runnable: str, is_asked: bool, given: Value):
         self.plan, self.instance = plan, instance
         self.runnable = plan.runnables[instance, runnable]
+        self.lists = [held.elements for held in plan.lists[instance, runnable]]
         self.served = plan.serves.get((instance, runnable))
         self.variables: dict[str, int] = defaultdict(int)
         self.fetched: dict[str, Value] = {}
@@ -81,22 +86,52 @@ class Activation:
         """All of it: admission, fetches, the program, publications, the return, the end."""
         if is_asked and not (yield Wish("admit")).code:
             return
-        accesses = self.runnable.get("accesses", [])
-        for access in accesses:
-            if access[0] in IMPLICIT_READS:
-                target = ".".join(access[1:])
-                self.fetched[target] = (yield Wish("fetch", target)).value
+        for held in self.in_order(IMPLICIT_READS):
+            yield from self.fetching(held)
         if self.served:
             names = [held["shortName"] for held in arguments(self.plan.operations[self.served], "in")]
             self.variables.update(zip(names, given))
         yield from self.body(self.runnable.get("program", []))
-        for access in accesses:
-            target = ".".join(access[1:])
-            if access[0] in IMPLICIT_WRITES and target in self.written:
-                yield self.written[target]
+        for held in self.in_order(IMPLICIT_WRITES):
+            yield from self.publishing(held)
         if self.served:
             yield self.returned()
         yield Wish("end")
+
+    def in_order(self, keywords: tuple[str, ...]) -> Iterator[str | int]:
+        """What is fetched or published: the targets that are in no list, and each list, by number, at its first access."""
+        met = set()
+        for access in self.runnable.get("accesses", []):
+            if access[0] in keywords:
+                target = ".".join(access[1:])
+                listed = next((number for number, held in enumerate(self.lists) if target in held), None)
+                if listed is None:
+                    yield target
+                elif listed not in met:
+                    met.add(listed)
+                    yield listed
+
+    def fetching(self, held: str | int) -> Steps:
+        if isinstance(held, str):
+            self.fetched[held] = (yield Wish("fetch", held)).value
+            return
+        words = (yield Wish("fetchAll", str(held))).value
+        for element in self.lists[held]:
+            count = self.plan.elements[self.instance, element].words
+            self.fetched[element], words = words[:count], words[count:]
+
+    def publishing(self, held: str | int) -> Steps:
+        """The last words of what was written; nothing where nothing was."""
+        if isinstance(held, str):
+            if held in self.written:
+                yield self.written[held]
+            return
+        written = [self.written[element] for element in self.lists[held] if element in self.written]
+        if written:
+            marks = "".join(str(int(element in self.written)) for element in self.lists[held])
+            value = tuple(word for wish in written for word in wish.value)
+            words = tuple(word for wish in written for word in wish.computed)
+            yield Wish("publishAll", str(held), value, marks=marks, computed=words)
 
     def returned(self) -> Wish:
         """The code, where it is one of the operation, and the values of the `out` arguments."""
@@ -105,7 +140,7 @@ class Activation:
         code = error if error in [held["code"] for held in operation.get("errors", [])] else 0
         names = [held["shortName"] for held in arguments(operation, "out")]
         words = tuple(self.variables[name] for name in names)
-        return Wish("return", "", clamped(words, self.plan.limits(self.served, "out")), code, words)
+        return Wish("return", "", clamped(words, self.plan.limits(self.served, "out")), code, computed=words)
 
     def body(self, statements: list) -> Steps:
         for statement in statements:

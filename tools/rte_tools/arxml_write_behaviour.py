@@ -69,6 +69,7 @@ class Behaviour:
         if made.get("runnables"):
             listed = add(element, "RUNNABLES")
             for runnable in made["runnables"]:
+                self.note_lists(runnable)
                 self.runnables[runnable["shortName"]] = self.named(listed, "RUNNABLE-ENTITY", "runnable", runnable["shortName"])
             for pass_over in (False, True):  # results refer to calls, which may be of another runnable
                 for runnable in made["runnables"]:
@@ -128,6 +129,11 @@ class Behaviour:
                 listed = list_in(place.element, wrapper)
                 if (access[0] == "result") == is_second:
                     self.write_access(place, listed, access)
+
+    def note_lists(self, runnable: dict) -> None:
+        """ARXML says of groups of elements and of runnables that they need coherency, which is not the same."""
+        if runnable.get("coherent"):
+            self.written.notes.append(f"the coherent lists of the runnable {runnable['shortName']} are left out")
 
     def write_access(self, place: Place, listed: Element, access: list[str]) -> None:
         keyword, wanted = access[0], "_".join(access)

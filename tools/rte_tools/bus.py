@@ -7,7 +7,7 @@ from dataclasses import dataclass
 
 from rte_tools.activation import Activation, Answer, Value, Wish
 from rte_tools.bus_plan import ENVIRONMENT, BusPlan, Element, Name
-from rte_tools.trace import Line
+from rte_tools.trace import Line, by_element
 
 PHASES = {"stable": "close", "close": "exit", "exit": "transition", "transition": "entry", "entry": "stable"}
 LIMIT, NO_DATA, NEVER_RECEIVED, UNCONNECTED, LOST, INVALID = 130, 131, 133, 134, 64, 1
@@ -69,6 +69,8 @@ class Bus:
         name = (owner, wish.target)
         if wish.verb in ("fetch", "read", "isUpdated"):
             return self.read(name, wish.verb)
+        if wish.verb == "fetchAll":
+            return self.moment(owner, self.plan.list_of(actor, wish.target).elements)
         if wish.verb == "send":
             return Answer(LIMIT if any(self.is_full(held) for held in self.receivers(name)) else 0)
         if wish.verb == "receive":
@@ -90,6 +92,10 @@ class Bus:
         if verb == "isUpdated":
             return Answer(int(self.unread.get(name, element.group in self.last_write)))
         return Answer(self.read_code(element), self.last_write.get(element.group, (element.init, 0))[0])
+
+    def moment(self, owner: str, elements: tuple[str, ...]) -> Answer:
+        """The values of some elements, one after the other."""
+        return Answer(0, tuple(word for element in elements for word in self.read((owner, element), "fetch").value))
 
     def read_code(self, element: Element) -> int:
         if element.kind == "variable":
@@ -228,6 +234,8 @@ class Bus:
         answer = self.answered(line, name)
         if line.verb in ("write", "publish"):
             self.store(name, value_of(line.part("value")), line.number)
+        elif line.verb == "publishAll":
+            self.store_all(owner, line)
         elif line.verb == "invalidate":
             self.invalid[self.plan.elements[name].group] = line.number
         elif line.verb == "read":
@@ -261,7 +269,7 @@ class Bus:
             return Answer(int(line.part("answer")))
         if line.verb == "mode":
             return Answer(self.mode_at(self.plan.mode_ports[name]))
-        is_given = line.verb in ("write", "publish", "send", "ask")
+        is_given = line.verb in ("write", "publish", "publishAll", "send", "ask")
         return Answer(int(line.part("code") or 0), () if is_given else value_of(line.part("value") or "-"))
 
     def store(self, name: Name, value: Value, number: int) -> None:
@@ -271,6 +279,12 @@ class Bus:
         for held in self.plan.in_group[group]:
             self.unread[held] = True
             self.bring(held)
+
+    def store_all(self, owner: str, line: Line) -> None:
+        """Stores what a line publishes of a list, in the order of the list: of two elements of one group the last one stays."""
+        elements = self.plan.list_of(line.actor, line.part("list")).elements
+        for element, words in by_element(line, elements, self.plan.words_of(line.actor)):
+            self.store((owner, element), tuple(map(int, words)), line.number)
 
     def bring(self, element: Name) -> None:
         self.due.update(self.plan.events_of.get(element, ()))

@@ -70,6 +70,14 @@ class BusEvent:
     disabled: tuple[Name, tuple[int, ...]] | None = None  # the machine, and the modes in which the event is disabled
 
 
+@dataclass(frozen=True)
+class CoherentList:
+    """Elements of an instance that a runnable fetches at one moment, or publishes at one."""
+
+    elements: tuple[str, ...]  # `PORT.ELEMENT`
+    reads: bool
+
+
 @dataclass
 class BusPlan:
     elements: dict[Name, Element] = field(default_factory=dict)
@@ -80,6 +88,7 @@ class BusPlan:
     mode_ports: dict[Name, Name] = field(default_factory=dict)  # with the machine
     areas: set[Name] = field(default_factory=set)
     runnables: dict[Name, dict] = field(default_factory=dict)
+    lists: dict[Name, list[CoherentList]] = field(default_factory=dict)  # of each runnable, in declared order
     serves: dict[Name, Name] = field(default_factory=dict)  # the operation that a runnable serves
     events: dict[Name, BusEvent] = field(default_factory=dict)
     operations: dict[Name, dict] = field(default_factory=dict)
@@ -106,9 +115,41 @@ class BusPlan:
         """The runnable that serves each operation."""
         return {operation: runnable for runnable, operation in self.serves.items()}
 
+    @cached_property
+    def bundles(self) -> list[list[Name]]:
+        """The groups that coherent lists connect, each bundle and all of them in the order of the elements."""
+        leaders: dict[Name, Name] = {group: group for group in self.in_group}
+        for (instance, _), lists in self.lists.items():
+            for held in lists:
+                groups = [self.elements[instance, element].group for element in held.elements]
+                for group in groups[1:]:
+                    leaders[leader_of(leaders, group)] = leader_of(leaders, groups[0])
+        return list(gathered(leaders, lambda group: leader_of(leaders, group)).values())
+
+    def list_of(self, actor: str, position: str) -> CoherentList:
+        """The list of the runnable that an activation is of. Raises a LookupError where there is none."""
+        instance, _, runnable = actor.partition("@")[0].partition(":")
+        return dict(enumerate(self.lists[instance, runnable]))[int(position)]
+
+    def words_of(self, actor: str) -> Callable[[str], int]:
+        """How many words an element of the actor's instance has."""
+        instance = actor.partition("@")[0].partition(":")[0]
+        return lambda element: self.elements[instance, element].words
+
     def limits(self, name: Name, direction: str) -> list[tuple[int, int]]:
         """The limits of the `in` or the `out` arguments of an operation."""
         return [limits_of(self.types[held["type"]]) for held in arguments(self.operations[name], direction)]
+
+
+def leader_of(leaders: dict[Name, Name], group: Name) -> Name:
+    """The group that stands for all that are connected with this one."""
+    way = []
+    while leaders[group] != group:
+        way.append(group)
+        group = leaders[group]
+    for passed in way:
+        leaders[passed] = group
+    return group
 
 
 def gathered(names: Iterable[Name], key: Callable[[Name], Key]) -> dict[Key, list[Name]]:
@@ -216,6 +257,7 @@ class Maker:
         self.plan.areas |= {(path, area) for area in behavior.get("exclusiveAreas", [])}
         for runnable in behavior.get("runnables", []):
             self.plan.runnables[path, runnable["shortName"]] = runnable
+            self.plan.lists[path, runnable["shortName"]] = [coherent_list(runnable, held) for held in runnable.get("coherent", [])]
             for access in runnable.get("accesses", []):
                 if access[0] in ("call", "acall"):
                     self.point(path, runnable["shortName"], access)
@@ -259,7 +301,7 @@ class Maker:
             moment = (event.get("activation"), *self.numbers(machine, event.get("modes", [])))
         if disabled:
             by = self.machine_of(path, disabled["port"])
-            return BusEvent(kind, event["runnable"], is_mapped, of, moment, (by, self.numbers(by, disabled["modes"])))
+            return BusEvent(kind, event["runnable"], is_mapped, of, moment, (by, self.numbers(by, disabled.get("modes", []))))
         return BusEvent(kind, event["runnable"], is_mapped, of, moment)
 
     def server(self, path: str, event: dict, is_mapped: bool) -> Name:
@@ -279,6 +321,12 @@ class Maker:
 
     def numbers(self, machine: Name, modes: list[str]) -> tuple[int, ...]:
         return tuple(self.plan.machines[machine].modes.index(mode) for mode in modes)
+
+
+def coherent_list(runnable: dict, pairs: list[list[str]]) -> CoherentList:
+    """A list of a runnable. It is one of reads or of writes, as the access of its first element says."""
+    accesses = [tuple(access) for access in runnable.get("accesses", [])]
+    return CoherentList(tuple(".".join(pair) for pair in pairs), any(("iread", *pair) in accesses for pair in pairs[:1]))
 
 
 def by_name(value: dict, key: str) -> dict[str, dict]:

@@ -169,6 +169,7 @@ class Header:
         for runnable in self.component.runnables.values():
             if runnable.name in taken_names:
                 raise NoHeader(f"the runnable `{runnable.name}` has a name that C, a data type or a call has already")
+            yield from lists_of(runnable)
             yield f"{self.entry(runnable)};"
 
     def entry(self, runnable: Runnable) -> str:
@@ -179,6 +180,15 @@ class Header:
                 item = self.description.items(port)[event.keys["operation"]]
                 return function(STATUS if item.errors else "void", runnable.name, self.arguments(item, "call"))
         return function("void", runnable.name, [])
+
+
+def lists_of(runnable: Runnable) -> Iterator[str]:
+    """A comment for each coherent list of a runnable."""
+    for pairs in runnable.coherent:
+        is_read = any(("iread", *pair) in runnable.accesses for pair in pairs)
+        word, said = ("IRead", "Fetched") if is_read else ("IWrite", "Published")
+        names = ", ".join(f"Rte_{word}_{runnable.name}_{port}_{element}" for port, element in pairs)
+        yield f"/* {said} at one moment: {names} */"
 
 
 ONE_HEADER = [

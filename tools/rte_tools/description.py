@@ -104,6 +104,7 @@ class Runnable:
     accesses: tuple[tuple[str, ...], ...]
     program: list
     concurrent: bool = False
+    coherent: tuple[tuple[tuple[str, str], ...], ...] = ()  # lists of ports and elements
 
 
 @dataclass(frozen=True)
@@ -293,8 +294,14 @@ def component(place: str, held: dict) -> Component:
 
 def runnable(place: str, held: dict) -> Runnable:
     accesses = tuple(tuple(access) for access in held.get("accesses", []))
+    coherent = tuple(tuple((port_name, element) for port_name, element in pairs) for pairs in held.get("coherent", []))
     return Runnable(
-        held["shortName"], place, accesses, held.get("program", []), held.get("canBeInvokedConcurrently", False)
+        held["shortName"],
+        place,
+        accesses,
+        held.get("program", []),
+        held.get("canBeInvokedConcurrently", False),
+        coherent,
     )
 
 

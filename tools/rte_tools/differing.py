@@ -18,9 +18,9 @@ from typing import Hashable, Iterable, Iterator
 
 from rte_tools.bus import split_actor
 from rte_tools.bus_plan import ENVIRONMENT, BusPlan, Name
-from rte_tools.trace import RUN, Line, Trace
+from rte_tools.trace import RUN, Line, Trace, by_element
 
-CHANGES = {"write", "publish", "invalidate", "send", "ask", "switch", "phase"}
+CHANGES = {"write", "publish", "publishAll", "invalidate", "send", "ask", "switch", "phase"}
 MODE_EVENTS = ("SwcModeSwitchEvent", "ModeSwitchedAckEvent")
 
 
@@ -123,7 +123,10 @@ def of_objects(trace: Trace, plan: BusPlan) -> Iterator[tuple[str, Line, Hashabl
         if line.verb == "start":
             started[line.actor] = (owner, line.part("event"))
         name = (owner, line.part("target"))
-        if line.verb != "read" or name in flagged:
+        if line.verb == "publishAll":
+            for group in dict.fromkeys(groups_of(line, owner, plan)):
+                yield group, line, line.text
+        elif line.verb != "read" or name in flagged:
             found = object_of(line, name, started.get(line.actor), plan)
             if found:
                 yield found, line, line.text
@@ -158,6 +161,13 @@ def object_of(line: Line, name: Name, event: Name | None, plan: BusPlan) -> str:
     elif event and (line.verb == "end" or line.text.endswith(" admit yes")):
         machine = awaited_by(event, plan)
     return f"the machine {'.'.join(machine)}" if machine else ""
+
+
+def groups_of(line: Line, owner: str, plan: BusPlan) -> Iterator[str]:
+    """The groups of the elements of a list that a line publishes."""
+    elements = plan.list_of(line.actor, line.part("list")).elements
+    for element, _ in by_element(line, elements, plan.words_of(line.actor)):
+        yield group_of((owner, element), plan)
 
 
 def group_of(name: Name, plan: BusPlan) -> str:

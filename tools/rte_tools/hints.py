@@ -9,7 +9,7 @@ from __future__ import annotations
 from dataclasses import dataclass, field
 from typing import Any, Iterator
 
-from rte_tools import hints_events, hints_joins, hints_mapping, hints_programs, hints_types
+from rte_tools import hints_events, hints_joins, hints_lists, hints_mapping, hints_programs, hints_types
 from rte_tools.description import described
 from rte_tools.hint_case import Case, Hint, Mend, Spot
 from rte_tools.located import Node
@@ -50,6 +50,7 @@ HINTS: dict[int, Hint] = {
     28: hints_mapping.not_in_its_caller,
     29: hints_mapping.circle,
     30: hints_mapping.too_many,
+    31: hints_lists.not_coherent,
 }
 
 

@@ -192,7 +192,7 @@ def too_many(case: Case) -> Iterator[str]:
             yield f"There are {total:,} {what}, and at most {most:,} may be there."
             yield f"`{name}` has {counts[name]:,} of them, {instances.get(name, 1):,} times."
             return
-    yield f"There are more than {MOST_OBJECTS:,} objects: groups of elements, variables, servers, areas and mode machines."
+    yield f"There are more than {MOST_OBJECTS:,} groups of elements, variables, servers, areas and mode machines together."
 
 
 def events_of(case: Case) -> dict[str, int]:

@@ -1,6 +1,6 @@
-"""The least rule that a description breaks, as far as it is looked at here.
+"""The least rule that a description breaks.
 
-Rule 30 is not looked at. A place is as in a refusal, and the places of a rule are looked at in the order of docs/FORMAT.md.
+A place is as in a refusal, and the places of a rule are looked at in the order of docs/FORMAT.md.
 """
 
 from __future__ import annotations
@@ -8,6 +8,7 @@ from __future__ import annotations
 from typing import Any, Iterable
 
 from rte_tools import judging_behavior as behavior
+from rte_tools import judging_size as size
 from rte_tools import judging_structure as structure
 from rte_tools.judged import Judged, Rule
 from rte_tools.refusal import Refusal
@@ -40,11 +41,13 @@ RULES: dict[int, Rule] = {
     27: behavior.in_one_task,
     28: behavior.direct_servers,
     29: behavior.no_waiting_in_circles,
+    30: size.plan_not_too_large,
+    31: size.fitting_lists,
 }
 
 
 def judge(value: dict[str, Any]) -> Refusal | None:
-    """The refusal by the least rule that is looked at here and does not hold, or none. The value has its shape (rules 2 and 3)."""
+    """The refusal by the least rule that does not hold, or none. The value has its shape (rules 2 and 3)."""
     held = Judged(value)
     for number, rule in RULES.items():
         place = next(rule(held), None)

@@ -115,6 +115,9 @@ def declared_behavior(judged: Judged, behavior: dict, place: str, component: Com
     for below, runnable in judged.objects("runnables", behavior, place):
         for at, access in judged.objects("accesses", runnable, below):
             yield from declared_parts(judged, access, at, component)
+        for at, pairs in judged.objects("coherent", runnable, below):
+            for number, (port, element) in enumerate(pairs):
+                yield from declared_element(judged, component, port, element, f"{at}/{number}")
         for at, statement in statements(runnable.get("program", []), f"{below}/program"):
             if needed_access(statement):
                 yield from declared_parts(judged, statement, at, component)
@@ -132,6 +135,14 @@ def declared_parts(judged: Judged, parts: list, place: str, component: Component
         yield f"{place}/1"
     elif parts[0] not in ("switch", "mode"):
         yield from unless(parts[2] in judged.description.items(component.ports[parts[1]]), f"{place}/2")
+
+
+def declared_element(judged: Judged, component: Component, port: str, element: str, place: str) -> Iterator[str]:
+    """The names of a pair of a coherent list."""
+    if port not in component.ports:
+        yield f"{place}/0"
+    else:
+        yield from unless(element in judged.description.items(component.ports[port]), f"{place}/1")
 
 
 def declared_event(judged: Judged, event: dict, place: str, component: Component) -> Iterator[str]:

@@ -7,6 +7,7 @@ from typing import Iterator
 from rte_tools.description import ComSpec, Component, Composition, Description, Item, Port
 from rte_tools.finding import Finding
 from rte_tools.joins import Joins
+from rte_tools.linting_lists import one_by_one
 from rte_tools.linting_programs import SERVER_EVENT, program_values
 from rte_tools.linting_tasks import task_findings
 from rte_tools.names import nearest
@@ -192,6 +193,7 @@ CHECKS = (
     programs,
     program_values,
     task_findings,
+    one_by_one,
     results,
     com_specs,
     unused,

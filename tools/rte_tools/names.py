@@ -77,6 +77,9 @@ def in_component(
     if way[3] == "events":
         return in_event(description, held, behavior["events"][int(way[4])], way[5:])
     runnable = behavior["runnables"][int(way[4])]
+    if way[5] == "coherent":
+        pair = runnable["coherent"][int(way[6])][int(way[7])]
+        return in_parts(description, held, ["", *pair], int(way[8]) + 1)
     parts, part = part_of(runnable, "/".join(way[5:]))
     return in_parts(description, held, parts, part) if parts else None
 

@@ -20,7 +20,7 @@ Place = tuple[int, int]  # a process and a thread
 MACHINES = 1000  # where the numbers of the threads of mode machines begin
 ELSEWHERE_THREAD = 999
 ENCODED = json.JSONEncoder(separators=(",", ":")).encode
-IN_THE_NAME = ("target", "step")  # the parts of a line that are in the name of a call
+IN_THE_NAME = ("target", "list", "step")  # the parts of a line that are in the name of a call
 
 
 def perfetto(description: Description, replay: Replay) -> str:

@@ -26,6 +26,18 @@ class Refusal:
     place: str = ""
     line: int = 0
 
+    def __str__(self) -> str:
+        """The line that the program prints."""
+        said = {
+            "rule": f"refused rule {self.number} at {self.place}",
+            "words": "words refused",
+            "not read": f"not read {self.number}",
+            "script": f"script refused line {self.line} cause {self.number}",
+            "bad": f"bad line {self.line}",
+            "illegal": f"illegal {self.line} D{self.number}",
+        }
+        return said[self.kind]
+
     @property
     def status(self) -> int:
         """The status with which the program says it."""

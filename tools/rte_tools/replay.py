@@ -11,7 +11,7 @@ from typing import Any
 
 from rte_tools.causes import Arrow, Causes, Queue, Wait
 from rte_tools.description import Description
-from rte_tools.trace import CLOSINGS, RUN, Line, Trace
+from rte_tools.trace import CLOSINGS, OF_LISTS, RUN, Line, Trace
 from rte_tools.wiring import ENVIRONMENT, Wiring
 
 ELSEWHERE = ""  # the lane of what belongs to no task of the description
@@ -144,6 +144,7 @@ class Player:
             "phase": self.phase,
             "admit": self.admit,
             **dict.fromkeys(CHANGES_VALUE + TOUCHES_VALUE, self.value),
+            **dict.fromkeys(OF_LISTS, self.of_list),
             **dict.fromkeys(CALLS, self.call),
         }
 
@@ -212,6 +213,16 @@ class Player:
             changes.append(Change(line.number, changes[-1].text if changes else "", "invalid"))
         elif line.verb == "receive":
             self.causes.received(f"{instance}.{target}", line)
+
+    def of_list(self, line: Line) -> None:
+        """What is fetched or published of a coherent list, element by element."""
+        lane, instance = self.mark(line), line.actor.partition(":")[0]
+        for element, words in self.wiring.listed(line):
+            group = self.wiring.group(instance, element)
+            changes = self.replay.values.setdefault(group, [])
+            if line.verb == "publishAll":
+                changes.append(Change(line.number, ",".join(words)))
+                self.causes.written(group, line, lane)
 
     def call(self, line: Line) -> None:
         lane = self.mark(line)

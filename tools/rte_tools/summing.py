@@ -4,12 +4,14 @@ from __future__ import annotations
 
 from collections import Counter
 from dataclasses import dataclass
+from itertools import count as counting
 from typing import Iterator
 
 from rte_tools.activation import Wish
 from rte_tools.bus import ENVIRONMENT, LIMIT, LOST, NEVER_RECEIVED, UNCONNECTED, Bus, split_actor
 from rte_tools.bus_plan import BusPlan, Name
-from rte_tools.trace import RUN, Line, Trace
+from rte_tools.trace import RUN, Line, Trace, by_element
+from rte_tools.verdicts import GIVING
 
 CODES = {
     1: "RTE_E_INVALID",
@@ -20,7 +22,6 @@ CODES = {
     134: "RTE_E_UNCONNECTED",
 }
 SERVED = ("answer", "result", "return")  # their codes below 64 are errors of the operation
-GIVING = ("write", "publish", "send", "ask", "return")
 NOT_STARTED = (LookupError, ValueError)  # what the bus says of a line that may not come: a request or a field that is not there
 
 
@@ -85,12 +86,22 @@ class Sums:
         """Looks whether an activation does what its program asks for, and what was clamped."""
         given = ",".join(map(str, wish.value)) or "-" if wish and line.verb in GIVING else ""
         said = line.part("value") if line.verb in GIVING else ""
-        if not wish or (line.verb, line.part("target"), said) != (wish.verb, wish.target, given):
-            asked = " ".join(part for part in (wish.verb, wish.target, given) if part) if wish else "nothing"
+        target = line.part("target") or line.part("list")
+        if not wish or (line.verb, target, line.part("marks"), said) != (wish.verb, wish.target, wish.marks, given):
+            asked = " ".join(part for part in (wish.verb, wish.target, wish.marks, given) if part) if wish else "nothing"
             raise Unfitting(f"its program asks for `{asked}`")
-        for number, (before, after) in enumerate(zip(wish.computed, wish.value), 1):
+        for (what, number), before, after in zip(self.words(line), wish.computed, wish.value):
             if before != after:
-                self.clamp((line.actor.partition("@")[0], f"{line.verb} {wish.target}".rstrip(), number, after), before, line)
+                self.clamp((line.actor.partition("@")[0], what, number, after), before, line)
+
+    def words(self, line: Line) -> Iterator[tuple[str, int]]:
+        """Of each word that a line gives, what it is given to, and its number there."""
+        if line.verb == "publishAll":
+            elements = self.plan.list_of(line.actor, line.part("list")).elements
+            for element, words in by_element(line, elements, self.plan.words_of(line.actor)):
+                yield from ((f"publishAll {element}", number) for number in range(1, len(words) + 1))
+        else:
+            yield from ((f"{line.verb} {line.part('target')}".rstrip(), number) for number in counting(1))
 
     def clamp(self, key: tuple[str, str, int, int], before: int, line: Line) -> None:
         held = self.clamped.setdefault(key, Clamped(0, before, before, line.number))

@@ -3,11 +3,12 @@
 from __future__ import annotations
 
 from dataclasses import dataclass
-from typing import Iterable
+from typing import Callable, Iterable, Iterator, Sequence
 
 HEADER = "rte-trace "
 RUN = "run"
 CLOSINGS = ("idle", "unsettled", "waiting")
+OF_LISTS = ("fetchAll", "publishAll")
 
 # What stands behind each verb.
 PARTS = {
@@ -30,6 +31,8 @@ PARTS = {
     "mode": ("target", "mode"),
     "phase": ("step", "mode"),
     "publish": ("target", "value"),
+    "fetchAll": ("list", "value"),
+    "publishAll": ("list", "marks", "value"),
 }
 
 
@@ -71,6 +74,17 @@ def read_trace(texts: Iterable[str]) -> Trace:
     if not first.startswith(HEADER):
         raise NotATrace(f"the first line is `{first[:80]}` and not `{HEADER}1` or `{HEADER}2`")
     return Trace(first[len(HEADER) :], [read_line(number, text) for number, text in numbered if text])
+
+
+def by_element(line: Line, elements: Sequence[str], words_of: Callable[[str], int]) -> Iterator[tuple[str, tuple[str, ...]]]:
+    """Those of the elements of a coherent list that a line fetches or publishes, each with its words."""
+    value = line.part("value")
+    words = [] if value == "-" else value.split(",")
+    for element, mark in zip(elements, line.part("marks") or "1" * len(elements)):
+        if mark == "1":
+            count = words_of(element)
+            yield element, tuple(words[:count])
+            words = words[count:]
 
 
 def read_line(number: int, text: str) -> Line:

@@ -8,9 +8,10 @@ from typing import Iterator
 
 from rte_tools.activation import Answer, Value, Wish
 from rte_tools.bus import Bus, Held, split_actor, value_of
-from rte_tools.bus_plan import ENVIRONMENT, BusPlan
+from rte_tools.bus_plan import ENVIRONMENT, BusPlan, Name
+from rte_tools.hint_case import quoted
 from rte_tools.names import nearest
-from rte_tools.trace import CLOSINGS, HEADER, PARTS, RUN, Line, read_line
+from rte_tools.trace import CLOSINGS, HEADER, OF_LISTS, PARTS, RUN, Line, read_line
 
 CLAUSES = {
     6: "what acts does not do what its program asks for",
@@ -24,6 +25,7 @@ CLAUSES = {
     15: "the closing word does not hold",
     16: "this is not the script's next call or run mark, or it stands on the wrong side of one",
 }
+GIVING = ("write", "publish", "publishAll", "send", "ask", "return")  # the verbs whose value the actor gives
 LONGEST_LINE = 2048
 ENOUGH = 100_000
 
@@ -64,10 +66,11 @@ def value_text(value: Value) -> str:
 
 def spelled(bus: Bus, actor: str, wish: Wish, answer: Answer) -> str:
     """The line of a wish with what the bus answers it."""
-    given = value_text(wish.value if wish.verb in ("write", "publish", "send", "ask", "return") else answer.value)
+    given = value_text(wish.value if wish.verb in GIVING else answer.value)
     code = wish.number if wish.verb == "return" else answer.code
     said = ("no", "yes")[answer.code & 1] if wish.verb == "admit" else str(code)
     parts = {"target": wish.target, "value": given, "code": str(code), "answer": said, "mode": ""}
+    parts |= {"list": wish.target, "marks": wish.marks}
     if wish.verb in ("switch", "mode"):
         owner = ENVIRONMENT if actor == ENVIRONMENT else split_actor(actor)[0]
         machine = bus.plan.mode_ports.get((owner, wish.target), (owner, wish.target))
@@ -77,8 +80,9 @@ def spelled(bus: Bus, actor: str, wish: Wish, answer: Answer) -> str:
 
 def wish_of(line: Line, bus: Bus) -> Wish:
     """What a line asks for, without what it says that the bus answered."""
-    given = value_of(line.part("value")) if line.verb in ("write", "publish", "send", "ask") else ()
-    return Wish(line.verb, line.part("target"), given, wished_mode(line, bus))
+    given = value_of(line.part("value")) if line.verb in GIVING else ()
+    number = int(line.part("code")) if line.verb == "return" else wished_mode(line, bus)
+    return Wish(line.verb, line.part("target") or line.part("list"), given, number, line.part("marks"))
 
 
 def wished_mode(line: Line, bus: Bus) -> int:
@@ -185,10 +189,10 @@ def why_so(line: Line, wish: Wish, bus: Bus) -> Iterator[str]:
         group = bus.plan.elements[name].group
         if group in bus.invalid:
             yield f"It was invalidated in line {bus.invalid[group]}."
-        if group in bus.last_write:
-            yield f"The value was written in line {bus.last_write[group][1]}."
-        else:
-            yield "Nothing was written, so the value is the initial one."
+        yield f"The value {origin_of(name, bus)}."
+    elif wish.verb == "fetchAll":
+        for element in bus.plan.list_of(line.actor, wish.target).elements:
+            yield f"The value of `{element}` {origin_of((owner, element), bus)}."
     elif wish.verb == "receive" and bus.queues[name]:
         yield f"The oldest value was sent in line {bus.queues[name][0][1]}."
         if name in bus.lost:
@@ -197,6 +201,14 @@ def why_so(line: Line, wish: Wish, bus: Bus) -> Iterator[str]:
         point = bus.point(line.actor, wish)
         if point in bus.outstanding and point in bus.returned:
             yield f"The server returned in line {bus.returned[point][1]}."
+
+
+def origin_of(name: Name, bus: Bus) -> str:
+    """Where the value of an element comes from."""
+    group = bus.plan.elements[name].group
+    if group in bus.last_write:
+        return f"was written in line {bus.last_write[group][1]}"
+    return "is the initial one, since nothing was written"
 
 
 def no_start(clause: int, line: Line, bus: Bus) -> Iterator[str]:
@@ -282,6 +294,9 @@ def misfits(line: Line, plan: BusPlan) -> Iterator[str]:
         yield f"Behind `{line.verb}` stand {len(parts)} fields: {', '.join(parts) or 'none'}."
         return
     yield from bad_numbers(line)
+    if line.verb in OF_LISTS:
+        yield from bad_list(line, plan)
+        return
     target = line.part("target")
     owner = ENVIRONMENT if line.actor == ENVIRONMENT else split_actor(line.actor)[0]
     names = [name for path, name in all_names(plan) if path == owner]
@@ -298,6 +313,24 @@ def bad_numbers(line: Line) -> Iterator[str]:
         yield f"`{code}` is no code: a number from 0 to 255 without leading zeros."
     if value and not re.fullmatch(r"-|(0|-?[1-9][0-9]*)(,(0|-?[1-9][0-9]*)){0,15}", value):
         yield f"`{value}` is no value: at most 16 words in decimal joined by commas, or `-`."
+
+
+def bad_list(line: Line, plan: BusPlan) -> Iterator[str]:
+    """A list that the runnable does not have, or that the line does not fit."""
+    instance, runnable, _ = split_actor(line.actor)
+    lists = plan.lists.get((instance, runnable), [])
+    number = line.part("list")
+    if number not in map(str, range(len(lists))):
+        have = f"has the coherent lists 0 to {len(lists) - 1}" if lists else "has no coherent list"
+        yield f"There is no list `{number}`: `{line.actor.partition('@')[0]}` {have}."
+        return
+    held = lists[int(number)]
+    if held.reads != (line.verb == "fetchAll"):
+        yield f"List {number} is one of {'reads' if held.reads else 'writes'}: {quoted(held.elements)}."
+    elif line.verb == "publishAll" and re.fullmatch(f"[01]{{{len(held.elements)}}}", line.part("marks")) is None:
+        yield f"`{line.part('marks')}` has not one digit, 0 or 1, for each of {quoted(held.elements)}."
+    else:
+        yield "The value has not as many words as the marked elements have together."
 
 
 def actor_names(plan: BusPlan) -> list[str]:

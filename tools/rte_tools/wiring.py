@@ -11,6 +11,7 @@ from dataclasses import dataclass
 
 from rte_tools.description import Component, Composition, Description, Event, Item, Port
 from rte_tools.joins import End, Joins
+from rte_tools.trace import Line, by_element
 
 ENVIRONMENT = "env"
 DATA, REQUESTS, SWITCHES = "values", "requests", "switches"  # what waits in a queue
@@ -71,6 +72,22 @@ class Wiring:
             group = self.joins.group(end) if dot else None
             self.groups[instance, target] = group.name if group else f"{instance}.{target}"
         return self.groups[instance, target]
+
+    def listed(self, line: Line) -> list[tuple[str, tuple[str, ...]]]:
+        """The elements of a coherent list that a line fetches or publishes, each with its words."""
+        instance, _, runnable = line.actor.partition("@")[0].partition(":")
+        component, number = self.types.get(instance), line.part("list")
+        held = component.runnables.get(runnable) if isinstance(component, Component) else None
+        lists = {str(place): pairs for place, pairs in enumerate(held.coherent if held else ())}
+        words = {".".join(pair): self.words_at(component, *pair) for pair in lists.get(number, ())}
+        return list(by_element(line, list(words), lambda element: words[element]))
+
+    def words_at(self, component: Component, port: str, element: str) -> int:
+        """How many words an element of a component has; none where it is not declared."""
+        held = component.ports.get(port)
+        item = self.description.items(held).get(element) if held else None
+        data_type = self.description.types.get(item.type) if item else None
+        return data_type.words if data_type else 0
 
     def server(self, instance: str, target: str) -> ServerPlan | None:
         """The server of an operation that is called, or none where it is not connected."""

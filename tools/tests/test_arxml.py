@@ -32,6 +32,7 @@ FIXTURES = Path(__file__).resolve().parent / "arxml"
 BASES = sorted(path for path in (DATA / "bases").iterdir() if path.is_dir())
 KINDS = {"MODE-GROUP": "MODE-DECLARATION-GROUP-PROTOTYPE"}  # whose tag is that of what it is in its interface
 LONG = "TMT_RSensorSampleAllTheValuesOfTheFront_Cyclic"
+LEFT = ("takes one value at each start", "one by one")  # of what a skeleton is warned
 
 
 def value_of(folder: Path) -> dict:
@@ -57,11 +58,11 @@ def by_name(items: list[dict]) -> dict[str, dict]:
 
 def without_programs(plan: BusPlan) -> BusPlan:
     """A plan of the bus without what the runnables do, and without types that nothing uses."""
-    return replace(plan, runnables={name: {} for name in plan.runnables}, types={})
+    return replace(plan, runnables={name: {} for name in plan.runnables}, lists={}, types={})
 
 
 class RoundTrip(WithFolder):
-    """What is written as ARXML and read again is the same, but for the programs."""
+    """What is written as ARXML and read again is the same, but for the programs and the coherent lists."""
 
     def test_each_example_comes_back_whole(self) -> None:
         for folder in EXAMPLES:
@@ -89,14 +90,14 @@ class RoundTrip(WithFolder):
                 self.assertEqual((run([program(), "plan", made]).stdout, wanted.returncode), (wanted.stdout, 0))
 
     def test_skeletons_are_descriptions_without_a_warning(self) -> None:
-        """But that a skeleton takes one value of a queue, since it makes each access once: the program is yet to be written."""
+        """But that a skeleton takes one value of a queue, since it makes each access once, and that it has no coherent lists."""
         shape = read_schema()
         for folder in [*EXAMPLES, DATA / "bases" / "whole"]:
             with self.subTest(folder.name):
                 made = back(folder).value
                 self.assertTrue(shape.accepts(made))
                 warnings, _ = lint(Source.of("d", laid_out(made)))
-                self.assertEqual([line for line in warnings if "takes one value at each start" not in line], [])
+                self.assertEqual([line for line in warnings if not any(said in line for said in LEFT)], [])
 
     def test_skeletons_run(self) -> None:
         for folder in EXAMPLES:

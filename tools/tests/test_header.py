@@ -49,6 +49,15 @@ def component_with(ports: dict, accesses: list[list[str]], **behavior: list) -> 
     }
 
 
+class Lists(unittest.TestCase):
+    def test_what_is_fetched_and_published_at_one_moment_is_said(self) -> None:
+        description = description_of(DATA / "examples" / "odometer")
+        for name, said, word in (("Display", "Fetched", "IRead_Show"), ("Wheel", "Published", "IWrite_Count")):
+            component = description.components[name]
+            lines = c_header(description, component, calls_of(description, component))
+            self.assertIn(f"/* {said} at one moment: Rte_{word}_way_km, Rte_{word}_way_m */", lines)
+
+
 def names_in(header: str) -> list[str]:
     """The functions that a header declares and that begin with `Rte_`, in order."""
     return [name for name, _ in PROTOTYPE.findall(header) if name.startswith("Rte_")]

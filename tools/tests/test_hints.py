@@ -26,6 +26,14 @@ OTHER_INTERFACE = (
     '{"kind":"SenderReceiverInterface","shortName":"J","dataElements":[{"shortName":"v","type":"U","swImplPolicy":"queued"}]}'
 )
 ASSEMBLY = '{"kind":"AssemblySwConnector","provider":["pump","out"],"requester":["gauge","in"]}'
+COHERENT = '"coherent":[[["way","km"],["way","m"]]],\n      "program":[["irvRead"'
+LIST = "/components/0/behavior/runnables/0/coherent/0"
+
+
+def other_list(pairs: str) -> list[tuple[str, str]]:
+    """The edit that gives the wheel of `odometer` another list."""
+    return [(COHERENT, COHERENT.replace('[["way","km"],["way","m"]]', pairs))]
+
 
 # Of an example: the refusal, edits, and what is said.
 SAID: list[tuple[str, str, list[tuple[str, str]], tuple[str, ...]]] = [
@@ -84,6 +92,38 @@ SAID: list[tuple[str, str, list[tuple[str, str]], tuple[str, ...]]] = [
         [(',\n   {"instance":"computer","event":"OnRange","task":"Trip","position":1}', "")],
         ("`Range` has no `canBeInvokedConcurrently`.", "Mend: map the event to a task, or let the runnable be invoked concurrently."),
     ),
+    ("odometer", f"31 at {LIST}", other_list('[["way","m"]]'), ("It has one element; a list has 2 to 16.", "Mend: leave out a list")),
+    ("odometer", f"31 at {LIST}", other_list('[["way","m"],["way","m"]]'), ("more than once: `way.m`.", "Mend: keep each element in one")),
+    (
+        "odometer",
+        f"31 at {LIST}",
+        [('["iwrite","way","m"]]', '["write","way","m"]]')],
+        ("`Count` has no implicit access to `way.m`.", "Mend: declare the `iread` or `iwrite` access"),
+    ),
+    (
+        "odometer",
+        f"31 at {LIST}",
+        [('"upper":65535,"words":1', '"upper":65535,"words":16')],
+        ("Its elements have 17 words together, and at most 16 may be in a list.", "Mend: leave elements out"),
+    ),
+    (
+        "odometer",
+        f"31 at {LIST}",
+        [
+            ('[{"kind":"PPortPrototype","shortName":"way"', '[{"kind":"RPortPrototype","shortName":"back","interface":"Way"},{"kind":"PPortPrototype","shortName":"way"'),
+            ('["iwrite","way","m"]]', '["iwrite","way","m"],["iread","back","m"]]'),
+            *other_list('[["way","km"],["back","m"]]'),
+        ],
+        ("Of reads there are `back.m`, of writes `way.km`.", "Mend: make two lists"),
+    ),
+    (
+        "odometer",
+        f"5 at {LIST}/1/1",
+        other_list('[["way","km"],["way","mm"]]'),
+        ("There is no item of the port `mm`; the nearest one is `m`.", "Mend: "),
+    ),
+    ("odometer", f"5 at {LIST}/0/0", other_list('[["wy","km"],["way","m"]]'), ("There is no port `wy`; the nearest one is `way`.",)),
+    ("odometer", f"2 at {LIST}/0", other_list('[["way"],["way","m"]]'), ("2 have to be there",)),
 ]
 
 
@@ -93,7 +133,7 @@ def said(refusal: str, path: str) -> str:
 
 class Hints(WithFolder):
     def test_each_rule_has_a_hint(self) -> None:
-        self.assertEqual(sorted({1, 2, 3, *HINTS}), list(range(1, 31)))
+        self.assertEqual(sorted({1, 2, 3, *HINTS}), list(range(1, 32)))
 
     def test_each_example_of_the_page_has_a_sentence(self) -> None:
         for example in examples():

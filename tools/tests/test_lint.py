@@ -80,6 +80,35 @@ CASES = {
 }
 
 
+# Of `odometer`: the list of a runnable, with what stands before it.
+COUNTED = '["iwrite","way","m"]],\n      "coherent":[[["way","km"],["way","m"]]],'
+SHOWN = '["write","panel","metres"]],\n      "coherent":[[["way","km"],["way","m"]]],'
+BETWEEN = "`Show` fetches `way.km` and `way.m` one by one, and `Count` may write between: list them in `coherent`"
+APART = "`Count` writes `way.km` and `way.m` one by one, and `Show` fetches them at one moment: write them by `iwrite`"
+
+
+class Lists(unittest.TestCase):
+    def warned(self, *edits: tuple[str, str]) -> list[str]:
+        text = edited(text_of(DATA / "examples" / "odometer" / "description.json"), list(edits))
+        return lint(Source.of("d", text))[0]
+
+    def test_elements_that_are_fetched_one_by_one(self) -> None:
+        (said,) = self.warned((COUNTED, COUNTED.splitlines()[0]), (SHOWN, SHOWN.splitlines()[0]))
+        self.assertTrue(said.startswith("d:24:"), said)
+        self.assertIn(BETWEEN, said)
+        self.assertIn(BETWEEN, self.warned((SHOWN, SHOWN.splitlines()[0]))[0])
+
+    def test_a_list_that_is_written_one_by_one(self) -> None:
+        (said,) = self.warned((COUNTED, COUNTED.splitlines()[0]))
+        self.assertTrue(said.startswith("d:15:"), said)
+        self.assertIn(APART, said)
+
+    def test_nothing_comes_between_in_one_task(self) -> None:
+        task = [('"Each10","task":"Showing","position":0', '"Each10","task":"Counting","position":1'), ('"cores":2', '"cores":1')]
+        task += [(',{"shortName":"Showing","core":1}', "")]
+        self.assertEqual(self.warned((COUNTED, COUNTED.splitlines()[0]), (SHOWN, SHOWN.splitlines()[0]), *task), [])
+
+
 class Lint(unittest.TestCase):
     def test_no_warning_on_the_examples(self) -> None:
         for folder in EXAMPLES:

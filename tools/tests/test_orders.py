@@ -13,6 +13,7 @@ from support import DATA, EXAMPLES, WithFolder, cores_of, program, run, run_tool
 from rte_tools.shuffling import ShuffledNode, Tried, try_orders
 from rte_tools.turns import Layout
 
+ODOMETER = DATA / "examples" / "odometer"
 POWER_MODES = DATA / "examples" / "power_modes"
 LONGEST = 5.0  # seconds of a processor for an example
 
@@ -29,7 +30,7 @@ class Orders(WithFolder):
                     begun = time.process_time()
                     tried = call_tool("orders", *words(folder))
                     self.assertLess(time.process_time() - begun, LONGEST)
-                    count = 2 if folder == POWER_MODES else 1
+                    count = 2 if folder in (POWER_MODES, ODOMETER) else 1
                     self.assertEqual(tried.status, count - 1, tried.out)
                     self.assertIn(f"300 orders of the cores, {count} outcome", tried.out)
 

@@ -15,6 +15,8 @@ from rte_tools.turns import taken
 REFUSED = ("refused", "script")
 LEFT_OUT = ("two_start_each_other_for_ever", "wrong_expectation", "version_one")  # cut short, wrong on purpose, in version 1
 ON_ONE_CORE = re.compile(r'^\$ change (\S+) (.*=> "cores": ?1( ;; .*)?)$')
+CHANGE = re.compile(r"^\$ change (\S+) (.*)$")
+LISTS, NEXT = "# ---- Coherent lists", "# ---- Checks"  # between these all changes that run are on one core
 
 
 def made(folder: Path, edits: list[tuple[str, str]]) -> str:
@@ -29,10 +31,12 @@ def read_edits(text: str) -> list[tuple[str, str]]:
 
 
 def rows_on_one_core() -> Iterator[tuple[str, list[tuple[str, str]], str]]:
-    """The folder, the edits and what is shown of each row whose description is put onto one core and runs."""
+    """The folder, the edits and what is shown of each row whose description is put onto one core and runs, and of those of lists."""
     lines = iter((DATA.parent / "stdout").read_text(encoding="utf-8", errors="surrogateescape").split("\n"))
+    wanted = ON_ONE_CORE
     for line in lines:
-        if row := ON_ONE_CORE.match(line):
+        wanted = {LISTS: CHANGE, NEXT: ON_ONE_CORE}.get(line, wanted)
+        if row := wanted.match(line):
             shown = []
             for said in lines:
                 if said.startswith("status "):

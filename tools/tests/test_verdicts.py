@@ -23,6 +23,12 @@ SAID = {
     "foreign_value_read": "The value was written in line 14.",
     "invalidate_changes_no_value": "It was invalidated in line 15.",
     "fetched_too_late": "The line would be `u:Go fetch i.v 7`.",
+    "pair_fetched_at_two_moments": "The value of `i.a` was written in line 14. The value of `i.b` was written in line 14.",
+    "unmarked_element_becomes_valid": "It was invalidated in line 14.",
+    "pair_fetched_one_by_one": "The line would be `r:Look fetchAll 0 3,4`.",
+    "pair_published_one_by_one": "The line would be `w:Step publishAll 0 11 3,4`.",
+    "list_at_its_last_access": "The line would be `w:Step publishAll 0 10 4`.",
+    "first_of_one_group_stays": "The value was written in line 14.",
     "oldest_overwritten": "The oldest value was sent in line 2.",
     "loss_not_told": "The value of line 4 was lost.",
     "later_request_first": "The oldest request is that of `k0:Go.c.op` with the value `4`.",
@@ -47,6 +53,11 @@ SAID = {
     "unknown_instance": "Nothing that acts is named `x:Step`; the nearest one is `w:Step`.",
     "leading_zero": "`07` is no value",
     "code_above_255": "`256` is no code",
+    "no_such_list": "There is no list `1`: `r:Look` has the coherent lists 0 to 0.",
+    "lists_counted_by_kind": "List 0 is one of writes: `o.a`, `o.b`.",
+    "marks_past_the_list": "`110` has not one digit, 0 or 1, for each of `o.a`, `o.b`.",
+    "pair_published_short": "The value has not as many words as the marked elements have together.",
+    "environment_fetches_a_list": "There is no list `0`: `env` has no coherent list.",
 }
 
 
