@@ -15,6 +15,7 @@ use Rattle.bus_semantics.specs.Bundles.{home_of, bundle_of, groups_at, leaders_b
 use Rattle.bus_semantics.specs.SoundPlan.{is_rising, same_numbers, first_of, firsts, groups_fit}
 use Rattle.bus_semantics.specs.SoundLists.{groups_listed, first_group, bundles_fit}
 use Rattle.bus_laws.proofs.Thinning.{option_same, every_at}
+pub use Rattle.bus_laws.proofs.Thinning.{there_is as some_of}
 
 -- ---- positions
 
@@ -89,11 +90,6 @@ module _ (test : ℕ → Bool) (g : ℕ) where
 pub record Begins (p : Plan) (b y : ℕ) : Type 0 where
   pub others : List ℕ
   pub is : slice_get p.bundles b ≡ Some (y ∷ others)
-
-pub some_of : {X : Type 0} (xs : List X) (i : ℕ) → i < length xs → (x : X) × (slice_get xs i ≡ Some x)
-some_of [] i below = absurd (omega arith)
-some_of (x ∷ xs) zero below = (x, refl)
-some_of (x ∷ xs) (suc i) below = some_of xs i (omega arith)
 
 -- a list that has one number for each item of another
 single_at : (f : ℕ → List ℕ) (bs : List ℕ) → ((b : ℕ) (i : ℕ) → slice_get bs i ≡ Some b → (y : ℕ) × (f b ≡ y ∷ []))

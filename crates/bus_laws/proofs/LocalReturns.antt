@@ -24,7 +24,7 @@ use Rattle.bus_laws.proofs.Thinning.{noting, differs, if_false, if_same, option_
 use Rattle.bus_laws.proofs.OneEvent.{invoked_serves, serves_invoked}
 use Rattle.bus_laws.proofs.LocalServers.{start_named, start_owned, by_invoked, request_quiet, outstanding_thin}
 
-key_same : (k j : ActKey) → same_key k j ≡ true → k ≡ j
+pub key_same : (k j : ActKey) → same_key k j ≡ true → k ≡ j
 key_same k j = (same_key-Decides k j).0
 
 pub all_false : (b c : Bool) → (if b then false else if c then false else false) ≡ false

@@ -33,7 +33,7 @@ by_server : (p : Plan) (k : EventKind) (q : ℕ) (ws : List ℤ) → start_fits 
 by_server p (Invoked s) q ws e = record { server = s; kind = refl; joined = option_same (server_of p q) (Some s) e }
 by_server p k q ws e = absurd (false≢true e)
 
-answer_part : (p : Plan) (n : Noted) → is_proper p n ≡ true → answer_fits p n.entry.actor n.entry.deed ≡ true
+pub answer_part : (p : Plan) (n : Noted) → is_proper p n ≡ true → answer_fits p n.entry.actor n.entry.deed ≡ true
 answer_part p n o =
     let wish = (if needs_event n.entry.deed then activation_fits p n.entry.actor else wish_fits p n.entry.actor (wanted_by 0 n.entry.deed)) in
     (and_parts wish (answer_fits p n.entry.actor n.entry.deed) (and_parts (fits p n.entry) (starts_its_own p n.entry.actor n.entry.deed) o).0).1

@@ -36,10 +36,10 @@ pub kind_at : (p : Plan) (e : ℕ) (v : EventPlan) → slice_get p.events e ≡ 
 kind_at p e v there = ap (λ (o : Option EventPlan). option_map_or (λ (w : EventPlan). w.kind) o Init) there
 
 module _ (p : Plan) (m : Mapping) (sound : IsSound p m) where
-  event_at : (e : ℕ) (v : EventPlan) → slice_get p.events e ≡ Some v → event_sound p e v ≡ true
+  pub event_at : (e : ℕ) (v : EventPlan) → slice_get p.events e ≡ Some v → event_sound p e v ≡ true
   event_at e v there = every_at (event_sound p) 0 p.events (and_parts (every_from 0 (event_sound p) p.events) (nat_le (length p.events) 16384) sound.events).0 e e v (omega arith) there
 
-  kind_part : (e : ℕ) (v : EventPlan) → slice_get p.events e ≡ Some v → kind_sound p e v.runnable (instance_of p v.runnable) v.kind ≡ true
+  pub kind_part : (e : ℕ) (v : EventPlan) → slice_get p.events e ≡ Some v → kind_sound p e v.runnable (instance_of p v.runnable) v.kind ≡ true
   kind_part e v there =
       let a = nat_lt v.runnable (length p.runnables) in
       let b = kind_sound p e v.runnable (instance_of p v.runnable) v.kind in
@@ -66,7 +66,7 @@ module _ (p : Plan) (m : Mapping) (sound : IsSound p m) where
       let last : d ≡ true = (and_parts c d (and_parts b (c && d) (and_parts a (b && (c && d)) (event_at e v there)).1).1).1 in
       subst (λ k. (not (is_invoked k) || alone) ≡ true) is last
 
-  server_at : (s : ℕ) (v : ServerPlan) → slice_get p.servers s ≡ Some v → server_served p s v ≡ true
+  pub server_at : (s : ℕ) (v : ServerPlan) → slice_get p.servers s ≡ Some v → server_served p s v ≡ true
   server_at s v there = every_at (server_served p) 0 p.servers (and_parts (every_from 0 (server_served p) p.servers) (every_from 0 (serves_back p) p.runnables) sound.servers).0 s s v (omega arith) there
 
   runnable_at : (r : ℕ) (v : Runnable) → slice_get p.runnables r ≡ Some v → serves_back p r v ≡ true

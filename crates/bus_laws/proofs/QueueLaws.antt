@@ -25,9 +25,9 @@ stays [] y x k at = cc
 stays (a ∷ xs) y x zero at = at
 stays (a ∷ xs) y x (suc k) at = stays xs y x k at
 
-at_end : {X : Type 0} (xs : List X) (y : X) → slice_get (xs ++ y ∷ []) (length xs) ≡ Some y
-at_end [] y = refl
-at_end (a ∷ xs) y = at_end xs y
+pub at_length : {X : Type 0} (xs : List X) (y : X) → slice_get (xs ++ y ∷ []) (length xs) ≡ Some y
+at_length [] y = refl
+at_length (a ∷ xs) y = at_length xs y
 
 -- what is found stood there before, or is the one at the end
 pub record Last (X : Type 0) (xs : List X) (y x : X) (k : ℕ) : Type 0 where
@@ -99,7 +99,7 @@ module _ (p : Plan) (x : ℕ) where
       let less : length (accepted_at p x before) < taken_at x before + places_at p x = omega arith in
       ap (λ o. slice_get (with_sent o (has_room_at p x before) (accepted_at p x before)) k) sent
       ∙ (ap (λ b. slice_get (with_sent (Some ws) b (accepted_at p x before)) k) (room_is before less)
-      ∙ (ap (slice_get (accepted_at p x before ++ ws ∷ [])) (sym place) ∙ at_end (accepted_at p x before) ws))
+      ∙ (ap (slice_get (accepted_at p x before ++ ws ∷ [])) (sym place) ∙ at_length (accepted_at p x before) ws))
   there_accepted k ws (n ∷ later) send before sent place room =
       with_more (sent_to p x n.entry.deed) (has_room_at p x (later ++ send ∷ before)) (accepted_at p x (later ++ send ∷ before)) k ws
       (there_accepted k ws later send before sent place room)

@@ -1,17 +1,20 @@
 -- Entries of which a definition makes nothing may be left out of a history.
-use Rattle.std.proofs.Common.{◌≡◌, ℕ, zero, suc, ◌+◌, Bool, true, false, ◌&&◌, ◌||◌, not, ◌==◌, if◌then◌else◌, refl, sym, ◌∙◌, ap, subst, arith, List, [], ◌∷◌, Option, Some, None}
+use Rattle.std.proofs.Common.{◌≡◌, ◌<◌, ℕ, zero, suc, ◌+◌, ℤ, Bool, true, false, ◌&&◌, ◌||◌, not, ◌==◌, if◌then◌else◌, refl, sym, ◌∙◌, ap, subst, arith, List, [], ◌∷◌, length, Option, Some, None}
 use Rattle.std.specs.Prelude.{filter}
 use Rattle.std.specs.Cmp.{unsigned_Decides}
 use Rattle.std.specs.List.{list_all, list_any, slice_get}
 use Rattle.std.specs.Option.{option_or, option_map_or}
 use Rattle.std.proofs.lemmas.Bool.{and_parts, false≢true}
-use Rattle.rte_value.specs.Values.{same_number}
+use Rattle.std.proofs.lemmas.Bool.Decides.{nat_tests}
+use Rattle.rte_value.specs.Values.{same_number, same_words}
+use Rattle.rte_value.specs.EqualValues.{same_words-Decides}
 use Rattle.rte_value.specs.EqualKeys.{same_number-Decides}
 use Rattle.bus_semantics.specs.declared.entries.Actor.{Actor}
 use Rattle.bus_semantics.specs.declared.entries.Deed.{Deed}
 use Rattle.bus_semantics.specs.Plan.{every_from}
 use Rattle.bus_semantics.specs.History.{Past, Noted, newest, count}
 use Rattle.bus_semantics.specs.Due.{follows_last}
+use Rattle.bus_semantics.specs.Legal.{same_bool}
 
 -- ---- tests
 
@@ -40,6 +43,17 @@ if_same false x = refl
 
 pub same_test : (a : ℕ) → (a == a) ≡ true
 same_test a = (unsigned_Decides a a).1 refl
+
+-- the other way round
+pub not_same : (a b : ℕ) → (a == b) ≡ false → (b == a) ≡ false
+not_same a b e = grind (arith, nat_tests)
+
+pub same_list : (ws us : List ℤ) → ws ≡ us → same_words ws us ≡ true
+same_list ws us = (same_words-Decides ws us).1
+
+pub same_flag : (b : Bool) → same_bool b b ≡ true
+same_flag true = refl
+same_flag false = refl
 
 pub option_same : (a b : Option ℕ) → same_number a b ≡ true → a ≡ b
 option_same a b = (same_number-Decides a b).0
@@ -90,6 +104,11 @@ module _ (keep ok : Noted → Bool) where
   fine_thin h fine = thin (list_all ok) (λ n l o f e. ap (λ b. ok n && b) e) (λ n l o f e. ap (λ b. b && list_all ok l) o) h fine ∙ fine
 
 -- ---- lists with their positions
+
+pub there_is : {X : Type 0} (xs : List X) (n : ℕ) → n < length xs → (x : X) × (slice_get xs n ≡ Some x)
+there_is [] n less = absurd (omega arith)
+there_is (x ∷ xs) zero less = (x, refl)
+there_is (x ∷ xs) (suc n) less = there_is xs n (omega arith)
 
 pub every_same : {X : Type 0} (f g : ℕ → X → Bool) (i : ℕ) (xs : List X) → ((j k : ℕ) (x : X) → k ≡ i + j → slice_get xs j ≡ Some x → f k x ≡ g k x) → every_from i f xs ≡ every_from i g xs
 every_same f g i [] each = refl

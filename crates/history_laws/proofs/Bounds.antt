@@ -26,6 +26,7 @@ use Rattle.bus_semantics.specs.SoundPlan.{is_in}
 use Rattle.bus_semantics.specs.SoundElements.{machine_sound}
 use Rattle.bus_semantics.specs.Pasts.{IsPastOf}
 use Rattle.bus_laws.proofs.Thinning.{noting, option_same}
+use Rattle.bus_laws.proofs.LocalServers.{answer_part}
 use Rattle.activation_laws.specs.LookUps.{all_at}
 use Rattle.history_laws.proofs.Lists.{AtEnd, earlier, last, at_end}
 
@@ -37,11 +38,6 @@ pub wish_part : (p : Plan) (n : Noted) → is_proper p n ≡ true → (if needs_
 wish_part p n proper =
     let wish = if needs_event n.entry.deed then activation_fits p n.entry.actor else wish_fits p n.entry.actor (wanted_by 0 n.entry.deed) in
     (and_parts wish (answer_fits p n.entry.actor n.entry.deed) (and_parts (fits p n.entry) (starts_its_own p n.entry.actor n.entry.deed) proper).0).0
-
-answer_part : (p : Plan) (n : Noted) → is_proper p n ≡ true → answer_fits p n.entry.actor n.entry.deed ≡ true
-answer_part p n proper =
-    let wish = if needs_event n.entry.deed then activation_fits p n.entry.actor else wish_fits p n.entry.actor (wanted_by 0 n.entry.deed) in
-    (and_parts wish (answer_fits p n.entry.actor n.entry.deed) (and_parts (fits p n.entry) (starts_its_own p n.entry.actor n.entry.deed) proper).0).1
 
 -- ---- phases
 

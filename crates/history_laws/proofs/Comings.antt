@@ -9,7 +9,6 @@ use Rattle.rte_value.specs.declared.kinds.Step.{Step}
 use Rattle.rte_value.specs.declared.value.Value.{Value}
 use Rattle.rte_value.specs.Values.{words_of, same_words, same_number}
 use Rattle.rte_value.specs.ShortValues.{empty_value}
-use Rattle.rte_value.specs.EqualValues.{same_words-Decides}
 use Rattle.bus_semantics.specs.declared.plan.EventKind.{EventKind}
 use Rattle.bus_semantics.specs.declared.plan.EventKind.TheVariants.{Timing, Init, DataReceived, Invoked, Returns, ModeSwitch, Ack}
 use Rattle.bus_semantics.specs.declared.plan.ModePortPlan.{ModePortPlan}
@@ -35,11 +34,11 @@ use Rattle.bus_semantics.specs.Modes.{switch_code, mode_at_port}
 use Rattle.bus_semantics.specs.Admission.{is_disabled}
 use Rattle.bus_semantics.specs.Phases.{phase_may_come}
 use Rattle.bus_semantics.specs.Due.{counts_for, is_due, is_due_kind}
-use Rattle.bus_semantics.specs.Legal.{same_bool, Answers}
+use Rattle.bus_semantics.specs.Legal.{Answers}
 use Rattle.bus_semantics.specs.Locality.{starts_its_own}
 use Rattle.bus_semantics.specs.Matching.{is_open, enters_by, serves_by, runs_by, start_matches, matches}
 use Rattle.bus_semantics.specs.Asked.{event_of, asks_its_own}
-use Rattle.bus_laws.proofs.Thinning.{noting, option_same}
+use Rattle.bus_laws.proofs.Thinning.{noting, option_same, same_list, same_flag, same_test}
 use Rattle.history_laws.specs.Coming.{IsAsked, Comes, may_be_held}
 use Rattle.history_laws.proofs.Moments.{moment_words}
 use Rattle.history_laws.proofs.Values.{element_words, received_words, answer_words, result_words}
@@ -92,16 +91,6 @@ module _ (p : Plan) (m : Mapping) (a : Actor) (w : Wish) (l : Past) (asked : IsA
         comes = record { actor = refl; wish = same; follows = record { touching = touch; proper = λ i. (first i && answer i) && starts i; answers = answers; matching = matching } };
       }
 
-same_itself : (ws vs : List ℤ) → ws ≡ vs → same_words ws vs ≡ true
-same_itself ws vs is = (same_words-Decides ws vs).1 is
-
-flag_itself : (b : Bool) → same_bool b b ≡ true
-flag_itself true = refl
-flag_itself false = refl
-
-number_itself : (n : ℕ) → (n == n) ≡ true
-number_itself n = eq-eqb n n refl
-
 -- ---- wishes that are never held
 
 -- a port that touches an object is there, and shows a mode that fits
@@ -123,7 +112,7 @@ always p m a wish.Tick l asked free = coming p m a wish.Tick l asked deed.Tick r
 always p m a (wish.Fetch x) l asked free =
     let v = element_words p x l in
     coming p m a (wish.Fetch x) l asked (deed.Fetch x v.value) refl refl
-    (record { unqueued = same_itself (words_of v.value) (value_at p x l) v.is; queued = refl; calls = refl; areas = refl; modes = refl; admission = refl; due = refl }) refl
+    (record { unqueued = same_list (words_of v.value) (value_at p x l) v.is; queued = refl; calls = refl; areas = refl; modes = refl; admission = refl; due = refl }) refl
 always p m a (wish.Write x value) l asked free = coming p m a (wish.Write x value) l asked (deed.Write x value) refl refl
     (record { unqueued = refl; queued = refl; calls = refl; areas = refl; modes = refl; admission = refl; due = refl }) refl
 always p m a (wish.Publish x value) l asked free = coming p m a (wish.Publish x value) l asked (deed.Publish x value) refl refl
@@ -131,14 +120,14 @@ always p m a (wish.Publish x value) l asked free = coming p m a (wish.Publish x 
 always p m a (wish.FetchAll x) l asked free =
     let v = moment_words p m asked.sound x l (proper_past p _ l asked.past) in
     coming p m a (wish.FetchAll x) l asked (deed.FetchAll x v.value) refl refl
-    (record { unqueued = same_itself (words_of v.value) (moment_of p (elems_of p x) l) v.is; queued = refl; calls = refl; areas = refl; modes = refl; admission = refl; due = refl }) refl
+    (record { unqueued = same_list (words_of v.value) (moment_of p (elems_of p x) l) v.is; queued = refl; calls = refl; areas = refl; modes = refl; admission = refl; due = refl }) refl
 always p m a (wish.PublishAll x written value) l asked free = coming p m a (wish.PublishAll x written value) l asked (deed.PublishAll x written value) refl refl
     (record { unqueued = refl; queued = refl; calls = refl; areas = refl; modes = refl; admission = refl; due = refl }) refl
 always p m a (wish.Read x) l asked free =
     let v = element_words p x l in
     coming p m a (wish.Read x) l asked (deed.Read x (read_code p x l) v.value) refl refl
     (record {
-      unqueued = λ i. number_itself (read_code p x l) i && same_itself (words_of v.value) (value_at p x l) v.is i;
+      unqueued = λ i. same_test (read_code p x l) i && same_list (words_of v.value) (value_at p x l) v.is i;
       queued = refl;
       calls = refl;
       areas = refl;
@@ -149,25 +138,25 @@ always p m a (wish.Read x) l asked free =
 always p m a (wish.Invalidate x) l asked free = coming p m a (wish.Invalidate x) l asked (deed.Invalidate x) refl refl
     (record { unqueued = refl; queued = refl; calls = refl; areas = refl; modes = refl; admission = refl; due = refl }) refl
 always p m a (wish.IsUpdated x) l asked free = coming p m a (wish.IsUpdated x) l asked (deed.IsUpdated x (is_updated p x l)) refl refl
-    (record { unqueued = flag_itself (is_updated p x l); queued = refl; calls = refl; areas = refl; modes = refl; admission = refl; due = refl }) refl
+    (record { unqueued = same_flag (is_updated p x l); queued = refl; calls = refl; areas = refl; modes = refl; admission = refl; due = refl }) refl
 always p m a (wish.Send x value) l asked free = coming p m a (wish.Send x value) l asked (deed.Send x value (send_code p x l)) refl refl
-    (record { unqueued = refl; queued = number_itself (send_code p x l); calls = refl; areas = refl; modes = refl; admission = refl; due = refl }) refl
+    (record { unqueued = refl; queued = same_test (send_code p x l); calls = refl; areas = refl; modes = refl; admission = refl; due = refl }) refl
 always p m a (wish.Receive x) l asked free =
     let v = received_words p x l in
     let of = received_at p x l in
     coming p m a (wish.Receive x) l asked (deed.Receive x of.0 v.value) refl refl
-    (record { unqueued = refl; queued = λ i. number_itself of.0 i && same_itself (words_of v.value) of.1 v.is i; calls = refl; areas = refl; modes = refl; admission = refl; due = refl }) refl
+    (record { unqueued = refl; queued = λ i. same_test of.0 i && same_list (words_of v.value) of.1 v.is i; calls = refl; areas = refl; modes = refl; admission = refl; due = refl }) refl
 always p m a (wish.Ask q value) l asked free = coming p m a (wish.Ask q value) l asked (deed.Ask q value (ask_code p q l)) refl refl
-    (record { unqueued = refl; queued = refl; calls = number_itself (ask_code p q l); areas = refl; modes = refl; admission = refl; due = refl }) refl
+    (record { unqueued = refl; queued = refl; calls = same_test (ask_code p q l); areas = refl; modes = refl; admission = refl; due = refl }) refl
 always p m a (wish.TakeResult q) l asked free =
     let v = result_words p q l in
     let of = result_of p q l in
     coming p m a (wish.TakeResult q) l asked (deed.TakeResult q of.0 v.value) refl refl
-    (record { unqueued = refl; queued = refl; calls = λ i. number_itself of.0 i && same_itself (words_of v.value) of.1 v.is i; areas = refl; modes = refl; admission = refl; due = refl }) refl
+    (record { unqueued = refl; queued = refl; calls = λ i. same_test of.0 i && same_list (words_of v.value) of.1 v.is i; areas = refl; modes = refl; admission = refl; due = refl }) refl
 always p m a (wish.Switch n mode) l asked free = coming p m a (wish.Switch n mode) l asked (deed.Switch n mode (switch_code p n l)) refl refl
-    (record { unqueued = refl; queued = refl; calls = refl; areas = refl; modes = number_itself (switch_code p n l); admission = refl; due = refl }) refl
+    (record { unqueued = refl; queued = refl; calls = refl; areas = refl; modes = same_test (switch_code p n l); admission = refl; due = refl }) refl
 always p m a (wish.Mode port) l asked free = coming p m a (wish.Mode port) l asked (deed.Mode port (mode_at_port p port l)) refl (mode_fits p m a port l asked)
-    (record { unqueued = refl; queued = refl; calls = refl; areas = refl; modes = number_itself (mode_at_port p port l); admission = refl; due = refl }) refl
+    (record { unqueued = refl; queued = refl; calls = refl; areas = refl; modes = same_test (mode_at_port p port l); admission = refl; due = refl }) refl
 always p m a w l asked free = absurd (false≢true (sym free))
 
 -- ---- areas, returns, admissions, phases and ends
@@ -191,14 +180,14 @@ hear p m a q l asked some = by_answer (answer_to q l) refl
     by_answer None is = absurd (false≢true (sym (ap is_some is) ∙ some))
     by_answer (Some r) is =
         let v = answer_words q l r is in
-        let first = number_itself r.0 in
-        let second = same_itself (words_of v.value) r.1 v.is in
+        let first = same_test r.0 in
+        let second = same_list (words_of v.value) r.1 v.is in
         coming p m a (wish.Answer q) l asked (deed.Answer q r.0 v.value) refl refl
         (record { unqueued = refl; queued = refl; calls = rw is (λ i. first i && second i); areas = refl; modes = refl; admission = refl; due = refl }) refl
 
 pub admit : (p : Plan) (m : Mapping) (a : Actor) (event : ℕ) (l : Past) → IsAsked p m a (wish.Admit event) l → is_open (runs_by event) l ≡ false → Comes p a (wish.Admit event) l
 admit p m a e l asked closed = coming p m a (wish.Admit e) l asked (deed.Admit (not (is_disabled p e l))) refl refl
-    (record { unqueued = refl; queued = refl; calls = refl; areas = refl; modes = refl; admission = flag_itself (not (is_disabled p e l)); due = refl }) (ap not closed)
+    (record { unqueued = refl; queued = refl; calls = refl; areas = refl; modes = refl; admission = same_flag (not (is_disabled p e l)); due = refl }) (ap not closed)
 
 pub end : (p : Plan) (m : Mapping) (a : Actor) (event : ℕ) (l : Past) → IsAsked p m a (wish.End event) l → is_open (runs_by event) l ≡ true → Comes p a (wish.End event) l
 end p m a e l asked begun = coming p m a (wish.End e) l asked deed.End refl refl
@@ -256,9 +245,9 @@ module _ (p : Plan) (m : Mapping) (l : Past) where
       let made = request_made (counts_for p s k.point) l (starts_of (counts_for p s k.point) l) x next.is in
       let point = names k s x serves made.passes in
       let taken : next_request p x.0 l ≡ Some x = ap (λ (f : ℕ → Bool). slice_get (requests_of f l) (starts_of f l)) (counts_same p s x.0 k.point serves point.joined point.mine) ∙ next.is in
-      let words : same_words x.1 (words_of made.value) ≡ true = same_itself x.1 (words_of made.value) (sym made.words) in
-      let request : is_request x.0 (words_of made.value) (next_request p x.0 l) ≡ true = rw taken (λ i. number_itself x.0 i && words i) in
-      let fit : start_fits p (Invoked s) (Some x.0) (words_of made.value) ≡ true = ap (λ o. same_number o (Some s)) point.joined ∙ number_itself s in
+      let words : same_words x.1 (words_of made.value) ≡ true = same_list x.1 (words_of made.value) (sym made.words) in
+      let request : is_request x.0 (words_of made.value) (next_request p x.0 l) ≡ true = rw taken (λ i. same_test x.0 i && words i) in
+      let fit : start_fits p (Invoked s) (Some x.0) (words_of made.value) ≡ true = ap (λ o. same_number o (Some s)) point.joined ∙ same_test s in
       coming p m (Act k) (wish.Start e) l asked (deed.Start e (Some x.0) made.value) refl (subst (λ y. start_fits p y (Some x.0) (words_of made.value) ≡ true) (sym is) fit)
       (record { unqueued = refl; queued = refl; calls = λ i. point.key i && request i; areas = refl; modes = refl; admission = refl; due = due }) match
 

@@ -21,7 +21,7 @@ use Rattle.bus_semantics.specs.Matching.{is_open, enters_by}
 use Rattle.bus_semantics.specs.Legal.{MayFollow, IsLegal}
 use Rattle.bus_semantics.specs.Sound.{IsSound}
 use Rattle.activation_laws.specs.OpenAreas.{all_but_innermost, open_after, innermost, are_nested}
-use Rattle.bus_laws.proofs.Thinning.{clash}
+use Rattle.bus_laws.proofs.Thinning.{clash, not_same}
 use Rattle.history_laws.specs.Running.{areas_of}
 use Rattle.history_laws.specs.Holding.{is_inside, HasHolder}
 use Rattle.history_laws.proofs.Lists.{skipped}
@@ -33,9 +33,6 @@ by a d = record { actor = a; deed = d }
 
 abbrev has : ℕ → List ℕ → Bool
 has x areas = list_any (λ y. y == x) areas
-
-other_number : (x y : ℕ) → (x == y) ≡ false → (y == x) ≡ false
-other_number x y e = grind (arith, nat_tests)
 
 far : (a x y : ℕ) → (x == y) ≡ false → (a + y == a + x) ≡ false
 far a x y e = grind (arith, nat_tests)
@@ -64,7 +61,7 @@ is_first x (y ∷ areas) first = or_left (y == x) (has x areas) (eq-eqb y x (sam
 left_other : (x y : ℕ) (areas : List ℕ) → (x == y) ≡ false → innermost areas ≡ Some y → has x (all_but_innermost areas) ≡ has x areas
 left_other x y [] other first = absurd (cc first)
 left_other x y (z ∷ areas) other first =
-    let apart : (z == x) ≡ false = ap (λ n. n == x) (same_Some z y first) ∙ other_number x y other in
+    let apart : (z == x) ≡ false = ap (λ n. n == x) (same_Some z y first) ∙ not_same x y other in
     λ i. sym apart i || has x areas
 
 -- entering and leaving are an activation's
@@ -168,7 +165,7 @@ module _ (p : Plan) (m : Mapping) (sound : IsSound p m) (x : ℕ) where
         by_test k may true same = let number : x ≡ y = eqb-true x y same in subst (λ z. State (mine k (deed.Enter z) ∷ h)) number (entering k (subst (λ z. MayFollow p h (mine k (deed.Enter z))) (sym number) may) state)
         by_test k may false other =
             let off : (first_area p + y == first_area p + x) ≡ false = far (first_area p) x y other in
-            apart (mine k (deed.Enter y)) may other refl (λ j own. λ i. other_number x y other i || has x (areas_of j h))
+            apart (mine k (deed.Enter y)) may other refl (λ j own. λ i. not_same x y other i || has x (areas_of j h))
             (λ j. λ i. newest (enters_by (Act j)) (if off i then note h (mine k (deed.Enter y)) ∷ entries_of p h (first_area p + x) else entries_of p h (first_area p + x))) state
 
         by_actor : Acts a → MayFollow p h (by a (deed.Enter y)) → State (by a (deed.Enter y) ∷ h)

@@ -1,6 +1,6 @@
 -- What an entry is to a key: another's, the start of its activation, or what its activation asked next.
 use Rattle.std.proofs.Common.{◌≡◌, ℕ, Bool, true, false, ◌&&◌, not, if◌then◌else◌, refl, sym, ◌∙◌, ap, subst, [], ◌∷◌, ◌++◌, Option, Some, None}
-use Rattle.std.proofs.lemmas.Bool.{and_parts, ltb-true, false≢true}
+use Rattle.std.proofs.lemmas.Bool.{and_parts, ltb-true, false≢true, not-true}
 use Rattle.std.specs.Option.{option_or}
 use Rattle.std.specs.Prelude.{nat_lt, length, unwrap_or}
 use Rattle.std.specs.List.{slice_get, list_all}
@@ -25,8 +25,8 @@ use Rattle.bus_semantics.specs.Legal.{MayFollow, IsLegal}
 use Rattle.activation_laws.specs.Followed.{Followed}
 use Rattle.activation_laws.specs.Following.{followed_none, followed_more}
 use Rattle.activation_laws.specs.LookUps.{looked}
-use Rattle.bus_laws.proofs.Thinning.{option_same}
-use Rattle.history_laws.proofs.Lists.{there_is, all_more}
+use Rattle.bus_laws.proofs.Thinning.{option_same, there_is}
+use Rattle.history_laws.proofs.Lists.{all_more}
 
 -- ---- wishes that are the same
 
@@ -138,11 +138,7 @@ is_to p k h e may living = by_own (is_of k e) refl
         let start : may_start p h k event ≡ true = subst (λ x. starts_or_goes_on p h k x ≡ true) at may in
         let asked = and_parts (own_event && not (runs k h)) (caller_has_asked p h k) start in
         let both = and_parts own_event (not (runs k h)) asked.0 in
-        starts event point value (is ∙ ap (mine k) at) own (not_running (runs k h) both.1) (option_same (runnable_of_event p event) (Some k.runnable) both.0) asked.1
-      where
-        not_running : (b : Bool) → not b ≡ true → b ≡ false
-        not_running true n = absurd (false≢true n)
-        not_running false n = refl
+        starts event point value (is ∙ ap (mine k) at) own (not-true (runs k h) both.1) (option_same (runnable_of_event p event) (Some k.runnable) both.0) asked.1
     by_begin is own may d at = next_in d at refl
       where
         next_in : (d : Deed) → e.deed ≡ d → begins d ≡ false → IsTo p k h e

@@ -1,6 +1,6 @@
 -- What may come after the entries of an object may follow the whole history.
 use Rattle.std.proofs.Common.{◌≡◌, ℕ, Bool, true, false, ◌&&◌, not, if◌then◌else◌, refl, sym, ◌∙◌, ap, subst, Option, Some, None}
-use Rattle.std.proofs.lemmas.Bool.{and_from, and_parts, eq-eqb, false≢true}
+use Rattle.std.proofs.lemmas.Bool.{and_from, and_parts, eq-eqb, false≢true, not-true}
 use Rattle.std.specs.Prelude.{unwrap_or}
 use Rattle.rte_value.specs.declared.kinds.ActKey.{ActKey}
 use Rattle.rte_value.specs.Values.{same_number}
@@ -40,16 +40,12 @@ wish_fine p m h k w object n sound legal next who wish touch =
     subst (λ x. matches p (entries_of p h object) x ≡ true) (sym own)
     (wish_matches p m sound h legal object k running a n.entry.deed n.event (sym (alive_next p k h running a) ∙ next ∙ ap (λ x. Some x) (sym wish)) (subst (λ x. touches p object x ≡ true) own touch))
 
-not_running : (b : Bool) → not b ≡ true → b ≡ false
-not_running true n = absurd (false≢true n)
-not_running false n = refl
-
 pub start_fine : (p : Plan) (m : Mapping) (h : History) (k : ActKey) (event object : ℕ) → IsSound p m → IsLegal p h → key_fits p k ≡ true → may_start p h k event ≡ true
     → object_of p (Act k) (to_start event) ≡ Some object → start_matches p (entries_of p h object) event (kind_of p event) ≡ true
 start_fine p m h k event object sound legal fit may at =
     let own = same_number (runnable_of_event p event) (Some k.runnable) in
     let both = and_parts own (not (runs k h)) (and_parts (own && not (runs k h)) (caller_has_asked p h k) may).0 in
-    begin_matches p m sound h legal object k event fit (option_same (runnable_of_event p event) (Some k.runnable) both.0) (not_running (runs k h) both.1)
+    begin_matches p m sound h legal object k event fit (option_same (runnable_of_event p event) (Some k.runnable) both.0) (not-true (runs k h) both.1)
     (ap (λ o. same_number o (Some object)) at ∙ eq-eqb object object refl)
 
 -- ---- one object and the whole

@@ -1,15 +1,11 @@
 -- Items of lists.
-use Rattle.std.proofs.Common.{◌≡◌, ℕ, zero, suc, ◌<◌, Bool, true, false, if◌then◌else◌, refl, ap, arith, List, [], ◌∷◌, ◌++◌, length, Option, Some, None}
+use Rattle.std.proofs.Common.{◌≡◌, ℕ, zero, suc, Bool, true, false, if◌then◌else◌, refl, ap, List, [], ◌∷◌, ◌++◌, Option, Some, None}
 use Rattle.std.proofs.lemmas.Bool.{and_from, and_parts}
 use Rattle.std.proofs.lemmas.Option.{same_Some}
 use Rattle.std.specs.List.{slice_get, list_all}
 use Rattle.std.specs.Option.{option_or}
 use Rattle.bus_semantics.specs.History.{newest}
-
-pub there_is : {X : Type 0} (xs : List X) (n : ℕ) → n < length xs → (x : X) × (slice_get xs n ≡ Some x)
-there_is [] n less = absurd (omega arith)
-there_is (x ∷ xs) zero less = (x, refl)
-there_is (x ∷ xs) (suc n) less = there_is xs n (omega arith)
+pub use Rattle.bus_laws.proofs.Thinning.{there_is}
 
 -- an item of a longer list is the last, or stands before
 pub data AtEnd {X : Type 0} (xs : List X) (y : X) (i : ℕ) (x : X) : Type 0 where

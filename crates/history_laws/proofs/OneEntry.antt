@@ -8,7 +8,7 @@ use Rattle.rte_value.specs.declared.kinds.ActKey.{ActKey}
 use Rattle.rte_value.specs.declared.kinds.Step.{Step}
 use Rattle.rte_value.specs.declared.kinds.Step.TheVariants as step
 use Rattle.rte_value.specs.declared.value.Value.{Value}
-use Rattle.rte_value.specs.Values.{words_of, same_words, same_number}
+use Rattle.rte_value.specs.Values.{words_of, same_words}
 use Rattle.rte_value.specs.EqualValues.{Value-by_words, same_words-Decides}
 use Rattle.bus_semantics.specs.declared.plan.EventKind.{EventKind}
 use Rattle.bus_semantics.specs.declared.plan.EventKind.TheVariants.{Timing, Init, DataReceived, Invoked, Returns, ModeSwitch, Ack}
@@ -78,12 +78,9 @@ one_admission p l (Some x) (Some y) said other here there same =
 
 -- ---- phases
 
-close_mode : (b : Option ℕ) (mode : ℕ) → same_number b (Some mode) ≡ true → b ≡ Some mode
-close_mode b mode e = option_same b (Some mode) e
-
 one_step : (p : Plan) (m : ℕ) (l : Past) (stage s t : Step) → phase_after p m l stage s ≡ true → phase_after p m l stage t ≡ true → t ≡ s
 one_step p m l step.Stable (step.Close mode) (step.Close other) here there =
-    ap step.Close (same_Some other mode (sym (close_mode (first_unbegun m l) other there) ∙ close_mode (first_unbegun m l) mode here))
+    ap step.Close (same_Some other mode (sym (option_same (first_unbegun m l) (Some other) there) ∙ option_same (first_unbegun m l) (Some mode) here))
 one_step p m l (step.Close mode) step.Exit step.Exit here there = refl
 one_step p m l step.Exit step.Transition step.Transition here there = refl
 one_step p m l step.Transition step.Entry step.Entry here there = refl

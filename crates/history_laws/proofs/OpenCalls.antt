@@ -92,10 +92,6 @@ kept_at [] ys i x e = absurd (cc e)
 kept_at (y ∷ xs) ys zero x e = e
 kept_at (y ∷ xs) ys (suc i) x e = kept_at xs ys i x e
 
-pub at_length : {X : Type 0} (xs : List X) (y : X) → slice_get (xs ++ y ∷ []) (length xs) ≡ Some y
-at_length [] y = refl
-at_length (x ∷ xs) y = at_length xs y
-
 pub requests_kept : (counts : ℕ → Bool) (n : Noted) (l : Past) (i : ℕ) (x : ℕ × List ℤ) → slice_get (requests_of counts l) i ≡ Some x → slice_get (requests_of counts (n ∷ l)) i ≡ Some x
 requests_kept counts n l i x there = by_deed n.entry.deed n.entry.actor n.event
   where

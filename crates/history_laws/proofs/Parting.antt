@@ -1,10 +1,9 @@
 -- The entries of a legal history that touch an object follow one after the other.
-use Rattle.std.proofs.Common.{◌≡◌, ℕ, Bool, true, false, ◌&&◌, if◌then◌else◌, refl, sym, ◌∙◌, ap, subst, [], ◌∷◌, length, Option, Some, None}
+use Rattle.std.proofs.Common.{◌≡◌, ℕ, Bool, true, false, ◌&&◌, if◌then◌else◌, refl, sym, ◌∙◌, ap, subst, [], ◌∷◌, length, Some, None}
 use Rattle.std.proofs.lemmas.Bool.{and_parts, false≢true}
 use Rattle.std.specs.Prelude.{nat_lt, unwrap_or}
 use Rattle.std.specs.List.{list_all}
 use Rattle.rte_value.specs.declared.kinds.ActKey.{ActKey}
-use Rattle.rte_value.specs.Values.{same_number}
 use Rattle.bus_semantics.specs.declared.script.Mapping.{Mapping}
 use Rattle.bus_semantics.specs.declared.entries.Actor.{Actor}
 use Rattle.bus_semantics.specs.declared.entries.Actor.TheVariants.{Env, Machine, Act}
@@ -71,9 +70,6 @@ module _ (p : Plan) (m : Mapping) (sound : IsSound p m) (h : History) (legal : I
   entry_matches (Machine n) (deed.Start e point value) may proper touch = no_starter p n e point value None proper
   entry_matches (Machine n) d may proper touch = refl
 
-touched_is : (o : Option ℕ) (object : ℕ) → same_number o (Some object) ≡ true → o ≡ Some object
-touched_is o object e = option_same o (Some object) e
-
 pub parts : (p : Plan) (m : Mapping) (h : History) (object : ℕ) → IsSound p m → IsLegal p h → IsPastOf p object (entries_of p h object)
 parts p m [] object sound legal = tt
 parts p m (e ∷ h) object sound legal =
@@ -88,7 +84,7 @@ parts p m (e ∷ h) object sound legal =
       record {
         touching = touch;
         proper = proper;
-        answers = fewer p (note h e) (noted h) (entries_of p h object) (touching p m (noted h) (note h e) object sound fine proper (touched_is (touched_by p (note h e)) object touch)) legal.1.answers;
+        answers = fewer p (note h e) (noted h) (entries_of p h object) (touching p m (noted h) (note h e) object sound fine proper (option_same (touched_by p (note h e)) (Some object) touch)) legal.1.answers;
         matching = entry_matches p m sound h legal.0 object e.actor e.deed legal.1 proper touch;
       },
     )

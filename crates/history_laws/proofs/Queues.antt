@@ -28,15 +28,15 @@ use Rattle.bus_semantics.specs.Locality.{is_proper}
 use Rattle.bus_semantics.specs.Legal.{MayFollow, IsLegal}
 use Rattle.bus_semantics.specs.Sound.{IsSound}
 use Rattle.activation_laws.specs.LookUps.{looked}
-use Rattle.bus_laws.proofs.Thinning.{option_same}
+use Rattle.bus_laws.proofs.Thinning.{option_same, there_is}
 use Rattle.bus_laws.proofs.Local.{proper_legal}
 use Rattle.bus_laws.proofs.OneEvent.{invoked_serves}
 use Rattle.bus_laws.proofs.LocalServers.{start_named, start_owned}
+use Rattle.bus_laws.proofs.QueueLaws.{at_length}
 use Rattle.history_laws.specs.Serving.{IsOpen, IsServedBy, IsQueuedOrServed, queued, served}
 use Rattle.history_laws.proofs.Keys.{mine, itself, key_is, runs_mine}
 use Rattle.history_laws.proofs.OneKey.{key_part, no_starter, server_runs, server_home, queued_plain, one_key}
-use Rattle.history_laws.proofs.Lists.{there_is}
-use Rattle.history_laws.proofs.OpenCalls.{still_open, served_more, at_length, requests_kept, requests_grow}
+use Rattle.history_laws.proofs.OpenCalls.{still_open, served_more, requests_kept, requests_grow}
 
 less_true : (a b : ℕ) → a < b → nat_lt a b ≡ true
 less_true a b less = grind (arith, nat_tests)

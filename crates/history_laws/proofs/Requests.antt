@@ -19,9 +19,9 @@ use Rattle.bus_semantics.specs.Owners.{serves_directly, key_fits}
 use Rattle.bus_semantics.specs.Calls.{counts_with, requests_of, starts_of, has_unstarted}
 use Rattle.bus_semantics.specs.Due.{counts_for}
 use Rattle.bus_semantics.specs.Sound.{IsSound}
-use Rattle.bus_laws.proofs.Thinning.{noting, option_same}
+use Rattle.bus_laws.proofs.Thinning.{noting, option_same, there_is}
 use Rattle.bus_laws.proofs.OneEvent.{invoked_serves}
-use Rattle.history_laws.proofs.Lists.{AtEnd, earlier, last, at_end, there_is}
+use Rattle.history_laws.proofs.Lists.{AtEnd, earlier, last, at_end}
 
 -- ---- a request
 

@@ -1,8 +1,7 @@
 -- Between starts, admissions and ends that touch a machine, an event's activation runs: from its start, or from its admission where it
 -- has disabled modes.
-use Rattle.std.proofs.Common.{◌≡◌, ℕ, ◌+◌, ◌<◌, Bool, true, false, ◌&&◌, ◌||◌, not, ◌==◌, if◌then◌else◌, refl, sym, ◌∙◌, ap, subst, arith, List, [], ◌∷◌, ◌++◌, length, Option, Some, None, is_some}
+use Rattle.std.proofs.Common.{◌≡◌, ℕ, ◌+◌, ◌<◌, Bool, true, false, ◌&&◌, ◌||◌, not, ◌==◌, if◌then◌else◌, refl, sym, ◌∙◌, ap, subst, List, [], ◌∷◌, ◌++◌, length, Option, Some, None, is_some}
 use Rattle.std.proofs.lemmas.Bool.{and_parts, and_right, or_right, eq-eqb, eqb-true, false≢true}
-use Rattle.std.proofs.lemmas.Bool.Decides.{nat_tests}
 use Rattle.std.proofs.lemmas.Option.{same_Some}
 use Rattle.std.specs.Option.{option_or, option_map_or}
 use Rattle.std.specs.Prelude.{unwrap_or, is_none, option_map, nat_lt}
@@ -31,7 +30,7 @@ use Rattle.bus_semantics.specs.Legal.{MayFollow, IsLegal}
 use Rattle.bus_semantics.specs.SoundEvents.{may_be_disabled}
 use Rattle.bus_semantics.specs.Sound.{IsSound}
 use Rattle.activation_laws.proofs.Asking.{admission_first, admission_once, admission_disabled}
-use Rattle.bus_laws.proofs.Thinning.{clash}
+use Rattle.bus_laws.proofs.Thinning.{clash, not_same}
 use Rattle.history_laws.proofs.Lists.{skipped}
 use Rattle.history_laws.proofs.Keys.{mine, itself, begins, grown, none_started, Alive, alive, IsTo, others, starts, goes_on, is_to, fit_key, runs_mine, runs_other, activation_mine, activation_other, started_mine, started_other}
 use Rattle.history_laws.proofs.GoingOn.{acting}
@@ -48,9 +47,6 @@ any_more (x ∷ ds) d = refl
 -- something was answered since the start
 abbrev pub begun : Option Activation → Bool
 begun o = option_map_or (λ (a : Activation). is_any a.deeds) o false
-
-not_equal : (a b : ℕ) → (a == b) ≡ false → (b == a) ≡ false
-not_equal a b e = grind (arith, nat_tests)
 
 -- of an event that matters to a machine: its kind is a switch of the machine, or the machine disables it
 data Matters (p : Plan) (e n : ℕ) : Type 0 where
@@ -244,7 +240,7 @@ module _ (p : Plan) (m : Mapping) (sound : IsSound p m) (e n : ℕ) (matter : ma
       by_test true same = by_matter (sym (eqb-true e event same)) same (matters p m sound e n matter)
       by_test false other =
           unheard h (mine k (deed.Start event point value)) (ap (λ b. if b then Some true else None) other) ∙ before ∙ idle_by h idle
-          ∙ sym (other_event (mine k (deed.Start event point value) ∷ h) (ap (λ o. same_number o (Some e)) last ∙ not_equal e event other))
+          ∙ sym (other_event (mine k (deed.Start event point value) ∷ h) (ap (λ o. same_number o (Some e)) last ∙ not_same e event other))
 
   going : (h : History) (d : Deed) → begins d ≡ false → runs k h ≡ true → (a : Alive p k h) → a.activation.event ≡ e
       → next_of_activity p a.runnable a.activation.event a.activation.start a.activation.deeds ≡ Some (wanted_by a.activation.event d) → opened h ≡ running_by h → opened (mine k d ∷ h) ≡ running_by (mine k d ∷ h)

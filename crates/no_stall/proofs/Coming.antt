@@ -3,10 +3,9 @@ use Rattle.std.proofs.Common.{◌≡◌, ℕ, ℤ, Bool, true, false, ◌&&◌, 
 use Rattle.std.specs.Prelude.{unwrap_or}
 use Rattle.std.specs.List.{slice_get}
 use Rattle.std.specs.Option.{option_map_or}
-use Rattle.std.proofs.lemmas.Bool.{and_from, and_parts, eq-eqb, leb-true, false≢true}
+use Rattle.std.proofs.lemmas.Bool.{and_from, and_parts, leb-true, false≢true}
 use Rattle.rte_value.specs.declared.kinds.ActKey.{ActKey}
 use Rattle.rte_value.specs.Values.{words_of, same_words, same_number}
-use Rattle.rte_value.specs.EqualValues.{same_words-Decides}
 use Rattle.bus_semantics.specs.declared.plan.ModePortPlan.{ModePortPlan}
 use Rattle.bus_semantics.specs.declared.entries.Actor.TheVariants.{Act}
 use Rattle.bus_semantics.specs.declared.entries.Deed.{Deed}
@@ -25,28 +24,19 @@ use Rattle.bus_semantics.specs.Calls.{ask_code, answer_to, result_of}
 use Rattle.bus_semantics.specs.Areas.{is_held}
 use Rattle.bus_semantics.specs.Modes.{switch_code, mode_at_port}
 use Rattle.bus_semantics.specs.Admission.{is_disabled}
-use Rattle.bus_semantics.specs.Legal.{same_bool, admission_allows, Answers}
+use Rattle.bus_semantics.specs.Legal.{admission_allows, Answers}
 use Rattle.bus_semantics.specs.Actor.{next_wish, is_held_back, is_this, starts_or_goes_on}
 use Rattle.bus_semantics.specs.Asked.{is_start}
 use Rattle.bus_semantics.specs.Rest.{try_of, IsStuck}
 use Rattle.activation_laws.specs.Given.{words_given}
 use Rattle.history_laws.proofs.Values.{Words, few_words, element_words, received_words, answer_words, result_words}
-
-pub same_list : (ws us : List ℤ) → ws ≡ us → same_words ws us ≡ true
-same_list ws us e = (same_words-Decides ws us).1 e
-
-pub same_code : (n : ℕ) → (n == n) ≡ true
-same_code n = eq-eqb n n refl
-
-same_flag : (b : Bool) → same_bool b b ≡ true
-same_flag true = refl
-same_flag false = refl
+use Rattle.bus_laws.proofs.Thinning.{same_list, same_flag, same_test}
 
 both_same : (n x : ℕ) (ws us : List ℤ) → ws ≡ us → ((n == n) && ((x == x) && same_words ws us)) ≡ true
-both_same n x ws us e = and_from (n == n) ((x == x) && same_words ws us) (same_code n) (and_from (x == x) (same_words ws us) (same_code x) (same_list ws us e))
+both_same n x ws us e = and_from (n == n) ((x == x) && same_words ws us) (same_test n) (and_from (x == x) (same_words ws us) (same_test x) (same_list ws us e))
 
 word_same : (n : ℕ) (ws us : List ℤ) → ws ≡ us → ((n == n) && same_words ws us) ≡ true
-word_same n ws us e = and_from (n == n) (same_words ws us) (same_code n) (same_list ws us e)
+word_same n ws us e = and_from (n == n) (same_words ws us) (same_test n) (same_list ws us e)
 
 -- an admission and an end are of the event that started the activation
 abbrev pub IsOwn : (event : ℕ) → Wanted → Type 0
@@ -126,13 +116,13 @@ module _ (p : Plan) (h : History) (k : ActKey) (event : ℕ) (started : last_sta
       (record { unqueued = same_flag (is_updated p x (noted h)); queued = refl; calls = refl; areas = refl; modes = refl; admission = refl; due = refl })
   held modes moments (to_send x ws) next fit begun own few stuck = let v = few_words ws (leb-true (length ws) 16 few) in
       never (to_send x ws) next fit stuck (deed.Send x v.value (send_code p x (noted h))) refl (ap (to_send x) v.is) refl
-      (record { unqueued = refl; queued = same_code (send_code p x (noted h)); calls = refl; areas = refl; modes = refl; admission = refl; due = refl })
+      (record { unqueued = refl; queued = same_test (send_code p x (noted h)); calls = refl; areas = refl; modes = refl; admission = refl; due = refl })
   held modes moments (to_receive x) next fit begun own few stuck = let v = received_words p x (noted h) in let o = received_at p x (noted h) in
       never (to_receive x) next fit stuck (deed.Receive x o.0 v.value) refl refl refl
       (record { unqueued = refl; queued = word_same o.0 (words_of v.value) o.1 v.is; calls = refl; areas = refl; modes = refl; admission = refl; due = refl })
   held modes moments (to_ask q ws) next fit begun own few stuck = let v = few_words ws (leb-true (length ws) 16 few) in
       never (to_ask q ws) next fit stuck (deed.Ask q v.value (ask_code p q (noted h))) refl (ap (to_ask q) v.is) refl
-      (record { unqueued = refl; queued = refl; calls = same_code (ask_code p q (noted h)); areas = refl; modes = refl; admission = refl; due = refl })
+      (record { unqueued = refl; queued = refl; calls = same_test (ask_code p q (noted h)); areas = refl; modes = refl; admission = refl; due = refl })
   held modes moments (to_hear q) next fit begun own few stuck = by_answer (answer_to q (noted h)) refl
     where
       by_answer : (o : Option (ℕ × List ℤ)) → answer_to q (noted h) ≡ o → Held h (to_hear q)
@@ -155,9 +145,9 @@ module _ (p : Plan) (h : History) (k : ActKey) (event : ℕ) (started : last_sta
   held modes moments (to_leave x) next fit begun own few stuck = never (to_leave x) next fit stuck (deed.Leave x) refl refl refl
       (record { unqueued = refl; queued = refl; calls = refl; areas = refl; modes = refl; admission = refl; due = refl })
   held modes moments (to_switch m mode) next fit begun own few stuck = never (to_switch m mode) next fit stuck (deed.Switch m mode (switch_code p m (noted h))) refl refl refl
-      (record { unqueued = refl; queued = refl; calls = refl; areas = refl; modes = same_code (switch_code p m (noted h)); admission = refl; due = refl })
+      (record { unqueued = refl; queued = refl; calls = refl; areas = refl; modes = same_test (switch_code p m (noted h)); admission = refl; due = refl })
   held modes moments (to_see_mode port) next fit begun own few stuck = never (to_see_mode port) next fit stuck (deed.Mode port (mode_at_port p port (noted h))) refl refl answer
-      (record { unqueued = refl; queued = refl; calls = refl; areas = refl; modes = same_code (mode_at_port p port (noted h)); admission = refl; due = refl })
+      (record { unqueued = refl; queued = refl; calls = refl; areas = refl; modes = same_test (mode_at_port p port (noted h)); admission = refl; due = refl })
     where
       by_port : (o : Option ModePortPlan) → slice_get p.mode_ports port ≡ o → option_map_or (λ (t : ModePortPlan). same_number t.instance (instance_of p k.runnable)) o false ≡ true
           → option_map_or (λ (t : ModePortPlan). nat_le (mode_at_port p port (noted h)) (modes_of p t.machine)) o false ≡ true

@@ -1,8 +1,8 @@
 -- Keys of a sound plan, its servers with their events, and the direct activations of points.
-use Rattle.std.proofs.Common.{◌≡◌, ℕ, ◌<◌, inl, Bool, true, false, ◌&&◌, not, ◌==◌, refl, sym, ◌∙◌, ap, subst, arith, length, nat_lt, nat_le, is_none, Option, Some, None}
+use Rattle.std.proofs.Common.{◌≡◌, ℕ, ◌<◌, inl, true, false, ◌&&◌, not, ◌==◌, refl, sym, ◌∙◌, ap, subst, arith, length, nat_lt, nat_le, is_none, Option, Some, None}
 use Rattle.std.specs.List.{slice_get}
 use Rattle.std.specs.Option.{option_map_or}
-use Rattle.std.proofs.lemmas.Bool.{and_from, and_parts, eqb-true, ltb-true, lt-ltb, false≢true}
+use Rattle.std.proofs.lemmas.Bool.{and_from, and_parts, eqb-true, ltb-true, lt-ltb, false≢true, not-true}
 use Rattle.std.proofs.lemmas.Option.{slice_get_within, same_Some}
 use Rattle.rte_value.specs.declared.kinds.ActKey.{ActKey}
 use Rattle.rte_value.specs.Values.{same_number}
@@ -20,7 +20,7 @@ use Rattle.bus_semantics.specs.SoundElements.{server_sound}
 use Rattle.bus_semantics.specs.SoundEvents.{kind_sound, event_sound, server_served, serves_back}
 use Rattle.bus_semantics.specs.Sound.{IsSound}
 use Rattle.bus_laws.proofs.Thinning.{every_at, option_same, option_test, found_where, sought_where}
-use Rattle.bus_laws.proofs.OneEvent.{server_of_runnable, kind_at, serves_invoked}
+use Rattle.bus_laws.proofs.OneEvent.{server_of_runnable, kind_at, serves_invoked, server_at}
 use Rattle.no_stall.proofs.Lists.{Among, among_left, among_right, among_gathered, among_map, among_positions}
 
 -- a server's event starts its runnable, which serves it
@@ -41,14 +41,11 @@ pub record IsDirect (p : Plan) (q : ℕ) (d : ActKey) : Type 0 where
   pub is : record { runnable = plan.runnable; point = Some q } ≡ d
 
 module _ (p : Plan) (m : Mapping) (sound : IsSound p m) where
-  served_at : (s : ℕ) (v : ServerPlan) → slice_get p.servers s ≡ Some v → server_served p s v ≡ true
-  served_at s v there = every_at (server_served p) 0 p.servers (and_parts (every_from 0 (server_served p) p.servers) (every_from 0 (serves_back p) p.runnables) sound.servers).0 s s v (omega arith) there
-
   pub served : (s : ℕ) (v : ServerPlan) → slice_get p.servers s ≡ Some v → Served p s v
   served s v there = by_event (slice_get p.events v.event) refl
     where
       whole : server_served p s v ≡ true
-      whole = served_at s v there
+      whole = server_at p m sound s v there
 
       by_kind : (w : EventPlan) → slice_get p.events v.event ≡ Some w → (k : EventKind) → w.kind ≡ k → Served p s v
       by_kind w is (Invoked n) kind =
@@ -171,11 +168,7 @@ module _ (p : Plan) (m : Mapping) (sound : IsSound p m) where
 
       by_point : (o : Option ℕ) → k.point ≡ o → Shape k
       by_point None is = let free = (and_parts (nat_lt k.runnable (length p.runnables)) (not (serves_directly p k)) (point_part None is)).1 in
-          plain (λ i. record { runnable = k.runnable; point = sym is i }) (unserved (serves_directly p k) free)
-        where
-          unserved : (b : Bool) → not b ≡ true → b ≡ false
-          unserved true e = absurd (false≢true e)
-          unserved false e = refl
+          plain (λ i. record { runnable = k.runnable; point = sym is i }) (not-true (serves_directly p k) free)
       by_point (Some q) is =
           let parts = and_parts (serves_directly p k) (same_number (server_of p q) (server_of_runnable p k.runnable)) (and_parts (nat_lt k.runnable (length p.runnables)) _ (point_part (Some q) is)).1 in
           by_served q is parts.0 parts.1 (server_of_runnable p k.runnable) refl

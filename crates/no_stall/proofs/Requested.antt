@@ -17,9 +17,8 @@ use Rattle.bus_semantics.specs.Due.{is_due}
 use Rattle.bus_semantics.specs.Actor.{caller_has_asked}
 use Rattle.bus_semantics.specs.Rest.{plain_key, IsStuck}
 use Rattle.bus_semantics.specs.Sound.{IsSound}
-use Rattle.bus_laws.proofs.Thinning.{option_same, option_test}
+use Rattle.bus_laws.proofs.Thinning.{option_same, option_test, same_list}
 use Rattle.history_laws.proofs.Requests.{Made, request_made, Unstarted, unstarted}
-use Rattle.no_stall.proofs.Coming.{same_list}
 use Rattle.no_stall.proofs.Keys.{Served, served, queue_at, directly, plain_fits, IsDirect, direct_fits}
 use Rattle.no_stall.proofs.Starting.{start_follows}
 

@@ -1,8 +1,8 @@
 -- At rest no activation runs: areas are entered by rising numbers, a direct activation makes no calls, and tasks wait by rising ranks.
-use Rattle.std.proofs.Common.{◌≡◌, ℕ, zero, suc, ◌+◌, ◌<◌, ◌≤◌, Bool, true, false, ◌&&◌, not, ◌==◌, if◌then◌else◌, refl, sym, ◌∙◌, ap, subst, arith, List, [], length, nat_lt, nat_le, is_some, is_none, Option, Some, None}
+use Rattle.std.proofs.Common.{◌≡◌, ℕ, zero, suc, ◌+◌, ◌<◌, ◌≤◌, Bool, true, false, ◌&&◌, ◌==◌, if◌then◌else◌, refl, sym, ◌∙◌, ap, subst, arith, List, [], length, nat_lt, nat_le, is_some, is_none, Option, Some, None}
 use Rattle.std.specs.List.{list_any, slice_get}
 use Rattle.std.specs.Prelude.{option_and_then}
-use Rattle.std.proofs.lemmas.Bool.{and_parts, eqb-true, eq-eqb, ltb-true, false≢true}
+use Rattle.std.proofs.lemmas.Bool.{and_parts, eqb-true, eq-eqb, ltb-true, false≢true, not-false}
 use Rattle.std.proofs.lemmas.Option.{slice_get_within}
 use Rattle.rte_value.specs.declared.kinds.ActKey.{ActKey}
 use Rattle.rte_value.specs.Values.{same_number}
@@ -319,12 +319,8 @@ module _ (p : Plan) (m : Mapping) (sound : IsSound p m) (laws : Laws p m) (h : H
     member : IsIn p m c runnable
 
   busy_task : (t : Task) (c : ℕ) → slice_get m.tasks c ≡ Some t → is_free p h t ≡ false → Busy c
-  busy_task t c there busy = by_event (any_among (event_runs p h) t.events (some (list_any (event_runs p h) t.events) busy))
+  busy_task t c there busy = by_event (any_among (event_runs p h) t.events (not-false (list_any (event_runs p h) t.events) busy))
     where
-      some : (b : Bool) → not b ≡ false → b ≡ true
-      some true e = refl
-      some false e = absurd (false≢true (sym e))
-
       by_runnable : (e : ℕ) → Among e t.events → event_runs p h e ≡ true → (o : Option ℕ) → runnable_of_event p e ≡ o → Busy c
       by_runnable e among on None none = absurd (false≢true (rw none at on))
       by_runnable e among on (Some r) is =
