@@ -5,8 +5,7 @@ ghost use Rattle.plan_definitions.specs.Telling.{Tells};
 ghost use Rattle.plan_definitions.specs.JoinRefusals.{of_connectors, of_root_ports, of_items, number_of, port_refusal, item_refusal, refusal};
 
 use crate::places::in_composition;
-use description_types::Description;
-use flat_descriptions::Flat;
+use description_types::{Description, Flat};
 use join_search::{Search, end_text, incompatible, root_client};
 use plan_definitions::JoinRule;
 use rte_text::{Refusal, Refused, Text};

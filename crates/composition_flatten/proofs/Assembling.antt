@@ -6,11 +6,11 @@ use Rattle.description_types.specs.declared.description.Description.{Description
 use Rattle.description_types.specs.declared.description.InnerPort.{InnerPort}
 use Rattle.composition_tables.specs.declared.links.Link.{Link}
 use Rattle.composition_tables.specs.declared.tree.Owner.TheVariants.{Instance}
-use Rattle.flat_descriptions.specs.Connectors.{lets_join}
+use Rattle.description_types.specs.Connectors.{lets_join}
 use Rattle.composition_tables.specs.Ends.{ends, inner_ends}
 use Rattle.end_crossing.specs.PortLinks.{IsCrossLink}
 use Rattle.composition_flatten.specs.Links.{IsAssemblyLink}
-use Rattle.flat_descriptions.specs.Growing.{Grown}
+use Rattle.description_types.specs.Growing.{Grown}
 use Rattle.composition_tables.proofs.Growth.{grown_same}
 
 pub assembly_same : (d : Description) (n c : ℕ) (x : Connector) (p r : InnerPort) (before after : List Link) (is_full : Bool) → x ≡ Assembly p r → lets_join d c (Assembly p r) ≡ true

@@ -7,10 +7,10 @@ use Rattle.std.proofs.lemmas.Option.{get_or_from_slice_get, slice_get_past, slic
 use Rattle.description_types.specs.declared.description.Connector.{Connector}
 use Rattle.description_types.specs.declared.description.Description.{Description}
 use Rattle.composition_flatten.specs.declared.wiring.Key.{Key}
-use Rattle.flat_descriptions.specs.Connectors.{connectors_of, lets_join, IsBrokenConnector}
-use Rattle.flat_descriptions.specs.Firsts.{IsFirst}
+use Rattle.description_types.specs.Connectors.{connectors_of, lets_join, IsBrokenConnector}
+use Rattle.description_types.specs.Firsts.{IsFirst}
 use Rattle.composition_flatten.specs.Keys.{key_of}
-use Rattle.flat_descriptions.specs.Members.{Among}
+use Rattle.description_types.specs.Members.{Among}
 use Rattle.composition_tables.proofs.Members.{left, right, cases}
 use Rattle.composition_flatten.proofs.SameKeys.{same_connector}
 

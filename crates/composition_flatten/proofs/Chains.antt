@@ -13,13 +13,13 @@ use Rattle.description_types.specs.declared.description.PrototypeType.{Prototype
 use Rattle.description_types.specs.declared.description.PrototypeType.TheVariants.{Component, Composition}
 use Rattle.composition_tables.specs.declared.tree.Owner.TheVariants.{Instance}
 use Rattle.composition_tables.specs.declared.tree.PortEnd.{PortEnd}
-use Rattle.flat_descriptions.specs.Connectors.{interface_of, kind_of, kind_in, connectors_of, is_one_kind, lets_join}
+use Rattle.description_types.specs.Connectors.{interface_of, kind_of, kind_in, connectors_of, is_one_kind, lets_join}
 use Rattle.composition_tables.specs.Ends.{ends, own_end, inner_ends, inner_ports, delegated, number_from, offset}
-use Rattle.flat_descriptions.specs.Places.{Place, IsTooDeep}
-use Rattle.flat_descriptions.specs.Joined.{Stand, as_inner, IsBelow}
-use Rattle.flat_descriptions.specs.Joined.IsBelow.{itself, further}
-use Rattle.flat_descriptions.specs.Members.{Among}
-use Rattle.flat_descriptions.specs.Paths.{type_in, type_at}
+use Rattle.description_types.specs.Places.{Place, IsTooDeep}
+use Rattle.description_types.specs.Joined.{Stand, as_inner, IsBelow}
+use Rattle.description_types.specs.Joined.IsBelow.{itself, further}
+use Rattle.description_types.specs.Members.{Among}
+use Rattle.description_types.specs.Paths.{type_in, type_at}
 use Rattle.composition_tables.proofs.Deepest.{through_none}
 use Rattle.composition_tables.proofs.Following.{inner_cases}
 use Rattle.composition_tables.proofs.Members.{flat, unflat, pick, unpick}

@@ -14,20 +14,20 @@ use Rattle.composition_tables.specs.declared.links.Link.{Link}
 use Rattle.composition_tables.specs.declared.nodes.Node.{Node}
 use Rattle.composition_tables.specs.declared.tree.Owner.TheVariants.{Instance, Environment}
 use Rattle.composition_tables.specs.declared.tree.PortEnd.{PortEnd}
-use Rattle.flat_descriptions.specs.Connectors.{interface_of, kind_of, connectors_of, is_provided, is_required}
+use Rattle.description_types.specs.Connectors.{interface_of, kind_of, connectors_of, is_provided, is_required}
 use Rattle.composition_tables.specs.Ends.{ends, inner_ends, offset}
-use Rattle.flat_descriptions.specs.Places.{Place, places_below, places, IsTooDeep}
-use Rattle.flat_descriptions.specs.Items.{interface_at, ItemsJoin}
-use Rattle.flat_descriptions.specs.Joined.{Stand, IsBelow, IsOutside, stand_in, interface_below, IsJoined}
-use Rattle.flat_descriptions.specs.Joined.IsBelow.{itself, further}
+use Rattle.description_types.specs.Places.{Place, places_below, places, IsTooDeep}
+use Rattle.description_types.specs.Items.{interface_at, ItemsJoin}
+use Rattle.description_types.specs.Joined.{Stand, IsBelow, IsOutside, stand_in, interface_below, IsJoined}
+use Rattle.description_types.specs.Joined.IsBelow.{itself, further}
 use Rattle.composition_flatten.specs.Joins.{instance_of, join_of}
 use Rattle.end_crossing.specs.PortLinks.{link_of}
 use Rattle.composition_tables.specs.Owners.{owner_from}
 use Rattle.composition_flatten.specs.Links.{link_from, IsAssemblyLink, IsNodeLink, IsLink, outer_link}
 use Rattle.composition_tables.specs.Nodes.{IsNode}
 use Rattle.end_search.specs.Gates.{outer_ends}
-use Rattle.flat_descriptions.specs.Members.{Among}
-use Rattle.flat_descriptions.specs.Paths.{type_at}
+use Rattle.description_types.specs.Members.{Among}
+use Rattle.description_types.specs.Paths.{type_at}
 use Rattle.composition_flatten.proofs.Chains.{IsEndAt, number_exact, ends_sound}
 use Rattle.composition_tables.proofs.Following.{inner_cases}
 use Rattle.composition_flatten.proofs.Naming.{placed_size}

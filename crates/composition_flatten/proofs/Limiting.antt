@@ -6,8 +6,8 @@ use Rattle.std.specs.List.{AllByRecursion}
 use Rattle.std.specs.List.Sorted.{IsStrictlySortedBy}
 use Rattle.std.specs.Ordering.{nat_cmp, ordering_then}
 use Rattle.description_types.specs.declared.description.Description.{Description}
-use Rattle.flat_descriptions.specs.declared.flat.Join.{Join}
-use Rattle.flat_descriptions.specs.declared.flat.Instance as instance
+use Rattle.description_types.specs.declared.flat.Join.{Join}
+use Rattle.description_types.specs.declared.flat.Instance as instance
 use Rattle.composition_tables.specs.declared.links.Item.{Item}
 use Rattle.composition_tables.specs.declared.links.Link.{Link}
 use Rattle.composition_tables.specs.declared.tree.Owner.{Owner}
@@ -17,16 +17,16 @@ use Rattle.composition_tables.specs.contracts.links.ItemOrd.TheImpl as item
 use Rattle.composition_tables.specs.contracts.tree.OwnerOrd.TheImpl as owner
 use Rattle.composition_tables.specs.Counts.{IsCounted, count_in}
 use Rattle.composition_tables.specs.LinkOrder.{AreInOrder}
-use Rattle.flat_descriptions.specs.Flattening.{KeepsLimits}
-use Rattle.flat_descriptions.specs.Growing.{IsPastLimit, Grown}
-use Rattle.flat_descriptions.specs.Places.{places, IsTooDeep}
-use Rattle.flat_descriptions.specs.Instances.{names_env}
-use Rattle.flat_descriptions.specs.Joined.{IsJoined}
+use Rattle.description_types.specs.Flattening.{KeepsLimits}
+use Rattle.description_types.specs.Growing.{IsPastLimit, Grown}
+use Rattle.description_types.specs.Places.{places, IsTooDeep}
+use Rattle.description_types.specs.Instances.{names_env}
+use Rattle.description_types.specs.Joined.{IsJoined}
 use Rattle.composition_flatten.specs.Joins.{instance_of, end_of, join_of}
 use Rattle.composition_flatten.specs.Links.{IsLink}
-use Rattle.flat_descriptions.specs.Members.{Among, AllApart}
+use Rattle.description_types.specs.Members.{Among, AllApart}
 use Rattle.composition_flatten.specs.Named.{named_below}
-use Rattle.flat_descriptions.specs.Orders.{instance_order, end_order, join_order}
+use Rattle.description_types.specs.Orders.{instance_order, end_order, join_order}
 use Rattle.composition_flatten.specs.Within.{KeepsCounts, AreJoins, IsWithin}
 use Rattle.composition_flatten.proofs.Joining.{link_joined}
 use Rattle.composition_flatten.proofs.Linking.{join_linked}

@@ -10,23 +10,23 @@ use Rattle.description_types.specs.declared.description.Connector.TheVariants.{A
 use Rattle.description_types.specs.declared.description.Description.{Description}
 use Rattle.description_types.specs.declared.description.PrototypeType.TheVariants.{Component, Composition}
 use Rattle.interface_types.specs.declared.interface.InterfaceKind.{InterfaceKind}
-use Rattle.flat_descriptions.specs.declared.flat.Join.{Join}
+use Rattle.description_types.specs.declared.flat.Join.{Join}
 use Rattle.composition_tables.specs.declared.links.Link.{Link}
 use Rattle.composition_tables.specs.declared.tree.Owner.TheVariants.{Instance, Environment}
 use Rattle.composition_tables.specs.declared.tree.PortEnd.{PortEnd}
-use Rattle.flat_descriptions.specs.Connectors.{interface_of, kind_in, is_provided, is_required}
+use Rattle.description_types.specs.Connectors.{interface_of, kind_in, is_provided, is_required}
 use Rattle.composition_tables.specs.Ends.{ends, inner_ends, number_from, offset}
-use Rattle.flat_descriptions.specs.Places.{Place, places_below, places, IsTooDeep}
-use Rattle.flat_descriptions.specs.Items.{interface_at, ItemsJoin}
-use Rattle.flat_descriptions.specs.Joined.{Stand, as_inner, IsBelow, IsOutside, IsChain, stand_in, interface_below, IsJoined}
-use Rattle.flat_descriptions.specs.Joined.IsBelow.{further}
+use Rattle.description_types.specs.Places.{Place, places_below, places, IsTooDeep}
+use Rattle.description_types.specs.Items.{interface_at, ItemsJoin}
+use Rattle.description_types.specs.Joined.{Stand, as_inner, IsBelow, IsOutside, IsChain, stand_in, interface_below, IsJoined}
+use Rattle.description_types.specs.Joined.IsBelow.{further}
 use Rattle.composition_flatten.specs.Joins.{instance_of, join_of}
 use Rattle.end_crossing.specs.PortLinks.{link_of, IsCrossLink}
 use Rattle.composition_tables.specs.Owners.{owner_from}
 use Rattle.composition_flatten.specs.Links.{link_from, IsOwnLink, IsLink, outer_link}
 use Rattle.end_search.specs.Gates.{outer_ends}
-use Rattle.flat_descriptions.specs.Members.{Among}
-use Rattle.flat_descriptions.specs.Paths.{type_at}
+use Rattle.description_types.specs.Members.{Among}
+use Rattle.description_types.specs.Paths.{type_at}
 use Rattle.composition_flatten.proofs.Chains.{IsEndAt, number_exact, ends_complete, below_path, inner_typed}
 use Rattle.composition_tables.proofs.Deepest.{through_none}
 use Rattle.composition_flatten.proofs.Joining.{items_some, provided_some, required_some, once, InstanceAt, instance_at}

@@ -8,12 +8,12 @@ use Rattle.description_types.specs.declared.description.Description.{Description
 use Rattle.description_types.specs.declared.description.Prototype.{Prototype}
 use Rattle.description_types.specs.declared.description.PrototypeType.{PrototypeType}
 use Rattle.description_types.specs.declared.description.PrototypeType.TheVariants.{Component, Composition}
-use Rattle.flat_descriptions.specs.declared.flat.Instance.{Instance}
+use Rattle.description_types.specs.declared.flat.Instance.{Instance}
 use Rattle.composition_tables.specs.Counts.{IsCounted, count_in}
-use Rattle.flat_descriptions.specs.Places.{places_of, places_below, size, size_of}
-use Rattle.flat_descriptions.specs.Instances.{name_in, name_at, prefix_at, written, instance_at, instances}
+use Rattle.description_types.specs.Places.{places_of, places_below, size, size_of}
+use Rattle.description_types.specs.Instances.{name_in, name_at, prefix_at, written, instance_at, instances}
 use Rattle.composition_flatten.specs.Named.{named_below, named_of}
-use Rattle.flat_descriptions.specs.Paths.{prototypes_of, type_in, type_at}
+use Rattle.description_types.specs.Paths.{prototypes_of, type_in, type_at}
 use Rattle.composition_tables.proofs.Members.{flat_length, sum_same, sum_numbered, map_numbered}
 use Rattle.composition_tables.proofs.Steps.{step_on}
 use Rattle.composition_tables.proofs.Counting.{counted}

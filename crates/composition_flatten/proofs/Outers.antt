@@ -18,9 +18,9 @@ use Rattle.composition_tables.proofs.Members.{flat, numbers_have, unflat, unpick
 use Rattle.composition_flatten.specs.Links.{IsOuterLink, outer_link}
 use Rattle.composition_flatten.specs.Outers.{outers_of}
 use Rattle.end_search.specs.Gates.{outer_ends}
-use Rattle.flat_descriptions.specs.Connectors.{connectors_of, interface_of, kind_of, lets_join}
-use Rattle.flat_descriptions.specs.Growing.{AnyOf, Grown}
-use Rattle.flat_descriptions.specs.Members.{Among}
+use Rattle.description_types.specs.Connectors.{connectors_of, interface_of, kind_of, lets_join}
+use Rattle.description_types.specs.Growing.{AnyOf, Grown}
+use Rattle.description_types.specs.Members.{Among}
 
 module _ (d : Description) where
   -- a connector that delegates a port has it as its outer port

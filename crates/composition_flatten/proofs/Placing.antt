@@ -7,9 +7,9 @@ use Rattle.description_types.specs.declared.description.Prototype.{Prototype}
 use Rattle.description_types.specs.declared.description.PrototypeType.{PrototypeType}
 use Rattle.description_types.specs.declared.description.PrototypeType.TheVariants.{Component, Composition}
 use Rattle.composition_tables.specs.Ends.{offset}
-use Rattle.flat_descriptions.specs.Places.{Place, places_of, places_below, size, size_of}
-use Rattle.flat_descriptions.specs.Members.{sum_of}
-use Rattle.flat_descriptions.specs.Paths.{prototypes_of, type_in, type_at}
+use Rattle.description_types.specs.Places.{Place, places_of, places_below, size, size_of}
+use Rattle.description_types.specs.Members.{sum_of}
+use Rattle.description_types.specs.Paths.{prototypes_of, type_in, type_at}
 use Rattle.composition_tables.proofs.Deepest.{path_on, through_none}
 use Rattle.composition_flatten.proofs.Naming.{placed_size, placed_one}
 use Rattle.composition_tables.proofs.Steps.{step_is, last_step}

@@ -8,9 +8,9 @@ use Rattle.description_types.specs.declared.description.Prototype.{Prototype}
 use Rattle.description_types.specs.declared.description.PrototypeType.TheVariants.{Component, Composition}
 use Rattle.composition_tables.specs.declared.nodes.Node.{Node}
 use Rattle.composition_tables.specs.Ends.{number_from, offset}
-use Rattle.flat_descriptions.specs.Places.{Place, places_below, places, size, size_of, IsTooDeep}
+use Rattle.description_types.specs.Places.{Place, places_below, places, size, size_of, IsTooDeep}
 use Rattle.composition_tables.specs.Nodes.{IsNode}
-use Rattle.flat_descriptions.specs.Paths.{prototypes_of, type_in, type_at}
+use Rattle.description_types.specs.Paths.{prototypes_of, type_in, type_at}
 use Rattle.composition_flatten.proofs.Chains.{number_exact}
 use Rattle.composition_tables.proofs.Deepest.{path_on}
 use Rattle.composition_tables.proofs.Following.{sum_zero}

@@ -15,14 +15,14 @@ use Rattle.composition_tables.specs.declared.tree.Owner.{Owner}
 use Rattle.composition_tables.specs.declared.tree.Owner.TheVariants.{Instance}
 use Rattle.composition_tables.specs.declared.tree.PortEnd.{PortEnd}
 use Rattle.composition_flatten.specs.declared.whole.Own.{Own}
-use Rattle.flat_descriptions.specs.Connectors.{interface_of, kind_of}
+use Rattle.description_types.specs.Connectors.{interface_of, kind_of}
 use Rattle.composition_tables.specs.Ends.{ends, own_end, inner_ends, inner_ports, number_from, offset}
-use Rattle.flat_descriptions.specs.Growing.{AnyOf, Grown}
+use Rattle.description_types.specs.Growing.{AnyOf, Grown}
 use Rattle.composition_flatten.specs.Links.{IsAssemblyLink, IsOwnLink, IsNodeLink, IsInnerLink, IsOwn, IsOuterLink, IsLink, outer_link, link_from}
 use Rattle.composition_tables.specs.Nodes.{IsNode}
 use Rattle.end_search.specs.Gates.{outer_ends}
 use Rattle.composition_tables.specs.Owners.{owner_from}
-use Rattle.flat_descriptions.specs.Members.{Among, AllApart}
+use Rattle.description_types.specs.Members.{Among, AllApart}
 use Rattle.composition_tables.proofs.Following.{inner_cases}
 use Rattle.composition_tables.proofs.Growth.{grown_same, grown_then, grown_stop}
 use Rattle.end_crossing.proofs.SamePorts.{cross_same}

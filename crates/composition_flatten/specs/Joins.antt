@@ -1,7 +1,7 @@
 -- Links as joins.
 use Rattle.std.specs.Prelude.{ℕ, Option, Some, None}
-use Rattle.flat_descriptions.specs.declared.flat.End.{End}
-use Rattle.flat_descriptions.specs.declared.flat.Join.{Join}
+use Rattle.description_types.specs.declared.flat.End.{End}
+use Rattle.description_types.specs.declared.flat.Join.{Join}
 use Rattle.composition_tables.specs.declared.links.Item.{Item}
 use Rattle.composition_tables.specs.declared.links.Link.{Link}
 use Rattle.composition_tables.specs.declared.tree.Owner.{Owner}

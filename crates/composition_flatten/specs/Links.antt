@@ -12,9 +12,9 @@ use Rattle.composition_tables.specs.declared.links.Link.{Link}
 use Rattle.composition_tables.specs.declared.nodes.Node.{Node}
 use Rattle.composition_flatten.specs.declared.whole.Own.{Own}
 use Rattle.composition_tables.specs.declared.tree.PortEnd.{PortEnd}
-use Rattle.flat_descriptions.specs.Connectors.{connectors_of, interface_of, kind_of, lets_join}
+use Rattle.description_types.specs.Connectors.{connectors_of, interface_of, kind_of, lets_join}
 use Rattle.composition_tables.specs.Ends.{ends, inner_ends}
-use Rattle.flat_descriptions.specs.Growing.{AnyOf, Grown}
+use Rattle.description_types.specs.Growing.{AnyOf, Grown}
 use Rattle.end_crossing.specs.PortLinks.{IsCrossLink}
 use Rattle.composition_tables.specs.Nodes.{IsNode}
 use Rattle.composition_tables.specs.Owners.{owner_from}

@@ -4,8 +4,8 @@ use Rattle.std.specs.List.{flat_map}
 use Rattle.description_types.specs.declared.description.Description.{Description}
 use Rattle.description_types.specs.declared.description.PrototypeType.{PrototypeType}
 use Rattle.description_types.specs.declared.description.PrototypeType.TheVariants.{Component, Composition}
-use Rattle.flat_descriptions.specs.declared.flat.Instance.{Instance}
-use Rattle.flat_descriptions.specs.Paths.{prototypes_of}
+use Rattle.description_types.specs.declared.flat.Instance.{Instance}
+use Rattle.description_types.specs.Paths.{prototypes_of}
 
 -- those at or below a prototype whose path is written so
 abbrev pub named_of : (ℕ → List ℕ → List Instance) → PrototypeType → List ℕ → List Instance

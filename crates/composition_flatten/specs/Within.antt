@@ -2,15 +2,15 @@
 use Rattle.std.specs.Prelude.{◌≡◌, ◌≤◌, List, false, length, ◌↔◌}
 use Rattle.std.specs.List.Sorted.{IsStrictlySortedBy}
 use Rattle.description_types.specs.declared.description.Description.{Description}
-use Rattle.flat_descriptions.specs.declared.flat.Join.{Join}
+use Rattle.description_types.specs.declared.flat.Join.{Join}
 use Rattle.composition_flatten.specs.declared.limits.Within.{Within}
-use Rattle.flat_descriptions.specs.Flattening.{KeepsLimits}
-use Rattle.flat_descriptions.specs.Growing.{IsPastLimit}
-use Rattle.flat_descriptions.specs.Instances.{instances, names_env}
-use Rattle.flat_descriptions.specs.Places.{places, IsTooDeep}
-use Rattle.flat_descriptions.specs.Joined.{IsJoined}
-use Rattle.flat_descriptions.specs.Members.{Among}
-use Rattle.flat_descriptions.specs.Orders.{join_order}
+use Rattle.description_types.specs.Flattening.{KeepsLimits}
+use Rattle.description_types.specs.Growing.{IsPastLimit}
+use Rattle.description_types.specs.Instances.{instances, names_env}
+use Rattle.description_types.specs.Places.{places, IsTooDeep}
+use Rattle.description_types.specs.Joined.{IsJoined}
+use Rattle.description_types.specs.Members.{Among}
+use Rattle.description_types.specs.Orders.{join_order}
 
 -- the limits on instances
 pub record KeepsCounts (d : Description) : Type 0 where

@@ -3,14 +3,13 @@
 ghost use Rattle.std.specs.Prelude.{◌≡◌, ◌++◌, ℕ, codes, IfOk, IfErr, OnOk, string_bytes};
 ghost use Rattle.std.specs.Fmt.{decimal};
 ghost use Rattle.end_search.specs.Matching.{HasFewItems};
-ghost use Rattle.flat_descriptions.specs.Flattening.{IsFlatOf, IsRefusalOf, KeepsConnectors, KeepsLimits, KeepsNesting, composition_place, connector_place};
+ghost use Rattle.description_types.specs.Flattening.{IsFlatOf, IsRefusalOf, KeepsConnectors, KeepsLimits, KeepsNesting, composition_place, connector_place};
 ghost use Rattle.composition_flatten.specs.Within.{IsWithin};
 
 use crate::limits::{Within, parts_within};
 use crate::wiring::first_broken;
 use composition_tables::containing::first_in_itself;
-use description_types::Description;
-use flat_descriptions::Flat;
+use description_types::{Description, Flat};
 use itoa::Buffer;
 use rte_text::{Memory, Refusal, Refused, Seq, Text};
 use std::alloc::Global;

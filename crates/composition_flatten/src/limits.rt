@@ -3,10 +3,10 @@
 ghost use Rattle.std.specs.Prelude.{◌≡◌, ◌↔◌, IfOk, IfSome, IfNone, IsTrue, map};
 ghost use Rattle.composition_tables.specs.Counts.{IsCounted};
 ghost use Rattle.end_search.specs.Matching.{HasFewItems};
-ghost use Rattle.flat_descriptions.specs.Flattening.{KeepsLimits};
-ghost use Rattle.flat_descriptions.specs.Growing.{IsPastLimit};
-ghost use Rattle.flat_descriptions.specs.Instances.{names_env};
-ghost use Rattle.flat_descriptions.specs.Joined.{IsJoined};
+ghost use Rattle.description_types.specs.Flattening.{KeepsLimits};
+ghost use Rattle.description_types.specs.Growing.{IsPastLimit};
+ghost use Rattle.description_types.specs.Instances.{names_env};
+ghost use Rattle.description_types.specs.Joined.{IsJoined};
 ghost use Rattle.composition_flatten.specs.Joins.{instance_of, end_of, join_of};
 ghost use Rattle.composition_tables.specs.Trees.{IsTree};
 ghost use Rattle.composition_flatten.specs.Within.{IsWithin, AreJoins, KeepsCounts};
@@ -21,8 +21,7 @@ use composition_tables::links::{Item, LINK_LIMIT, Link};
 use composition_tables::prototypes::prototypes_of;
 use composition_tables::starts::start_levels;
 use composition_tables::tree::{Owner, Tree};
-use description_types::Description;
-use flat_descriptions::{End, Instance, Join};
+use description_types::{Description, End, Instance, Join};
 use rte_text::Memory;
 use std::alloc::Global;
 

@@ -6,8 +6,7 @@ ghost use Rattle.composition_flatten.specs.Named.{named_below, named_of};
 
 use composition_tables::counts::{DEPTH_LIMIT, count_below};
 use composition_tables::prototypes::prototypes_of;
-use description_types::{Description, Prototype, PrototypeType};
-use flat_descriptions::Instance;
+use description_types::{Description, Instance, Prototype, PrototypeType};
 use rte_text::{Memory, Text};
 use std::alloc::Global;
 

@@ -2,7 +2,7 @@
 
 ghost use Rattle.std.specs.Prelude.{◌≡◌, ◌≤◌, IfOk, OnOk};
 ghost use Rattle.composition_tables.specs.Ends.{ends, inner_ends};
-ghost use Rattle.flat_descriptions.specs.Growing.{Grown};
+ghost use Rattle.description_types.specs.Growing.{Grown};
 ghost use Rattle.composition_flatten.specs.Links.{IsAssemblyLink, IsOwnLink};
 ghost use Rattle.end_crossing.specs.PortLinks.{IsCrossLink};
 ghost use Rattle.end_crossing.specs.Crossings.{IsAdding};

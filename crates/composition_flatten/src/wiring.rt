@@ -2,10 +2,10 @@
 
 ghost use Rattle.std.specs.Prelude.{◌≡◌, ◌↔◌, ◌⊎◌, IfOk, OnOk, IsTrue, length, not, ◌||◌};
 ghost use Rattle.composition_flatten.specs.declared.wiring.Key.{Key};
-ghost use Rattle.flat_descriptions.specs.Members.{Among};
-ghost use Rattle.flat_descriptions.specs.Connectors.{connectors_of, lets_join, IsBrokenConnector, IsFirstBroken};
+ghost use Rattle.description_types.specs.Members.{Among};
+ghost use Rattle.description_types.specs.Connectors.{connectors_of, lets_join, IsBrokenConnector, IsFirstBroken};
 ghost use Rattle.composition_flatten.specs.Keys.{key_of};
-ghost use Rattle.flat_descriptions.specs.Firsts.{IsFirst};
+ghost use Rattle.description_types.specs.Firsts.{IsFirst};
 
 use composition_tables::connectors::{connectors_of, lets_join};
 use description_types::{Connector, Description};

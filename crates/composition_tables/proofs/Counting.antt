@@ -9,9 +9,9 @@ use Rattle.description_types.specs.declared.description.Description.{Description
 use Rattle.description_types.specs.declared.description.Prototype.{Prototype}
 use Rattle.description_types.specs.declared.description.PrototypeType.{PrototypeType}
 use Rattle.description_types.specs.declared.description.PrototypeType.TheVariants.{Component, Composition}
-use Rattle.flat_descriptions.specs.Places.{size, size_of}
+use Rattle.description_types.specs.Places.{size, size_of}
 use Rattle.composition_tables.specs.Counts.{AreCounts, count_for, IsCounted, count_in}
-use Rattle.flat_descriptions.specs.Members.{sum_of}
+use Rattle.description_types.specs.Members.{sum_of}
 use Rattle.composition_tables.proofs.Members.{past_end, get_push}
 
 pub capped_more : (total here rest whole after : ℕ) → min (total + (here + rest)) 1025 ≡ whole → after ≡ min (total + here) 1025 → min (after + rest) 1025 ≡ whole

@@ -6,10 +6,10 @@ use Rattle.description_types.specs.declared.description.Description.{Description
 use Rattle.description_types.specs.declared.description.PrototypeType.{PrototypeType}
 use Rattle.description_types.specs.declared.description.PrototypeType.TheVariants.{Component, Composition}
 use Rattle.indexmap.specs.IndexSet.{insert_all}
-use Rattle.flat_descriptions.specs.Places.{IsTooDeep}
+use Rattle.description_types.specs.Places.{IsTooDeep}
 use Rattle.composition_tables.specs.Levels.{is_component, IsLevel}
-use Rattle.flat_descriptions.specs.Members.{Among}
-use Rattle.flat_descriptions.specs.Paths.{prototypes_of, type_in, type_at, held_by, IsReached}
+use Rattle.description_types.specs.Members.{Among}
+use Rattle.description_types.specs.Paths.{prototypes_of, type_in, type_at, held_by, IsReached}
 use Rattle.composition_tables.proofs.Members.{numbers_only, numbers_have, flat, unflat, any_true, true_any, get_some}
 use Rattle.composition_tables.proofs.Reaching.{held_step, step_held}
 use Rattle.composition_tables.proofs.Steps.{step_is, step_of, step_on, last_step, holder_declared}

@@ -13,9 +13,9 @@ use Rattle.description_types.specs.declared.description.PrototypeType.TheVariant
 use Rattle.composition_tables.specs.declared.tree.PortEnd.{PortEnd}
 use Rattle.composition_tables.specs.Counts.{IsCounted, count_in}
 use Rattle.composition_tables.specs.Ends.{ends, inner_ends, inner_ports, number_from, offset}
-use Rattle.flat_descriptions.specs.Places.{size, size_of}
-use Rattle.flat_descriptions.specs.Members.{Among, sum_of}
-use Rattle.flat_descriptions.specs.Paths.{prototypes_of, type_in}
+use Rattle.description_types.specs.Places.{size, size_of}
+use Rattle.description_types.specs.Members.{Among, sum_of}
+use Rattle.description_types.specs.Paths.{prototypes_of, type_in}
 use Rattle.composition_tables.specs.Trees.{IsStarted, start_in, items_of}
 use Rattle.composition_tables.proofs.Members.{left, right, cases, unflat, get_some, past_end}
 use Rattle.composition_tables.proofs.Counting.{counted}

@@ -3,8 +3,8 @@ use Rattle.std.proofs.Common.{◌≡◌, ℕ, ◌+◌, ◌<◌, ◌≤◌, List,
 use Rattle.std.proofs.lemmas.Bool.{ltb-true}
 use Rattle.std.proofs.lemmas.List.{take_more, take_all, take-append-drop}
 use Rattle.std.specs.Prelude.{IsPermutation}
-use Rattle.flat_descriptions.specs.Growing.{AnyOf, IsPastLimit, Grown}
-use Rattle.flat_descriptions.specs.Members.{Among, AllApart}
+use Rattle.description_types.specs.Growing.{AnyOf, IsPastLimit, Grown}
+use Rattle.description_types.specs.Members.{Among, AllApart}
 use Rattle.composition_tables.proofs.Members.{left, right, cases, at}
 use Rattle.composition_tables.proofs.Sorting.{moved_same}
 

@@ -6,8 +6,8 @@ use Rattle.std.specs.Option.{option_map_or}
 use Rattle.description_types.specs.declared.description.Description.{Description}
 use Rattle.description_types.specs.declared.description.PrototypeType.{PrototypeType}
 use Rattle.description_types.specs.declared.description.PrototypeType.TheVariants.{Component, Composition}
-use Rattle.flat_descriptions.specs.Members.{Among}
-use Rattle.flat_descriptions.specs.Paths.{prototypes_of, type_in, type_at, ContainsItself, is_composition, declared_in, declared_composition, IsReached}
+use Rattle.description_types.specs.Members.{Among}
+use Rattle.description_types.specs.Paths.{prototypes_of, type_in, type_at, ContainsItself, is_composition, declared_in, declared_composition, IsReached}
 use Rattle.composition_tables.specs.Ranks.{ranks_within, ranks_below}
 use Rattle.composition_tables.proofs.Members.{get_some, any_true, true_any, all_true}
 use Rattle.composition_tables.proofs.Steps.{step_is, step_of, step_on, last_step, holder_declared}

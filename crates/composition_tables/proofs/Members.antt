@@ -4,7 +4,7 @@ use Rattle.std.proofs.lemmas.Bool.{eqb-true, eq-eqb, or_cases, or_left, or_right
 use Rattle.std.proofs.lemmas.List.{get_or_append_left, length-append, map-append}
 use Rattle.std.specs.List.{flat_map, filter_map, list_any, list_all, cons_option, enumerate_from}
 use Rattle.indexmap.specs.IndexSet.{insert_key, insert_all}
-use Rattle.flat_descriptions.specs.Members.{Among, sum_of}
+use Rattle.description_types.specs.Members.{Among, sum_of}
 
 module _ {X : Type 0} where
   pub left : (x : X) (xs ys : List X) → Among x xs → Among x (xs ++ ys)

@@ -9,10 +9,10 @@ use Rattle.description_types.specs.declared.description.PrototypeType.TheVariant
 use Rattle.composition_tables.specs.declared.nodes.Node.{Node}
 use Rattle.composition_tables.specs.Counts.{IsCounted, count_in}
 use Rattle.composition_tables.specs.Ends.{number_from, offset}
-use Rattle.flat_descriptions.specs.Places.{size}
+use Rattle.description_types.specs.Places.{size}
 use Rattle.composition_tables.specs.Nodes.{IsNode, IsInnerNode}
-use Rattle.flat_descriptions.specs.Members.{Among}
-use Rattle.flat_descriptions.specs.Paths.{prototypes_of, type_in}
+use Rattle.description_types.specs.Members.{Among}
+use Rattle.description_types.specs.Paths.{prototypes_of, type_in}
 use Rattle.composition_tables.proofs.Members.{left, right, cases}
 use Rattle.composition_tables.proofs.Counting.{counted}
 use Rattle.composition_tables.proofs.Steps.{step_is}

@@ -2,7 +2,7 @@
 use Rattle.std.proofs.Common.{◌≡◌, ℕ, List, true, nat_eq, ◌&&◌, ◌⊎◌, inr, ◌↔◌, refl}
 use Rattle.std.proofs.lemmas.Bool.{eqb-true, and_parts, and_from}
 use Rattle.indexmap.specs.IndexSet.{insert_key}
-use Rattle.flat_descriptions.specs.Members.{Among}
+use Rattle.description_types.specs.Members.{Among}
 use Rattle.composition_tables.proofs.Members.{key_iff, itself_number}
 
 -- a port is noted

@@ -8,8 +8,8 @@ use Rattle.description_types.specs.declared.description.Description.{Description
 use Rattle.description_types.specs.declared.description.PrototypeType.{PrototypeType}
 use Rattle.description_types.specs.declared.description.PrototypeType.TheVariants.{Component, Composition}
 use Rattle.indexmap.specs.IndexSet.{insert_all}
-use Rattle.flat_descriptions.specs.Members.{Among}
-use Rattle.flat_descriptions.specs.Paths.{prototypes_of, type_in, type_at, held_by, declared_in, declared_composition, IsReached}
+use Rattle.description_types.specs.Members.{Among}
+use Rattle.description_types.specs.Paths.{prototypes_of, type_in, type_at, held_by, declared_in, declared_composition, IsReached}
 use Rattle.composition_tables.proofs.Members.{place, pick, unpick, found, numbers_keep, numbers_have, numbers_only, all_stay, get_some, past_end}
 use Rattle.composition_tables.proofs.Steps.{step_is, step_of, last_step, holder_declared}
 

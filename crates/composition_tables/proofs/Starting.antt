@@ -9,8 +9,8 @@ use Rattle.description_types.specs.declared.description.Prototype.{Prototype}
 use Rattle.description_types.specs.declared.description.PrototypeType.{PrototypeType}
 use Rattle.composition_tables.specs.Counts.{AreCounts}
 use Rattle.composition_tables.specs.Ends.{offset}
-use Rattle.flat_descriptions.specs.Places.{size, size_of}
-use Rattle.flat_descriptions.specs.Members.{sum_of}
+use Rattle.description_types.specs.Places.{size, size_of}
+use Rattle.description_types.specs.Members.{sum_of}
 use Rattle.composition_tables.specs.Trees.{running, starts_for, items_of, start_in, AreStarts}
 use Rattle.composition_tables.proofs.Counting.{size_capped}
 use Rattle.composition_tables.proofs.Members.{get_push}

@@ -7,8 +7,8 @@ use Rattle.description_types.specs.declared.description.Description.{Description
 use Rattle.description_types.specs.declared.description.Prototype.{Prototype}
 use Rattle.description_types.specs.declared.description.PrototypeType.{PrototypeType}
 use Rattle.description_types.specs.declared.description.PrototypeType.TheVariants.{Component, Composition}
-use Rattle.flat_descriptions.specs.Members.{Among}
-use Rattle.flat_descriptions.specs.Paths.{prototypes_of, type_in, type_at}
+use Rattle.description_types.specs.Members.{Among}
+use Rattle.description_types.specs.Paths.{prototypes_of, type_in, type_at}
 use Rattle.composition_tables.proofs.Members.{place, some_get}
 
 module _ (d : Description) where

@@ -4,8 +4,8 @@ use Rattle.std.specs.Global.{Global}
 use Rattle.std.specs.Option.{option_map_or}
 use Rattle.description_types.specs.declared.description.Composition.{Composition}
 use Rattle.description_types.specs.declared.description.Description.{Description}
-use Rattle.flat_descriptions.specs.Places.{size, size_of}
-use Rattle.flat_descriptions.specs.Members.{sum_of}
+use Rattle.description_types.specs.Places.{size, size_of}
+use Rattle.description_types.specs.Members.{sum_of}
 
 -- the counts of the instances at most n deep below each composition, up to 1,025
 abbrev pub AreCounts : Description → ℕ → List ℕ → Type 0

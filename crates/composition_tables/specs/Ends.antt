@@ -10,10 +10,10 @@ use Rattle.description_types.specs.declared.description.PrototypeType.{Prototype
 use Rattle.description_types.specs.declared.description.PrototypeType.TheVariants.{Component, Composition}
 use Rattle.composition_tables.specs.declared.tree.Owner.TheVariants.{Instance}
 use Rattle.composition_tables.specs.declared.tree.PortEnd.{PortEnd}
-use Rattle.flat_descriptions.specs.Connectors.{connectors_of, interface_of, lets_join}
-use Rattle.flat_descriptions.specs.Places.{size, size_of}
-use Rattle.flat_descriptions.specs.Members.{sum_of}
-use Rattle.flat_descriptions.specs.Paths.{prototypes_of, type_in}
+use Rattle.description_types.specs.Connectors.{connectors_of, interface_of, lets_join}
+use Rattle.description_types.specs.Places.{size, size_of}
+use Rattle.description_types.specs.Members.{sum_of}
+use Rattle.description_types.specs.Paths.{prototypes_of, type_in}
 
 -- how many instances at most n deep below their prototypes stand before those of the prototype q in the composition c
 abbrev pub offset : Description → ℕ → ℕ → ℕ → ℕ

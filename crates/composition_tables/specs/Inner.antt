@@ -6,7 +6,7 @@ use Rattle.description_types.specs.declared.description.InnerPort.{InnerPort}
 use Rattle.indexmap.specs.IndexMap.{get}
 use Rattle.composition_tables.specs.declared.inner.Inner.{Inner}
 use Rattle.composition_tables.specs.Ends.{inner_ports}
-use Rattle.flat_descriptions.specs.Members.{Among}
+use Rattle.description_types.specs.Members.{Among}
 use Rattle.composition_tables.specs.Multi.{under}
 
 -- the port k.1 of the prototype k.0

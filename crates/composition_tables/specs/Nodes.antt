@@ -4,8 +4,8 @@ use Rattle.description_types.specs.declared.description.Description.{Description
 use Rattle.description_types.specs.declared.description.PrototypeType.TheVariants.{Composition}
 use Rattle.composition_tables.specs.declared.nodes.Node.{Node}
 use Rattle.composition_tables.specs.Ends.{number_from, offset}
-use Rattle.flat_descriptions.specs.Places.{size}
-use Rattle.flat_descriptions.specs.Paths.{type_in}
+use Rattle.description_types.specs.Places.{size}
+use Rattle.description_types.specs.Paths.{type_in}
 
 -- A composition that stands at or below the composition c, whose first instance has the number `first`, at most n prototypes
 -- down. Those without instances count as not there.

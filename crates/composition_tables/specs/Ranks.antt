@@ -4,7 +4,7 @@ use Rattle.std.specs.Option.{option_map_or}
 use Rattle.std.specs.List.{list_all}
 use Rattle.description_types.specs.declared.description.Description.{Description}
 use Rattle.description_types.specs.declared.description.Prototype.{Prototype}
-use Rattle.flat_descriptions.specs.Paths.{prototypes_of, declared_composition}
+use Rattle.description_types.specs.Paths.{prototypes_of, declared_composition}
 
 -- the composition of the prototype, if it is one, ranks at most so high, or lower
 abbrev pub ranks_within : Description → List ℕ → ℕ → Prototype → Bool

@@ -9,8 +9,8 @@ use Rattle.description_types.specs.declared.description.Prototype.{Prototype}
 use Rattle.description_types.specs.declared.description.PrototypeType.{PrototypeType}
 use Rattle.composition_tables.specs.Counts.{IsCounted}
 use Rattle.composition_tables.specs.Ends.{offset, inner_ports}
-use Rattle.flat_descriptions.specs.Places.{size_of}
-use Rattle.flat_descriptions.specs.Paths.{prototypes_of}
+use Rattle.description_types.specs.Places.{size_of}
+use Rattle.description_types.specs.Paths.{prototypes_of}
 use Rattle.composition_tables.specs.declared.tree.Tree.{Tree}
 
 -- the counts so far before each of some prototypes, up to 1,025, from a total on

@@ -1,8 +1,8 @@
 //! Which connectors may join their ports.
 
 ghost use Rattle.std.specs.Prelude.{◌≡◌, option_map, slice_get};
-ghost use Rattle.flat_descriptions.specs.Connectors.{ports_of, interface_of, kind_of, kind_in, connectors_of, is_provided, is_required, is_one_kind, lets_join};
-ghost use Rattle.flat_descriptions.specs.Paths.{type_in};
+ghost use Rattle.description_types.specs.Connectors.{ports_of, interface_of, kind_of, kind_in, connectors_of, is_provided, is_required, is_one_kind, lets_join};
+ghost use Rattle.description_types.specs.Paths.{type_in};
 
 use crate::prototypes::prototypes_of;
 use description_types::{Connector, Description, InnerPort, Port, PortKind, PrototypeType};

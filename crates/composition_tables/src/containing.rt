@@ -2,10 +2,10 @@
 
 ghost use Rattle.std.specs.Prelude.{◌≡◌, ◌<◌, ◌↔◌, ℕ, [], ◌∷◌, IfOk, IsTrue, length};
 ghost use Rattle.std.specs.List.{list_any};
-ghost use Rattle.flat_descriptions.specs.Paths.{prototypes_of, is_composition, ContainsItself};
+ghost use Rattle.description_types.specs.Paths.{prototypes_of, is_composition, ContainsItself};
 ghost use Rattle.composition_tables.specs.Ranks.{IsRanking};
 ghost use Rattle.std.specs.Bool.{OnTrue};
-ghost use Rattle.flat_descriptions.specs.Firsts.{IsFirst};
+ghost use Rattle.description_types.specs.Firsts.{IsFirst};
 
 use crate::prototypes::holds;
 use crate::ranks::{is_ranking, ranks_of, stands_above};

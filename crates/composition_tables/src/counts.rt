@@ -1,7 +1,7 @@
 //! How many component instances stand below a composition.
 
 ghost use Rattle.std.specs.Prelude.{◌≡◌, ◌+◌, ℕ, suc, IfOk, min, slice_index};
-ghost use Rattle.flat_descriptions.specs.Places.{size_of};
+ghost use Rattle.description_types.specs.Places.{size_of};
 ghost use Rattle.composition_tables.specs.Counts.{AreCounts, IsCounted, count_for, count_in};
 
 use description_types::{Composition, Description, PrototypeType};

@@ -2,7 +2,7 @@
 
 ghost use Rattle.std.specs.Prelude.{◌≡◌, ◌<◌, ◌==◌, ◌++◌, [], ◌∷◌, ℕ, IfOk, OnOk, length, if◌then◌else◌};
 ghost use Rattle.description_types.specs.declared.description.PrototypeType.TheVariants as of_type;
-ghost use Rattle.flat_descriptions.specs.Connectors.{ports_of};
+ghost use Rattle.description_types.specs.Connectors.{ports_of};
 ghost use Rattle.composition_tables.specs.Ends.{delegated, inner_ports};
 ghost use Rattle.std.specs.Option.{option_to_list};
 ghost use Rattle.composition_tables.specs.Trees.{ports_at, IsDelegated};

@@ -3,9 +3,9 @@
 ghost use Rattle.std.specs.Prelude.{◌≡◌, ◌<◌, ◌↔◌, ℕ, suc, [], IfOk, IsTrue, nat_eq};
 ghost use Rattle.std.specs.List.{flat_map, list_any};
 ghost use Rattle.indexmap.specs.IndexSet.{insert_all};
-ghost use Rattle.flat_descriptions.specs.Places.{IsTooDeep};
+ghost use Rattle.description_types.specs.Places.{IsTooDeep};
 ghost use Rattle.composition_tables.specs.Levels.{is_component, IsLevel};
-ghost use Rattle.flat_descriptions.specs.Paths.{held_by, prototypes_of};
+ghost use Rattle.description_types.specs.Paths.{held_by, prototypes_of};
 
 use crate::counts::DEPTH_LIMIT;
 use crate::prototypes::prototypes_of;

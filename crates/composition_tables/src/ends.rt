@@ -2,7 +2,7 @@
 
 ghost use Rattle.std.specs.Prelude.{◌≡◌, ◌≤◌, ◌<◌, [], length, min, slice_get};
 ghost use Rattle.composition_tables.specs.Ends.{inner_ports, number_from, offset};
-ghost use Rattle.flat_descriptions.specs.Paths.{prototypes_of};
+ghost use Rattle.description_types.specs.Paths.{prototypes_of};
 ghost use Rattle.composition_tables.specs.Trees.{IsTree, items_of, ports_at, start_in};
 ghost use Rattle.std.specs.Option.{option_map_or};
 

@@ -4,7 +4,7 @@ ghost use Rattle.std.specs.Prelude.{◌≡◌, ◌↔◌, ◌⊎◌, ℕ, nat_eq
 ghost use Rattle.std.specs.List.{flat_map};
 ghost use Rattle.indexmap.specs.IndexMap.{get};
 ghost use Rattle.composition_tables.specs.Ends.{inner_ports};
-ghost use Rattle.flat_descriptions.specs.Members.{Among};
+ghost use Rattle.description_types.specs.Members.{Among};
 ghost use Rattle.composition_tables.specs.Multi.{under};
 ghost use Rattle.composition_tables.specs.Trees.{IsTree};
 ghost use Rattle.composition_tables.specs.Inner.{port_of, AreInner};

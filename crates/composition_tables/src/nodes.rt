@@ -3,7 +3,7 @@
 ghost use Rattle.std.specs.Prelude.{◌≡◌, ◌≤◌, ◌<◌, ◌↔◌, ◌⊎◌, OnOk, IfOk};
 ghost use Rattle.composition_tables.specs.declared.nodes.Node.{Node};
 ghost use Rattle.composition_tables.specs.Nodes.{IsNode, IsInnerNode};
-ghost use Rattle.flat_descriptions.specs.Members.{Among};
+ghost use Rattle.description_types.specs.Members.{Among};
 ghost use Rattle.composition_tables.specs.Trees.{IsTree};
 
 use crate::connectors::inner_type;

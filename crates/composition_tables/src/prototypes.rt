@@ -2,7 +2,7 @@
 
 ghost use Rattle.std.specs.Prelude.{◌≡◌};
 ghost use Rattle.std.specs.List.{list_any};
-ghost use Rattle.flat_descriptions.specs.Paths.{prototypes_of, is_composition};
+ghost use Rattle.description_types.specs.Paths.{prototypes_of, is_composition};
 
 use description_types::{Description, Prototype, PrototypeType};
 

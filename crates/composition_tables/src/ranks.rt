@@ -3,7 +3,7 @@
 ghost use Rattle.std.specs.Prelude.{◌≡◌, ◌<◌, ℕ, length, true, slice_index};
 ghost use Rattle.std.specs.Bool.{OnTrue};
 ghost use Rattle.std.specs.List.{list_all};
-ghost use Rattle.flat_descriptions.specs.Paths.{prototypes_of};
+ghost use Rattle.description_types.specs.Paths.{prototypes_of};
 ghost use Rattle.composition_tables.specs.Ranks.{ranks_within, ranks_below, IsRanking};
 
 use crate::prototypes::prototypes_of;

@@ -2,8 +2,8 @@
 
 ghost use Rattle.std.specs.Prelude.{◌≡◌, ◌<◌, ◌↔◌, ℕ, List, IfOk, OnOk, length, nat_eq, nat_lt, slice_get, Some, None, if◌then◌else◌};
 ghost use Rattle.indexmap.specs.IndexSet.{insert_all};
-ghost use Rattle.flat_descriptions.specs.Paths.{held_by, declared_composition, IsReached};
-ghost use Rattle.flat_descriptions.specs.Members.{Among};
+ghost use Rattle.description_types.specs.Paths.{held_by, declared_composition, IsReached};
+ghost use Rattle.description_types.specs.Members.{Among};
 
 use crate::prototypes::prototypes_of;
 use description_types::{Description, Prototype, PrototypeType};

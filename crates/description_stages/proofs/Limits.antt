@@ -7,14 +7,14 @@ use Rattle.std.specs.List.{AllByRecursion}
 use Rattle.std.specs.List.Sorted.{IsStrictlySortedBy}
 use Rattle.std.specs.Ordering.{nat_cmp, ordering_then}
 use Rattle.description_types.specs.declared.description.Description.{Description}
-use Rattle.flat_descriptions.specs.declared.flat.End.{End}
-use Rattle.flat_descriptions.specs.declared.flat.Flat.{Flat}
-use Rattle.flat_descriptions.specs.declared.flat.Join.{Join}
-use Rattle.flat_descriptions.specs.Flattening.{IsFlatOf}
-use Rattle.flat_descriptions.specs.Instances.{instance_at}
-use Rattle.flat_descriptions.specs.Members.{AllApart, Among}
-use Rattle.flat_descriptions.specs.Orders.{end_order, instance_order, join_order}
-use Rattle.flat_descriptions.specs.Places.{places}
+use Rattle.description_types.specs.declared.flat.End.{End}
+use Rattle.description_types.specs.declared.flat.Flat.{Flat}
+use Rattle.description_types.specs.declared.flat.Join.{Join}
+use Rattle.description_types.specs.Flattening.{IsFlatOf}
+use Rattle.description_types.specs.Instances.{instance_at}
+use Rattle.description_types.specs.Members.{AllApart, Among}
+use Rattle.description_types.specs.Orders.{end_order, instance_order, join_order}
+use Rattle.description_types.specs.Places.{places}
 
 pub few_instances : (d : Description) (f : Flat) → IsFlatOf d f → length f.instances ≤ 1024
 few_instances d f flat = let same : length f.instances ≡ length (places d) = ap length flat.instances_listed ∙ length-map (places d) (instance_at d) in omega (arith, same, flat.limits.instances)

@@ -6,9 +6,9 @@ use Rattle.description_types.specs.declared.description.Description.{Description
 use Rattle.component_model.specs.Descriptions.{description_of}
 use Rattle.component_model.specs.Refusals as reading
 use Rattle.component_model.specs.Refusals.{IsRead}
-use Rattle.flat_descriptions.specs.declared.flat.Flat.{Flat}
-use Rattle.flat_descriptions.specs.Flattening as flattening
-use Rattle.flat_descriptions.specs.Flattening.{IsFlatOf}
+use Rattle.description_types.specs.declared.flat.Flat.{Flat}
+use Rattle.description_types.specs.Flattening as flattening
+use Rattle.description_types.specs.Flattening.{IsFlatOf}
 use Rattle.plan_definitions.specs.JoinRefusals.{refusal}
 use Rattle.description_stages.specs.declared.joining.JoinedDescription.{JoinedDescription}
 

@@ -1,7 +1,7 @@
 //! From the bytes of a description to what its connectors join.
 
 ghost use Rattle.std.specs.Prelude.{◌≡◌, IfErr, IfOk, None, OnOk};
-ghost use Rattle.flat_descriptions.specs.Flattening.{IsFlatOf};
+ghost use Rattle.description_types.specs.Flattening.{IsFlatOf};
 ghost use Rattle.plan_definitions.specs.JoinRefusals.{refusal};
 ghost use Rattle.declared_names.specs.Sizes.{AreFew};
 ghost use Rattle.end_search.specs.Matching.{HasFewItems};
@@ -10,7 +10,7 @@ ghost use Rattle.description_stages.specs.Stages.{IsJoinRefusalOf, IsJoinedOf, I
 use compatibility::check_joins;
 use component_model::{Description, read_description};
 use composition_flatten::flatten;
-use flat_descriptions::Flat;
+use description_types::Flat;
 use rte_text::Refused;
 use std::alloc::Global;
 

@@ -12,8 +12,8 @@ use crate::soundness::plans_are_sound;
 use bus_semantics::{BusPlan, Mapping};
 use component_model::Description;
 use description_laws::read_descriptions_are_well_formed;
+use description_types::Flat;
 use event_mapping::map_events;
-use flat_descriptions::Flat;
 use rte_text::Refused;
 use std::alloc::Global;
 

@@ -1,7 +1,7 @@
 //! The law of sound plans.
 
 ghost use Rattle.description_types.specs.declared.description.Description.{Description};
-ghost use Rattle.flat_descriptions.specs.declared.flat.Flat.{Flat};
+ghost use Rattle.description_types.specs.declared.flat.Flat.{Flat};
 ghost use Rattle.bus_semantics.specs.declared.plan.BusPlan.{BusPlan};
 ghost use Rattle.bus_semantics.specs.declared.script.Mapping.{Mapping};
 ghost use Rattle.bus_semantics.specs.Plan.{plan_of};

@@ -1,4 +1,5 @@
-//! The typed description: what `component_model` reads, and what every later stage looks at.
+//! The typed description: what `component_model` reads, and what every later stage looks at; and a description made flat, its
+//! instances and which of their items are joined, as types and definitions.
 //!
 //! What refers to something by its name holds a position: that of the first item of this name in the list that declares
 //! it. Each list stands in declared order, so positions give the JSON pointer of everything. A key that may be missing is
@@ -7,6 +8,7 @@
 
 mod component;
 mod description;
+mod flat;
 
 pub use component::{
     Access, Behavior, Component, DisabledInModes, Event, EventKind, ItemPair, ModeActivation, Port,
@@ -16,3 +18,4 @@ pub use description::{
     Composition, Connector, Description, InnerPort, MappedEvent, Prototype, PrototypeType, Task,
     TaskMapping,
 };
+pub use flat::{End, Flat, Instance, Join};

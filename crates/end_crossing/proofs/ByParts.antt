@@ -8,11 +8,11 @@ use Rattle.end_search.specs.declared.gates.Gate.{Gate}
 use Rattle.composition_tables.specs.declared.links.Link.{Link}
 use Rattle.end_search.specs.declared.sides.Side.{Side}
 use Rattle.composition_tables.specs.declared.tree.PortEnd.{PortEnd}
-use Rattle.flat_descriptions.specs.Growing.{AnyOf, Grown}
+use Rattle.description_types.specs.Growing.{AnyOf, Grown}
 use Rattle.end_crossing.specs.PortLinks.{IsPairLink, IsCrossLink}
 use Rattle.end_search.specs.Sides.{AreOf, HasInterface, IsSide}
 use Rattle.end_crossing.specs.Crossings.{IsCrossingLink}
-use Rattle.flat_descriptions.specs.Members.{Among}
+use Rattle.description_types.specs.Members.{Among}
 use Rattle.composition_tables.specs.Multi.{under}
 use Rattle.composition_tables.proofs.Growth.{grown_same}
 use Rattle.composition_tables.proofs.Members.{flat, unflat}

@@ -8,12 +8,12 @@ use Rattle.composition_tables.specs.declared.links.Link.{Link}
 use Rattle.end_crossing.specs.declared.matched.Matched.{Matched}
 use Rattle.end_search.specs.declared.seek.Wanted.TheVariants.{Anything}
 use Rattle.composition_tables.specs.declared.tree.PortEnd.{PortEnd}
-use Rattle.flat_descriptions.specs.Growing.{AnyOf, Grown}
+use Rattle.description_types.specs.Growing.{AnyOf, Grown}
 use Rattle.end_crossing.specs.PortLinks.{link_of, IsPairLink, IsCrossLink}
 use Rattle.end_crossing.specs.Crossings.{same_pair, HasPairs, IsAdding, IsBetween, IsCrossingLink, IsMatched}
 use Rattle.end_search.specs.Matching.{AreListed, AreMatches}
 use Rattle.end_search.specs.Near.{same_gate, AreNear}
-use Rattle.flat_descriptions.specs.Members.{Among}
+use Rattle.description_types.specs.Members.{Among}
 use Rattle.end_search.specs.Tables.{AreGroups}
 use Rattle.composition_tables.proofs.Growth.{grown_same}
 

@@ -8,7 +8,7 @@ use Rattle.end_search.specs.declared.gates.Gate.{Gate}
 use Rattle.composition_tables.specs.declared.tree.PortEnd.{PortEnd}
 use Rattle.end_search.specs.Gates.{gate_ends}
 use Rattle.end_search.specs.Sides.{AreOf}
-use Rattle.flat_descriptions.specs.Members.{Among}
+use Rattle.description_types.specs.Members.{Among}
 use Rattle.composition_tables.specs.Multi.{under}
 use Rattle.composition_tables.proofs.Members.{same_number}
 

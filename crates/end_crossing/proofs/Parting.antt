@@ -6,11 +6,11 @@ use Rattle.std.specs.Prelude.{IfNone}
 use Rattle.description_types.specs.declared.description.Description.{Description}
 use Rattle.composition_tables.specs.declared.links.Link.{Link}
 use Rattle.composition_tables.specs.declared.tree.PortEnd.{PortEnd}
-use Rattle.flat_descriptions.specs.Growing.{AnyOf, Grown}
+use Rattle.description_types.specs.Growing.{AnyOf, Grown}
 use Rattle.end_search.specs.Wishes.{IsCutBelow}
 use Rattle.end_crossing.specs.PortLinks.{IsCrossLink}
 use Rattle.end_crossing.specs.Crossings.{HasPairs, IsBetween, IsPart}
-use Rattle.flat_descriptions.specs.Members.{Among}
+use Rattle.description_types.specs.Members.{Among}
 use Rattle.composition_tables.specs.Multi.{under}
 use Rattle.composition_tables.proofs.Growth.{grown_same, past_weaker}
 

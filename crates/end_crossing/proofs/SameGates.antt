@@ -6,11 +6,11 @@ use Rattle.interface_types.specs.declared.interface.InterfaceKind.{InterfaceKind
 use Rattle.interface_types.specs.declared.interface.InterfaceKind.TheVariants.{SenderReceiver, ClientServer, ModeSwitch}
 use Rattle.end_search.specs.declared.gates.Gate.{Gate}
 use Rattle.end_search.specs.declared.sides.Side.{Side}
-use Rattle.flat_descriptions.specs.Items.{element_names, operation_names, interface_at, ItemsJoin}
+use Rattle.description_types.specs.Items.{element_names, operation_names, interface_at, ItemsJoin}
 use Rattle.end_search.specs.Near.{same_gate}
 use Rattle.end_search.proofs.SameGates.{gate_is}
 use Rattle.end_search.specs.Sides.{IsSide}
-use Rattle.flat_descriptions.specs.Members.{Among}
+use Rattle.description_types.specs.Members.{Among}
 use Rattle.end_search.specs.Sharing.{interface_keys, SharesKey}
 use Rattle.composition_tables.proofs.Members.{get_some}
 

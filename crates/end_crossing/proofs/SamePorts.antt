@@ -4,8 +4,8 @@ use Rattle.description_types.specs.declared.description.Description.{Description
 use Rattle.composition_tables.specs.declared.links.Link.{Link}
 use Rattle.composition_tables.specs.declared.tree.PortEnd.{PortEnd}
 use Rattle.end_crossing.specs.PortLinks.{IsCrossLink}
-use Rattle.flat_descriptions.specs.Growing.{Grown}
-use Rattle.flat_descriptions.specs.Members.{Among}
+use Rattle.description_types.specs.Growing.{Grown}
+use Rattle.description_types.specs.Members.{Among}
 use Rattle.composition_tables.proofs.Growth.{grown_same, grown_none}
 
 -- the links of the same ports

@@ -13,9 +13,9 @@ use Rattle.end_search.specs.declared.seek.Wanted.TheVariants.{Anything}
 use Rattle.end_search.specs.declared.sides.Side.{Side}
 use Rattle.composition_tables.specs.declared.tree.PortEnd.{PortEnd}
 use Rattle.end_search.specs.Gates.{gate_ends}
-use Rattle.flat_descriptions.specs.Items.{interface_at, ItemsJoin}
+use Rattle.description_types.specs.Items.{interface_at, ItemsJoin}
 use Rattle.end_crossing.specs.PortLinks.{IsPairLink, IsCrossLink}
-use Rattle.flat_descriptions.specs.Members.{Among}
+use Rattle.description_types.specs.Members.{Among}
 use Rattle.composition_tables.specs.Multi.{under}
 use Rattle.end_search.specs.Matching.{AreListed, AreMatches}
 use Rattle.end_search.specs.Near.{same_gate, AreNear}

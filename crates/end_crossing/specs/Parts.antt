@@ -8,7 +8,7 @@ use Rattle.description_types.specs.declared.description.PrototypeType.TheVariant
 use Rattle.end_crossing.specs.declared.parts.Parts.{Parts}
 use Rattle.composition_tables.specs.declared.tree.PortEnd.{PortEnd}
 use Rattle.composition_tables.specs.Ends.{ends, inner_ends}
-use Rattle.flat_descriptions.specs.Paths.{type_in}
+use Rattle.description_types.specs.Paths.{type_in}
 
 abbrev pub is_held : Option PrototypeType → Bool
 is_held (Some (Composition c)) = true

@@ -4,8 +4,8 @@ use Rattle.description_types.specs.declared.description.Description.{Description
 use Rattle.composition_tables.specs.declared.links.Item.{Item}
 use Rattle.composition_tables.specs.declared.links.Link.{Link}
 use Rattle.composition_tables.specs.declared.tree.PortEnd.{PortEnd}
-use Rattle.flat_descriptions.specs.Growing.{AnyOf}
-use Rattle.flat_descriptions.specs.Items.{interface_at, ItemsJoin}
+use Rattle.description_types.specs.Growing.{AnyOf}
+use Rattle.description_types.specs.Items.{interface_at, ItemsJoin}
 
 abbrev pub item_of : PortEnd → ℕ → Item
 item_of e i = record { owner = e.owner; port = e.port; element = i }

@@ -5,7 +5,7 @@ ghost use Rattle.description_types.specs.declared.description.Description.{Descr
 ghost use Rattle.composition_tables.specs.declared.tree.PortEnd.{PortEnd};
 ghost use Rattle.end_search.specs.Gates.{IsShallow, gate_ends};
 ghost use Rattle.end_search.specs.Sides.{AreOf, HasInterface, IsSide};
-ghost use Rattle.flat_descriptions.specs.Members.{Among};
+ghost use Rattle.description_types.specs.Members.{Among};
 ghost use Rattle.composition_tables.specs.Trees.{IsTree};
 
 use composition_tables::links::LINK_LIMIT;

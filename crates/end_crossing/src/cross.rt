@@ -1,7 +1,7 @@
 //! Links of ports.
 
 ghost use Rattle.std.specs.Prelude.{◌≡◌, ℕ, List, IfOk, OnOk};
-ghost use Rattle.flat_descriptions.specs.Growing.{AnyOf, Grown};
+ghost use Rattle.description_types.specs.Growing.{AnyOf, Grown};
 ghost use Rattle.composition_tables.specs.declared.tree.PortEnd.{PortEnd};
 ghost use Rattle.end_crossing.specs.PortLinks.{item_of, link_of, IsPairLink, IsCrossLink};
 ghost use Rattle.end_search.specs.Tables.{AreGroups};

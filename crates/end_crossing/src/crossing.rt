@@ -2,12 +2,12 @@
 
 ghost use Rattle.std.specs.Prelude.{◌≡◌, ◌<◌, ◌⊎◌, ℕ, true, IfOk, IfSome, IfNone, OnOk};
 ghost use Rattle.end_search.specs.Gates.{gate_ends, IsShallow};
-ghost use Rattle.flat_descriptions.specs.Growing.{Grown};
+ghost use Rattle.description_types.specs.Growing.{Grown};
 ghost use Rattle.end_crossing.specs.PortLinks.{IsCrossLink};
 ghost use Rattle.end_crossing.specs.Crossings.{AreFirsts, AreSeconds, HasPairs, IsAdding, IsPart};
 ghost use Rattle.end_search.specs.Sides.{HasInterface, IsSide};
 ghost use Rattle.end_search.specs.Wishes.{IsCutBelow};
-ghost use Rattle.flat_descriptions.specs.Members.{Among};
+ghost use Rattle.description_types.specs.Members.{Among};
 ghost use Rattle.composition_tables.specs.Trees.{IsTree};
 
 use crate::completing::complete_all;

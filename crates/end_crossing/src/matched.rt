@@ -4,14 +4,14 @@ ghost use Rattle.std.specs.Prelude.{◌≡◌, ◌≤◌, ◌<◌, ◌↔◌, �
 ghost use Rattle.end_crossing.specs.declared.crossings.Crossing.{Crossing};
 ghost use Rattle.composition_tables.specs.declared.links.Link.{Link};
 ghost use Rattle.composition_tables.specs.declared.tree.PortEnd.{PortEnd};
-ghost use Rattle.flat_descriptions.specs.Members.{Among};
+ghost use Rattle.description_types.specs.Members.{Among};
 ghost use Rattle.indexmap.specs.IndexMap.{get};
 ghost use Rattle.end_search.specs.Gates.{IsShallow};
 ghost use Rattle.end_crossing.specs.Crossings.{same_pair, AreJoining, IsAdding, IsMatched};
 ghost use Rattle.end_search.specs.Matching.{AreMatches, HasFewItems};
 ghost use Rattle.end_search.specs.Sides.{IsSide};
 ghost use Rattle.end_search.specs.Sharing.{IsIndexed};
-ghost use Rattle.flat_descriptions.specs.Items.{interface_at, ItemsJoin};
+ghost use Rattle.description_types.specs.Items.{interface_at, ItemsJoin};
 ghost use Rattle.composition_tables.specs.Multi.{under};
 ghost use Rattle.composition_tables.specs.Trees.{IsTree};
 

@@ -2,7 +2,7 @@
 
 ghost use Rattle.std.specs.Prelude.{◌≡◌, nat_eq, IfOk, OnOk};
 ghost use Rattle.indexmap.specs.IndexMap.{get};
-ghost use Rattle.flat_descriptions.specs.Growing.{AnyOf, Grown};
+ghost use Rattle.description_types.specs.Growing.{AnyOf, Grown};
 ghost use Rattle.end_crossing.specs.PortLinks.{IsPairLink, IsCrossLink};
 ghost use Rattle.end_search.specs.Sides.{AreOf};
 ghost use Rattle.end_crossing.specs.Crossings.{HaveFirsts, HaveSeconds, IsAdding, IsBetween};

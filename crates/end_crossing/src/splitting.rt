@@ -3,7 +3,7 @@
 ghost use Rattle.std.specs.Prelude.{◌≡◌, ◌≤◌, IfOk, OnOk};
 ghost use Rattle.composition_tables.specs.Ends.{ends, inner_ends};
 ghost use Rattle.end_search.specs.Gates.{gate_ends, IsShallow};
-ghost use Rattle.flat_descriptions.specs.Growing.{Grown};
+ghost use Rattle.description_types.specs.Growing.{Grown};
 ghost use Rattle.end_crossing.specs.PortLinks.{IsCrossLink};
 ghost use Rattle.end_crossing.specs.Crossings.{IsAdding};
 ghost use Rattle.end_crossing.specs.Parts.{part_ends};

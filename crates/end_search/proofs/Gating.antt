@@ -7,7 +7,7 @@ use Rattle.end_search.specs.declared.seek.Found.{Found}
 use Rattle.end_search.specs.declared.seek.Wanted.{Wanted}
 use Rattle.composition_tables.specs.declared.tree.PortEnd.{PortEnd}
 use Rattle.end_search.specs.Gates.{gate_ends}
-use Rattle.flat_descriptions.specs.Members.{Among}
+use Rattle.description_types.specs.Members.{Among}
 use Rattle.end_search.specs.Wishes.{AreFound}
 
 pub at_gate : (d : Description) (w : Wanted) (gate is : Gate) → gate ≡ is → (found : Found) → AreFound w (gate_ends d is) found → AreFound w (gate_ends d gate) found

@@ -5,9 +5,9 @@ use Rattle.std.proofs.lemmas.List.{take_more, map-append}
 use Rattle.std.specs.Cmp.Lexicographic.{bytes_decides}
 use Rattle.description_types.specs.declared.description.Description.{Description}
 use Rattle.end_search.specs.declared.interfaces.Listed.{Listed}
-use Rattle.flat_descriptions.specs.Items.{interface_at}
+use Rattle.description_types.specs.Items.{interface_at}
 use Rattle.end_search.specs.Matching.{AreListed}
-use Rattle.flat_descriptions.specs.Members.{Among}
+use Rattle.description_types.specs.Members.{Among}
 use Rattle.end_search.specs.Sharing.{interface_keys, keys_of, same_item}
 use Rattle.composition_tables.proofs.Members.{cases}
 use Rattle.end_search.proofs.SameNames.{listed_at}

@@ -5,8 +5,8 @@ use Rattle.std.specs.HashMap.{HashMap, Updates, get}
 use Rattle.description_types.specs.declared.description.Description.{Description}
 use Rattle.description_types.specs.declared.description.PrototypeType.TheVariants as type
 use Rattle.composition_tables.specs.declared.tree.PortEnd.{PortEnd}
-use Rattle.flat_descriptions.specs.Growing.{AnyOf}
-use Rattle.flat_descriptions.specs.Members.{Among}
+use Rattle.description_types.specs.Growing.{AnyOf}
+use Rattle.description_types.specs.Members.{Among}
 use Rattle.composition_tables.specs.Multi.{under}
 use Rattle.end_search.specs.declared.gates.Gate.{Gate}
 use Rattle.end_search.specs.declared.gates.Gate.TheVariants.{Composition}

@@ -9,9 +9,9 @@ use Rattle.interface_types.specs.declared.interface.DataElement.{DataElement}
 use Rattle.interface_types.specs.declared.interface.InterfaceKind.{InterfaceKind}
 use Rattle.interface_types.specs.declared.interface.InterfaceKind.TheVariants.{SenderReceiver, ClientServer, ModeSwitch}
 use Rattle.interface_types.specs.declared.interface.Operation.{Operation}
-use Rattle.flat_descriptions.specs.Items.{interface_at, element_names, operation_names, IsSameName, ItemsJoin}
+use Rattle.description_types.specs.Items.{interface_at, element_names, operation_names, IsSameName, ItemsJoin}
 use Rattle.end_search.specs.Matching.{AreListed, turned}
-use Rattle.flat_descriptions.specs.Members.{Among}
+use Rattle.description_types.specs.Members.{Among}
 use Rattle.end_search.specs.Tables.{item_names}
 use Rattle.composition_tables.proofs.Members.{left, right, cases}
 

@@ -10,9 +10,9 @@ use Rattle.description_types.specs.declared.description.PrototypeType.TheVariant
 use Rattle.end_search.specs.declared.below.Search.{Search}
 use Rattle.composition_tables.specs.declared.tree.PortEnd.{PortEnd}
 use Rattle.end_search.specs.Below.{Stays, IsCovered, IsInnerCovered, IsFollowed, IsSearching, IsDone}
-use Rattle.flat_descriptions.specs.Connectors.{interface_of}
+use Rattle.description_types.specs.Connectors.{interface_of}
 use Rattle.composition_tables.specs.Ends.{ends, own_end, inner_ends, inner_ports, number_from, offset}
-use Rattle.flat_descriptions.specs.Members.{Among}
+use Rattle.description_types.specs.Members.{Among}
 use Rattle.composition_tables.proofs.Following.{inner_cases}
 use Rattle.composition_tables.proofs.Members.{left, cases, place, unflat}
 use Rattle.indexmap.specs.IndexSet.{insert_key}

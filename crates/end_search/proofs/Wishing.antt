@@ -3,8 +3,8 @@ use Rattle.std.proofs.Common.{◌≡◌, ℕ, List, Bool, true, false, ◌||◌,
 use Rattle.std.specs.Global.{Global}
 use Rattle.description_types.specs.declared.description.Description.{Description}
 use Rattle.composition_tables.specs.declared.tree.PortEnd.{PortEnd}
-use Rattle.flat_descriptions.specs.Growing.{AnyOf}
-use Rattle.flat_descriptions.specs.Members.{Among}
+use Rattle.description_types.specs.Growing.{AnyOf}
+use Rattle.description_types.specs.Members.{Among}
 use Rattle.std.proofs.lemmas.Bool.{eqb-true, and_parts, or_parts}
 use Rattle.std.proofs.lemmas.List.{take_all, take-append-drop, map-append}
 use Rattle.std.specs.Cmp.Lexicographic.{pointwise}
@@ -18,10 +18,10 @@ use Rattle.end_search.specs.declared.seek.Found.{Found}
 use Rattle.end_search.specs.declared.seek.Known.{Known}
 use Rattle.end_search.specs.declared.seek.Wanted.{Wanted}
 use Rattle.end_search.specs.declared.seek.Wanted.TheVariants.{Anything}
-use Rattle.flat_descriptions.specs.Connectors.{interface_of}
+use Rattle.description_types.specs.Connectors.{interface_of}
 use Rattle.composition_tables.specs.Counts.{IsCounted, count_in}
 use Rattle.composition_tables.specs.Ends.{ends, own_end, inner_ends, inner_ports, number_from, offset}
-use Rattle.flat_descriptions.specs.Paths.{type_in}
+use Rattle.description_types.specs.Paths.{type_in}
 use Rattle.composition_tables.specs.Inner.{port_of, AreInner}
 use Rattle.end_search.specs.Wishes.{end_from, AreFound, IsBelowPrototype, IsCutBelow, IsWanted, IsEnd, IsInnerEnd, IsKnown, Sought}
 use Rattle.composition_tables.proofs.Following.{dead_spot, inner_is}

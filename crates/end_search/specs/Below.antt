@@ -5,10 +5,10 @@ use Rattle.description_types.specs.declared.description.InnerPort.{InnerPort}
 use Rattle.description_types.specs.declared.description.PrototypeType.{PrototypeType}
 use Rattle.description_types.specs.declared.description.PrototypeType.TheVariants.{Component, Composition}
 use Rattle.end_search.specs.declared.below.Search.{Search}
-use Rattle.flat_descriptions.specs.Connectors.{interface_of}
+use Rattle.description_types.specs.Connectors.{interface_of}
 use Rattle.composition_tables.specs.Ends.{inner_ports}
-use Rattle.flat_descriptions.specs.Members.{Among}
-use Rattle.flat_descriptions.specs.Paths.{type_in}
+use Rattle.description_types.specs.Members.{Among}
+use Rattle.description_types.specs.Paths.{type_in}
 
 -- nothing that a search has seen or found is lost, and what it sees comes last
 pub record Stays (before after : Search) : Type 0 where

@@ -4,8 +4,8 @@ use Rattle.interface_types.specs.declared.interface.Interface.{Interface}
 use Rattle.description_types.specs.declared.description.Description.{Description}
 use Rattle.end_search.specs.declared.interfaces.Listed.{Listed}
 use Rattle.end_search.specs.Tables.{item_names}
-use Rattle.flat_descriptions.specs.Items.{interface_at, ItemsJoin}
-use Rattle.flat_descriptions.specs.Members.{Among}
+use Rattle.description_types.specs.Items.{interface_at, ItemsJoin}
+use Rattle.description_types.specs.Members.{Among}
 
 -- 32 bits number the items of each interface
 pub record HasFewItems (d : Description) : Type 0 where

@@ -8,7 +8,7 @@ use Rattle.end_search.specs.declared.gates.Gate.{Gate}
 use Rattle.end_search.specs.declared.near.Near.{Near}
 use Rattle.end_search.specs.declared.seek.Wanted.{Wanted}
 use Rattle.composition_tables.specs.declared.tree.PortEnd.{PortEnd}
-use Rattle.flat_descriptions.specs.Members.{Among}
+use Rattle.description_types.specs.Members.{Among}
 use Rattle.end_search.specs.Gates.{gate_ends}
 use Rattle.end_search.specs.Wishes.{IsWanted}
 

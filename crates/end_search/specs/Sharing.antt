@@ -6,8 +6,8 @@ use Rattle.description_types.specs.declared.description.Description.{Description
 use Rattle.indexmap.specs.IndexMap.{IndexMap, get}
 use Rattle.interface_types.specs.declared.interface.InterfaceKind.{InterfaceKind}
 use Rattle.interface_types.specs.declared.interface.InterfaceKind.TheVariants.{SenderReceiver, ClientServer, ModeSwitch}
-use Rattle.flat_descriptions.specs.Items.{element_names, operation_names, interface_at}
-use Rattle.flat_descriptions.specs.Members.{Among}
+use Rattle.description_types.specs.Items.{element_names, operation_names, interface_at}
+use Rattle.description_types.specs.Members.{Among}
 use Rattle.composition_tables.specs.Multi.{under}
 
 -- what the items of an interface are joined by: the kind of the interface and the name; all mode elements by the same

@@ -6,7 +6,7 @@ use Rattle.end_search.specs.declared.gates.Gate.{Gate}
 use Rattle.end_search.specs.declared.sides.Side.{Side}
 use Rattle.composition_tables.specs.declared.tree.PortEnd.{PortEnd}
 use Rattle.end_search.specs.Gates.{gate_ends}
-use Rattle.flat_descriptions.specs.Members.{Among}
+use Rattle.description_types.specs.Members.{Among}
 use Rattle.end_search.specs.Sharing.{IsIndexed}
 use Rattle.composition_tables.specs.Multi.{under}
 

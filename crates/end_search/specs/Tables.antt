@@ -6,8 +6,8 @@ use Rattle.indexmap.specs.IndexMap.{IndexMap, get}
 use Rattle.interface_types.specs.declared.interface.InterfaceKind.{InterfaceKind}
 use Rattle.interface_types.specs.declared.interface.InterfaceKind.TheVariants.{SenderReceiver, ClientServer, ModeSwitch}
 use Rattle.composition_tables.specs.declared.tree.PortEnd.{PortEnd}
-use Rattle.flat_descriptions.specs.Items.{element_names, operation_names}
-use Rattle.flat_descriptions.specs.Members.{Among}
+use Rattle.description_types.specs.Items.{element_names, operation_names}
+use Rattle.description_types.specs.Members.{Among}
 use Rattle.composition_tables.specs.Multi.{under}
 
 -- the names that are referred to

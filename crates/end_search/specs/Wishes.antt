@@ -11,9 +11,9 @@ use Rattle.end_search.specs.declared.seek.Wanted.{Wanted}
 use Rattle.end_search.specs.declared.seek.Wanted.TheVariants.{Anything, Only}
 use Rattle.composition_tables.specs.declared.tree.PortEnd.{PortEnd}
 use Rattle.composition_tables.specs.Ends.{ends, inner_ends}
-use Rattle.flat_descriptions.specs.Growing.{AnyOf}
+use Rattle.description_types.specs.Growing.{AnyOf}
 use Rattle.composition_tables.specs.Owners.{owner_from}
-use Rattle.flat_descriptions.specs.Members.{Among}
+use Rattle.description_types.specs.Members.{Among}
 use Rattle.composition_tables.specs.Multi.{under}
 use Rattle.composition_tables.specs.Inner.{port_of}
 

@@ -5,7 +5,7 @@ ghost use Rattle.composition_tables.specs.declared.tree.PortEnd.{PortEnd};
 ghost use Rattle.end_search.specs.Below.{Stays, IsCovered, IsInnerCovered, IsFollowed, IsDone};
 ghost use Rattle.composition_tables.specs.Ends.{ends};
 ghost use Rattle.end_search.specs.Gates.{gate_ends};
-ghost use Rattle.flat_descriptions.specs.Members.{Among};
+ghost use Rattle.description_types.specs.Members.{Among};
 ghost use Rattle.composition_tables.specs.Trees.{IsTree};
 
 use crate::gates::Gate;

@@ -1,7 +1,7 @@
 //! Interfaces, with the names by which their items are joined.
 
 ghost use Rattle.std.specs.Prelude.{◌≡◌, ◌<◌, ◌^◌, [], ◌∷◌, ℕ, List, length, map, IfOk};
-ghost use Rattle.flat_descriptions.specs.Items.{element_names, operation_names};
+ghost use Rattle.description_types.specs.Items.{element_names, operation_names};
 ghost use Rattle.end_search.specs.Sharing.{item_keys, keys_of};
 ghost use Rattle.end_search.specs.Tables.{names_of, item_names};
 

@@ -1,8 +1,8 @@
 //! Which items of two interfaces are joined.
 
 ghost use Rattle.std.specs.Prelude.{◌≡◌, ◌↔◌, ◌⊎◌, [], ◌∷◌, ℕ, IfOk, OnOk, Some};
-ghost use Rattle.flat_descriptions.specs.Items.{interface_at, ItemsJoin, IsSameName};
-ghost use Rattle.flat_descriptions.specs.Members.{Among};
+ghost use Rattle.description_types.specs.Items.{interface_at, ItemsJoin, IsSameName};
+ghost use Rattle.description_types.specs.Members.{Among};
 ghost use Rattle.end_search.specs.Matching.{AreListed, HasFewItems, turned};
 
 use crate::interfaces::{Listed, with_names};

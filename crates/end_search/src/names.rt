@@ -5,7 +5,7 @@ ghost use Rattle.std.specs.Borrow.{Bor};
 ghost use Rattle.indexmap.specs.IndexMap.{get};
 ghost use Rattle.end_search.specs.Tables.{names_of, same_name, ArePlaces};
 ghost use Rattle.composition_tables.specs.Multi.{under};
-ghost use Rattle.flat_descriptions.specs.Members.{Among};
+ghost use Rattle.description_types.specs.Members.{Among};
 
 use composition_tables::multi::add_under;
 use indexmap::IndexMap;

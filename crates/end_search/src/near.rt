@@ -4,7 +4,7 @@ ghost use Rattle.std.specs.Prelude.{◌≡◌, ◌≤◌, ◌+◌, false, IfOk, 
 ghost use Rattle.description_types.specs.declared.description.Description.{Description};
 ghost use Rattle.composition_tables.specs.declared.tree.PortEnd.{PortEnd};
 ghost use Rattle.composition_tables.specs.Ends.{ends};
-ghost use Rattle.flat_descriptions.specs.Members.{Among};
+ghost use Rattle.description_types.specs.Members.{Among};
 ghost use Rattle.composition_tables.specs.Trees.{IsTree};
 ghost use Rattle.end_search.specs.Gates.{gate_ends, IsShallow};
 ghost use Rattle.end_search.specs.Near.{AreKept, AreNear};

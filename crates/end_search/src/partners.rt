@@ -3,9 +3,9 @@
 ghost use Rattle.std.specs.Prelude.{◌≡◌, ◌↔◌, ◌⊎◌, ℕ, List, IfOk, OnOk};
 ghost use Rattle.std.specs.Borrow.{Bor};
 ghost use Rattle.indexmap.specs.IndexMap.{get};
-ghost use Rattle.flat_descriptions.specs.Items.{interface_at};
+ghost use Rattle.description_types.specs.Items.{interface_at};
 ghost use Rattle.end_search.specs.Matching.{AreListed};
-ghost use Rattle.flat_descriptions.specs.Members.{Among};
+ghost use Rattle.description_types.specs.Members.{Among};
 ghost use Rattle.end_search.specs.Sharing.{interface_keys, keys_of, same_item, IsIndexed, SharesKey, AreShared};
 ghost use Rattle.composition_tables.specs.Multi.{under};
 

@@ -6,7 +6,7 @@ ghost use Rattle.description_types.specs.declared.description.PrototypeType.{Pro
 ghost use Rattle.end_search.specs.declared.seek.Wanted.{Wanted};
 ghost use Rattle.composition_tables.specs.declared.tree.PortEnd.{PortEnd};
 ghost use Rattle.composition_tables.specs.Ends.{ends};
-ghost use Rattle.flat_descriptions.specs.Growing.{AnyOf};
+ghost use Rattle.description_types.specs.Growing.{AnyOf};
 ghost use Rattle.end_search.specs.Wishes.{end_from, AreFound, IsWanted, IsBelowPrototype, IsCutBelow, IsEnd, IsInnerEnd, IsKnown, Sought};
 ghost use Rattle.composition_tables.specs.Trees.{IsTree};
 

@@ -2,7 +2,7 @@
 
 ghost use Rattle.std.specs.Prelude.{◌≡◌, ◌<◌, ◌⊎◌, [], ℕ, List, IfOk, OnOk, length};
 ghost use Rattle.composition_tables.specs.declared.tree.PortEnd.{PortEnd};
-ghost use Rattle.flat_descriptions.specs.Members.{Among};
+ghost use Rattle.description_types.specs.Members.{Among};
 ghost use Rattle.end_search.specs.Gates.{gate_ends, IsShallow};
 ghost use Rattle.end_search.specs.Near.{AreNear};
 ghost use Rattle.end_search.specs.Wishes.{AreFound};

@@ -6,7 +6,7 @@ use Rattle.std.specs.List.{sum_by}
 use Rattle.std.specs.Option.{option_map_or}
 use Rattle.description_types.specs.declared.component.Component.{Component}
 use Rattle.description_types.specs.declared.description.Description.{Description}
-use Rattle.flat_descriptions.specs.declared.flat.Instance.{Instance}
+use Rattle.description_types.specs.declared.flat.Instance.{Instance}
 use Rattle.event_mapping.specs.Guard.{at_most}
 use Rattle.event_mapping.proofs.Totals.{looked_up}
 

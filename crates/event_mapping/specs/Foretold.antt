@@ -1,7 +1,7 @@
 -- What the counts tell before anything is listed.
 use Rattle.std.specs.Prelude.{◌≡◌, ◌≤◌, ◌+◌, ℕ, length, Bool, true, false}
 use Rattle.description_types.specs.declared.description.Description.{Description}
-use Rattle.flat_descriptions.specs.declared.flat.Flat.{Flat}
+use Rattle.description_types.specs.declared.flat.Flat.{Flat}
 use Rattle.plan_definitions.specs.Planned.{Planned, plan_of}
 use Rattle.plan_definitions.specs.PlanRules.{is_too_large}
 

@@ -1,6 +1,6 @@
 -- The lists of a plan, piece by piece.
 use Rattle.std.specs.Prelude.{◌≡◌, map}
-use Rattle.flat_descriptions.specs.declared.flat.Flat.{Flat}
+use Rattle.description_types.specs.declared.flat.Flat.{Flat}
 use Rattle.description_types.specs.declared.description.Description.{Description}
 use Rattle.plan_definitions.specs.Elements.{elem_seen, elements, leaders}
 use Rattle.plan_definitions.specs.ElementGroups.{groups}

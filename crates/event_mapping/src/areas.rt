@@ -5,8 +5,7 @@ ghost use Rattle.plan_definitions.specs.Lists.{from};
 ghost use Rattle.plan_definitions.specs.Planned.{area_of, areas, areas_at, named_areas};
 
 use bus_semantics::AreaPlan;
-use description_types::Description;
-use flat_descriptions::{Flat, Instance};
+use description_types::{Description, Flat, Instance};
 use plan_numbers::position;
 use rte_text::{Memory, Text};
 use std::alloc::Global;

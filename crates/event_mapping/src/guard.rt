@@ -8,8 +8,9 @@ ghost use Rattle.event_mapping.specs.Foretold.{IsForetold};
 ghost use Rattle.event_mapping.specs.Guard.{at_most, counted_with, events_of_instance, item_count, items_at, items_in, items_of_ports, outer_points, point_count, points_at, points_in, points_of_runnable};
 
 use crate::size::{EVENTS, POINTS, THINGS};
-use description_types::{Access, Component, Description, Port, PortKind, Runnable};
-use flat_descriptions::{Flat, Instance, Join};
+use description_types::{
+    Access, Component, Description, Flat, Instance, Join, Port, PortKind, Runnable,
+};
 use interface_types::{InterfaceKind, TypeTable};
 use rte_text::Memory;
 use runnable_lang::AccessKind;

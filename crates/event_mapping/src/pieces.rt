@@ -13,7 +13,7 @@ use crate::areas::areas_of_plan;
 use bus_semantics::{
     AreaPlan, ElemPlan, EventPlan, MachinePlan, ModePortPlan, PointPlan, ServerPlan,
 };
-use flat_descriptions::Instance;
+use description_types::Instance;
 use plan_elements::{element_plans, group_lists, groups_over};
 use plan_numbers::Source;
 use plan_services::{

@@ -5,9 +5,9 @@ use Rattle.std.specs.Option.{option_map_or}
 use Rattle.description_types.specs.declared.description.Composition.{Composition}
 use Rattle.description_types.specs.declared.description.Connector.{Connector}
 use Rattle.description_types.specs.declared.description.Description.{Description}
-use Rattle.flat_descriptions.specs.Connectors.{IsBrokenConnector, IsFirstBroken, connectors_of, lets_join}
-use Rattle.flat_descriptions.specs.Firsts.{IsFirst}
-use Rattle.flat_descriptions.specs.Members.{Among}
+use Rattle.description_types.specs.Connectors.{IsBrokenConnector, IsFirstBroken, connectors_of, lets_join}
+use Rattle.description_types.specs.Firsts.{IsFirst}
+use Rattle.description_types.specs.Members.{Among}
 use Rattle.flat_laws.proofs.Deciding.{among_decided, as_well, connector_decided, either, false_decided, first_found}
 
 module _ (d : Description) where

@@ -4,8 +4,8 @@ use Rattle.std.proofs.lemmas.Bool.{eqb-true, eq-eqb}
 use Rattle.description_types.specs.declared.description.Connector.{Connector}
 use Rattle.description_types.specs.declared.description.Connector.TheVariants.{Assembly, Delegation}
 use Rattle.description_types.specs.declared.description.InnerPort.{InnerPort}
-use Rattle.flat_descriptions.specs.Firsts.{IsFirst}
-use Rattle.flat_descriptions.specs.Members.{Among}
+use Rattle.description_types.specs.Firsts.{IsFirst}
+use Rattle.description_types.specs.Members.{Among}
 
 pub bool_decided : (b : Bool) → Dec (b ≡ true)
 bool_decided true = yes refl

@@ -6,9 +6,9 @@ use Rattle.description_types.specs.declared.description.Description.{Description
 use Rattle.description_types.specs.declared.description.Prototype.{Prototype}
 use Rattle.description_types.specs.declared.description.PrototypeType.{PrototypeType}
 use Rattle.description_types.specs.declared.description.PrototypeType.TheVariants.{Component, Composition}
-use Rattle.flat_descriptions.specs.Members.{Among}
-use Rattle.flat_descriptions.specs.Paths.{prototypes_of, type_at, type_in}
-use Rattle.flat_descriptions.specs.Places.{IsTooDeep}
+use Rattle.description_types.specs.Members.{Among}
+use Rattle.description_types.specs.Paths.{prototypes_of, type_at, type_in}
+use Rattle.description_types.specs.Places.{IsTooDeep}
 use Rattle.flat_laws.proofs.Deciding.{as_well, bool_decided, both, either, nat_decided, some_of}
 use Rattle.flat_laws.proofs.Graphs.{Steps, reached, reaches, reaches_all, steps_join}
 use Rattle.flat_laws.proofs.Nesting.{holds, in_below, known, nodes, path_of, way_of}

@@ -1,12 +1,12 @@
 -- Each description is made flat, or is refused by rule 9, 10 or 11.
 use Rattle.std.proofs.Common.{◌≡◌, ℕ, ◌≤◌, List, length, codes, true, nat_le, Option, Some, None, ◌⊎◌, inl, inr, refl, arith}
 use Rattle.description_types.specs.declared.description.Description.{Description}
-use Rattle.flat_descriptions.specs.Connectors.{IsFirstBroken}
-use Rattle.flat_descriptions.specs.Firsts.{IsFirst}
-use Rattle.flat_descriptions.specs.Flattening.{IsRefusedAt, KeepsLimits, KeepsNesting, composition_place, connector_place}
-use Rattle.flat_descriptions.specs.Instances.{instances, names_env}
-use Rattle.flat_descriptions.specs.Paths.{ContainsItself}
-use Rattle.flat_descriptions.specs.Places.{places}
+use Rattle.description_types.specs.Connectors.{IsFirstBroken}
+use Rattle.description_types.specs.Firsts.{IsFirst}
+use Rattle.description_types.specs.Flattening.{IsRefusedAt, KeepsLimits, KeepsNesting, composition_place, connector_place}
+use Rattle.description_types.specs.Instances.{instances, names_env}
+use Rattle.description_types.specs.Paths.{ContainsItself}
+use Rattle.description_types.specs.Places.{places}
 use Rattle.flat_laws.specs.Outcomes.{HasFlat, HasRefusal}
 use Rattle.flat_laws.proofs.Broken.{first_broken}
 use Rattle.flat_laws.proofs.Deciding.{as_well, bool_decided, both, false_decided, refused}

@@ -13,16 +13,16 @@ use Rattle.description_types.specs.declared.description.PrototypeType.TheVariant
 use Rattle.interface_types.specs.declared.interface.Interface.{Interface}
 use Rattle.interface_types.specs.declared.interface.InterfaceKind.{InterfaceKind}
 use Rattle.interface_types.specs.declared.interface.InterfaceKind.TheVariants.{SenderReceiver, ClientServer, ModeSwitch}
-use Rattle.flat_descriptions.specs.declared.flat.End.{End}
-use Rattle.flat_descriptions.specs.declared.flat.Join.{Join}
-use Rattle.flat_descriptions.specs.Connectors.{interface_of, ports_of}
-use Rattle.flat_descriptions.specs.Growing.{IsPastLimit}
-use Rattle.flat_descriptions.specs.Items.{ItemsJoin, element_names, interface_at, operation_names}
-use Rattle.flat_descriptions.specs.Joined.{IsJoined, Stand, interface_below, stand_in}
-use Rattle.flat_descriptions.specs.Members.{Among, sum_of}
-use Rattle.flat_descriptions.specs.Orders.{join_order}
-use Rattle.flat_descriptions.specs.Paths.{type_at}
-use Rattle.flat_descriptions.specs.Places.{Place, places}
+use Rattle.description_types.specs.declared.flat.End.{End}
+use Rattle.description_types.specs.declared.flat.Join.{Join}
+use Rattle.description_types.specs.Connectors.{interface_of, ports_of}
+use Rattle.description_types.specs.Growing.{IsPastLimit}
+use Rattle.description_types.specs.Items.{ItemsJoin, element_names, interface_at, operation_names}
+use Rattle.description_types.specs.Joined.{IsJoined, Stand, interface_below, stand_in}
+use Rattle.description_types.specs.Members.{Among, sum_of}
+use Rattle.description_types.specs.Orders.{join_order}
+use Rattle.description_types.specs.Paths.{type_at}
+use Rattle.description_types.specs.Places.{Place, places}
 use Rattle.composition_tables.proofs.Members.{flat}
 use Rattle.flat_laws.proofs.Nesting.{below, in_below}
 use Rattle.flat_laws.proofs.Sorting.{few_apart, is_sorted, join_exact, join_total, sorted, sorted_apart, sorted_members}

@@ -8,9 +8,9 @@ use Rattle.description_types.specs.declared.description.Description.{Description
 use Rattle.description_types.specs.declared.description.Prototype.{Prototype}
 use Rattle.description_types.specs.declared.description.PrototypeType.{PrototypeType}
 use Rattle.description_types.specs.declared.description.PrototypeType.TheVariants.{Component, Composition}
-use Rattle.flat_descriptions.specs.Firsts.{IsFirst}
-use Rattle.flat_descriptions.specs.Members.{Among}
-use Rattle.flat_descriptions.specs.Paths.{ContainsItself, is_composition, prototypes_of, type_at, type_in}
+use Rattle.description_types.specs.Firsts.{IsFirst}
+use Rattle.description_types.specs.Members.{Among}
+use Rattle.description_types.specs.Paths.{ContainsItself, is_composition, prototypes_of, type_at, type_in}
 use Rattle.flat_laws.proofs.Deciding.{as_well, bool_decided, first_found}
 use Rattle.flat_laws.proofs.Graphs.{Steps, reached, reaches, reaches_all}
 

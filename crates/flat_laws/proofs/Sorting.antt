@@ -7,10 +7,10 @@ use Rattle.std.specs.Cmp.{IsTotalOrder, unsigned_ties}
 use Rattle.std.specs.List.{AllByRecursion}
 use Rattle.std.specs.List.Sorted.{IsStrictlySortedBy}
 use Rattle.std.specs.Ordering.{is_eq, nat_cmp, ordering_reverse, ordering_then}
-use Rattle.flat_descriptions.specs.declared.flat.End.{End}
-use Rattle.flat_descriptions.specs.declared.flat.Join.{Join}
-use Rattle.flat_descriptions.specs.Members.{AllApart, Among}
-use Rattle.flat_descriptions.specs.Orders.{end_order, instance_order, join_order}
+use Rattle.description_types.specs.declared.flat.End.{End}
+use Rattle.description_types.specs.declared.flat.Join.{Join}
+use Rattle.description_types.specs.Members.{AllApart, Among}
+use Rattle.description_types.specs.Orders.{end_order, instance_order, join_order}
 use Rattle.composition_tables.proofs.Members.{cases, left, right}
 
 -- ---- by an order that tells different things apart

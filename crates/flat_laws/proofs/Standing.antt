@@ -10,12 +10,12 @@ use Rattle.description_types.specs.declared.description.PrototypeType.{Prototype
 use Rattle.description_types.specs.declared.description.PrototypeType.TheVariants.{Component, Composition}
 use Rattle.interface_types.specs.declared.interface.InterfaceKind.{InterfaceKind}
 use Rattle.interface_types.specs.declared.interface.InterfaceKind.TheVariants.{SenderReceiver, ClientServer, ModeSwitch}
-use Rattle.flat_descriptions.specs.declared.flat.Join.{Join}
-use Rattle.flat_descriptions.specs.Connectors.{connectors_of, kind_of, lets_join}
-use Rattle.flat_descriptions.specs.Items.{IsSameName, ItemsJoin, element_names, operation_names}
-use Rattle.flat_descriptions.specs.Joined.{Assembles, Delegates, IsChain, IsJoined, IsOutside, Stand, StandsJoin, interface_below, stand_in}
-use Rattle.flat_descriptions.specs.Members.{Among}
-use Rattle.flat_descriptions.specs.Paths.{type_at}
+use Rattle.description_types.specs.declared.flat.Join.{Join}
+use Rattle.description_types.specs.Connectors.{connectors_of, kind_of, lets_join}
+use Rattle.description_types.specs.Items.{IsSameName, ItemsJoin, element_names, operation_names}
+use Rattle.description_types.specs.Joined.{Assembles, Delegates, IsChain, IsJoined, IsOutside, Stand, StandsJoin, interface_below, stand_in}
+use Rattle.description_types.specs.Members.{Among}
+use Rattle.description_types.specs.Paths.{type_at}
 use Rattle.flat_laws.proofs.Deciding.{among_decided, as_well, bool_decided, both, connector_decided, either, list_decided, nat_decided, some_of}
 use Rattle.flat_laws.proofs.Ups.{below_ups, ups, ups_below}
 

@@ -8,11 +8,11 @@ use Rattle.description_types.specs.declared.description.Description.{Description
 use Rattle.description_types.specs.declared.description.InnerPort.{InnerPort}
 use Rattle.description_types.specs.declared.description.PrototypeType.{PrototypeType}
 use Rattle.description_types.specs.declared.description.PrototypeType.TheVariants.{Component, Composition}
-use Rattle.flat_descriptions.specs.Connectors.{connectors_of, lets_join}
-use Rattle.flat_descriptions.specs.Joined.{Delegates, IsBelow, Stand}
-use Rattle.flat_descriptions.specs.Joined.IsBelow.{itself, further}
-use Rattle.flat_descriptions.specs.Members.{Among}
-use Rattle.flat_descriptions.specs.Paths.{type_at}
+use Rattle.description_types.specs.Connectors.{connectors_of, lets_join}
+use Rattle.description_types.specs.Joined.{Delegates, IsBelow, Stand}
+use Rattle.description_types.specs.Joined.IsBelow.{itself, further}
+use Rattle.description_types.specs.Members.{Among}
+use Rattle.description_types.specs.Paths.{type_at}
 use Rattle.composition_tables.proofs.Members.{flat, unflat}
 
 module _ (d : Description) where

@@ -5,8 +5,8 @@ use Rattle.std.proofs.lemmas.Bool.{eqb-true, eq-eqb, and_parts}
 use Rattle.std.specs.List.{list_all, list_any}
 use Rattle.std.specs.Map.{lookup, values_of}
 use Rattle.std.specs.Option.{option_eq, option_map_or, unwrap_or}
-use Rattle.flat_descriptions.specs.declared.flat.End.{End}
-use Rattle.flat_descriptions.specs.declared.flat.Join.{Join}
+use Rattle.description_types.specs.declared.flat.End.{End}
+use Rattle.description_types.specs.declared.flat.Join.{Join}
 use Rattle.join_search.specs.declared.partners.Partners.{Partners}
 use Rattle.plan_definitions.specs.Joins.{same_end, partners, are_several}
 use Rattle.join_search.specs.Partners.{added, has_several, summary, with_one, key_of, same_key, Key}

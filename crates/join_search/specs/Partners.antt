@@ -3,8 +3,8 @@ use Rattle.std.specs.Prelude.{◌≡◌, ℕ, List, [], ◌∷◌, Bool, false, 
 use Rattle.std.specs.List.{list_any}
 use Rattle.std.specs.Option.{option_eq, option_map_or}
 use Rattle.indexmap.specs.IndexMap.{IndexMap, get}
-use Rattle.flat_descriptions.specs.declared.flat.End.{End}
-use Rattle.flat_descriptions.specs.declared.flat.Join.{Join}
+use Rattle.description_types.specs.declared.flat.End.{End}
+use Rattle.description_types.specs.declared.flat.Join.{Join}
 use Rattle.join_search.specs.declared.partners.Partners.{Partners}
 use Rattle.join_search.specs.declared.partners.Side.{Side}
 use Rattle.join_search.specs.declared.partners.Side.TheVariants as side

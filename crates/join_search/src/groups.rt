@@ -1,14 +1,14 @@
 //! Groups of data elements that joins connect.
 
 ghost use Rattle.std.specs.Prelude.{◌≡◌, ◌&&◌, ◌↔◌, ◌||◌, IfOk, IsTrue, OnOk};
-ghost use Rattle.flat_descriptions.specs.declared.flat.End.{End};
+ghost use Rattle.description_types.specs.declared.flat.End.{End};
 ghost use Rattle.indexmap.specs.IndexSet.{contains};
 ghost use Rattle.plan_definitions.specs.JoinGroups.{IsManyToMany};
 ghost use Rattle.plan_definitions.specs.Joins.{is_crowded, is_many_to_many};
 ghost use Rattle.join_search.specs.Partners.{key_of, same_key, Key};
 
 use crate::partners::{Degrees, Key, key_of_end};
-use flat_descriptions::{End, Join};
+use description_types::{End, Join};
 use indexmap::IndexSet;
 use rte_text::Memory;
 use std::alloc::Global;

@@ -3,7 +3,7 @@
 ghost use Rattle.std.specs.Prelude.{◌≡◌};
 ghost use Rattle.plan_definitions.specs.JoinedItems.{end_of};
 
-use flat_descriptions::End;
+use description_types::End;
 use std::marker::Model;
 
 /// An item of a port, of an instance or of the environment, by its positions in memory. Clauses see it as an end.
@@ -15,7 +15,7 @@ pub struct Item {
 }
 
 impl Model for Item {
-    ghost use Rattle.flat_descriptions.specs.declared.flat.End.{End};
+    ghost use Rattle.description_types.specs.declared.flat.End.{End};
 
     ghost Value = { End };
 

@@ -1,8 +1,8 @@
 //! What rule 15 forbids.
 
 ghost use Rattle.std.specs.Prelude.{◌≡◌, ◌↔◌, List, true};
-ghost use Rattle.flat_descriptions.specs.declared.flat.End.{End};
-ghost use Rattle.flat_descriptions.specs.declared.flat.Join.{Join};
+ghost use Rattle.description_types.specs.declared.flat.End.{End};
+ghost use Rattle.description_types.specs.declared.flat.Join.{Join};
 ghost use Rattle.plan_definitions.specs.JoinGroups.{IsManyToMany};
 ghost use Rattle.plan_definitions.specs.Joins.{is_many_to_many};
 

@@ -1,14 +1,14 @@
 //! Who is joined with an end.
 
 ghost use Rattle.std.specs.Prelude.{◌≡◌, ◌&&◌, IfOk, IsTrue, OnOk, Some, false, is_none as is_absent, not};
-ghost use Rattle.flat_descriptions.specs.declared.flat.End.{End};
+ghost use Rattle.description_types.specs.declared.flat.End.{End};
 ghost use Rattle.indexmap.specs.IndexMap.{Updates, get};
 ghost use Rattle.plan_definitions.specs.Joins.{are_several, crowds, is_none, providers, same_end};
 ghost use Rattle.join_search.specs.declared.partners.Side.TheVariants as side;
 ghost use Rattle.join_search.specs.Partners.{AreKept, Key, MayBeKept, has_several, key_of, other, own, same_key, with_one};
 
 use crate::item::Item;
-use flat_descriptions::{End, Join};
+use description_types::{End, Join};
 use indexmap::IndexMap;
 use rte_text::Memory;
 use std::alloc::Global;

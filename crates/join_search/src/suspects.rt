@@ -1,7 +1,7 @@
 //! The ports at which an end breaks a rule, so that others need not be looked through item by item.
 
 ghost use Rattle.std.specs.Prelude.{◌≡◌, ◌&&◌, ◌||◌, IfOk, OnOk, false, true};
-ghost use Rattle.flat_descriptions.specs.declared.flat.End.{End};
+ghost use Rattle.description_types.specs.declared.flat.End.{End};
 ghost use Rattle.indexmap.specs.IndexSet.{contains};
 ghost use Rattle.plan_definitions.specs.Joins.{are_several, is_many_to_many, providers};
 ghost use Rattle.join_search.specs.Partners.{key_of, same_key};
@@ -10,7 +10,7 @@ ghost use Rattle.join_search.specs.Suspects.{PortKey, among_at, port_of, same_po
 use crate::groups::many_to_many;
 use crate::item::Item;
 use crate::partners::{Degrees, Key, key_of, key_of_end};
-use flat_descriptions::{End, Join};
+use description_types::{End, Join};
 use indexmap::IndexSet;
 use rte_text::Memory;
 use std::alloc::Global;

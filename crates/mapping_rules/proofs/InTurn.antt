@@ -4,8 +4,8 @@ use Rattle.std.specs.Option.{option_or}
 use Rattle.plan_definitions.specs.Firsts.{first_of}
 use Rattle.description_types.specs.declared.component.Component.{Component}
 use Rattle.description_types.specs.declared.description.Description.{Description}
-use Rattle.flat_descriptions.specs.declared.flat.Flat.{Flat}
-use Rattle.flat_descriptions.specs.declared.flat.Instance.{Instance}
+use Rattle.description_types.specs.declared.flat.Flat.{Flat}
+use Rattle.description_types.specs.declared.flat.Instance.{Instance}
 use Rattle.plan_definitions.specs.Parts.{component_of}
 
 module _ {X : Type 0} (d : Description) (g : ℕ → Component → Option X) where

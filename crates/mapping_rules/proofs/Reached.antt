@@ -8,9 +8,9 @@ use Rattle.description_types.specs.declared.component.Access.{Access}
 use Rattle.description_types.specs.declared.component.Component.{Component}
 use Rattle.description_types.specs.declared.component.Runnable.{Runnable}
 use Rattle.description_types.specs.declared.description.Description.{Description}
-use Rattle.flat_descriptions.specs.declared.flat.Flat.{Flat}
-use Rattle.flat_descriptions.specs.declared.flat.Instance.{Instance}
-use Rattle.flat_descriptions.specs.Members.{Among}
+use Rattle.description_types.specs.declared.flat.Flat.{Flat}
+use Rattle.description_types.specs.declared.flat.Instance.{Instance}
+use Rattle.description_types.specs.Members.{Among}
 use Rattle.plan_definitions.specs.Keys.{same_pair}
 use Rattle.plan_definitions.specs.Parts.{component_of}
 use Rattle.mapping_rules.specs.Edges.{HaveCircle, HaveRanks, IsDecided, Way}

@@ -4,7 +4,7 @@ use Rattle.std.proofs.lemmas.Option.{same_Some}
 use Rattle.rte_text.specs.declared.refusal.Refused.{Refused}
 use Rattle.rte_text.specs.declared.refusal.Refused.TheVariants.{Rule, Memory}
 use Rattle.description_types.specs.declared.description.Description.{Description}
-use Rattle.flat_descriptions.specs.declared.flat.Flat.{Flat}
+use Rattle.description_types.specs.declared.flat.Flat.{Flat}
 use Rattle.plan_definitions.specs.Telling.{Tells as Says}
 use Rattle.plan_definitions.specs.MappingRefusals.{IsAfter, IsOfTasks, IsRefusal, Tells, mapping_text, of_events}
 use Rattle.plan_definitions.specs.MappingRules.{ReachesItself}

@@ -4,7 +4,7 @@ use Rattle.std.specs.List.{flat_map}
 use Rattle.std.specs.Option.{option_map_or, option_or}
 use Rattle.description_types.specs.declared.description.Description.{Description}
 use Rattle.description_types.specs.declared.description.MappedEvent.{MappedEvent}
-use Rattle.flat_descriptions.specs.declared.flat.Flat.{Flat}
+use Rattle.description_types.specs.declared.flat.Flat.{Flat}
 use Rattle.plan_definitions.specs.Firsts.{first_of, unless}
 use Rattle.plan_definitions.specs.Mapped.{named_by}
 use Rattle.plan_definitions.specs.MappingRules.{unnamed}

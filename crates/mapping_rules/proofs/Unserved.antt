@@ -10,9 +10,9 @@ use Rattle.runnable_lang.specs.declared.program.AccessKind.TheVariants as kind
 use Rattle.description_types.specs.declared.component.Access.{Access}
 use Rattle.description_types.specs.declared.component.Component.{Component}
 use Rattle.description_types.specs.declared.description.Description.{Description}
-use Rattle.flat_descriptions.specs.declared.flat.End.{End}
-use Rattle.flat_descriptions.specs.declared.flat.Flat.{Flat}
-use Rattle.flat_descriptions.specs.declared.flat.Instance.{Instance}
+use Rattle.description_types.specs.declared.flat.End.{End}
+use Rattle.description_types.specs.declared.flat.Flat.{Flat}
+use Rattle.description_types.specs.declared.flat.Instance.{Instance}
 use Rattle.plan_definitions.specs.Joined.{end_at, provider_of}
 use Rattle.plan_definitions.specs.Keys.{same_pair}
 use Rattle.plan_definitions.specs.Mapped.{invokes}

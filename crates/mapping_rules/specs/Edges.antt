@@ -1,7 +1,7 @@
 -- Edges between tasks, and circles of them.
 use Rattle.std.specs.Prelude.{◌≡◌, ◌<◌, ℕ, zero, suc, List, Bool, true, false, nat_eq}
 use Rattle.std.specs.List.{list_any}
-use Rattle.flat_descriptions.specs.Members.{Among}
+use Rattle.description_types.specs.Members.{Among}
 
 abbrev pub has_edge_to : ℕ → List (ℕ × ℕ) → Bool
 has_edge_to b edges = list_any (λ e. nat_eq b e.1) edges

@@ -2,7 +2,7 @@
 use Rattle.std.specs.Prelude.{ℕ, List, Option, option_map}
 use Rattle.description_types.specs.declared.component.Component.{Component}
 use Rattle.description_types.specs.declared.description.Description.{Description}
-use Rattle.flat_descriptions.specs.declared.flat.Flat.{Flat}
+use Rattle.description_types.specs.declared.flat.Flat.{Flat}
 use Rattle.mapping_rules.specs.declared.instances.InstanceRule.{InstanceRule}
 use Rattle.mapping_rules.specs.declared.instances.InstanceRule.TheVariants.{MappedOnce, OneTask, Direct}
 use Rattle.plan_definitions.specs.MappingRefusals.{event_text, runnable_text}

@@ -7,9 +7,9 @@ use Rattle.description_types.specs.declared.component.EventKind.{EventKind}
 use Rattle.description_types.specs.declared.component.EventKind.TheVariants.{OperationInvoked}
 use Rattle.description_types.specs.declared.description.Description.{Description}
 use Rattle.description_types.specs.declared.description.MappedEvent.{MappedEvent}
-use Rattle.flat_descriptions.specs.declared.flat.End.{End}
-use Rattle.flat_descriptions.specs.declared.flat.Flat.{Flat}
-use Rattle.flat_descriptions.specs.declared.flat.Join.{Join}
+use Rattle.description_types.specs.declared.flat.End.{End}
+use Rattle.description_types.specs.declared.flat.Flat.{Flat}
+use Rattle.description_types.specs.declared.flat.Join.{Join}
 use Rattle.plan_definitions.specs.Lists.{from}
 use Rattle.plan_definitions.specs.Mapped.{named_by}
 use Rattle.plan_definitions.specs.MappingRules.{tasks_of_event}

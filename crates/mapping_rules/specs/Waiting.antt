@@ -3,7 +3,7 @@ use Rattle.std.specs.Prelude.{ℕ, ◌+◌, List, [], ◌∷◌, Bool, false, �
 use Rattle.std.specs.Option.{option_map_or}
 use Rattle.description_types.specs.declared.component.Component.{Component}
 use Rattle.description_types.specs.declared.description.Description.{Description}
-use Rattle.flat_descriptions.specs.declared.flat.Flat.{Flat}
+use Rattle.description_types.specs.declared.flat.Flat.{Flat}
 use Rattle.plan_definitions.specs.Keys.{same_pair}
 use Rattle.plan_definitions.specs.MappingRules.{tasks_from, waits_by}
 

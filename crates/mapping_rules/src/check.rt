@@ -16,8 +16,7 @@ use crate::peeling::are_acyclic;
 use crate::places::{event_text, mapped_text, mapping_text, runnable_text};
 use crate::servers::Servers;
 use crate::waits::waits;
-use description_types::{Description, MappedEvent};
-use flat_descriptions::Flat;
+use description_types::{Description, Flat, MappedEvent};
 use rte_text::{Memory, Refusal, Refused, Text};
 use std::alloc::Global;
 

@@ -5,7 +5,7 @@ ghost use Rattle.std.specs.List.{flat_map, list_any};
 ghost use Rattle.plan_definitions.specs.Joined.{end_at, provider_of, same_end};
 ghost use Rattle.mapping_rules.specs.Listed.{triple, provided_for, outside_at};
 
-use flat_descriptions::{End, Flat, Join};
+use description_types::{End, Flat, Join};
 use plan_numbers::{Positions, Table};
 use rte_text::Memory;
 use std::alloc::Global;

@@ -3,8 +3,7 @@
 ghost use Rattle.std.specs.Prelude.{◌≡◌};
 
 use crate::mapped::Mapped;
-use description_types::Description;
-use flat_descriptions::Flat;
+use description_types::{Description, Flat};
 
 /// The mapping of a description made flat, which keeps its rules, with its events as they are found by their names.
 #[derive(Drop)]

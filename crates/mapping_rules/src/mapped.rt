@@ -10,8 +10,7 @@ ghost use Rattle.plan_definitions.specs.MappingRules.{tasks_of_event, tasks_from
 
 use crate::groups::Groups;
 use crate::naming::Names;
-use description_types::{Description, Event, MappedEvent};
-use flat_descriptions::Flat;
+use description_types::{Description, Event, Flat, MappedEvent};
 use rte_text::Memory;
 use std::alloc::Global;
 

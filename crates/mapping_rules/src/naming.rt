@@ -5,8 +5,7 @@ ghost use Rattle.plan_definitions.specs.Parts.{component_of};
 ghost use Rattle.plan_definitions.specs.Mapped.{instance_named, event_named, named_by, event_names};
 ghost use Rattle.mapping_rules.specs.Naming.{names_of};
 
-use description_types::{Component, Description, Event, MappedEvent};
-use flat_descriptions::{Flat, Instance};
+use description_types::{Component, Description, Event, Flat, Instance, MappedEvent};
 use plan_numbers::Positions;
 use rte_text::Memory;
 use std::alloc::Global;

@@ -8,7 +8,7 @@ ghost use Rattle.plan_definitions.specs.MappingRefusals.{event_text, mapped_text
 
 use crate::instances::Part;
 use crate::naming::Names;
-use flat_descriptions::Flat;
+use description_types::Flat;
 use itoa::Buffer;
 use rte_text::{Memory, Text};
 use std::alloc::Global;

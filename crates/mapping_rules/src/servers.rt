@@ -12,8 +12,7 @@ ghost use Rattle.plan_definitions.specs.MappingRules.{serves_outside, task_of_se
 
 use crate::joined::{Outside, Providers};
 use crate::mapped::Mapped;
-use description_types::{Access, Component, Description, Event, EventKind};
-use flat_descriptions::{End, Flat};
+use description_types::{Access, Component, Description, End, Event, EventKind, Flat};
 use plan_numbers::Table;
 use rte_text::Memory;
 use runnable_lang::AccessKind;

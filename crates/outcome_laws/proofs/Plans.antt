@@ -12,8 +12,8 @@ use Rattle.bus_semantics.specs.Plan.{Runnable, runnable_of}
 use Rattle.description_types.specs.declared.component.Component.{Component}
 use Rattle.description_types.specs.declared.component.Runnable as declared
 use Rattle.description_types.specs.declared.description.Description.{Description}
-use Rattle.flat_descriptions.specs.declared.flat.Flat.{Flat}
-use Rattle.flat_descriptions.specs.declared.flat.Instance.{Instance}
+use Rattle.description_types.specs.declared.flat.Flat.{Flat}
+use Rattle.description_types.specs.declared.flat.Instance.{Instance}
 use Rattle.plan_definitions.specs.declared.site.Site.{Site}
 use Rattle.plan_definitions.specs.Coding.{IsCoded, AreCoded}
 use Rattle.plan_definitions.specs.Elements.{Elem, elem_seen, element_of, elements, given_of, group_of, held, type_of, zeros}

@@ -7,8 +7,8 @@ use Rattle.description_types.specs.declared.component.Component.{Component}
 use Rattle.description_types.specs.declared.component.Event.{Event}
 use Rattle.description_types.specs.declared.description.Description.{Description}
 use Rattle.description_types.specs.declared.description.MappedEvent.{MappedEvent}
-use Rattle.flat_descriptions.specs.declared.flat.Flat.{Flat}
-use Rattle.flat_descriptions.specs.Members.{Among}
+use Rattle.description_types.specs.declared.flat.Flat.{Flat}
+use Rattle.description_types.specs.Members.{Among}
 use Rattle.plan_definitions.specs.Mapped.{names}
 use Rattle.plan_definitions.specs.MappingRules.{Chain, HaveOrder, ReachesItself, Waits, tasks_from, tasks_of, tasks_of_event}
 use Rattle.plan_definitions.specs.Parts.{component_of}

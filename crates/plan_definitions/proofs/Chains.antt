@@ -17,11 +17,11 @@ use Rattle.description_types.specs.declared.description.Prototype.{Prototype}
 use Rattle.description_types.specs.declared.description.PrototypeType.TheVariants.{Composition}
 use Rattle.plan_definitions.specs.Connectors.{both, delegated, incompatible, incompatible_in, joins_compatible}
 use Rattle.plan_definitions.specs.Interfaces.{are_compatible, serves_in}
-use Rattle.flat_descriptions.specs.Connectors.{connectors_of, is_one_kind, is_provided, is_required, kind_in, kind_of, ports_of}
-use Rattle.flat_descriptions.specs.Items.{interface_at}
-use Rattle.flat_descriptions.specs.Joined.{Assembles, Delegates, IsBelow, Stand, StandsJoin, as_inner, further, itself}
-use Rattle.flat_descriptions.specs.Members.{Among}
-use Rattle.flat_descriptions.specs.Paths.{type_at, type_in}
+use Rattle.description_types.specs.Connectors.{connectors_of, is_one_kind, is_provided, is_required, kind_in, kind_of, ports_of}
+use Rattle.description_types.specs.Items.{interface_at}
+use Rattle.description_types.specs.Joined.{Assembles, Delegates, IsBelow, Stand, StandsJoin, as_inner, further, itself}
+use Rattle.description_types.specs.Members.{Among}
+use Rattle.description_types.specs.Paths.{type_at, type_in}
 use Rattle.plan_definitions.proofs.Lists.{place}
 use Rattle.plan_definitions.proofs.Stands.{kind_below, port_below}
 use Rattle.plan_definitions.proofs.Firsts.{first_none, map_none}

@@ -3,8 +3,8 @@ use Rattle.std.proofs.Common.{◌≡◌, ℕ, zero, suc, ◌+◌, ◌≤◌, Lis
 use Rattle.std.proofs.lemmas.Bool.{and_from, and_parts, eq-eqb, eqb-true}
 use Rattle.std.specs.List.{position_from}
 use Rattle.std.specs.Option.{option_eq}
-use Rattle.flat_descriptions.specs.declared.flat.End.{End}
-use Rattle.flat_descriptions.specs.Members.{Among}
+use Rattle.description_types.specs.declared.flat.End.{End}
+use Rattle.description_types.specs.Members.{Among}
 use Rattle.plan_definitions.specs.declared.site.Site.{Site}
 use Rattle.plan_definitions.specs.Joined.{end_at, end_of, same_end}
 use Rattle.plan_definitions.specs.Keys.{Key, end_key, key_of, number_in, same_key}

@@ -3,7 +3,7 @@ use Rattle.std.proofs.Common.{◌≡◌, ℕ, zero, suc, ◌+◌, ◌≤◌, Lis
 use Rattle.std.proofs.lemmas.Bool.{eq-eqb, eqb-true}
 use Rattle.std.proofs.lemmas.List.{length-append, length-map}
 use Rattle.std.specs.List.{list_all, list_any}
-use Rattle.flat_descriptions.specs.Members.{Among}
+use Rattle.description_types.specs.Members.{Among}
 use Rattle.bus_semantics.specs.Bundles.{least, leaders_by, leaders_on, together}
 use Rattle.bus_semantics.specs.Plan.{positions}
 use Rattle.plan_definitions.specs.ElementGroups.{group_number, groups, head_at, heads, members}

@@ -4,7 +4,7 @@ use Rattle.std.proofs.lemmas.Bool.{and_from, and_parts, eq-eqb, eqb-true, falseâ
 use Rattle.std.proofs.lemmas.List.{map-append}
 use Rattle.std.specs.List.{find, flat_map, list_all, list_any}
 use Rattle.bus_semantics.specs.SoundPlan.{same_numbers}
-use Rattle.flat_descriptions.specs.Members.{Among}
+use Rattle.description_types.specs.Members.{Among}
 use Rattle.plan_definitions.specs.Lists.{from, positions}
 
 module _ {X : Type 0} where

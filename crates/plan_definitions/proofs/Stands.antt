@@ -9,16 +9,16 @@ use Rattle.description_types.specs.declared.description.Description.{Description
 use Rattle.description_types.specs.declared.description.Prototype.{Prototype}
 use Rattle.description_types.specs.declared.description.PrototypeType.{PrototypeType}
 use Rattle.description_types.specs.declared.description.PrototypeType.TheVariants.{Component, Composition}
-use Rattle.flat_descriptions.specs.declared.flat.Flat.{Flat}
-use Rattle.flat_descriptions.specs.declared.flat.Instance.{Instance}
-use Rattle.flat_descriptions.specs.Connectors.{interface_of, ports_of}
-use Rattle.flat_descriptions.specs.Flattening.{IsFlatOf}
-use Rattle.flat_descriptions.specs.Places.{Place, places, places_below, places_of}
-use Rattle.flat_descriptions.specs.Instances.{instance_at}
-use Rattle.flat_descriptions.specs.Items.{interface_at}
-use Rattle.flat_descriptions.specs.Joined.{Stand, interface_below, stand_in}
-use Rattle.flat_descriptions.specs.Members.{Among}
-use Rattle.flat_descriptions.specs.Paths.{prototypes_of, type_at, type_in}
+use Rattle.description_types.specs.declared.flat.Flat.{Flat}
+use Rattle.description_types.specs.declared.flat.Instance.{Instance}
+use Rattle.description_types.specs.Connectors.{interface_of, ports_of}
+use Rattle.description_types.specs.Flattening.{IsFlatOf}
+use Rattle.description_types.specs.Places.{Place, places, places_below, places_of}
+use Rattle.description_types.specs.Instances.{instance_at}
+use Rattle.description_types.specs.Items.{interface_at}
+use Rattle.description_types.specs.Joined.{Stand, interface_below, stand_in}
+use Rattle.description_types.specs.Members.{Among}
+use Rattle.description_types.specs.Paths.{prototypes_of, type_at, type_in}
 use Rattle.plan_definitions.specs.Parts.{component_of}
 use Rattle.plan_definitions.specs.Ports.{port_of}
 use Rattle.plan_definitions.proofs.Lists.{at, map_get, unflat}

@@ -1,8 +1,8 @@
 -- Groups: what joins connect, seen from a required end (SWS_RTE: sender-receiver communication 1:n and n:1; profile: one of the
 -- two numbers is 1).
 use Rattle.std.specs.Prelude.{◌≡◌, ◌≢◌, ℕ, zero, suc, List, [], ◌∷◌, ◌⊎◌}
-use Rattle.flat_descriptions.specs.declared.flat.End.{End}
-use Rattle.flat_descriptions.specs.declared.flat.Join.{Join}
+use Rattle.description_types.specs.declared.flat.End.{End}
+use Rattle.description_types.specs.declared.flat.Join.{Join}
 
 -- one of these joins p with r
 abbrev pub IsJoined : List Join → End → End → Type 0

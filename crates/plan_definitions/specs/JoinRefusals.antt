@@ -3,7 +3,7 @@ use Rattle.std.specs.Prelude.{ℕ, List, ◌++◌, codes, Option, Some, None, op
 use Rattle.std.specs.Fmt.{decimal}
 use Rattle.std.specs.Option.{option_or}
 use Rattle.description_types.specs.declared.description.Description.{Description}
-use Rattle.flat_descriptions.specs.declared.flat.Flat.{Flat}
+use Rattle.description_types.specs.declared.flat.Flat.{Flat}
 use Rattle.plan_definitions.specs.declared.join_rule.JoinRule as items
 use Rattle.plan_definitions.specs.declared.join_rule.JoinRule.TheVariants.{Services, Groups}
 use Rattle.plan_definitions.specs.Connectors.{incompatible, root_client}

@@ -5,7 +5,7 @@ use Rattle.std.specs.Option.{option_map_or, option_or}
 use Rattle.rte_text.specs.declared.refusal.Refused.{Refused}
 use Rattle.rte_text.specs.declared.refusal.Refused.TheVariants.{Rule, Memory}
 use Rattle.description_types.specs.declared.description.Description.{Description}
-use Rattle.flat_descriptions.specs.declared.flat.Flat.{Flat}
+use Rattle.description_types.specs.declared.flat.Flat.{Flat}
 use Rattle.plan_definitions.specs.Parts.{component_of}
 use Rattle.plan_definitions.specs.MappingRules.{unnamed, badly_mapped, spread, not_direct, ReachesItself}
 

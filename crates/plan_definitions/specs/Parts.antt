@@ -4,8 +4,8 @@ use Rattle.std.specs.Prelude.{ℕ, List, [], map, length, slice_get, Option, opt
 use Rattle.std.specs.Option.{option_map_or}
 use Rattle.description_types.specs.declared.component.Component.{Component}
 use Rattle.description_types.specs.declared.description.Description.{Description}
-use Rattle.flat_descriptions.specs.declared.flat.Flat.{Flat}
-use Rattle.flat_descriptions.specs.declared.flat.Instance.{Instance}
+use Rattle.description_types.specs.declared.flat.Flat.{Flat}
+use Rattle.description_types.specs.declared.flat.Instance.{Instance}
 use Rattle.plan_definitions.specs.declared.part.Part.{Part}
 use Rattle.plan_definitions.specs.declared.part.Part.TheVariants.{Runnables, Events, Areas}
 use Rattle.plan_definitions.specs.Lists.{from, positions}

@@ -1,7 +1,7 @@
 -- What is refused of a description made flat, by the rules on components, on the mapping and on the instances.
 use Rattle.std.specs.Prelude.{◌≡◌, ℕ, List, Option, Some, None, ◌⊎◌, if◌then◌else◌}
 use Rattle.description_types.specs.declared.description.Description.{Description}
-use Rattle.flat_descriptions.specs.declared.flat.Flat.{Flat}
+use Rattle.description_types.specs.declared.flat.Flat.{Flat}
 use Rattle.plan_definitions.specs.declared.component_rule.ComponentRule.TheVariants as rule
 use Rattle.plan_definitions.specs.ComponentRefusals as components
 use Rattle.plan_definitions.specs.MappingRefusals.{mapping_text, IsAfter}

@@ -9,7 +9,7 @@ use Rattle.interface_types.specs.declared.interface.InterfaceKind.TheVariants.{S
 use Rattle.description_types.specs.declared.component.Component.{Component}
 use Rattle.description_types.specs.declared.component.Port.{Port}
 use Rattle.description_types.specs.declared.description.Description.{Description}
-use Rattle.flat_descriptions.specs.declared.flat.Flat.{Flat}
+use Rattle.description_types.specs.declared.flat.Flat.{Flat}
 use Rattle.plan_definitions.specs.declared.site.Site.{Site}
 use Rattle.plan_definitions.specs.Parts.{component_of}
 use Rattle.plan_definitions.specs.Sites.{root_ports}

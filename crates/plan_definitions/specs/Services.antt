@@ -9,7 +9,7 @@ use Rattle.interface_types.specs.declared.interface.InterfaceKind.{InterfaceKind
 use Rattle.interface_types.specs.declared.interface.InterfaceKind.TheVariants.{ClientServer}
 use Rattle.interface_types.specs.declared.interface.Operation.{Operation}
 use Rattle.description_types.specs.declared.description.Description.{Description}
-use Rattle.flat_descriptions.specs.declared.flat.Flat.{Flat}
+use Rattle.description_types.specs.declared.flat.Flat.{Flat}
 use Rattle.plan_definitions.specs.declared.site.Site.{Site}
 use Rattle.bus_semantics.specs.declared.plan.ArgPlan.{ArgPlan}
 use Rattle.bus_semantics.specs.declared.plan.PointPlan.{PointPlan}

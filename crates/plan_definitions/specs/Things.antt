@@ -1,8 +1,8 @@
 -- What a plan numbers: data elements and variables, servers, mode machines and required mode elements.
 use Rattle.std.specs.Prelude.{ℕ, List, filter, Bool, false, is_some, Option, Some}
 use Rattle.std.specs.Option.{option_map_or}
-use Rattle.flat_descriptions.specs.declared.flat.Flat.{Flat}
-use Rattle.flat_descriptions.specs.declared.flat.Join.{Join}
+use Rattle.description_types.specs.declared.flat.Flat.{Flat}
+use Rattle.description_types.specs.declared.flat.Join.{Join}
 use Rattle.description_types.specs.declared.description.Description.{Description}
 use Rattle.plan_definitions.specs.declared.site.Site.{Site}
 use Rattle.plan_definitions.specs.Joined.{end_at, end_of, provider_of}

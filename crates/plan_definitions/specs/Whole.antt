@@ -1,8 +1,8 @@
 -- A description that breaks none of the rules, made flat, with its plan and its mapping.
 use Rattle.std.specs.Prelude.{◌≡◌, None}
 use Rattle.description_types.specs.declared.description.Description.{Description}
-use Rattle.flat_descriptions.specs.declared.flat.Flat.{Flat}
-use Rattle.flat_descriptions.specs.Flattening.{IsFlatOf}
+use Rattle.description_types.specs.declared.flat.Flat.{Flat}
+use Rattle.description_types.specs.Flattening.{IsFlatOf}
 use Rattle.plan_definitions.specs.JoinRefusals as joins
 use Rattle.bus_semantics.specs.declared.plan.BusPlan.{BusPlan}
 use Rattle.bus_semantics.specs.declared.script.Mapping.{Mapping}

@@ -5,9 +5,9 @@ use Rattle.std.proofs.lemmas.List.{at_drop_all, get_or-map, get_or_default, leng
 use Rattle.std.specs.List.{list_any, position_from}
 use Rattle.std.specs.Option.{option_eq}
 use Rattle.description_types.specs.declared.description.Description.{Description}
-use Rattle.flat_descriptions.specs.declared.flat.End.{End}
-use Rattle.flat_descriptions.specs.declared.flat.Flat.{Flat}
-use Rattle.flat_descriptions.specs.declared.flat.Join.{Join}
+use Rattle.description_types.specs.declared.flat.End.{End}
+use Rattle.description_types.specs.declared.flat.Flat.{Flat}
+use Rattle.description_types.specs.declared.flat.Join.{Join}
 use Rattle.plan_definitions.specs.Joined.{end_at}
 use Rattle.plan_definitions.specs.Keys.{Key, end_key, keys_of, same_key}
 use Rattle.plan_definitions.specs.Sites.{site}

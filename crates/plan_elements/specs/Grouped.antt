@@ -1,6 +1,6 @@
 -- The groups of a description, as they are kept.
 use Rattle.std.specs.Prelude.{◌≡◌, length, map}
-use Rattle.flat_descriptions.specs.declared.flat.Flat.{Flat}
+use Rattle.description_types.specs.declared.flat.Flat.{Flat}
 use Rattle.description_types.specs.declared.description.Description.{Description}
 use Rattle.plan_elements.specs.declared.groups.Groups.{Groups}
 use Rattle.plan_definitions.specs.Elements.{leaders}

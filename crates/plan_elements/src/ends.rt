@@ -8,7 +8,7 @@ ghost use Rattle.plan_definitions.specs.Keys.{end_key, keys_of, same_key};
 ghost use Rattle.plan_definitions.specs.Things.{elements_of};
 ghost use Rattle.plan_elements.specs.Ends.{AreJoined, has_at, mark_at, pairs_of, stands_at};
 
-use flat_descriptions::{End, Join};
+use description_types::{End, Join};
 use plan_numbers::{Source, position};
 use rte_text::Memory;
 use std::alloc::Global;

@@ -11,18 +11,18 @@ use Rattle.description_types.specs.declared.description.InnerPort.{InnerPort}
 use Rattle.description_types.specs.declared.description.PrototypeType.{PrototypeType}
 use Rattle.description_types.specs.declared.description.PrototypeType.TheVariants as of_type
 use Rattle.component_model.specs.Programs.{component_tree}
-use Rattle.flat_descriptions.specs.Connectors.{interface_of, is_one_kind, is_provided, is_required, kind_in, kind_of, lets_join, ports_of, IsBrokenConnector, IsFirstBroken}
-use Rattle.flat_descriptions.specs.Firsts.{IsFirst}
-use Rattle.flat_descriptions.specs.Growing.{IsPastLimit}
-use Rattle.flat_descriptions.specs.Items.{interface_at, ItemsJoin}
-use Rattle.flat_descriptions.specs.Paths.{prototypes_of, type_at, type_in, ContainsItself}
-use Rattle.flat_descriptions.specs.Places.{places, places_below, places_of, IsTooDeep}
-use Rattle.flat_descriptions.specs.declared.flat.Flat.{Flat}
-use Rattle.flat_descriptions.specs.declared.flat.Join.{Join}
-use Rattle.flat_descriptions.specs.Flattening.{IsFlatOf, IsRefusedAt, KeepsLimits}
-use Rattle.flat_descriptions.specs.Instances.{instances, name_at, name_in, prefix_at, written}
-use Rattle.flat_descriptions.specs.Joined.{as_inner, Assembles, Delegates, IsBelow, IsChain, IsJoined, IsOutside, Stand, StandsJoin, interface_below, stand_in}
-use Rattle.flat_descriptions.specs.Joined.IsBelow.{itself, further}
+use Rattle.description_types.specs.Connectors.{interface_of, is_one_kind, is_provided, is_required, kind_in, kind_of, lets_join, ports_of, IsBrokenConnector, IsFirstBroken}
+use Rattle.description_types.specs.Firsts.{IsFirst}
+use Rattle.description_types.specs.Growing.{IsPastLimit}
+use Rattle.description_types.specs.Items.{interface_at, ItemsJoin}
+use Rattle.description_types.specs.Paths.{prototypes_of, type_at, type_in, ContainsItself}
+use Rattle.description_types.specs.Places.{places, places_below, places_of, IsTooDeep}
+use Rattle.description_types.specs.declared.flat.Flat.{Flat}
+use Rattle.description_types.specs.declared.flat.Join.{Join}
+use Rattle.description_types.specs.Flattening.{IsFlatOf, IsRefusedAt, KeepsLimits}
+use Rattle.description_types.specs.Instances.{instances, name_at, name_in, prefix_at, written}
+use Rattle.description_types.specs.Joined.{as_inner, Assembles, Delegates, IsBelow, IsChain, IsJoined, IsOutside, Stand, StandsJoin, interface_below, stand_in}
+use Rattle.description_types.specs.Joined.IsBelow.{itself, further}
 use Rattle.plan_laws.proofs.Held.{at_place, held_as, look}
 
 pub first_as : {P Q : ℕ → Type 0} (limit : ℕ) (o : Option ℕ) → ((n : ℕ) → P n → Q n) → ((n : ℕ) → Q n → P n) → IsFirst P limit o → IsFirst Q limit o

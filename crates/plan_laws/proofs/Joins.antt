@@ -11,8 +11,8 @@ use Rattle.description_types.specs.declared.description.InnerPort.{InnerPort}
 use Rattle.description_types.specs.declared.description.PrototypeType.{PrototypeType}
 use Rattle.description_types.specs.declared.description.PrototypeType.TheVariants as of_type
 use Rattle.component_model.specs.Programs.{component_tree}
-use Rattle.flat_descriptions.specs.declared.flat.End.{End}
-use Rattle.flat_descriptions.specs.declared.flat.Flat.{Flat}
+use Rattle.description_types.specs.declared.flat.End.{End}
+use Rattle.description_types.specs.declared.flat.Flat.{Flat}
 use Rattle.plan_definitions.specs.declared.join_rule.JoinRule.{JoinRule}
 use Rattle.plan_definitions.specs.declared.join_rule.JoinRule.TheVariants.{Services, Groups}
 use Rattle.plan_definitions.specs.Connectors.{both, delegated, incompatible, inner_interface, joins_compatible, ports_of, sides}

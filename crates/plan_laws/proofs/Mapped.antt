@@ -15,8 +15,8 @@ use Rattle.description_types.specs.declared.description.MappedEvent.{MappedEvent
 use Rattle.description_types.specs.declared.description.Task as declared_task
 use Rattle.component_model.specs.Programs.{component_tree, runnable_tree}
 use Rattle.plan_definitions.specs.Firsts.{first_of, unless}
-use Rattle.flat_descriptions.specs.declared.flat.End.{End}
-use Rattle.flat_descriptions.specs.declared.flat.Flat.{Flat}
+use Rattle.description_types.specs.declared.flat.End.{End}
+use Rattle.description_types.specs.declared.flat.Flat.{Flat}
 use Rattle.plan_definitions.specs.Joined.{end_at, provider_of}
 use Rattle.plan_definitions.specs.Keys.{pair_number, same_pair}
 use Rattle.plan_definitions.specs.Lists.{from}

@@ -18,8 +18,8 @@ use Rattle.description_types.specs.declared.component.Port.{Port}
 use Rattle.description_types.specs.declared.component.Runnable as declared_runnable
 use Rattle.description_types.specs.declared.description.Description.{Description}
 use Rattle.component_model.specs.Programs.{component_tree, runnable_tree}
-use Rattle.flat_descriptions.specs.declared.flat.Flat.{Flat}
-use Rattle.flat_descriptions.specs.declared.flat.Instance.{Instance}
+use Rattle.description_types.specs.declared.flat.Flat.{Flat}
+use Rattle.description_types.specs.declared.flat.Instance.{Instance}
 use Rattle.bus_semantics.specs.declared.plan.ElemKind.TheVariants as elem
 use Rattle.bus_semantics.specs.declared.plan.EventKind.TheVariants as plan_event
 use Rattle.bus_semantics.specs.Bundles.{leaders_by}

@@ -3,11 +3,11 @@ use Rattle.std.proofs.Common.{◌≡◌, ℕ, ◌<◌, List, map, length, Option
 use Rattle.description_types.specs.declared.component.Component.{Component}
 use Rattle.description_types.specs.declared.description.Description.{Description}
 use Rattle.component_model.specs.Programs.{component_tree}
-use Rattle.flat_descriptions.specs.Connectors.{IsBrokenConnector, IsFirstBroken}
-use Rattle.flat_descriptions.specs.Firsts.{IsFirst}
-use Rattle.flat_descriptions.specs.Paths.{ContainsItself}
-use Rattle.flat_descriptions.specs.declared.flat.Flat.{Flat}
-use Rattle.flat_descriptions.specs.Flattening.{IsFlatOf, IsRefusedAt, composition_place, connector_place}
+use Rattle.description_types.specs.Connectors.{IsBrokenConnector, IsFirstBroken}
+use Rattle.description_types.specs.Firsts.{IsFirst}
+use Rattle.description_types.specs.Paths.{ContainsItself}
+use Rattle.description_types.specs.declared.flat.Flat.{Flat}
+use Rattle.description_types.specs.Flattening.{IsFlatOf, IsRefusedAt, composition_place, connector_place}
 use Rattle.plan_definitions.specs.JoinRefusals as joins
 use Rattle.plan_definitions.specs.declared.component_rule.ComponentRule.TheVariants as rule
 use Rattle.plan_definitions.specs.ComponentRefusals as components

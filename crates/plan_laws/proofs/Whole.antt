@@ -12,8 +12,8 @@ use Rattle.component_model.specs.Refusals.{Breaks, IsRead, refusal}
 use Rattle.bus_semantics.specs.declared.plan.BusPlan.{BusPlan}
 use Rattle.bus_semantics.specs.declared.plan.ElemPlan.{ElemPlan}
 use Rattle.bus_semantics.specs.Plan as bus
-use Rattle.flat_descriptions.specs.declared.flat.Flat.{Flat}
-use Rattle.flat_descriptions.specs.Flattening.{IsFlatOf}
+use Rattle.description_types.specs.declared.flat.Flat.{Flat}
+use Rattle.description_types.specs.Flattening.{IsFlatOf}
 use Rattle.plan_definitions.specs.JoinRefusals as joins
 use Rattle.plan_definitions.specs.Tasks.{mapping_of}
 use Rattle.plan_definitions.specs.Elements.{elem_seen}

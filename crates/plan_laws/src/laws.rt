@@ -1,7 +1,7 @@
 //! The laws.
 
 ghost use Rattle.std.specs.Prelude.{◌≡◌, ℕ, List};
-ghost use Rattle.flat_descriptions.specs.declared.flat.Flat.{Flat};
+ghost use Rattle.description_types.specs.declared.flat.Flat.{Flat};
 ghost use Rattle.description_types.specs.declared.description.Description.{Description};
 ghost use Rattle.plan_definitions.specs.Planned.{plan_of};
 ghost use Rattle.plan_definitions.specs.PlanRules.{is_too_large};

@@ -5,8 +5,8 @@ use Rattle.std.specs.Map.{lookup}
 use Rattle.std.specs.Option.{option_and_then, option_eq, option_map}
 use Rattle.std.proofs.lemmas.Bool.{eq-eqb, ne_eqb, cases_eq}
 use Rattle.interface_types.specs.declared.interface.ComSpec.{ComSpec}
-use Rattle.flat_descriptions.specs.declared.flat.End.{End}
-use Rattle.flat_descriptions.specs.declared.flat.Join.{Join}
+use Rattle.description_types.specs.declared.flat.End.{End}
+use Rattle.description_types.specs.declared.flat.Join.{Join}
 use Rattle.plan_definitions.specs.Joined.{provider_of, same_end}
 use Rattle.description_types.specs.declared.component.Port.{Port}
 use Rattle.plan_numbers.specs.ComSpecs.{items_of_ports, named_items}

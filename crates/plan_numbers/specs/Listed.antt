@@ -1,7 +1,7 @@
 -- All that a plan numbers, listed and numbered.
 use Rattle.std.specs.Prelude.{◌≡◌, ◌<◌, ◌^◌, List, filter, length}
-use Rattle.flat_descriptions.specs.declared.flat.Flat.{Flat}
-use Rattle.flat_descriptions.specs.declared.flat.Join.{Join}
+use Rattle.description_types.specs.declared.flat.Flat.{Flat}
+use Rattle.description_types.specs.declared.flat.Join.{Join}
 use Rattle.description_types.specs.declared.description.Description.{Description}
 use Rattle.plan_definitions.specs.declared.site.Site.{Site}
 use Rattle.plan_definitions.specs.Keys.{is_element, is_machine, is_mode_port, is_server, keys_of}

@@ -4,7 +4,7 @@ ghost use Rattle.std.specs.Prelude.{◌≡◌, IfOk, map};
 ghost use Rattle.plan_numbers.specs.Ends.{key_of, required_entry};
 
 use crate::table::Table;
-use flat_descriptions::{End, Join};
+use description_types::{End, Join};
 use rte_text::Memory;
 use std::alloc::Global;
 use std::marker::Model;
@@ -37,7 +37,7 @@ pub struct Joined<'a> {
 
 impl<'a> Model for Joined<'a> {
     ghost use Rattle.std.specs.Prelude.{◌≡◌, List, map};
-    ghost use Rattle.flat_descriptions.specs.declared.flat.Join.{Join};
+    ghost use Rattle.description_types.specs.declared.flat.Join.{Join};
     ghost use Rattle.plan_numbers.specs.Ends.{required_entry};
 
     ghost Value = { List Join };

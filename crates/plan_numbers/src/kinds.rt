@@ -7,7 +7,7 @@ ghost use Rattle.plan_definitions.specs.Things.{has_machine};
 
 use crate::joined::Joined;
 use crate::numbers::{Key, Numbers};
-use flat_descriptions::End;
+use description_types::End;
 use plan_definitions::{Site, SiteKind};
 use rte_text::Memory;
 use std::alloc::Global;

@@ -4,8 +4,7 @@ ghost use Rattle.std.specs.Prelude.{◌≡◌, [], ◌∷◌, ◌++◌, IfOk, On
 ghost use Rattle.plan_definitions.specs.Lists.{from};
 ghost use Rattle.plan_definitions.specs.Parts.{areas_of, counted, counted_at, events_of, numbered, runnables_of};
 
-use description_types::{Component, Description};
-use flat_descriptions::{Flat, Instance};
+use description_types::{Component, Description, Flat, Instance};
 use plan_definitions::Part;
 use rte_text::Memory;
 use std::alloc::Global;

@@ -6,8 +6,8 @@ use Rattle.std.specs.Option.{option_and_then, option_eq, option_map, option_map_
 use Rattle.description_types.specs.declared.component.Component.{Component}
 use Rattle.description_types.specs.declared.component.Event.{Event}
 use Rattle.description_types.specs.declared.description.Description.{Description}
-use Rattle.flat_descriptions.specs.declared.flat.Flat.{Flat}
-use Rattle.flat_descriptions.specs.declared.flat.Instance.{Instance}
+use Rattle.description_types.specs.declared.flat.Flat.{Flat}
+use Rattle.description_types.specs.declared.flat.Instance.{Instance}
 use Rattle.description_types.specs.declared.component.EventKind.{EventKind}
 use Rattle.description_types.specs.declared.component.EventKind.TheVariants.{Timing, Init, DataReceived, OperationInvoked, CallReturns, ModeSwitch, ModeSwitchedAck}
 use Rattle.plan_definitions.specs.Keys.{same_pair}

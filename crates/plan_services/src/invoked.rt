@@ -7,8 +7,7 @@ ghost use Rattle.plan_definitions.specs.Keys.{same_pair};
 ghost use Rattle.plan_definitions.specs.Mapped.{invocation_of};
 ghost use Rattle.plan_definitions.specs.Invoked.{all_invoked, invoked_by, invoked_in};
 
-use description_types::{Component, Description, Event, EventKind};
-use flat_descriptions::Flat;
+use description_types::{Component, Description, Event, EventKind, Flat};
 use plan_numbers::{Positions, Source};
 use rte_text::{Memory, Seq};
 use std::alloc::Global;

@@ -4,8 +4,7 @@ ghost use Rattle.std.specs.Prelude.{◌≡◌, ◌<◌, ◌^◌, IfOk, length, m
 ghost use Rattle.plan_definitions.specs.Callings.{call_key, left_key};
 
 use crate::callings::callings_of;
-use description_types::Description;
-use flat_descriptions::Flat;
+use description_types::{Description, Flat};
 use plan_definitions::Calling;
 use plan_numbers::{EndKey, Numbers};
 use rte_text::Memory;

@@ -10,8 +10,7 @@ ghost use Rattle.plan_definitions.specs.Services.{queue_of, server_at, server_of
 use crate::arguments::{arguments_at, errors_at};
 use crate::invoked::{Invocations, all_invoked, invocation_of};
 use bus_semantics::ServerPlan;
-use description_types::Description;
-use flat_descriptions::Flat;
+use description_types::{Description, Flat};
 use plan_definitions::Site;
 use plan_numbers::{Source, component_of, item_text};
 use rte_text::Memory;

@@ -11,8 +11,7 @@ use crate::joins::add_joins;
 use crate::lines::{add_direct, add_event, add_instance, add_machine, add_task};
 use crate::mapped::{in_order, mapped_by_task};
 use bus_semantics::{BusPlan, EventKind, EventPlan, MachinePlan};
-use description_types::{Description, MappedEvent, Task};
-use flat_descriptions::{Flat, Instance};
+use description_types::{Description, Flat, Instance, MappedEvent, Task};
 use rte_text::Memory;
 use std::alloc::Global;
 

@@ -6,8 +6,7 @@ ghost use Rattle.plan_text.specs.Lines.{plan_text};
 
 use crate::listing::plan_text;
 use bus_semantics::BusPlan;
-use description_types::Description;
-use flat_descriptions::Flat;
+use description_types::{Description, Flat};
 use rte_text::{Memory, Put, Sink};
 use std::alloc::Global;
 

@@ -11,19 +11,19 @@ use Rattle.description_types.specs.declared.description.InnerPort.{InnerPort}
 use Rattle.description_types.specs.declared.description.Prototype.{Prototype}
 use Rattle.description_types.specs.declared.description.PrototypeType.{PrototypeType}
 use Rattle.description_types.specs.declared.description.PrototypeType.TheVariants as of
-use Rattle.flat_descriptions.specs.declared.flat.End.{End}
-use Rattle.flat_descriptions.specs.declared.flat.Instance.{Instance}
-use Rattle.flat_descriptions.specs.declared.flat.Join.{Join}
-use Rattle.flat_descriptions.specs.Connectors.{connectors_of, interface_of, is_provided, is_required, kind_of, lets_join, IsBrokenConnector}
-use Rattle.flat_descriptions.specs.Flattening.{IsRefusedAt, KeepsLimits}
-use Rattle.flat_descriptions.specs.Growing.{IsPastLimit}
-use Rattle.flat_descriptions.specs.Instances.{instances, instance_at, names_env, written}
-use Rattle.flat_descriptions.specs.Items.{interface_at, IsSameName, ItemsJoin}
-use Rattle.flat_descriptions.specs.Joined.{Assembles, IsBelow, IsJoined, IsOutside, Stand, StandsJoin, as_inner, interface_below, stand_in}
-use Rattle.flat_descriptions.specs.Joined.IsBelow.{itself, further}
-use Rattle.flat_descriptions.specs.Members.{Among}
-use Rattle.flat_descriptions.specs.Paths.{ContainsItself, prototypes_of, type_at, type_in}
-use Rattle.flat_descriptions.specs.Places.{IsTooDeep, Place, places, places_below, places_of}
+use Rattle.description_types.specs.declared.flat.End.{End}
+use Rattle.description_types.specs.declared.flat.Instance.{Instance}
+use Rattle.description_types.specs.declared.flat.Join.{Join}
+use Rattle.description_types.specs.Connectors.{connectors_of, interface_of, is_provided, is_required, kind_of, lets_join, IsBrokenConnector}
+use Rattle.description_types.specs.Flattening.{IsRefusedAt, KeepsLimits}
+use Rattle.description_types.specs.Growing.{IsPastLimit}
+use Rattle.description_types.specs.Instances.{instances, instance_at, names_env, written}
+use Rattle.description_types.specs.Items.{interface_at, IsSameName, ItemsJoin}
+use Rattle.description_types.specs.Joined.{Assembles, IsBelow, IsJoined, IsOutside, Stand, StandsJoin, as_inner, interface_below, stand_in}
+use Rattle.description_types.specs.Joined.IsBelow.{itself, further}
+use Rattle.description_types.specs.Members.{Among}
+use Rattle.description_types.specs.Paths.{ContainsItself, prototypes_of, type_at, type_in}
+use Rattle.description_types.specs.Places.{IsTooDeep, Place, places, places_below, places_of}
 use Rattle.plan_laws.proofs.Held.{Shared}
 use Rattle.soak_laws.proofs.Lists.{among_at, any_none, at_position, at_start, flat_three, get_first, get_second, get_third, length-three, three, three_at, two, two_at, length-two, among_first, among_second, among_take, few_apart, map_three_of, three_same}
 use Rattle.soak_laws.proofs.Soaked.{acc_name, c_name, inner, p_name, queue, service, soaked, typed}

@@ -14,11 +14,11 @@ use Rattle.description_places.specs.Visits.{first_broken}
 use Rattle.component_model.specs.Descriptions.{description_of, reading}
 use Rattle.component_model.specs.Refusals as early
 use Rattle.component_model.specs.Refusals.{IsRead, typed_refusal}
-use Rattle.flat_descriptions.specs.declared.flat.Flat.{Flat}
-use Rattle.flat_descriptions.specs.declared.flat.Join.{Join}
-use Rattle.flat_descriptions.specs.Flattening.{IsFlatOf}
-use Rattle.flat_descriptions.specs.Flattening as flattening
-use Rattle.flat_descriptions.specs.Members.{Among}
+use Rattle.description_types.specs.declared.flat.Flat.{Flat}
+use Rattle.description_types.specs.declared.flat.Join.{Join}
+use Rattle.description_types.specs.Flattening.{IsFlatOf}
+use Rattle.description_types.specs.Flattening as flattening
+use Rattle.description_types.specs.Members.{Among}
 use Rattle.plan_definitions.specs.JoinRefusals as joins
 use Rattle.plan_definitions.specs.MappingRefusals as mapping
 use Rattle.plan_definitions.specs.MappingRefusals.{IsAfter, IsOfTasks, mapping_text, of_events}

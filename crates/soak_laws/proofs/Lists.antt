@@ -6,7 +6,7 @@ use Rattle.std.proofs.lemmas.List.{map-append}
 use Rattle.std.proofs.lemmas.List.Folds.{find-append}
 use Rattle.serde_json.specs.Data.{Data}
 use Rattle.soak_maker.specs.Json.{each}
-use Rattle.flat_descriptions.specs.Members.{Among, AllApart}
+use Rattle.description_types.specs.Members.{Among, AllApart}
 use Rattle.plan_definitions.specs.Firsts.{first_of}
 
 abbrev pub many : {X : Type 0} → ℕ → (ℕ → X) → List X

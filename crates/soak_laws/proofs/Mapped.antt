@@ -7,11 +7,11 @@ use Rattle.description_types.specs.declared.component.Component.{Component}
 use Rattle.description_types.specs.declared.component.EventKind.TheVariants as event
 use Rattle.description_types.specs.declared.description.Description.{Description}
 use Rattle.description_types.specs.declared.description.MappedEvent.{MappedEvent}
-use Rattle.flat_descriptions.specs.declared.flat.End.{End}
-use Rattle.flat_descriptions.specs.declared.flat.Flat.{Flat}
-use Rattle.flat_descriptions.specs.declared.flat.Instance.{Instance}
-use Rattle.flat_descriptions.specs.declared.flat.Join.{Join}
-use Rattle.flat_descriptions.specs.Members.{Among}
+use Rattle.description_types.specs.declared.flat.End.{End}
+use Rattle.description_types.specs.declared.flat.Flat.{Flat}
+use Rattle.description_types.specs.declared.flat.Instance.{Instance}
+use Rattle.description_types.specs.declared.flat.Join.{Join}
+use Rattle.description_types.specs.Members.{Among}
 use Rattle.plan_definitions.specs.Firsts.{unless}
 use Rattle.plan_definitions.specs.Joined.{provider_of, same_end}
 use Rattle.plan_definitions.specs.Keys.{same_pair}

@@ -19,9 +19,9 @@ use Rattle.description_types.specs.declared.component.EventKind.TheVariants as d
 use Rattle.description_types.specs.declared.component.Port.{Port}
 use Rattle.description_types.specs.declared.component.Runnable as declared_runnable
 use Rattle.description_types.specs.declared.description.Description.{Description}
-use Rattle.flat_descriptions.specs.declared.flat.End.{End}
-use Rattle.flat_descriptions.specs.declared.flat.Flat.{Flat}
-use Rattle.flat_descriptions.specs.declared.flat.Join.{Join}
+use Rattle.description_types.specs.declared.flat.End.{End}
+use Rattle.description_types.specs.declared.flat.Flat.{Flat}
+use Rattle.description_types.specs.declared.flat.Join.{Join}
 use Rattle.bus_semantics.specs.declared.plan.BusPlan.{BusPlan}
 use Rattle.bus_semantics.specs.declared.plan.ElemPlan.{ElemPlan}
 use Rattle.bus_semantics.specs.declared.plan.PointPlan.{PointPlan}

@@ -11,7 +11,7 @@ use Rattle.description_types.specs.declared.component.Port.{Port}
 use Rattle.description_types.specs.declared.component.PortKind.{PortKind}
 use Rattle.description_types.specs.declared.component.Variable.{Variable as DeclaredVariable}
 use Rattle.description_types.specs.declared.description.Description.{Description}
-use Rattle.flat_descriptions.specs.declared.flat.Flat.{Flat}
+use Rattle.description_types.specs.declared.flat.Flat.{Flat}
 use Rattle.bus_semantics.specs.declared.plan.ElemKind.{ElemKind}
 use Rattle.bus_semantics.specs.declared.plan.ElemKind.TheVariants as elem
 use Rattle.bus_semantics.specs.declared.plan.ElemPlan.{ElemPlan}

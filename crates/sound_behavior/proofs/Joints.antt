@@ -6,11 +6,11 @@ use Rattle.description_types.specs.declared.component.Port.{Port}
 use Rattle.description_types.specs.declared.component.PortKind.{PortKind}
 use Rattle.description_types.specs.declared.component.PortKind.TheVariants.{Provided, Required}
 use Rattle.description_types.specs.declared.description.Description.{Description}
-use Rattle.flat_descriptions.specs.declared.flat.End.{End}
-use Rattle.flat_descriptions.specs.declared.flat.Flat.{Flat}
-use Rattle.flat_descriptions.specs.declared.flat.Join.{Join}
-use Rattle.flat_descriptions.specs.Items.{interface_at, ItemsJoin}
-use Rattle.flat_descriptions.specs.Joined.{Stand, stand_in}
+use Rattle.description_types.specs.declared.flat.End.{End}
+use Rattle.description_types.specs.declared.flat.Flat.{Flat}
+use Rattle.description_types.specs.declared.flat.Join.{Join}
+use Rattle.description_types.specs.Items.{interface_at, ItemsJoin}
+use Rattle.description_types.specs.Joined.{Stand, stand_in}
 use Rattle.plan_definitions.specs.Connectors.{root_client}
 use Rattle.plan_definitions.specs.JoinRefusals as joins
 use Rattle.plan_definitions.specs.declared.join_rule.JoinRule.TheVariants.{Services, Groups}
@@ -128,5 +128,5 @@ module _ (d : Description) (f : Flat) (p : BusPlan) (m : Mapping) (w : IsWhole d
         passes = subst (λ o. Offers d.types (option_and_then (λ (p : Port). interface_at d p.interface) o) (interface_at d b.port.interface)) s
             (subst (λ o. Offers d.types (option_and_then (λ (p : Port). interface_at d p.interface) (port_below d x.provided)) (option_and_then (λ (p : Port). interface_at d p.interface) o)) t passes);
         items = subst (λ o. ItemsJoin o (interface_at d b.port.interface) j.provided.element j.required.element) (interface_there d x.provided a.port s)
-            (subst (λ o. ItemsJoin (Rattle.flat_descriptions.specs.Joined.interface_below d x.provided) o j.provided.element j.required.element) (interface_there d x.required b.port t) x.items);
+            (subst (λ o. ItemsJoin (Rattle.description_types.specs.Joined.interface_below d x.provided) o j.provided.element j.required.element) (interface_there d x.required b.port t) x.items);
       }

@@ -6,7 +6,7 @@ use Rattle.std.proofs.lemmas.Option.{same_Some, slice_get_within}
 use Rattle.description_types.specs.declared.component.Component.{Component}
 use Rattle.description_types.specs.declared.component.Runnable as declared_runnable
 use Rattle.description_types.specs.declared.description.Description.{Description}
-use Rattle.flat_descriptions.specs.declared.flat.Flat.{Flat}
+use Rattle.description_types.specs.declared.flat.Flat.{Flat}
 use Rattle.bus_semantics.specs.declared.plan.BusPlan.{BusPlan}
 use Rattle.bus_semantics.specs.declared.plan.ElemPlan.{ElemPlan}
 use Rattle.bus_semantics.specs.declared.plan.PointPlan.{PointPlan}

@@ -17,11 +17,11 @@ use Rattle.interface_types.specs.declared.interface.InterfaceKind.TheVariants.{C
 use Rattle.interface_types.specs.declared.interface.ModeElement.{ModeElement}
 use Rattle.interface_types.specs.declared.interface.ModeGroup.{ModeGroup}
 use Rattle.interface_types.specs.declared.interface.Operation.{Operation}
-use Rattle.flat_descriptions.specs.declared.flat.End.{End}
-use Rattle.flat_descriptions.specs.declared.flat.Flat.{Flat}
-use Rattle.flat_descriptions.specs.declared.flat.Instance.{Instance}
-use Rattle.flat_descriptions.specs.declared.flat.Join.{Join}
-use Rattle.flat_descriptions.specs.Items.{interface_at, ItemsJoin, operation_names, IsSameName}
+use Rattle.description_types.specs.declared.flat.End.{End}
+use Rattle.description_types.specs.declared.flat.Flat.{Flat}
+use Rattle.description_types.specs.declared.flat.Instance.{Instance}
+use Rattle.description_types.specs.declared.flat.Join.{Join}
+use Rattle.description_types.specs.Items.{interface_at, ItemsJoin, operation_names, IsSameName}
 use Rattle.plan_definitions.specs.Connectors as connectors
 use Rattle.plan_definitions.specs.Connectors.{requires_server}
 use Rattle.plan_definitions.specs.JoinedItems as items

@@ -10,7 +10,7 @@ use Rattle.description_types.specs.declared.component.Event.{Event}
 use Rattle.description_types.specs.declared.description.Description.{Description}
 use Rattle.description_types.specs.declared.description.MappedEvent.{MappedEvent}
 use Rattle.description_types.specs.declared.description.Task as declared_task
-use Rattle.flat_descriptions.specs.declared.flat.Flat.{Flat}
+use Rattle.description_types.specs.declared.flat.Flat.{Flat}
 use Rattle.bus_semantics.specs.declared.plan.BusPlan.{BusPlan}
 use Rattle.bus_semantics.specs.declared.plan.ElemPlan.{ElemPlan}
 use Rattle.bus_semantics.specs.declared.plan.EventPlan.{EventPlan}

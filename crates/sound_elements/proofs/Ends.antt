@@ -10,12 +10,12 @@ use Rattle.description_types.specs.declared.component.PortKind.{PortKind}
 use Rattle.description_types.specs.declared.component.PortKind.TheVariants.{Provided, Required}
 use Rattle.description_types.specs.declared.description.Description.{Description}
 use Rattle.plan_definitions.specs.Connectors.{incompatible}
-use Rattle.flat_descriptions.specs.declared.flat.Flat.{Flat}
-use Rattle.flat_descriptions.specs.declared.flat.Join.{Join}
-use Rattle.flat_descriptions.specs.Flattening.{IsFlatOf}
-use Rattle.flat_descriptions.specs.Items.{ItemsJoin, interface_at}
-use Rattle.flat_descriptions.specs.Joined.{IsJoined, Stand, interface_below, stand_in}
-use Rattle.flat_descriptions.specs.Members.{Among}
+use Rattle.description_types.specs.declared.flat.Flat.{Flat}
+use Rattle.description_types.specs.declared.flat.Join.{Join}
+use Rattle.description_types.specs.Flattening.{IsFlatOf}
+use Rattle.description_types.specs.Items.{ItemsJoin, interface_at}
+use Rattle.description_types.specs.Joined.{IsJoined, Stand, interface_below, stand_in}
+use Rattle.description_types.specs.Members.{Among}
 use Rattle.bus_semantics.specs.declared.plan.ElemKind.{ElemKind}
 use Rattle.bus_semantics.specs.SoundPlan.{same_numbers}
 use Rattle.plan_definitions.specs.declared.site.Site.{Site}

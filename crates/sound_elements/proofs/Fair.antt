@@ -16,11 +16,11 @@ use Rattle.plan_definitions.specs.Connectors.{incompatible, ports_of}
 use Rattle.plan_definitions.specs.JoinedItems.{end_of as item_end, first_broken, first_item, first_number, in_instances, in_port, in_ports, requires_at}
 use Rattle.plan_definitions.specs.Joins.{are_several, crowds, is_crowded, is_many_to_many, providers, requirers, same_end}
 use Rattle.plan_definitions.specs.JoinRefusals.{item_refusal, of_connectors, of_items, of_root_ports, port_refusal, refusal}
-use Rattle.flat_descriptions.specs.declared.flat.End.{End}
-use Rattle.flat_descriptions.specs.declared.flat.Flat.{Flat}
-use Rattle.flat_descriptions.specs.declared.flat.Instance.{Instance}
-use Rattle.flat_descriptions.specs.declared.flat.Join.{Join}
-use Rattle.flat_descriptions.specs.Members.{Among}
+use Rattle.description_types.specs.declared.flat.End.{End}
+use Rattle.description_types.specs.declared.flat.Flat.{Flat}
+use Rattle.description_types.specs.declared.flat.Instance.{Instance}
+use Rattle.description_types.specs.declared.flat.Join.{Join}
+use Rattle.description_types.specs.Members.{Among}
 use Rattle.plan_definitions.specs.Sites.{provides_at}
 use Rattle.plan_definitions.specs.Ports.{port_of}
 use Rattle.plan_definitions.proofs.Lists.{kept, mapped, none_at}

@@ -3,7 +3,7 @@ use Rattle.std.proofs.Common.{◌≡◌, ℕ, zero, suc, ◌+◌, ◌<◌, List,
 use Rattle.std.proofs.lemmas.Bool.{and_from, eq-eqb, lt-ltb, ne_eqb}
 use Rattle.std.proofs.lemmas.List.Folds.{list_all-map}
 use Rattle.std.specs.List.{list_all}
-use Rattle.flat_descriptions.specs.Members.{Among}
+use Rattle.description_types.specs.Members.{Among}
 use Rattle.plan_definitions.specs.Lists.{from, positions}
 use Rattle.plan_definitions.specs.ElementGroups.{group_number, groups, heads, member_at, members}
 use Rattle.bus_semantics.specs.Plan.{every_from, positions as bus_positions}

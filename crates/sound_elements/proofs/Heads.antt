@@ -4,7 +4,7 @@ use Rattle.std.proofs.lemmas.Bool.{and_from, eq-eqb, eqb-true, eqb-false, le-leb
 use Rattle.std.proofs.lemmas.Option.{slice_get_within}
 use Rattle.std.specs.List.{list_all, position_from}
 use Rattle.std.specs.Option.{unwrap_or}
-use Rattle.flat_descriptions.specs.Members.{Among}
+use Rattle.description_types.specs.Members.{Among}
 use Rattle.plan_definitions.specs.Lists.{from, positions}
 use Rattle.plan_definitions.specs.ElementGroups.{group_number, groups, head_at, heads, member_at, members, number_among}
 use Rattle.bus_semantics.specs.SoundPlan.{first_of, firsts, is_rising}

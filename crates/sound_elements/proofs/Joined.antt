@@ -10,11 +10,11 @@ use Rattle.interface_types.specs.declared.interface.InterfaceKind.{InterfaceKind
 use Rattle.interface_types.specs.declared.interface.InterfaceKind.TheVariants.{ClientServer, ModeSwitch, SenderReceiver}
 use Rattle.description_types.specs.declared.component.Port.{Port}
 use Rattle.description_types.specs.declared.description.Description.{Description}
-use Rattle.flat_descriptions.specs.declared.flat.End.{End}
-use Rattle.flat_descriptions.specs.declared.flat.Flat.{Flat}
-use Rattle.flat_descriptions.specs.declared.flat.Join.{Join}
-use Rattle.flat_descriptions.specs.Items.{ItemsJoin, interface_at}
-use Rattle.flat_descriptions.specs.Members.{Among}
+use Rattle.description_types.specs.declared.flat.End.{End}
+use Rattle.description_types.specs.declared.flat.Flat.{Flat}
+use Rattle.description_types.specs.declared.flat.Join.{Join}
+use Rattle.description_types.specs.Items.{ItemsJoin, interface_at}
+use Rattle.description_types.specs.Members.{Among}
 use Rattle.bus_semantics.specs.declared.plan.ElemKind.TheVariants.{Unqueued}
 use Rattle.bus_semantics.specs.SoundNames.{is_name}
 use Rattle.plan_definitions.specs.declared.site.Site.{Site}

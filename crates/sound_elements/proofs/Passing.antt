@@ -14,7 +14,7 @@ use Rattle.interface_types.specs.declared.interface.SwImplPolicy.TheVariants.{Qu
 use Rattle.interface_types.specs.declared.interface.TypeTable.{TypeTable}
 use Rattle.plan_definitions.specs.Interfaces.{same_policy, serve_elements, serves, serves_element, serves_in}
 use Rattle.plan_definitions.specs.Types.{agree, are_compatible_types, base_number, types_agree}
-use Rattle.flat_descriptions.specs.Members.{Among}
+use Rattle.description_types.specs.Members.{Among}
 use Rattle.plan_definitions.proofs.Lists.{all_at, any_at, same_bytes}
 use Rattle.plan_definitions.proofs.Chains.{IsPassed}
 

@@ -6,7 +6,7 @@ use Rattle.bus_semantics.specs.SoundNames.{Named, same_named, named_once}
 use Rattle.bus_semantics.specs.SoundPlan.{same_numbers}
 use Rattle.plan_definitions.proofs.Lists.{same_numbers_is, same_numbers_refl, cases, at as get_among}
 use Rattle.sound_names.proofs.Lists.{filtered, mapped, map_has, none_from, any_has, piece, position_in}
-use Rattle.flat_descriptions.specs.Members.{Among, AllApart}
+use Rattle.description_types.specs.Members.{Among, AllApart}
 use Rattle.plan_definitions.specs.Lists.{from, positions}
 use Rattle.plan_definitions.specs.WellFormed.{distinct}
 

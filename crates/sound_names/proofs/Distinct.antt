@@ -7,10 +7,10 @@ use Rattle.description_types.specs.declared.component.Component.{Component}
 use Rattle.description_types.specs.declared.component.Event.{Event}
 use Rattle.description_types.specs.declared.component.Runnable as declared
 use Rattle.description_types.specs.declared.description.Description.{Description}
-use Rattle.flat_descriptions.specs.declared.flat.Flat.{Flat}
-use Rattle.flat_descriptions.specs.declared.flat.Instance.{Instance}
-use Rattle.flat_descriptions.specs.Flattening.{IsFlatOf}
-use Rattle.flat_descriptions.specs.Members.{Among, AllApart}
+use Rattle.description_types.specs.declared.flat.Flat.{Flat}
+use Rattle.description_types.specs.declared.flat.Instance.{Instance}
+use Rattle.description_types.specs.Flattening.{IsFlatOf}
+use Rattle.description_types.specs.Members.{Among, AllApart}
 use Rattle.bus_semantics.specs.declared.plan.AreaPlan.{AreaPlan}
 use Rattle.bus_semantics.specs.declared.plan.BusPlan.{BusPlan}
 use Rattle.bus_semantics.specs.declared.plan.ElemPlan.{ElemPlan}

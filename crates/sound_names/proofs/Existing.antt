@@ -6,9 +6,9 @@ use Rattle.std.proofs.lemmas.Option.{slice_get_within}
 use Rattle.std.specs.List.{list_all}
 use Rattle.std.specs.Option.{unwrap_or}
 use Rattle.description_types.specs.declared.description.Description.{Description}
-use Rattle.flat_descriptions.specs.declared.flat.Flat.{Flat}
-use Rattle.flat_descriptions.specs.declared.flat.Instance.{Instance}
-use Rattle.flat_descriptions.specs.Members.{Among}
+use Rattle.description_types.specs.declared.flat.Flat.{Flat}
+use Rattle.description_types.specs.declared.flat.Instance.{Instance}
+use Rattle.description_types.specs.Members.{Among}
 use Rattle.bus_semantics.specs.declared.plan.AreaPlan.{AreaPlan}
 use Rattle.bus_semantics.specs.declared.plan.BusPlan.{BusPlan}
 use Rattle.bus_semantics.specs.declared.plan.ElemPlan.{ElemPlan}

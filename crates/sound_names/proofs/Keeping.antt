@@ -13,7 +13,7 @@ use Rattle.description_types.specs.declared.component.Variable.{Variable}
 use Rattle.description_types.specs.declared.description.Composition.{Composition}
 use Rattle.description_types.specs.declared.description.Description.{Description}
 use Rattle.description_types.specs.declared.description.Prototype.{Prototype}
-use Rattle.flat_descriptions.specs.declared.flat.Flat.{Flat}
+use Rattle.description_types.specs.declared.flat.Flat.{Flat}
 use Rattle.bus_semantics.specs.SoundNames.{is_name}
 use Rattle.plan_definitions.specs.Sites.{root_ports}
 use Rattle.plan_definitions.specs.Parts.{component_of}

@@ -16,18 +16,18 @@ use Rattle.description_types.specs.declared.component.PortKind.TheVariants.{Prov
 use Rattle.description_types.specs.declared.description.Description.{Description}
 use Rattle.description_types.specs.declared.description.PrototypeType.{PrototypeType}
 use Rattle.description_types.specs.declared.description.PrototypeType.TheVariants as of
-use Rattle.flat_descriptions.specs.declared.flat.End.{End}
-use Rattle.flat_descriptions.specs.declared.flat.Flat.{Flat}
-use Rattle.flat_descriptions.specs.declared.flat.Instance.{Instance}
-use Rattle.flat_descriptions.specs.declared.flat.Join.{Join}
-use Rattle.flat_descriptions.specs.Connectors.{interface_of, kind_of, ports_of}
-use Rattle.flat_descriptions.specs.Flattening.{IsFlatOf}
-use Rattle.flat_descriptions.specs.Places.{Place, places}
-use Rattle.flat_descriptions.specs.Instances.{instance_at}
-use Rattle.flat_descriptions.specs.Items.{ItemsJoin, interface_at}
-use Rattle.flat_descriptions.specs.Joined.{Stand, interface_below, stand_in}
-use Rattle.flat_descriptions.specs.Members.{Among}
-use Rattle.flat_descriptions.specs.Paths.{type_at}
+use Rattle.description_types.specs.declared.flat.End.{End}
+use Rattle.description_types.specs.declared.flat.Flat.{Flat}
+use Rattle.description_types.specs.declared.flat.Instance.{Instance}
+use Rattle.description_types.specs.declared.flat.Join.{Join}
+use Rattle.description_types.specs.Connectors.{interface_of, kind_of, ports_of}
+use Rattle.description_types.specs.Flattening.{IsFlatOf}
+use Rattle.description_types.specs.Places.{Place, places}
+use Rattle.description_types.specs.Instances.{instance_at}
+use Rattle.description_types.specs.Items.{ItemsJoin, interface_at}
+use Rattle.description_types.specs.Joined.{Stand, interface_below, stand_in}
+use Rattle.description_types.specs.Members.{Among}
+use Rattle.description_types.specs.Paths.{type_at}
 use Rattle.bus_semantics.specs.declared.plan.BusPlan.{BusPlan}
 use Rattle.bus_semantics.specs.declared.plan.ModePortPlan.{ModePortPlan}
 use Rattle.plan_definitions.specs.declared.site.Site.{Site}

@@ -6,9 +6,9 @@ use Rattle.std.specs.Option.{option_map, option_map_or, option_eq, unwrap_or}
 use Rattle.description_types.specs.declared.component.Component.{Component}
 use Rattle.description_types.specs.declared.component.Runnable as declared
 use Rattle.description_types.specs.declared.description.Description.{Description}
-use Rattle.flat_descriptions.specs.declared.flat.Flat.{Flat}
-use Rattle.flat_descriptions.specs.declared.flat.Instance.{Instance}
-use Rattle.flat_descriptions.specs.Members.{Among}
+use Rattle.description_types.specs.declared.flat.Flat.{Flat}
+use Rattle.description_types.specs.declared.flat.Instance.{Instance}
+use Rattle.description_types.specs.Members.{Among}
 use Rattle.bus_semantics.specs.Plan.{Runnable}
 use Rattle.plan_definitions.specs.Keys.{Key, same_key, number_in, same_pair, pair_number}
 use Rattle.plan_definitions.specs.Lists.{positions, from}

@@ -5,9 +5,9 @@ use Rattle.std.specs.Option.{option_map_or}
 use Rattle.description_types.specs.declared.component.Component.{Component}
 use Rattle.description_types.specs.declared.component.Port.{Port}
 use Rattle.description_types.specs.declared.description.Description.{Description}
-use Rattle.flat_descriptions.specs.declared.flat.Flat.{Flat}
-use Rattle.flat_descriptions.specs.declared.flat.Instance.{Instance}
-use Rattle.flat_descriptions.specs.Members.{Among}
+use Rattle.description_types.specs.declared.flat.Flat.{Flat}
+use Rattle.description_types.specs.declared.flat.Instance.{Instance}
+use Rattle.description_types.specs.Members.{Among}
 use Rattle.plan_definitions.specs.declared.site.Site.{Site}
 use Rattle.plan_definitions.specs.Parts.{component_of}
 use Rattle.plan_definitions.specs.Sites.{sites}

@@ -12,13 +12,13 @@ use Rattle.description_types.specs.declared.description.Description.{Description
 use Rattle.description_types.specs.declared.description.Prototype.{Prototype}
 use Rattle.description_types.specs.declared.description.PrototypeType.{PrototypeType}
 use Rattle.description_types.specs.declared.description.PrototypeType.TheVariants as of
-use Rattle.flat_descriptions.specs.declared.flat.Flat.{Flat}
-use Rattle.flat_descriptions.specs.declared.flat.Instance.{Instance}
-use Rattle.flat_descriptions.specs.Flattening.{IsFlatOf}
-use Rattle.flat_descriptions.specs.Places.{Place, places_of, places_below, places}
-use Rattle.flat_descriptions.specs.Instances.{name_in, name_at, prefix_at, written, instance_at, instances}
-use Rattle.flat_descriptions.specs.Members.{Among, AllApart}
-use Rattle.flat_descriptions.specs.Paths.{prototypes_of, type_in, type_at}
+use Rattle.description_types.specs.declared.flat.Flat.{Flat}
+use Rattle.description_types.specs.declared.flat.Instance.{Instance}
+use Rattle.description_types.specs.Flattening.{IsFlatOf}
+use Rattle.description_types.specs.Places.{Place, places_of, places_below, places}
+use Rattle.description_types.specs.Instances.{name_in, name_at, prefix_at, written, instance_at, instances}
+use Rattle.description_types.specs.Members.{Among, AllApart}
+use Rattle.description_types.specs.Paths.{prototypes_of, type_in, type_at}
 use Rattle.bus_semantics.specs.declared.plan.BusPlan.{BusPlan}
 use Rattle.bus_semantics.specs.Plan as bus
 use Rattle.bus_semantics.specs.SoundNames.{is_env_path, is_name, is_path, none_is_env, parts}

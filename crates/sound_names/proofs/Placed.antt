@@ -5,11 +5,11 @@ use Rattle.description_types.specs.declared.component.PortKind.{PortKind}
 use Rattle.description_types.specs.declared.component.PortKind.TheVariants.{Provided, Required}
 use Rattle.description_types.specs.declared.description.Description.{Description}
 use Rattle.description_types.specs.declared.description.PrototypeType.TheVariants as of
-use Rattle.flat_descriptions.specs.Connectors.{is_one_kind, is_provided, is_required, kind_in, kind_of}
-use Rattle.flat_descriptions.specs.Places.{Place, places}
-use Rattle.flat_descriptions.specs.Joined.{Delegates, IsBelow, Stand, StandsJoin, as_inner}
-use Rattle.flat_descriptions.specs.Joined.IsBelow.{further, itself}
-use Rattle.flat_descriptions.specs.Paths.{type_at, type_in}
+use Rattle.description_types.specs.Connectors.{is_one_kind, is_provided, is_required, kind_in, kind_of}
+use Rattle.description_types.specs.Places.{Place, places}
+use Rattle.description_types.specs.Joined.{Delegates, IsBelow, Stand, StandsJoin, as_inner}
+use Rattle.description_types.specs.Joined.IsBelow.{further, itself}
+use Rattle.description_types.specs.Paths.{type_at, type_in}
 use Rattle.plan_definitions.proofs.Lists.{at as get_among}
 use Rattle.plan_definitions.proofs.Stands.{stands}
 

@@ -3,7 +3,7 @@
 ghost use Rattle.std.specs.Prelude.{◌≡◌, true, length, map, nat_lt};
 ghost use Rattle.std.specs.List.{list_all};
 ghost use Rattle.description_types.specs.declared.description.Description.{Description};
-ghost use Rattle.flat_descriptions.specs.declared.flat.Flat.{Flat};
+ghost use Rattle.description_types.specs.declared.flat.Flat.{Flat};
 ghost use Rattle.bus_semantics.specs.declared.plan.AreaPlan.{AreaPlan};
 ghost use Rattle.bus_semantics.specs.declared.plan.BusPlan.{BusPlan};
 ghost use Rattle.bus_semantics.specs.declared.plan.ElemPlan.{ElemPlan};

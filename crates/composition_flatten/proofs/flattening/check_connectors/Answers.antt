@@ -1,5 +1,5 @@
 use Rattle.std.proofs.Common.{◌∙◌, inr, subst}
-use Rattle.flat_descriptions.specs.Connectors.{IsFirstBroken}
+use Rattle.description_types.specs.Connectors.{IsFirstBroken}
 use Rattle.composition_flatten.proofs.flattening.check_connectors.Goals as goal
 
 pub returns-in_ok-place-in-Some-clause-refused : goal.returns-in_ok-place-in-Some-clause-refused

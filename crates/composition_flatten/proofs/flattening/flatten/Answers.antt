@@ -1,9 +1,9 @@
 use Rattle.std.proofs.Common.{◌∙◌, sym, subst, List, ◌↔◌}
 use Rattle.std.specs.List.Sorted.{IsStrictlySortedBy}
-use Rattle.flat_descriptions.specs.declared.flat.Join.{Join}
-use Rattle.flat_descriptions.specs.Joined.{IsJoined}
-use Rattle.flat_descriptions.specs.Members.{Among}
-use Rattle.flat_descriptions.specs.Orders.{join_order}
+use Rattle.description_types.specs.declared.flat.Join.{Join}
+use Rattle.description_types.specs.Joined.{IsJoined}
+use Rattle.description_types.specs.Members.{Among}
+use Rattle.description_types.specs.Orders.{join_order}
 use Rattle.composition_flatten.proofs.flattening.flatten.Goals as goal
 
 pub returns-clause-flat : goal.returns-clause-flat

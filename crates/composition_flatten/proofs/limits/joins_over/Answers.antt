@@ -1,7 +1,7 @@
 use Rattle.std.specs.Prelude.{IfNone, IfSome}
 use Rattle.std.proofs.Common.{subst}
-use Rattle.flat_descriptions.specs.Growing.{IsPastLimit}
-use Rattle.flat_descriptions.specs.Joined.{IsJoined}
+use Rattle.description_types.specs.Growing.{IsPastLimit}
+use Rattle.description_types.specs.Joined.{IsJoined}
 use Rattle.composition_flatten.specs.Within.{AreJoins}
 use Rattle.composition_flatten.proofs.limits.joins_over.Goals as goal
 

@@ -1,7 +1,7 @@
 use Rattle.std.proofs.Common.{subst, List, true, false}
 use Rattle.description_types.specs.declared.description.Connector.{Connector}
 use Rattle.description_types.specs.declared.description.Connector.TheVariants.{Assembly}
-use Rattle.flat_descriptions.specs.Growing.{AnyOf, Grown}
+use Rattle.description_types.specs.Growing.{AnyOf, Grown}
 use Rattle.composition_flatten.specs.Links.{IsAssemblyLink}
 use Rattle.composition_tables.proofs.Growth.{grown_more, grown_full, grown_all}
 use Rattle.composition_flatten.proofs.own.add_own.Goals as goal

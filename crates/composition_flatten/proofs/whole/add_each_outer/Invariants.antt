@@ -1,5 +1,5 @@
 use Rattle.std.proofs.Common.{take, false}
-use Rattle.flat_descriptions.specs.Growing.{AnyOf, Grown}
+use Rattle.description_types.specs.Growing.{AnyOf, Grown}
 use Rattle.composition_flatten.specs.Links.{IsOuterLink}
 use Rattle.end_crossing.specs.Crossings.{IsMatched}
 use Rattle.composition_flatten.proofs.whole.add_each_outer.Given as goal

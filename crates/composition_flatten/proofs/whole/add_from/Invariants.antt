@@ -1,6 +1,6 @@
 use Rattle.std.proofs.Common.{◌≡◌, take, false}
 use Rattle.composition_tables.specs.declared.links.Link.{Link}
-use Rattle.flat_descriptions.specs.Growing.{AnyOf, Grown}
+use Rattle.description_types.specs.Growing.{AnyOf, Grown}
 use Rattle.composition_flatten.specs.Links.{link_from}
 use Rattle.composition_flatten.proofs.whole.add_from.Given as goal
 

@@ -1,6 +1,6 @@
 use Rattle.std.proofs.Common.{◌≡◌, subst}
 use Rattle.composition_tables.specs.declared.links.Link.{Link}
-use Rattle.flat_descriptions.specs.Growing.{Grown}
+use Rattle.description_types.specs.Growing.{Grown}
 use Rattle.composition_flatten.proofs.whole.add_one_from.Goals as goal
 
 pub returns : goal.returns

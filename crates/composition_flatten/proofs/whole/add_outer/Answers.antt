@@ -2,7 +2,7 @@ use Rattle.std.proofs.Common.{◌∙◌, ◌↔◌, List, Some, refl, sym, subst
 use Rattle.composition_tables.specs.declared.tree.PortEnd.{PortEnd}
 use Rattle.end_search.specs.Gates.{gate_ends, outer_ends}
 use Rattle.composition_flatten.specs.Links.{IsOuterLink}
-use Rattle.flat_descriptions.specs.Members.{Among}
+use Rattle.description_types.specs.Members.{Among}
 use Rattle.composition_tables.proofs.Growth.{grown_none}
 use Rattle.composition_flatten.proofs.Wholes.{outer_grown, outer_none}
 use Rattle.composition_flatten.proofs.whole.add_outer.Goals as goal

@@ -1,5 +1,5 @@
 use Rattle.std.proofs.Common.{subst}
-use Rattle.flat_descriptions.specs.Growing.{Grown}
+use Rattle.description_types.specs.Growing.{Grown}
 use Rattle.composition_flatten.specs.Links.{IsOwnLink}
 use Rattle.composition_tables.proofs.Growth.{grown_ordered}
 use Rattle.composition_flatten.proofs.whole.own_of.Goals as goal

@@ -1,5 +1,5 @@
 use Rattle.std.proofs.Common.{ℕ, ◌<◌}
-use Rattle.flat_descriptions.specs.Connectors.{IsBrokenConnector}
+use Rattle.description_types.specs.Connectors.{IsBrokenConnector}
 use Rattle.composition_flatten.proofs.wiring.first_broken.Given as goal
 
 abbrev pub invariant-loop-composition : goal.invariant-loop-composition

@@ -2,7 +2,7 @@ use Rattle.std.proofs.Common.{◌∙◌, ◌<◌, ◌≤◌, sym, subst, length,
 use Rattle.std.proofs.lemmas.Option.{slice_get-get_or}
 use Rattle.description_types.specs.declared.description.Connector.TheVariants.{Assembly}
 use Rattle.description_types.specs.declared.description.Connector.{Connector}
-use Rattle.flat_descriptions.specs.Connectors.{IsBrokenConnector, connectors_of}
+use Rattle.description_types.specs.Connectors.{IsBrokenConnector, connectors_of}
 use Rattle.composition_flatten.proofs.Broken.{broken_here, unbroken_here, noted_more}
 use Rattle.composition_tables.proofs.FirstOnes.{none_all}
 use Rattle.composition_flatten.proofs.wiring.first_broken_in.Goals as goal

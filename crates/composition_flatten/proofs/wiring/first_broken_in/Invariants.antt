@@ -1,8 +1,8 @@
 use Rattle.std.proofs.Common.{ℕ, ◌<◌, ◌↔◌, map, take}
-use Rattle.flat_descriptions.specs.Connectors.{IsBrokenConnector}
+use Rattle.description_types.specs.Connectors.{IsBrokenConnector}
 use Rattle.composition_flatten.specs.declared.wiring.Key.{Key}
 use Rattle.composition_flatten.specs.Keys.{key_of}
-use Rattle.flat_descriptions.specs.Members.{Among}
+use Rattle.description_types.specs.Members.{Among}
 use Rattle.composition_flatten.proofs.wiring.first_broken_in.Given as goal
 
 abbrev pub invariant-loop-number : goal.invariant-loop-number

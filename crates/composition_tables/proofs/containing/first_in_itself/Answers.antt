@@ -1,5 +1,5 @@
 use Rattle.std.proofs.Common.{arith, length}
-use Rattle.flat_descriptions.specs.Paths.{ContainsItself}
+use Rattle.description_types.specs.Paths.{ContainsItself}
 use Rattle.composition_tables.proofs.FirstOnes.{none_more, none_all}
 use Rattle.composition_tables.proofs.containing.first_in_itself.Goals as goal
 

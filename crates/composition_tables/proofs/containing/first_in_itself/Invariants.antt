@@ -1,5 +1,5 @@
 use Rattle.std.proofs.Common.{ℕ, ◌<◌}
-use Rattle.flat_descriptions.specs.Paths.{ContainsItself}
+use Rattle.description_types.specs.Paths.{ContainsItself}
 use Rattle.composition_tables.proofs.containing.first_in_itself.Given as goal
 
 abbrev pub invariant-loop-composition : goal.invariant-loop-composition

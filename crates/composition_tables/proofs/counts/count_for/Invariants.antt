@@ -1,7 +1,7 @@
 use Rattle.std.proofs.Common.{◌≡◌, ◌+◌, ◌≤◌, min, slice_index, drop}
 use Rattle.composition_tables.specs.Counts.{count_for}
-use Rattle.flat_descriptions.specs.Places.{size_of}
-use Rattle.flat_descriptions.specs.Members.{sum_of}
+use Rattle.description_types.specs.Places.{size_of}
+use Rattle.description_types.specs.Members.{sum_of}
 use Rattle.composition_tables.proofs.counts.count_for.Given as goal
 
 abbrev pub invariant-loop-prototype : goal.invariant-loop-prototype

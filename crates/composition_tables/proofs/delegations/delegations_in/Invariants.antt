@@ -1,7 +1,7 @@
 use Rattle.std.proofs.Common.{◌≡◌, ◌++◌, ℕ, length, drop}
 use Rattle.std.specs.List.{filter_map}
 use Rattle.description_types.specs.declared.description.PrototypeType.TheVariants.{Composition}
-use Rattle.flat_descriptions.specs.Connectors.{ports_of}
+use Rattle.description_types.specs.Connectors.{ports_of}
 use Rattle.composition_tables.specs.Ends.{delegated, inner_ports}
 use Rattle.composition_tables.specs.Trees.{ports_at}
 use Rattle.composition_tables.proofs.delegations.delegations_in.Given as goal

@@ -1,7 +1,7 @@
 use Rattle.std.proofs.Common.{◌≡◌, [], nat_eq, drop}
 use Rattle.std.specs.List.{flat_map}
 use Rattle.indexmap.specs.IndexSet.{insert_all}
-use Rattle.flat_descriptions.specs.Paths.{held_by}
+use Rattle.description_types.specs.Paths.{held_by}
 use Rattle.composition_tables.proofs.depth.held_by_any.Given as goal
 
 abbrev pub invariant-loop-holder : goal.invariant-loop-holder

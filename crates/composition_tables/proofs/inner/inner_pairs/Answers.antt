@@ -3,7 +3,7 @@ use Rattle.std.specs.List.{flat_map}
 use Rattle.std.proofs.lemmas.List.{take_all}
 use Rattle.description_types.specs.declared.description.InnerPort.{InnerPort}
 use Rattle.composition_tables.specs.Ends.{inner_ports}
-use Rattle.flat_descriptions.specs.Members.{Among}
+use Rattle.description_types.specs.Members.{Among}
 use Rattle.composition_tables.specs.Inner.{port_of}
 use Rattle.composition_tables.proofs.Following.{taken_more}
 use Rattle.composition_tables.proofs.Stepping.{step_plain}

@@ -1,7 +1,7 @@
 use Rattle.std.proofs.Common.{ℕ, ◌↔◌, take}
 use Rattle.std.specs.List.{flat_map}
 use Rattle.composition_tables.specs.Ends.{inner_ports}
-use Rattle.flat_descriptions.specs.Members.{Among}
+use Rattle.description_types.specs.Members.{Among}
 use Rattle.composition_tables.specs.Inner.{port_of}
 use Rattle.composition_tables.proofs.inner.inner_pairs.Given as goal
 

@@ -1,5 +1,5 @@
 use Rattle.std.proofs.Common.{ℕ, ◌↔◌, ◌⊎◌, take}
-use Rattle.flat_descriptions.specs.Members.{Among}
+use Rattle.description_types.specs.Members.{Among}
 use Rattle.composition_tables.specs.Inner.{port_of}
 use Rattle.composition_tables.proofs.inner.note_all.Given as goal
 

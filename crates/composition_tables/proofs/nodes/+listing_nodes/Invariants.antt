@@ -1,7 +1,7 @@
 use Rattle.std.proofs.Common.{◌≡◌, ◌*◌, ◌+◌, ◌-◌, ◌<◌, ℕ, ◌↔◌, ◌⊎◌}
 use Rattle.composition_tables.specs.declared.nodes.Node.{Node}
 use Rattle.composition_tables.specs.Nodes.{IsInnerNode}
-use Rattle.flat_descriptions.specs.Members.{Among}
+use Rattle.description_types.specs.Members.{Among}
 use Rattle.composition_tables.proofs.nodes.+listing_nodes.Given as goal
 
 abbrev pub invariant-list_nodes-loop-prototype : goal.invariant-list_nodes-loop-prototype

@@ -1,6 +1,6 @@
 use Rattle.std.proofs.Common.{◌≡◌, ℕ, ◌<◌, true, slice_index}
 use Rattle.std.specs.List.{list_all}
-use Rattle.flat_descriptions.specs.Paths.{prototypes_of}
+use Rattle.description_types.specs.Paths.{prototypes_of}
 use Rattle.composition_tables.specs.Ranks.{ranks_within}
 use Rattle.composition_tables.proofs.ranks.is_ranking.Given as goal
 

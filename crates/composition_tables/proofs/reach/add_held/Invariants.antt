@@ -1,7 +1,7 @@
 use Rattle.std.proofs.Common.{◌≡◌, nat_eq, drop}
 use Rattle.std.specs.List.{filter_map}
 use Rattle.indexmap.specs.IndexSet.{insert_all}
-use Rattle.flat_descriptions.specs.Paths.{held_by, declared_composition}
+use Rattle.description_types.specs.Paths.{held_by, declared_composition}
 use Rattle.composition_tables.proofs.reach.add_held.Given as goal
 
 abbrev pub invariant-loop-prototype : goal.invariant-loop-prototype

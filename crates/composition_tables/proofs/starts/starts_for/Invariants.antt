@@ -1,5 +1,5 @@
 use Rattle.std.proofs.Common.{◌≡◌, ◌++◌, slice_index, drop}
-use Rattle.flat_descriptions.specs.Places.{size_of}
+use Rattle.description_types.specs.Places.{size_of}
 use Rattle.composition_tables.specs.Trees.{running, starts_for}
 use Rattle.composition_tables.proofs.starts.starts_for.Given as goal
 

@@ -1,7 +1,7 @@
 use Rattle.std.proofs.Common.{inl, ⊎_elim, sym, subst}
 use Rattle.std.proofs.lemmas.List.{take_all}
 use Rattle.end_search.specs.Sides.{HasInterface}
-use Rattle.flat_descriptions.specs.Members.{Among}
+use Rattle.description_types.specs.Members.{Among}
 use Rattle.composition_tables.proofs.Stepping.{one_more}
 use Rattle.end_crossing.proofs.completing.complete_all.Goals as goal
 

@@ -1,6 +1,6 @@
 use Rattle.std.proofs.Common.{ℕ, take}
 use Rattle.end_search.specs.Sides.{HasInterface, IsSide}
-use Rattle.flat_descriptions.specs.Members.{Among}
+use Rattle.description_types.specs.Members.{Among}
 use Rattle.end_crossing.proofs.completing.complete_all.Given as goal
 
 abbrev pub invariant-loop-interface : goal.invariant-loop-interface

@@ -1,6 +1,6 @@
 use Rattle.std.proofs.Common.{◌≡◌, ℕ, take, false}
 use Rattle.composition_tables.specs.declared.links.Link.{Link}
-use Rattle.flat_descriptions.specs.Growing.{AnyOf, Grown}
+use Rattle.description_types.specs.Growing.{AnyOf, Grown}
 use Rattle.end_crossing.specs.PortLinks.{link_of}
 use Rattle.end_crossing.proofs.cross.add_items.Given as goal
 

@@ -1,5 +1,5 @@
 use Rattle.std.proofs.Common.{subst}
-use Rattle.flat_descriptions.specs.Growing.{Grown}
+use Rattle.description_types.specs.Growing.{Grown}
 use Rattle.end_crossing.specs.PortLinks.{IsPairLink}
 use Rattle.end_crossing.proofs.Grouping.{pair_links, adding_more, done_before, done_now}
 use Rattle.end_crossing.proofs.cross.add_pair.Goals as goal

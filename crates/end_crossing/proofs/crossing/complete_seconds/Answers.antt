@@ -1,5 +1,5 @@
 use Rattle.std.proofs.Common.{sym, subst}
-use Rattle.flat_descriptions.specs.Members.{Among}
+use Rattle.description_types.specs.Members.{Among}
 use Rattle.end_crossing.proofs.crossing.complete_seconds.Goals as goal
 
 pub returns-clause-has : goal.returns-clause-has

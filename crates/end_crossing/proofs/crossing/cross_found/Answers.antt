@@ -1,6 +1,6 @@
 use Rattle.std.proofs.Common.{inl, inr, sym, subst}
 use Rattle.end_search.specs.Gates.{gate_ends}
-use Rattle.flat_descriptions.specs.Members.{Among}
+use Rattle.description_types.specs.Members.{Among}
 use Rattle.end_crossing.proofs.Parting.{pairs_part, cross_full, cross_part, cross_whole}
 use Rattle.end_crossing.proofs.crossing.cross_found.Goals as goal
 

@@ -1,6 +1,6 @@
 use Rattle.std.proofs.Common.{ℕ, ⊎_elim, sym, ap, subst}
 use Rattle.std.proofs.lemmas.List.{take_all}
-use Rattle.flat_descriptions.specs.Members.{Among}
+use Rattle.description_types.specs.Members.{Among}
 use Rattle.composition_tables.proofs.Stepping.{one_more}
 use Rattle.end_crossing.proofs.crossing.firsts_of.Goals as goal
 

@@ -1,5 +1,5 @@
 use Rattle.std.proofs.Common.{ℕ, take}
-use Rattle.flat_descriptions.specs.Members.{Among}
+use Rattle.description_types.specs.Members.{Among}
 use Rattle.end_crossing.proofs.crossing.firsts_of.Given as goal
 
 abbrev pub invariant-loop-pair : goal.invariant-loop-pair

@@ -1,7 +1,7 @@
 use Rattle.std.proofs.Common.{subst}
 use Rattle.end_crossing.specs.declared.crossings.Crossing.TheVariants.{Column}
 use Rattle.composition_tables.specs.declared.tree.PortEnd.{PortEnd}
-use Rattle.flat_descriptions.specs.Growing.{AnyOf, Grown}
+use Rattle.description_types.specs.Growing.{AnyOf, Grown}
 use Rattle.end_crossing.specs.PortLinks.{IsPairLink}
 use Rattle.end_crossing.proofs.Grouping.{crossed_before, crossed_now}
 use Rattle.end_crossing.proofs.ByParts.{column_grown, column_there}

@@ -1,5 +1,5 @@
 use Rattle.composition_tables.specs.declared.tree.PortEnd.{PortEnd}
-use Rattle.flat_descriptions.specs.Growing.{AnyOf}
+use Rattle.description_types.specs.Growing.{AnyOf}
 use Rattle.end_crossing.specs.PortLinks.{IsPairLink}
 use Rattle.composition_tables.proofs.Growth.{grown_more, grown_full, grown_all}
 use Rattle.end_search.proofs.Lookups.{no_end}

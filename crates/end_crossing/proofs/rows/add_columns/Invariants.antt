@@ -1,5 +1,5 @@
 use Rattle.std.proofs.Common.{take, false}
-use Rattle.flat_descriptions.specs.Growing.{AnyOf, Grown}
+use Rattle.description_types.specs.Growing.{AnyOf, Grown}
 use Rattle.composition_tables.specs.declared.tree.PortEnd.{PortEnd}
 use Rattle.end_crossing.specs.PortLinks.{IsPairLink}
 use Rattle.end_crossing.specs.Crossings.{IsAdding}

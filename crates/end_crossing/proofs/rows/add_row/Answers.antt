@@ -1,6 +1,6 @@
 use Rattle.std.proofs.Common.{subst}
 use Rattle.end_crossing.specs.declared.crossings.Crossing.TheVariants.{Row}
-use Rattle.flat_descriptions.specs.Growing.{AnyOf, Grown}
+use Rattle.description_types.specs.Growing.{AnyOf, Grown}
 use Rattle.end_crossing.specs.PortLinks.{IsPairLink}
 use Rattle.end_crossing.proofs.Grouping.{crossed_before, crossed_now}
 use Rattle.end_crossing.proofs.ByParts.{row_grown, row_there}

@@ -2,7 +2,7 @@ use Rattle.std.proofs.Common.{◌∙◌, refl, subst}
 use Rattle.end_crossing.specs.declared.crossings.Crossing.TheVariants.{Gates}
 use Rattle.composition_tables.specs.Ends.{ends, inner_ends}
 use Rattle.end_search.specs.Gates.{gate_ends}
-use Rattle.flat_descriptions.specs.Growing.{Grown}
+use Rattle.description_types.specs.Growing.{Grown}
 use Rattle.end_crossing.specs.PortLinks.{IsCrossLink}
 use Rattle.description_types.specs.declared.description.InnerPort.{InnerPort}
 use Rattle.end_crossing.proofs.ByParts.{provided_parts, required_parts}

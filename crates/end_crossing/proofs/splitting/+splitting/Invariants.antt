@@ -1,7 +1,7 @@
 use Rattle.std.proofs.Common.{◌*◌, ◌+◌, take, false}
 use Rattle.composition_tables.specs.Ends.{ends, inner_ends}
 use Rattle.end_search.specs.Gates.{gate_ends}
-use Rattle.flat_descriptions.specs.Growing.{AnyOf, Grown}
+use Rattle.description_types.specs.Growing.{AnyOf, Grown}
 use Rattle.end_crossing.specs.PortLinks.{IsCrossLink}
 use Rattle.end_crossing.specs.Crossings.{IsAdding}
 use Rattle.end_crossing.proofs.splitting.+splitting.Given as goal

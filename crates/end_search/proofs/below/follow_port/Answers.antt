@@ -1,6 +1,6 @@
 use Rattle.std.proofs.Common.{◌∙◌, sym, subst}
 use Rattle.std.proofs.lemmas.List.{take_all}
-use Rattle.flat_descriptions.specs.Members.{Among}
+use Rattle.description_types.specs.Members.{Among}
 use Rattle.end_search.proofs.Seeking.{stays_same, stays_on, followed_next}
 use Rattle.end_search.proofs.below.follow_port.Goals as goal
 

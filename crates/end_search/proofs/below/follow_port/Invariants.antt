@@ -1,7 +1,7 @@
 use Rattle.std.proofs.Common.{take}
 use Rattle.description_types.specs.declared.description.InnerPort.{InnerPort}
 use Rattle.end_search.specs.Below.{Stays, IsInnerCovered}
-use Rattle.flat_descriptions.specs.Members.{Among}
+use Rattle.description_types.specs.Members.{Among}
 use Rattle.end_search.proofs.below.follow_port.Given as goal
 
 abbrev pub invariant-loop-inner : goal.invariant-loop-inner

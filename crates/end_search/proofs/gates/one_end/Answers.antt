@@ -1,6 +1,6 @@
 use Rattle.std.proofs.Common.{inl, inr, ⊎_elim, subst}
 use Rattle.composition_tables.specs.declared.tree.Owner.TheVariants.{Environment}
-use Rattle.flat_descriptions.specs.Members.{Among}
+use Rattle.description_types.specs.Members.{Among}
 use Rattle.composition_tables.proofs.Members.{key_iff}
 use Rattle.end_search.proofs.SameEnds.{same_end, itself_end}
 use Rattle.end_search.proofs.gates.one_end.Goals as goal

@@ -1,5 +1,5 @@
 use Rattle.std.proofs.Common.{◌≡◌, take}
-use Rattle.flat_descriptions.specs.Items.{operation_names}
+use Rattle.description_types.specs.Items.{operation_names}
 use Rattle.end_search.specs.Tables.{names_of}
 use Rattle.end_search.proofs.interfaces.operation_names.Given as goal
 

@@ -1,6 +1,6 @@
 use Rattle.std.proofs.Common.{ℕ, ◌<◌, ◌↔◌}
-use Rattle.flat_descriptions.specs.Items.{IsSameName}
-use Rattle.flat_descriptions.specs.Members.{Among}
+use Rattle.description_types.specs.Items.{IsSameName}
+use Rattle.description_types.specs.Members.{Among}
 use Rattle.end_search.proofs.matches.found_in.Given as goal
 
 abbrev pub invariant-loop-number : goal.invariant-loop-number

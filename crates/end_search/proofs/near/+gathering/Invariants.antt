@@ -1,6 +1,6 @@
 use Rattle.std.proofs.Common.{◌*◌, ◌+◌, take, false}
 use Rattle.description_types.specs.declared.description.InnerPort.{InnerPort}
-use Rattle.flat_descriptions.specs.Growing.{AnyOf}
+use Rattle.description_types.specs.Growing.{AnyOf}
 use Rattle.end_search.specs.Near.{AreNear}
 use Rattle.end_search.specs.Wishes.{IsInnerEnd, Sought}
 use Rattle.end_search.proofs.near.+gathering.Given as goal

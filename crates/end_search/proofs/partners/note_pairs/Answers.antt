@@ -1,6 +1,6 @@
 use Rattle.std.proofs.Common.{inl, inr, ⊎_elim, ap, sym, subst}
 use Rattle.std.proofs.lemmas.List.{take_all}
-use Rattle.flat_descriptions.specs.Members.{Among}
+use Rattle.description_types.specs.Members.{Among}
 use Rattle.end_search.proofs.Keying.{taken_cases}
 use Rattle.end_search.proofs.partners.note_pairs.Goals as goal
 

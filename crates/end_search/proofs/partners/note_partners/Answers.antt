@@ -1,7 +1,7 @@
 use Rattle.std.proofs.Common.{⊎_elim, sym, subst}
 use Rattle.indexmap.specs.IndexMap.{get}
 use Rattle.std.proofs.lemmas.List.{take_all}
-use Rattle.flat_descriptions.specs.Members.{Among}
+use Rattle.description_types.specs.Members.{Among}
 use Rattle.end_search.specs.Sharing.{same_item}
 use Rattle.composition_tables.specs.Multi.{under}
 use Rattle.end_search.proofs.Keying.{taken_cases}

@@ -1,6 +1,6 @@
 use Rattle.std.proofs.Common.{ℕ, List, Bor, take}
 use Rattle.indexmap.specs.IndexMap.{get}
-use Rattle.flat_descriptions.specs.Members.{Among}
+use Rattle.description_types.specs.Members.{Among}
 use Rattle.end_search.specs.Sharing.{same_item}
 use Rattle.composition_tables.specs.Multi.{under}
 use Rattle.end_search.proofs.partners.note_partners.Given as goal

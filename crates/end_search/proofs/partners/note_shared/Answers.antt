@@ -1,8 +1,8 @@
 use Rattle.std.proofs.Common.{ℕ, List, Bor, refl, sym, subst}
 use Rattle.std.proofs.lemmas.Bool.{ltb-true}
 use Rattle.std.proofs.lemmas.Option.{slice_get_read, slice_get_past}
-use Rattle.flat_descriptions.specs.Items.{interface_at}
-use Rattle.flat_descriptions.specs.Members.{Among}
+use Rattle.description_types.specs.Items.{interface_at}
+use Rattle.description_types.specs.Members.{Among}
 use Rattle.end_search.specs.Sharing.{interface_keys}
 use Rattle.end_search.proofs.Keying.{listed_keys, unlisted_keys, unmapped}
 use Rattle.end_search.proofs.partners.note_shared.Goals as goal

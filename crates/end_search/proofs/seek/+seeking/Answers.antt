@@ -3,8 +3,8 @@ use Rattle.std.proofs.lemmas.Result.{IfOk-weaker}
 use Rattle.description_types.specs.declared.description.PrototypeType.TheVariants.{Component, Composition}
 use Rattle.composition_tables.specs.Counts.{count_in}
 use Rattle.composition_tables.specs.Ends.{ends}
-use Rattle.flat_descriptions.specs.Growing.{AnyOf}
-use Rattle.flat_descriptions.specs.Members.{Among}
+use Rattle.description_types.specs.Growing.{AnyOf}
+use Rattle.description_types.specs.Members.{Among}
 use Rattle.end_search.specs.Wishes.{IsBelowPrototype, IsEnd, IsInnerEnd, Sought}
 use Rattle.composition_tables.proofs.Noding.{type_declared}
 use Rattle.end_search.proofs.Wishing.{cut_either, known_anew, sought_none, sought_begin, sought_more, sought_full, sought_all, sought_inside, sought_dead, sought_known, sought_missing, sought_below}

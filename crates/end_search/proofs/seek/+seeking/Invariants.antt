@@ -1,5 +1,5 @@
 use Rattle.std.proofs.Common.{◌*◌, ◌+◌, take, false}
-use Rattle.flat_descriptions.specs.Growing.{AnyOf}
+use Rattle.description_types.specs.Growing.{AnyOf}
 use Rattle.end_search.specs.Wishes.{IsBelowPrototype, IsCutBelow, IsKnown, Sought}
 use Rattle.end_search.proofs.seek.+seeking.Given as goal
 

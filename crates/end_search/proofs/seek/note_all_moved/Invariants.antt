@@ -1,6 +1,6 @@
 use Rattle.std.proofs.Common.{◌≡◌, take, false}
 use Rattle.composition_tables.specs.declared.tree.PortEnd.{PortEnd}
-use Rattle.flat_descriptions.specs.Growing.{AnyOf}
+use Rattle.description_types.specs.Growing.{AnyOf}
 use Rattle.end_search.specs.Wishes.{end_from, Sought}
 use Rattle.end_search.proofs.seek.note_all_moved.Given as goal
 

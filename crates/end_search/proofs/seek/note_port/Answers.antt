@@ -2,7 +2,7 @@ use Rattle.std.proofs.Common.{◌≡◌, ◌∙◌, inl, ⊎_elim, sym, ap, subs
 use Rattle.description_types.specs.declared.description.PrototypeType.TheVariants.{Component}
 use Rattle.composition_tables.specs.declared.tree.Owner.TheVariants.{Instance}
 use Rattle.composition_tables.specs.Ends.{own_end}
-use Rattle.flat_descriptions.specs.Members.{Among}
+use Rattle.description_types.specs.Members.{Among}
 use Rattle.end_search.specs.Wishes.{IsEnd, IsWanted}
 use Rattle.end_search.proofs.Wishing.{sought_none, sought_same}
 use Rattle.end_search.proofs.seek.note_port.Goals as goal

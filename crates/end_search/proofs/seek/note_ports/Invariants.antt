@@ -1,6 +1,6 @@
 use Rattle.std.proofs.Common.{take, false}
 use Rattle.description_types.specs.declared.description.PrototypeType.TheVariants.{Component}
-use Rattle.flat_descriptions.specs.Growing.{AnyOf}
+use Rattle.description_types.specs.Growing.{AnyOf}
 use Rattle.end_search.specs.Wishes.{IsEnd, Sought}
 use Rattle.end_search.proofs.seek.note_ports.Given as goal
 

@@ -1,5 +1,5 @@
 use Rattle.std.proofs.Common.{subst}
-use Rattle.flat_descriptions.specs.Members.{Among}
+use Rattle.description_types.specs.Members.{Among}
 use Rattle.end_search.proofs.seek.nothing_known.Goals as goal
 
 pub returns-clause-known : goal.returns-clause-known

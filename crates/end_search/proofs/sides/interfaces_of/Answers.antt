@@ -1,7 +1,7 @@
 use Rattle.std.proofs.Common.{⊎_elim, sym, ap, subst}
 use Rattle.std.proofs.lemmas.List.{take_all}
 use Rattle.composition_tables.specs.declared.tree.PortEnd.{PortEnd}
-use Rattle.flat_descriptions.specs.Members.{Among}
+use Rattle.description_types.specs.Members.{Among}
 use Rattle.composition_tables.proofs.Stepping.{one_more}
 use Rattle.end_search.proofs.Lookups.{no_end}
 use Rattle.end_search.proofs.sides.interfaces_of.Goals as goal

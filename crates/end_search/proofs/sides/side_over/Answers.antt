@@ -1,5 +1,5 @@
 use Rattle.std.proofs.Common.{◌∙◌, ◌<◌, length, refl, sym, subst}
-use Rattle.flat_descriptions.specs.Members.{Among}
+use Rattle.description_types.specs.Members.{Among}
 use Rattle.end_search.specs.Sharing.{IsIndexed}
 use Rattle.end_search.proofs.sides.side_over.Goals as goal
 

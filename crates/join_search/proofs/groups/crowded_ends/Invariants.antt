@@ -1,7 +1,7 @@
 use Rattle.std.proofs.Common.{◌≡◌, drop, ◌&&◌, ◌||◌}
 use Rattle.std.specs.List.{list_any}
 use Rattle.indexmap.specs.IndexSet.{contains}
-use Rattle.flat_descriptions.specs.declared.flat.End.{End}
+use Rattle.description_types.specs.declared.flat.End.{End}
 use Rattle.plan_definitions.specs.Joins.{same_end, crowds}
 use Rattle.join_search.specs.Partners.{key_of, same_key}
 use Rattle.join_search.proofs.groups.crowded_ends.Given as goal

@@ -1,6 +1,6 @@
 use Rattle.std.proofs.Common.{◌≡◌, drop}
 use Rattle.indexmap.specs.IndexMap.{get}
-use Rattle.flat_descriptions.specs.declared.flat.End.{End}
+use Rattle.description_types.specs.declared.flat.End.{End}
 use Rattle.plan_definitions.specs.Joins.{partners}
 use Rattle.join_search.specs.Partners.{added, key_of, other, own, same_key, summary}
 use Rattle.join_search.proofs.partners.kept_of_all.Given as goal

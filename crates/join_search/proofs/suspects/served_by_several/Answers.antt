@@ -1,7 +1,7 @@
 use Rattle.std.proofs.Common.{◌≡◌, true, sym, ◌∙◌, true≢false}
 use Rattle.std.proofs.lemmas.Result.{IfOk-weaker}
 use Rattle.indexmap.specs.IndexSet.{contains}
-use Rattle.flat_descriptions.specs.declared.flat.End.{End}
+use Rattle.description_types.specs.declared.flat.End.{End}
 use Rattle.plan_definitions.specs.Joins.{are_several, providers}
 use Rattle.join_search.specs.Suspects.{PortKey, port_of, same_port, several_at}
 use Rattle.join_search.proofs.Suspecting.{several_there}

@@ -1,5 +1,5 @@
 use Rattle.std.proofs.Common.{ℕ, length}
-use Rattle.flat_descriptions.specs.Members.{Among}
+use Rattle.description_types.specs.Members.{Among}
 use Rattle.mapping_rules.specs.Edges.{HaveRanks}
 use Rattle.mapping_rules.proofs.peeling.are_acyclic.Given as goal
 

@@ -1,5 +1,5 @@
 use Rattle.std.proofs.Common.{ℕ, ◌+◌, ◌++◌, drop, sym, ap, ◌∙◌}
-use Rattle.flat_descriptions.specs.declared.flat.Instance.{Instance}
+use Rattle.description_types.specs.declared.flat.Instance.{Instance}
 use Rattle.plan_definitions.specs.Lists.{from}
 use Rattle.plan_definitions.specs.Parts.{counted_at, numbered}
 use Rattle.plan_numbers.proofs.Listing.{from_more, from_none, nothing}

@@ -2,7 +2,7 @@ use Rattle.std.proofs.Common.{◌≡◌, ℕ, ◌<◌, ◌↔◌, List, Bor, Som
 use Rattle.indexmap.specs.IndexMap.{get}
 use Rattle.end_search.specs.Tables.{names_of, same_name}
 use Rattle.composition_tables.specs.Multi.{under}
-use Rattle.flat_descriptions.specs.Members.{Among}
+use Rattle.description_types.specs.Members.{Among}
 use Rattle.end_search.proofs.names.Names.of.Given as goal
 
 abbrev pub invariant-loop-position : goal.invariant-loop-position

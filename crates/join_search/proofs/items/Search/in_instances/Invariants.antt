@@ -1,6 +1,6 @@
 use Rattle.std.proofs.Common.{◌≡◌, drop, Some}
 use Rattle.description_types.specs.declared.description.PrototypeType.TheVariants as of_type
-use Rattle.flat_descriptions.specs.declared.flat.End.{End}
+use Rattle.description_types.specs.declared.flat.End.{End}
 use Rattle.plan_definitions.specs.Connectors.{ports_of}
 use Rattle.plan_definitions.specs.Firsts.{first_of}
 use Rattle.plan_definitions.specs.JoinedItems.{in_ports}

@@ -1,5 +1,5 @@
 use Rattle.std.proofs.Common.{◌≡◌, drop, None, if◌then◌else◌}
-use Rattle.flat_descriptions.specs.declared.flat.End.{End}
+use Rattle.description_types.specs.declared.flat.End.{End}
 use Rattle.plan_definitions.specs.Firsts.{first_of}
 use Rattle.plan_definitions.specs.JoinedItems.{in_port, requires_at}
 use Rattle.join_search.proofs.items.Search.in_ports.Given as goal

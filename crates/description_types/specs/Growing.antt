@@ -1,6 +1,6 @@
 -- Sets of links that grow up to a limit.
 use Rattle.std.specs.Prelude.{◌≡◌, ◌<◌, List, Bool, true, false, length, ◌⊎◌}
-use Rattle.flat_descriptions.specs.Members.{Among, AllApart}
+use Rattle.description_types.specs.Members.{Among, AllApart}
 
 -- some element of the list has it
 abbrev pub AnyOf : {X Y : Type 0} → (X → Y → Type 0) → List X → Y → Type 0

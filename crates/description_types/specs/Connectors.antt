@@ -10,8 +10,8 @@ use Rattle.description_types.specs.declared.description.Description.{Description
 use Rattle.description_types.specs.declared.description.InnerPort.{InnerPort}
 use Rattle.description_types.specs.declared.description.PrototypeType.{PrototypeType}
 use Rattle.description_types.specs.declared.description.PrototypeType.TheVariants.{Component, Composition}
-use Rattle.flat_descriptions.specs.Members.{Among}
-use Rattle.flat_descriptions.specs.Paths.{type_in}
+use Rattle.description_types.specs.Members.{Among}
+use Rattle.description_types.specs.Paths.{type_in}
 
 -- the ports of a component or composition
 abbrev pub ports_of : Description → PrototypeType → List Port

@@ -4,7 +4,7 @@ use Rattle.std.specs.Prelude.{◌≡◌, ℕ, ◌<◌, List, [], ◌∷◌, leng
 use Rattle.std.specs.List.{filter_map}
 use Rattle.std.specs.Option.{option_map_or}
 use Rattle.description_types.specs.declared.description.Description.{Description}
-use Rattle.flat_descriptions.specs.Members.{Among}
+use Rattle.description_types.specs.Members.{Among}
 use Rattle.description_types.specs.declared.description.Prototype.{Prototype}
 use Rattle.description_types.specs.declared.description.PrototypeType.{PrototypeType}
 use Rattle.description_types.specs.declared.description.PrototypeType.TheVariants.{Component, Composition}

@@ -5,8 +5,8 @@ use Rattle.std.specs.List.{flat_map, enumerate_from}
 use Rattle.description_types.specs.declared.description.Description.{Description}
 use Rattle.description_types.specs.declared.description.PrototypeType.{PrototypeType}
 use Rattle.description_types.specs.declared.description.PrototypeType.TheVariants.{Component, Composition}
-use Rattle.flat_descriptions.specs.Members.{sum_of}
-use Rattle.flat_descriptions.specs.Paths.{prototypes_of, type_at}
+use Rattle.description_types.specs.Members.{sum_of}
+use Rattle.description_types.specs.Paths.{prototypes_of, type_at}
 
 -- where an instance stands: the positions of its prototypes, the innermost first, and its component
 pub record Place : Type 0 where

@@ -10,12 +10,12 @@ use Rattle.description_types.specs.declared.description.Description.{Description
 use Rattle.description_types.specs.declared.description.InnerPort.{InnerPort}
 use Rattle.description_types.specs.declared.description.PrototypeType.TheVariants.{Composition}
 use Rattle.interface_types.specs.declared.interface.InterfaceKind.{InterfaceKind}
-use Rattle.flat_descriptions.specs.declared.flat.Join.{Join}
-use Rattle.flat_descriptions.specs.Connectors.{connectors_of, interface_of, kind_of, lets_join}
-use Rattle.flat_descriptions.specs.Places.{places}
-use Rattle.flat_descriptions.specs.Items.{interface_at, ItemsJoin}
-use Rattle.flat_descriptions.specs.Members.{Among}
-use Rattle.flat_descriptions.specs.Paths.{type_at}
+use Rattle.description_types.specs.declared.flat.Join.{Join}
+use Rattle.description_types.specs.Connectors.{connectors_of, interface_of, kind_of, lets_join}
+use Rattle.description_types.specs.Places.{places}
+use Rattle.description_types.specs.Items.{interface_at, ItemsJoin}
+use Rattle.description_types.specs.Members.{Among}
+use Rattle.description_types.specs.Paths.{type_at}
 
 -- a port of what stands at the end of a path below the root; the root itself stands at the end of the empty one
 pub record Stand : Type 0 where

@@ -5,9 +5,9 @@ use Rattle.std.specs.Option.{option_map_or}
 use Rattle.description_types.specs.declared.description.Description.{Description}
 use Rattle.description_types.specs.declared.description.PrototypeType.{PrototypeType}
 use Rattle.description_types.specs.declared.description.PrototypeType.TheVariants.{Composition}
-use Rattle.flat_descriptions.specs.declared.flat.Instance.{Instance}
-use Rattle.flat_descriptions.specs.Paths.{prototypes_of, type_at}
-use Rattle.flat_descriptions.specs.Places.{Place, places}
+use Rattle.description_types.specs.declared.flat.Instance.{Instance}
+use Rattle.description_types.specs.Paths.{prototypes_of, type_at}
+use Rattle.description_types.specs.Places.{Place, places}
 
 -- the name of the prototype q of what stands at the end of the path below the root
 abbrev pub name_in : Description → Option PrototypeType → ℕ → List ℕ

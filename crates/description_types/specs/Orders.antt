@@ -3,8 +3,8 @@ use Rattle.std.specs.Prelude.{ℕ, Option, Some, None}
 use Rattle.std.specs.Ordering.{nat_cmp, ordering_then}
 use Rattle.std.specs.declared.cmp.Ordering.{Ordering}
 use Rattle.std.specs.declared.cmp.Ordering.TheVariants.{Less, Equal, Greater}
-use Rattle.flat_descriptions.specs.declared.flat.End.{End}
-use Rattle.flat_descriptions.specs.declared.flat.Join.{Join}
+use Rattle.description_types.specs.declared.flat.End.{End}
+use Rattle.description_types.specs.declared.flat.Join.{Join}
 
 abbrev pub instance_order : Option ℕ → Option ℕ → Ordering
 instance_order (Some a) (Some b) = nat_cmp a b

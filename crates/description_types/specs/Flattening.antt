@@ -5,17 +5,17 @@ use Rattle.std.specs.List.Sorted.{IsStrictlySortedBy}
 use Rattle.description_types.specs.declared.description.Description.{Description}
 use Rattle.rte_text.specs.declared.refusal.Refused.{Refused}
 use Rattle.rte_text.specs.declared.refusal.Refused.TheVariants.{Rule, Memory}
-use Rattle.flat_descriptions.specs.declared.flat.Flat.{Flat}
-use Rattle.flat_descriptions.specs.declared.flat.Join.{Join}
-use Rattle.flat_descriptions.specs.Connectors.{IsFirstBroken}
-use Rattle.flat_descriptions.specs.Firsts.{IsFirst}
-use Rattle.flat_descriptions.specs.Growing.{IsPastLimit}
-use Rattle.flat_descriptions.specs.Instances.{instances, names_env}
-use Rattle.flat_descriptions.specs.Places.{places, IsTooDeep}
-use Rattle.flat_descriptions.specs.Joined.{IsJoined}
-use Rattle.flat_descriptions.specs.Members.{Among}
-use Rattle.flat_descriptions.specs.Orders.{join_order}
-use Rattle.flat_descriptions.specs.Paths.{ContainsItself}
+use Rattle.description_types.specs.declared.flat.Flat.{Flat}
+use Rattle.description_types.specs.declared.flat.Join.{Join}
+use Rattle.description_types.specs.Connectors.{IsFirstBroken}
+use Rattle.description_types.specs.Firsts.{IsFirst}
+use Rattle.description_types.specs.Growing.{IsPastLimit}
+use Rattle.description_types.specs.Instances.{instances, names_env}
+use Rattle.description_types.specs.Places.{places, IsTooDeep}
+use Rattle.description_types.specs.Joined.{IsJoined}
+use Rattle.description_types.specs.Members.{Among}
+use Rattle.description_types.specs.Orders.{join_order}
+use Rattle.description_types.specs.Paths.{ContainsItself}
 
 -- rule 9: no composition contains itself
 abbrev pub KeepsNesting : Description → Type 0
