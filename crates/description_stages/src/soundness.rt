@@ -8,19 +8,14 @@ ghost use Rattle.bus_semantics.specs.Plan.{plan_of};
 ghost use Rattle.bus_semantics.specs.Sound.{IsSound};
 ghost use Rattle.plan_definitions.specs.Whole.{IsWhole};
 
-use sound_behavior::{
-    direct_servers_fit, events_fit, lists_of_plans_are_sound, points_are_named_once,
-    points_fit_their_servers, points_stand_by_caller, runnables_fit, servers_serve, tasks_fit,
-    waits_are_ordered,
-};
-use sound_elements::{
-    bundles_of_plans_fit, elements_of_plans_are_sound, groups_of_plans_fit,
-    joined_elements_of_plans_agree, machines_of_plans_are_sound, objects_of_plans_are_counted,
-    points_of_plans_are_few, queues_of_plans_are_bounded,
-};
-use sound_names::{
-    mode_ports_have_machines, names_of_plans_fit, plans_are_arranged, plans_name_their_instances,
-    ports_stand_together, things_of_plans_are_named_once,
+use sound_plans::{
+    bundles_of_plans_fit, direct_servers_fit, elements_of_plans_are_sound, events_fit,
+    groups_of_plans_fit, joined_elements_of_plans_agree, lists_of_plans_are_sound,
+    machines_of_plans_are_sound, mode_ports_have_machines, names_of_plans_fit,
+    objects_of_plans_are_counted, plans_are_arranged, plans_name_their_instances,
+    points_are_named_once, points_fit_their_servers, points_of_plans_are_few,
+    points_stand_by_caller, ports_stand_together, queues_of_plans_are_bounded, runnables_fit,
+    servers_serve, tasks_fit, things_of_plans_are_named_once, waits_are_ordered,
 };
 
 /// The plan of a description that breaks none of the rules is sound with its mapping.

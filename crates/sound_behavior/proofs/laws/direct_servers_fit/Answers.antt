@@ -1,5 +1,0 @@
-use Rattle.sound_behavior.proofs.Direct.{direct_servers_sound}
-use Rattle.sound_behavior.proofs.laws.direct_servers_fit.Goals as goal
-
-pub returns : goal.returns
-returns c = direct_servers_sound

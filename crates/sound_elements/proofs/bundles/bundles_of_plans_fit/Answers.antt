@@ -1,5 +1,0 @@
-use Rattle.sound_elements.proofs.Bundled.{bundled}
-use Rattle.sound_elements.proofs.bundles.bundles_of_plans_fit.Goals as goal
-
-pub returns : goal.returns
-returns c = bundled

@@ -1,5 +1,0 @@
-use Rattle.sound_elements.proofs.Machines.{machines_sound}
-use Rattle.sound_elements.proofs.sizes.machines_of_plans_are_sound.Goals as goal
-
-pub returns : goal.returns
-returns c = machines_sound

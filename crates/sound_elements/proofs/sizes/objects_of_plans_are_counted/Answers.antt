@@ -1,5 +1,0 @@
-use Rattle.sound_elements.proofs.Bounded.{objects}
-use Rattle.sound_elements.proofs.sizes.objects_of_plans_are_counted.Goals as goal
-
-pub returns : goal.returns
-returns c = objects

@@ -1,5 +1,0 @@
-use Rattle.sound_elements.proofs.Bounded.{few_points}
-use Rattle.sound_elements.proofs.sizes.points_of_plans_are_few.Goals as goal
-
-pub returns : goal.returns
-returns c = few_points

@@ -1,5 +1,0 @@
-use Rattle.sound_elements.proofs.Bounded.{lengths}
-use Rattle.sound_elements.proofs.sizes.queues_of_plans_are_bounded.Goals as goal
-
-pub returns : goal.returns
-returns c = lengths

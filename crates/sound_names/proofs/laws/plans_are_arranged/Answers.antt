@@ -1,5 +1,0 @@
-use Rattle.sound_names.proofs.Arranged as by
-use Rattle.sound_names.proofs.laws.plans_are_arranged.Goals as goal
-
-pub returns : goal.returns
-returns c = λ d f p m w. by.arranged d f w.well_formed p w.is_plan

@@ -1,5 +1,0 @@
-use Rattle.sound_names.proofs.Together as by
-use Rattle.sound_names.proofs.laws.ports_stand_together.Goals as goal
-
-pub returns : goal.returns
-returns c = λ d f p m w. by.all_together_by_port d f w.well_formed p w.is_plan
