@@ -13,11 +13,11 @@ ghost use Rattle.cross_core_table.specs.Seats.{IsSeatOf, view_of};
 use bus_semantics::{Actor, BusPlan, Deed, Mapping, Stamped, Wish};
 use cross_core_table::{CoreSeat, Opened, Round, SeatBench, Spare};
 use description_stages::{PlannedDescription, plan_description};
-use entry_fitting::wish_fits;
 use port_objects::{Benched, make_objects, object_of, sound_plans_have_objects};
 use rte_value::Step;
 use std::alloc::{AllocError, Global};
 use std::test::Fail;
+use trace_reading::wish_fits;
 
 /// A mode machine of the environment whose switches three tasks on three cores carry out: `Off` is left, passed and `On` entered. A
 /// TimingEvent is disabled in `On`.

@@ -14,3 +14,4 @@ pub mod Naming
 pub mod Sessions
 pub mod Things
 pub mod Values
+mod Marks

@@ -8,7 +8,7 @@ ghost use Rattle.trace_reading.specs.Pieces.{line_of};
 
 use crate::actors::point_in;
 use crate::fields::{Fields, code_at, no_value, number_at, value_at};
-use crate::homes::instance_of;
+use crate::looking::instance_of;
 use crate::names::Names;
 use crate::words::{CallWord, DataWord, ModeWord, PlainWord};
 use bus_semantics::{Actor, BusPlan, Deed, Version};

@@ -8,7 +8,7 @@ ghost use Rattle.plan_names.specs.Named.{is_point};
 ghost use Rattle.trace_reading.specs.Finding.{area_at, elem_at, event_at, instance_at, is_result, machine_at, mode_named, mode_place, mode_port_at, point_at, result_at, runnable_at};
 
 use crate::fields::numbered;
-use crate::homes::home_of_caller;
+use crate::looking::{home_of_caller, same_number};
 use crate::tables::Tables;
 use bus_semantics::{BusPlan, MachinePlan, PointPlan};
 
@@ -35,16 +35,6 @@ fn is_point(caller: Option<usize>, name: &[u8], point: &PointPlan) -> bool
     ensures { result ≡ is_point caller name.now point.now }
 {
     same_place(point.runnable, caller) && point.name.bytes() == name
-}
-
-fn same_number(a: Option<u32>, b: Option<u32>) -> bool
-    ensures { result ≡ same_number a b }
-{
-    match (a, b) {
-        (None, None) => true,
-        (Some(a), Some(b)) => a == b,
-        _ => false,
-    }
 }
 
 fn is_result(p: &BusPlan, home: Option<u32>, name: &[u8], point: &PointPlan) -> bool

@@ -8,12 +8,12 @@ ghost use Rattle.bus_semantics.specs.Spelling.{entry_text};
 ghost use Rattle.trace_reading.specs.Readable.{IsReadable};
 ghost use Rattle.trace_reading.specs.Reads.{Reads, ReadsEntry};
 
+use crate::entries::fits;
 use crate::guess::guess;
 use crate::names::Names;
 use crate::sizes::{actor_is_sized, is_sized};
 use crate::tables::Tables;
 use bus_semantics::{BusPlan, Entry, Version};
-use entry_fitting::fits;
 use rte_text::{LineBuf, Memory};
 use std::alloc::Global;
 use trace_text::{idle_line, run_line, unsettled_line, write_entry};

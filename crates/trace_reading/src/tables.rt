@@ -8,7 +8,7 @@ ghost use Rattle.trace_reading.specs.Finding.{is_result};
 ghost use Rattle.trace_reading.specs.Tables.{IsNoted, IsTable, first_of, label_at, label_of, labels, result_label, same_key};
 ghost use Rattle.trace_reading.specs.declared.tables.Kind.TheVariants.{Area, Elem, Event, Instance, Machine, ModePort, Point, Result, Runnable};
 
-use crate::homes::{home_of_caller, instance_of};
+use crate::looking::{home_of_caller, instance_of};
 use bus_semantics::{BusPlan, PointPlan};
 use indexmap::IndexMap;
 use rte_text::Memory;

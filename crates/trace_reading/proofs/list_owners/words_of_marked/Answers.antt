@@ -1,8 +1,8 @@
 use Rattle.std.proofs.Common.{◌≡◌, ◌+◌, ◌*◌, ◌≤◌, drop, arith}
 use Rattle.bus_semantics.specs.Lists.{marked, words_of_all}
 use Rattle.bus_semantics.specs.Plan.{plan_of}
-use Rattle.entry_fitting.proofs.Marks.{words_by_next}
-use Rattle.entry_fitting.proofs.lists.words_of_marked.Goals as goal
+use Rattle.trace_reading.proofs.Marks.{words_by_next}
+use Rattle.trace_reading.proofs.list_owners.words_of_marked.Goals as goal
 
 pub loop-elem-preserved : goal.loop-elem-preserved
 loop-elem-preserved c =

@@ -6,6 +6,7 @@ ghost use Rattle.bus_semantics.specs.declared.entries.Actor.TheVariants.{Act};
 ghost use Rattle.bus_semantics.specs.Plan.{caller_of, instance_of, plan_of, queue_of, runnable_of_event};
 ghost use Rattle.bus_semantics.specs.Objects.{served_by};
 ghost use Rattle.bus_semantics.specs.Owners.{modes_of};
+ghost use Rattle.trace_reading.specs.Finding.{home_of_caller};
 
 use bus_semantics::BusPlan;
 use rte_value::ActKey;
@@ -27,6 +28,16 @@ pub fn instance_of(p: &BusPlan, runnable: u32) -> Option<u32>
 {
     match p.runnables.items().get(runnable as usize) {
         Some(runnable) => Some(runnable.instance),
+        None => None,
+    }
+}
+
+/// The instance of a runnable that calls. None for the environment.
+pub fn home_of_caller(p: &BusPlan, caller: Option<u32>) -> Option<u32>
+    ensures { result ≡ home_of_caller (plan_of p.now) caller }
+{
+    match caller {
+        Some(runnable) => instance_of(p, runnable),
         None => None,
     }
 }

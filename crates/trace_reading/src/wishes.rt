@@ -5,7 +5,7 @@ ghost use Rattle.bus_semantics.specs.Fitting.{activation_may_want, environment_m
 ghost use Rattle.bus_semantics.specs.Plan.{plan_of};
 ghost use Rattle.bus_semantics.specs.Wanted.{wanted_of};
 
-use crate::lists::{list_fits, may_be_published};
+use crate::list_owners::{list_fits, may_be_published};
 use crate::looking::instance_of;
 use crate::owners::{
     area_fits, event_fits, is_provided, is_required, key_fits, may_be_read, may_be_received,

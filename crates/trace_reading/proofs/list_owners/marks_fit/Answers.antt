@@ -1,7 +1,7 @@
 use Rattle.std.proofs.Common.{length, sym, ap, ◌∙◌, ◌+◌, ◌<◌, ◌≤◌, ◌==◌, ◌/◌, ◌^◌, arith}
 use Rattle.std.proofs.lemmas.Bool.{le-leb}
-use Rattle.entry_fitting.proofs.Marks.{none_beyond, all_within}
-use Rattle.entry_fitting.proofs.lists.marks_fit.Goals as goal
+use Rattle.trace_reading.proofs.Marks.{none_beyond, all_within}
+use Rattle.trace_reading.proofs.list_owners.marks_fit.Goals as goal
 
 pub returns-then-elems-ge16 : goal.returns-then-elems-ge16
 returns-then-elems-ge16 c =
