@@ -10,7 +10,8 @@ use bus_semantics::{
 };
 use rte_text::Text;
 
-fn same_number(a: Option<u32>, b: Option<u32>) -> bool
+/// Whether both are the same number, or both none.
+pub fn same_number(a: Option<u32>, b: Option<u32>) -> bool
     ensures { result ≡ same_number a b }
 {
     match (a, b) {
@@ -36,14 +37,25 @@ pub fn elem_named(p: &BusPlan, home: Option<u32>, name: &[u8]) -> Option<usize>
         .position(|elem| is_elem(home, name, elem))
 }
 
-fn is_point(caller: Option<u32>, name: &[u8], point: &PointPlan) -> bool
-    ensures { result ≡ is_point caller name.now point.now }
+/// Whether it is the number of this place, or there is neither.
+fn same_place(number: Option<u32>, place: Option<usize>) -> bool
+    ensures { result ≡ same_number number place }
 {
-    same_number(point.runnable, caller) && point.name.bytes() == name
+    match (number, place) {
+        (None, None) => true,
+        (Some(number), Some(place)) => number as usize == place,
+        _ => false,
+    }
 }
 
-/// The first point of this name that is the runnable's, or for None the environment's.
-pub fn point_named(p: &BusPlan, caller: Option<u32>, name: &[u8]) -> Option<usize>
+fn is_point(caller: Option<usize>, name: &[u8], point: &PointPlan) -> bool
+    ensures { result ≡ is_point caller name.now point.now }
+{
+    same_place(point.runnable, caller) && point.name.bytes() == name
+}
+
+/// The first point of this name at which the runnable of this place calls, or for None the environment.
+pub fn point_named(p: &BusPlan, caller: Option<usize>, name: &[u8]) -> Option<usize>
     ensures { result ≡ position (is_point caller name.now) (plan_of p.now).points }
 {
     p.points
@@ -101,7 +113,7 @@ pub fn mode_port_named(p: &BusPlan, home: Option<u32>, name: &[u8]) -> Option<us
 }
 
 /// The instance of a runnable.
-fn instance_of(p: &BusPlan, runnable: u32) -> Option<u32>
+pub fn instance_of(p: &BusPlan, runnable: u32) -> Option<u32>
     ensures { result ≡ instance_of (plan_of p.now) runnable }
 {
     match p.runnables.items().get(runnable as usize) {

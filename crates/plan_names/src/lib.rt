@@ -5,7 +5,7 @@ mod finding;
 mod laws;
 
 pub use finding::{
-    area_named, elem_named, event_named, instance_named, machine_named, mode_named,
-    mode_port_named, point_named, runnable_named,
+    area_named, elem_named, event_named, instance_named, instance_of, machine_named, mode_named,
+    mode_port_named, point_named, runnable_named, same_number,
 };
 pub use laws::names_find_what_they_name;

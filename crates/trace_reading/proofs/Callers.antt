@@ -84,9 +84,6 @@ abbrev pairs : List AccessSig → List ℕ → List ℕ
 pairs (a ∷ more) (t ∷ ts) = cond (calls_out a.kind) (t ∷ pairs more ts) (pairs more ts)
 pairs _ _ = []
 
-called_points-pairs : (r : Runnable) → called_points r ≡ pairs r.accesses r.targets
-called_points-pairs r = refl
-
 call_in : (f : AccessSig → ℕ → Bool) (q : ℕ) (xs : List AccessSig) (ts : List ℕ) → each_access f xs ts ≡ true → has q (pairs xs ts) ≡ true → IsCall f q
 call_in f q [] [] e h = absurd (cc)
 call_in f q [] (t ∷ ts) e h = absurd (cc)

@@ -8,10 +8,10 @@ ghost use Rattle.trace_reading.specs.Pieces.{line_of};
 
 use crate::actors::point_in;
 use crate::fields::{Fields, code_at, no_value, number_at, value_at};
-use crate::looking::instance_of;
 use crate::names::Names;
 use crate::words::{CallWord, DataWord, ModeWord, PlainWord};
 use bus_semantics::{Actor, BusPlan, Deed, Version};
+use plan_names::instance_of;
 use rte_value::Step;
 
 /// The instance whose names an actor uses. None for the environment.

@@ -1,36 +1,15 @@
-//! What a plan says of a number, and what two numbers say of each other.
+//! What a plan says of a number.
 
 ghost use Rattle.std.specs.Prelude.{◌≡◌};
-ghost use Rattle.rte_value.specs.Values.{same_number};
 ghost use Rattle.bus_semantics.specs.declared.entries.Actor.TheVariants.{Act};
-ghost use Rattle.bus_semantics.specs.Plan.{caller_of, instance_of, plan_of, queue_of, runnable_of_event};
+ghost use Rattle.bus_semantics.specs.Plan.{caller_of, plan_of, queue_of, runnable_of_event};
 ghost use Rattle.bus_semantics.specs.Objects.{served_by};
 ghost use Rattle.bus_semantics.specs.Owners.{modes_of};
 ghost use Rattle.trace_reading.specs.Finding.{home_of_caller};
 
 use bus_semantics::BusPlan;
+use plan_names::instance_of;
 use rte_value::ActKey;
-
-/// Whether both are the same number, or both none.
-pub fn same_number(a: Option<u32>, b: Option<u32>) -> bool
-    ensures { result ≡ same_number a b }
-{
-    match (a, b) {
-        (None, None) => true,
-        (Some(a), Some(b)) => a == b,
-        _ => false,
-    }
-}
-
-/// The instance of a runnable.
-pub fn instance_of(p: &BusPlan, runnable: u32) -> Option<u32>
-    ensures { result ≡ instance_of (plan_of p.now) runnable }
-{
-    match p.runnables.items().get(runnable as usize) {
-        Some(runnable) => Some(runnable.instance),
-        None => None,
-    }
-}
 
 /// The instance of a runnable that calls. None for the environment.
 pub fn home_of_caller(p: &BusPlan, caller: Option<u32>) -> Option<u32>

@@ -2,15 +2,14 @@
 
 ghost use Rattle.std.specs.Prelude.{◌≡◌, Some, position};
 ghost use Rattle.std.specs.Option.{ForSome};
-ghost use Rattle.rte_value.specs.Values.{same_number};
 ghost use Rattle.bus_semantics.specs.Plan.{plan_of};
-ghost use Rattle.plan_names.specs.Named.{is_point};
 ghost use Rattle.trace_reading.specs.Finding.{area_at, elem_at, event_at, instance_at, is_result, machine_at, mode_named, mode_place, mode_port_at, point_at, result_at, runnable_at};
 
 use crate::fields::numbered;
-use crate::looking::{home_of_caller, same_number};
+use crate::looking::home_of_caller;
 use crate::tables::Tables;
 use bus_semantics::{BusPlan, MachinePlan, PointPlan};
+use plan_names::same_number;
 
 /// A plan in which names are found: in tables, or by walks.
 #[derive(Clone, Copy)]
@@ -20,39 +19,12 @@ pub struct Names<'n> {
     ghost same_plan: { ForSome tables (λ t. t.now.plan.now ≡ plan.now) },
 }
 
-/// Whether both are the same number, or both none.
-fn same_place(number: Option<u32>, place: Option<usize>) -> bool
-    ensures { result ≡ same_number number place }
-{
-    match (number, place) {
-        (None, None) => true,
-        (Some(number), Some(place)) => number as usize == place,
-        _ => false,
-    }
-}
-
-fn is_point(caller: Option<usize>, name: &[u8], point: &PointPlan) -> bool
-    ensures { result ≡ is_point caller name.now point.now }
-{
-    same_place(point.runnable, caller) && point.name.bytes() == name
-}
-
 fn is_result(p: &BusPlan, home: Option<u32>, name: &[u8], point: &PointPlan) -> bool
     ensures { result ≡ is_result (plan_of p.now) home name.now point.now }
 {
     point.asynchronous
         && same_number(home_of_caller(p, point.runnable), home)
         && point.name.bytes() == name
-}
-
-/// The place of the point of this name at which the runnable of this place calls, or for None the environment.
-fn place_of_point(p: &BusPlan, caller: Option<usize>, name: &[u8]) -> Option<usize>
-    ensures { result ≡ position (is_point caller name.now) (plan_of p.now).points }
-{
-    p.points
-        .items()
-        .iter()
-        .position(|point| is_point(caller, name, point))
 }
 
 /// The place of the point of this name at which a runnable of the home calls without waiting.
@@ -153,7 +125,7 @@ impl Names<'_> {
     {
         match self.tables {
             Some(tables) => numbered(tables.point(caller, name)),
-            None => numbered(place_of_point(self.plan, caller, name)),
+            None => numbered(plan_names::point_named(self.plan, caller, name)),
         }
     }
 

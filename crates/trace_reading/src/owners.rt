@@ -5,8 +5,9 @@ ghost use Rattle.rte_value.specs.Values.{words_of};
 ghost use Rattle.bus_semantics.specs.Plan.{plan_of};
 ghost use Rattle.bus_semantics.specs.Owners.{area_fits, elem_fits, event_fits, holds, is_queued, is_readable, is_unqueued, is_writable, key_fits, mode_port_fits, own_point, result_point, serves_directly, switch_fits};
 
-use crate::looking::{caller_of, instance_of, queue_of, runnable_of_event, same_number, served_by};
+use crate::looking::{caller_of, queue_of, runnable_of_event, served_by};
 use bus_semantics::{BusPlan, ElemKind, ElemPlan};
+use plan_names::{instance_of, same_number};
 use rte_value::{ActKey, Value};
 
 /// Whether the runnable of a key serves a server that runs in its caller's task.

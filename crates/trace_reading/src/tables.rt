@@ -8,9 +8,10 @@ ghost use Rattle.trace_reading.specs.Finding.{is_result};
 ghost use Rattle.trace_reading.specs.Tables.{IsNoted, IsTable, first_of, label_at, label_of, labels, result_label, same_key};
 ghost use Rattle.trace_reading.specs.declared.tables.Kind.TheVariants.{Area, Elem, Event, Instance, Machine, ModePort, Point, Result, Runnable};
 
-use crate::looking::{home_of_caller, instance_of};
+use crate::looking::home_of_caller;
 use bus_semantics::{BusPlan, PointPlan};
 use indexmap::IndexMap;
+use plan_names::instance_of;
 use rte_text::Memory;
 use std::alloc::Global;
 

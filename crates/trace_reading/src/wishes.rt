@@ -6,12 +6,12 @@ ghost use Rattle.bus_semantics.specs.Plan.{plan_of};
 ghost use Rattle.bus_semantics.specs.Wanted.{wanted_of};
 
 use crate::list_owners::{list_fits, may_be_published};
-use crate::looking::instance_of;
 use crate::owners::{
     area_fits, event_fits, is_provided, is_required, key_fits, may_be_read, may_be_received,
     may_be_sent, may_be_written, mode_port_fits, own_point, result_point, switch_fits, takes,
 };
 use bus_semantics::{Actor, BusPlan, Wish};
+use plan_names::instance_of;
 use rte_value::ActKey;
 
 /// Whether an activation of an instance may want this.
