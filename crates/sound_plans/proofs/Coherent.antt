@@ -48,7 +48,7 @@ use Rattle.plan_definitions.specs.Sites.{provides_at, site}
 use Rattle.plan_definitions.specs.Started.{runnable_of, runnables, runnables_of_component, target_of}
 use Rattle.plan_definitions.specs.Things.{element_number, elements_of}
 use Rattle.plan_definitions.specs.Whole.{IsWhole}
-use Rattle.plan_definitions.proofs.Lists.{all_from, at, many_positions, mapped, map_get, out_from, place, position_there, same_numbers_refl, unflat, unmapped}
+use Rattle.plan_definitions.proofs.Lists.{all_from, at, many_positions, map_get, out_from, place, position_there, same_numbers_refl, unflat, unmapped}
 use Rattle.plan_definitions.proofs.Lists as lists_of_items
 use Rattle.sound_plans.proofs.Grouping.{same_positions}
 use Rattle.sound_plans.proofs.ElemNumbers.{data_elem, data_in, data_site}

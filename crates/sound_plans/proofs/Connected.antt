@@ -1,5 +1,5 @@
 -- Groups of the plan are what chains of joins connect: in a star a chain is never longer than two joins.
-use Rattle.std.proofs.Common.{◌≡◌, ℕ, zero, suc, List, [], ◌∷◌, map, Option, Some, None, option_map, inl, inr, refl, sym, ap, subst, ◌∙◌, slice_get}
+use Rattle.std.proofs.Common.{◌≡◌, ℕ, zero, suc, List, [], ◌∷◌, Option, Some, None, option_map, inl, inr, refl, sym, ap, subst, ◌∙◌, slice_get}
 use Rattle.std.proofs.lemmas.Option.{slice_get-map}
 use Rattle.description_types.specs.declared.description.Description.{Description}
 use Rattle.plan_definitions.specs.JoinGroups.{IsJoined}
@@ -16,7 +16,7 @@ use Rattle.plan_definitions.specs.declared.site.Site.{Site}
 use Rattle.plan_definitions.specs.Joined.{end_of, partners}
 use Rattle.plan_definitions.specs.Keys.{key_of}
 use Rattle.plan_definitions.specs.Things.{elements_of}
-use Rattle.plan_definitions.specs.Elements.{Elem, elem_seen, element_of, elements, group_of}
+use Rattle.plan_definitions.specs.Elements.{Elem, elem_seen, element_of, group_of}
 use Rattle.plan_definitions.specs.Whole.{IsWhole}
 use Rattle.plan_definitions.specs.WellFormed.{IsWellFormed}
 use Rattle.sound_plans.specs.Connected.{AreConnected, AreJoined, Chain, GroupsAreConnected, group_at}

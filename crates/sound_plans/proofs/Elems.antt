@@ -22,7 +22,6 @@ use Rattle.description_types.specs.Members.{Among}
 use Rattle.bus_semantics.specs.declared.plan.BusPlan.{BusPlan}
 use Rattle.bus_semantics.specs.declared.plan.ElemKind.{ElemKind}
 use Rattle.bus_semantics.specs.declared.plan.ElemKind.TheVariants as kind
-use Rattle.bus_semantics.specs.declared.plan.ElemPlan.{ElemPlan}
 use Rattle.bus_semantics.specs.declared.script.Mapping.{Mapping}
 use Rattle.bus_semantics.specs.SoundElements.{elem_sound, limits_fit, zeros}
 use Rattle.bus_semantics.specs.SoundPlan.{is_in}
@@ -70,9 +69,6 @@ sound_seen e =
     && ((length e.init == e.words) && (list_all (is_within e.limits) e.init
     && (is_in 1 1024 e.queue_length && (unused_seen e
     && (not (variable e.kind) || (is_some e.instance && (not e.provided && not e.joined))))))))
-
-same_sound : (e : ElemPlan) → elem_sound e ≡ sound_seen (elem_seen e)
-same_sound e = refl
 
 -- ---- by type, words, queue and keys
 
@@ -207,10 +203,6 @@ module _ (d : Description) (w : IsWellFormed d) (f : Flat) where
     queue_length = if keeps_queue s.kind (option_map_or (λ (e : DataElement). policy_kind e.sw_impl_policy) o kind.Unqueued) then queue_length_of d f s.owner k s.item else 1;
   }
 
-  same_seen : (s : Site) (k group : ℕ) → element_of d f group (site s.owner (Some k) s.item s.kind)
-      ≡ seen_at (site s.owner (Some k) s.item s.kind) k group (declared_at d f s.owner k s.item) (λ o. option_and_then (λ (e : DataElement). slice_get d.types.data_types e.of_type) o)
-  same_seen s k group = refl
-
   -- a sound element of a port
   at_port : (s : Site) (group : ℕ) (p : AtPort d f s) → is_element s.kind ≡ true → sound_seen (element_of d f group s) ≡ true
   at_port s group p h =
@@ -246,10 +238,6 @@ module _ (d : Description) (w : IsWellFormed d) (f : Flat) where
     never_received = false;
     queue_length = 1;
   }
-
-  same_variable : (i item group : ℕ) → element_of d f group (site (Some i) None item site_kind.Variable)
-      ≡ seen_variable i item group (variable_at d f (Some i) item) (λ o. option_and_then (λ (v : DeclaredVariable). slice_get d.types.data_types v.of_type) o)
-  same_variable i item group = refl
 
   at_variable : (s : Site) (group : ℕ) → IsVariable d f s → sound_seen (element_of d f group s) ≡ true
   at_variable s group p =

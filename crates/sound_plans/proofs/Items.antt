@@ -17,7 +17,7 @@ use Rattle.description_types.specs.declared.component.PortKind.{PortKind}
 use Rattle.description_types.specs.declared.component.PortKind.TheVariants.{Provided, Required}
 use Rattle.plan_definitions.specs.declared.item.Item.{Item}
 use Rattle.plan_definitions.specs.declared.item.Item.TheVariants.{Data, Operation, Modes}
-use Rattle.plan_definitions.specs.Events.{requires_data, provides_operation, requires_operation, provides_modes, required_modes}
+use Rattle.plan_definitions.specs.Events.{requires_data, provides_operation, provides_modes, required_modes}
 use Rattle.plan_definitions.specs.Items.{item_of, item_of_port, item_at}
 use Rattle.sound_plans.proofs.Places.{not_some}
 
@@ -137,13 +137,6 @@ operation_provided (Some (Provided, Data policy)) e = absurd (false≢true e)
 operation_provided (Some (Provided, Modes n)) e = absurd (false≢true e)
 operation_provided (Some (Required, x)) e = absurd (false≢true e)
 operation_provided None e = absurd (false≢true e)
-
-pub operation_required : (o : Option (PortKind × Item)) → requires_operation o ≡ true → o ≡ Some (Required, Operation)
-operation_required (Some (Required, Operation)) e = refl
-operation_required (Some (Required, Data policy)) e = absurd (false≢true e)
-operation_required (Some (Required, Modes n)) e = absurd (false≢true e)
-operation_required (Some (Provided, x)) e = absurd (false≢true e)
-operation_required None e = absurd (false≢true e)
 
 pub modes_provided : (o : Option (PortKind × Item)) → provides_modes o ≡ true → (n : ℕ) × (o ≡ Some (Provided, Modes n))
 modes_provided (Some (Provided, Modes n)) e = (n, refl)

@@ -1,6 +1,6 @@
 -- Interfaces that serve others: what is said of the data elements of a chain of compatible interfaces.
-use Rattle.std.proofs.Common.{◌≡◌, ℕ, List, [], ◌∷◌, true, ◌&&◌, nat_eq, bytes_eq, Option, Some, None, option_map, refl, sym, ap, ◌∙◌, slice_get}
-use Rattle.std.proofs.lemmas.Bool.{and_from, and_parts, eq-eqb, eqb-true}
+use Rattle.std.proofs.Common.{◌≡◌, List, true, ◌&&◌, nat_eq, bytes_eq, Option, Some, None, option_map, refl, sym, ap, ◌∙◌, slice_get}
+use Rattle.std.proofs.lemmas.Bool.{and_parts, eqb-true}
 use Rattle.std.proofs.lemmas.Bool.Decides.{Decides-int_eq}
 use Rattle.std.specs.List.{list_any}
 use Rattle.std.specs.Ordering.{int_eq}
@@ -18,19 +18,11 @@ use Rattle.description_types.specs.Members.{Among}
 use Rattle.plan_definitions.proofs.Lists.{all_at, any_at, same_bytes}
 use Rattle.plan_definitions.proofs.Chains.{IsPassed}
 
-bytes_refl : (a : List ℕ) → bytes_eq a a ≡ true
-bytes_refl [] = refl
-bytes_refl (x ∷ a) = and_from (nat_eq x x) (bytes_eq a a) (eq-eqb x x refl) (bytes_refl a)
-
 policy_is : (a b : SwImplPolicy) → same_policy a b ≡ true → a ≡ b
 policy_is Standard Standard h = refl
 policy_is Standard Queued h = cc
 policy_is Queued Standard h = cc
 policy_is Queued Queued h = refl
-
-policy_refl : (a : SwImplPolicy) → same_policy a a ≡ true
-policy_refl Standard = refl
-policy_refl Queued = refl
 
 -- ---- types
 
@@ -52,9 +44,6 @@ type_is a b h =
       words = eqb-true a.words b.words r.1;
     }
 
-is_type : (a b : DataType) → SameType a b → are_compatible_types a b ≡ true
-is_type a b s = (λ j. eq-eqb (base_number a.base) (base_number b.base) s.base j && ((Decides-int_eq a.limits.low b.limits.low).1 s.low j && ((Decides-int_eq a.limits.high b.limits.high).1 s.high j && eq-eqb a.words b.words s.words j)))
-
 -- none in both, or of one kind
 abbrev pub SameTypes : Option DataType → Option DataType → Type 0
 SameTypes None None = Unit {0}
@@ -66,12 +55,6 @@ types_are None None h = tt
 types_are None (Some b) h = cc
 types_are (Some a) None h = cc
 types_are (Some a) (Some b) h = type_is a b h
-
-are_types : (a b : Option DataType) → SameTypes a b → agree are_compatible_types a b ≡ true
-are_types None None s = refl
-are_types None (Some b) s = absurd s
-are_types (Some a) None s = absurd s
-are_types (Some a) (Some b) s = is_type a b s
 
 types_refl : (a : Option DataType) → SameTypes a a
 types_refl None = tt

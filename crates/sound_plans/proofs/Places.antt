@@ -6,7 +6,7 @@ use Rattle.std.proofs.lemmas.Bool.{and_from, and_parts, false≢true, or_cases}
 use Rattle.std.proofs.lemmas.Option.{slice_get-map}
 use Rattle.bus_semantics.specs.Plan.{look, every_from}
 use Rattle.plan_definitions.specs.Counts.{count}
-use Rattle.plan_definitions.specs.Lists.{from, positions}
+use Rattle.plan_definitions.specs.Lists.{from}
 use Rattle.bus_laws.proofs.Thinning.{clash}
 
 -- ---- tests
@@ -33,16 +33,6 @@ every_if f n [] each = refl
 every_if f n (x ∷ xs) each = and_from (f n x) (every_from (n + 1) f xs)
     (let place : n + 0 ≡ n = omega arith in subst (λ m. f m x ≡ true) place (each 0 x refl))
     (every_if f (n + 1) xs (λ k y e. let place : n + suc k ≡ n + 1 + k = omega arith in subst (λ m. f m y ≡ true) place (each (suc k) y e)))
-
-pub at_place : {X : Type 0} (f : ℕ → X → Bool) (xs : List X) (i n : ℕ) (x : X) → every_from n f xs ≡ true → slice_get xs i ≡ Some x → f (n + i) x ≡ true
-at_place f [] i n x all at = absurd (cc at)
-at_place f (y ∷ xs) zero n x all at =
-    let same : y ≡ x = cc in
-    let place : n ≡ n + 0 = omega arith in
-    subst (λ m. f m x ≡ true) place (subst (λ z. f n z ≡ true) same (and_parts (f n y) (every_from (n + 1) f xs) all).0)
-at_place f (y ∷ xs) (suc i) n x all at =
-    let place : n + 1 + i ≡ n + suc i = omega arith in
-    subst (λ k. f k x ≡ true) place (at_place f xs i (n + 1) x (and_parts (f n y) (every_from (n + 1) f xs) all).1 at)
 
 pub record Passes (X : Type 0) (test : X → Bool) (xs : List X) : Type 0 where
   pub place : ℕ

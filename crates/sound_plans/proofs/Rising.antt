@@ -11,10 +11,6 @@ abbrev pub Rises : (low high : ℕ) → List ℕ → Type 0
 Rises low high [] = low ≤ high
 Rises low high (n ∷ ns) = (low ≤ n) × Rises n high ns
 
-pub within : (low high : ℕ) (ns : List ℕ) → Rises low high ns → low ≤ high
-within low high [] h = h
-within low high (n ∷ ns) h = let first = h.0 in let rest = within n high ns h.1 in omega arith
-
 pub lower : (bottom low high : ℕ) (ns : List ℕ) → bottom ≤ low → Rises low high ns → Rises bottom high ns
 lower bottom low high [] less h = omega arith
 lower bottom low high (n ∷ ns) less h = let first = h.0 in ((omega arith), h.1)

@@ -139,9 +139,6 @@ module _ (d : Description) (f : Flat) (p : BusPlan) (m : Mapping) (w : IsWhole d
 
   -- ---- a runnable's events are in one task
 
-  flagged : (r n : ℕ) (t : Task) → List ℕ
-  flagged r n t = cond (list_any (λ e. same_number (runnable_of_event (planned d f es) e) (Some r)) t.events) (n ∷ []) []
-
   pub in_one_task : (r : ℕ) (v : plan.Runnable) → slice_get (runnables d f) r ≡ Some v → length (sound.tasks_of (planned d f es) (mapping_of d f) r) ≤ 1
   in_one_task r v at = gathered_few shown small (length tasks) (λ a b l k s t. one a b s t)
     where
