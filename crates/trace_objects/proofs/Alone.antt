@@ -1,6 +1,6 @@
 -- An entry that touches no object: an end, or an answer at a point that is not joined.
 use Rattle.std.proofs.Common.{◌≡◌, ℕ, zero, ℤ, Bool, true, false, ◌&&◌, ◌||◌, not, refl, sym, ◌∙◌, ap, subst, List, [], ◌∷◌, Option, Some, None}
-use Rattle.std.specs.Prelude.{◌==◌, ◌+◌, length, nat_le, nat_lt, unwrap_or, option_map}
+use Rattle.std.specs.Prelude.{◌==◌, ◌+◌, length, nat_lt, unwrap_or, option_map}
 use Rattle.std.specs.Option.{option_map_or}
 use Rattle.std.specs.List.{slice_get}
 use Rattle.std.proofs.lemmas.Bool.{and_parts, eqb-true, false≢true}
@@ -18,10 +18,10 @@ use Rattle.bus_semantics.specs.declared.plan.EventKind.{EventKind}
 use Rattle.bus_semantics.specs.declared.plan.EventKind.TheVariants.{Timing, Init, DataReceived, Invoked, Returns, ModeSwitch, Ack}
 use Rattle.bus_semantics.specs.declared.plan.ModePortPlan.{ModePortPlan}
 use Rattle.bus_semantics.specs.declared.script.Mapping.{Mapping}
-use Rattle.bus_semantics.specs.Plan.{Plan, Runnable, every_from, instance_of, kind_of, server_of}
+use Rattle.bus_semantics.specs.Plan.{Plan, Runnable, instance_of, kind_of, server_of}
 use Rattle.bus_semantics.specs.Wanted.{Wanted, to_tick, to_write, to_read, to_send, to_receive, to_ask, to_hear, to_take_result, to_switch, to_see_mode, to_move_on, to_end, wanted_by}
 use Rattle.bus_semantics.specs.History.{History, Noted, Past, note, noted, runs}
-use Rattle.bus_semantics.specs.Objects.{first_machine, object_of, object_of_kind, server_object}
+use Rattle.bus_semantics.specs.Objects.{first_machine, object_of, object_of_kind}
 use Rattle.bus_semantics.specs.Fitting.{wish_fits}
 use Rattle.bus_semantics.specs.Owners.{is_unqueued, is_queued, holds}
 use Rattle.bus_semantics.specs.Activations.{next_of_activity}
@@ -32,18 +32,21 @@ use Rattle.bus_semantics.specs.Legal.{Answers, IsLegal}
 use Rattle.bus_semantics.specs.Sound.{IsSound}
 use Rattle.bus_semantics.specs.SoundLists.{bundles_fit}
 use Rattle.bus_semantics.specs.SoundPlan.{groups_fit}
-use Rattle.bus_semantics.specs.SoundEvents.{event_sound, kind_sound}
+use Rattle.bus_semantics.specs.SoundEvents.{kind_sound}
 use Rattle.bus_laws.proofs.Bundling.{no_bundle}
+use Rattle.bus_laws.proofs.LocalCalls.{no_server}
+use Rattle.bus_laws.proofs.OneEvent.{kind_part}
 use Rattle.activation_laws.specs.Followed.{IsActivation}
-use Rattle.activation_laws.specs.LookUps.{sought, looked, at_place}
+use Rattle.activation_laws.specs.LookUps.{sought, looked}
 use Rattle.activation_laws.specs.Wishes.{is_of_a_call, is_the_end}
 use Rattle.history_laws.specs.Running.{GoesOn}
+use Rattle.history_laws.proofs.Keys.{wish_runs}
 use Rattle.port_objects.specs.declared.object.Object.{Object}
 use Rattle.port_objects.specs.Freed.{is_free, IsFree}
 use Rattle.port_objects.specs.Objects.{kept_of}
 use Rattle.port_objects.specs.Standing.{Stands}
 use Rattle.trace_objects.specs.Standing.{IsTried, IsOther, ObjectsStand}
-use Rattle.trace_objects.proofs.Tried.{Facts, IsAsked, wished, plain, wish_runs}
+use Rattle.trace_objects.proofs.Tried.{Facts, IsAsked, wished, plain}
 use Rattle.trace_objects.proofs.Parted.{parted}
 
 -- ---- what is answered
@@ -93,16 +96,7 @@ pub record IsUnjoined (p : Plan) (e : ℕ) : Type 0 where
   pub kind : kind_of p e ≡ Returns point
   pub unjoined : server_of p point ≡ None
 
-no_server : (p : Plan) (o : Option ℕ) → server_object p o ≡ None → o ≡ None
-no_server p None is = refl
-no_server p (Some s) is = absurd (cc is)
-
 module _ (p : Plan) (m : Mapping) (whole : IsSound p m) where
-  event_is : (e : ℕ) (v : EventPlan) → slice_get p.events e ≡ Some v → kind_sound p e v.runnable (instance_of p v.runnable) v.kind ≡ true
-  event_is e v there =
-      let event = at_place (event_sound p) p.events e v (and_parts (every_from 0 (event_sound p) p.events) (nat_le (length p.events) 16384) whole.events).0 there in
-      (and_parts (kind_sound p e v.runnable (instance_of p v.runnable) v.kind) _ (and_parts (nat_lt v.runnable (length p.runnables)) _ event).1).0
-
   pub returned_alone : (e : ℕ) → object_of_kind p (kind_of p e) ≡ None → IsUnjoined p e
   returned_alone e none = by_event (slice_get p.events e) refl
     where
@@ -123,7 +117,7 @@ module _ (p : Plan) (m : Mapping) (whole : IsSound p m) where
           absurd (cc (sym none ∙ ap (object_of_kind p) is))
       by_event (Some v) there =
           let kind = looked p.events e v (λ (w : EventPlan). w.kind) Init there in
-          by_kind v v.kind kind (ap (object_of_kind p) (sym kind) ∙ none) (event_is e v there)
+          by_kind v v.kind kind (ap (object_of_kind p) (sym kind) ∙ none) (kind_part p m whole e v there)
 
 -- no request of a point without a server is accepted
 unasked : (p : Plan) (q : ℕ) → server_of p q ≡ None → (h : Past) (a : Actor) (d : Deed) (event : Option ℕ) → Answers p h (record { entry = record { actor = a; deed = d }; event = event }) → is_request_at q d ≡ false

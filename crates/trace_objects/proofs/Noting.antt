@@ -17,7 +17,7 @@ use Rattle.port_objects.specs.Objects.{kept_of}
 use Rattle.port_objects.specs.Waking.{may_start_in, woken_in}
 use Rattle.trace_objects.specs.Unrest.{AreAmong, IsHeldBack, IsLed, PhasesAmong, StartHeld, StartsAmong}
 use Rattle.trace_objects.specs.declared.unrest.Unrest.{Unrest}
-use Rattle.trace_objects.proofs.Parted.{Placed, here, there, placed}
+use Rattle.latches.proofs.Places.{Placed, here, there, placed}
 
 -- ---- starts
 

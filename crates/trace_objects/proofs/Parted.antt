@@ -1,11 +1,11 @@
 -- An entry on the object that it touches: the objects stand for it, or the bus answers something else.
-use Rattle.std.proofs.Common.{◌≡◌, ◌≢◌, ℕ, zero, suc, Bool, true, false, if◌then◌else◌, refl, sym, ◌∙◌, ap, subst, arith, List, [], ◌∷◌, set, Option, Some}
+use Rattle.std.proofs.Common.{◌≡◌, ◌≢◌, ℕ, Bool, true, false, if◌then◌else◌, refl, sym, ◌∙◌, ap, subst, List, ◌∷◌, set, Option, Some}
 use Rattle.std.specs.Prelude.{◌==◌, unwrap_or}
 use Rattle.std.specs.Cmp.{unsigned_Decides}
-use Rattle.std.specs.List.{slice_get}
 use Rattle.std.proofs.lemmas.Bool.{eq-eqb}
 use Rattle.std.proofs.lemmas.List.{length-set}
 use Rattle.rte_value.specs.Values.{same_number}
+use Rattle.latches.proofs.Places.{Placed, here, there, placed}
 use Rattle.bus_semantics.specs.declared.entries.Entry.{Entry}
 use Rattle.bus_semantics.specs.declared.script.Mapping.{Mapping}
 use Rattle.bus_semantics.specs.Plan.{Plan}
@@ -21,23 +21,6 @@ use Rattle.port_objects.specs.Objects.{kept_of, IsOfPlan, ArePlans}
 use Rattle.port_objects.specs.Standing.{Stands}
 use Rattle.trace_objects.specs.Standing.{IsTried, ObjectsStand}
 use Rattle.trace_objects.proofs.Tried.{Facts}
-
--- ---- places of a list in which one item was set
-
-pub data Placed (X : Type 0) (xs : List X) (n : ℕ) (y : X) (i : ℕ) (x : X) : Type 0 where
-  here : i ≡ n → x ≡ y → Placed X xs n y i x
-  there : i ≢ n → slice_get xs i ≡ Some x → Placed X xs n y i x
-
-pub placed : {X : Type 0} (xs : List X) (n : ℕ) (y : X) (i : ℕ) (x : X) → slice_get (set xs n y) i ≡ Some x → Placed X xs n y i x
-placed [] n y i x e = absurd (cc e)
-placed (z ∷ xs) zero y zero x e = here refl cc
-placed (z ∷ xs) zero y (suc i) x e = there (omega arith) e
-placed (z ∷ xs) (suc n) y zero x e = there (omega arith) e
-placed (z ∷ xs) (suc n) y (suc i) x e = deeper (placed xs n y i x e)
-  where
-    deeper : Placed _ xs n y i x → Placed _ (z ∷ xs) (suc n) y (suc i) x
-    deeper (here at same) = here (ap suc at) same
-    deeper (there other found) = there (omega arith) found
 
 -- ---- one object at most is touched
 

@@ -33,9 +33,6 @@ module _ (p : Plan) (a : Actor) (w : Wanted) (objects : List Object) (object : �
   pub at : touched p a w ≡ object
   at = ap (λ o. unwrap_or o 0) (sym touching)
 
-  pub touches_one : object_of p a w ≡ Some (touched p a w)
-  touches_one = sym touching ∙ ap (λ n. Some n) (sym at)
-
   pub found : (old : Object) → object < length objects → old ≡ get_or objects object old → slice_get objects object ≡ Some old
   found old within value = slice_get-get_or objects object old within ∙ ap (λ y. Some y) (sym value)
 

@@ -1,15 +1,11 @@
 -- What holds of each number that is not in a set, as numbers come and go; and sets in which there is none.
-use Rattle.std.proofs.Common.{◌≡◌, ◌≢◌, ℕ, ◌<◌, ◌+◌, Bool, true, false, sym, ◌∙◌, ap, subst, arith, List, length, set, get_or, replicate, inl, inr}
+use Rattle.std.proofs.Common.{◌≡◌, ◌≢◌, ℕ, ◌<◌, ◌+◌, Bool, true, false, sym, ◌∙◌, ap, subst, arith, List, length, set, get_or, inl, inr}
 use Rattle.std.proofs.lemmas.Bool.{cases_eq, cases_lt, false≢true}
-use Rattle.std.proofs.lemmas.List.{get_or-set_other, get_or-set_same, get_or-replicate, length-set, length-replicate}
+use Rattle.std.proofs.lemmas.List.{get_or-set_other, get_or-set_same, length-set}
 use Rattle.place_set.specs.Places.{NoneBetween}
 use Rattle.trace_objects.specs.Unrest.{OfOthers}
 
 module _ (P : ℕ → Type 0) where
-  -- besides all there is no other
-  pub of_all : (n : ℕ) → OfOthers P (replicate n true)
-  of_all n = λ k within out. let less : k < n = omega (arith, within, length-replicate n true) in absurd (false≢true (sym out ∙ get_or-replicate n k true false less))
-
   -- where it holds of one, that is taken out
   pub without : (xs : List Bool) (at : ℕ) → P at → OfOthers P xs → OfOthers P (set xs at false)
   without xs at here others = λ n within out. elim (cases_eq n at) [

@@ -1,6 +1,6 @@
 -- What is known of an entry that is tried: its wish fits and is its own, it touches what its wish touches, and it may follow if it may come.
 use Rattle.std.proofs.Common.{◌≡◌, ℕ, Bool, true, false, ◌&&◌, not, if◌then◌else◌, refl, sym, ◌∙◌, ap, subst, Option, Some, None}
-use Rattle.std.specs.Prelude.{is_none, option_and_then, unwrap_or}
+use Rattle.std.specs.Prelude.{is_none, unwrap_or}
 use Rattle.std.proofs.lemmas.Bool.{and_parts, false≢true}
 use Rattle.std.proofs.lemmas.Option.{same_Some}
 use Rattle.rte_value.specs.declared.kinds.ActKey.{ActKey}
@@ -17,10 +17,11 @@ use Rattle.bus_semantics.specs.Wanted.{Wanted, to_start, wanted_by}
 use Rattle.bus_semantics.specs.History.{History, Noted, needs_event, started_before, note, last_started, runs}
 use Rattle.bus_semantics.specs.Objects.{object_of, touched_by, touched, entries_of}
 use Rattle.bus_semantics.specs.Fitting.{wish_fits, answer_fits, activation_fits, fits}
-use Rattle.bus_semantics.specs.Actor.{activation_of, wanted_in, next_wish, is_held_back, is_this, may_start, caller_has_asked, starts_or_goes_on, follows_program}
+use Rattle.bus_semantics.specs.Actor.{next_wish, is_held_back, is_this, may_start, caller_has_asked, starts_or_goes_on, follows_program}
 use Rattle.bus_semantics.specs.Legal.{MayFollow}
 use Rattle.bus_semantics.specs.Asked.{asks_its_own, event_of, noted_for, MayCome}
 use Rattle.history_laws.specs.Running.{GoesOn}
+use Rattle.history_laws.proofs.Keys.{wish_runs}
 use Rattle.bus_semantics.proofs.SameWanted.{same_wanted-Decides}
 use Rattle.trace_objects.specs.Standing.{IsTried}
 
@@ -48,14 +49,6 @@ is_false true same = absurd (false≢true same)
 this_is : (v : Wanted) (o : Option Wanted) → is_this v o ≡ true → o ≡ Some v
 this_is v None e = absurd (false≢true e)
 this_is v (Some u) e = ap (λ x. Some x) (sym ((same_wanted-Decides v u).0 e))
-
--- who wants something runs
-pub wish_runs : (p : Plan) (k : ActKey) (h : History) (w : Wanted) → next_wish p h k ≡ Some w → runs k h ≡ true
-wish_runs p k h w next = by_run (runs k h) refl next
-  where
-    by_run : (b : Bool) → runs k h ≡ b → (if b then option_and_then (wanted_in p k) (activation_of k h) else None) ≡ Some w → runs k h ≡ true
-    by_run true is next = is
-    by_run false is next = absurd (cc next)
 
 -- ---- how an entry was asked for
 
