@@ -1,30 +1,22 @@
 -- What a wish makes of a seat.
-use Rattle.std.proofs.Common.{◌≡◌, ◌<◌, ◌≤◌, ◌+◌, ℕ, suc, Bool, true, false, ◌&&◌, if◌then◌else◌, List, [], ◌∷◌, ◌++◌, length, length-append, refl, sym, ◌∙◌, ap, subst, arith, eqb-true, Option, Some, None}
+use Rattle.std.proofs.Common.{◌≡◌, ◌≤◌, ℕ, Bool, true, false, ◌&&◌, if◌then◌else◌, [], ◌∷◌, length, refl, sym, ◌∙◌, ap, subst, eqb-true, Option, Some, None}
 use Rattle.std.specs.Vec.{vec_capacity}
 use Rattle.rte_value.specs.Values.{same_number}
 use Rattle.atomic_table.specs.Seated.{TableId}
-use Rattle.bus_semantics.specs.declared.entries.Actor.{Actor}
 use Rattle.bus_semantics.specs.declared.entries.Entry.{Entry}
 use Rattle.bus_semantics.specs.declared.entries.Stamped.{Stamped}
 use Rattle.bus_semantics.specs.Plan.{Plan}
-use Rattle.bus_semantics.specs.Wanted.{Wanted}
-use Rattle.bus_semantics.specs.Asked.{event_of}
 use Rattle.bus_semantics.specs.History.{Noted}
 use Rattle.bus_semantics.specs.Objects.{touches, touched_by}
-use Rattle.object_kinds.specs.declared.acted.Shown.{Shown}
-use Rattle.port_objects.specs.declared.object.Object.{Object}
 use Rattle.port_objects.specs.Kept.{Kept}
 use Rattle.bus_semantics.specs.Locality.{is_proper}
 use Rattle.port_objects.specs.Leading.{lead, lead_by_kind}
-use Rattle.port_objects.specs.Objects.{kept_of, IsOfPlan}
-use Rattle.port_objects.specs.Answers.{IsMade, IsHeld}
 use Rattle.cross_core_table.specs.declared.views.Opening.{Opening}
 use Rattle.cross_core_table.specs.declared.views.Held.{Held}
 use Rattle.cross_core_table.specs.declared.views.View.{View}
 use Rattle.cross_core_table.specs.declared.seats.CoreSeat.{CoreSeat}
-use Rattle.cross_core_table.specs.Logs.{plan_in}
-use Rattle.cross_core_table.specs.Plays.{Sat, held_of, holding, making, having_looked, as_stamped, held_after}
-use Rattle.cross_core_table.specs.Places.{IsHolding, IsToKeep, IsTakenBy, HasLooked}
+use Rattle.cross_core_table.specs.Plays.{Sat, making, as_stamped, held_after}
+use Rattle.cross_core_table.specs.Places.{IsHolding, IsToKeep}
 use Rattle.cross_core_table.specs.Seats.{IsSeatAt}
 use Rattle.cross_core_table.proofs.Logs.{kept_next}
 
@@ -56,28 +48,7 @@ is_kept k m n o e event stamp live t is =
       planned = t.planned;
     }
 
--- a view that holds nothing, after it has held and let go
-pub let_go : (v : View) → v.held ≡ None → (record v { held = None }) ≡ v
-let_go v e = ap (λ (h : Option Held). record v { held = h }) (sym e)
-
 -- ---- the seat stays one of the round
-
-pub grown_seat : (t : TableId) (k : Opening) (core : ℕ) (s n : CoreSeat) (x : Stamped) → IsSeatAt t k core s → length s.place.me.0.made < k.room
-    → n.place.table_id ≡ s.place.table_id → n.core ≡ s.core → n.place.me ≡ (making s.place.me.0 x, []) → n.made.items ≡ s.made.items ++ x ∷ []
-    → vec_capacity n.made ≡ vec_capacity s.made → IsSeatAt t k core n
-grown_seat t k core s n x is room table number me made capacity = record {
-  table = table ∙ is.table;
-  idle = record {
-    opening = ap (λ (y : Sat). y.0.opening) me ∙ is.idle.opening;
-    number = ap (λ (y : Sat). y.0.core) me ∙ is.idle.number;
-    held = ap (λ (y : Sat). y.0.held) me ∙ is.idle.held;
-    slots = ap (λ (y : Sat). y.1) me;
-  };
-  number = number ∙ is.number;
-  made = ap (λ (y : Sat). y.0.made) me ∙ (ap (λ (l : List Stamped). l ++ x ∷ []) is.made ∙ sym made);
-  within = omega (arith, room, ap (λ (l : List Stamped). length l) is.made, ap (λ (l : List Stamped). length l) made, length-append s.made.items (x ∷ []));
-  space = subst (λ (y : ℕ). k.room ≤ y) (sym capacity) is.space;
-}
 
 pub same_seat : (t : TableId) (k : Opening) (core : ℕ) (s n : CoreSeat) (w : View) → IsSeatAt t k core s
     → n.place.table_id ≡ s.place.table_id → n.core ≡ s.core → n.place.me ≡ (w, []) → n.made ≡ s.made
@@ -95,40 +66,3 @@ same_seat t k core s n w is table number me made opening number' none same = rec
   within = subst (λ y. length y.items ≤ k.room) (sym made) is.within;
   space = subst (λ y. k.room ≤ vec_capacity y) (sym made) is.space;
 }
-
--- ---- what the seat then knows
-
-pub to_keep : (k : Opening) (v : View) (m n : Sat) (o : ℕ) (a : Actor) (w : Wanted) (x now : Object) (e : Entry) → IsTakenBy k v m o x
-    → n.0 ≡ m.0 → n.1 ≡ (o, now) ∷ [] → IsMade (plan_in k) o a w x now e → IsOfPlan (plan_in k) o now → IsToKeep k n o e (event_of w)
-to_keep k v m n o a w x now e t view slots made planned = record {
-  object = now;
-  slots = slots;
-  entries = t.entries;
-  held = ap (λ (y : View). y.held) view ∙ ap (λ (y : Sat). y.0.held) t.seat;
-  before = kept_of x;
-  kept = t.kept;
-  leads = made.leads;
-  planned = planned;
-}
-
-pub to_give_back : (k : Opening) (v : View) (m n : Sat) (o : ℕ) (a : Actor) (w : Wanted) (x now : Object) (shown : Shown) → v.opening ≡ Some k → IsTakenBy k v m o x
-    → n.0 ≡ m.0 → n.1 ≡ (o, now) ∷ [] → IsHeld (plan_in k) o a w x now shown → IsOfPlan (plan_in k) o now → IsHolding k n o
-to_give_back k v m n o a w x now shown live t view slots held planned = record {
-  opening = ap (λ (y : View). y.opening) view ∙ (ap (λ (y : Sat). y.0.opening) t.seat ∙ live);
-  object = now;
-  slots = slots;
-  entries = t.entries;
-  held = ap (λ (y : View). y.held) view ∙ ap (λ (y : Sat). y.0.held) t.seat;
-  kept = t.kept ∙ ap (λ (y : Object). Some (kept_of y)) (sym held.same);
-  planned = planned;
-}
-
-pub has_looked : (k : Opening) (v : View) (m n : Sat) (o : ℕ) (a : Actor) (w : Wanted) (x now : Object) (u : View) (shown : Shown) → v.held ≡ None → IsTakenBy k v m o x
-    → n.0 ≡ m.0 → IsHeld (plan_in k) o a w x now shown → u ≡ having_looked n.0 → HasLooked k o a w v u shown
-has_looked k v m n o a w x now u shown none t view held is =
-    let seen : n.0 ≡ holding v (held_of o t.entries) = view ∙ ap (λ (y : Sat). y.0) t.seat in
-    record {
-      entries = t.entries;
-      view = is ∙ (ap (λ (y : View). having_looked y) seen ∙ ap (λ (h : Option Held). record v { held = h; look = Some (held_of o t.entries); looks = suc v.looks }) (sym none));
-      held = record { kept = kept_of x; leads = t.kept; none = held.none; why = held.why };
-    }

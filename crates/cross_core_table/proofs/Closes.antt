@@ -131,9 +131,3 @@ third (a, b, c) = c
 pub closed_is : (k k' : Opening) (parts : List (List Stamped)) (xs ys : List Object) (es fs : List Stamped) → k' ≡ k → ys ≡ xs → fs ≡ es → IsClosed k parts xs es → IsClosed k' parts ys fs
 closed_is k k' parts xs ys es fs key objects entries closed =
     subst (λ (z : Opening). IsClosed z parts ys fs) (sym key) (subst (λ (l : List Object). IsClosed k parts l fs) (sym objects) (subst (λ (l : List Stamped). IsClosed k parts xs l) (sym entries) closed))
-
-pub take_whole : (xs : List Object) (n : ℕ) → length xs ≤ n → take n xs ≡ xs
-take_whole [] zero h = refl
-take_whole [] (suc n) h = refl
-take_whole (x ∷ xs) zero h = absurd (omega arith)
-take_whole (x ∷ xs) (suc n) h = ap (λ (l : List Object). x ∷ l) (take_whole xs n (omega arith))

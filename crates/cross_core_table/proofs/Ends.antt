@@ -40,11 +40,6 @@ in_order (l ∷ log) = in_order log ++ l ∷ []
 abbrev pub entries_in : List Logged → List Stamped
 entries_in log = map (λ (l : Logged). l.stamped) (in_order log)
 
-pub in_order_length : (log : List Logged) → length (in_order log) ≡ length log
-unfolding in_order
-in_order_length [] = refl
-in_order_length (l ∷ log) = omega (arith, length-append (in_order log) (l ∷ []), in_order_length log)
-
 every_end : {X : Type 0} (f : ℕ → X → Bool) (i : ℕ) (xs : List X) (x : X) → every_from i f xs ≡ true → f (i + length xs) x ≡ true → every_from i f (xs ++ x ∷ []) ≡ true
 every_end f i [] x all last = ap (λ b. b && true) (subst (λ (n : ℕ). f n x ≡ true) (omega arith) last)
 every_end f i (y ∷ xs) x all last =

@@ -1,7 +1,7 @@
 -- From what a step tells to what calls of a seat say.
 use Rattle.std.proofs.Common.{◌≡◌, ◌<◌, ◌+◌, ◌%◌, ◌^◌, ℕ, suc, List, [], ◌∷◌, length, refl, sym, ◌∙◌, ap, subst, Option, Some, None}
 use mathlib.Core.Option.{none}
-use Rattle.atomic_table.specs.Table.{Step, step, Allows}
+use Rattle.atomic_table.specs.Table.{step, Allows}
 use Rattle.bus_semantics.specs.declared.entries.Entry.{Entry}
 use Rattle.bus_semantics.specs.Objects.{touched_by}
 use Rattle.port_objects.specs.declared.object.Object.{Object}
@@ -61,9 +61,3 @@ pub stamps_off_named : (k : Opening) (n id : ℕ) (m : Sat) (e e' : Entry) → e
     → Allows (RoundRule k) n id m 0 (λ y. (y + 1) % 2 ^ 64) (stamped_off e (step n 0 1 0 none) m)
 stamps_off_named k n id m e e' entry live alone room =
     stamps_off k n id m e live (subst (λ (x : Entry). touched_by (plan_in k) (record { entry = x; event = None }) ≡ None) (sym entry) alone) room
-
-pub stamped_on_named : (st : Step Object) (m n : Sat) (r : ℕ) (e e' : Entry) (v v' : Option ℕ) → e ≡ e' → v ≡ v' → stamped_on e v st m r n → stamped_on e' v' st m r n
-stamped_on_named st m n r e e' v v' entry event s = subst (λ (x : Entry). stamped_on x v' st m r n) entry (subst (λ (x : Option ℕ). stamped_on e x st m r n) event s)
-
-pub stamped_off_named : (st : Step Object) (m n : Sat) (r : ℕ) (e e' : Entry) → e ≡ e' → stamped_off e st m r n → stamped_off e' st m r n
-stamped_off_named st m n r e e' entry s = subst (λ (x : Entry). stamped_off x st m r n) entry s

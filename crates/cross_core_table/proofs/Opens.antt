@@ -63,22 +63,6 @@ rooms_left n m room old new v e is all = record {
   each = λ i x at. all.each i x (subst (λ (l : Rooms). slice_get l i ≡ Some x) (sym e) (before new (v ∷ []) i x at));
 }
 
--- one more
-pub room_more : (n room : ℕ) (old new : Rooms) (v : Vec Stamped Global) → new ≡ old ++ v ∷ [] → v.items ≡ [] → room ≤ vec_capacity v → AreRooms n room old → AreRooms (n + 1) room new
-room_more n room old new v e none space all = record {
-  count = omega (arith, ap (λ (l : Rooms). length l) e, length-append old (v ∷ []), all.count);
-  each = λ i x at. here old i x (subst (λ (l : Rooms). slice_get l i ≡ Some x) e at) (λ j y f. all.each j y f);
-}
-  where
-    here : (xs : Rooms) (i : ℕ) (x : Vec Stamped Global) → slice_get (xs ++ v ∷ []) i ≡ Some x → ((j : ℕ) (y : Vec Stamped Global) → slice_get xs j ≡ Some y → (y.items ≡ []) × (room ≤ vec_capacity y)) → (x.items ≡ []) × (room ≤ vec_capacity x)
-    here [] zero x f g = let same : v ≡ x = cc f in subst (λ (y : Vec Stamped Global). (y.items ≡ []) × (room ≤ vec_capacity y)) same (none, space)
-    here [] (suc i) x f g = absurd (cc f)
-    here (y ∷ ys) zero x f g = g 0 x f
-    here (y ∷ ys) (suc i) x f g = here ys i x f (λ j z h. g (suc j) z h)
-
-pub no_rooms : (room : ℕ) (xs : Rooms) → xs ≡ [] → AreRooms 0 room xs
-no_rooms room xs e = record { count = ap (λ (l : Rooms). length l) e; each = λ i v at. let none : slice_get [] i ≡ Some v = subst (λ (l : Rooms). slice_get l i ≡ Some v) e at in absurd (cc none) }
-
 -- ---- seats
 
 pub given_first : (t : TableId) (k : Opening) (xs ys : List CoreSeat) (x : CoreSeat) → x.place.table_id ≡ t → x.place.me ≡ (first_view k, []) → x.core ≡ 0 → x.made.items ≡ []
