@@ -1,9 +1,8 @@
 -- A publication of a list that is cut at 16 words: an activation of a sound plan never has more.
-use Rattle.std.proofs.Common.{◌≡◌, ℕ, suc, ◌≤◌, ℤ, Bool, true, false, if◌then◌else◌, refl, ap, arith, List, [], ◌∷◌, take, length, Some}
+use Rattle.std.proofs.Common.{◌≡◌, ℕ, ◌≤◌, ℤ, Bool, true, false, if◌then◌else◌, refl, ap, arith, List, [], ◌∷◌, take, length, Some}
 use Rattle.std.specs.Prelude.{flat_map}
 use Rattle.std.specs.List.{list_any, slice_get}
-use Rattle.std.proofs.lemmas.Bool.{and_parts, leb-true}
-use Rattle.rte_value.specs.declared.kinds.Limits.{Limits}
+use Rattle.std.proofs.lemmas.Bool.{leb-true}
 use Rattle.bus_semantics.specs.declared.entries.Deed.{Deed}
 use Rattle.bus_semantics.specs.declared.script.Mapping.{Mapping}
 use Rattle.bus_semantics.specs.Plan.{Plan, Runnable}
@@ -12,15 +11,15 @@ use Rattle.bus_semantics.specs.Lists.{elems_of, mask_of, marked, words_of_all}
 use Rattle.bus_semantics.specs.State.{State, words_under}
 use Rattle.bus_semantics.specs.Programs.{Outcome, Stop, Go, Running, goes_on, both, nothing, calling, takes_nothing, run_program}
 use Rattle.bus_semantics.specs.Activations.{Implicit, one, all_of, publications_of, each, publishing_one, is_written, publishing_it, publishing, admitting, fetching, returning, ending, activity, state_at_start, wanted_next}
-use Rattle.bus_semantics.specs.SoundElements.{is_within}
 use Rattle.bus_semantics.specs.SoundLists.{list_sound}
 use Rattle.bus_semantics.specs.Sound.{IsSound}
-use Rattle.activation_laws.specs.Given.{are_within, limits_at, elems_take}
+use Rattle.activation_laws.specs.Given.{limits_at, elems_take}
 use Rattle.activation_laws.proofs.Trails.{Trail}
 use Rattle.activation_laws.proofs.Runs.{reached}
 use Rattle.activation_laws.proofs.Asked.{MayAsk}
 use Rattle.activation_laws.proofs.Marks.{limits_count, marked_fewer}
 use Rattle.activation_laws.proofs.Lists.{list_short}
+use Rattle.activation_laws.proofs.Words.{as_many}
 use Rattle.activation_laws.proofs.Wholes.{kept_at_start, activity_obeys, Ended}
 use Rattle.task_generator.proofs.Together.{take_whole}
 
@@ -79,12 +78,6 @@ module _ (May : Wanted → Type 0) where
         after_all its (same_each its) l (mask_of (is_written t) (elems_of p l)) (flat_map (λ x. words_under x t.written) (elems_of p l)) t es (list_any (is_written t) (elems_of p l)) may
 
 -- ---- a list that may be published is short
-
-as_many : (ls : List Limits) (ws : List ℤ) → are_within ls ws ≡ true → length ws ≡ length ls
-as_many [] [] within = refl
-as_many [] (w ∷ ws) within = absurd (cc within)
-as_many (l ∷ ls) [] within = absurd (cc within)
-as_many (l ∷ ls) (w ∷ ws) within = ap (λ n. suc n) (as_many ls ws (and_parts (is_within l w) (are_within ls ws) within).1)
 
 module _ (p : Plan) (m : Mapping) (sound : IsSound p m) (i : ℕ) (r : Runnable) (there : slice_get p.runnables i ≡ Some r) (event : ℕ) where
   -- it may be asked after some trail

@@ -164,12 +164,6 @@ turns_cost n c false b some does =
 pub loop_cost : (turns : ℕ) (body : BodyTree) → does_nothing (repeats turns body) ≡ false → body_cost body + 1 ≤ stmt_cost (repeats turns body)
 loop_cost turns body does = let inner = turns_cost turns (body_cost body) (turns == 0) (do_nothing body) (some_turns turns) does in omega arith
 
--- one more loop stands around that body
-pub loop_depth : (turns d : ℕ) (body : BodyTree) → does_nothing (repeats turns body) ≡ false → d + loops (repeats turns body) ≤ 100000 → d + 1 + loops_of_body body ≤ 100000
-loop_depth turns d body does flat =
-    let inner : d + (1 + loops_of_body body) ≤ 100000 = subst (λ b. d + (if b then 0 else 1 + loops_of_body body) ≤ 100000) does flat in
-    omega arith
-
 -- the code of both sides of a choice
 pub sides_short : (s : List AccessSig) (d : ℕ) (st : StmtTree) (e : ExprTree) (first second : BodyTree) → st ≡ chooses e first second → stmt_cost st ≤ 100000
     → length (shared_of_body s d first) + length (shared_of_body s d second) ≤ 300000

@@ -13,7 +13,6 @@ pub mod Cutting
 pub mod Surrounding
 pub mod Activity
 pub mod Promising
-pub mod Going
 pub mod Patching
 pub mod Placing
 pub mod Publications

@@ -1,7 +1,6 @@
 -- The instructions that instances share are, in an instance, those of its program.
-use Rattle.std.proofs.Common.{◌≡◌, ℕ, zero, suc, ◌+◌, ℤ, List, [], ◌∷◌, ◌++◌, Bool, true, false, if◌then◌else◌, length, map, get_or, refl, sym, ap, ◌∙◌, arith}
+use Rattle.std.proofs.Common.{◌≡◌, ℕ, ◌+◌, ℤ, List, [], ◌∷◌, ◌++◌, Bool, true, false, if◌then◌else◌, length, map, get_or, refl, sym, ap, ◌∙◌, arith}
 use Rattle.std.proofs.lemmas.List.{map-append, length-map}
-use Rattle.rte_value.specs.declared.kinds.Limits.{Limits}
 use Rattle.rte_value.specs.Arithmetic.{clamped_each}
 use Rattle.runnable_lang.specs.declared.program.AccessKind.{AccessKind}
 use Rattle.runnable_lang.specs.declared.program.AccessKind.TheVariants as kind
@@ -9,7 +8,7 @@ use Rattle.runnable_lang.specs.declared.program.AccessSig.{AccessSig}
 use Rattle.runnable_lang.specs.Trees.{ExprTree, StmtTree, sets, chooses, repeats, in_area, writes, reads, invalidates, asks_updated, sends, receives, writes_late, reads_early, writes_variable, reads_variable, writes_variable_late, reads_variable_early, calls, calls_and_goes_on, takes_result, switches, asks_mode, BodyTree, done, next}
 use Rattle.runnable_lang.specs.Expressions.{worth}
 use Rattle.bus_semantics.specs.Plan.{Runnable}
-use Rattle.bus_semantics.specs.Wanted.{Wanted, to_write, to_read, to_invalidate, to_see_updated, to_send, to_receive, to_ask, to_hear, to_take_result, to_enter, to_leave, to_switch, to_see_mode}
+use Rattle.bus_semantics.specs.Wanted.{Wanted, to_write, to_read, to_invalidate, to_see_updated, to_send, to_receive, to_ask, to_take_result, to_enter, to_leave, to_switch, to_see_mode}
 use Rattle.bus_semantics.specs.State.{access, is_to}
 use Rattle.bus_semantics.specs.Activations.{is_read_early, is_written_late}
 use Rattle.task_machine.specs.declared.instr.Taken.{Taken}
@@ -23,7 +22,7 @@ use Rattle.task_generator.specs.Slots.{slot_of}
 use Rattle.task_generator.specs.Nothing.{does_nothing}
 use Rattle.task_generator.specs.Numbers.{counts_among, numbers, numbered}
 use Rattle.task_generator.specs.Code.{calling_code, given_over, choosing_code, looping_code, hearing_code, code_of, code_of_body}
-use Rattle.task_generator.specs.Shared.{targets_of, fixed, calling_shared, choosing_shared, looping_shared, hearing_shared, shared_of, shared_of_body}
+use Rattle.task_generator.specs.Shared.{targets_of, fixed, calling_shared, choosing_shared, looping_shared, shared_of, shared_of_body}
 use Rattle.task_generator.proofs.Numbering.{many_numbers, same_ins, placed, all_named}
 
 -- ---- instructions that name no access

@@ -1,5 +1,5 @@
 -- Bodies that share code.
-use Rattle.std.proofs.Common.{◌≡◌, ℕ, zero, suc, ◌+◌, ◌<◌, ◌≤◌, cond, subst, List, [], ◌∷◌, ◌++◌, Bool, true, false, ◌&&◌, if◌then◌else◌, map, take, length, get_or, Option, Some, None, refl, sym, ap, ◌∙◌, arith, length-append}
+use Rattle.std.proofs.Common.{◌≡◌, ℕ, zero, suc, ◌+◌, ◌≤◌, cond, subst, List, [], ◌∷◌, ◌++◌, Bool, true, false, map, take, length, Option, Some, refl, sym, ap, ◌∙◌, arith}
 use Rattle.std.specs.Prelude.{slice_get, nat_eq}
 use Rattle.std.proofs.lemmas.List.{map-append}
 use Rattle.std.proofs.lemmas.Bool.{and_parts, eqb-true}
@@ -7,7 +7,7 @@ use Rattle.bus_semantics.specs.declared.plan.BusPlan.{BusPlan}
 use Rattle.bus_semantics.specs.declared.plan.RunnablePlan.{RunnablePlan}
 use Rattle.bus_semantics.specs.Codes.{HaveOneCode, coded_of}
 use Rattle.task_machine.specs.declared.instr.Body.{Body}
-use Rattle.task_generator.specs.Coded.{CodeShape, coded_shape, code_of_body, HaveCodes, same_code}
+use Rattle.task_generator.specs.Coded.{coded_shape, code_of_body, HaveCodes, same_code}
 
 -- a body at its place
 nth : {Y : Type 0} (f : Body → Y) (g : RunnablePlan → Y) (bodies : List Body) (rs : List RunnablePlan) (n : ℕ) (b : Body) (s : RunnablePlan)

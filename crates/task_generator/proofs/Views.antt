@@ -1,26 +1,17 @@
 -- The trees that statements are.
 use Rattle.std.proofs.Common.{◌≡◌, ℕ, rules, Vec, Global}
 use Rattle.runnable_lang.specs.declared.stmt.Expr.{Expr}
-use Rattle.runnable_lang.specs.declared.stmt.Stmt.{Stmt, If, Area, Write, Read, Invalidate, IsUpdated, Send, Receive, Call, ACall, TakeResult, the_lemmas}
-use Rattle.runnable_lang.specs.Trees.{expr_tree, exprs, stmt_tree, body_tree, chooses, in_area, writes, reads, invalidates, asks_updated, sends, receives, calls, calls_and_goes_on, takes_result}
-
-pub tree_of_if : (e : Expr) (one two : Vec Stmt Global) → stmt_tree (If e one two) ≡ chooses (expr_tree e) (body_tree one.items) (body_tree two.items)
-tree_of_if e one two = search (rules, the_lemmas)
+use Rattle.runnable_lang.specs.declared.stmt.Stmt.{Write, Read, Invalidate, IsUpdated, Receive, Call, ACall, TakeResult, the_lemmas}
+use Rattle.runnable_lang.specs.Trees.{exprs, stmt_tree, writes, reads, invalidates, asks_updated, receives, calls, calls_and_goes_on, takes_result}
 
 pub tree_of_write : (port item : ℕ) (values : Vec Expr Global) (status : ℕ) → stmt_tree (Write port item values status) ≡ writes port item (exprs values.items) status
 tree_of_write port item values status = search (rules, the_lemmas)
-
-pub tree_of_send : (port item : ℕ) (values : Vec Expr Global) (status : ℕ) → stmt_tree (Send port item values status) ≡ sends port item (exprs values.items) status
-tree_of_send port item values status = search (rules, the_lemmas)
 
 pub tree_of_call : (port item : ℕ) (values : Vec Expr Global) (vars : Vec ℕ Global) (status : ℕ) → stmt_tree (Call port item values vars status) ≡ calls port item (exprs values.items) vars.items status
 tree_of_call port item values vars status = search (rules, the_lemmas)
 
 pub tree_of_acall : (port item : ℕ) (values : Vec Expr Global) (status : ℕ) → stmt_tree (ACall port item values status) ≡ calls_and_goes_on port item (exprs values.items) status
 tree_of_acall port item values status = search (rules, the_lemmas)
-
-pub tree_of_area : (x : ℕ) (body : Vec Stmt Global) → stmt_tree (Area x body) ≡ in_area x (body_tree body.items)
-tree_of_area x body = search (rules, the_lemmas)
 
 pub tree_of_read : (port item : ℕ) (vars : Vec ℕ Global) (status : ℕ) → stmt_tree (Read port item vars status) ≡ reads port item vars.items status
 tree_of_read port item vars status = search (rules, the_lemmas)

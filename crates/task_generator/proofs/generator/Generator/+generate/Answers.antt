@@ -10,7 +10,7 @@ use Rattle.task_machine.specs.Instructions.{instruction_of, skip, call, change_o
 use Rattle.task_generator.specs.Shared.{fixed, looping_shared, shared_of, shared_of_body}
 use Rattle.task_generator.proofs.Few.{cheap_part, flat_part, inner_short, sides_short}
 use Rattle.task_generator.proofs.Patching.{around_more, far_of, near_of}
-use Rattle.task_generator.proofs.Views.{tree_of_if}
+use Rattle.runnable_lang.proofs.Views.{tree_of_if}
 use Rattle.task_generator.proofs.generator.Generator.+generate.Goals as goal
 
 pub area-returns : goal.area-returns
