@@ -9,7 +9,7 @@ use Rattle.port_objects.specs.declared.object.Object.{Object}
 use Rattle.task_machine.specs.declared.instr.TaskSet.{TaskSet}
 use Rattle.task_slots.specs.declared.slot.Slot.{Slot}
 use Rattle.task_slots.specs.Slots.{Table, table_of, listed_in, events_of_slot}
-use Rattle.task_slots.proofs.Placed.{Placed, here, there, placed}
+use Rattle.latches.proofs.Places.{Placed, here, there, placed}
 use Rattle.core_turn.specs.Awake.{AwakeState, AllAre, Fits, AreHeld, WakesSlot}
 
 -- a flag was set
@@ -96,10 +96,6 @@ roused slots n a b s below found wakes = record {
     row_of : (i : ℕ) (row : List Bool) → i < n + 1 → Placed (List Bool) a.events n wakes.row i row → AllAre true row
     row_of i row less (here place same) = subst (AllAre true) (sym same) wakes.all
     row_of i row less (there other is) = below.events i row (omega arith) is
-
--- all of it, and the next turn begins at a slot
-pub all_fit : (slots : List Slot) (first : ℕ) (a b : AwakeState) → AwakeBelow slots (length slots) a → b ≡ record a { first = first } → Fits slots first b
-all_fit slots first a b below is = subst (Fits slots first) (sym is) (record { count = below.count; rows = below.rows; widths = below.widths; waiting = below.waiting; areas = below.areas; begins = refl })
 
 pub all_awake_held : (p : Plan) (t : TaskSet) (objects : List Object) (touched : Option ℕ) (slots : List Slot) (first n begins : ℕ) (a b : AwakeState) → length slots ≤ n → AwakeBelow slots n a
     → b ≡ record { slots = a.slots; events = a.events; waiting = a.waiting; areas = a.areas; first = begins } → AreHeld p t objects touched slots first b

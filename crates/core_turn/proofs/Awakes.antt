@@ -17,7 +17,7 @@ use Rattle.task_slots.specs.declared.slot.Activity.TheVariants.{Free, Runs, Call
 use Rattle.task_slots.specs.Slots.{tries_of, slot_tries, events_of_slot}
 use Rattle.task_slots.specs.Looking.{AllHeld}
 use Rattle.task_slots.specs.Waiting.{flags, EventsHeld, is_free_task, is_free, idle_tries}
-use Rattle.task_slots.proofs.Placed.{Placed, here, there, placed}
+use Rattle.latches.proofs.Places.{Placed, here, there, placed}
 use Rattle.task_slots.proofs.Unchanged.{TriesHeld}
 use Rattle.core_turn.specs.Awake.{AwakeState, all_awake, Fits, AreHeld, StartsHeld, IsQuiet, HeldTold, IsSettled, with_slots}
 use Rattle.core_turn.proofs.Order.{no_both}
@@ -210,16 +210,6 @@ module _ (p : Plan) where
       of_flag false is = quiet (held.starts.slots i s found sleeps (flag ∙ ap (λ b. Some b) is))
 
 -- ---- a place for each
-
-pub fits_waking : (slots : List Slot) (first : ℕ) (a : AwakeState) (n : ℕ) → Fits slots first a → Fits slots first (with_slots a (set a.slots n true) (set a.waiting n false) a.areas)
-fits_waking slots first a n fits = record {
-  count = length-set a.slots n true ∙ fits.count;
-  rows = fits.rows;
-  widths = fits.widths;
-  waiting = length-set a.waiting n false ∙ fits.waiting;
-  areas = fits.areas;
-  begins = fits.begins;
-}
 
 fits_out : (slots : List Slot) (first : ℕ) (a a' : AwakeState) (at : ℕ) → a' ≡ with_slots a (set a.slots at false) a.waiting a.areas → Fits slots first a → Fits slots first a'
 fits_out slots first a a' at put fits = subst (Fits slots first) (sym put) (record {

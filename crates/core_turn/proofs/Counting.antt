@@ -50,9 +50,6 @@ pub record SameFrom (place : ℕ) (first now : AwakeState) : Type 0 where
   pub slots : (i : ℕ) → place ≤ i → get_or now.slots i false ≡ get_or first.slots i false
   pub events : (i : ℕ) → place ≤ i → get_or now.events i [] ≡ get_or first.events i []
 
-pub same_at_first : (place : ℕ) (a : AwakeState) → SameFrom place a a
-same_at_first place a = record { slots = λ i le. refl; events = λ i le. refl }
-
 pub same_before : (place : ℕ) (a : AwakeState) → SameBefore place a a
 same_before place a = record { slots = λ i low. refl; events = λ i low. refl }
 

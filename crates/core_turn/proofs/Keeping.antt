@@ -1,5 +1,5 @@
 -- The entry of a turn keeps cores and objects lawful.
-use Rattle.std.proofs.Common.{zero, suc, [], ◌≡◌, ◌≢◌, ◌⊎◌, inl, inr, ℕ, Bool, true, false, ◌&&◌, not, if◌then◌else◌, refl, sym, ◌∙◌, ap, subst, List, ◌∷◌, length, set, Option, Some, None}
+use Rattle.std.proofs.Common.{◌≡◌, ◌≢◌, ◌⊎◌, inl, inr, ℕ, Bool, true, false, ◌&&◌, not, if◌then◌else◌, refl, sym, ◌∙◌, ap, subst, List, ◌∷◌, length, set, Option, Some, None}
 use Rattle.std.proofs.lemmas.List.{length-set}
 use Rattle.std.specs.Prelude.{is_none, unwrap_or}
 use Rattle.std.specs.List.{slice_get}
@@ -40,7 +40,8 @@ use Rattle.task_slots.specs.Standing.{SlotStands}
 use Rattle.task_slots.specs.Looking.{event_for, IsEntryOf, MadeAt}
 use Rattle.task_slots.specs.Stepping.{noting_of, IsApart, IsOwn, StepFollows}
 use Rattle.task_slots.proofs.Histories.{free_same, bound_event}
-use Rattle.task_slots.proofs.Placed.{Placed, here, there, placed}
+use Rattle.latches.proofs.Places.{Placed, here, there, placed}
+use Rattle.object_kinds.proofs.Lists.{set_same}
 use Rattle.task_slots.proofs.Changing.{other_stands}
 use Rattle.core_turn.specs.Cores.{CoreState}
 use Rattle.core_turn.specs.Ready.{IsReady}
@@ -325,16 +326,11 @@ module _ (p : Plan) (m : Mapping) (t : TaskSet) (cores : List CoreState) (i : �
 
 -- ---- a turn without an entry
 
-set_found : {X : Type 0} (xs : List X) (i : ℕ) (x : X) → slice_get xs i ≡ Some x → set xs i x ≡ xs
-set_found [] i x e = refl
-set_found (y ∷ xs) zero x e = let same : y ≡ x = cc in ap (λ z. z ∷ xs) (sym same)
-set_found (y ∷ xs) (suc i) x e = ap (λ ys. y ∷ ys) (set_found xs i x e)
-
 pub still_lawful : (p : Plan) (m : Mapping) (t : TaskSet) (cores : List CoreState) (i : ℕ) (old new : CoreState) (objects after : List Object) (before now : Told) (h : History)
     → IsLawful p m t cores objects h → slice_get cores i ≡ Some old → before.objects ≡ Some objects → now.objects ≡ Some after → NothingComes p t old new before now
     → IsLawful p m t (set cores i new) after h
 still_lawful p m t cores i old new objects after before now h lawful is told tells none =
     let kept = subst (λ o. NoneTold p t old o now.objects) told none.objects in
     let same : after ≡ objects = same_Some _ _ (sym tells ∙ kept.1) in
-    let all : set cores i new ≡ cores = ap (set cores i) none.same ∙ set_found cores i old is in
+    let all : set cores i new ≡ cores = ap (set cores i) none.same ∙ set_same cores i old is in
     subst (λ cs. IsLawful p m t cs after h) (sym all) (subst (λ os. IsLawful p m t cores os h) (sym same) lawful)

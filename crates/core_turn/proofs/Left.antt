@@ -10,11 +10,11 @@ use Rattle.port_objects.specs.Objects.{kept_of}
 use Rattle.port_objects.specs.Waking.{IsClosed}
 use Rattle.task_machine.specs.declared.instr.TaskSet.{TaskSet}
 use Rattle.task_slots.specs.declared.slot.Slot.{Slot}
-use Rattle.core_turn.specs.Awake.{AwakeState, ComesBefore, MaySleep, IsWaiting, WaitersHeld, with_slots, waits_for, IsFirstWaiter, FirstIs, FirstWakes, woken_at, Fits, StartsHeld}
+use Rattle.core_turn.specs.Awake.{AwakeState, ComesBefore, MaySleep, IsWaiting, WaitersHeld, with_slots, waits_for, IsFirstWaiter, FirstIs, FirstWakes, woken_at, StartsHeld}
 use Rattle.task_slots.specs.Waiting.{WaitsAt}
-use Rattle.task_slots.proofs.Placed.{Placed, here, there, placed}
-use Rattle.core_turn.proofs.Order.{set_there, set_here, same_or_not, either}
-use Rattle.core_turn.proofs.Awakes.{fits_waking, starts_waking}
+use Rattle.latches.proofs.Places.{Placed, here, there, placed, set_here}
+use Rattle.core_turn.proofs.Order.{set_there, same_or_not, either}
+use Rattle.core_turn.proofs.Awakes.{starts_waking}
 use Rattle.core_turn.proofs.Waiters.{waiters_waking}
 
 module _ (p : Plan) (t : TaskSet) (objects : List Object) (object : ℕ) (after : Object) (of : List Slot) (first : ℕ) (a : AwakeState) where
@@ -97,14 +97,7 @@ module _ (p : Plan) (t : TaskSet) (objects : List Object) (object : ℕ) (left :
   pub waiters_left : (which : Option ℕ) → FirstWakes object old new which → WaitersHeld p t (set objects object left) None of old.first new
   waiters_left which wakes = subst (WaitersHeld p t (set objects object left) None of old.first) (sym wakes.changed) (waiters_by which wakes.first)
 
--- ---- a place for each, and starts
-
-fits_woken : (slots : List Slot) (first : ℕ) (a : AwakeState) (which : Option ℕ) → Fits slots first a → Fits slots first (woken_at a which)
-fits_woken slots first a None fits = fits
-fits_woken slots first a (Some at) fits = fits_waking slots first a at fits
-
-pub fits_first : (slots : List Slot) (first object : ℕ) (old new : AwakeState) (which : Option ℕ) → FirstWakes object old new which → Fits slots first old → Fits slots first new
-fits_first slots first object old new which wakes fits = subst (Fits slots first) (sym wakes.changed) (fits_woken slots first old which fits)
+-- ---- starts
 
 starts_woken : (p : Plan) (t : TaskSet) (objects : List Object) (slots : List Slot) (a : AwakeState) (which : Option ℕ) → StartsHeld p t objects slots a → StartsHeld p t objects slots (woken_at a which)
 starts_woken p t objects slots a None held = held

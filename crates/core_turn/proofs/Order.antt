@@ -16,11 +16,6 @@ set_there (z ∷ xs) zero (suc i) y x other e = e
 set_there (z ∷ xs) (suc n) zero y x other e = e
 set_there (z ∷ xs) (suc n) (suc i) y x other e = set_there xs n i y x (λ same. other (ap suc same)) e
 
-pub set_here : {X : Type 0} (xs : List X) (n : ℕ) (x y : X) → slice_get xs n ≡ Some x → slice_get (set xs n y) n ≡ Some y
-set_here [] n x y e = absurd (cc e)
-set_here (z ∷ xs) zero x y e = refl
-set_here (z ∷ xs) (suc n) x y e = set_here xs n x y e
-
 pub no_both : {X : Type 0} (o : Option Bool) → o ≡ Some true → o ≡ Some false → X
 no_both o on off = let same : Some true ≡ Some false = sym on ∙ off in absurd (cc same)
 

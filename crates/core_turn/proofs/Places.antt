@@ -33,10 +33,6 @@ pub all_from : {X : Type 0} (test : X → Bool) (xs : List X) → ((i : ℕ) (x 
 all_from test [] each = refl
 all_from test (x ∷ xs) each = and_from (test x) (list_all test xs) (each 0 x refl) (all_from test xs (λ i y found. each (suc i) y found))
 
-pub none_from : {X : Type 0} (test : X → Bool) (xs : List X) → ((i : ℕ) (x : X) → slice_get xs i ≡ Some x → test x ≡ false) → list_any test xs ≡ false
-none_from test [] each = refl
-none_from test (x ∷ xs) each = ap (λ b. b || list_any test xs) (each 0 x refl) ∙ none_from test xs (λ i y found. each (suc i) y found)
-
 -- ---- a mapped list
 
 pub record MapsTo {X Y : Type 0} (f : X → Y) (xs : List X) (y : Y) : Type 0 where
@@ -48,19 +44,6 @@ pub mapped_from : {X Y : Type 0} (f : X → Y) (xs : List X) (i : ℕ) (y : Y) �
 mapped_from f [] i y e = absurd (cc e)
 mapped_from f (x ∷ xs) zero y e = record { from = x; at = record { place = 0; found = refl }; is = cc }
 mapped_from f (x ∷ xs) (suc i) y e = let more = mapped_from f xs i y e in record { from = more.from; at = deeper x xs more.from more.at; is = more.is }
-
--- lists that two maps make the same go together
-pub together : {X Y Z : Type 0} (f : X → Z) (g : Y → Z) (xs : List X) (ys : List Y) (i : ℕ) (y : Y) → map f xs ≡ map g ys → slice_get ys i ≡ Some y → MapsTo f xs (g y)
-together f g xs [] i y same e = absurd (cc e)
-together f g [] (z ∷ ys) i y same e = absurd (cc same)
-together f g (x ∷ xs) (z ∷ ys) zero y same e =
-    let here : z ≡ y = cc in
-    let first : f x ≡ g z = cc in
-    record { from = x; at = record { place = 0; found = refl }; is = first ∙ ap g here }
-together f g (x ∷ xs) (z ∷ ys) (suc i) y same e =
-    let rest : map f xs ≡ map g ys = cc in
-    let more = together f g xs ys i y rest e in
-    record { from = more.from; at = deeper x xs more.from more.at; is = more.is }
 
 -- ---- a kept part
 

@@ -37,6 +37,7 @@ use Rattle.activation_laws.specs.LookUps.{clash}
 use Rattle.history_laws.specs.Callers.{CallerWaits}
 use Rattle.history_laws.specs.Running.{GoesOn}
 use Rattle.history_laws.proofs.Keys.{wish_runs}
+use Rattle.history_laws.proofs.OpenCalls.{kept_at}
 use Rattle.port_objects.specs.declared.object.Object.{Object}
 use Rattle.port_objects.specs.Kept.{Kept}
 use Rattle.port_objects.specs.Objects.{kept_of}
@@ -115,11 +116,6 @@ module _ (p : Plan) (h : History) where
   pub stuck_map : {X : Type 0} (f : X → Try) (xs : List X) → ((i : ℕ) (x : X) → slice_get xs i ≡ Some x → IsStuck p h (f x)) → AllStuck p h (map f xs)
   stuck_map f [] each = tt
   stuck_map f (x ∷ xs) each = (each 0 x refl, stuck_map f xs (λ i y found. each (suc i) y found))
-
-  pub map_stuck : {X : Type 0} (f : X → Try) (xs : List X) (i : ℕ) (x : X) → slice_get xs i ≡ Some x → AllStuck p h (map f xs) → IsStuck p h (f x)
-  map_stuck f [] i x e all = absurd (cc e)
-  map_stuck f (y ∷ xs) zero x e all = let same : y ≡ x = cc in subst (λ z. IsStuck p h (f z)) same all.0
-  map_stuck f (y ∷ xs) (suc i) x e all = map_stuck f xs i x e all.1
 
 -- ---- what is held by the objects may not follow
 
@@ -478,12 +474,7 @@ module _ (p : Plan) (m : Mapping) (sound : IsSound p m) (ts : TaskSet) (bodies :
 
 -- ---- a core
 
--- what stands in the first part of a list, and in the last
-in_first : {X : Type 0} (xs ys : List X) (i : ℕ) (x : X) → slice_get xs i ≡ Some x → slice_get (xs ++ ys) i ≡ Some x
-in_first [] ys i x e = absurd (cc e)
-in_first (y ∷ xs) ys zero x e = e
-in_first (y ∷ xs) ys (suc i) x e = in_first xs ys i x e
-
+-- what stands in the last part of a list
 in_last : {X : Type 0} (xs ys : List X) (x : X) → IsAmong ys x → IsAmong (xs ++ ys) x
 in_last [] ys x at = at
 in_last (y ∷ xs) ys x at = deeper y (xs ++ ys) x (in_last xs ys x at)
@@ -516,7 +507,7 @@ module _ (p : Plan) (m : Mapping) (ts : TaskSet) (bodies : AsksAsPlanned p ts) (
       each_task : (i : ℕ) (task : Task) → slice_get (tasks_of_core m c.number) i ≡ Some task → AllStuck p h (tries_of_task p h task)
       each_task i task found =
           let table : slice_get (task_tables m c.number) i ≡ Some (of_task task.events) = slice_get-map (λ (t : Task). of_task t.events) (tasks_of_core m c.number) i ∙ ap (option_map (λ (t : Task). of_task t.events)) found in
-          let slot = mapped_from table_of c.slots i (of_task task.events) (ap (λ xs. slice_get xs i) ready.has ∙ in_first (task_tables m c.number) (machine_tables p c.number) i (of_task task.events) table) in
+          let slot = mapped_from table_of c.slots i (of_task task.events) (ap (λ xs. slice_get xs i) ready.has ∙ kept_at (task_tables m c.number) (machine_tables p c.number) i (of_task task.events) table) in
           let place = slot.at.place in
           of_task_slot task (kept_from (λ (t : Task). t.core == c.number) m.tasks i task found).at slot.from slot.is (ready.each place slot.from slot.at.found) (stands place slot.from slot.at.found)
           (stuck_at p h (slot_tries p ts) c.slots place slot.from slot.at.found stuck)

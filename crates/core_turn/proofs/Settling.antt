@@ -84,12 +84,6 @@ module _ (slots : List Slot) (a : AwakeState) (first : ℕ) (fits : Fits slots f
   pub row_within : at < length a.events
   row_within = let count = fits.count in let more = fits.rows in omega arith
 
-  pub waiting_within : at < length a.waiting
-  waiting_within = let count = fits.count in let more = fits.waiting in omega arith
-
-  pub area_within : at < length a.areas
-  area_within = let count = fits.count in let more = fits.areas in omega arith
-
   pub slot_found : (s : Slot) → s ≡ get_or slots at s → slice_get slots at ≡ Some s
   slot_found s is = slice_get_read slots (length slots) at s refl slot_within is
 

@@ -28,7 +28,7 @@ use Rattle.task_slots.specs.Stepping.{SlotStep}
 use Rattle.core_turn.specs.Turning.{PassMade, OrderTold, StepsApart, NothingFound, NothingComes, NoneTold, IsContended, NeverTold}
 use Rattle.task_slots.proofs.Onward.{looked_on, looked_as, looked_uncounted, touched_first, touched_last, gathered_on, all_on}
 use Rattle.core_turn.proofs.Passing.{looks_on}
-use Rattle.task_slots.proofs.Placed.{Placed, here, there, placed}
+use Rattle.latches.proofs.Places.{Placed, here, there, placed}
 use Rattle.task_slots.proofs.Changing.{other_stands}
 use Rattle.core_turn.proofs.Apart.{apart, other_entry}
 

@@ -29,8 +29,8 @@ use Rattle.task_slots.specs.Looking.{IsHeldOn, IsHeldAt, AllHeld, FirstMade}
 use Rattle.core_turn.specs.Awake.{AwakeState, IsClosedAt, IsPreceded, MaySleep, IsWaiting, WaitersHeld, FallsAsleep, IsSettled, with_slots, ComesBefore, onward, around, behind}
 use Rattle.task_slots.specs.Waiting.{is_free, WaitsAt}
 use Rattle.task_slots.specs.Stepping.{noting_of}
-use Rattle.task_slots.proofs.Placed.{Placed, here, there, placed}
-use Rattle.core_turn.proofs.Order.{set_there, set_here, no_both, same_or_not, later, outside, round}
+use Rattle.latches.proofs.Places.{Placed, here, there, placed, set_here}
+use Rattle.core_turn.proofs.Order.{set_there, no_both, same_or_not, later, outside, round}
 
 -- ---- the tries of a slot that waits
 

@@ -1,6 +1,6 @@
 -- Facts of a sound plan: which starts touch no object, the plain keys of a task's events, and direct keys.
 use Rattle.std.proofs.Common.{◌≡◌, ℕ, zero, suc, ◌<◌, true, false, ◌&&◌, not, ◌==◌, if◌then◌else◌, refl, sym, ◌∙◌, ap, subst, arith, List, [], ◌∷◌, length, Option, Some, None}
-use Rattle.std.specs.Prelude.{nat_lt, nat_le, is_some, option_map}
+use Rattle.std.specs.Prelude.{nat_lt, is_some, option_map}
 use Rattle.std.specs.List.{slice_get}
 use Rattle.std.specs.Option.{option_map_or}
 use Rattle.std.proofs.lemmas.Bool.{and_from, and_parts, eqb-true, ltb-true, false≢true}
@@ -23,10 +23,10 @@ use Rattle.bus_semantics.specs.Actor.{direct_key}
 use Rattle.bus_semantics.specs.Fitting.{wish_fits}
 use Rattle.bus_semantics.specs.Rest.{plain_key}
 use Rattle.bus_semantics.specs.SoundElements.{server_sound}
-use Rattle.bus_semantics.specs.SoundEvents.{kind_sound, event_sound, server_served, serves_back}
+use Rattle.bus_semantics.specs.SoundEvents.{kind_sound, server_served, serves_back}
 use Rattle.bus_semantics.specs.Sound.{IsSound, times_mapped}
 use Rattle.bus_laws.proofs.Thinning.{option_test}
-use Rattle.bus_laws.proofs.OneEvent.{kind_at, serves_invoked}
+use Rattle.bus_laws.proofs.OneEvent.{event_at, kind_at, kind_part, serves_invoked}
 use Rattle.activation_laws.specs.LookUps.{sought, looked, at_place}
 use Rattle.activation_laws.proofs.Lists.{bundled}
 use Rattle.history_laws.proofs.Lists.{there_is}
@@ -54,13 +54,6 @@ pub record IsUnjoined (p : Plan) (e : ℕ) : Type 0 where
   pub unjoined : server_of p point ≡ None
 
 module _ (p : Plan) (m : Mapping) (sound : IsSound p m) where
-  event_is : (e : ℕ) (v : EventPlan) → slice_get p.events e ≡ Some v → event_sound p e v ≡ true
-  event_is e v there = at_place (event_sound p) p.events e v (and_parts (every_from 0 (event_sound p) p.events) (nat_le (length p.events) 16384) sound.events).0 there
-
-  pub kind_is_sound : (e : ℕ) (v : EventPlan) → slice_get p.events e ≡ Some v → kind_sound p e v.runnable (instance_of p v.runnable) v.kind ≡ true
-  kind_is_sound e v there =
-      (and_parts (kind_sound p e v.runnable (instance_of p v.runnable) v.kind) _ (and_parts (nat_lt v.runnable (length p.runnables)) _ (event_is e v there)).1).0
-
   pub returned_alone : (e : ℕ) → object_of_kind p (kind_of p e) ≡ None → IsUnjoined p e
   returned_alone e none = by_event (slice_get p.events e) refl
     where
@@ -85,7 +78,7 @@ module _ (p : Plan) (m : Mapping) (sound : IsSound p m) where
           absurd (cc (sym none ∙ ap (object_of_kind p) is))
       by_event (Some v) there =
           let kind = looked p.events e v (λ (w : EventPlan). w.kind) Init there in
-          by_kind v v.kind kind (ap (object_of_kind p) (sym kind) ∙ none) (kind_is_sound e v there)
+          by_kind v v.kind kind (ap (object_of_kind p) (sym kind) ∙ none) (kind_part p m sound e v there)
 
   -- the runnable of an event that is there
   pub record Started (e : ℕ) : Type 0 where
@@ -98,7 +91,7 @@ module _ (p : Plan) (m : Mapping) (sound : IsSound p m) where
   pub started : (e : ℕ) → nat_lt e (length p.events) ≡ true → Started e
   started e inside =
       let v = there_is p.events e (ltb-true e (length p.events) inside) in
-      let less = ltb-true v.0.runnable (length p.runnables) (and_parts (nat_lt v.0.runnable (length p.runnables)) _ (event_is e v.0 v.1)).0 in
+      let less = ltb-true v.0.runnable (length p.runnables) (and_parts (nat_lt v.0.runnable (length p.runnables)) _ (event_at p m sound e v.0 v.1)).0 in
       let r = there_is p.runnables v.0.runnable less in
       record { number = v.0.runnable; runnable = r.0; starts = looked p.events e v.0 (λ (w : EventPlan). Some w.runnable) None v.1; there = r.1; inside = less }
 
@@ -242,7 +235,7 @@ module _ (p : Plan) (m : Mapping) (sound : IsSound p m) (q : ℕ) (d : ActKey) (
   direct_starts =
       let v = invoking.event in
       let test : kind_sound p served_at.server.event v.runnable (instance_of p v.runnable) (Invoked served_at.number) ≡ true =
-      subst (λ k. kind_sound p served_at.server.event v.runnable (instance_of p v.runnable) k ≡ true) invoking.kind (kind_is_sound p m sound served_at.server.event v invoking.is) in
+      subst (λ k. kind_sound p served_at.server.event v.runnable (instance_of p v.runnable) k ≡ true) invoking.kind (kind_part p m sound served_at.server.event v invoking.is) in
       let has = sought p.servers served_at.number (λ (w : ServerPlan). (w.event == served_at.server.event) && ((w.runnable == v.runnable) && same_number (Some w.instance) (instance_of p v.runnable))) test in
       let same : has.item ≡ served_at.server = same_Some has.item served_at.server (sym has.found ∙ served_at.there) in
       let runs : has.item.runnable ≡ v.runnable =

@@ -15,5 +15,4 @@ pub mod Beginning
 pub mod Steps
 pub mod Calling
 pub mod Phases
-pub mod Placed
 pub mod Unchanged

@@ -1,6 +1,5 @@
 -- Looks one after the other.
-use Rattle.std.proofs.Common.{◌≡◌, ℕ, zero, suc, ◌+◌, ◌≤◌, Bool, true, false, ◌||◌, ◌==◌, if◌then◌else◌, refl, sym, ◌∙◌, ap, subst, arith, append_assoc, List, [], ◌∷◌, ◌++◌, Option, Some, None}
-use Rattle.std.specs.List.{list_any, slice_get}
+use Rattle.std.proofs.Common.{◌≡◌, ℕ, suc, ◌+◌, ◌≤◌, Bool, true, false, if◌then◌else◌, refl, sym, ◌∙◌, ap, subst, arith, append_assoc, List, [], ◌∷◌, ◌++◌, Option, Some, None}
 use Rattle.std.proofs.lemmas.Bool.{or_left, or_right}
 use Rattle.std.proofs.lemmas.List.{append-nil}
 use Rattle.std.proofs.lemmas.List.Folds.{list_any-append}
@@ -77,19 +76,6 @@ module _ (p : Plan) where
   pub all_on : (objects : List Object) (ts us : List Try) → AllHeld p objects ts → AllHeld p objects us → AllHeld p objects (ts ++ us)
   all_on objects [] us first last = last
   all_on objects (t ∷ ts) us first last = (first.0, all_on objects ts us first.1 last)
-
-  held_first : (objects : List Object) (ts us : List Try) → AllHeld p objects (ts ++ us) → AllHeld p objects ts
-  held_first objects [] us all = tt
-  held_first objects (t ∷ ts) us all = (all.0, held_first objects ts us all.1)
-
-  held_last : (objects : List Object) (ts us : List Try) → AllHeld p objects (ts ++ us) → AllHeld p objects us
-  held_last objects [] us all = all
-  held_last objects (t ∷ ts) us all = held_last objects ts us all.1
-
-  pub held_at : {X : Type 0} (objects : List Object) (f : X → List Try) (xs : List X) (i : ℕ) (x : X) → slice_get xs i ≡ Some x → AllHeld p objects (gathered f xs) → AllHeld p objects (f x)
-  held_at objects f [] i x e all = absurd (cc e)
-  held_at objects f (y ∷ xs) zero x e all = let same : y ≡ x = cc in subst (λ z. AllHeld p objects (f z)) same (held_first objects (f y) (gathered f xs) all)
-  held_at objects f (y ∷ xs) (suc i) x e all = held_at objects f xs i x e (held_last objects (f y) (gathered f xs) all)
 
   told_on : (ts us : List Try) (objects : List Object) (c : Option (List Object)) (l : Look) → AllHeld p objects ts → ToldLooked p us objects c l → ToldLooked p (ts ++ us) objects c l
   told_on ts us objects c (Made s) held last = record {
@@ -195,11 +181,3 @@ count_on test (x ∷ xs) ys = by_test (test x) (count_on test xs ys)
     by_test : (b : Bool) → count test (xs ++ ys) ≡ count test xs + count test ys → (if b then suc (count test (xs ++ ys)) else count test (xs ++ ys)) ≡ (if b then suc (count test xs) else count test xs) + count test ys
     by_test true before = omega (arith, before)
     by_test false before = before
-
-pub any_more : (n : ℕ) (xs ys : List ℕ) → list_any (λ e. e == n) xs ≡ true → list_any (λ e. e == n) (xs ++ ys) ≡ true
-any_more n [] ys e = absurd (Rattle.std.proofs.lemmas.Bool.false≢true e)
-any_more n (x ∷ xs) ys e = by_test (x == n) e (λ f. any_more n xs ys f)
-  where
-    by_test : (b : Bool) → (b || list_any (λ e. e == n) xs) ≡ true → (list_any (λ e. e == n) xs ≡ true → list_any (λ e. e == n) (xs ++ ys) ≡ true) → (b || list_any (λ e. e == n) (xs ++ ys)) ≡ true
-    by_test true e rest = refl
-    by_test false e rest = rest e

@@ -9,9 +9,9 @@ use Rattle.std.proofs.lemmas.Option.{get_or_from_slice_get, slice_get-get_or, sl
 use Rattle.bus_semantics.specs.Plan.{Plan}
 use Rattle.bus_semantics.specs.Rest.{Try, gathered, start_try}
 use Rattle.port_objects.specs.declared.object.Object.{Object}
-use Rattle.port_objects.specs.Benches.{Work, IsFurther, StampAfter, Told}
-use Rattle.task_slots.specs.Look.{Look, Made, Nothing, Contended}
-use Rattle.task_slots.specs.Looking.{AllHeld, ObjectsLooked, WorkLooked, Looked}
+use Rattle.port_objects.specs.Benches.{IsFurther, StampAfter, Told}
+use Rattle.task_slots.specs.Look.{Nothing}
+use Rattle.task_slots.specs.Looking.{AllHeld, ObjectsLooked, Looked}
 use Rattle.task_slots.specs.Waiting.{EventsHeld, NoneAwake}
 use Rattle.task_slots.proofs.Onward.{work_same, work_on, work_uncounted, next_same, next_still, all_on, looked_on, looked_as, gathered_on}
 
@@ -90,15 +90,6 @@ looked_at p ts a b same held = record {
   work = same.work;
   lost = tt;
 }
-
--- a bench that does not tell its work tells no count of looks
-untold : (m n : ℕ) (a b : Option Work) (l : Look) → a ≡ None → WorkLooked m a b l → WorkLooked n a b l
-untold m n a b (Made s) none looked = looked
-untold m n a b Nothing none looked = subst (λ o. IsFurther o b [] n 0) (sym none) (subst (λ o. IsFurther o b [] m 0) none looked)
-untold m n a b (Contended object) none looked = looked
-
-pub looked_again : (p : Plan) (ts : List Try) (m n : ℕ) (a b : Told) (l : Look) → a.work ≡ None → Looked p ts m a b l → Looked p ts n a b l
-looked_again p ts m n a b l none looked = record { room = looked.room; next = looked.next; objects = looked.objects; work = untold m n a.work b.work l none looked.work; lost = looked.lost }
 
 -- ---- tries of each item of a list
 
