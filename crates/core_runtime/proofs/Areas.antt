@@ -1,5 +1,5 @@
 -- Who waits at areas, after an entry.
-use Rattle.std.proofs.Common.{◌≡◌, ◌<◌, ◌≤◌, ◌+◌, ℕ, false, inl, inr, arith, refl, sym, ◌∙◌, ap, subst, List, [], length, get_or, set, Option, Some, None}
+use Rattle.std.proofs.Common.{◌≡◌, ◌<◌, ◌≤◌, ◌+◌, ℕ, false, inl, inr, arith, sym, ◌∙◌, ap, subst, List, [], length, get_or, set, Option, Some, None}
 use Rattle.std.specs.List.{slice_get}
 use Rattle.std.proofs.lemmas.List.{length-set}
 use Rattle.std.proofs.lemmas.Option.{same_Some, slice_get_within, slice_get-get_or}
@@ -61,9 +61,6 @@ pub record UpTo (object number : ℕ) (old new : List AwakeState) : Type 0 where
   pub count : length new ≡ length old
   pub before_it : (i : ℕ) (a b : AwakeState) → i < number → slice_get old i ≡ Some a → slice_get new i ≡ Some b → IsWokenAt object a b
   pub behind : (i : ℕ) (b : AwakeState) → number ≤ i → slice_get new i ≡ Some b → slice_get old i ≡ Some b
-
-pub up_to_none : (object : ℕ) (xs : List AwakeState) → UpTo object 0 xs xs
-up_to_none object xs = record { count = refl; before_it = λ i a b below was is. absurd (omega arith); behind = λ i b least is. is }
 
 pub up_to_next : (object number : ℕ) (old mid : List AwakeState) (a b : AwakeState) → slice_get mid number ≡ Some a → IsWokenAt object a b → UpTo object number old mid → UpTo object (number + 1) old (set mid number b)
 up_to_next object number old mid a b at one far = record {

@@ -1,5 +1,5 @@
 -- Where the slots of machines stand, and the one that wakes.
-use Rattle.std.proofs.Common.{◌≡◌, ℕ, zero, suc, ◌+◌, ◌<◌, true, false, refl, sym, ◌∙◌, ap, arith, List, [], ◌∷◌, ◌++◌, length, length-append, get_or, map, set, Some, None}
+use Rattle.std.proofs.Common.{◌≡◌, ℕ, zero, suc, ◌+◌, ◌<◌, true, false, refl, sym, ◌∙◌, ap, arith, List, [], ◌∷◌, ◌++◌, length, length-append, get_or, map, set, Some}
 use Rattle.std.specs.List.{slice_get}
 use Rattle.std.specs.Option.{option_map}
 use Rattle.std.proofs.lemmas.List.{length-map}
@@ -92,12 +92,6 @@ module _ (p : Plan) (e : Noted) (ts : TaskSet) (objects : List Object) (cores : 
       of_place : (j machine i : ℕ) (x : AwakeState) → object ≡ first_machine p + machine → i ≡ 0 → j + length p.machines ≡ length a.slots + machine → j < length a.slots → Placed AwakeState old 0 b i x → get_or x.slots j false ≡ true
       of_place j machine i x object_is first_core place within (here at same) = ap (λ (y : AwakeState). get_or y.slots j false) same ∙ rouses machine j object_is place within
       of_place j machine i x object_is first_core place within (there other found) = absurd (other first_core)
-
-  pub roused_none : (awake : List AwakeState) → None ≡ touched_by p e → AreRoused p e cores awake
-  roused_none awake is = λ i j machine c x core_is awake_is slot_is touching. absurd (cc (is ∙ touching))
-
-  pub roused_empty : length old ≡ 0 → AreRoused p e cores old
-  roused_empty none = λ i j machine c x core_is awake_is slot_is touching. let within : i < length old = slice_get_within old i x awake_is in absurd (omega (arith, none))
 
 -- what was watched is so while slots wake
 pub watched_still : (p : Plan) (t : TaskSet) (objects : List Object) (cores : List CoreState) (old new : List AwakeState) → AreWoken old new → AreWatched p t objects cores old → AreWatched p t objects cores new

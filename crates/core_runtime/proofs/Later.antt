@@ -21,9 +21,6 @@ use Rattle.core_runtime.proofs.Turning.{step_on, step_next, step_room, set_room,
 
 -- ---- one after the other
 
-pub none_later : (r : RoundState) → IsLater r r
-none_later r = record { plan = refl; bodies = refl; count = refl; spare = refl; room = refl; made = λ start objects made. made }
-
 -- of the same plan and bodies
 abbrev MadeBy : BusPlan → TaskSet → (start : List CoreState) → (objects : List Object) → RoundState → Type 0
 MadeBy p t start objects r = Made (plan_of p) t start r.cores objects r.objects r.entries

@@ -1,15 +1,11 @@
 -- A node after a round of several cores.
 use Rattle.std.proofs.Common.{◌≡◌, ◌<◌, ◌≤◌, ◌+◌, ◌*◌, ℕ, zero, suc, refl, sym, ◌∙◌, ap, subst, arith, List, [], ◌∷◌, length, map, set, Option, Some, None}
 use Rattle.std.specs.List.{slice_get}
-use Rattle.std.specs.Prelude.{nat_le}
-use Rattle.std.proofs.lemmas.Bool.{and_parts, leb-true}
 use Rattle.std.proofs.lemmas.List.{length-set}
 use Rattle.std.proofs.lemmas.Option.{slice_get_within, same_Some}
 use Rattle.bus_semantics.specs.declared.entries.Stamped.{Stamped}
 use Rattle.bus_semantics.specs.declared.script.Mapping.{Mapping}
 use Rattle.bus_semantics.specs.Plan.{Plan}
-use Rattle.bus_semantics.specs.Sound.{IsSound}
-use Rattle.bus_semantics.specs.SoundPlan.{is_in}
 use Rattle.port_objects.specs.declared.object.Object.{Object}
 use Rattle.task_machine.specs.declared.instr.TaskSet.{TaskSet}
 use Rattle.task_slots.specs.declared.slot.Slot.{Slot}
@@ -133,11 +129,6 @@ shaped_at old cores before awake n c a shaped same so_far at found =
     (d.0.slots, d.0.first, shaped.each n d.0 a d.1 (so_far.rest n a (omega arith) found), core_tasks old cores n d.0 c same d.1 at)
 
 -- ---- the node
-
-pub few_cores : (p : Plan) (m : Mapping) → IsSound p m → (1 ≤ m.cores) × (m.cores ≤ 8)
-few_cores p m sound =
-    let both = and_parts (nat_le 1 m.cores) (nat_le m.cores 8) (and_parts (is_in 1 8 m.cores) _ sound.tasks).0 in
-    (leb-true 1 m.cores both.0, leb-true m.cores 8 both.1)
 
 pub node_ran : (p : Plan) (m : Mapping) (t : TaskSet) (cores now : List CoreState) (objects later : List Object) (entries : List Stamped) → IsNode p m t cores objects → HasRun p t cores now objects later entries → IsNode p m t now later
 node_ran p m t cores now objects later entries node run = record {
