@@ -97,8 +97,5 @@ module _ (r : Rules) (s : Session) (old : Check) (stands : Stands r s old) where
     closed = sym stands.inside ∙ outside;
   }
 
-  pub whole_outside : IsSessionOf r.script.now.lines s → old.inside ≡ false
-  whole_outside session = stands.inside ∙ session.closed
-
   pub whole_over : IsSessionOf r.script.now.lines s → old.orders ≡ []
   whole_over session = append_cancel_left (orders_of s) old.orders [] (stands.leaves.orders ∙ sym session.orders ∙ sym (append-nil (orders_of s)))

@@ -1,5 +1,5 @@
 -- An entry that is made along a legal history.
-use Rattle.std.proofs.Common.{◌≡◌, Bool, true, false, not, if◌then◌else◌, Option, Some, None, List, [], ◌∷◌, refl, sym, ap, subst, ℕ}
+use Rattle.std.proofs.Common.{◌≡◌, Bool, true, false, not, if◌then◌else◌, Option, Some, None, List, [], ◌∷◌, refl, sym, subst, ℕ}
 use Rattle.std.specs.Prelude.{option_and_then, unwrap_or}
 use Rattle.std.proofs.lemmas.Bool.{and_parts, false≢true}
 use Rattle.rte_value.specs.declared.kinds.ActKey.{ActKey}
@@ -10,10 +10,10 @@ use Rattle.bus_semantics.specs.declared.entries.Entry.{Entry}
 use Rattle.bus_semantics.specs.declared.script.Mapping.{Mapping}
 use Rattle.bus_semantics.specs.Plan.{Plan}
 use Rattle.bus_semantics.specs.Wanted.{Wanted, wanted_by}
-use Rattle.bus_semantics.specs.History.{History, last_started, needs_event, note, noted, runs}
+use Rattle.bus_semantics.specs.History.{History, last_started, needs_event, note, runs}
 use Rattle.bus_semantics.specs.Fitting.{fits}
 use Rattle.bus_semantics.specs.Actor.{activation_of, follows_program, is_held_back, wanted_in, is_this, starts_or_goes_on}
-use Rattle.bus_semantics.specs.Legal.{IsLegal, broken_answer, broken_clause}
+use Rattle.bus_semantics.specs.Legal.{IsLegal, broken_clause}
 use Rattle.bus_semantics.specs.Rest.{none_runs}
 use Rattle.bus_semantics.specs.Run.{Session, IsLegalRun, history_of, made, run_begins, run_closes}
 use Rattle.bus_semantics.specs.Sound.{IsSound}
@@ -54,9 +54,6 @@ runs_then p h e program needs k who =
     (and_parts (starts_or_goes_on p h k e.deed) (not (is_held_back p h k)) (subst (λ a. follows_program p h a e.deed ≡ true) who program)).0
 
 -- ---- it goes on the history, or breaks a clause
-
-pub breaks_program : (p : Plan) (h : History) (e : Entry) → follows_program p h e.actor e.deed ≡ false → Some 6 ≡ broken_clause p h e
-breaks_program p h e other = sym (ap (λ b. if b then broken_answer p (noted h) (note h e) else Some 6) other)
 
 pub legal_then : (p : Plan) (h : History) (e : Entry) → IsLegal p h → fits p e ≡ true → broken_clause p h e ≡ None → IsLegal p (e ∷ h)
 legal_then p h e legal fit none = let may = unbroken p h e none in (legal, record { fit = fit; actor = may.program; answers = may.answers })

@@ -1,7 +1,7 @@
 -- An item and the order of a script.
 use Rattle.std.proofs.Common.{◌≡◌, Bool, true, false, not, if◌then◌else◌, List, [], ◌∷◌, ◌++◌, sym, ap, ◌∙◌, subst, append_assoc}
-use Rattle.std.proofs.lemmas.Bool.{and_parts, and_from, false≢true}
-use Rattle.std.proofs.lemmas.List.{append-nil, append_cancel_left}
+use Rattle.std.proofs.lemmas.Bool.{and_from}
+use Rattle.std.proofs.lemmas.List.{append_cancel_left}
 use Rattle.bus_semantics.specs.declared.script.Line.{Line}
 use Rattle.bus_semantics.specs.declared.entries.Entry.{Entry}
 use Rattle.bus_semantics.specs.Wanted.{wanted_by}
@@ -23,9 +23,6 @@ module _ (script : List Line) (s : Session) (old : List Ordered) (leaves : Leave
   mark_not_next other begun =
       other begun.left
       (append_cancel_left (orders_of s) old (a_run ∷ begun.left) (leaves.orders ∙ sym begun.orders ∙ append_assoc (orders_of s) (a_run ∷ []) begun.left))
-
-  pub mark_inside : is_inside s ≡ true → IsBeginningOf script (run_begins ∷ s) → ⊥
-  mark_inside inside begun = false≢true (sym (ap not inside) ∙ (and_parts (is_placed s) (not (is_inside s)) begun.placed).1)
 
   pub mark_judged : is_inside s ≡ false → (b : Bool) (new : List Ordered) → Takes a_run old new b → TakesItem script s run_begins new b
   mark_judged outside true new took = mark_taken new outside took
@@ -50,29 +47,6 @@ module _ (script : List Line) (s : Session) (old : List Ordered) (leaves : Leave
         (append_cancel_left (orders_of s) old (a_call (wanted_by 0 e.deed) ∷ begun.left)
         (leaves.orders ∙ sym orders ∙ append_assoc (orders_of s) (a_call (wanted_by 0 e.deed) ∷ []) begun.left))
 
-    pub call_inside : is_inside s ≡ true → IsBeginningOf script (made e ∷ s) → ⊥
-    call_inside inside begun =
-        let placed = (and_parts (is_placed s) _ begun.placed).1 in
-        false≢true (sym (ap not inside) ∙ subst (λ b. (if b then not (is_inside s) else is_inside s) ≡ true) env placed)
-
     pub call_judged : is_inside s ≡ false → (b : Bool) (new : List Ordered) → Takes (a_call (wanted_by 0 e.deed)) old new b → TakesItem script s (made e) new b
     call_judged outside true new took = call_taken new outside took
     call_judged outside false new other = call_not_next other.1
-
-  -- ---- any other entry
-
-  module _ (e : Entry) (other : is_environment e.actor ≡ false) where
-    pub other_inside : is_inside s ≡ true → Leaves script (made e ∷ s) old
-    other_inside inside = record {
-      orders = subst (λ b. (orders_of s ++ (if b then a_call (wanted_by 0 e.deed) ∷ [] else [])) ++ old ≡ orders_of_script script) (sym other) (ap (λ t. t ++ old) (append-nil (orders_of s)) ∙ leaves.orders);
-      placed = and_from (is_placed s) _ leaves.placed (subst (λ b. (if b then not (is_inside s) else is_inside s) ≡ true) (sym other) inside);
-    }
-
-    pub other_outside : is_inside s ≡ false → IsBeginningOf script (made e ∷ s) → ⊥
-    other_outside outside begun =
-        let placed = (and_parts (is_placed s) _ begun.placed).1 in
-        false≢true (sym outside ∙ subst (λ b. (if b then not (is_inside s) else is_inside s) ≡ true) other placed)
-
-    pub other_judged : (b : Bool) → b ≡ is_inside s → TakesItem script s (made e) old b
-    other_judged true is = other_inside (sym is)
-    other_judged false is = other_outside (sym is)
