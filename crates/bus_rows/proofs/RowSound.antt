@@ -1,5 +1,5 @@
 -- A plan with its mapping is sound exactly if no fact that is computed is broken and the tasks have an order; and a way to have one.
-use Rattle.std.specs.Prelude.{◌≡◌, ℕ, ◌+◌, List, [], ◌∷◌, Bool, true, false, ◌&&◌, if◌then◌else◌, length, nat_le, Some, refl}
+use Rattle.std.specs.Prelude.{◌≡◌, ℕ, ◌+◌, List, [], ◌∷◌, Bool, true, false, ◌&&◌, if◌then◌else◌, nat_le, Some, refl}
 use Rattle.std.proofs.lemmas.Bool.{and_parts, and_from, false≢true}
 use Rattle.runnable_lang.specs.Costs.{body_cost}
 use Rattle.bus_semantics.specs.declared.script.Mapping.{Mapping}

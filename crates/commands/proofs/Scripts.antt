@@ -6,7 +6,7 @@ use Rattle.bus_semantics.specs.declared.script.Mapping.{Mapping}
 use Rattle.bus_semantics.specs.declared.version.Version.{Version}
 use Rattle.bus_semantics.specs.Plan.{Plan}
 use Rattle.bus_semantics.specs.Wanted.{to_tick}
-use Rattle.bus_semantics.specs.Run.{Item, made, run_begins, run_closes, Session, Ordered, IsSessionOf, IsBeginningOf, IsRunOf, IsBegunRunOf, orders_of_line, orders_of_script}
+use Rattle.bus_semantics.specs.Run.{Item, made, run_begins, run_closes, Session, Ordered, IsSessionOf, IsBeginningOf, orders_of_line, orders_of_script}
 use Rattle.bus_semantics.specs.Run as run
 use Rattle.bus_semantics.specs.Spelling.{Letters}
 use Rattle.check_definitions.specs.declared.checked.Checked.{Checked}

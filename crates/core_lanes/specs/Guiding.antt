@@ -1,5 +1,5 @@
 -- What guides a core in its turns.
-use Rattle.std.specs.Prelude.{◌≡◌, ◌<◌, List, [], ◌∷◌, length}
+use Rattle.std.specs.Prelude.{◌≡◌, ◌<◌, List, [], ◌∷◌}
 use Rattle.std.specs.Vec.{vec_capacity}
 use Rattle.core_turn.specs.Awake.{Fits}
 use Rattle.core_turn.specs.Cores.{CoreState}
