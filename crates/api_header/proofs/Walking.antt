@@ -1,6 +1,6 @@
 -- One call after the other.
-use Rattle.std.proofs.Common.{◌≡◌, ℕ, ◌+◌, ◌<◌, ◌≤◌, List, [], ◌∷◌, ◌++◌, length, get_or, drop, true, false, cond, Some, None, sym, ap, ◌∙◌, subst, true≢false, append_assoc}
-use Rattle.std.proofs.lemmas.List.{append-nil, at_drop_more, at_drop_all}
+use Rattle.std.proofs.Common.{◌≡◌, ℕ, ◌+◌, ◌<◌, List, [], ◌∷◌, ◌++◌, length, get_or, drop, false, cond, Some, sym, ap, ◌∙◌, subst, true≢false, append_assoc}
+use Rattle.std.proofs.lemmas.List.{at_drop_more}
 use Rattle.api_header.specs.declared.calls.Call.{Call}
 use Rattle.api_header.specs.declared.listing.Noted.{Noted}
 use Rattle.api_header.specs.declared.listing.Noted.TheVariants.{Known, New, Clashing}
@@ -23,12 +23,6 @@ walk_begun ts = record { whole = none_seen ts; clash = ap (first_clash []) (none
 pub walk_from : (before ts : List Target) → before ≡ [] → Walks before ts (each_once ts)
 walk_from before ts none = subst (λ us. Walks us ts (each_once ts)) (sym none) (walk_begun ts)
 
-pub walk_done : (before all : List Target) → Walks before [] all → before ≡ all
-walk_done before all walks = sym (append-nil before) ∙ walks.whole
-
-pub walk_clean : (before all : List Target) → Walks before [] all → None ≡ first_clash [] all
-walk_clean before all walks = walks.clash
-
 known_on : (before : List Target) (t : Target) (left all : List Target) → unseen before (t ∷ left) ≡ unseen before left → Walks before (t ∷ left) all → Walks before left all
 known_on before t left all same walks = record {
   whole = ap (λ us. before ++ us) (sym same) ∙ walks.whole;
@@ -47,17 +41,6 @@ walk_on before after t Known left all notes fine walks = subst (λ ts. Walks ts 
 walk_on before after t New left all notes fine walks = subst (λ ts. Walks ts left all) (sym notes.1) (new_on before t left all notes.0 (unseen_new before t left (new_is_not_among before t notes.0)) walks)
 walk_on before after t Clashing left all notes fine walks = absurd (true≢false fine)
 
--- and one that does
-pub walk_ended : (before after : List Target) (t : Target) (noted : Noted) (left all : List Target) → Notes before t noted after → is_clashing noted ≡ true → Walks before (t ∷ left) all → Some (name_of t) ≡ first_clash [] all
-walk_ended before after t Known left all notes clashes walks = absurd (true≢false (sym clashes))
-walk_ended before after t New left all notes clashes walks = absurd (true≢false (sym clashes))
-walk_ended before after t Clashing left all notes clashes walks =
-    ap (λ b. cond b (Some (name_of t)) (first_clash (before ++ t ∷ []) (unseen (before ++ t ∷ []) left))) (sym notes.0)
-    ∙ ap (first_clash before) (sym (unseen_new before t left notes.1)) ∙ walks.clash
-
 -- the calls that are left of a list of them
 pub left_more : (calls : List Call) (i : ℕ) (d : Call) (before all : List Target) → i < length calls → Walks before (all_seen (drop i calls)) all → Walks before (seen (get_or calls i d) ∷ all_seen (drop (i + 1) calls)) all
 left_more calls i d before all within walks = subst (λ ts. Walks before ts all) (at_drop_more all_seen calls i d within) walks
-
-pub none_left : (calls : List Call) (i : ℕ) (before all : List Target) → length calls ≤ i → Walks before (all_seen (drop i calls)) all → Walks before [] all
-none_left calls i before all past walks = subst (λ ts. Walks before ts all) (at_drop_all all_seen calls i past) walks

@@ -8,15 +8,12 @@ use Rattle.plan_definitions.specs.Programs.{path_of, program_refusal, refused_in
 use Rattle.plan_definitions.specs.ComponentRefusals.{of_program, of_programs}
 use Rattle.plan_definitions.specs.Spots.{program_text}
 use Rattle.component_rules.proofs.Firsts.{none_where}
+use Rattle.plan_definitions.proofs.Firsts.{map_none}
 
 one_passes : (m r : ℕ) (refused : Option (ℕ × List ℕ)) → option_map {U = ℕ × List ℕ} (λ path. (m, path)) (option_and_then (path_of None) refused) ≡ None
     → option_map {U = ℕ × List ℕ} (λ path. (m, path)) (option_and_then (path_of (Some r)) refused) ≡ None
 one_passes m r None none = refl
 one_passes m r (Some x) none = cc
-
-mapped_none : {X Y : Type 0} (f : X → Y) (o : Option X) → option_map f o ≡ None → o ≡ None
-mapped_none f None none = refl
-mapped_none f (Some x) none = cc
 
 all_in : (r : ℕ) (types : TypeTable) (c : Component) → refused_in None types c ≡ None → refused_in (Some r) types c ≡ None
 all_in r types c = none_where (λ m x. option_map {U = ℕ × List ℕ} (λ path. (m, path)) (option_and_then (path_of None) (program_refusal types c x))) (λ m x. option_map {U = ℕ × List ℕ} (λ path. (m, path)) (option_and_then (path_of (Some r)) (program_refusal types c x)))
@@ -24,7 +21,7 @@ all_in r types c = none_where (λ m x. option_map {U = ℕ × List ℕ} (λ path
 
 all_of : (r : ℕ) (d : Description) → refused_program None d ≡ None → refused_program (Some r) d ≡ None
 all_of r d = none_where (λ n c. option_map {U = ℕ × (ℕ × List ℕ)} (λ x. (n, x)) (refused_in None d.types c)) (λ n c. option_map {U = ℕ × (ℕ × List ℕ)} (λ x. (n, x)) (refused_in (Some r) d.types c))
-    (λ n c none. ap (option_map {U = ℕ × (ℕ × List ℕ)} (λ x. (n, x))) (all_in r d.types c (mapped_none {Y = ℕ × (ℕ × List ℕ)} (λ x. (n, x)) (refused_in None d.types c) none))) 0 d.components
+    (λ n c none. ap (option_map {U = ℕ × (ℕ × List ℕ)} (λ x. (n, x))) (all_in r d.types c (map_none {Y = ℕ × (ℕ × List ℕ)} (λ x. (n, x)) (refused_in None d.types c) none))) 0 d.components
 
 rule_kept : (r : ℕ) (d : Description) → refused_program None d ≡ None → of_program r d ≡ None
 rule_kept r d none = ap (option_map (λ x. (r, program_text x.0 x.1.0 x.1.1))) (all_of r d none)

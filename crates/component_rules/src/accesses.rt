@@ -58,7 +58,7 @@ fn access_fits(types: &TypeTable, ports: &[Port], access: &Access) -> bool
     }
 }
 
-#[tactic(auto, using(crate::proofs::Firsts::first_more, crate::proofs::Firsts::first_here, crate::proofs::Firsts::first_none))]
+#[tactic(auto, using(plan_definitions::proofs::Turns::first_more, plan_definitions::proofs::Turns::first_here, plan_definitions::proofs::Turns::first_none))]
 fn misfit_among(
     types: &TypeTable,
     ports: &[Port],
@@ -76,7 +76,7 @@ fn misfit_among(
 }
 
 /// The first access of a component that does not fit its port.
-#[tactic(auto, using(crate::proofs::Firsts::first_more, crate::proofs::Firsts::first_here, crate::proofs::Firsts::first_none))]
+#[tactic(auto, using(plan_definitions::proofs::Turns::first_more, plan_definitions::proofs::Turns::first_here, plan_definitions::proofs::Turns::first_none))]
 pub fn misfit(types: &TypeTable, component: &Component) -> Option<Spot>
     ensures { result ≡ misfit types.now component.now }
 {

@@ -124,7 +124,7 @@ impl Calls<'_> {
         }
     }
 
-    #[tactic(auto, using(crate::proofs::Firsts::first_more, crate::proofs::Firsts::first_here, crate::proofs::Firsts::first_none))]
+    #[tactic(auto, using(plan_definitions::proofs::Turns::first_more, plan_definitions::proofs::Turns::first_here, plan_definitions::proofs::Turns::first_none))]
     fn mixed_among(&self, runnable: usize, accesses: &[Access]) -> Option<Spot>
         ensures { result ≡ mixed_among self.now.runnables.now runnable accesses.now }
     {
@@ -136,7 +136,7 @@ impl Calls<'_> {
         None
     }
 
-    #[tactic(auto, using(crate::proofs::Firsts::first_more, crate::proofs::Firsts::first_here, crate::proofs::Firsts::first_none))]
+    #[tactic(auto, using(plan_definitions::proofs::Turns::first_more, plan_definitions::proofs::Turns::first_here, plan_definitions::proofs::Turns::first_none))]
     fn mixed_access(&self) -> Option<Spot>
         ensures { result ≡ mixed_access self.now.runnables.now }
     {
@@ -148,7 +148,7 @@ impl Calls<'_> {
         None
     }
 
-    #[tactic(auto, using(crate::proofs::Firsts::first_more, crate::proofs::Firsts::first_here, crate::proofs::Firsts::first_none))]
+    #[tactic(auto, using(plan_definitions::proofs::Turns::first_more, plan_definitions::proofs::Turns::first_here, plan_definitions::proofs::Turns::first_none))]
     fn mixed_event(&self, events: &[Event]) -> Option<Spot>
         ensures { result ≡ mixed_event self.now.runnables.now events.now }
     {

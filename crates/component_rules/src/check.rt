@@ -51,7 +51,7 @@ fn broken_in(
     }
 }
 
-#[tactic(auto, using(crate::proofs::Firsts::first_more, crate::proofs::Firsts::first_here, crate::proofs::Firsts::first_none))]
+#[tactic(auto, using(plan_definitions::proofs::Turns::first_more, plan_definitions::proofs::Turns::first_here, plan_definitions::proofs::Turns::first_none))]
 fn first_broken(
     alloc: Global,
     rule: ComponentRule,

@@ -166,7 +166,7 @@ impl Items<'_> {
                     && are_short(types, component, pairs)))
     }
 
-    #[tactic(auto, using(crate::proofs::Firsts::first_more, crate::proofs::Firsts::first_here, crate::proofs::Firsts::first_none))]
+    #[tactic(auto, using(plan_definitions::proofs::Turns::first_more, plan_definitions::proofs::Turns::first_here, plan_definitions::proofs::Turns::first_none))]
     fn first_broken(
         &self,
         types: &TypeTable,
@@ -204,7 +204,7 @@ fn incoherent_among(
 /// The first coherent access list of a component that does not fit: with fewer than 2 or more than 16 items, with an item that
 /// comes again in the lists of its runnable, with one that its runnable does not access as it does the others, or with more than
 /// 16 words.
-#[tactic(auto, using(crate::proofs::Firsts::first_more, crate::proofs::Firsts::first_here, crate::proofs::Firsts::first_none))]
+#[tactic(auto, using(plan_definitions::proofs::Turns::first_more, plan_definitions::proofs::Turns::first_here, plan_definitions::proofs::Turns::first_none))]
 pub fn incoherent(
     alloc: Global,
     types: &TypeTable,

@@ -77,7 +77,7 @@ fn kind_fits(types: &TypeTable, ports: &[Port], kind: EventKind) -> bool
 }
 
 /// The first event of a component that does not fit its port.
-#[tactic(auto, using(crate::proofs::Firsts::first_more, crate::proofs::Firsts::first_here, crate::proofs::Firsts::first_none))]
+#[tactic(auto, using(plan_definitions::proofs::Turns::first_more, plan_definitions::proofs::Turns::first_here, plan_definitions::proofs::Turns::first_none))]
 pub fn misplaced(types: &TypeTable, component: &Component) -> Option<Spot>
     ensures { result ≡ misplaced types.now component.now }
 {
@@ -144,7 +144,7 @@ fn disabling_fits(
 }
 
 /// The first event of a component that names modes in which it is disabled, and may not.
-#[tactic(auto, using(crate::proofs::Firsts::first_more, crate::proofs::Firsts::first_here, crate::proofs::Firsts::first_none))]
+#[tactic(auto, using(plan_definitions::proofs::Turns::first_more, plan_definitions::proofs::Turns::first_here, plan_definitions::proofs::Turns::first_none))]
 pub fn wrongly_disabled(types: &TypeTable, component: &Component) -> Option<Spot>
     ensures { result ≡ wrongly_disabled types.now component.now }
 {

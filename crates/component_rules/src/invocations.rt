@@ -85,7 +85,7 @@ fn is_served(
     }
 }
 
-#[tactic(auto, using(crate::proofs::Firsts::first_more, crate::proofs::Firsts::first_here, crate::proofs::Firsts::first_none))]
+#[tactic(auto, using(plan_definitions::proofs::Turns::first_more, plan_definitions::proofs::Turns::first_here, plan_definitions::proofs::Turns::first_none))]
 fn unserved(types: &TypeTable, component: &Component, tally: &Tally<Operation>) -> Option<Spot>
     requires { tally.now.keys.items ≡ invoked component.now.behavior.events }
     ensures { result ≡ unserved types.now component.now }
@@ -109,7 +109,7 @@ fn is_alone(events: &[Event], tally: &Tally<u32>, event: &Event) -> bool
     }
 }
 
-#[tactic(auto, using(crate::proofs::Firsts::first_more, crate::proofs::Firsts::first_here, crate::proofs::Firsts::first_none))]
+#[tactic(auto, using(plan_definitions::proofs::Turns::first_more, plan_definitions::proofs::Turns::first_here, plan_definitions::proofs::Turns::first_none))]
 fn shared(component: &Component, tally: &Tally<u32>) -> Option<Spot>
     requires { tally.now.keys.items ≡ started component.now.behavior.events }
     ensures { result ≡ shared component.now }

@@ -56,7 +56,7 @@ fn path_refused(
     }
 }
 
-#[tactic(auto, using(crate::proofs::Firsts::first_more, crate::proofs::Firsts::first_here, crate::proofs::Firsts::first_none))]
+#[tactic(auto, using(plan_definitions::proofs::Turns::first_more, plan_definitions::proofs::Turns::first_here, plan_definitions::proofs::Turns::first_none))]
 fn refused_in(
     alloc: Global,
     wanted: Option<u16>,
@@ -75,7 +75,7 @@ fn refused_in(
 }
 
 /// The first program that breaks this rule before all others, or any, with its component and runnable.
-#[tactic(auto, using(crate::proofs::Firsts::first_more, crate::proofs::Firsts::first_here, crate::proofs::Firsts::first_none))]
+#[tactic(auto, using(plan_definitions::proofs::Turns::first_more, plan_definitions::proofs::Turns::first_here, plan_definitions::proofs::Turns::first_none))]
 pub fn refused_program(
     alloc: Global,
     wanted: Option<u16>,

@@ -11,13 +11,8 @@ use Rattle.description_types.specs.Connectors.{connectors_of, lets_join, IsBroke
 use Rattle.description_types.specs.Firsts.{IsFirst}
 use Rattle.composition_flatten.specs.Keys.{key_of}
 use Rattle.description_types.specs.Members.{Among}
-use Rattle.composition_tables.proofs.Members.{left, right, cases}
+use Rattle.composition_tables.proofs.Members.{left, right, cases, map_in}
 use Rattle.composition_flatten.proofs.SameKeys.{same_connector}
-
-mapped : {X Y : Type 0} (f : X → Y) (x : X) (xs : List X) → Among x xs → Among (f x) (map f xs)
-mapped f x [] h = absurd h
-mapped f x (y ∷ xs) (inl e) = inl (ap f e)
-mapped f x (y ∷ xs) (inr h) = inr (mapped f x xs h)
 
 unmapped : (x : Connector) (xs : List Connector) → Among (key_of x) (map key_of xs) → Among x xs
 unmapped x [] h = absurd h
@@ -47,7 +42,7 @@ module _ (d : Description) (c : ℕ) (cs : List Connector) (same : cs ≡ connec
       let it : Some x ≡ Some broken.0 = sym at_it ∙ broken.1 in
       let is : x ≡ broken.0 = cc in
       ⊎_elim (λ lets. true≢false (sym (not-false (lets_join d c x) parts.1) ∙ ap (lets_join d c) is ∙ lets))
-      (λ earlier. true≢false (sym (says.1 ((all (key_of x)).1 (mapped key_of x (take m cs) (subst (λ l. Among x (take m l)) (sym same) (subst (λ y. Among y (take m (connectors_of d c))) (sym is) earlier))))) ∙ parts.0))
+      (λ earlier. true≢false (sym (says.1 ((all (key_of x)).1 (map_in key_of x (take m cs) (subst (λ l. Among x (take m l)) (sym same) (subst (λ y. Among y (take m (connectors_of d c))) (sym is) earlier))))) ∙ parts.0))
       broken.2
 
   pub noted_more : (after : List Key) → ((k : Key) → Among k after ↔ (Among k noted ⊎ (k ≡ key))) → m < length cs → (k : Key) → Among k after ↔ Among k (map key_of (take (m + 1) cs))

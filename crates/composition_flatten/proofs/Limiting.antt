@@ -1,6 +1,6 @@
 -- The limits of a description, by its counts and its links.
-use Rattle.std.proofs.Common.{◌≡◌, ℕ, suc, ◌+◌, ◌<◌, ◌≤◌, List, [], ◌∷◌, ◌++◌, length, map, Vec, Bool, true, false, not, Option, Some, ◌⊎◌, inl, inr, ⊎_elim, ◌↔◌, IsTrue, IfSome, refl, sym, ap, subst, ◌∙◌, arith, true≢false, Less}
-use Rattle.std.proofs.lemmas.List.{length-map, length-append}
+use Rattle.std.proofs.Common.{◌≡◌, ℕ, ◌<◌, ◌≤◌, List, [], ◌∷◌, length, map, Vec, Bool, true, false, not, Option, Some, ◌⊎◌, inl, inr, ⊎_elim, ◌↔◌, IsTrue, IfSome, refl, sym, ap, subst, ◌∙◌, arith, true≢false, Less}
+use Rattle.std.proofs.lemmas.List.{length-map}
 use Rattle.std.specs.Global.{Global}
 use Rattle.std.specs.List.{AllByRecursion}
 use Rattle.std.specs.List.Sorted.{IsStrictlySortedBy}
@@ -24,17 +24,17 @@ use Rattle.description_types.specs.Instances.{names_env}
 use Rattle.description_types.specs.Joined.{IsJoined}
 use Rattle.composition_flatten.specs.Joins.{instance_of, end_of, join_of}
 use Rattle.composition_flatten.specs.Links.{IsLink}
-use Rattle.description_types.specs.Members.{Among, AllApart}
+use Rattle.description_types.specs.Members.{Among}
 use Rattle.composition_flatten.specs.Named.{named_below}
 use Rattle.description_types.specs.Orders.{instance_order, end_order, join_order}
 use Rattle.composition_flatten.specs.Within.{KeepsCounts, AreJoins, IsWithin}
 use Rattle.composition_flatten.proofs.Joining.{link_joined}
 use Rattle.composition_flatten.proofs.Linking.{join_linked}
-use Rattle.composition_tables.proofs.Members.{left, right, cases}
+use Rattle.composition_tables.proofs.Members.{few_apart, map_out}
 use Rattle.composition_tables.proofs.Counting.{counted}
 use Rattle.composition_flatten.proofs.Naming.{placed_size, named_instances}
 use Rattle.composition_tables.proofs.SameLinks.{itself_link, apart_from_order}
-use Rattle.composition_flatten.proofs.Wholes.{mapped, apart_map}
+use Rattle.composition_flatten.proofs.Wholes.{apart_map}
 
 -- the count tells whether there are few instances
 pub too_many : (d : Description) (levels : List (Vec ℕ Global)) (count : ℕ) → IsCounted d levels → count ≡ count_in levels 8 d.root → 1024 < count → ¬ KeepsCounts d
@@ -74,28 +74,12 @@ join_same x y h =
     let b = owner_same x.required.owner y.required.owner (ap (λ (j : Join). j.required.instance) h) in
     (λ i. record { provided = record { owner = a i; port = (h i).provided.port; element = (h i).provided.element }; required = record { owner = b i; port = (h i).required.port; element = (h i).required.element } })
 
--- a list with no element twice is at most as long as one that has each of its elements
-split : {X : Type 0} (x : X) (ys : List X) → Among x ys → (front : List X) × (back : List X) × (ys ≡ front ++ (x ∷ back))
-split x [] h = absurd h
-split x (y ∷ ys) (inl e) = ([], ys, ap (λ w. w ∷ ys) (sym e))
-split x (y ∷ ys) (inr h) = let r = split x ys h in (y ∷ r.0, r.1, ap (λ l. y ∷ l) r.2)
-
-few_apart : {X : Type 0} (xs ys : List X) → AllApart xs → ((x : X) → Among x xs → Among x ys) → length xs ≤ length ys
-few_apart [] ys apart within = omega arith
-few_apart {X = X} (x ∷ xs) ys apart within =
-    let s = split x ys (within x (inl refl)) in
-    let rest = few_apart xs (s.0 ++ s.1) apart.1 (λ y h. ⊎_elim (λ l. left y s.0 s.1 l)
-    (λ r. ⊎_elim (λ e. absurd (apart.0 (subst (λ w. Among w xs) e h))) (λ b. right y s.0 s.1 b) r) (cases y s.0 (x ∷ s.1) (subst (Among y) s.2 (within y (inr h))))) in
-    let whole : length ys ≡ length s.0 + suc (length s.1) = ap length s.2 ∙ length-append s.0 (x ∷ s.1) in
-    let shorter = length-append s.0 s.1 in
-    omega arith
-
 module _ (d : Description) (keeps : KeepsCounts d) where
   past_joined : (P : Link → Type 0) → ((x : Link) → P x → IsLink d x) → IsPastLimit P → IsPastLimit (IsJoined d)
   past_joined P links past = (
     map join_of past.0,
     apart_map join_of past.0 (λ x y _ _ e. join_same x y e) past.1,
-    (λ j h. let r = mapped join_of j past.0 h in subst (IsJoined d) (sym r.2) (link_joined d keeps.few keeps.shallow r.0 (links r.0 (past.2 r.0 r.1)))),
+    (λ j h. let r = map_out join_of j past.0 h in subst (IsJoined d) (sym r.2) (link_joined d keeps.few keeps.shallow r.0 (links r.0 (past.2 r.0 r.1)))),
     subst (λ m. 65536 < m) (sym (length-map past.0 join_of)) past.3,
   )
 
@@ -140,7 +124,7 @@ module _ (d : Description) (keeps : KeepsCounts d) where
   are_joins before after slice joins is_full none g room order few slice_is joins_are =
       let same : joins ≡ map join_of after = joins_are ∙ ap (map join_of) slice_is in
       let exact : (j : Join) → Among j joins ↔ IsJoined d j = λ j. (
-        (λ h. let r = mapped join_of j after (subst (Among j) same h) in subst (IsJoined d) (sym r.2) (link_joined d keeps.few keeps.shallow r.0 (⊎_elim (λ b. absurd (subst (Among r.0) none b)) (λ l. l) (g.sound r.0 r.1)))),
+        (λ h. let r = map_out join_of j after (subst (Among j) same h) in subst (IsJoined d) (sym r.2) (link_joined d keeps.few keeps.shallow r.0 (⊎_elim (λ b. absurd (subst (Among r.0) none b)) (λ l. l) (g.sound r.0 r.1)))),
         (λ h. let r = join_linked d keeps.few keeps.shallow j h in subst (Among j) (sym same) (subst (λ w. Among w (map join_of after)) r.2 (among_map r.0 after (g.has room r.0 r.1)))),
       ) in
       record {
@@ -151,9 +135,6 @@ module _ (d : Description) (keeps : KeepsCounts d) where
 
 pub keeps_both : (d : Description) → KeepsCounts d → ¬ IsPastLimit (IsJoined d) → KeepsLimits d
 keeps_both d keeps few = record { instances = keeps.few; depth = keeps.shallow; names = keeps.names; joins = few }
-
-pub counts_of_limits : (d : Description) → KeepsLimits d → KeepsCounts d
-counts_of_limits d keeps = record { few = keeps.instances; shallow = keeps.depth; names = keeps.names }
 
 pub within_is : (d : Description) (found : Option (Vec Join Global)) (joins : Vec Join Global) (listed : Vec instance.Instance Global) (answer : Bool) → IsTrue answer ↔ KeepsCounts d → answer ≡ true → listed.items ≡ named_below d 8 d.root [] → found ≡ Some joins
     → IfSome found (λ j. AreJoins d j.items) → IsWithin d (record { instances = listed; joins = joins })

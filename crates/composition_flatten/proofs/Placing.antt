@@ -81,10 +81,6 @@ module _ (d : Description) where
       let no : Some (Component m) ≡ Some (Composition l.0) = sym (ap (type_at d (Component m)) none) ∙ l.1 in
       cc
 
-  -- what stands at a number of the pieces of a composition
-  below_at : ℕ → List ℕ → ℕ × Prototype → List Place
-  below_at n path x = places_of (places_below d n) x.1.of_type (x.0 ∷ path)
-
   below_long : (n : ℕ) (path : List ℕ) (k : ℕ) (p : Prototype) → length (places_of (places_below d n) p.of_type (k ∷ path)) ≡ size_of (size d n) p.of_type
   below_long n path k p = placed_one d n p.of_type (k ∷ path) (placed_size d n)
 

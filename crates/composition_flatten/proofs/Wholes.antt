@@ -26,7 +26,7 @@ use Rattle.description_types.specs.Members.{Among, AllApart}
 use Rattle.composition_tables.proofs.Following.{inner_cases}
 use Rattle.composition_tables.proofs.Growth.{grown_same, grown_then, grown_stop}
 use Rattle.end_crossing.proofs.SamePorts.{cross_same}
-use Rattle.composition_tables.proofs.Members.{unflat}
+use Rattle.composition_tables.proofs.Members.{unflat, map_out}
 
 -- how high numbers go
 abbrev IsLow : ℕ → Owner → Type 0
@@ -99,15 +99,10 @@ module _ (d : Description) (node : Node) (none : node.first ≡ 0) (deep : node.
       (λ x own. (x, own, sym (link_kept x own)))
       (λ x h. subst (IsOwnLink d node.depth node.composition) (sym (h.2 ∙ link_kept h.0 h.1)) h.1) g
 
-pub mapped : {X Y : Type 0} (f : X → Y) (y : Y) (xs : List X) → Among y (map f xs) → (x : X) × Among x xs × (y ≡ f x)
-mapped f y [] h = absurd h
-mapped f y (x ∷ xs) (inl e) = (x, inl refl, e)
-mapped f y (x ∷ xs) (inr h) = let r = mapped f y xs h in (r.0, inr r.1, r.2)
-
 pub apart_map : {X Y : Type 0} (f : X → Y) (xs : List X) → ((x y : X) → Among x xs → Among y xs → f x ≡ f y → x ≡ y) → AllApart xs → AllApart (map f xs)
 apart_map f [] same apart = tt
 apart_map f (x ∷ xs) same apart = (
-  (λ h. let r = mapped f (f x) xs h in apart.0 (subst (λ w. Among w xs) (sym (same x r.0 (inl refl) (inr r.1) r.2)) r.1)),
+  (λ h. let r = map_out f (f x) xs h in apart.0 (subst (λ w. Among w xs) (sym (same x r.0 (inl refl) (inr r.1) r.2)) r.1)),
   apart_map f xs (λ a b in_a in_b. same a b (inr in_a) (inr in_b)) apart.1,
 )
 
@@ -126,7 +121,7 @@ module _ (d : Description) (node : Node) (own : Own) (depth : own.depth ≡ node
         past = λ _. (
           map (link_from node.first) p.0,
           apart_map (link_from node.first) p.0 (λ x y in_x in_y e. link_same d node.first node.depth node.composition x y within deep (each x in_x) (each y in_y) e) p.1,
-          (λ x h. let r = mapped (link_from node.first) x p.0 h in inr (r.0, each r.0 r.1, r.2)),
+          (λ x h. let r = map_out (link_from node.first) x p.0 h in inr (r.0, each r.0 r.1, r.2)),
           subst (λ m. 65536 < m) (sym (length-map p.0 (link_from node.first))) p.3,
         );
       }

@@ -1,5 +1,5 @@
 -- Which compositions stand so deep, and whether a component stands deeper.
-use Rattle.std.proofs.Common.{◌≡◌, ℕ, suc, ◌-◌, ◌<◌, ◌≤◌, List, [], ◌∷◌, ◌++◌, length, take, drop, nat_eq, Bool, true, Option, Some, None, option_and_then, inl, ⊎_elim, ◌↔◌, IsTrue, refl, sym, ap, subst, ◌∙◌, arith}
+use Rattle.std.proofs.Common.{◌≡◌, ℕ, suc, ◌-◌, ◌<◌, ◌≤◌, List, [], ◌∷◌, ◌++◌, length, take, drop, nat_eq, Bool, true, Option, Some, None, option_and_then, ⊎_elim, ◌↔◌, IsTrue, refl, sym, ap, subst, ◌∙◌, arith}
 use Rattle.std.proofs.lemmas.List.{length-append, length-drop, take-append-drop}
 use Rattle.std.specs.List.{flat_map, list_any}
 use Rattle.description_types.specs.declared.description.Description.{Description}
@@ -57,24 +57,6 @@ module _ (d : Description) where
   level_more n level slice next same made is =
       subst (λ ks. IsLevel d (suc n) ks) (sym (made ∙ ap (λ ks. insert_all nat_eq [] (flat_map (held_by d) ks)) same))
       (λ e. (level_only n level is e, λ p. level_all n level is e p.0 p.1 p.2 p.3))
-
-  pub level_root : (level : List ℕ) → level ≡ d.root ∷ [] → d.root < length d.compositions → IsLevel d 0 level
-  level_root level is declared = subst (λ ks. IsLevel d 0 ks) (sym is)
-      (λ e. (
-        (λ h. ⊎_elim (λ (same : e ≡ d.root). ([], refl, ap (λ x. Some (Composition x)) (sym same), subst (λ x. x < length d.compositions) (sym same) declared)) (λ no. absurd no) h),
-        (λ p. inl (root_is p.0 e p.1 p.2)),
-      ))
-    where
-      root_is : (path : List ℕ) (e : ℕ) → length path ≡ 0 → type_at d (Composition d.root) path ≡ Some (Composition e) → e ≡ d.root
-      root_is [] e none typed = cc
-      root_is (q ∷ path) e none typed = absurd (omega arith)
-
-  pub level_none : (level : List ℕ) → level ≡ [] → length d.compositions ≤ d.root → IsLevel d 0 level
-  level_none level is past = subst (λ ks. IsLevel d 0 ks) (sym is) (λ e. ((λ no. absurd no), (λ p. absurd (nowhere p.0 e p.1 p.2 p.3))))
-    where
-      nowhere : (path : List ℕ) (e : ℕ) → length path ≡ 0 → type_at d (Composition d.root) path ≡ Some (Composition e) → e < length d.compositions → ⊥
-      nowhere [] e none typed declared = let same : d.root ≡ e = cc in omega arith
-      nowhere (q ∷ path) e none typed declared = omega arith
 
   module _ (level below : List ℕ) (is : IsLevel d 8 level) (all : (e : ℕ) → Among e below ↔ IsReached d level e) where
     too_deep_found : list_any (λ c. list_any (λ p. is_component p.of_type) (prototypes_of d c)) below ≡ true → IsTooDeep d

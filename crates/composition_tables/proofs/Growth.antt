@@ -91,9 +91,6 @@ module _ {X Y : Type 0} (Q : X → Y → Type 0) (xs : List X) where
   within_all : (i : ℕ) (x : X) → Among x (take i xs) → Among x xs
   within_all i x h = subst (Among x) (take-append-drop i xs) (left x (take i xs) (drop i xs) h)
 
-  pub grown_begin : (list : List Y) → Grown (AnyOf Q (take 0 xs)) list list false
-  grown_begin list = grown_none (AnyOf Q (take 0 xs)) list (λ y a. a.1)
-
   pub grown_more : (i : ℕ) (d : X) (before between after : List Y) (is_full : Bool) → i < length xs → Grown (AnyOf Q (take i xs)) before between false → Grown (Q (get_or xs i d)) between after is_full → is_full ≡ false
       → Grown (AnyOf Q (take (i + 1) xs)) before after false
   grown_more i d before between after is_full h g one room =

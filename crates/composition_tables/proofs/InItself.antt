@@ -13,14 +13,11 @@ use Rattle.composition_tables.proofs.Members.{get_some, any_true, true_any, all_
 use Rattle.composition_tables.proofs.Steps.{step_is, step_of, step_on, last_step, holder_declared}
 use Rattle.composition_tables.proofs.Reaching.{declared_from}
 
-is_it : (c : ℕ) (t : PrototypeType) → is_composition c t ≡ true → t ≡ Composition c
+pub is_it : (c : ℕ) (t : PrototypeType) → is_composition c t ≡ true → t ≡ Composition c
 is_it c (Component k) h = cc
 is_it c (Composition e) h = ap (λ x. Composition x) (eqb-true e c h)
 
 module _ (d : Description) (c : ℕ) where
-  holds_it : ℕ → Bool
-  holds_it h = list_any (λ p. is_composition c p.of_type) (prototypes_of d h)
-
   module _ (keys : List ℕ) (within : c < length d.compositions) (below : (e : ℕ) → Among e keys ↔ IsReached d (c ∷ []) e) where
     found_in_itself : list_any (λ h. list_any (λ p. is_composition c p.of_type) (prototypes_of d h)) keys ≡ true → ContainsItself d c
     found_in_itself h =

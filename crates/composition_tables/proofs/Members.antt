@@ -4,7 +4,7 @@ use Rattle.std.proofs.lemmas.Bool.{eqb-true, eq-eqb, or_cases, or_left, or_right
 use Rattle.std.proofs.lemmas.List.{get_or_append_left, length-append, map-append}
 use Rattle.std.specs.List.{flat_map, filter_map, list_any, list_all, cons_option, enumerate_from}
 use Rattle.indexmap.specs.IndexSet.{insert_key, insert_all}
-use Rattle.description_types.specs.Members.{Among, sum_of}
+use Rattle.description_types.specs.Members.{Among, AllApart, sum_of}
 
 module _ {X : Type 0} where
   pub left : (x : X) (xs ys : List X) → Among x xs → Among x (xs ++ ys)
@@ -31,6 +31,17 @@ module _ {X : Type 0} where
   place x [] h = absurd h
   place x (y ∷ xs) (inl e) = (0, omega arith, λ d. e)
   place x (y ∷ xs) (inr h) = let p = place x xs h in (suc p.0, omega arith, p.2)
+
+module _ {X Y : Type 0} (f : X → Y) where
+  pub map_in : (x : X) (xs : List X) → Among x xs → Among (f x) (map f xs)
+  map_in x [] h = absurd h
+  map_in x (y ∷ xs) (inl e) = inl (ap f e)
+  map_in x (y ∷ xs) (inr h) = inr (map_in x xs h)
+
+  pub map_out : (y : Y) (xs : List X) → Among y (map f xs) → (x : X) × Among x xs × (y ≡ f x)
+  map_out y [] h = absurd h
+  map_out y (x ∷ xs) (inl e) = (x, inl refl, e)
+  map_out y (x ∷ xs) (inr h) = let r = map_out y xs h in (r.0, inr r.1, r.2)
 
 module _ {X Y : Type 0} (f : X → List Y) where
   pub flat : (x : X) (xs : List X) (y : Y) → Among x xs → Among y (f x) → Among y (flat_map f xs)
@@ -189,10 +200,6 @@ get_push [] x y (suc k) h = cc
 get_push (z ∷ xs) x y zero h = inl h
 get_push (z ∷ xs) x y (suc k) h = ⊎_elim (λ l. inl l) (λ (r : (k ≡ length xs) × (x ≡ y)). inr (ap (λ n. suc n) r.0, r.1)) (get_push xs x y k h)
 
-pub all_append : (xs ys ks : List ℕ) → insert_all nat_eq ks (xs ++ ys) ≡ insert_all nat_eq (insert_all nat_eq ks xs) ys
-all_append [] ys ks = refl
-all_append (x ∷ xs) ys ks = all_append xs ys (insert_key nat_eq ks x)
-
 -- each element with its place
 module _ {X Y : Type 0} where
   pub flat_length : (f : X → List Y) (xs : List X) → length (flat_map f xs) ≡ sum_of (λ x. length (f x)) xs
@@ -215,12 +222,18 @@ map_numbered {X = X} h f g n (x ∷ xs) same =
     ∙ ap (λ l. l ++ map h (flat_map f (enumerate_from (n + 1) xs))) (ap (λ m. map h (f (m, x))) (sym (add-zero n)) ∙ same 0 x refl)
     ∙ ap (λ l. g x ++ l) (map_numbered h f g (n + 1) xs (λ i y some. let e : n + 1 + i ≡ n + suc i = omega arith in ap (λ m. map h (f (m, y))) e ∙ same (suc i) y some))
 
-pub numbered : {X : Type 0} (n : ℕ) (xs : List X) (i : ℕ) (x : X) → slice_get xs i ≡ Some x → Among (n + i, x) (enumerate_from n xs)
-numbered n [] i x h = cc
-numbered n (y ∷ xs) zero x h = let e : y ≡ x = cc in inl (ap (λ m. (m, x)) (add-zero n) ∙ ap (λ w. (n, w)) (sym e))
-numbered n (y ∷ xs) (suc i) x h = inr (let e : n + 1 + i ≡ n + suc i = omega arith in subst (λ m. Among (m, x) (enumerate_from (n + 1) xs)) e (numbered (n + 1) xs i x h))
+-- a list with no element twice is at most as long as one that has each of its elements
+split : {X : Type 0} (x : X) (ys : List X) → Among x ys → (front : List X) × (back : List X) × (ys ≡ front ++ (x ∷ back))
+split x [] h = absurd h
+split x (y ∷ ys) (inl e) = ([], ys, ap (λ w. w ∷ ys) (sym e))
+split x (y ∷ ys) (inr h) = let r = split x ys h in (y ∷ r.0, r.1, ap (λ l. y ∷ l) r.2)
 
-pub unnumbered : {X : Type 0} (n : ℕ) (xs : List X) (k : ℕ) (x : X) → Among (k, x) (enumerate_from n xs) → (i : ℕ) × (k ≡ n + i) × (slice_get xs i ≡ Some x)
-unnumbered n [] k x h = absurd h
-unnumbered {X = X} n (y ∷ xs) k x (inl e) = let a : k ≡ n = ap (λ p. p.0) e in let b : x ≡ y = ap (λ p. p.1) e in (0, omega arith, ap (λ w. Some w) (sym b))
-unnumbered n (y ∷ xs) k x (inr h) = let r = unnumbered (n + 1) xs k x h in (suc r.0, omega (arith, r.1), r.2)
+pub few_apart : {X : Type 0} (xs ys : List X) → AllApart xs → ((x : X) → Among x xs → Among x ys) → length xs ≤ length ys
+few_apart [] ys apart within = omega arith
+few_apart {X = X} (x ∷ xs) ys apart within =
+    let s = split x ys (within x (inl refl)) in
+    let rest = few_apart xs (s.0 ++ s.1) apart.1 (λ y h. ⊎_elim (λ l. left y s.0 s.1 l)
+    (λ r. ⊎_elim (λ e. absurd (apart.0 (subst (λ w. Among w xs) e h))) (λ b. right y s.0 s.1 b) r) (cases y s.0 (x ∷ s.1) (subst (Among y) s.2 (within y (inr h))))) in
+    let whole : length ys ≡ length s.0 + suc (length s.1) = ap length s.2 ∙ length-append s.0 (x ∷ s.1) in
+    let shorter = length-append s.0 s.1 in
+    omega arith

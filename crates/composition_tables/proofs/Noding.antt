@@ -38,9 +38,6 @@ module _ (d : Description) where
           (λ s. h.1 (⊎_elim (λ o. inl o) (λ i. inr (subst (λ e. IsNode d n e number x) (held_is i.0 i.1) (subst (λ k. IsNode d n i.0 k x) (sym numbered) i.3))) s)),
         )
 
-  pub inner_none : (n c first q : ℕ) (x : Node) (O : Type 0) → ((e : ℕ) → type_in d (Composition c) q ≡ Some (Composition e) → ⊥) → O ↔ (O ⊎ IsInnerNode d n c first q x)
-  inner_none n c first q x O none = ((λ o. inl o), (λ s. ⊎_elim (λ o. o) (λ i. absurd (none i.0 i.1)) s))
-
   pub nodes_begin : (n c first : ℕ) (node x : Node) (before after : List Node) → after ≡ before ++ node ∷ [] → Among x after ↔ (Among x before ⊎ ((x ≡ node) ⊎ ((q : ℕ) × (q < 0) × IsInnerNode d n c first q x)))
   nodes_begin n c first node x before after is = (
     (λ h. ⊎_elim (λ l. inl l) (λ r. ⊎_elim (λ e. inr (inl e)) (λ no. absurd no) r) (cases x before (node ∷ []) (subst (Among x) is h))),

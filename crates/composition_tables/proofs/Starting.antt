@@ -1,5 +1,5 @@
 -- How many instances stand before those of a prototype.
-use Rattle.std.proofs.Common.{◌≡◌, ℕ, zero, suc, ◌+◌, ◌<◌, ◌≤◌, min, List, [], ◌∷◌, ◌++◌, length, map, take, slice_get, slice_index, Vec, Option, Some, None, option_map, ⊎_elim, refl, sym, ap, subst, ◌∙◌, arith, zero-add}
+use Rattle.std.proofs.Common.{◌≡◌, ℕ, zero, suc, ◌+◌, ◌<◌, ◌≤◌, min, List, [], ◌∷◌, length, map, take, slice_get, slice_index, Vec, Option, Some, None, option_map, refl, sym, ap, subst, ◌∙◌, arith, zero-add}
 use Rattle.std.proofs.lemmas.Option.{slice_get-map}
 use Rattle.std.specs.Global.{Global}
 use Rattle.std.specs.Option.{option_map_or}
@@ -13,7 +13,6 @@ use Rattle.description_types.specs.Places.{size, size_of}
 use Rattle.description_types.specs.Members.{sum_of}
 use Rattle.composition_tables.specs.Trees.{running, starts_for, items_of, start_in, AreStarts}
 use Rattle.composition_tables.proofs.Counting.{size_capped}
-use Rattle.composition_tables.proofs.Members.{get_push}
 
 -- what has run so far
 ran : (count real : PrototypeType → ℕ) → ((t : PrototypeType) → count t ≡ min (real t) 1025) → (ps : List Prototype) (total : ℕ) (q : ℕ) → total ≤ 1025 → q < length ps
@@ -50,12 +49,3 @@ module _ (d : Description) (n : ℕ) (counts : List ℕ) (are : AreCounts d n co
               ∙ ran (size_of (slice_index counts)) (size_of (size d n)) (size_capped d n counts are) x.prototypes 0 q (omega arith) within_it
               ∙ ap (λ m. min m 1025) (zero-add (sum_of (λ p. size_of (size d n) p.of_type) (take q x.prototypes)))
               ∙ sym (ap (λ (o : Option CompositionType). min (sum_of (λ p. size_of (size d n) p.of_type) (take q (option_map_or (λ x. x.prototypes) o []))) 1025) some)
-
--- one more level of starts
-pub starts_more : (d : Description) (table after : List (Vec (Vec ℕ Global) Global)) (starts : Vec (Vec ℕ Global) Global) (depth : ℕ) → after ≡ table ++ starts ∷ [] → length table ≡ depth → AreStarts d depth starts.items
-    → ((n : ℕ) (x : Vec (Vec ℕ Global) Global) → slice_get table n ≡ Some x → AreStarts d n x.items)
-    → (n : ℕ) (x : Vec (Vec ℕ Global) Global) → slice_get after n ≡ Some x → AreStarts d n x.items
-starts_more d table after starts depth is many last earlier n x some =
-    ⊎_elim (λ old. earlier n x old)
-    (λ (r : (n ≡ length table) × (starts ≡ x)). subst (λ (y : Vec (Vec ℕ Global) Global). AreStarts d n y.items) r.1 (subst (λ m. AreStarts d m starts.items) (sym (r.0 ∙ many)) last))
-    (get_push table starts x n (sym (ap (λ xs. slice_get xs n) is) ∙ some))

@@ -39,10 +39,6 @@ fits_mapping m =
     && (names_fit (map (λ (t : Task). t.short_name) m.tasks) && (list_all (λ (t : Task). ltb t.core m.cores) m.tasks
     && list_all (λ (x : MappedEvent). ltb x.task (length m.tasks)) m.events)))
 
-some_is : (o : Option ℕ) (test : ℕ → Bool) → holds test o ≡ true → (n : ℕ) × (o ≡ Some n) × (test n ≡ true)
-some_is None test h = absurd (false≢true h)
-some_is (Some n) test h = (n, refl, h)
-
 module _ (d m : Data) (kept : Kept (declarations (visits d Description top)) d Description top) (there : get (codes "mapping") d ≡ Some m)
     (kept_m : Kept (declarations (visits d Description top)) m of_kind.Mapping (inside top Description d (codes "mapping"))) where
   abbrev spot : Spot

@@ -38,7 +38,7 @@ end_itself e = then_itself (instance_order e.instance e.instance) (ordering_then
 join_itself : (j : Join) → join_order j j ≡ Equal
 join_itself j = then_itself (end_order j.provided j.provided) (end_order j.required j.required) (end_itself j.provided) (end_itself j.required)
 
-later : (x y : Join) (ys : List Join) → AllByRecursion (λ z. join_order x z ≡ Less) ys → Among y ys → join_order x y ≡ Less
+pub later : (x y : Join) (ys : List Join) → AllByRecursion (λ z. join_order x z ≡ Less) ys → Among y ys → join_order x y ≡ Less
 later x y [] all h = absurd h
 later x y (z ∷ ys) all (inl e) = subst (λ w. join_order x w ≡ Less) (sym e) all.0
 later x y (z ∷ ys) all (inr h) = later x y ys all.1 h

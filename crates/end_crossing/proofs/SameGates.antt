@@ -1,5 +1,5 @@
 -- Equal gates are the same, and what is kept of them.
-use Rattle.std.proofs.Common.{◌≡◌, true, ℕ, refl, sym, List, [], map, Bool, false, cond, ap, Option, Some, None, ◌∷◌, inl, inr, subst, ◌∙◌}
+use Rattle.std.proofs.Common.{◌≡◌, true, ℕ, refl, sym, List, [], Bool, false, cond, ap, Option, Some, None, inl, subst, ◌∙◌}
 use Rattle.std.specs.HashMap.{HashMap, Updates, UpdatesBy, get}
 use Rattle.description_types.specs.declared.description.Description.{Description}
 use Rattle.interface_types.specs.declared.interface.InterfaceKind.{InterfaceKind}
@@ -12,7 +12,7 @@ use Rattle.end_search.proofs.SameGates.{gate_is}
 use Rattle.end_search.specs.Sides.{IsSide}
 use Rattle.description_types.specs.Members.{Among}
 use Rattle.end_search.specs.Sharing.{interface_keys, SharesKey}
-use Rattle.composition_tables.proofs.Members.{get_some}
+use Rattle.composition_tables.proofs.Members.{get_some, map_in}
 
 -- sides are taken and kept
 module _ {S : Type 0} (d : Description) (old new : HashMap Gate Side S) (gate : Gate) (sides : (g : Gate) (s : Side) → get same_gate old g ≡ Some s → IsSide d g s) where
@@ -33,17 +33,11 @@ module _ {S : Type 0} (d : Description) (old new : HashMap Gate Side S) (gate : 
           subst (λ k. IsSide d k s) (gate_is gate g h) (subst (λ t. IsSide d gate t) same here)
       by false h = sides g s (sym (put.0 g ∙ ap (λ b. cond b (Some side) (get same_gate old g)) h) ∙ is)
 
--- joined items have one key
-mapped : {X Y : Type 0} (f : X → Y) (x : X) (xs : List X) → Among x xs → Among (f x) (map f xs)
-mapped f x [] h = absurd h
-mapped f x (y ∷ xs) (inl e) = inl (ap f e)
-mapped f x (y ∷ xs) (inr h) = inr (mapped f x xs h)
-
 shares : (x y : Option InterfaceKind) (i j : ℕ) → ItemsJoin x y i j → (key : ℕ × List ℕ) × Among key (interface_keys x) × Among key (interface_keys y)
 shares (Some (SenderReceiver xs)) (Some (SenderReceiver ys)) i j h =
-    ((0, h.0), mapped (λ (name : List ℕ). (0, name)) h.0 (element_names xs) (get_some (element_names xs) i h.0 h.1), mapped (λ (name : List ℕ). (0, name)) h.0 (element_names ys) (get_some (element_names ys) j h.0 h.2))
+    ((0, h.0), map_in (λ (name : List ℕ). (0, name)) h.0 (element_names xs) (get_some (element_names xs) i h.0 h.1), map_in (λ (name : List ℕ). (0, name)) h.0 (element_names ys) (get_some (element_names ys) j h.0 h.2))
 shares (Some (ClientServer xs)) (Some (ClientServer ys)) i j h =
-    ((1, h.0), mapped (λ (name : List ℕ). (1, name)) h.0 (operation_names xs) (get_some (operation_names xs) i h.0 h.1), mapped (λ (name : List ℕ). (1, name)) h.0 (operation_names ys) (get_some (operation_names ys) j h.0 h.2))
+    ((1, h.0), map_in (λ (name : List ℕ). (1, name)) h.0 (operation_names xs) (get_some (operation_names xs) i h.0 h.1), map_in (λ (name : List ℕ). (1, name)) h.0 (operation_names ys) (get_some (operation_names ys) j h.0 h.2))
 shares (Some (ModeSwitch a)) (Some (ModeSwitch b)) i j h = ((2, []), inl refl, inl refl)
 shares None y i j h = absurd h
 shares (Some (SenderReceiver xs)) None i j h = absurd h

@@ -41,9 +41,6 @@ item_named names others name number i j N O P some found h = (
   (λ s. h.1 (⊎_elim (λ o. inl o) (λ p. let e : Some p.1.0 ≡ Some name = sym p.1.1 ∙ some in inr (p.0, found.1 (p.1.2 ∙ e))) s)),
 )
 
-pub item_unnamed : (names others : List (List ℕ)) (number i j : ℕ) (O : Type 0) → slice_get names number ≡ None → O ↔ (O ⊎ ((i ≡ number) × IsSameName names others number j))
-item_unnamed names others number i j O none = ((λ o. inl o), (λ s. ⊎_elim (λ o. o) (λ p. let e : None ≡ Some p.1.0 = sym none ∙ p.1.1 in cc) s))
-
 pub items_more : (names others : List (List ℕ)) (number i j : ℕ) (N M : Type 0) → N ↔ (M ⊎ ((i ≡ number) × IsSameName names others number j))
     → M ↔ (IsSameName names others i j × (i < number)) → N ↔ (IsSameName names others i j × (i < number + 1))
 items_more names others number i j N M now before = (

@@ -25,7 +25,7 @@ use Rattle.description_types.specs.Paths.{type_in}
 use Rattle.composition_tables.specs.Inner.{port_of, AreInner}
 use Rattle.end_search.specs.Wishes.{end_from, AreFound, IsBelowPrototype, IsCutBelow, IsWanted, IsEnd, IsInnerEnd, IsKnown, Sought}
 use Rattle.composition_tables.proofs.Following.{dead_spot, inner_is}
-use Rattle.composition_tables.proofs.Members.{left, at, flat, unflat}
+use Rattle.composition_tables.proofs.Members.{left, at, flat, unflat, map_in, map_out}
 use Rattle.composition_tables.proofs.Stepping.{one_more}
 
 -- one of two searches is cut short
@@ -82,17 +82,6 @@ module _ {X : Type 0} (Q : X → PortEnd → Type 0) (xs : List X) where
 
   pub sought_all : (i : ℕ) (before after : List PortEnd) → length xs ≤ i → Sought (AnyOf Q (take i xs)) before after false → Sought (AnyOf Q xs) before after false
   sought_all i before after past s = subst (λ l. Sought (AnyOf Q l) before after false) (take_all i xs past) s
-
--- an element of a list that others are made into
-map_in : {X Y : Type 0} (f : X → Y) (x : X) (xs : List X) → Among x xs → Among (f x) (map f xs)
-map_in f x [] h = absurd h
-map_in f x (y ∷ xs) (inl e) = inl (ap f e)
-map_in f x (y ∷ xs) (inr h) = inr (map_in f x xs h)
-
-map_out : {X Y : Type 0} (f : X → Y) (y : Y) (xs : List X) → Among y (map f xs) → (x : X) × Among x xs × (y ≡ f x)
-map_out f y [] h = absurd h
-map_out f y (x ∷ xs) (inl e) = (x, inl refl, e)
-map_out f y (x ∷ xs) (inr h) = let r = map_out f y xs h in (r.0, inr r.1, r.2)
 
 -- ends below a port are the same wherever it stands, but for the numbers of the instances
 own_moved : (o : Option ℕ) (f g port : ℕ) → own_end o (min (f + g) (2 ^ 32 - 1)) port ≡ map (end_from f) (own_end o g port)

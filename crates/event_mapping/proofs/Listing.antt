@@ -2,7 +2,7 @@
 use Rattle.std.proofs.Common.{◌≡◌, ℕ, ◌+◌, ◌<◌, ◌≤◌, List, ◌++◌, length, get_or, drop, sym, ap, subst, ◌∙◌}
 use Rattle.std.proofs.lemmas.List.{append-nil}
 use Rattle.plan_definitions.specs.Lists.{from}
-use Rattle.plan_numbers.proofs.Listing.{from_more, from_none}
+use Rattle.plan_definitions.proofs.Turns.{from_more, from_none}
 
 module _ {X Y : Type 0} (f : ℕ → X → List Y) where
   -- the turn and the end of a loop over the same list

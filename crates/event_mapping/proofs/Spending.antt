@@ -1,7 +1,7 @@
 -- Counts that go down.
-use Rattle.std.proofs.Common.{◌≡◌, ℕ, zero, suc, ◌+◌, ◌-◌, ◌<◌, ◌==◌, Bool, true, false, nat_lt, List, [], ◌∷◌, length, get_or, map, take, Option, Some, None, unwrap_or, refl, ◌∙◌, arith, slice_get}
+use Rattle.std.proofs.Common.{◌≡◌, ℕ, zero, suc, ◌+◌, ◌-◌, ◌<◌, ◌==◌, Bool, true, false, nat_lt, List, [], ◌∷◌, map, Option, Some, None, unwrap_or, refl, ◌∙◌, arith, slice_get}
 use Rattle.std.proofs.lemmas.Bool.{eqb-true, ltb-false, ltb-true}
-use Rattle.std.proofs.lemmas.List.Sums.{sum_by-cons, sum_by_more}
+use Rattle.std.proofs.lemmas.List.Sums.{sum_by-cons}
 use Rattle.std.specs.List.{sum_by}
 use Rattle.std.specs.Option.{option_map_or}
 use Rattle.description_types.specs.declared.component.Component.{Component}
@@ -9,11 +9,6 @@ use Rattle.description_types.specs.declared.description.Description.{Description
 use Rattle.description_types.specs.declared.flat.Instance.{Instance}
 use Rattle.event_mapping.specs.Guard.{at_most}
 use Rattle.event_mapping.proofs.Totals.{looked_up}
-
--- the turn of a loop
-pub spent : {X : Type 0} (f : X → ℕ) (xs : List X) (i : ℕ) (d : X) (whole rest more new : ℕ) → i < length xs → more ≡ f (get_or xs i d) → new ≡ rest - more
-    → rest ≡ whole - sum_by f (take i xs) → new ≡ whole - sum_by f (take (i + 1) xs)
-spent f xs i d whole rest more new within is less so_far = let next = sum_by_more f xs i d within in omega (arith, next, is, less, so_far)
 
 -- as much is left where no count is more than there was
 capped : {X : Type 0} (h g : X → ℕ) (most : ℕ) → ((x : X) → h x ≡ most - (most - g x)) → (xs : List X) → most - sum_by h xs ≡ most - sum_by g xs

@@ -1,7 +1,5 @@
 -- What an answer tells, of one check after another.
 use Rattle.std.proofs.Common.{◌≡◌, ℕ, List, Bool, true, false, if◌then◌else◌, ap, Option, Some, None, Result, Ok, Err, OnOk, inl, inr, refl, sym, subst}
-use Rattle.description_types.specs.declared.description.Description.{Description}
-use Rattle.description_types.specs.declared.flat.Flat.{Flat}
 use Rattle.rte_text.specs.declared.refusal.Refused.{Refused}
 use Rattle.rte_text.specs.declared.refusal.Refused.TheVariants.{Rule, Memory}
 use Rattle.plan_definitions.specs.Telling.{Tells as Says}
@@ -9,11 +7,6 @@ use Rattle.plan_definitions.specs.MappingRefusals.{IsAfter, Tells, mapping_text}
 use Rattle.plan_definitions.specs.Planned.{Planned}
 use Rattle.plan_definitions.specs.PlanRefusals.{IsThen, of_size}
 use Rattle.plan_definitions.specs.PlanRules.{is_too_large}
-
--- the same of another type of what is accepted
-pub still_says : (U V : Type 0) (o : Option (ℕ × List ℕ)) (x : Refused) → Says {U = U} o (Err x) → Says {U = V} o (Err x)
-still_says U V o (Rule x) says = says
-still_says U V o Memory says = tt
 
 -- the same as a relation, and of another type of what is accepted
 pub as_told : {U : Type 0} (o : Option (ℕ × List ℕ)) (r : Result U Refused) → Says o r → Tells (λ x. o ≡ x) r
@@ -64,7 +57,3 @@ size_refused V p later x large says = then_first (λ y. of_size p ≡ y) later U
 
 pub size_kept : {U : Type 0} (p : Planned) (later : Option (ℕ × List ℕ) → Type 0) (r : Result U Refused) → is_too_large p ≡ false → Tells later r → Tells (IsThen (λ y. of_size p ≡ y) later) r
 size_kept p later r fits tells = then_later (λ y. of_size p ≡ y) later r (ap by_size fits) tells
-
--- what is told of a description and its flat form is told of the same ones
-pub moved : (P : Description → Flat → Type 0) (d e : Description) (f g : Flat) → d ≡ e → f ≡ g → P d f → P e g
-moved P d e f g same_d same_f told = subst (λ x. P x g) same_d (subst (λ x. P d x) same_f told)

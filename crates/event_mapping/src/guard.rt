@@ -52,7 +52,7 @@ fn items_at(types: &TypeTable, owner: Option<u32>, port: &Port) -> usize
 }
 
 /// What is left of a number after the items of some ports.
-#[tactic(auto, using(crate::proofs::Spending::spent))]
+#[tactic(auto, using(component_rules::proofs::Spending::spent))]
 fn after_ports(left: usize, types: &TypeTable, owner: Option<u32>, ports: &[Port]) -> usize
     ensures { result ≡ left - items_of_ports types.now owner ports.now }
 {
@@ -100,7 +100,7 @@ fn count_for(counts: &[usize], instance: &Instance) -> usize
 }
 
 /// What is left of a number after as many for each instance as its component has.
-#[tactic(auto, using(crate::proofs::Spending::spent))]
+#[tactic(auto, using(component_rules::proofs::Spending::spent))]
 fn after_instances(left: usize, counts: &[usize], instances: &[Instance]) -> usize
     ensures { result ≡ left - sum_by (λ x. unwrap_or (slice_get counts.now x.component) 0) instances.now }
 {
@@ -140,7 +140,7 @@ fn events_of_instance(d: &Description, instance: &Instance) -> usize
 }
 
 /// What is left of a number after the events of instances.
-#[tactic(auto, using(crate::proofs::Spending::spent))]
+#[tactic(auto, using(component_rules::proofs::Spending::spent))]
 fn after_events(left: usize, d: &Description, instances: &[Instance]) -> usize
     ensures { result ≡ left - sum_by (events_of_instance d.now) instances.now }
 {
@@ -163,7 +163,7 @@ fn points_at(access: Access) -> usize
 }
 
 /// What is left of a number after the points of a runnable.
-#[tactic(auto, using(crate::proofs::Spending::spent))]
+#[tactic(auto, using(component_rules::proofs::Spending::spent))]
 fn after_accesses(left: usize, accesses: &[Access]) -> usize
     ensures { result ≡ left - sum_by points_at accesses.now }
 {
@@ -175,7 +175,7 @@ fn after_accesses(left: usize, accesses: &[Access]) -> usize
 }
 
 /// What is left of a number after the points of some runnables.
-#[tactic(auto, using(crate::proofs::Spending::spent))]
+#[tactic(auto, using(component_rules::proofs::Spending::spent))]
 fn after_runnables(left: usize, runnables: &[Runnable]) -> usize
     ensures { result ≡ left - sum_by points_of_runnable runnables.now }
 {
@@ -231,7 +231,7 @@ fn outer_points(d: &Description, port: &Port) -> usize
 }
 
 /// What is left of a number after the points of the environment.
-#[tactic(auto, using(crate::proofs::Spending::spent))]
+#[tactic(auto, using(component_rules::proofs::Spending::spent))]
 fn after_outer(left: usize, d: &Description, ports: &[Port]) -> usize
     ensures { result ≡ left - sum_by (outer_points d.now) ports.now }
 {

@@ -42,7 +42,7 @@ fn received(element: &ElemPlan) -> u32
 }
 
 /// What is left of a number after the queues of elements.
-#[tactic(auto, using(crate::proofs::Spending::spent))]
+#[tactic(auto, using(component_rules::proofs::Spending::spent))]
 fn after_received(left: u32, elements: &[ElemPlan]) -> u32
     ensures { result ≡ left - sum_by (λ e. received (elem_seen e)) elements.now }
 {
@@ -60,7 +60,7 @@ fn requested(server: &ServerPlan) -> u32
 }
 
 /// What is left of a number after the queues of servers.
-#[tactic(auto, using(crate::proofs::Spending::spent))]
+#[tactic(auto, using(component_rules::proofs::Spending::spent))]
 fn after_requested(left: u32, servers: &[ServerPlan]) -> u32
     ensures { result ≡ left - sum_by requested servers.now }
 {
@@ -72,7 +72,7 @@ fn after_requested(left: u32, servers: &[ServerPlan]) -> u32
 }
 
 /// What is left of a number after the queues of machines.
-#[tactic(auto, using(crate::proofs::Spending::spent))]
+#[tactic(auto, using(component_rules::proofs::Spending::spent))]
 fn after_switches(left: u32, machines: &[MachinePlan]) -> u32
     ensures { result ≡ left - sum_by (λ m. m.queue) machines.now }
 {

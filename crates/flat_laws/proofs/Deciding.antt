@@ -1,5 +1,5 @@
 -- What is decided: by parts, over lists, and the first number of which it holds.
-use Rattle.std.proofs.Common.{◌≡◌, ℕ, zero, suc, ◌+◌, ◌<◌, List, [], ◌∷◌, slice_get, Bool, true, false, nat_eq, Option, Some, None, ◌⊎◌, inl, inr, ⊎_elim, refl, sym, ap, subst, true≢false, arith}
+use Rattle.std.proofs.Common.{◌≡◌, ℕ, zero, suc, ◌+◌, ◌<◌, List, [], ◌∷◌, Bool, true, false, nat_eq, Option, Some, None, ◌⊎◌, inl, inr, ⊎_elim, refl, sym, ap, subst, true≢false, arith}
 use Rattle.std.proofs.lemmas.Bool.{eqb-true, eq-eqb}
 use Rattle.description_types.specs.declared.description.Connector.{Connector}
 use Rattle.description_types.specs.declared.description.Connector.TheVariants.{Assembly, Delegation}
@@ -64,12 +64,6 @@ connector_decided (Delegation p o) (Delegation q u) = as_well (λ e i. Delegatio
 pub among_decided : {X : Type 0} → ((x y : X) → Dec (x ≡ y)) → (x : X) (xs : List X) → Dec (Among x xs)
 among_decided same x [] = no (λ h. h)
 among_decided same x (y ∷ ys) = either (same x y) (among_decided same x ys)
-
--- an item at a position is among the list
-pub there : {X : Type 0} (xs : List X) (n : ℕ) (x : X) → slice_get xs n ≡ Some x → Among x xs
-there [] n x e = absurd cc
-there (y ∷ ys) zero x e = let is : y ≡ x = cc in inl (sym is)
-there (y ∷ ys) (suc n) x e = inr (there ys n x e)
 
 -- ---- the first number
 

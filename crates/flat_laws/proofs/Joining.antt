@@ -23,9 +23,9 @@ use Rattle.description_types.specs.Members.{Among, sum_of}
 use Rattle.description_types.specs.Orders.{join_order}
 use Rattle.description_types.specs.Paths.{type_at}
 use Rattle.description_types.specs.Places.{Place, places}
-use Rattle.composition_tables.proofs.Members.{flat}
+use Rattle.composition_tables.proofs.Members.{flat, few_apart}
 use Rattle.flat_laws.proofs.Nesting.{below, in_below}
-use Rattle.flat_laws.proofs.Sorting.{few_apart, is_sorted, join_exact, join_total, sorted, sorted_apart, sorted_members}
+use Rattle.flat_laws.proofs.Sorting.{is_sorted, join_exact, join_total, sorted, sorted_apart, sorted_members}
 use Rattle.flat_laws.proofs.Standing.{joined_decided}
 
 -- a list of those of another of which it holds

@@ -13,6 +13,7 @@ use Rattle.description_types.specs.Members.{Among}
 use Rattle.description_types.specs.Paths.{ContainsItself, is_composition, prototypes_of, type_at, type_in}
 use Rattle.flat_laws.proofs.Deciding.{as_well, bool_decided, first_found}
 use Rattle.flat_laws.proofs.Graphs.{Steps, reached, reaches, reaches_all}
+use Rattle.composition_tables.proofs.InItself.{is_it}
 
 -- the numbers below a limit
 abbrev pub below : ℕ → List ℕ
@@ -44,16 +45,12 @@ module _ (d : Description) where
   abbrev pub holds : ℕ → ℕ → Bool
   holds c e = list_any (λ (p : Prototype). is_composition e p.of_type) (prototypes_of d c)
 
-  type_is : (e : ℕ) (t : PrototypeType) → is_composition e t ≡ true → t ≡ Composition e
-  type_is e (Component k) h = absurd (true≢false (sym h))
-  type_is e (Composition x) h = ap Composition (eqb-true x e h)
-
   is_type : (e : ℕ) (t : PrototypeType) → t ≡ Composition e → is_composition e t ≡ true
   is_type e t is = ap (is_composition e) is ∙ eq-eqb e e refl
 
   held : (c e : ℕ) → holds c e ≡ true → (q : ℕ) × (type_in d (Composition c) q ≡ Some (Composition e))
   held c e h = let f = any_found (λ (p : Prototype). is_composition e p.of_type) (prototypes_of d c) h in
-      (f.0, ap (option_map (λ (p : Prototype). p.of_type)) f.2 ∙ ap Some (type_is e f.1.of_type f.3))
+      (f.0, ap (option_map (λ (p : Prototype). p.of_type)) f.2 ∙ ap Some (is_it e f.1.of_type f.3))
 
   holding : (c e q : ℕ) → type_in d (Composition c) q ≡ Some (Composition e) → holds c e ≡ true
   holding c e q h = by (slice_get (prototypes_of d c) q) refl h

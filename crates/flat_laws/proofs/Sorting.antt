@@ -1,8 +1,7 @@
 -- A list has a strictly sorted one with the same members, and joins have an order.
-use Rattle.std.proofs.Common.{◌≡◌, ℕ, suc, ◌+◌, ◌≤◌, List, [], ◌∷◌, ◌++◌, length, Option, Some, None, ◌⊎◌, inl, inr, ⊎_elim, ◌↔◌, refl, sym, ap, subst, ◌∙◌, arith, Ordering, Less, Equal, Greater}
+use Rattle.std.proofs.Common.{◌≡◌, ℕ, List, [], ◌∷◌, Option, Some, None, ◌⊎◌, inl, inr, ⊎_elim, ◌↔◌, refl, sym, ap, subst, ◌∙◌, arith, Ordering, Less, Equal, Greater}
 use Rattle.std.proofs.lemmas.Bool.{eqb-true}
 use Rattle.std.proofs.lemmas.Cmp.{nat_cmp_total, on_total, then_total, tied_itself}
-use Rattle.std.proofs.lemmas.List.{length-append}
 use Rattle.std.specs.Cmp.{IsTotalOrder, unsigned_ties}
 use Rattle.std.specs.List.{AllByRecursion}
 use Rattle.std.specs.List.Sorted.{IsStrictlySortedBy}
@@ -11,7 +10,7 @@ use Rattle.description_types.specs.declared.flat.End.{End}
 use Rattle.description_types.specs.declared.flat.Join.{Join}
 use Rattle.description_types.specs.Members.{AllApart, Among}
 use Rattle.description_types.specs.Orders.{end_order, instance_order, join_order}
-use Rattle.composition_tables.proofs.Members.{cases, left, right}
+use Rattle.composition_tables.proofs.SameLinks.{then_equal}
 
 -- ---- by an order that tells different things apart
 
@@ -100,23 +99,6 @@ module _ {K : Type 0} (order : K → K → Ordering) (total : IsTotalOrder order
   sorted_apart [] all = tt
   sorted_apart (x ∷ xs) all = ((λ h. never_less x (below_each x x xs all.0 h)), sorted_apart xs all.1)
 
--- ---- a list with no element twice is at most as long as one that has each of its elements
-
-split : {X : Type 0} (x : X) (ys : List X) → Among x ys → (front : List X) × (back : List X) × (ys ≡ front ++ (x ∷ back))
-split x [] h = absurd h
-split x (y ∷ ys) (inl e) = ([], ys, ap (λ w. w ∷ ys) (sym e))
-split x (y ∷ ys) (inr h) = let r = split x ys h in (y ∷ r.0, r.1, ap (λ l. y ∷ l) r.2)
-
-pub few_apart : {X : Type 0} (xs ys : List X) → AllApart xs → ((x : X) → Among x xs → Among x ys) → length xs ≤ length ys
-few_apart [] ys apart within = omega arith
-few_apart {X = X} (x ∷ xs) ys apart within =
-    let s = split x ys (within x (inl refl)) in
-    let rest = few_apart xs (s.0 ++ s.1) apart.1 (λ y h. ⊎_elim (λ l. left y s.0 s.1 l)
-    (λ r. ⊎_elim (λ e. absurd (apart.0 (subst (λ w. Among w xs) e h))) (λ b. right y s.0 s.1 b) r) (cases y s.0 (x ∷ s.1) (subst (Among y) s.2 (within y (inr h))))) in
-    let whole : length ys ≡ length s.0 + suc (length s.1) = ap length s.2 ∙ length-append s.0 (x ∷ s.1) in
-    let shorter = length-append s.0 s.1 in
-    omega arith
-
 -- ---- the order of joins
 
 instance_back : (x y : Option ℕ) → instance_order x y ≡ ordering_reverse (instance_order y x)
@@ -152,11 +134,6 @@ end_total = then_total (on_total (λ (e : End). e.instance) instance_total) (the
 pub join_total : IsTotalOrder join_order
 join_total = then_total (on_total (λ (j : Join). j.provided) end_total) (on_total (λ (j : Join). j.required) end_total)
 
-both_equal : (a b : Ordering) → ordering_then a b ≡ Equal → (a ≡ Equal) × (b ≡ Equal)
-both_equal Less b is = absurd cc
-both_equal Equal b is = (refl, is)
-both_equal Greater b is = absurd cc
-
 nat_exact : (a b : ℕ) → nat_cmp a b ≡ Equal → a ≡ b
 nat_exact a b is = eqb-true a b (unsigned_ties a b ∙ ap is_eq is)
 
@@ -168,10 +145,10 @@ instance_exact None None is = refl
 
 end_exact : (x y : End) → end_order x y ≡ Equal → x ≡ y
 end_exact x y is =
-    let p = both_equal (instance_order x.instance y.instance) (ordering_then (nat_cmp x.port y.port) (nat_cmp x.element y.element)) is in
-    let q = both_equal (nat_cmp x.port y.port) (nat_cmp x.element y.element) p.1 in
+    let p = then_equal (instance_order x.instance y.instance) (ordering_then (nat_cmp x.port y.port) (nat_cmp x.element y.element)) is in
+    let q = then_equal (nat_cmp x.port y.port) (nat_cmp x.element y.element) p.1 in
     λ i. record { instance = instance_exact x.instance y.instance p.0 i; port = nat_exact x.port y.port q.0 i; element = nat_exact x.element y.element q.1 i }
 
 pub join_exact : (x y : Join) → join_order x y ≡ Equal → x ≡ y
-join_exact x y is = let p = both_equal (end_order x.provided y.provided) (end_order x.required y.required) is in
+join_exact x y is = let p = then_equal (end_order x.provided y.provided) (end_order x.required y.required) is in
     λ i. record { provided = end_exact x.provided y.provided p.0 i; required = end_exact x.required y.required p.1 i }

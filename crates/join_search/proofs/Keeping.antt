@@ -1,35 +1,16 @@
 -- What is kept of partners.
-use Rattle.std.proofs.Common.{◌≡◌, ℕ, zero, suc, ◌+◌, ◌<◌, ◌≤◌, List, [], ◌∷◌, length, get_or, drop, map, filter, Bool, true, false, cond, ◌&&◌, ◌||◌, not, nat_eq, Option, Some, None, refl, sym, ap, ◌∙◌, arith, add-one, true≢false}
+use Rattle.std.proofs.Common.{◌≡◌, ℕ, zero, suc, ◌+◌, ◌<◌, ◌≤◌, List, [], ◌∷◌, length, get_or, drop, map, filter, Bool, true, false, cond, ◌&&◌, ◌||◌, not, Option, Some, None, refl, sym, ap, ◌∙◌, arith, add-one}
 use Rattle.std.specs.Prelude.{is_none as is_absent}
-use Rattle.std.proofs.lemmas.Bool.{eqb-true, eq-eqb, and_parts}
+use Rattle.std.proofs.lemmas.Bool.{and_parts}
 use Rattle.std.specs.List.{list_all, list_any}
 use Rattle.std.specs.Map.{lookup, values_of}
-use Rattle.std.specs.Option.{option_eq, option_map_or, unwrap_or}
+use Rattle.std.specs.Option.{option_map_or, unwrap_or}
 use Rattle.description_types.specs.declared.flat.End.{End}
 use Rattle.description_types.specs.declared.flat.Join.{Join}
 use Rattle.join_search.specs.declared.partners.Partners.{Partners}
 use Rattle.plan_definitions.specs.Joins.{same_end, partners, are_several}
 use Rattle.join_search.specs.Partners.{added, has_several, summary, with_one, key_of, same_key, Key}
-
--- one that is said to be the same is the same
-same_number : (a b : Option ℕ) → option_eq nat_eq a b ≡ true → a ≡ b
-same_number None None h = refl
-same_number None (Some y) h = absurd (true≢false (sym h))
-same_number (Some x) None h = absurd (true≢false (sym h))
-same_number (Some x) (Some y) h = ap (λ n. Some n) (eqb-true x y h)
-
-pub same_end_is : (a b : End) → same_end a b ≡ true → a ≡ b
-same_end_is a b h =
-    let outer = and_parts (option_eq nat_eq a.instance b.instance && nat_eq a.port b.port) (nat_eq a.element b.element) h in
-    let inner = and_parts (option_eq nat_eq a.instance b.instance) (nat_eq a.port b.port) outer.0 in
-    (λ j. record { instance = same_number a.instance b.instance inner.0 j; port = eqb-true a.port b.port inner.1 j; element = eqb-true a.element b.element outer.1 j })
-
-same_number_refl : (a : Option ℕ) → option_eq nat_eq a a ≡ true
-same_number_refl None = refl
-same_number_refl (Some x) = eq-eqb x x refl
-
-pub same_end_refl : (a : End) → same_end a a ≡ true
-same_end_refl a = (λ j. (same_number_refl a.instance j && eq-eqb a.port a.port refl j) && eq-eqb a.element a.element refl j)
+use Rattle.plan_definitions.proofs.Keys.{same_end_is, same_end_refl}
 
 -- a partner that is kept already as the first changes nothing
 pub set_first : (kept : Option Partners) (x : End) → with_one (Some (unwrap_or kept (with_one None x))) x ≡ with_one kept x

@@ -6,7 +6,7 @@ use Rattle.description_types.specs.declared.flat.End.{End}
 use Rattle.description_types.specs.declared.flat.Join.{Join}
 use Rattle.plan_definitions.specs.JoinGroups.{IsJoined}
 use Rattle.plan_definitions.specs.Joins.{same_end, partners, providers, requirers, are_several}
-use Rattle.join_search.proofs.Keeping.{same_end_is, same_end_refl}
+use Rattle.plan_definitions.proofs.Keys.{same_end_is, same_end_refl}
 
 -- x is one of these
 abbrev In : List End → End → Type 0

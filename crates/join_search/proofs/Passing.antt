@@ -1,9 +1,7 @@
 -- Pairs that were judged.
-use Rattle.std.proofs.Common.{◌≡◌, ℕ, List, [], ◌∷◌, ◌++◌, Bool, true, false, ◌&&◌, nat_eq, sym, ◌∙◌, true≢false, if◌then◌else◌, ⊎_elim}
+use Rattle.std.proofs.Common.{◌≡◌, ℕ, List, [], ◌∷◌, Bool, true, ◌&&◌, nat_eq, sym, ◌∙◌, true≢false, ⊎_elim}
 use Rattle.std.proofs.lemmas.Bool.{eqb-true, or_cases, and_parts}
-use Rattle.std.proofs.lemmas.List.Folds.{list_all-append}
 use Rattle.std.specs.List.{list_all, list_any}
-use Rattle.indexmap.specs.IndexSet.{insert_key}
 
 module _ (f : ℕ × ℕ → Bool) where
   same_pair : (x y : ℕ × ℕ) → (nat_eq x.0 y.0 && nat_eq x.1 y.1) ≡ true → f y ≡ true → f x ≡ true
@@ -14,10 +12,3 @@ module _ (f : ℕ × ℕ → Bool) where
   among_passed (y ∷ ps) x h all =
       let parts = and_parts (f y) (list_all f ps) all in
       ⊎_elim (λ here. same_pair x y here parts.0) (λ there. among_passed ps x there parts.1) (or_cases (nat_eq x.0 y.0 && nat_eq x.1 y.1) (list_any (λ y. nat_eq x.0 y.0 && nat_eq x.1 y.1) ps) h)
-
-  pub passed_more : (ps : List (ℕ × ℕ)) (x : ℕ × ℕ) → f x ≡ true → list_all f ps ≡ true → list_all f (insert_key (λ x y. nat_eq x.0 y.0 && nat_eq x.1 y.1) ps x) ≡ true
-  passed_more ps x is all = by (list_any (λ y. nat_eq x.0 y.0 && nat_eq x.1 y.1) ps)
-    where
-      by : (b : Bool) → list_all f (if b then ps else ps ++ x ∷ []) ≡ true
-      by true = all
-      by false = list_all-append f ps (x ∷ []) ∙ (λ j. all j && (is j && true))

@@ -7,7 +7,7 @@ use Rattle.description_types.specs.declared.flat.End.{End}
 use Rattle.description_types.specs.declared.flat.Join.{Join}
 use Rattle.plan_definitions.specs.JoinGroups.{IsJoined, Leads, HasRequired, HasProvided, IsManyToMany}
 use Rattle.plan_definitions.specs.Joins.{same_end, providers, requirers, are_several, crowds, is_crowded, is_many_to_many}
-use Rattle.join_search.proofs.Keeping.{same_end_is, same_end_refl}
+use Rattle.plan_definitions.proofs.Keys.{same_end_is, same_end_refl}
 use Rattle.join_search.proofs.PartnersAre.{one_provider, one_requirer, two_providers, two_requirers, any_joined, joined_any}
 
 module _ (joins : List Join) (e : End) where

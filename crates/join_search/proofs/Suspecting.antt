@@ -6,7 +6,7 @@ use Rattle.description_types.specs.declared.flat.Join.{Join}
 use Rattle.plan_definitions.specs.Joins.{are_several, is_crowded, is_many_to_many, providers, same_end}
 use Rattle.join_search.specs.Suspects.{among_at, port_of, same_port, several_at}
 use Rattle.join_search.specs.Partners.{Key, key_of}
-use Rattle.join_search.proofs.Keeping.{same_end_is, same_end_refl}
+use Rattle.plan_definitions.proofs.Keys.{same_end_is, same_end_refl}
 use Rattle.join_search.proofs.PartnersAre.{any_joined, joined_any, two_providers}
 
 same_port_refl : (e : End) → same_port (port_of e) (port_of e) ≡ true

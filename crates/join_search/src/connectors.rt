@@ -49,7 +49,7 @@ fn joins_compatible(
 }
 
 /// The first connector of a composition that joins ports that are not compatible.
-#[tactic(auto, using(crate::proofs::Firsts::first_more, crate::proofs::Firsts::first_here, crate::proofs::Firsts::first_none))]
+#[tactic(auto, using(plan_definitions::proofs::Turns::first_more, plan_definitions::proofs::Turns::first_here, plan_definitions::proofs::Turns::first_none))]
 fn incompatible_in(
     judge: &Judge,
     d: &Description,
@@ -70,7 +70,7 @@ fn incompatible_in(
 }
 
 /// The first connector that joins ports that are not compatible, with its composition before it.
-#[tactic(auto, using(crate::proofs::Firsts::first_more, crate::proofs::Firsts::first_here, crate::proofs::Firsts::first_none))]
+#[tactic(auto, using(plan_definitions::proofs::Turns::first_more, plan_definitions::proofs::Turns::first_here, plan_definitions::proofs::Turns::first_none))]
 pub fn incompatible(alloc: Global, d: &Description) -> Result<Option<(usize, usize)>, Memory>
     ensures { IfOk result (λ first. first ≡ incompatible d.now) }
 {

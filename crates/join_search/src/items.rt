@@ -165,7 +165,7 @@ impl Search<'_> {
         }
     }
 
-    #[tactic(auto, using(crate::proofs::Firsts::first_more, crate::proofs::Firsts::first_here, crate::proofs::Firsts::first_none))]
+    #[tactic(auto, using(plan_definitions::proofs::Turns::first_more, plan_definitions::proofs::Turns::first_here, plan_definitions::proofs::Turns::first_none))]
     fn in_ports(&self, rule: JoinRule, instance: Option<usize>, ports: &[Port]) -> Option<Item>
         ensures { result ≡ in_ports rule self.now.d.now self.now.f.now instance ports.now }
     {
@@ -184,7 +184,7 @@ impl Search<'_> {
         self.in_ports(rule, Some(number), ports)
     }
 
-    #[tactic(auto, using(crate::proofs::Firsts::first_more, crate::proofs::Firsts::first_here, crate::proofs::Firsts::first_none))]
+    #[tactic(auto, using(plan_definitions::proofs::Turns::first_more, plan_definitions::proofs::Turns::first_here, plan_definitions::proofs::Turns::first_none))]
     fn in_instances(&self, rule: JoinRule) -> Option<Item>
         ensures { result ≡ in_instances rule self.now.d.now self.now.f.now }
     {

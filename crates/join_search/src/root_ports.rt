@@ -26,7 +26,7 @@ fn requires_server(types: &TypeTable, port: &Port) -> bool
 }
 
 /// The first port of the root by which the environment would have to serve operations.
-#[tactic(auto, using(crate::proofs::Firsts::first_more, crate::proofs::Firsts::first_here, crate::proofs::Firsts::first_none))]
+#[tactic(auto, using(plan_definitions::proofs::Turns::first_more, plan_definitions::proofs::Turns::first_here, plan_definitions::proofs::Turns::first_none))]
 pub fn root_client(d: &Description) -> Option<usize>
     ensures { result ≡ root_client d.now }
 {

@@ -1,5 +1,5 @@
 -- The turns of the loops that add edges to a set.
-use Rattle.std.proofs.Common.{◌≡◌, ℕ, zero, suc, ◌+◌, ◌<◌, ◌≤◌, List, [], ◌∷◌, length, get_or, drop, Bool, true, false, cond, ◌||◌, ◌&&◌, nat_eq, slice_get, Some, None, option_and_then, refl, sym, ap, ◌∙◌, arith, add-one}
+use Rattle.std.proofs.Common.{◌≡◌, ℕ, zero, suc, ◌+◌, ◌<◌, List, [], ◌∷◌, length, get_or, drop, Bool, true, false, cond, ◌||◌, ◌&&◌, nat_eq, slice_get, Some, None, option_and_then, refl, sym, ap, ◌∙◌, arith, add-one}
 use Rattle.std.proofs.lemmas.Bool.{eqb-true}
 use Rattle.std.proofs.Math.Bool.{or-false}
 use Rattle.std.specs.List.{list_all}
@@ -31,12 +31,6 @@ module _ {X : Type 0} (test : ℕ → X → Bool) where
   any_next [] n i d x within is = absurd (omega arith)
   any_next (y ∷ xs) n zero d x within is = ap (λ z. test n z || any_at test (n + 1) xs) (sym is)
   any_next (y ∷ xs) n (suc i) d x within is = any_next xs n i d x (omega arith) is
-
-  any_none : (xs : List X) (n i : ℕ) → length xs ≤ i → any_at test n (drop i xs) ≡ false
-  any_none [] n zero past = refl
-  any_none [] n (suc i) past = refl
-  any_none (y ∷ xs) n zero past = absurd (omega arith)
-  any_none (y ∷ xs) n (suc i) past = any_none xs n i (omega arith)
 
   pub any_more : (xs : List X) (i : ℕ) (d x : X) (old new whole : Bool) → i < length xs → new ≡ (old || test i x) → x ≡ get_or xs i d → (old || any_at test i (drop i xs)) ≡ whole
       → (new || any_at test (i + 1) (drop (i + 1) xs)) ≡ whole

@@ -1,6 +1,5 @@
 -- Ends as keys.
-use Rattle.std.proofs.Common.{◌≡◌, ℕ, ◌+◌, List, [], ◌∷◌, ◌++◌, map, Bool, true, false, cond, ◌&&◌, ◌||◌, nat_eq, is_some, is_none, Option, Some, None, option_map, refl, sym, ◌∙◌, find}
-use Rattle.std.proofs.lemmas.Bool.{eqb-true, eq-eqb}
+use Rattle.std.proofs.Common.{◌≡◌, ℕ, ◌+◌, List, [], ◌∷◌, ◌++◌, map, Bool, true, false, cond, ◌&&◌, ◌||◌, nat_eq, is_some, is_none, Option, Some, option_map, refl, ◌∙◌, find}
 use Rattle.std.specs.List.{list_any, flat_map, position_from}
 use Rattle.std.specs.Map.{lookup}
 use Rattle.std.specs.Option.{option_eq}
@@ -8,23 +7,10 @@ use Rattle.description_types.specs.declared.flat.End.{End}
 use Rattle.description_types.specs.declared.flat.Join.{Join}
 use Rattle.plan_definitions.specs.Joined.{same_end, provider_of}
 use Rattle.mapping_rules.specs.Listed.{triple, provided_for, outside_at}
-
-nat_eq-sym : (a b : ℕ) → nat_eq a b ≡ nat_eq b a
-nat_eq-sym a b = by (nat_eq a b) (nat_eq b a) refl refl
-  where
-    by : (s t : Bool) → nat_eq a b ≡ s → nat_eq b a ≡ t → s ≡ t
-    by true t p q = sym (eq-eqb b a (sym (eqb-true a b p))) ∙ q
-    by false true p q = sym (sym (eq-eqb a b (sym (eqb-true b a q))) ∙ p)
-    by false false p q = refl
-
-option_eq-sym : (a b : Option ℕ) → option_eq nat_eq a b ≡ option_eq nat_eq b a
-option_eq-sym None None = refl
-option_eq-sym None (Some b) = refl
-option_eq-sym (Some a) None = refl
-option_eq-sym (Some a) (Some b) = nat_eq-sym a b
+use Rattle.plan_definitions.proofs.Keys.{nat_eq_sym, option_eq_sym}
 
 same_end-sym : (a b : End) → same_end a b ≡ same_end b a
-same_end-sym a b = λ j. (option_eq-sym a.instance b.instance j && nat_eq-sym a.port b.port j) && nat_eq-sym a.element b.element j
+same_end-sym a b = λ j. (option_eq_sym a.instance b.instance j && nat_eq_sym a.port b.port j) && nat_eq_sym a.element b.element j
 
 abbrev pub same_triple : Option ℕ × ℕ × ℕ → Option ℕ × ℕ × ℕ → Bool
 same_triple a b = (option_eq nat_eq a.0 b.0 && nat_eq a.1 b.1) && nat_eq a.2 b.2

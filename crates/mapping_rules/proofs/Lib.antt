@@ -3,7 +3,6 @@ pub mod Circles
 pub mod Sorted
 pub mod Named
 pub mod Events
-pub mod Listing
 pub mod Ends
 pub mod Invoked
 pub mod Unserved

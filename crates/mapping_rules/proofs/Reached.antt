@@ -1,6 +1,6 @@
 -- The edges that are found are the waits of tasks for tasks.
 use Rattle.std.proofs.Common.{◌≡◌, ℕ, zero, suc, ◌+◌, ◌<◌, List, [], ◌∷◌, ◌++◌, Bool, true, false, ◌||◌, ◌&&◌, nat_eq, slice_get, Option, Some, None, option_and_then, inl, inr, ⊎_elim, refl, sym, ap, ◌∙◌, true≢false, arith}
-use Rattle.std.proofs.lemmas.Bool.{eqb-true, eq-eqb, or_cases, or_left, or_right, and_parts, and_from}
+use Rattle.std.proofs.lemmas.Bool.{eq-eqb, or_cases, or_left, or_right, and_parts, and_from}
 use Rattle.std.proofs.Math.Bool.{and-false}
 use Rattle.std.specs.List.{list_any, flat_map}
 use Rattle.std.specs.Option.{option_map_or}
@@ -16,6 +16,7 @@ use Rattle.plan_definitions.specs.Parts.{component_of}
 use Rattle.mapping_rules.specs.Edges.{HaveCircle, HaveRanks, IsDecided, Way}
 use Rattle.plan_definitions.specs.MappingRules.{Chain, HaveOrder, ReachesItself, TellsOrder, Waits, tasks_from, waits_by}
 use Rattle.mapping_rules.specs.Waiting.{any_at, has_wait, leads, pairs, waits_in}
+use Rattle.plan_definitions.proofs.Keys.{same_pair_is}
 
 module _ {X : Type 0} (test : ℕ → X → Bool) where
   any_found : (n : ℕ) (xs : List X) → any_at test n xs ≡ true → (i : ℕ) × (j : ℕ) × (x : X) × (j ≡ n + i) × (slice_get xs i ≡ Some x) × (test j x ≡ true)
@@ -130,10 +131,6 @@ module _ (e : ℕ × ℕ) where
     pub found_wait : Waits d f e.0 e.1 → has_wait d f e ≡ true
     found_wait w = by_instance w.runnable.0 w.runnable.1 (slice_get f.instances w.runnable.0) refl w.in_task w.for_task
 
--- an edge among others
-pair_is : (a b : ℕ × ℕ) → same_pair a b ≡ true → a ≡ b
-pair_is a b h = let parts = and_parts (nat_eq a.0 b.0) (nat_eq a.1 b.1) h in λ j. (eqb-true a.0 b.0 parts.0 j, eqb-true a.1 b.1 parts.1 j)
-
 among_any : (e : ℕ × ℕ) (xs : List (ℕ × ℕ)) → Among e xs → list_any (same_pair e) xs ≡ true
 among_any e [] h = absurd h
 among_any e (x ∷ xs) (inl is) = or_left (same_pair e x) (list_any (same_pair e) xs) (and_from (nat_eq e.0 x.0) (nat_eq e.1 x.1) (eq-eqb e.0 x.0 (ap (λ z. z.0) is)) (eq-eqb e.1 x.1 (ap (λ z. z.1) is)))
@@ -141,7 +138,7 @@ among_any e (x ∷ xs) (inr h) = or_right (same_pair e x) (list_any (same_pair e
 
 any_among : (e : ℕ × ℕ) (xs : List (ℕ × ℕ)) → list_any (same_pair e) xs ≡ true → Among e xs
 any_among e [] h = cc
-any_among e (x ∷ xs) h = ⊎_elim (λ here. inl (pair_is e x here)) (λ later. inr (any_among e xs later)) (or_cases (same_pair e x) (list_any (same_pair e) xs) h)
+any_among e (x ∷ xs) h = ⊎_elim (λ here. inl (same_pair_is e x here)) (λ later. inr (any_among e xs later)) (or_cases (same_pair e x) (list_any (same_pair e) xs) h)
 
 module _ (d : Description) (f : Flat) (edges : List (ℕ × ℕ)) (are : (e : ℕ × ℕ) → list_any (same_pair e) edges ≡ has_wait d f e) where
   waits_at : (a b : ℕ) → Among (a, b) edges → Waits d f a b

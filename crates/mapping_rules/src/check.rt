@@ -26,7 +26,7 @@ fn is_named<'a>(names: &Names<'a>, mapped: &'a MappedEvent) -> bool
     names.named_by(mapped).is_some()
 }
 
-#[tactic(auto, using(crate::proofs::Firsts::first_more, crate::proofs::Firsts::first_here, crate::proofs::Firsts::first_none))]
+#[tactic(auto, using(plan_definitions::proofs::Turns::first_more, plan_definitions::proofs::Turns::first_here, plan_definitions::proofs::Turns::first_none))]
 fn unnamed<'a>(names: &Names<'a>, events: &'a [MappedEvent]) -> Option<usize>
     ensures { result ≡ first_of (λ k x. unless (is_some (named_by names.now.d.now names.now.f.now x)) k) 0 events.now }
 {

@@ -63,7 +63,7 @@ fn badly_mapped_at(
     unless(is_mapped_well(kind, times), instance, number)
 }
 
-#[tactic(auto, using(crate::proofs::Firsts::first_more, crate::proofs::Firsts::first_here, crate::proofs::Firsts::first_none))]
+#[tactic(auto, using(plan_definitions::proofs::Turns::first_more, plan_definitions::proofs::Turns::first_here, plan_definitions::proofs::Turns::first_none))]
 fn badly_mapped_in(servers: &Servers<'_>, instance: usize, component: &Component) -> Option<Part>
     ensures { result ≡ badly_mapped_in servers.now.mapped.now.names.d.now servers.now.mapped.now.names.f.now instance component.now }
 {
@@ -111,7 +111,7 @@ fn spread_at(tasks: &Groups<usize, u32>, instance: usize, number: usize) -> Opti
     unless(are_same(tasks.at(number)), instance, number)
 }
 
-#[tactic(auto, using(crate::proofs::Firsts::first_more, crate::proofs::Firsts::first_here, crate::proofs::Firsts::first_none))]
+#[tactic(auto, using(plan_definitions::proofs::Turns::first_more, plan_definitions::proofs::Turns::first_here, plan_definitions::proofs::Turns::first_none))]
 fn spread_among(tasks: &Groups<usize, u32>, instance: usize, runnables: &[Runnable]) -> Option<Part>
     ensures { result ≡ first_of (λ m (r : Runnable). unless (are_same (values_at (nat_eq m) tasks.now.entries.items)) (instance, m)) 0 runnables.now }
 {
@@ -211,7 +211,7 @@ fn not_direct_at(
     )
 }
 
-#[tactic(auto, using(crate::proofs::Firsts::first_more, crate::proofs::Firsts::first_here, crate::proofs::Firsts::first_none))]
+#[tactic(auto, using(plan_definitions::proofs::Turns::first_more, plan_definitions::proofs::Turns::first_here, plan_definitions::proofs::Turns::first_none))]
 fn not_direct_in(servers: &Servers<'_>, instance: usize, component: &Component) -> Option<Part>
     ensures { result ≡ not_direct_in servers.now.mapped.now.names.d.now servers.now.mapped.now.names.f.now instance component.now }
 {
@@ -257,7 +257,7 @@ fn broken_at(
 }
 
 /// The first event or runnable of an instance that breaks a rule.
-#[tactic(auto, using(crate::proofs::InTurn::instance_more, crate::proofs::InTurn::instance_here, crate::proofs::Firsts::first_none))]
+#[tactic(auto, using(crate::proofs::InTurn::instance_more, crate::proofs::InTurn::instance_here, plan_definitions::proofs::Turns::first_none))]
 pub fn first_broken(
     alloc: Global,
     servers: &Servers<'_>,

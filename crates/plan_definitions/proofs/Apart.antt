@@ -1,6 +1,6 @@
 -- Items with keys that differ, and how many of them pass a test.
 use Rattle.std.proofs.Common.{◌≡◌, ℕ, zero, suc, ◌+◌, ◌≤◌, List, [], ◌∷◌, ◌++◌, length, map, filter, Bool, true, false, cond, not, ◌&&◌, inl, inr, ⊎_elim, refl, sym, ap, ◌∙◌, true≢false, arith}
-use Rattle.description_types.specs.Members.{Among}
+use Rattle.description_types.specs.Members.{Among, AllApart}
 use Rattle.plan_definitions.specs.Lists.{from, positions}
 use Rattle.plan_definitions.proofs.Lists.{cases, out_from, out_positions, unkept, unmapped}
 
@@ -23,6 +23,10 @@ module _ {X K : Type 0} (key : X → K) where
       by : (b : Bool) → Apart (filter test xs) → Apart (cond b (x ∷ filter test xs) (filter test xs))
       by true rest = ((λ y among. apart.0 y (unkept test xs y among).0), rest)
       by false rest = rest
+
+  pub items_apart : (xs : List X) → Apart xs → AllApart xs
+  items_apart [] apart = tt
+  items_apart (x ∷ xs) apart = ((λ among. apart.0 x among refl), items_apart xs apart.1)
 
   -- a key has one item
   pub one_item : (xs : List X) → Apart xs → (x y : X) → Among x xs → Among y xs → key x ≡ key y → x ≡ y

@@ -1,13 +1,13 @@
 -- The numbers of keys: a key that is among some has the position of its first one, and two such keys of one number are the same.
-use Rattle.std.proofs.Common.{◌≡◌, ℕ, zero, suc, ◌+◌, ◌≤◌, List, [], ◌∷◌, Bool, true, false, cond, ◌&&◌, nat_eq, Option, Some, None, option_map, unwrap_or, inl, inr, refl, sym, ap, subst, ◌∙◌, true≢false, arith, slice_get}
-use Rattle.std.proofs.lemmas.Bool.{and_from, and_parts, eq-eqb, eqb-true}
+use Rattle.std.proofs.Common.{◌≡◌, ℕ, zero, suc, ◌+◌, ◌≤◌, List, [], ◌∷◌, Bool, true, false, cond, ◌&&◌, nat_eq, Option, Some, None, option_map, unwrap_or, inl, inr, ⊎_elim, refl, sym, ap, subst, ◌∙◌, true≢false, arith, slice_get}
+use Rattle.std.proofs.lemmas.Bool.{and_from, and_parts, cases_eq, eq-eqb, eqb-true, ne_eqb}
 use Rattle.std.specs.List.{position_from}
 use Rattle.std.specs.Option.{option_eq}
 use Rattle.description_types.specs.declared.flat.End.{End}
 use Rattle.description_types.specs.Members.{Among}
 use Rattle.plan_definitions.specs.declared.site.Site.{Site}
 use Rattle.plan_definitions.specs.Joined.{end_at, end_of, same_end}
-use Rattle.plan_definitions.specs.Keys.{Key, end_key, key_of, number_in, same_key}
+use Rattle.plan_definitions.specs.Keys.{Key, end_key, key_of, number_in, same_key, same_pair}
 
 pub same_number : (a b : Option ℕ) → option_eq nat_eq a b ≡ true → a ≡ b
 same_number None None h = refl
@@ -18,6 +18,18 @@ same_number (Some x) (Some y) h = ap (λ n. Some n) (eqb-true x y h)
 pub same_number_refl : (a : Option ℕ) → option_eq nat_eq a a ≡ true
 same_number_refl None = refl
 same_number_refl (Some x) = eq-eqb x x refl
+
+pub nat_eq_sym : (a b : ℕ) → nat_eq a b ≡ nat_eq b a
+nat_eq_sym a b = ⊎_elim (λ e. eq-eqb a b e ∙ sym (eq-eqb b a (sym e))) (λ ne. ne_eqb a b ne ∙ sym (ne_eqb b a (λ e. ne (sym e)))) (cases_eq a b)
+
+pub option_eq_sym : (a b : Option ℕ) → option_eq nat_eq a b ≡ option_eq nat_eq b a
+option_eq_sym None None = refl
+option_eq_sym None (Some b) = refl
+option_eq_sym (Some a) None = refl
+option_eq_sym (Some a) (Some b) = nat_eq_sym a b
+
+pub same_pair_is : (a b : ℕ × ℕ) → same_pair a b ≡ true → a ≡ b
+same_pair_is a b h = let parts = and_parts (nat_eq a.0 b.0) (nat_eq a.1 b.1) h in (λ j. (eqb-true a.0 b.0 parts.0 j, eqb-true a.1 b.1 parts.1 j))
 
 pub same_key_is : (a b : Key) → same_key a b ≡ true → a ≡ b
 same_key_is a b h =
@@ -89,9 +101,6 @@ number_low keys k n is = by (position_from (same_key k) 0 keys) refl
     by (Some m) some = let le = low 0 k keys n m is some in omega arith
 
 -- ---- ends
-
-pub end_is : (s : Site) (k : ℕ) → s.port ≡ Some k → end_of s ≡ Some (end_at s.owner k s.item)
-end_is s k is = ap (option_map (λ port. end_at s.owner port s.item)) is
 
 pub key_is : (s : Site) (e : End) → end_of s ≡ Some e → end_key e ≡ key_of s
 key_is s e is = by s.port refl is

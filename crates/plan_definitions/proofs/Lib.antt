@@ -1,5 +1,6 @@
 pub mod Lists
 pub mod Firsts
+pub mod Turns
 pub mod Keys
 pub mod Apart
 pub mod Sites

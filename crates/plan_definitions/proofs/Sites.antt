@@ -96,7 +96,7 @@ module _ (types : TypeTable) (owner : Option ℕ) where
       by None = tt
       by (Some x) = apart_positions key_of (λ n. site owner (Some k) n x.0) (λ m n same. ap (λ z. z.2) same) 0 x.1
 
-  port_is : (k : ℕ) (port : Port) (s : Site) → Among s (sites_at types owner k port) → s.port ≡ Some k
+  pub port_is : (k : ℕ) (port : Port) (s : Site) → Among s (sites_at types owner k port) → s.port ≡ Some k
   port_is k port s among = by (shape_at types owner port) among
     where
       by : (o : Option (SiteKind × ℕ)) → Among s (option_map_or (λ (x : SiteKind × ℕ). sites_with owner k x.0 x.1) o []) → s.port ≡ Some k

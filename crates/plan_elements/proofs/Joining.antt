@@ -14,7 +14,8 @@ use Rattle.plan_definitions.specs.Sites.{site}
 use Rattle.plan_definitions.specs.Things.{elements_of}
 use Rattle.plan_definitions.specs.declared.site.SiteKind.{SiteKind}
 use Rattle.plan_definitions.specs.declared.site.SiteKind.TheVariants.{Variable}
-use Rattle.plan_elements.proofs.Keys.{and_none, key_is, key_self, option_self, same_option, same_place}
+use Rattle.plan_definitions.proofs.Keys.{same_key_is, same_key_refl, same_number_refl, same_number}
+use Rattle.plan_elements.proofs.Keys.{and_none, same_place}
 use Rattle.plan_elements.proofs.Standing.{own_place}
 use Rattle.plan_elements.specs.Ends.{AreJoined, has_at, joined_at, mark_at, stands_at}
 
@@ -45,8 +46,8 @@ module _ (keys : List Key) (p : ℕ) where
     where
       by : (x : Bool) → same_key (end_key a) k ≡ x → (y : Bool) → stands_at keys a p ≡ y → y ≡ x
       by true same true at = refl
-      by true same false at = absurd (true≢false (sym (option_self (Some p)) ∙ ap (λ o. option_eq nat_eq o (Some p)) (sym (ap (λ q. position_from (same_key q) 0 keys) (key_is (end_key a) k same) ∙ found)) ∙ at))
-      by false same true at = absurd (true≢false (sym (key_self k) ∙ ap (λ q. same_key q k) (sym (same_place (end_key a) k 0 p keys (same_option (position_from (same_key (end_key a)) 0 keys) (Some p) at) found)) ∙ same))
+      by true same false at = absurd (true≢false (sym (same_number_refl (Some p)) ∙ ap (λ o. option_eq nat_eq o (Some p)) (sym (ap (λ q. position_from (same_key q) 0 keys) (same_key_is (end_key a) k same) ∙ found)) ∙ at))
+      by false same true at = absurd (true≢false (sym (same_key_refl k) ∙ ap (λ q. same_key q k) (sym (same_place (end_key a) k 0 p keys (same_number (position_from (same_key (end_key a)) 0 keys) (Some p) at) found)) ∙ same))
       by false same false at = refl
 
   any_is : (k : Key) → position_from (same_key k) 0 keys ≡ Some p → (joins : List Join) → list_any (has_at keys p) joins ≡ list_any (λ j. same_key (end_key j.provided) k || same_key (end_key j.required) k) joins

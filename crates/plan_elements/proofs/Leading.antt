@@ -18,10 +18,12 @@ use Rattle.plan_definitions.specs.Lists.{positions}
 use Rattle.plan_definitions.specs.Sites.{site}
 use Rattle.plan_definitions.specs.Things.{elements_of}
 use Rattle.plan_definitions.specs.ElementGroups.{leader_of, least, nearest, own_number}
-use Rattle.plan_elements.proofs.Keys.{and_none, key_is, key_self, position_least, same_place}
+use Rattle.plan_definitions.proofs.Keys.{same_key_is, same_key_refl}
+use Rattle.plan_elements.proofs.Keys.{and_none, position_least, same_place}
 use Rattle.plan_elements.proofs.Standing.{own_place}
 use Rattle.plan_elements.specs.Ends.{pairs_of}
 use Rattle.plan_elements.specs.Spreads.{across_pair, number_at, spread_numbers}
+use Rattle.plan_definitions.proofs.Lists.{many_positions}
 
 found_at : (o : Option ℕ) (n : ℕ) → unwrap_or o 0 ≡ suc n → o ≡ Some (suc n)
 found_at None n e = absurd (omega (arith, e))
@@ -57,11 +59,11 @@ module _ (keys : List Key) (g : ℕ → ℕ) (k : Key) where
       where
         by : (x : Bool) → same_key a k ≡ x → (y : Bool) → nat_eq (number_in keys a) (suc m) ≡ y → y ≡ x
         by true same true e = refl
-        by true same false e = absurd (true≢false (sym (eq-eqb (number_in keys a) (suc m) (ap (number_in keys) (key_is a k same) ∙ number_is)) ∙ e))
+        by true same false e = absurd (true≢false (sym (eq-eqb (number_in keys a) (suc m) (ap (number_in keys) (same_key_is a k same) ∙ number_is)) ∙ e))
         by false same true e =
             let is_a = found_at (position_from (same_key a) 0 keys) m (eqb-true (number_in keys a) (suc m) e) in
             let is_k = found_at (position_from (same_key k) 0 keys) m number_is in
-            absurd (true≢false (sym (key_self k) ∙ ap (λ q. same_key q k) (sym (same_place a k 0 (suc m) keys is_a is_k)) ∙ same))
+            absurd (true≢false (sym (same_key_refl k) ∙ ap (λ q. same_key q k) (sym (same_place a k 0 (suc m) keys is_a is_k)) ∙ same))
         by false same false e = refl
 
     side : (a b : End) → map g (cond (nat_eq (own_number keys a) (suc m)) (own_number keys b ∷ []) []) ≡ map of_end (cond (same_key (end_key a) k) (b ∷ []) [])
@@ -92,10 +94,6 @@ module _ (keys : List Key) (g : ℕ → ℕ) (k : Key) where
       by (suc m) e = ap (least (g (suc m))) (lists m e joins)
 
 -- ---- the numbers of the elements themselves
-
-positions_length : (i count : ℕ) → length (positions i count) ≡ count
-positions_length i zero = refl
-positions_length i (suc count) = ap (λ k. suc k) (positions_length (i + 1) count)
 
 own_at : (i count n : ℕ) → n < count → number_at (positions i count) n ≡ i + n
 own_at i zero n within = absurd (omega arith)
@@ -182,7 +180,7 @@ they_lead d f own near list pairs count pairs_are counted own_are long_near near
     keys = keys_of (elements_of d f)
 
     all : length list ≡ length (elements_of d f)
-    all = long ∙ long_near ∙ ap length own_are ∙ positions_length 0 count ∙ counted
+    all = long ∙ long_near ∙ ap length own_are ∙ many_positions 0 count ∙ counted
 
     as_many : length list ≡ length (leaders d f)
     as_many = all ∙ sym (length-map (elements_of d f) (leader_of f.joins keys))

@@ -33,6 +33,7 @@ use Rattle.plan_definitions.specs.Started.{event_of, events}
 use Rattle.plan_definitions.specs.Planned.{areas, areas_at, named_areas, plan_of}
 use Rattle.plan_definitions.specs.PlanRules.{is_queued, is_too_large, received, requested, things}
 use Rattle.plan_laws.specs.Sizes.{is_past, things_of, waiting_at}
+use Rattle.plan_definitions.proofs.Lists.{many_positions}
 
 -- ---- lengths
 
@@ -40,21 +41,17 @@ as_long : {X Y : Type 0} (f : X → Y) (xs : List X) → length (map f xs) ≡ l
 as_long f [] = refl
 as_long f (x ∷ xs) = ap suc (as_long f xs)
 
-so_many : (i n : ℕ) → length (positions i n) ≡ n
-so_many i zero = refl
-so_many i (suc n) = ap suc (so_many (i + 1) n)
-
 length_from : {X Y : Type 0} (g : ℕ → X → List Y) (h : X → ℕ) → ((i : ℕ) (x : X) → length (g i x) ≡ h x) → (i : ℕ) (xs : List X) → length (from i g xs) ≡ sum_by h xs
 length_from g h each i [] = refl
 length_from g h each i (x ∷ xs) = length-append (g i x) (from (i + 1) g xs) ∙ ((λ j. each i x j + length_from g h each (i + 1) xs j) ∙ sym (sum_by-cons h x xs))
 
 groups_listed : (ls : List ℕ) → length (groups ls) ≡ length (heads ls)
-groups_listed ls = as_long _ (positions 0 (length (heads ls))) ∙ so_many 0 (length (heads ls))
+groups_listed ls = as_long _ (positions 0 (length (heads ls))) ∙ many_positions 0 (length (heads ls))
 
 module _ (d : Description) (f : Flat) where
   areas_listed : length (areas d f) ≡ length (areas_of d f)
   areas_listed = length_from (λ i x. named_areas i (areas_at d x)) (λ x. length (areas_at d x)) (λ i x. as_long _ (areas_at d x)) 0 f.instances
-      ∙ sym (length_from (λ i x. numbered i (option_map_or (λ c. length c.behavior.exclusive_areas) (slice_get d.components x.component) 0)) (λ x. length (areas_at d x)) (λ i x. as_long _ (positions 0 (option_map_or (λ c. length c.behavior.exclusive_areas) (slice_get d.components x.component) 0)) ∙ (so_many 0 (option_map_or (λ c. length c.behavior.exclusive_areas) (slice_get d.components x.component) 0) ∙ by (slice_get d.components x.component))) 0 f.instances)
+      ∙ sym (length_from (λ i x. numbered i (option_map_or (λ c. length c.behavior.exclusive_areas) (slice_get d.components x.component) 0)) (λ x. length (areas_at d x)) (λ i x. as_long _ (positions 0 (option_map_or (λ c. length c.behavior.exclusive_areas) (slice_get d.components x.component) 0)) ∙ (many_positions 0 (option_map_or (λ c. length c.behavior.exclusive_areas) (slice_get d.components x.component) 0) ∙ by (slice_get d.components x.component))) 0 f.instances)
     where
       by : (o : Option Component) → option_map_or (λ c. length c.behavior.exclusive_areas) o 0 ≡ length (option_map_or (λ c. c.behavior.exclusive_areas) o [])
       by None = refl
@@ -62,7 +59,7 @@ module _ (d : Description) (f : Flat) where
 
   events_listed : length (events d f) ≡ length (events_of d f)
   events_listed = length_from (λ i x. option_map_or (λ c. map (event_of d f i) c.behavior.events) (slice_get d.components x.component) []) (λ x. option_map_or (λ c. length c.behavior.events) (slice_get d.components x.component) 0) (λ i x. by i (slice_get d.components x.component)) 0 f.instances
-      ∙ sym (length_from (λ i x. numbered i (option_map_or (λ c. length c.behavior.events) (slice_get d.components x.component) 0)) (λ x. option_map_or (λ c. length c.behavior.events) (slice_get d.components x.component) 0) (λ i x. as_long _ (positions 0 (option_map_or (λ c. length c.behavior.events) (slice_get d.components x.component) 0)) ∙ so_many 0 (option_map_or (λ c. length c.behavior.events) (slice_get d.components x.component) 0)) 0 f.instances)
+      ∙ sym (length_from (λ i x. numbered i (option_map_or (λ c. length c.behavior.events) (slice_get d.components x.component) 0)) (λ x. option_map_or (λ c. length c.behavior.events) (slice_get d.components x.component) 0) (λ i x. as_long _ (positions 0 (option_map_or (λ c. length c.behavior.events) (slice_get d.components x.component) 0)) ∙ many_positions 0 (option_map_or (λ c. length c.behavior.events) (slice_get d.components x.component) 0)) 0 f.instances)
     where
       by : (i : ℕ) (o : Option Component) → length (option_map_or (λ c. map (event_of d f i) c.behavior.events) o []) ≡ option_map_or (λ c. length c.behavior.events) o 0
       by i None = refl

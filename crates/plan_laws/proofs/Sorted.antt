@@ -11,6 +11,7 @@ use Rattle.description_types.specs.declared.flat.Flat.{Flat}
 use Rattle.description_types.specs.declared.flat.Join.{Join}
 use Rattle.description_types.specs.Flattening.{IsFlatOf}
 use Rattle.description_types.specs.Orders.{end_order, instance_order, join_order}
+use Rattle.description_stages.proofs.Limits.{later}
 
 -- ---- the order of joins has two directions
 
@@ -40,18 +41,13 @@ not_both x y p q = absurd (Greater_less (sym (join_back x y ∙ ap ordering_reve
 
 -- ---- lists with the same members
 
-less_than : (x z : Join) (ys : List Join) → AllByRecursion (λ y. join_order x y ≡ Less) ys → Among z ys → join_order x z ≡ Less
-less_than x z [] all among = absurd among
-less_than x z (y ∷ ys) all (inl is) = subst (λ w. join_order x w ≡ Less) (sym is) all.0
-less_than x z (y ∷ ys) all (inr later) = less_than x z ys all.1 later
-
 same_head : (x y : Join) (xs ys : List Join) → AllByRecursion (λ z. join_order x z ≡ Less) xs → AllByRecursion (λ z. join_order y z ≡ Less) ys → Among x (y ∷ ys) → Among y (x ∷ xs) → x ≡ y
 same_head x y xs ys a b (inl is) there = is
 same_head x y xs ys a b (inr here) (inl is) = sym is
-same_head x y xs ys a b (inr here) (inr there) = absurd (not_both x y (less_than x y xs a there) (less_than y x ys b here))
+same_head x y xs ys a b (inr here) (inr there) = absurd (not_both x y (later x y xs a there) (later y x ys b here))
 
 later_only : (x z : Join) (xs ys : List Join) → AllByRecursion (λ w. join_order x w ≡ Less) xs → Among z xs → Among z (x ∷ ys) → Among z ys
-later_only x z xs ys a among (inl is) = let less = subst (λ w. join_order x w ≡ Less) is (less_than x z xs a among) in absurd (not_both x x less less)
+later_only x z xs ys a among (inl is) = let less = subst (λ w. join_order x w ≡ Less) is (later x z xs a among) in absurd (not_both x x less less)
 later_only x z xs ys a among (inr later) = later
 
 pub sorted_once : (xs ys : List Join) → IsStrictlySortedBy join_order xs → IsStrictlySortedBy join_order ys → ((z : Join) → Among z xs → Among z ys) → ((z : Join) → Among z ys → Among z xs) → xs ≡ ys

@@ -34,7 +34,7 @@ use Rattle.plan_laws.proofs.Sorted.{flat_once}
 
 -- ---- reading is a function
 
-one_value : (bytes : List ℕ) (v w : Data) → Reads bytes v → Reads bytes w → v ≡ w
+pub one_value : (bytes : List ℕ) (v w : Data) → Reads bytes v → Reads bytes w → v ≡ w
 one_value bytes v w (_, reads) (_, again) = same_Some v w (sym reads ∙ again)
 
 one_tree : (bytes : List ℕ) (t u : DescriptionTree) → IsRead bytes t → IsRead bytes u → t ≡ u

@@ -1,9 +1,8 @@
 -- Partners of ends, and what a list says of a key, as they are looked up.
-use Rattle.std.proofs.Common.{◌≡◌, ℕ, zero, suc, ◌+◌, List, [], ◌∷◌, map, Bool, true, false, cond, ◌&&◌, nat_eq, Option, Some, None, ⊎_elim, refl, sym, ap, ◌∙◌, add-one}
+use Rattle.std.proofs.Common.{◌≡◌, ℕ, zero, suc, ◌+◌, List, [], ◌∷◌, map, Bool, true, false, cond, ◌&&◌, nat_eq, Option, Some, None, refl, sym, ap, ◌∙◌, add-one}
 use Rattle.std.specs.List.{find, position_from, slice_get}
 use Rattle.std.specs.Map.{lookup}
-use Rattle.std.specs.Option.{option_and_then, option_eq, option_map}
-use Rattle.std.proofs.lemmas.Bool.{eq-eqb, ne_eqb, cases_eq}
+use Rattle.std.specs.Option.{option_and_then, option_map}
 use Rattle.interface_types.specs.declared.interface.ComSpec.{ComSpec}
 use Rattle.description_types.specs.declared.flat.End.{End}
 use Rattle.description_types.specs.declared.flat.Join.{Join}
@@ -11,15 +10,7 @@ use Rattle.plan_definitions.specs.Joined.{provider_of, same_end}
 use Rattle.description_types.specs.declared.component.Port.{Port}
 use Rattle.plan_numbers.specs.ComSpecs.{items_of_ports, named_items}
 use Rattle.plan_numbers.specs.Ends.{EndKey, key_of, required_entry, same_end_key}
-
-pub nat_eq_sym : (a b : ℕ) → nat_eq a b ≡ nat_eq b a
-nat_eq_sym a b = ⊎_elim (λ e. eq-eqb a b e ∙ sym (eq-eqb b a (sym e))) (λ ne. ne_eqb a b ne ∙ sym (ne_eqb b a (λ e. ne (sym e)))) (cases_eq a b)
-
-pub option_eq_sym : (a b : Option ℕ) → option_eq nat_eq a b ≡ option_eq nat_eq b a
-option_eq_sym None None = refl
-option_eq_sym None (Some b) = refl
-option_eq_sym (Some a) None = refl
-option_eq_sym (Some a) (Some b) = nat_eq_sym a b
+use Rattle.plan_definitions.proofs.Keys.{nat_eq_sym, option_eq_sym}
 
 same_end_is : (a b : End) → same_end a b ≡ same_end_key (key_of b) (key_of a)
 same_end_is a b = λ j. (option_eq_sym a.instance b.instance j && nat_eq_sym a.port b.port j) && nat_eq_sym a.element b.element j

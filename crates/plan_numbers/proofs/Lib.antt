@@ -1,5 +1,4 @@
 pub mod Firsts
-pub mod Listing
 pub mod Numbering
 pub mod Finding
 pub mod Starting

@@ -26,6 +26,8 @@ use Rattle.plan_numbers.proofs.Finding.{position_next, slice_get_map}
 use Rattle.plan_numbers.proofs.Numbering.{position_within}
 use Rattle.plan_numbers.specs.Starts.{AreStarts, between, capped, capped_sums, elements_at, elements_in, elements_of_instance, elements_within, low_within, place_outside, place_within, sums, total}
 use Rattle.plan_numbers.specs.declared.starts.Starts.{Starts}
+use Rattle.plan_definitions.proofs.Lists.{many_positions}
+use Rattle.plan_definitions.proofs.Keys.{same_number_refl}
 
 -- ---- sums
 
@@ -175,23 +177,15 @@ module _ {X K : Type 0} (f : ℕ → X → List K) (size : X → ℕ) (sizes : (
 
 -- ---- the items of a port
 
-option_self : (a : Option ℕ) → option_eq nat_eq a a ≡ true
-option_self None = refl
-option_self (Some a) = eq-eqb a a refl
-
 and_false : (b : Bool) → (b && false) ≡ false
 and_false true = refl
 and_false false = refl
-
-positions_length : (i count : ℕ) → length (positions i count) ≡ count
-positions_length i zero = refl
-positions_length i (suc count) = ap (λ k. suc k) (positions_length (i + 1) count)
 
 abbrev items : (owner port : Option ℕ) → (i : ℕ) → (count : ℕ) → List Key
 items owner port i count = map (λ m. (owner, port, m)) (positions i count)
 
 items_length : (owner port : Option ℕ) (i count : ℕ) → length (items owner port i count) ≡ count
-items_length owner port i count = length-map (positions i count) (λ m. (owner, port, m)) ∙ positions_length i count
+items_length owner port i count = length-map (positions i count) (λ m. (owner, port, m)) ∙ many_positions i count
 
 no_item : (q : Key) (owner port : Option ℕ) (n i count : ℕ) → (option_eq nat_eq q.0 owner && option_eq nat_eq q.1 port) ≡ false → position_from (same_key q) n (items owner port i count) ≡ None
 no_item q owner port n i zero differ = refl
@@ -199,7 +193,7 @@ no_item q owner port n i (suc count) differ = ap (λ b. cond (b && nat_eq q.2 i)
 
 module _ (owner port : Option ℕ) (m : ℕ) where
   here_is : (i : ℕ) → same_key (owner, port, m) (owner, port, i) ≡ nat_eq m i
-  here_is i = λ j. (option_self owner j && option_self port j) && nat_eq m i
+  here_is i = λ j. (same_number_refl owner j && same_number_refl port j) && nat_eq m i
 
   item_in : (n i k count : ℕ) → m ≡ i + k → k < count → position_from (same_key (owner, port, m)) n (items owner port i count) ≡ Some (n + k)
   item_in n i k zero is within = absurd (omega (arith, within))

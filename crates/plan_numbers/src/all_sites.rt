@@ -71,7 +71,7 @@ fn push_item(
     Ok(())
 }
 
-#[tactic(auto, using(crate::proofs::Listing::none_more))]
+#[tactic(auto, using(plan_definitions::proofs::Turns::none_more))]
 fn push_sites(
     list: &mut Vec<Site>,
     owner: Option<u32>,
@@ -132,7 +132,7 @@ fn push_ports(
     Ok(())
 }
 
-#[tactic(auto, using(crate::proofs::Listing::none_more))]
+#[tactic(auto, using(plan_definitions::proofs::Turns::none_more))]
 fn push_variables(list: &mut Vec<Site>, instance: u32, count: u32) -> Result<(), Memory>
     ensures { OnOk result (list.new.items ≡ list.old.items ++ variables_of instance count) }
 {

@@ -38,7 +38,7 @@ fn push_pair(list: &mut Vec<Pair>, instance: usize, number: usize) -> Result<(),
     Ok(())
 }
 
-#[tactic(auto, using(crate::proofs::Listing::none_more))]
+#[tactic(auto, using(plan_definitions::proofs::Turns::none_more))]
 fn push_numbered(list: &mut Vec<Pair>, instance: usize, count: usize) -> Result<(), Memory>
     ensures { OnOk result (list.new.items ≡ list.old.items ++ numbered instance count) }
 {

@@ -1,4 +1,3 @@
-pub mod Listing
 pub mod Pointing
 pub mod Invoking
 pub mod Using

@@ -1,15 +1,12 @@
 -- The points of calls, as they are looked up.
-use Rattle.std.proofs.Common.{◌≡◌, ℕ, ◌+◌, List, [], ◌∷◌, map, Bool, true, false, cond, ◌&&◌, nat_eq, Option, Some, None, ⊎_elim, refl, sym, ap, ◌∙◌}
+use Rattle.std.proofs.Common.{◌≡◌, ℕ, ◌+◌, List, [], ◌∷◌, map, Bool, true, false, cond, ◌&&◌, nat_eq, Option, Some, None, refl, ap, ◌∙◌}
 use Rattle.std.specs.List.{position_from}
 use Rattle.std.specs.Option.{option_eq, option_map, option_map_or, unwrap_or}
-use Rattle.std.proofs.lemmas.Bool.{eq-eqb, ne_eqb, cases_eq}
 use Rattle.std.proofs.Math.Bool.{and_assoc}
 use Rattle.plan_definitions.specs.Keys.{same_pair}
 use Rattle.plan_definitions.specs.declared.calling.Calling.{Calling}
 use Rattle.plan_definitions.specs.Callings.{call_key, first_calling, is_calling, leaves, left_key}
-
-pub nat_eq_sym : (a b : ℕ) → nat_eq a b ≡ nat_eq b a
-nat_eq_sym a b = ⊎_elim (λ e. eq-eqb a b e ∙ sym (eq-eqb b a (sym e))) (λ ne. ne_eqb a b ne ∙ sym (ne_eqb b a (λ e. ne (sym e)))) (cases_eq a b)
+use Rattle.plan_definitions.proofs.Keys.{nat_eq_sym}
 
 -- the position of a key is that of the first thing that has it
 pub position_map : {X K : Type 0} (key : X → K) (test : K → Bool) (passes : X → Bool) → ((x : X) → test (key x) ≡ passes x) → (n : ℕ) (xs : List X)

@@ -1,16 +1,13 @@
 -- The operation that a runnable serves, as it is looked up.
-use Rattle.std.proofs.Common.{◌≡◌, ℕ, List, [], ◌∷◌, ◌++◌, Bool, true, false, cond, nat_eq, Option, Some, None, ⊎_elim, refl, sym, ap, ◌∙◌}
+use Rattle.std.proofs.Common.{◌≡◌, ℕ, List, [], ◌∷◌, ◌++◌, Bool, true, false, cond, nat_eq, Option, Some, None, refl, ap, ◌∙◌}
 use Rattle.std.specs.List.{flat_map}
 use Rattle.std.specs.Map.{lookup}
 use Rattle.std.specs.Option.{option_map_or}
-use Rattle.std.proofs.lemmas.Bool.{eq-eqb, ne_eqb, cases_eq}
 use Rattle.description_types.specs.declared.component.Event.{Event}
 use Rattle.plan_definitions.specs.Invoked.{invoked_by}
 use Rattle.plan_services.specs.Served.{Served, served_entry}
 use Rattle.plan_definitions.specs.Started.{served_by, serves}
-
-nat_eq_sym : (a b : ℕ) → nat_eq a b ≡ nat_eq b a
-nat_eq_sym a b = ⊎_elim (λ e. eq-eqb a b e ∙ sym (eq-eqb b a (sym e))) (λ ne. ne_eqb a b ne ∙ sym (ne_eqb b a (λ e. ne (sym e)))) (cases_eq a b)
+use Rattle.plan_definitions.proofs.Keys.{nat_eq_sym}
 
 none_more : (b : Bool) (rest : Option Served) → rest ≡ option_map_or (λ x. Some x) (cond b None None) rest
 none_more true rest = refl

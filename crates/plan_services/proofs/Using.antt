@@ -6,7 +6,7 @@ use Rattle.description_types.specs.declared.flat.Flat.{Flat}
 use Rattle.plan_definitions.specs.declared.site.Site.{Site}
 use Rattle.indexmap.specs.IndexSet.{contains}
 use Rattle.plan_definitions.specs.Things.{mode_ports_of}
-use Rattle.plan_services.proofs.Pointing.{nat_eq_sym}
+use Rattle.plan_definitions.proofs.Keys.{nat_eq_sym}
 use Rattle.plan_services.specs.declared.users.Users.{Users}
 use Rattle.plan_definitions.specs.Modes.{is_user, machine_required, refuses_asynchronous, supports_asynchronous, waits_of}
 use Rattle.plan_services.specs.Users.{AreUsers, is_refusal, is_use}

@@ -63,7 +63,7 @@ fn push_runnable(
     push_calls(list, instance, position(number), runnable.accesses.items())
 }
 
-#[tactic(auto, using(crate::proofs::Listing::from_more, crate::proofs::Listing::from_none))]
+#[tactic(auto, using(plan_definitions::proofs::Turns::from_more, plan_definitions::proofs::Turns::from_none))]
 fn push_runnables(
     list: &mut Vec<Calling>,
     instance: u32,
@@ -103,7 +103,7 @@ fn push_instance(
     }
 }
 
-#[tactic(auto, using(crate::proofs::Listing::from_more, crate::proofs::Listing::from_none))]
+#[tactic(auto, using(plan_definitions::proofs::Turns::from_more, plan_definitions::proofs::Turns::from_none))]
 fn push_instances(
     list: &mut Vec<Calling>,
     d: &Description,
@@ -149,7 +149,7 @@ fn push_outer_call(list: &mut Vec<Calling>, port: u32, item: u32) -> Result<(), 
     Ok(())
 }
 
-#[tactic(auto, using(crate::proofs::Listing::none_more))]
+#[tactic(auto, using(plan_definitions::proofs::Turns::none_more))]
 fn push_outer_calls(list: &mut Vec<Calling>, port: u32, count: u32) -> Result<(), Memory>
     ensures { OnOk result (list.new.items ≡ list.old.items ++ map (outer_calling port) (positions 0 count)) }
 {

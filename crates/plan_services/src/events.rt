@@ -96,7 +96,7 @@ fn push_instance(
     }
 }
 
-#[tactic(auto, using(crate::proofs::Listing::from_more, crate::proofs::Listing::from_none))]
+#[tactic(auto, using(plan_definitions::proofs::Turns::from_more, plan_definitions::proofs::Turns::from_none))]
 fn push_instances(
     list: &mut Vec<EventPlan>,
     alloc: Global,

@@ -64,7 +64,7 @@ fn events_of<'a, 'b>(lists: &'b [Vec<&'a MappedEvent>], task: usize) -> &'b [&'a
     lists[task].as_slice()
 }
 
-#[tactic(auto, using(plan_numbers::proofs::Listing::from_more, plan_numbers::proofs::Listing::from_none))]
+#[tactic(auto, using(plan_definitions::proofs::Turns::from_more, plan_definitions::proofs::Turns::from_none))]
 fn add_tasks(alloc: Global, d: &Description, text: &mut Vec<u8>) -> Result<(), Memory>
     ensures { OnOk result (text.new.items ≡ text.old.items ++ tasks_text d.now) }
 {

@@ -1,8 +1,7 @@
 -- The description of `soak N` breaks no rule.
 use Rattle.std.proofs.Common.{◌≡◌, ◌≤◌, ℕ, List, ◌++◌, inl, inr, ⊎_elim, Some, None, refl, sym, ap, subst, ◌∙◌, if◌then◌else◌}
 use Rattle.std.specs.Option.{option_or}
-use Rattle.std.proofs.lemmas.Option.{none-some, same_Some}
-use Rattle.serde_json.specs.Data.{Data}
+use Rattle.std.proofs.lemmas.Option.{none-some}
 use Rattle.rte_text.specs.declared.refusal.Refusal.{Refusal}
 use Rattle.rte_text.specs.declared.refusal.Refused.TheVariants.{Rule}
 use Rattle.description_types.specs.declared.description.Description.{Description}
@@ -21,7 +20,7 @@ use Rattle.description_types.specs.Flattening as flattening
 use Rattle.description_types.specs.Members.{Among}
 use Rattle.plan_definitions.specs.JoinRefusals as joins
 use Rattle.plan_definitions.specs.MappingRefusals as mapping
-use Rattle.plan_definitions.specs.MappingRefusals.{IsAfter, IsOfTasks, mapping_text, of_events}
+use Rattle.plan_definitions.specs.MappingRefusals.{IsAfter, IsOfTasks, mapping_text}
 use Rattle.plan_definitions.specs.PlanRefusals.{IsOfLists, IsOfSize, IsRefusal, IsThen}
 use Rattle.description_stages.specs.Plans.{IsPlanRefusalOf}
 use Rattle.plan_laws.proofs.Sizes.{plan_counts}
@@ -38,6 +37,7 @@ use Rattle.soak_laws.proofs.References.{references}
 use Rattle.soak_laws.proofs.Shapes.{names, none_passes, shapes, unbroken}
 use Rattle.soak_laws.proofs.Sizes.{small}
 use Rattle.soak_laws.proofs.Soaked.{soak_tree, soaked}
+use Rattle.plan_laws.proofs.Whole.{one_value}
 
 -- ---- rules 1 to 8
 
@@ -107,9 +107,6 @@ module _ (n : ℕ) (few : n ≤ 64) (d : Description) (is : IsSoaked n d) where
       no_mapping_refusal f.joins (all_joins f here) x (subst (λ g. IsRefusal (soaked n p q s) g (Some x)) (as_flat f here) (subst (λ e. IsRefusal e f (Some x)) is.is refused))
 
 -- ---- the law
-
-one_value : (bytes : List ℕ) (v w : Data) → Reads bytes v → Reads bytes w → v ≡ w
-one_value bytes v w (utf8, reads) (also, again) = same_Some v w (sym reads ∙ again)
 
 soaked_is : (n : ℕ) → n ≤ 64 → (bytes : List ℕ) → Reads bytes (soak_value n) → (d : Description) → IsRead bytes (description_of d) → IsSoaked n d
 soaked_is n few bytes reads d read = soaked_back n d (read.is_reading ∙ (ap reading (one_value bytes read.value (soak_value n) read.reads reads) ∙ reading_is n few))

@@ -5,9 +5,9 @@ use Rattle.std.specs.List.{list_any}
 use Rattle.bus_semantics.specs.SoundNames.{Named, same_named, named_once}
 use Rattle.bus_semantics.specs.SoundPlan.{same_numbers}
 use Rattle.plan_definitions.proofs.Lists.{same_numbers_is, same_numbers_refl, cases, at as get_among}
-use Rattle.sound_plans.proofs.Lists.{filtered, mapped, map_has, none_from, any_has, piece, position_in}
+use Rattle.sound_plans.proofs.Lists.{filtered, mapped, map_has, none_from, any_has, piece}
 use Rattle.description_types.specs.Members.{Among, AllApart}
-use Rattle.plan_definitions.specs.Lists.{from, positions}
+use Rattle.plan_definitions.specs.Lists.{from}
 use Rattle.plan_definitions.specs.WellFormed.{distinct}
 
 module _ {X : Type 0} where
@@ -42,10 +42,6 @@ apart_finer g f (x ∷ xs) finer apart = (
   (λ h. let r = mapped f (f x) xs h in apart.0 (subst (λ w. Among w (map g xs)) (sym (finer x r.0 r.2)) (map_has g r.0 xs r.1))),
   apart_finer g f xs finer apart.1,
 )
-
-pub apart_positions : (i n : ℕ) → AllApart (positions i n)
-apart_positions i zero = tt
-apart_positions i (suc n) = ((λ h. let r = position_in i (i + 1) n h in let low = r.0 in omega arith), apart_positions (i + 1) n)
 
 -- pieces of which each has a number
 module _ {X Y : Type 0} (number : Y → ℕ) (f : ℕ → X → List Y) where

@@ -23,7 +23,7 @@ use Rattle.bus_semantics.specs.Plan.{Runnable, instance_of}
 use Rattle.bus_semantics.specs.SoundNames.{Named, named_once}
 use Rattle.bus_semantics.specs.SoundPlan.{rank}
 use Rattle.plan_definitions.specs.declared.site.Site.{Site}
-use Rattle.plan_definitions.specs.Keys.{is_element, is_machine, is_mode_port, is_server, of_kind}
+use Rattle.plan_definitions.specs.Keys.{is_element, is_machine, is_mode_port, is_server, key_of, of_kind}
 use Rattle.plan_definitions.specs.Lists.{from}
 use Rattle.plan_definitions.specs.Sites.{sites}
 use Rattle.plan_definitions.specs.Elements.{Elem, elem_seen, element_of, group_of}
@@ -46,7 +46,8 @@ use Rattle.sound_plans.proofs.Paths.{names_apart}
 use Rattle.sound_plans.proofs.SameNames.{same_rank, same_site, same_text}
 use Rattle.sound_plans.proofs.Seen.{elements_are, servers_are, areas_are, machines_are, mode_ports_are, events_are, runnables_are}
 use Rattle.sound_plans.proofs.Sites.{site_is}
-use Rattle.sound_plans.proofs.SitesApart.{sites_apart}
+use Rattle.plan_definitions.proofs.Apart.{items_apart}
+use Rattle.plan_definitions.proofs.Sites.{sites_apart}
 use Rattle.sound_plans.proofs.Things.{machine_name, machine_site, mode_port_name, mode_port_site, server_name, server_owner, server_site}
 
 abbrev plan_named : Runnable → Named
@@ -77,7 +78,7 @@ module _ (d : Description) (f : Flat) (whole : IsWellFormed d) (p : BusPlan) (is
       same_site d f whole s t (site_is d f s at_s.0) (site_is d f t at_t.0)
       (same_rank d f whole p is s.owner t.owner (site_owns d f s at_s.0) (site_owns d f t at_t.0) (ap (λ (n : Named). n.0) same))
       (ap (λ (n : Named). n.1) same))
-      (apart_filter (λ (s : Site). is_element s.kind) (sites d f) (sites_apart d f)))
+      (apart_filter (λ (s : Site). is_element s.kind) (sites d f) (items_apart key_of (sites d f) (sites_apart d f))))
 
   pub servers_once : named_once (map (λ (s : ServerPlan). (s.instance, s.name)) p.servers) ≡ true
   servers_once =
@@ -93,7 +94,7 @@ module _ (d : Description) (f : Flat) (whole : IsWellFormed d) (p : BusPlan) (is
       same_text d f whole s t x.item y.item
       (sym (server_owner d f s x) ∙ ap (λ (n : Named). Some n.0) same ∙ server_owner d f t y)
       (sym (server_name d f s x) ∙ ap (λ (n : Named). n.1) same ∙ server_name d f t y))
-      (apart_filter (λ (s : Site). is_server s.kind) (sites d f) (sites_apart d f)))
+      (apart_filter (λ (s : Site). is_server s.kind) (sites d f) (items_apart key_of (sites d f) (sites_apart d f))))
 
   pub machines_once : named_once (map (λ (n : MachinePlan). (rank (bus.plan_of p) n.instance, n.name)) p.machines) ≡ true
   machines_once =
@@ -112,7 +113,7 @@ module _ (d : Description) (f : Flat) (whole : IsWellFormed d) (p : BusPlan) (is
       same_text d f whole s t x.item y.item
       (same_rank d f whole p is s.owner t.owner own_s own_t (ap (λ (n : Named). n.0) same))
       (sym (machine_name d f s x) ∙ ap (λ (n : Named). n.1) same ∙ machine_name d f t y))
-      (apart_filter (λ (s : Site). is_machine s.kind) (sites d f) (sites_apart d f)))
+      (apart_filter (λ (s : Site). is_machine s.kind) (sites d f) (items_apart key_of (sites d f) (sites_apart d f))))
 
   pub mode_ports_once : named_once (map (λ (t : ModePortPlan). (rank (bus.plan_of p) t.instance, t.name)) p.mode_ports) ≡ true
   mode_ports_once =
@@ -131,7 +132,7 @@ module _ (d : Description) (f : Flat) (whole : IsWellFormed d) (p : BusPlan) (is
       same_text d f whole s t x.item y.item
       (same_rank d f whole p is s.owner t.owner (site_owns d f s at_s) (site_owns d f t at_t) (ap (λ (n : Named). n.0) same))
       (sym (mode_port_name d f s x) ∙ ap (λ (n : Named). n.1) same ∙ mode_port_name d f t y))
-      (apart_filter (has_machine f.joins) (of_kind is_mode_port d f) (apart_filter (λ (s : Site). is_mode_port s.kind) (sites d f) (sites_apart d f))))
+      (apart_filter (has_machine f.joins) (of_kind is_mode_port d f) (apart_filter (λ (s : Site). is_mode_port s.kind) (sites d f) (items_apart key_of (sites d f) (sites_apart d f)))))
 
   pub modes_once : list_all (λ (n : MachinePlan). named_once (map (λ t. (0, t)) n.modes)) p.machines ≡ true
   modes_once =

@@ -17,7 +17,6 @@ mod Paths
 mod Variables
 mod Things
 mod NamesFit
-mod SitesApart
 mod SameNames
 mod Distinct
 mod PortUses

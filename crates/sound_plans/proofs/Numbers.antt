@@ -1,6 +1,6 @@
 -- Numbers of pairs and keys, and what stands at them.
-use Rattle.std.proofs.Common.{◌≡◌, ℕ, ◌+◌, ◌<◌, List, [], ◌∷◌, length, map, slice_get, true, ◌&&◌, nat_eq, Option, Some, None, refl, sym, ap, subst, ◌∙◌, arith}
-use Rattle.std.proofs.lemmas.Bool.{and_parts, and_from, eqb-true, eq-eqb}
+use Rattle.std.proofs.Common.{◌≡◌, ℕ, ◌+◌, ◌<◌, List, [], ◌∷◌, length, map, slice_get, ◌&&◌, nat_eq, Option, Some, None, refl, sym, ap, subst, ◌∙◌, arith}
+use Rattle.std.proofs.lemmas.Bool.{and_from, eq-eqb}
 use Rattle.std.proofs.lemmas.Option.{slice_get-map, slice_get_within}
 use Rattle.std.specs.Option.{option_map, option_map_or, option_eq, unwrap_or}
 use Rattle.description_types.specs.declared.component.Component.{Component}
@@ -14,17 +14,10 @@ use Rattle.plan_definitions.specs.Keys.{Key, same_key, number_in, same_pair, pai
 use Rattle.plan_definitions.specs.Lists.{positions, from}
 use Rattle.plan_definitions.specs.Parts.{of_instances, numbered, runnables_of}
 use Rattle.plan_definitions.specs.Started.{runnable_of, runnables_of_component, runnables}
-use Rattle.plan_definitions.proofs.Keys.{same_number_refl}
+use Rattle.plan_definitions.proofs.Keys.{same_number_refl, same_pair_is}
 use Rattle.plan_definitions.proofs.Lists.{map_from, get_map as unmap}
 use Rattle.sound_plans.proofs.Lists.{position_found, pieces, in_pieces, map_has, in_positions, from_same}
 use Rattle.sound_plans.proofs.Sites.{ComponentAt}
-
-pair_is : (a b : ℕ × ℕ) → same_pair a b ≡ true → a ≡ b
-pair_is a b h =
-    let p = and_parts (nat_eq a.0 b.0) (nat_eq a.1 b.1) h in
-    let first : a.0 ≡ b.0 = eqb-true a.0 b.0 p.0 in
-    let second : a.1 ≡ b.1 = eqb-true a.1 b.1 p.1 in
-    (λ i. (first i, second i))
 
 -- at the number of a pair that is among them stands this pair
 pub pair_at : (pairs : List (ℕ × ℕ)) (x : ℕ × ℕ) → Among x pairs → slice_get pairs (pair_number pairs x) ≡ Some x
@@ -32,7 +25,7 @@ pair_at pairs x h =
     let r = position_found (same_pair x) 0 x pairs h (and_from (nat_eq x.0 x.0) (nat_eq x.1 x.1) (eq-eqb x.0 x.0 refl) (eq-eqb x.1 x.1 refl)) in
     let e : 0 + r.0 ≡ r.0 = omega arith in
     let number : pair_number pairs x ≡ r.0 = ap (λ o. unwrap_or o 0) r.2 ∙ e in
-    ap (slice_get pairs) number ∙ r.3 ∙ ap (λ z. Some z) (sym (pair_is x r.1 r.4))
+    ap (slice_get pairs) number ∙ r.3 ∙ ap (λ z. Some z) (sym (same_pair_is x r.1 r.4))
 
 -- the number of a key that is among them is one of theirs
 pub key_below : (keys : List Key) (k : Key) → Among k keys → number_in keys k < length keys

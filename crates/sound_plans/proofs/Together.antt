@@ -39,7 +39,7 @@ use Rattle.sound_plans.proofs.PortUses.{item_port}
 use Rattle.sound_plans.proofs.SameNames.{place_of}
 use Rattle.sound_plans.proofs.Seen.{elements_are, names_count}
 use Rattle.sound_plans.proofs.Sites.{ComponentAt, ItemAt, of_instance, port_item, ports_are}
-use Rattle.sound_plans.proofs.SitesApart.{at_port}
+use Rattle.plan_definitions.proofs.Sites.{port_is}
 use Rattle.sound_plans.proofs.Variables.{no_port_is, variable_is, variable_kind}
 
 -- ---- lists in which equal names stand side by side
@@ -159,7 +159,7 @@ module _ (d : Description) (f : Flat) (whole : IsWellFormed d) (p : BusPlan) (is
         let s = named_site n (sites_at d.types owner k port) h in
         let r = port_item d f owner ports s.0 are (in_pieces (sites_at d.types owner) ports k port s.0 at s.1) in
         let item : ItemAt d f s.0 = r.1 in
-        let numbers : Some item.k ≡ Some k = sym item.is_port ∙ at_port d.types owner k port s.0 s.1 in
+        let numbers : Some item.k ≡ Some k = sym item.is_port ∙ port_is d.types owner k port s.0 s.1 in
         let number : item.k ≡ k = cc in
         let there : Some item.here.port ≡ Some port = sym item.here.at_port ∙ (λ j. slice_get (ports_of d f (r.0 j)) (number j)) ∙ ap (λ l. slice_get l k) are ∙ at in
         let same : item.here.port ≡ port = cc in

@@ -5,8 +5,9 @@ use Rattle.plan_definitions.specs.declared.part.Part.TheVariants.{Events}
 use Rattle.plan_definitions.specs.Parts.{events_of}
 use Rattle.plan_definitions.specs.PlanRefusals.{IsOfLists, IsOfSize, IsThen}
 use Rattle.plan_definitions.specs.Tasks.{mapping_of}
-use Rattle.event_mapping.proofs.Telling.{moved, still_tells}
+use Rattle.event_mapping.proofs.Telling.{still_tells}
 use Rattle.event_mapping.proofs.check.listed.Goals as goal
+use Rattle.mapping_rules.proofs.Telling.{moved}
 
 pub list_mapping-requires : goal.list_mapping-requires
 list_mapping-requires c = moved (λ d f. length (events_of d f) < 2 ^ 32) c.args.d.now c.args.kept.d.now c.args.f.now c.args.kept.f.now (sym c.requires.description) (sym c.requires.flat)

@@ -2,8 +2,8 @@ use Rattle.std.proofs.Common.{◌≡◌, IfOk}
 use Rattle.plan_definitions.specs.MappingRefusals.{Tells}
 use Rattle.plan_definitions.specs.Planned.{plan_of, seen}
 use Rattle.plan_definitions.specs.PlanRefusals.{IsOfLists, IsOfSize, IsThen}
-use Rattle.event_mapping.proofs.Telling.{moved}
 use Rattle.event_mapping.proofs.check.sized_plan.Goals as goal
+use Rattle.mapping_rules.proofs.Telling.{moved}
 
 pub returns : goal.returns
 returns c = record {

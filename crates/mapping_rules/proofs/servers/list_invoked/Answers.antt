@@ -1,5 +1,5 @@
 use Rattle.mapping_rules.specs.Listed.{invoked_at}
-use Rattle.mapping_rules.proofs.Listing.{from_added, from_all}
+use Rattle.plan_definitions.proofs.Turns.{from_added, from_all}
 use Rattle.mapping_rules.proofs.servers.list_invoked.Goals as goal
 
 pub loop-number-preserved : goal.loop-number-preserved

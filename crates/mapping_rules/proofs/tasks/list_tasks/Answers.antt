@@ -1,6 +1,6 @@
 use Rattle.std.proofs.Common.{[], ◌∷◌}
 use Rattle.mapping_rules.specs.Placing.{task_with}
-use Rattle.mapping_rules.proofs.Listing.{from_added, from_all}
+use Rattle.plan_definitions.proofs.Turns.{from_added, from_all}
 use Rattle.mapping_rules.proofs.tasks.list_tasks.Goals as goal
 
 pub loop-number-preserved : goal.loop-number-preserved

@@ -2,7 +2,7 @@ use Rattle.std.proofs.Common.{[], sym, ap, ◌∙◌}
 use Rattle.std.specs.Option.{option_map_or}
 use Rattle.plan_definitions.specs.Sites.{sites_with}
 use Rattle.plan_numbers.proofs.Few.{few_at}
-use Rattle.plan_numbers.proofs.Listing.{nothing}
+use Rattle.plan_definitions.proofs.Turns.{nothing}
 use Rattle.plan_numbers.proofs.all_sites.push_at.Goals as goal
 
 pub returns-in-None : goal.returns-in-None

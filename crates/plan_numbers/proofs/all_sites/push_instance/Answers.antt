@@ -1,7 +1,7 @@
 use Rattle.std.proofs.Common.{[], sym, ap, ◌∙◌, option_copied}
 use Rattle.std.specs.Option.{option_map_or}
 use Rattle.plan_definitions.specs.Sites.{sites_of_component}
-use Rattle.plan_numbers.proofs.Listing.{nothing}
+use Rattle.plan_definitions.proofs.Turns.{nothing}
 use Rattle.plan_numbers.proofs.all_sites.push_instance.Goals as goal
 
 pub returns-in-None : goal.returns-in-None

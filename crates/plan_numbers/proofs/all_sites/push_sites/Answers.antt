@@ -1,6 +1,6 @@
 use Rattle.std.proofs.Common.{Some}
 use Rattle.plan_definitions.specs.Sites.{site}
-use Rattle.plan_numbers.proofs.Listing.{one_more}
+use Rattle.plan_definitions.proofs.Turns.{one_more}
 use Rattle.plan_numbers.proofs.all_sites.push_sites.Goals as goal
 
 pub loop-item-preserved : goal.loop-item-preserved

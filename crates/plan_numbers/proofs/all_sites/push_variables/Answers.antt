@@ -1,7 +1,7 @@
 use Rattle.std.proofs.Common.{Some, None}
 use Rattle.plan_definitions.specs.declared.site.SiteKind.TheVariants.{Variable}
 use Rattle.plan_definitions.specs.Sites.{site}
-use Rattle.plan_numbers.proofs.Listing.{one_more}
+use Rattle.plan_definitions.proofs.Turns.{one_more}
 use Rattle.plan_numbers.proofs.all_sites.push_variables.Goals as goal
 
 pub loop-item-preserved : goal.loop-item-preserved

@@ -1,5 +1,5 @@
 use Rattle.std.proofs.Common.{ℕ}
-use Rattle.plan_numbers.proofs.Listing.{one_more}
+use Rattle.plan_definitions.proofs.Turns.{one_more}
 use Rattle.plan_numbers.proofs.parts.push_numbered.Goals as goal
 
 pub loop-number-preserved : goal.loop-number-preserved

@@ -1,5 +1,5 @@
 use Rattle.plan_definitions.specs.Callings.{outer_calling}
-use Rattle.plan_services.proofs.Listing.{one_more}
+use Rattle.plan_definitions.proofs.Turns.{one_more}
 use Rattle.plan_services.proofs.callings.push_outer_calls.Goals as goal
 
 pub loop-item-preserved : goal.loop-item-preserved

@@ -1,5 +1,5 @@
 use Rattle.plan_definitions.specs.Callings.{outer_callings}
-use Rattle.plan_services.proofs.Listing.{from_added, from_all}
+use Rattle.plan_definitions.proofs.Turns.{from_added, from_all}
 use Rattle.plan_services.proofs.callings.push_outer_ports.Goals as goal
 
 pub loop-number-preserved : goal.loop-number-preserved

@@ -2,7 +2,7 @@ use Rattle.std.proofs.Common.{[], ◌∷◌, Some, sym, ap, ◌∙◌}
 use Rattle.std.proofs.lemmas.Option.{slice_get-get_or}
 use Rattle.plan_definitions.specs.Started.{runnable_of}
 use Rattle.plan_services.specs.Shared.{accesses_of, signature_in}
-use Rattle.plan_services.proofs.Listing.{from_added, from_all}
+use Rattle.plan_definitions.proofs.Turns.{from_added, from_all}
 use Rattle.plan_services.proofs.Sharing.{at_place, within}
 use Rattle.plan_services.proofs.runnables.push_runnables.Goals as goal
 
