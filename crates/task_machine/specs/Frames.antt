@@ -70,6 +70,10 @@ pub record IsMadeFor (t : TaskSet) (f : Standing) : Type 0 where
   pub fetched : most (λ (b : Body). b.fetched) t.bodies ≤ f.room.fetched
   pub written : most (λ (b : Body). b.written) t.bodies ≤ f.room.written
 
+-- what the activation asks where it stands; none where it is over
+abbrev pub wanted_here : TaskSet → Standing → Option Wanted
+wanted_here t f = wanted_at (code_of t f.key.runnable) f.event f.at
+
 -- what an answer of `next_call` asks
 abbrev pub wanted_in : Next → Option Wanted
 wanted_in (Call w) = Some (wanted_of w)

@@ -1,18 +1,18 @@
 //! Frames, which run bodies.
 
-ghost use Rattle.std.specs.Prelude.{◌≡◌, ◌++◌, ◌∷◌, [], List, length, get_or, pos, slice_get, IfOk};
+ghost use Rattle.std.specs.Prelude.{◌≡◌, ◌++◌, ◌∷◌, [], List, length, get_or, pos, Some, None, slice_get, IfOk, MatchOption};
 ghost use Rattle.std.specs.Option.{option_copied};
 ghost use Rattle.rte_value.specs.declared.kinds.ActKey.{ActKey};
 ghost use Rattle.bus_semantics.specs.declared.entries.Deed.{Deed};
 ghost use Rattle.bus_semantics.specs.Activations.{declared_code, results};
-ghost use Rattle.bus_semantics.specs.Wanted.{wanted_of, to_write, to_send, to_ask, to_publish, to_publish_all, to_return};
+ghost use Rattle.bus_semantics.specs.Wanted.{wanted_of, to_write, to_send, to_ask, to_switch, to_publish, to_publish_all, to_return};
 ghost use Rattle.task_machine.specs.declared.instr.Body.{Body};
 ghost use Rattle.task_machine.specs.Instructions.{requested};
 ghost use Rattle.task_machine.specs.Spots.{store_of};
 ghost use Rattle.task_machine.specs.Store.{written_in, words_or_none};
 ghost use Rattle.task_machine.specs.Listed.{marks_of, words_written};
 ghost use Rattle.task_machine.specs.Words.{words_given};
-ghost use Rattle.task_machine.specs.Frames.{event_in, words_started, first_place, most, asks, Stands, IsMadeFor, wanted_in};
+ghost use Rattle.task_machine.specs.Frames.{event_in, words_started, first_place, most, asks, Stands, IsMadeFor, wanted_here, wanted_in};
 
 use crate::Memory;
 use crate::given::Given;
@@ -21,7 +21,7 @@ use crate::place::Place;
 use crate::returned::Returned;
 use crate::store::Store;
 use bus_semantics::{Deed, Wish};
-use rte_value::{ActKey, Word};
+use rte_value::{ActKey, Value, Word};
 use std::alloc::Global;
 use std::marker::Model;
 
@@ -137,100 +137,114 @@ fn body_of(t: &TaskSet, runnable: u32) -> Option<&Body>
     t.bodies.items().get(runnable as usize)
 }
 
-/// What a write asks. As each wish with a value it is made in a function of its own: the room of a value is cleared where a
-/// function begins, so in `wish_of` it would be for a call without one too.
-fn write_of(elem: u32, given: &Given, vars: &[Word]) -> Wish
-    ensures { wanted_of result ≡ to_write elem (words_given vars.now given.now.words.items) }
+/// What a write of one word asks. What every call does next is made in a function of its own that is written into `next_call`, if it
+/// has a value: the room of a value is cleared where a function begins, so in `next_call` it would be for a call without one too.
+#[inline(always)]
+fn write_word(elem: u32, word: Word) -> Next
+    ensures { wanted_in result ≡ Some (to_write elem (word ∷ [])) }
 {
-    Wish::Write {
+    Next::Call(Wish::Write {
+        elem,
+        value: Value::of_word(word),
+    })
+}
+
+/// What a send of one word asks.
+#[inline(always)]
+fn send_word(elem: u32, word: Word) -> Next
+    ensures { wanted_in result ≡ Some (to_send elem (word ∷ [])) }
+{
+    Next::Call(Wish::Send {
+        elem,
+        value: Value::of_word(word),
+    })
+}
+
+/// What a call of an operation with one argument asks.
+#[inline(always)]
+fn ask_word(point: u32, word: Word) -> Next
+    ensures { wanted_in result ≡ Some (to_ask point (word ∷ [])) }
+{
+    Next::Call(Wish::Ask {
+        point,
+        value: Value::of_word(word),
+    })
+}
+
+/// What a write asks.
+#[inline(always)]
+fn write_of(elem: u32, given: &Given, vars: &[Word]) -> Next
+    ensures { wanted_in result ≡ Some (to_write elem (words_given vars.now given.now.words.items)) }
+{
+    Next::Call(Wish::Write {
         elem,
         value: given.value(vars),
-    }
+    })
 }
 
 /// What a send asks.
-fn send_of(elem: u32, given: &Given, vars: &[Word]) -> Wish
-    ensures { wanted_of result ≡ to_send elem (words_given vars.now given.now.words.items) }
+#[inline(always)]
+fn send_of(elem: u32, given: &Given, vars: &[Word]) -> Next
+    ensures { wanted_in result ≡ Some (to_send elem (words_given vars.now given.now.words.items)) }
 {
-    Wish::Send {
+    Next::Call(Wish::Send {
         elem,
         value: given.value(vars),
-    }
+    })
 }
 
 /// What a call of an operation asks.
-fn ask_of(point: u32, given: &Given, vars: &[Word]) -> Wish
-    ensures { wanted_of result ≡ to_ask point (words_given vars.now given.now.words.items) }
+#[inline(always)]
+fn ask_of(point: u32, given: &Given, vars: &[Word]) -> Next
+    ensures { wanted_in result ≡ Some (to_ask point (words_given vars.now given.now.words.items)) }
 {
-    Wish::Ask {
+    Next::Call(Wish::Ask {
         point,
         value: given.value(vars),
-    }
+    })
+}
+
+/// What a switch asks.
+#[inline(always)]
+fn switch_of(machine: u32, mode: u32) -> Next
+    ensures { wanted_in result ≡ Some (to_switch machine mode) }
+{
+    Next::Call(Wish::Switch { machine, mode })
 }
 
 /// What a publication asks.
-fn publish_of(elem: u32, slot: usize, store: &Store) -> Wish
-    ensures { wanted_of result ≡ to_publish elem (words_or_none (written_in slot (store_of store.now))) }
+#[inline(always)]
+fn publish_of(elem: u32, slot: usize, store: &Store) -> Next
+    ensures { wanted_in result ≡ Some (to_publish elem (words_or_none (written_in slot (store_of store.now)))) }
 {
-    Wish::Publish {
+    Next::Call(Wish::Publish {
         elem,
         value: store.published(slot),
-    }
+    })
 }
 
 /// What a publication of a coherent list asks.
-#[inline(never)]
-fn publish_all_of(list: u32, slots: &[usize], store: &Store) -> Wish
-    ensures { wanted_of result ≡ to_publish_all list (marks_of slots.now (store_of store.now)) (words_written slots.now (store_of store.now)) }
+#[inline(always)]
+fn publish_all_of(list: u32, slots: &[usize], store: &Store) -> Next
+    ensures { wanted_in result ≡ Some (to_publish_all list (marks_of slots.now (store_of store.now)) (words_written slots.now (store_of store.now))) }
 {
-    Wish::PublishAll {
+    Next::Call(Wish::PublishAll {
         list,
         written: store.marks(slots),
         value: store.published_together(slots),
-    }
+    })
 }
 
 /// What a return asks.
-fn return_of(returned: &Returned, vars: &[Word]) -> Wish
-    ensures { wanted_of result ≡ to_return (declared_code returned.now.errors (get_or vars.now (length returned.now.arguments.items) (pos 0)))
-        (results returned.now.arguments.items vars.now) }
+#[inline(always)]
+fn return_of(returned: &Returned, vars: &[Word]) -> Next
+    ensures { wanted_in result ≡ Some (to_return (declared_code returned.now.errors (get_or vars.now (length returned.now.arguments.items) (pos 0)))
+        (results returned.now.arguments.items vars.now)) }
 {
-    Wish::Return {
+    Next::Call(Wish::Return {
         code: returned.code(vars),
         value: returned.value(vars),
-    }
-}
-
-/// What a call asks at what it names, in an activation that this event started, over this store.
-#[inline(always)]
-fn wish_of(request: &Request, named: u32, event: u32, store: &Store) -> Wish
-    ensures { wanted_of result ≡ requested request.now named event (store_of store.now) }
-{
-    match request {
-        Request::Admit => Wish::Admit { event },
-        Request::Fetch { elem } => Wish::Fetch { elem: *elem },
-        Request::Write { given } => write_of(named, given, &store.vars),
-        Request::Read => Wish::Read { elem: named },
-        Request::Invalidate => Wish::Invalidate { elem: named },
-        Request::IsUpdated => Wish::IsUpdated { elem: named },
-        Request::Send { given } => send_of(named, given, &store.vars),
-        Request::Receive => Wish::Receive { elem: named },
-        Request::Ask { given } => ask_of(named, given, &store.vars),
-        Request::Answer => Wish::Answer { point: named },
-        Request::TakeResult => Wish::TakeResult { point: named },
-        Request::Enter => Wish::Enter { area: named },
-        Request::Leave => Wish::Leave { area: named },
-        Request::Switch { mode } => Wish::Switch {
-            machine: named,
-            mode: *mode,
-        },
-        Request::Mode => Wish::Mode { port: named },
-        Request::Publish { elem, slot } => publish_of(*elem, *slot, store),
-        Request::FetchAll { list } => Wish::FetchAll { list: *list },
-        Request::PublishAll { list, slots } => publish_all_of(*list, slots.items(), store),
-        Request::Return(returned) => return_of(returned, &store.vars),
-        Request::End => Wish::End { event },
-    }
+    })
 }
 
 impl Frame {
@@ -298,27 +312,70 @@ impl Frame {
         }
     }
 
+    /// The request of the call where the activation stands, and what the call names. None where it is over.
+    #[inline(always)]
+    fn call_here<'a>(&self, t: &'a TaskSet) -> Option<(&'a Request, u32)>
+        ensures { MatchOption result (wanted_here t.now self.now ≡ None)
+            (λ call. wanted_here t.now self.now ≡ Some (requested call.0.now call.1 self.now.event self.now.at.store)) }
+    {
+        if self.at.left == 0 {
+            return None;
+        }
+        let body = body_of(t, self.key.runnable)?;
+        match body.at(self.at.place)? {
+            Instr::Call {
+                request,
+                access,
+                ..
+            } => Some((request, body.targets.number(*access))),
+            _ => None,
+        }
+    }
+
     /// What the activation does next: the call that it makes, or that it is over. It may be asked again and again.
     pub fn next_call(&self, t: &TaskSet) -> Next
         ensures { (k : ActKey) (start : Deed) (answers : List Deed) → Stands t.now k start answers self.now → wanted_in result ≡ asks t.now k start answers }
     {
-        if self.at.left == 0 {
+        let Some((request, named)) = self.call_here(t) else {
             return Next::Over;
+        };
+        let (event, store) = (self.event, &self.at.store);
+        // Each arm returns: what the arms give to a match is copied once more behind it.
+        match request {
+            Request::Admit => return Next::Call(Wish::Admit { event }),
+            Request::Fetch { elem } => return Next::Call(Wish::Fetch { elem: *elem }),
+            Request::Write { given } => match given.only(&store.vars) {
+                Some(word) => return write_word(named, word),
+                None => return write_of(named, given, &store.vars),
+            },
+            Request::Read => return Next::Call(Wish::Read { elem: named }),
+            Request::Invalidate => return Next::Call(Wish::Invalidate { elem: named }),
+            Request::IsUpdated => return Next::Call(Wish::IsUpdated { elem: named }),
+            Request::Send { given } => match given.only(&store.vars) {
+                Some(word) => return send_word(named, word),
+                None => return send_of(named, given, &store.vars),
+            },
+            Request::Receive => return Next::Call(Wish::Receive { elem: named }),
+            Request::Ask { given } => match given.only(&store.vars) {
+                Some(word) => return ask_word(named, word),
+                None => return ask_of(named, given, &store.vars),
+            },
+            Request::Answer => return Next::Call(Wish::Answer { point: named }),
+            Request::TakeResult => return Next::Call(Wish::TakeResult { point: named }),
+            Request::Enter => return Next::Call(Wish::Enter { area: named }),
+            Request::Leave => return Next::Call(Wish::Leave { area: named }),
+            Request::Switch { mode } => return switch_of(named, *mode),
+            Request::Mode => return Next::Call(Wish::Mode { port: named }),
+            Request::Publish { elem, slot } => return publish_of(*elem, *slot, store),
+            Request::FetchAll { list } => return Next::Call(Wish::FetchAll { list: *list }),
+            Request::PublishAll { list, slots } => return publish_all_of(
+                *list,
+                slots.items(),
+                store,
+            ),
+            Request::Return(returned) => return return_of(returned, &store.vars),
+            Request::End => return Next::Call(Wish::End { event }),
         }
-        if let Some(body) = body_of(t, self.key.runnable) {
-            if let Some(
-                Instr::Call {
-                    request,
-                    access,
-                    ..
-                },
-            ) = body.at(self.at.place)
-            {
-                let named = body.targets.number(*access);
-                return Next::Call(wish_of(request, named, self.event, &self.at.store));
-            }
-        }
-        Next::Over
     }
 
     /// The bus has answered the call that `next_call` gave. Where the activation is over nothing changes.

@@ -1,6 +1,6 @@
 //! The words that a call gives.
 
-ghost use Rattle.std.specs.Prelude.{◌≡◌, ◌≤◌, ◌↔◌, length, IsSome, IfSome};
+ghost use Rattle.std.specs.Prelude.{◌≡◌, ◌≤◌, ◌↔◌, [], ◌∷◌, length, IsSome, IfSome};
 ghost use Rattle.rte_value.specs.Arithmetic.{clamped};
 ghost use Rattle.rte_value.specs.Values.{words_of};
 ghost use Rattle.runnable_lang.specs.Trees.{expr_tree};
@@ -51,6 +51,16 @@ impl Given {
             return None;
         }
         Some(Given { words })
+    }
+
+    /// The word over these variables, clamped to its limits, if there is one alone.
+    pub fn only(&self, vars: &[Word]) -> Option<Word>
+        ensures { IfSome result (λ w. words_given vars.now self.now.words.items ≡ w ∷ []) }
+    {
+        match self.words.as_slice() {
+            [only] => Some(only.word(vars)),
+            _ => None,
+        }
     }
 
     /// The words over these variables, each clamped to its limits. A variable that there is not counts 0. It takes no memory.
