@@ -1,7 +1,8 @@
 -- Turns in a row without an entry.
-use Rattle.std.proofs.Common.{◌≡◌, ◌≢◌, ◌≤◌, ◌<◌, ◌+◌, ◌*◌, ◌⊎◌, ℕ, suc, Bool, true, false, if◌then◌else◌, refl, sym, ◌∙◌, ap, subst, inl, inr, ⊎_elim, arith, List, [], length, ne_eqb, eq-eqb}
+use Rattle.std.proofs.Common.{◌≡◌, ◌≤◌, ◌<◌, ◌+◌, ◌*◌, ◌⊎◌, ◌||◌, ℕ, suc, Bool, true, false, if◌then◌else◌, refl, sym, ◌∙◌, ap, subst, inl, inr, ⊎_elim, arith, List, [], length}
 use mathlib.Core.Logic.{dite}
 use native.Mathlib.Decide.{ℕ_discrete}
+use Rattle.std.proofs.lemmas.List.{length_push}
 use Rattle.std.proofs.lemmas.Option.{same_Some}
 use Rattle.bus_semantics.specs.Plan.{Plan}
 use Rattle.port_objects.specs.Benches.{Work, IsFurther}
@@ -11,7 +12,8 @@ use Rattle.core_turn.specs.Cores.{CoreState, looks_in}
 use Rattle.core_turn.specs.Turning.{NothingFound, IsContended}
 use Rattle.cross_core_table.specs.declared.views.View.{View}
 use Rattle.cross_core_table.specs.OpenRounds.{Sitting, told_of}
-use Rattle.core_lanes.specs.Leaving.{IsEmptyTurn, EmptyTurns, none, more, through, looks_due, MayLeave}
+use Rattle.core_lanes.specs.declared.stay.Stay.{Stay}
+use Rattle.core_lanes.specs.Leaving.{IsEmptyTurn, EmptyTurns, none, more, through, looks_due, nothing_done, Counts, IsTrueOf, MayLeave}
 use Rattle.core_lanes.specs.Benching.{IsTaken}
 use Rattle.core_lanes.proofs.Taken.{none_taken, lost_taken}
 
@@ -68,64 +70,70 @@ looked_then few looks a b c first second =
       cause = ⊎_elim (λ held. inl (omega (arith, far, held))) (λ lost. inr (omega (arith, missed, lost))) second.cause;
     }
 
--- in any other turn of a row a core looks only at what is awake
-pub not_due : (p : Plan) (slots : List Slot) (quiet : ℕ) → quiet ≢ 32 → 0 ≡ looks_due p slots quiet
-not_due p slots quiet ne = sym (ap (λ (b : Bool). if b then looks_in p slots else 0) (ne_eqb quiet 32 ne))
+-- where not all looks are due none is counted
+pub not_due : (p : Plan) (slots : List Slot) (all : Bool) → all ≡ false → 0 ≡ looks_due p slots all
+not_due p slots all is = sym (ap (λ (b : Bool). if b then looks_in p slots else 0) is)
 
-is_due : (p : Plan) (slots : List Slot) (quiet : ℕ) → quiet ≡ 32 → looks_due p slots quiet ≡ looks_in p slots
-is_due p slots quiet is = ap (λ (b : Bool). if b then looks_in p slots else 0) (eq-eqb quiet 32 is)
+pub through_due : (p : Plan) (slots : List Slot) (all : Bool) (a b : View) → all ≡ true → IsEmptyTurn (looks_in p slots) a b → IsEmptyTurn (looks_due p slots all) a b
+through_due p slots all a b is turn = subst (λ x. IsEmptyTurn (looks_due p slots x) a b) (sym is) turn
 
-pub through_due : (p : Plan) (slots : List Slot) (quiet : ℕ) (a b : View) → quiet ≡ 32 → IsEmptyTurn (looks_in p slots) a b → IsEmptyTurn (looks_due p slots quiet) a b
-through_due p slots quiet a b is turn = subst (λ n. IsEmptyTurn n a b) (sym (is_due p slots quiet is)) turn
+-- ---- what a core did
 
--- ---- turns in a row
+-- it counts a further turn
+pub counts_on : (p : Plan) (slots : List Slot) (old new : Stay) (v w : View) (made all : Bool) → new.made ≡ (if made then old.made + 1 else old.made) → new.quiet ≡ (if made then 0 else old.quiet + 1)
+    → new.whole ≡ (if made then false else (all || old.whole)) → (made ≡ false → IsEmptyTurn (looks_due p slots all) v w) → Counts p slots old new v w made
+counts_on p slots old new v w true all entries turns whole looked = record { made = omega (arith, entries); quiet = turns; whole = whole }
+counts_on p slots old new v w false true entries turns whole looked = record {
+  made = entries;
+  quiet = omega (arith, turns);
+  empty = any_looks (looks_in p slots) v w (looked refl);
+  whole = inr (whole, looked refl);
+}
+counts_on p slots old new v w false false entries turns whole looked = record { made = entries; quiet = omega (arith, turns); empty = looked refl; whole = inl whole }
 
--- so many turns in a row made none; behind the 33rd of them one looked at all slots
-pub record Resting (p : Plan) (slots : List Slot) (quiet : ℕ) (v : View) : Type 0 where
-  pub from : View
-  pub whole : Bool
-  pub known : 32 < quiet → whole ≡ true
-  pub turns : EmptyTurns p slots from quiet whole v
+-- after the turn in which all looks are due it is known that one of the row looked at all slots
+pub known_due : (old new : Stay) (made all : Bool) → new.whole ≡ (if made then false else (all || old.whole)) → made ≡ false → all ≡ true → new.whole ≡ true
+known_due old new made all whole empty due = whole ∙ ap (λ (b : Bool). if b then false else (all || old.whole)) empty ∙ ap (λ (b : Bool). b || old.whole) due
 
-pub no_rest : (p : Plan) (slots : List Slot) (quiet : ℕ) (v : View) → quiet ≡ 0 → Resting p slots quiet v
-no_rest p slots quiet v is = subst (λ n. Resting p slots n v) (sym is) (record { from = v; whole = _; known = λ far. absurd (omega (arith, far)); turns = none })
+-- so from then on until the next entry
+pub known_on : (p : Plan) (slots : List Slot) (old new : Stay) (v w : View) (made : Bool) → Counts p slots old new v w made → (made ≡ false → old.quiet ≡ 32 → new.whole ≡ true)
+    → (32 < old.quiet → old.whole ≡ true) → 32 < new.quiet → new.whole ≡ true
+known_on p slots old new v w true counts due known far = absurd (let row = counts.quiet in omega (arith, row, far))
+known_on p slots old new v w false counts due known far = dite (ℕ_discrete old.quiet 32)
+    (λ is. due refl is)
+    (λ ne. ⊎_elim (λ same. same ∙ known (let next = counts.quiet in omega (arith, far, next, ne))) (λ one. one.0) counts.whole)
 
-pub rests_on : (p : Plan) (slots : List Slot) (quiet : ℕ) (v w : View) → Resting p slots quiet v → IsEmptyTurn (looks_due p slots quiet) v w → Resting p slots (quiet + 1) w
-rests_on p slots quiet v w so turn = subst (λ n. Resting p slots n w) next (dite (ℕ_discrete quiet 32)
-    (λ is. record {
-      from = so.from;
-      whole = true;
-      known = λ far. refl;
-      turns = through quiet so.whole v w so.turns (subst (λ n. IsEmptyTurn n v w) (is_due p slots quiet is) turn);
-    })
-    (λ ne. record {
-      from = so.from;
-      whole = so.whole;
-      known = λ far. so.known (omega (arith, far, ne));
-      turns = more quiet so.whole v w so.turns (subst (λ n. IsEmptyTurn n v w) (sym (not_due p slots quiet ne)) turn);
-    }))
-  where
-    next : suc quiet ≡ quiet + 1
-    next = omega arith
+-- nothing is true of a seat that has made nothing
+pub nothing_true : (p : Plan) (slots : List Slot) (s : Stay) (v : View) → v.made ≡ [] → s ≡ nothing_done → IsTrueOf p slots s v
+nothing_true p slots s v empty is = subst (λ (x : Stay). IsTrueOf p slots x v) (sym is) (record { made = ap length empty; from = v; turns = none })
 
--- a turn with an entry begins a new row
-pub row_on : (p : Plan) (t : TaskSet) (old new : CoreState) (quiet later : ℕ) (v w : View) (made : Bool) → IsTaken p t old new v.made w.made made
-    → (made ≡ false → IsEmptyTurn (looks_due p old.slots quiet) v w) → later ≡ (if made then 0 else quiet + 1) → Resting p old.slots quiet v → Resting p new.slots later w
-row_on p t old new quiet later v w true taken looked count so = no_rest p new.slots later w count
-row_on p t old new quiet later v w false taken looked count so =
-    subst (λ (c : CoreState). Resting p c.slots later w) (sym taken.0) (subst (λ n. Resting p old.slots n w) (sym count) (rests_on p old.slots quiet v w so (looked refl)))
+-- what was true of its seat is so after a further turn
+pub true_on : (p : Plan) (t : TaskSet) (old new : CoreState) (before after : Stay) (v w : View) (made : Bool) → IsTaken p t old new v.made w.made made → Counts p old.slots before after v w made
+    → IsTrueOf p old.slots before v → IsTrueOf p new.slots after w
+true_on p t old new before after v w true taken counts so = record {
+  made = ap length taken.added ∙ length_push v.made taken.made ∙ (let one = counts.made in omega (arith, one, so.made));
+  from = w;
+  turns = subst (λ n. EmptyTurns p new.slots w n after.whole w) (sym counts.quiet) (subst (λ (b : Bool). EmptyTurns p new.slots w 0 b w) (sym counts.whole) none);
+}
+true_on p t old new before after v w false taken counts so = subst (λ (c : CoreState). IsTrueOf p c.slots after w) (sym taken.0) (record {
+  made = ap length taken.1 ∙ so.made ∙ sym counts.made;
+  from = so.from;
+  turns = subst (λ n. EmptyTurns p old.slots so.from n after.whole w) (sym counts.quiet) (⊎_elim
+      (λ same. subst (λ (b : Bool). EmptyTurns p old.slots so.from (suc before.quiet) b w) (sym same) (more before.quiet before.whole v w so.turns counts.empty))
+      (λ one. subst (λ (b : Bool). EmptyTurns p old.slots so.from (suc before.quiet) b w) (sym one.0) (through before.quiet before.whole v w so.turns one.1))
+      counts.whole);
+})
 
 -- no core makes more turns than it may
-pub stay_on : (made quiet many long turns : ℕ) (b : Bool) → made < 1024 → quiet < 64 → many ≡ (if b then made + 1 else made) → long ≡ (if b then 0 else quiet + 1) → turns ≤ 64 * made + quiet
-    → (many ≤ 1024) × (long ≤ 64) × (turns + 1 ≤ 64 * many + long)
-stay_on made quiet many long turns true few short entries row count = (omega (arith, few, entries), omega (arith, row), omega (arith, short, entries, row, count))
-stay_on made quiet many long turns false few short entries row count = (omega (arith, few, entries), omega (arith, short, row), omega (arith, entries, row, count))
+pub stay_on : (p : Plan) (slots : List Slot) (old new : Stay) (v w : View) (made : Bool) (turns : ℕ) → Counts p slots old new v w made → old.made < 1024 → old.quiet < 64 → turns ≤ 64 * old.made + old.quiet
+    → (new.made ≤ 1024) × (new.quiet ≤ 64) × (turns + 1 ≤ 64 * new.made + new.quiet)
+stay_on p slots old new v w true turns counts few short count = let entries = counts.made in let row = counts.quiet in (omega (arith, few, entries), omega (arith, row), omega (arith, short, entries, row, count))
+stay_on p slots old new v w false turns counts few short count = let entries = counts.made in let row = counts.quiet in (omega (arith, few, entries), omega (arith, short, row), omega (arith, entries, row, count))
 
 -- ---- a core leaves
 
-pub leaves : (p : Plan) (slots : List Slot) (made quiet : ℕ) (v : View) → length v.made ≡ made → Resting p slots quiet v → (made ≡ 1024) ⊎ (quiet ≡ 64) → MayLeave p slots v
-leaves p slots made quiet v count so why = ⊎_elim (λ all. inl (count ∙ all))
-    (λ long. inr (so.from, subst (λ (b : Bool). EmptyTurns p slots so.from 64 b v) (so.known (omega (arith, long))) (subst (λ n. EmptyTurns p slots so.from n so.whole v) long so.turns))) why
+pub leaves : (s : Stay) → (32 < s.quiet → s.whole ≡ true) → (s.made ≡ 1024) ⊎ (s.quiet ≡ 64) → MayLeave s
+leaves s known why = ⊎_elim (λ all. inl all) (λ long. inr (long, known (omega (arith, long)))) why
 
 -- at its last turn at the latest
 pub turned_out : (made quiet turns : ℕ) → made ≤ 1024 → quiet ≤ 64 → turns ≤ 64 * made + quiet → 65536 ≤ turns → (made ≡ 1024) ⊎ (quiet ≡ 64)

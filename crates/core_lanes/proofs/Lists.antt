@@ -40,7 +40,7 @@ pub record LaneAt (cores : List CoreState) (seats : List CoreSeat) (i : ℕ) (l 
 pub lane_at : (cores : List CoreState) (seats : List CoreSeat) (i : ℕ) (l : Lane) → length seats ≡ length cores → slice_get (lanes_of cores seats) i ≡ Some l → LaneAt cores seats i l
 lane_at [] seats i l same found = absurd (cc found)
 lane_at (c ∷ cores) [] i l same found = absurd (omega (arith, same))
-lane_at (c ∷ cores) (s ∷ seats) zero l same found = let is : record { core = c; seat = Some s } ≡ l = cc in record { core_is = ap (λ (x : Lane). Some x.core) is; seat = s; seat_is = refl; has = ap (λ (x : Lane). x.seat) (sym is) }
+lane_at (c ∷ cores) (s ∷ seats) zero l same found = let is : lane_of c (Some s) ≡ l = cc in record { core_is = ap (λ (x : Lane). Some x.core) is; seat = s; seat_is = refl; has = ap (λ (x : Lane). x.seat) (sym is) }
 lane_at (c ∷ cores) (s ∷ seats) (suc i) l same found =
     let more = lane_at cores seats i l (omega (arith, same)) found in
     record { core_is = more.core_is; seat = more.seat; seat_is = more.seat_is; has = more.has }

@@ -12,12 +12,12 @@ use Rattle.cross_core_table.specs.Seats.{IsSeatOf, view_of, made_of}
 use Rattle.core_lanes.specs.Taking.{TakesTurns}
 use Rattle.core_lanes.specs.declared.lanes.Lane.{Lane}
 use Rattle.core_lanes.specs.Rooms.{HasRoom}
-use Rattle.core_lanes.specs.Leaving.{MayLeave}
+use Rattle.core_lanes.specs.Leaving.{nothing_done, IsTrueOf, MayLeave}
 
 -- ---- lanes
 
 abbrev pub lane_of : CoreState → Option CoreSeat → Lane
-lane_of c s = record { core = c; seat = s }
+lane_of c s = record { core = c; seat = s; stay = nothing_done }
 
 -- a lane for each core, with the seat at the core's place
 abbrev pub lanes_of : List CoreState → List CoreSeat → List Lane
@@ -49,14 +49,15 @@ pub record IsSeated (p : Plan) (t : TaskSet) (r : OpenRound) (number : ℕ) (l :
   pub mapping : Mapping
   pub ready : IsReady p mapping t l.core
 
--- it has left, as it may: what its seat has is what its turns made
+-- it has left, as it may by what it did: what its seat has is what its turns made
 pub record HasGone (p : Plan) (t : TaskSet) (r : OpenRound) (number : ℕ) (old new : Lane) : Type 0 where
   pub seat : CoreSeat
   pub has : new.seat ≡ Some seat
   pub of : IsSeatOf r number seat
   pub room : HasRoom new.core
   pub turns : TakesTurns p t old.core (made_of seat) new.core
-  pub left : MayLeave p new.core.slots (view_of seat)
+  pub did : IsTrueOf p new.core.slots new.stay (view_of seat)
+  pub left : MayLeave new.stay
 
 -- ---- the cores of a round, each at its number
 

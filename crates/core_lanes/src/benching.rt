@@ -7,6 +7,7 @@ ghost use Rattle.core_lanes.specs.Lanes.{lanes_of, core_in, with_seat, seats_in}
 
 use crate::guided::{Guide, Guided};
 use crate::lanes::Lane;
+use crate::stay::Stay;
 use core_turn::Core;
 use cross_core_table::CoreSeat;
 
@@ -31,7 +32,11 @@ pub(crate) fn seat_all(
         };
         let core = Guided::of(core, guide);
         let seat = seats.next();
-        lanes.push_reserved(Lane { core, seat });
+        lanes.push_reserved(Lane {
+            core,
+            seat,
+            stay: Stay::new(),
+        });
     }
     lanes
 }
@@ -56,7 +61,11 @@ pub(crate) fn part_all(lanes: Vec<Lane>, cores: &mut Vec<Core>, seats: &mut Vec<
     ensures seats { seats.new.items ≡ seats_in lanes.items }
 {
     for lane in lanes {
-        let Lane { core, seat } = lane;
+        let Lane {
+            core,
+            seat,
+            stay: _,
+        } = lane;
         cores.push_reserved(core.into_core());
         keep(seats, seat);
     }

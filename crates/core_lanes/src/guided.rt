@@ -23,9 +23,6 @@ use std::alloc::{AllocError, Global};
 use std::marker::Model;
 use task_machine::TaskSet;
 
-/// In this turn of a row without an entry, counted from 0, a core looks at all: guesses may leave something out.
-const LOOKS_AT_ALL: u32 = 32;
-
 /// What of a core may step, as far as it is known, and a list with room for the entry of a turn.
 #[derive(Drop)]
 pub(crate) struct Guide {
@@ -200,9 +197,9 @@ impl Guided {
         }
     }
 
-    /// The core makes a turn at its bench, after so many turns in a row without an entry: over what is awake, and once in such a row
-    /// over all. The answer is whether it made an entry. A turn that found its object held by another core made none. The core's trace is
-    /// empty, since the seat keeps the entry.
+    /// The core makes a turn at its bench: over what is awake, and if that gives no entry and all are due, over all of its slots. The answer
+    /// is whether it made an entry. A turn that found its object held by another core made none. The core's trace is empty, since the seat
+    /// keeps the entry.
     pub(crate) fn turn(
         &mut self,
         p: &BusPlan,
@@ -210,7 +207,7 @@ impl Guided {
         bench: &mut SeatBench,
         guesses: &Guesses,
         number: u32,
-        quiet: u32,
+        all: bool,
     ) -> bool
         requires plan { plan_in bench.old.round.opening ≡ plan_of p.now }
         requires bodies { AsksAsPlanned (plan_of p.now) t.now }
@@ -222,10 +219,10 @@ impl Guided {
         ensures ready { (m : Mapping) → IsReady (plan_of p.now) m t.now self.old → IsReady (plan_of p.now) m t.now self.new }
         ensures room { HasRoom self.new }
         ensures taken { IsTaken (plan_of p.now) t.now self.old self.new bench.old.view.made bench.new.view.made result }
-        ensures looked { result ≡ false → IsEmptyTurn (looks_due (plan_of p.now) self.old.slots quiet) bench.old.view bench.new.view }
+        ensures looked { result ≡ false → IsEmptyTurn (looks_due (plan_of p.now) self.old.slots all) bench.old.view bench.new.view }
     {
         hear(&self.core, &mut self.guide, guesses, number);
-        let made = self.look(p, t, bench, guesses, number, quiet);
+        let made = self.look(p, t, bench, guesses, number, all);
         note(&mut self.guide, guesses, made);
         made
     }
@@ -238,7 +235,7 @@ impl Guided {
         bench: &mut SeatBench,
         guesses: &Guesses,
         number: u32,
-        quiet: u32,
+        all: bool,
     ) -> bool
         requires plan { plan_in bench.old.round.opening ≡ plan_of p.now }
         requires bodies { AsksAsPlanned (plan_of p.now) t.now }
@@ -250,7 +247,7 @@ impl Guided {
         ensures ready { (m : Mapping) → IsReady (plan_of p.now) m t.now self.old → IsReady (plan_of p.now) m t.now self.new }
         ensures room { HasRoom self.new }
         ensures taken { IsTaken (plan_of p.now) t.now self.old self.new bench.old.view.made bench.new.view.made result }
-        ensures looked { result ≡ false → IsEmptyTurn (looks_due (plan_of p.now) self.old.slots quiet) bench.old.view bench.new.view }
+        ensures looked { result ≡ false → IsEmptyTurn (looks_due (plan_of p.now) self.old.slots all) bench.old.view bench.new.view }
     {
         if turn_by_guide(
             p,
@@ -263,7 +260,7 @@ impl Guided {
         ) {
             return true;
         }
-        if quiet != LOOKS_AT_ALL {
+        if !all {
             return false;
         }
         turn_past_guide(p, t, &mut self.core, &mut self.guide, bench)

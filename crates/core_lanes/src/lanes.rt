@@ -9,6 +9,7 @@ ghost use Rattle.core_lanes.specs.Lanes.{IsSeated, AreSeated, HasGone, HaveGone}
 
 use crate::guesses::Guesses;
 use crate::guided::Guided;
+use crate::stay::Stay;
 use crate::threads::is_shared;
 use crate::turns::make_turns;
 use bus_semantics::BusPlan;
@@ -24,6 +25,8 @@ pub(crate) struct Lane {
     pub core: Guided,
     /// None only while the core is at its bench.
     pub seat: Option<CoreSeat>,
+    /// What the core did in the round.
+    pub stay: Stay,
 }
 
 impl Lane {
@@ -48,7 +51,7 @@ impl Lane {
             return;
         };
         let mut bench = round.bench(p, seat);
-        make_turns(
+        let stay = make_turns(
             p,
             t,
             &mut self.core,
@@ -57,6 +60,7 @@ impl Lane {
             number as u32,
             gate,
         );
+        self.stay = stay;
         self.core.retire(guesses, number as u32);
         self.seat = Some(bench.leave());
     }

@@ -10,7 +10,7 @@ ghost use Rattle.cross_core_table.specs.Logs.{plan_in};
 ghost use Rattle.core_lanes.specs.Taking.{TakesTurns};
 ghost use Rattle.core_lanes.specs.Rooms.{HasRoom};
 ghost use Rattle.core_lanes.specs.Benching.{IsTaken};
-ghost use Rattle.core_lanes.specs.Leaving.{IsEmptyTurn, MayLeave};
+ghost use Rattle.core_lanes.specs.Leaving.{IsEmptyTurn, IsTrueOf, MayLeave};
 
 use crate::guesses::Guesses;
 use crate::guided::Guided;
@@ -49,8 +49,8 @@ pub(crate) fn turn_once(p: &BusPlan, t: &TaskSet, core: &mut Core, bench: &mut S
     }
 }
 
-/// A core makes turns at its bench until it leaves the round: after 1,024 entries, or 64 turns in a row without one. It passes the gate
-/// before each turn.
+/// A core makes turns at its bench until it leaves the round: after 1,024 entries, or 64 turns in a row without one, in one of which it
+/// looked at all of its slots. It passes the gate before each turn. The answer is what it did.
 pub(crate) fn make_turns<G: Gate>(
     p: &BusPlan,
     t: &TaskSet,
@@ -59,7 +59,7 @@ pub(crate) fn make_turns<G: Gate>(
     guesses: &Guesses,
     number: u32,
     gate: &G,
-)
+) -> Stay
     requires plan { plan_in bench.old.round.opening ≡ plan_of p.now }
     requires bodies { AsksAsPlanned (plan_of p.now) t.now }
     requires ready { (m : Mapping) × IsReady (plan_of p.now) m t.now core.old }
@@ -70,15 +70,16 @@ pub(crate) fn make_turns<G: Gate>(
     ensures number { bench.new.core ≡ bench.old.core }
     ensures room { HasRoom core.new }
     ensures turns { TakesTurns (plan_of p.now) t.now core.old bench.new.view.made core.new }
-    ensures left { MayLeave (plan_of p.now) core.new.slots bench.new.view }
+    ensures did { IsTrueOf (plan_of p.now) core.new.slots result bench.new.view }
+    ensures left { MayLeave result }
 {
-    let mut stay = Stay { made: 0, quiet: 0 };
+    let mut stay = Stay::new();
     for turns in 0..MOST_TURNS {
         if !stay.goes_on() {
-            return;
+            return stay;
         }
         gate.pass(number);
-        let made = core.turn(p, t, bench, guesses, number, stay.quiet);
-        stay.note(made);
+        stay.turn(p, t, core, bench, guesses, number);
     }
+    stay
 }

@@ -31,7 +31,8 @@ fn refilled(entries: Vec<Stamped>, made: &[Stamped]) -> Vec<Stamped>
     entries
 }
 
-/// Empties a list, and takes room in it for so many entries. The only error is that there is no memory.
+/// Empties a list, and takes room in it for so many entries. The only error is that there is no memory. The list has its own allocator; one
+/// is passed so that the signature says what takes memory.
 fn make_room(_alloc: Global, list: &mut Vec<Stamped>, room: usize) -> Result<(), AllocError> {
     list.clear();
     list.reserve(room)

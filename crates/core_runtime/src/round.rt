@@ -23,7 +23,8 @@ pub enum RoundRun {
     Memory,
 }
 
-/// Takes room for the entries of a round. The only error is that there is no memory.
+/// Takes room for the entries of a round. The only error is that there is no memory. The list has its own allocator; one is passed so that
+/// the signature says what takes memory.
 fn make_ready(_alloc: Global, n: &mut Node) -> Result<(), AllocError>
     ensures room { OnOk result (1024 * n.old.mapping.cores ≤ n.new.spare) }
     ensures kept { n.old.spare ≤ n.new.spare }
