@@ -29,8 +29,13 @@ fn empty<W: Write + Drop>(out: &mut CountedWriter<W>, room: &mut Vec<u8>) -> Put
 {
     let written = out.write(room.as_slice());
     let is_whole = written == room.len();
+    if is_whole {
+        // A drain goes through each byte.
+        room.clear();
+        return Put::Done;
+    }
     room.drain(..written);
-    if is_whole { Put::Done } else { Put::Failed }
+    Put::Failed
 }
 
 /// Where output goes by a writer, seen as what the writer has, what was taken and is left to be written, and the writer's count of
