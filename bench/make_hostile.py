@@ -397,6 +397,19 @@ def bundles(n):
     return reading(elements, [reader(f"r{k}", elements, pairs(k % 2, elements)) for k in range(turns)], 1)
 
 
+def bundle_grows(n):
+    """Coherent lists of 16 elements, 15 of which are in each, so that each list connects one group more with the same bundle."""
+    count = min(n, MOST_GROUPS - 15)
+    shared = [f"e{k}" for k in range(15)]
+
+    def one_more(k):
+        elements = [f"e{15 + k}", *shared]
+        accesses = [["iread", "i", e] for e in elements]
+        return {"shortName": f"r{k}", "accesses": accesses, "coherent": [[["i", e] for e in elements]]}
+
+    return reading(15 + count, [one_more(k) for k in range(count)], 1)
+
+
 def runnables_inside(n):
     """Very many runnables of each of 1,022 instances, which no event starts."""
     return reading(2, [{"shortName": f"r{k}"} for k in range(n)], 1022)
@@ -428,8 +441,8 @@ def members(n):
 CASES = [
     connectors, connectors_apart, near, hubs_own, both_hubs, overlaps, ways, instances_apart, equal, names, names_own,
     names_split, names_split_own, alternate, instances, instances_joined, inner, outers, hub_joined, levels, above_cycle,
-    between_cycles, points, points_inside, programs, coherent, coherent_twice, bundles, runnables_inside, lists_inside,
-    lists, objects, members,
+    between_cycles, points, points_inside, programs, coherent, coherent_twice, bundles, bundle_grows, runnables_inside,
+    lists_inside, lists, objects, members,
 ]
 
 MOST_LINES = 99_999  # a script may have one more
