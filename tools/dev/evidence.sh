@@ -82,10 +82,10 @@ S is a script over the plan of C|script_reading/accepts_a_word_past_the_limits
 the bytes are the text of a run|script_run/puts_no_run_mark script_run/puts_no_entries_of_the_round rte_text/drops_the_last_byte
 the run has the script's calls and run lines, all of them, in order|script_reading/skips_a_line script_run/hides_a_call script_run/skips_run_lines
 each entry is one that may come after those before it|data_objects/starts_what_is_not_pending area_objects/enters_a_held_area area_objects/leaves_for_another task_slots/appends_what_was_not_made
-an entry of an activation is the next call of its program, given the answers before|task_slots/forgets_the_answer task_slots/caller_goes_on_too_early task_machine/hears_a_refused_call task_generator/reads_port_at_each_use task_generator/publishes_at_once
-each answer is what the bus gives from the earlier entries|data_objects/keeps_another_value data_objects/answers_invalid_where_it_is_valid queued_ports/overwrites_oldest server_objects/crosses_results mode_machine/enters_before_exits_end
+an entry of an activation is the next call of its program, given the answers before|task_slots/forgets_the_answer task_slots/caller_goes_on_too_early task_machine/hears_a_refused_call task_generator/reads_port_at_each_use task_generator/publishes_at_once task_generator/fetches_one_by_one task_machine/publishes_an_empty_list
+each answer is what the bus gives from the earlier entries|data_objects/keeps_another_value data_objects/answers_invalid_where_it_is_valid bundle_objects/fetches_at_two_moments bundle_objects/publishes_what_was_not_marked bundle_objects/takes_the_first_of_one_group queued_ports/overwrites_oldest server_objects/crosses_results mode_machine/enters_before_exits_end
 this holds in whatever order the cores took their turns|cross_core_table/stamps_under_a_foreign_lock cross_core_table/stamps_another_answer
-`idle` holds only if nothing may step any more|task_slots/starts_nothing script_run/closes_before_the_serial_pass
+`idle` holds only if nothing may step any more|task_slots/starts_nothing bundle_objects/wakes_only_the_first_group script_run/closes_before_the_serial_pass
 `unsettled` holds only after 100,000 entries of runnables|script_run/gives_up_at_99_999
 status 0 comes only then|commands/done_after_a_failed_fetch commands/done_after_a_failed_put gathered_run/passes_over_a_failed_finish
 each other status comes only if its cause is there|commands/always_words commands/always_refused
@@ -125,6 +125,7 @@ an object is acted on whose lock another core has|cross_core_table|act_at|knows|
 an entry is stamped after its object was given back|core_lanes|run_together|its one clause|in the order of their stamps the entries lead from the old objects to the new
 a stamp is left out|core_lanes|run_together|its one clause|the stamps of what was made count from 0
 arguments are exchanged, a jump is one short, nested loops share a counter, a server returns before it publishes|task_generator|generate|its one clause|what a body asks equals what the actor rule wants
+an activation ends by another event than it began by|task_machine|next_call|its one clause|the call is what the body asks after the answers so far
 a line is read as an entry that has another line, or that does not fit|trace_reading|is_read_as|its one clause|the answer equals both tests
 an entry's line is called bad|trace_reading|read_entry|reads|a bad line is that of no item
 a file that was read is called unread|commands|fetch_one|stopped|a file is unread only if a count of the shelf rose
