@@ -75,6 +75,7 @@ def check_of(name: str, folder: str) -> Run:
 RUNS = (
     run_of("a first path", "rows/ten_ticks_write_then_read"),
     run_of("a queue", "rows/queue_of_two_loses_the_third"),
+    run_of("coherent lists", "rows/lists_both_ways"),
     run_of("modes", "rows/mode_switch_that_waits"),
     run_of("modes on three cores", "rows/mode_switch_on_three_cores"),
     run_of("two cores at once", "rows/two_counters_in_one_area", several=True),
