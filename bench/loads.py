@@ -386,6 +386,42 @@ def disabled(size):
 # ---- the environment
 
 
+def bounced(size, cores, coherent):
+    """Two runnables that publish two elements to each other so many times in each of 100 run lines, in lists or one by one."""
+    pair = lambda kind, at: [[kind, at, "v"], [kind, at, "w"]]
+    listed = lambda *ports: {"coherent": [[[at, "v"], [at, "w"]] for at in ports]} if coherent else {}
+    more = [["iwrite", "o", element, [["add", variable, 1]]] for element, variable in (("v", "x"), ("w", "y"))]
+    taken = [["iread", "i", "v", ["x"]], ["iread", "i", "w", ["y"]]]
+    step = runnable("Step", pair("iread", "i") + pair("iwrite", "o"), [*taken, ["if", ["lt", "x", size], more, []]]) | listed("i", "o")
+    begin = runnable("Begin", pair("iwrite", "o"), [["iwrite", "o", "v", [1]], ["iwrite", "o", "w", [1]]]) | listed("o")
+    ports = [port("P", "o"), port("R", "i")]
+    components = [component("A", ports, [begin, step], [timing("E", "Begin", 1), received("D", "Step", "i")])]
+    components += [component("B", ports, [step], [received("D", "Step", "i")])]
+    joined = [assembly(["a", "o"], ["b", "i"]), assembly(["b", "o"], ["a", "i"])]
+    tasks = [{"shortName": f"T{n}", "core": n % cores} for n in range(2)]
+    events = [mapped("a", "E", "T0", 0), mapped("a", "D", "T0", 1), mapped("b", "D", "T1", 0)]
+    held = [{"shortName": "a", "type": "A"}, {"shortName": "b", "type": "B"}]
+    whole = described(components, held, joined, cores, tasks, events)
+    elements = whole["interfaces"][0]["dataElements"]
+    elements.append(elements[0] | {"shortName": "w"})
+    return whole, "tick 1\nrun\n" * 100
+
+
+def lists(size):
+    """One core that fetches and publishes pairs by coherent lists, so many times in each of 100 run lines."""
+    return bounced(size, 1, True)
+
+
+def lists_across(size):
+    """The same on two cores, each of which waits for what the other publishes."""
+    return bounced(size, 2, True)
+
+
+def elements_across(size):
+    """The same without lists: the elements are fetched and published one by one."""
+    return bounced(size, 2, False)
+
+
 def outer(size):
     """So many lines at outer ports, a write and a read by turns, and then one run line."""
     program = [["read", "i", "v", ["x"], "s"], ["write", "o", "v", ["x"], "s"]]
@@ -498,6 +534,9 @@ CASES = {
     switches: 500,
     machines: 125,
     disabled: 500,
+    lists: 250,
+    lists_across: 250,
+    elements_across: 250,
     outer: 40000,
     everything: 4,
 }
