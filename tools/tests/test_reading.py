@@ -81,7 +81,7 @@ class Shapes(unittest.TestCase):
 class Format(unittest.TestCase):
     def test_each_rule_has_a_title_and_a_mend(self) -> None:
         found = rules(read_format())
-        self.assertEqual(sorted(found), list(range(1, 31)))
+        self.assertEqual(sorted(found), list(range(1, 32)))
         self.assertEqual(found[9].title, "No composition contains itself")
         self.assertTrue(found[9].mend.startswith("take the prototype out"))
         for number, rule in found.items():
