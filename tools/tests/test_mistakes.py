@@ -211,7 +211,7 @@ class Files(WithFolder):
         example = folder_of("one_writer")
         description, script = str(example / "description.json"), str(example / "script.txt")
         places = ("/", "/components/7", "x.y", "w.o.v")
-        for says in (f"refused rule {rule} at {places[rule % len(places)]}" for rule in range(1, 31)):
+        for says in (f"refused rule {rule} at {places[rule % len(places)]}" for rule in range(1, 32)):
             with self.subTest(says):
                 self.assertTrue(explain(read_refusal(says), description, script))
         scripts = ("script refused line 9 cause 1", "script refused line 1 cause 3")
