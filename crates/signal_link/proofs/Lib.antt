@@ -1,0 +1,9 @@
+pub mod Beginnings
+pub mod Bytes
+pub mod Feeds
+pub mod Frames
+pub mod Heads
+pub mod Payloads
+pub mod Pipes
+pub mod Prefixes
+pub mod Streams
