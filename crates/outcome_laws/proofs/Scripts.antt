@@ -19,9 +19,11 @@ use Rattle.script_reading.specs.declared.forms.Follows.TheVariants as follow
 use Rattle.script_reading.specs.declared.forms.Form.{Form}
 use Rattle.script_reading.specs.declared.forms.Form.TheVariants.{Write, Send, Read, Receive, Ask, TakeResult, SeeMode}
 use Rattle.script_reading.specs.Forms.{Phrase, behind, phrase_in, to_call, to_run, to_wait}
-use Rattle.script_reading.specs.Meaning.{Asked, Saying, a_call, asked_of, asks, call_at, call_with, is_bad, meaning, meaning_in, named_call, not_of_type, nothing, plain_call, saying, switch_call, value_call}
+use Rattle.script_reading.specs.Meaning.{Asked, Saying, a_call, asked_of, asks, call_at, call_with, is_bad, meaning, meaning_in, named_call, no_such, not_of_type, nothing, plain_call, saying, switch_call, value_call}
 use Rattle.script_reading.specs.Offers.{are_within, elem_takes, mode_of, number_of, takes}
-use Rattle.script_reading.specs.Reading.{IsScript, asked_by, asked_in, first_bad}
+use Rattle.script_reading.specs.Reading.{asked_by, asked_in, first_bad}
+use Rattle.script_reading.specs.Reserved.{around, is_reserved, saying_around}
+use Rattle.outcome_laws.specs.Outcomes.{HasBadLine, HasScript}
 use Rattle.outcome_laws.proofs.Values.{value_for}
 
 -- what is asked for is what a line asks for
@@ -110,16 +112,30 @@ one_more nothing rest has lines = lines
 one_more (asks a) rest (l, is) (ls, are) = (l ∷ ls, λ i. is i ∷ are i)
 one_more (is_bad cause) rest has lines = lines
 
-of_texts : (p : Plan) (ts : List Letters) → Lines (asked_in p ts)
-of_texts p [] = ([], refl)
-of_texts p (t ∷ ts) = one_more (saying p t) (asked_in p ts) (of_text p t) (of_texts p ts)
+-- all lines of a text are lines, where each text of a line is
+of_texts : (say : Letters → Saying) → ((t : Letters) → HasLine (say t)) → (ts : List Letters) → Lines (asked_in say ts)
+of_texts say has [] = ([], refl)
+of_texts say has (t ∷ ts) = one_more (say t) (asked_in say ts) (has t) (of_texts say has ts)
+
+-- what is not received is no line
+around_has : (reserved : List Bool) (s : Saying) → HasLine s → HasLine (around reserved s)
+around_has reserved s has = by (is_reserved reserved s)
+  where
+    by : (b : Bool) → HasLine (cond b (is_bad no_such) s)
+    by true = tt
+    by false = has
 
 -- ---- the bytes
 
-pub read_or_bad : (p : Plan) (bytes : List ℕ) → ((lines : List Line) × IsScript p bytes lines) ⊎ ((line : ℕ) × (cause : ℕ) × (first_bad p [] (lines_of bytes) ≡ Some (line, cause)))
-read_or_bad p bytes = by (first_bad p [] (lines_of bytes)) refl (of_texts p (lines_of bytes))
+read_by : (say : Letters → Saying) → ((t : Letters) → HasLine (say t)) → (bytes : List ℕ) → HasScript say bytes ⊎ HasBadLine say bytes
+read_by say has bytes = by (first_bad say [] (lines_of bytes)) refl (of_texts say has (lines_of bytes))
   where
-    by : (o : Option (ℕ × ℕ)) → first_bad p [] (lines_of bytes) ≡ o → Lines (asked_in p (lines_of bytes))
-        → ((lines : List Line) × IsScript p bytes lines) ⊎ ((line : ℕ) × (cause : ℕ) × (first_bad p [] (lines_of bytes) ≡ Some (line, cause)))
+    by : (o : Option (ℕ × ℕ)) → first_bad say [] (lines_of bytes) ≡ o → Lines (asked_in say (lines_of bytes)) → HasScript say bytes ⊎ HasBadLine say bytes
     by None good (ls, are) = inl (ls, record { good = good; lines_are = are })
     by (Some (n, cause)) bad lines = inr (n, cause, bad)
+
+pub read_or_bad : (p : Plan) (bytes : List ℕ) → HasScript (saying p) bytes ⊎ HasBadLine (saying p) bytes
+read_or_bad p bytes = read_by (saying p) (of_text p) bytes
+
+pub read_or_bad_around : (p : Plan) (reserved : List Bool) (bytes : List ℕ) → HasScript (saying_around p reserved) bytes ⊎ HasBadLine (saying_around p reserved) bytes
+read_or_bad_around p reserved bytes = read_by (saying_around p reserved) (λ t. around_has reserved (saying p t) (of_text p t)) bytes

@@ -5,12 +5,14 @@ use Rattle.rte_text.specs.declared.refusal.Refused.TheVariants.{Rule}
 use Rattle.bus_semantics.specs.declared.script.Line.{Line}
 use Rattle.bus_semantics.specs.declared.script.Mapping.{Mapping}
 use Rattle.bus_semantics.specs.Plan.{Plan}
+use Rattle.bus_semantics.specs.Spelling.{Letters}
 use Rattle.check_definitions.specs.declared.checked.Checked.{Checked}
 use Rattle.check_definitions.specs.Verdicts.{IsVerdict}
 use Rattle.description_stages.specs.declared.planning.PlannedDescription.{PlannedDescription}
 use Rattle.description_stages.specs.Plans.{IsPlanRefusalOf, IsPlannedOf}
 use Rattle.line_fields.specs.Texts.{lines_of}
-use Rattle.script_reading.specs.Reading.{IsScript, first_bad}
+use Rattle.script_reading.specs.Meaning.{Saying}
+use Rattle.script_reading.specs.Reading.{IsScriptBy, first_bad}
 
 -- the bytes of a description have a plan, or are refused by a rule
 abbrev pub HasPlan : (description : List ℕ) → Type 0
@@ -19,12 +21,12 @@ HasPlan bytes = (x : PlannedDescription) × IsPlannedOf bytes x
 abbrev pub HasRefusal : (description : List ℕ) → Type 0
 HasRefusal bytes = (r : Refusal) × IsPlanRefusalOf bytes (Rule r)
 
--- over a plan, the bytes are a script, or have a first bad line
-abbrev pub HasScript : Plan → (script : List ℕ) → Type 0
-HasScript p bytes = (lines : List Line) × IsScript p bytes lines
+-- where lines say this, the bytes are a script, or have a first bad line
+abbrev pub HasScript : (say : Letters → Saying) → (script : List ℕ) → Type 0
+HasScript say bytes = (lines : List Line) × IsScriptBy say bytes lines
 
-abbrev pub HasBadLine : Plan → (script : List ℕ) → Type 0
-HasBadLine p bytes = (line : ℕ) × (cause : ℕ) × (first_bad p [] (lines_of bytes) ≡ Some (line, cause))
+abbrev pub HasBadLine : (say : Letters → Saying) → (script : List ℕ) → Type 0
+HasBadLine say bytes = (line : ℕ) × (cause : ℕ) × (first_bad say [] (lines_of bytes) ≡ Some (line, cause))
 
 -- a trace is called legal, or refused at a line
 abbrev pub HasVerdict : Plan → Mapping → List Line → (trace : List ℕ) → Type 0

@@ -1,9 +1,11 @@
 //! The laws.
 
-ghost use Rattle.std.specs.Prelude.{◌≤◌, ◌⊎◌, ℕ, List, length};
+ghost use Rattle.std.specs.Prelude.{◌≤◌, ◌⊎◌, ℕ, List, Bool, length};
 ghost use Rattle.bus_semantics.specs.declared.script.Line.{Line};
 ghost use Rattle.bus_semantics.specs.declared.script.Mapping.{Mapping};
 ghost use Rattle.bus_semantics.specs.Plan.{Plan};
+ghost use Rattle.script_reading.specs.Meaning.{saying};
+ghost use Rattle.script_reading.specs.Reserved.{saying_around};
 ghost use Rattle.outcome_laws.specs.Outcomes.{HasBadLine, HasPlan, HasRefusal, HasScript, HasVerdict};
 
 use check_laws::accepted_items_go_on;
@@ -20,9 +22,11 @@ pub fn bytes_have_a_plan_or_a_refusal()
     plans_are_sound();
 }
 
-/// Over any plan, bytes are a script or have a first bad line, with its cause.
+/// Over any plan, bytes are a script or have a first bad line, with its cause; and so are they where elements are reserved.
 pub fn bytes_are_a_script_or_have_a_bad_line()
-    ensures { (p : Plan) (bytes : List ℕ) → HasScript p bytes ⊎ HasBadLine p bytes }
+    ensures over_plans { (p : Plan) (bytes : List ℕ) → HasScript (saying p) bytes ⊎ HasBadLine (saying p) bytes }
+    ensures around { (p : Plan) (reserved : List Bool) (bytes : List ℕ)
+        → HasScript (saying_around p reserved) bytes ⊎ HasBadLine (saying_around p reserved) bytes }
 {}
 
 /// No trace is without a verdict, whatever the plan and the script. That one is missing is refuted; which one it is the check finds.

@@ -42,9 +42,9 @@ line_fits p t nothing is = All-nil (IsFit p)
 line_fits p t (asks a) is = All-cons (IsFit p) a [] (asked_fit p a (saying_asks p t a is).spelling.may) (All-nil (IsFit p))
 line_fits p t (is_bad cause) is = All-nil (IsFit p)
 
-all_fit : (p : Plan) (ts : List Letters) → All (IsFit p) (asked_in p ts)
+all_fit : (p : Plan) (ts : List Letters) → All (IsFit p) (asked_in (saying p) ts)
 all_fit p [] = All-nil (IsFit p)
-all_fit p (t ∷ ts) = All-append (IsFit p) (asked_by (saying p t)) (asked_in p ts) (line_fits p t (saying p t) refl) (all_fit p ts)
+all_fit p (t ∷ ts) = All-append (IsFit p) (asked_by (saying p t)) (asked_in (saying p) ts) (line_fits p t (saying p t) refl) (all_fit p ts)
 
 line_is_carriable : (p : Plan) (l : Line) → IsFit p (asked_of l) → IsCarriable p l
 line_is_carriable p (line.Tick n) fit = tt

@@ -143,36 +143,36 @@ bad_said p t cause (inr (inr h)) = no_value_said p t h.1 ∙ ap is_bad (sym h.0)
 
 -- ---- the least cause
 
-pub passes_is : (p : Plan) (before : List Letters) (t : Letters) → passes p before (saying p t) ≡ pass_limit p (before ++ t ∷ [])
-passes_is p before t =
-    ap (λ n. are_too_many n (ticks_in p before + ticks_said (saying p t)) (runs_in p before + runs_said (saying p t))) (sym (length-append before (t ∷ [])))
-    ∙ ap (λ n. are_too_many (length (before ++ t ∷ [])) n (runs_in p before + runs_said (saying p t))) (sym (ticks_in-more p before t))
-    ∙ ap (are_too_many (length (before ++ t ∷ [])) (ticks_in p (before ++ t ∷ []))) (sym (runs_in-more p before t))
+pub passes_is : (say : Letters → Saying) (before : List Letters) (t : Letters) → passes say before (say t) ≡ pass_limit say (before ++ t ∷ [])
+passes_is say before t =
+    ap (λ n. are_too_many n (ticks_in say before + ticks_said (say t)) (runs_in say before + runs_said (say t))) (sym (length-append before (t ∷ [])))
+    ∙ ap (λ n. are_too_many (length (before ++ t ∷ [])) n (runs_in say before + runs_said (say t))) (sym (ticks_in-more say before t))
+    ∙ ap (are_too_many (length (before ++ t ∷ [])) (ticks_in say (before ++ t ∷ []))) (sym (runs_in-more say before t))
 
 not_itself : (p : Plan) (t : Letters) (s : Saying) → saying p t ≡ s → ((cause : ℕ) → s ≡ is_bad cause → ⊥) → (cause : ℕ) → IsBadItself p t cause → ⊥
 not_itself p t s is none cause bad = none cause (sym is ∙ bad_said p t cause bad)
 
-past_cause : (p : Plan) (before : List Letters) (t : Letters) (cause : ℕ) → (b : Bool) → pass_limit p (before ++ t ∷ []) ≡ b → ((k : ℕ) → IsBadItself p t k → ⊥)
+past_cause : (p : Plan) (before : List Letters) (t : Letters) (cause : ℕ) → (b : Bool) → pass_limit (saying p) (before ++ t ∷ []) ≡ b → ((k : ℕ) → IsBadItself p t k → ⊥)
     → cond b (Some too_many) None ≡ Some cause → IsCauseOf p before t cause
 past_cause p before t cause true is good h = inr ((let same : too_many ≡ cause = cc in sym same), record { good_itself = good; passes = is })
 past_cause p before t cause false is good h = absurd (cc)
 
-pub cause_is_one : (p : Plan) (before : List Letters) (t : Letters) (cause : ℕ) → cause_of p before t ≡ Some cause → IsCauseOf p before t cause
-cause_is_one p before t cause h = step (saying p t) refl (sym (ap (λ b. least_cause b (saying p t)) (passes_is p before t)) ∙ h)
+pub cause_is_one : (p : Plan) (before : List Letters) (t : Letters) (cause : ℕ) → cause_of (saying p) before t ≡ Some cause → IsCauseOf p before t cause
+cause_is_one p before t cause h = step (saying p t) refl (sym (ap (λ b. least_cause b (saying p t)) (passes_is (saying p) before t)) ∙ h)
   where
-    step : (s : Saying) → saying p t ≡ s → least_cause (pass_limit p (before ++ t ∷ [])) s ≡ Some cause → IsCauseOf p before t cause
+    step : (s : Saying) → saying p t ≡ s → least_cause (pass_limit (saying p) (before ++ t ∷ [])) s ≡ Some cause → IsCauseOf p before t cause
     step (is_bad k) is h = let same : k ≡ cause = cc in inl (said_bad p t cause (is ∙ ap is_bad same))
-    step nothing is h = past_cause p before t cause (pass_limit p (before ++ t ∷ [])) refl (not_itself p t nothing is (λ k e. cc)) h
-    step (asks a) is h = past_cause p before t cause (pass_limit p (before ++ t ∷ [])) refl (not_itself p t (asks a) is (λ k e. cc)) h
+    step nothing is h = past_cause p before t cause (pass_limit (saying p) (before ++ t ∷ [])) refl (not_itself p t nothing is (λ k e. cc)) h
+    step (asks a) is h = past_cause p before t cause (pass_limit (saying p) (before ++ t ∷ [])) refl (not_itself p t (asks a) is (λ k e. cc)) h
 
 past_is : (p : Plan) (t : Letters) (s : Saying) → saying p t ≡ s → ((k : ℕ) → IsBadItself p t k → ⊥) → least_cause true s ≡ Some too_many
 past_is p t (is_bad k) is good = absurd (good k (said_bad p t k is))
 past_is p t nothing is good = refl
 past_is p t (asks a) is good = refl
 
-pub one_is_cause : (p : Plan) (before : List Letters) (t : Letters) (cause : ℕ) → IsCauseOf p before t cause → cause_of p before t ≡ Some cause
-one_is_cause p before t cause (inl bad) = ap (least_cause (passes p before (saying p t))) (bad_said p t cause bad)
+pub one_is_cause : (p : Plan) (before : List Letters) (t : Letters) (cause : ℕ) → IsCauseOf p before t cause → cause_of (saying p) before t ≡ Some cause
+one_is_cause p before t cause (inl bad) = ap (least_cause (passes (saying p) before (saying p t))) (bad_said p t cause bad)
 one_is_cause p before t cause (inr past) =
-    ap (λ b. least_cause b (saying p t)) (passes_is p before t ∙ past.1.passes)
+    ap (λ b. least_cause b (saying p t)) (passes_is (saying p) before t ∙ past.1.passes)
     ∙ past_is p t (saying p t) refl past.1.good_itself
     ∙ ap (λ k. Some k) (sym past.0)

@@ -7,5 +7,6 @@ pub mod Indexed
 pub mod Naming
 pub mod Numbered
 pub mod Phrasing
+pub mod Reserving
 pub mod Scripts
 pub mod Steps

@@ -85,35 +85,35 @@ spoken_more t ts h = ap (λ b. cond (not b) (t ∷ spoken ts) (spoken ts)) h
 
 -- ---- limits
 
-ticks_in-append : (p : Plan) (xs ys : List Letters) → ticks_in p (xs ++ ys) ≡ ticks_in p xs + ticks_in p ys
-ticks_in-append p [] ys = omega arith
-ticks_in-append p (x ∷ xs) ys = let h = ticks_in-append p xs ys in omega arith
+ticks_in-append : (say : Letters → Saying) (xs ys : List Letters) → ticks_in say (xs ++ ys) ≡ ticks_in say xs + ticks_in say ys
+ticks_in-append say [] ys = omega arith
+ticks_in-append say (x ∷ xs) ys = let h = ticks_in-append say xs ys in omega arith
 
-runs_in-append : (p : Plan) (xs ys : List Letters) → runs_in p (xs ++ ys) ≡ runs_in p xs + runs_in p ys
-runs_in-append p [] ys = omega arith
-runs_in-append p (x ∷ xs) ys = let h = runs_in-append p xs ys in omega arith
+runs_in-append : (say : Letters → Saying) (xs ys : List Letters) → runs_in say (xs ++ ys) ≡ runs_in say xs + runs_in say ys
+runs_in-append say [] ys = omega arith
+runs_in-append say (x ∷ xs) ys = let h = runs_in-append say xs ys in omega arith
 
 -- what passes no limit with more lines passes none with fewer
-fewer : (p : Plan) (xs ys : List Letters) → pass_limit p (xs ++ ys) ≡ false → pass_limit p xs ≡ false
-fewer p xs ys h =
+fewer : (say : Letters → Saying) (xs ys : List Letters) → pass_limit say (xs ++ ys) ≡ false → pass_limit say xs ≡ false
+fewer say xs ys h =
     let n = length (xs ++ ys) in
-    let k = ticks_in p (xs ++ ys) in
-    let r = runs_in p (xs ++ ys) in
+    let k = ticks_in say (xs ++ ys) in
+    let r = runs_in say (xs ++ ys) in
     let one = or_parts (nat_lt 100000 n) (nat_lt 1000000 k || nat_lt 1000 r) h in
     let two = or_parts (nat_lt 1000000 k) (nat_lt 1000 r) one.1 in
     let lines : n ≤ 100000 = ltb-false 100000 n one.0 in
     let ticks : k ≤ 1000000 = ltb-false 1000000 k two.0 in
     let runs : r ≤ 1000 = ltb-false 1000 r two.1 in
     let n_is : n ≡ length xs + length ys = length-append xs ys in
-    let k_is : k ≡ ticks_in p xs + ticks_in p ys = ticks_in-append p xs ys in
-    let r_is : r ≡ runs_in p xs + runs_in p ys = runs_in-append p xs ys in
+    let k_is : k ≡ ticks_in say xs + ticks_in say ys = ticks_in-append say xs ys in
+    let r_is : r ≡ runs_in say xs + runs_in say ys = runs_in-append say xs ys in
     or_from (nat_lt 100000 (length xs)) _ (le-ltb 100000 (length xs) (omega arith))
-    (or_from (nat_lt 1000000 (ticks_in p xs)) _ (le-ltb 1000000 (ticks_in p xs) (omega arith)) (le-ltb 1000 (runs_in p xs) (omega arith)))
+    (or_from (nat_lt 1000000 (ticks_in say xs)) _ (le-ltb 1000000 (ticks_in say xs) (omega arith)) (le-ltb 1000 (runs_in say xs) (omega arith)))
 
 -- ---- from a script to its spelling
 
 -- where no line is bad, this one is not
-none_or : (n : ℕ) (o : Option ℕ) (later : Option (ℕ × ℕ)) → bad_or n o later ≡ None → (o ≡ None) × (later ≡ None)
+pub none_or : (n : ℕ) (o : Option ℕ) (later : Option (ℕ × ℕ)) → bad_or n o later ≡ None → (o ≡ None) × (later ≡ None)
 none_or n None later h = (refl, h)
 none_or n (Some cause) later h = absurd (cc)
 
@@ -123,61 +123,61 @@ past_none true nothing h = absurd (cc)
 past_none true (asks a) h = absurd (cc)
 past_none true (is_bad cause) h = absurd (cc)
 
-within_limits : (p : Plan) (before ts : List Letters) → first_bad p before ts ≡ None → pass_limit p before ≡ false → pass_limit p (before ++ ts) ≡ false
-within_limits p before [] h k = ap (pass_limit p) (append-nil before) ∙ k
-within_limits p before (t ∷ ts) h k =
-    let two = none_or (length before + 1) (cause_of p before t) (first_bad p (before ++ t ∷ []) ts) h in
-    let now = sym (passes_is p before t) ∙ past_none (passes p before (saying p t)) (saying p t) two.0 in
-    ap (pass_limit p) (sym (append_assoc before (t ∷ []) ts)) ∙ within_limits p (before ++ t ∷ []) ts two.1 now
+within_limits : (say : Letters → Saying) (before ts : List Letters) → first_bad say before ts ≡ None → pass_limit say before ≡ false → pass_limit say (before ++ ts) ≡ false
+within_limits say before [] h k = ap (pass_limit say) (append-nil before) ∙ k
+within_limits say before (t ∷ ts) h k =
+    let two = none_or (length before + 1) (cause_of say before t) (first_bad say (before ++ t ∷ []) ts) h in
+    let now = sym (passes_is say before t) ∙ past_none (passes say before (say t)) (say t) two.0 in
+    ap (pass_limit say) (sym (append_assoc before (t ∷ []) ts)) ∙ within_limits say (before ++ t ∷ []) ts two.1 now
 
 record AreSpelt (p : Plan) (ts : List Letters) (asked : List Asked) : Type 0 where
   texts : spoken ts ≡ map (text_of p) asked
   may : list_all (may_ask p) asked ≡ true
 
-are_spelt : (p : Plan) (before ts : List Letters) → first_bad p before ts ≡ None → AreSpelt p ts (asked_in p ts)
+are_spelt : (p : Plan) (before ts : List Letters) → first_bad (saying p) before ts ≡ None → AreSpelt p ts (asked_in (saying p) ts)
 are_spelt p before [] h = record { texts = refl; may = refl }
 are_spelt p before (t ∷ ts) h =
-    let two = none_or (length before + 1) (cause_of p before t) (first_bad p (before ++ t ∷ []) ts) h in
+    let two = none_or (length before + 1) (cause_of (saying p) before t) (first_bad (saying p) (before ++ t ∷ []) ts) h in
     step (saying p t) refl two.0 (are_spelt p (before ++ t ∷ []) ts two.1)
   where
-    step : (s : Saying) → saying p t ≡ s → least_cause (passes p before (saying p t)) (saying p t) ≡ None → AreSpelt p ts (asked_in p ts) → AreSpelt p (t ∷ ts) (asked_by (saying p t) ++ asked_in p ts)
-    step nothing is good more = subst (λ (s : Saying). AreSpelt p (t ∷ ts) (asked_by s ++ asked_in p ts)) (sym is) (record { texts = spoken_blank t ts (says_blank p t is) ∙ more.texts; may = more.may })
+    step : (s : Saying) → saying p t ≡ s → least_cause (passes (saying p) before (saying p t)) (saying p t) ≡ None → AreSpelt p ts (asked_in (saying p) ts) → AreSpelt p (t ∷ ts) (asked_by (saying p t) ++ asked_in (saying p) ts)
+    step nothing is good more = subst (λ (s : Saying). AreSpelt p (t ∷ ts) (asked_by s ++ asked_in (saying p) ts)) (sym is) (record { texts = spoken_blank t ts (says_blank p t is) ∙ more.texts; may = more.may })
     step (asks a) is good more = let f = (saying_asks p t a is).spelling in
-        subst (λ (s : Saying). AreSpelt p (t ∷ ts) (asked_by s ++ asked_in p ts)) (sym is) (record {
+        subst (λ (s : Saying). AreSpelt p (t ∷ ts) (asked_by s ++ asked_in (saying p) ts)) (sym is) (record {
           texts = spoken_more t ts (asks_spoken p t a is) ∙ ap (λ u. u ∷ spoken ts) f.text ∙ ap (λ us. text_of p a ∷ us) more.texts;
           may = and_from (may_ask p a) _ f.may more.may;
         })
-    step (is_bad cause) is good more = let bad : least_cause (passes p before (saying p t)) (is_bad cause) ≡ None = subst (λ (s : Saying). least_cause (passes p before (saying p t)) s ≡ None) is good in absurd (cc)
+    step (is_bad cause) is good more = let bad : least_cause (passes (saying p) before (saying p t)) (is_bad cause) ≡ None = subst (λ (s : Saying). least_cause (passes (saying p) before (saying p t)) s ≡ None) is good in absurd (cc)
 
 -- ---- and back
 
-no_cause : (p : Plan) (before : List Letters) (t : Letters) (ts : List Letters) (s : Saying) → saying p t ≡ s → pass_limit p (before ++ t ∷ ts) ≡ false → ((b : Bool) → b ≡ false → least_cause b s ≡ None) → cause_of p before t ≡ None
+no_cause : (p : Plan) (before : List Letters) (t : Letters) (ts : List Letters) (s : Saying) → saying p t ≡ s → pass_limit (saying p) (before ++ t ∷ ts) ≡ false → ((b : Bool) → b ≡ false → least_cause b s ≡ None) → cause_of (saying p) before t ≡ None
 no_cause p before t ts s is within good =
-    let now : passes p before (saying p t) ≡ false = passes_is p before t ∙ fewer p (before ++ t ∷ []) ts (ap (pass_limit p) (append_assoc before (t ∷ []) ts) ∙ within) in
-    ap (least_cause (passes p before (saying p t))) is ∙ good (passes p before (saying p t)) now
+    let now : passes (saying p) before (saying p t) ≡ false = passes_is (saying p) before t ∙ fewer (saying p) (before ++ t ∷ []) ts (ap (pass_limit (saying p)) (append_assoc before (t ∷ []) ts) ∙ within) in
+    ap (least_cause (passes (saying p) before (saying p t))) is ∙ good (passes (saying p) before (saying p t)) now
 
 no_limit : (s : Saying) → ((cause : ℕ) → s ≡ is_bad cause → ⊥) → (b : Bool) → b ≡ false → least_cause b s ≡ None
 no_limit nothing good b h = ap (λ x. least_cause x nothing) h
 no_limit (asks a) good b h = ap (λ x. least_cause x (asks a)) h
 no_limit (is_bad cause) good b h = absurd (good cause refl)
 
-read_back : (p : Plan) (m : Mapping) → IsSound p m → (before ts : List Letters) (asked : List Asked) → AreSpelt p ts asked → pass_limit p (before ++ ts) ≡ false → (first_bad p before ts ≡ None) × (asked_in p ts ≡ asked)
+read_back : (p : Plan) (m : Mapping) → IsSound p m → (before ts : List Letters) (asked : List Asked) → AreSpelt p ts asked → pass_limit (saying p) (before ++ ts) ≡ false → (first_bad (saying p) before ts ≡ None) × (asked_in (saying p) ts ≡ asked)
 read_back p m s before [] [] h within = (refl, refl)
 read_back p m s before [] (a ∷ asked) h within = let no_text : [] ≡ text_of p a ∷ map (text_of p) asked = h.texts in absurd (cc)
 read_back p m s before (t ∷ ts) asked h within = step (is_blank t) refl asked h (read_back p m s (before ++ t ∷ []) ts)
   where
-    later_within : pass_limit p ((before ++ t ∷ []) ++ ts) ≡ false
-    later_within = ap (pass_limit p) (append_assoc before (t ∷ []) ts) ∙ within
+    later_within : pass_limit (saying p) ((before ++ t ∷ []) ++ ts) ≡ false
+    later_within = ap (pass_limit (saying p)) (append_assoc before (t ∷ []) ts) ∙ within
 
-    joined : (x : Saying) (a b : List Asked) → saying p t ≡ x → cause_of p before t ≡ None → (first_bad p (before ++ t ∷ []) ts ≡ None) × (asked_in p ts ≡ a) → asked_by x ++ a ≡ b → (first_bad p before (t ∷ ts) ≡ None) × (asked_in p (t ∷ ts) ≡ b)
+    joined : (x : Saying) (a b : List Asked) → saying p t ≡ x → cause_of (saying p) before t ≡ None → (first_bad (saying p) (before ++ t ∷ []) ts ≡ None) × (asked_in (saying p) ts ≡ a) → asked_by x ++ a ≡ b → (first_bad (saying p) before (t ∷ ts) ≡ None) × (asked_in (saying p) (t ∷ ts) ≡ b)
     joined x a b is none more e = (
-      ap (λ o. bad_or (length before + 1) o (first_bad p (before ++ t ∷ []) ts)) none ∙ more.0,
-      ap (λ y. asked_by y ++ asked_in p ts) is ∙ ap (λ ys. asked_by x ++ ys) more.1 ∙ e,
+      ap (λ o. bad_or (length before + 1) o (first_bad (saying p) (before ++ t ∷ []) ts)) none ∙ more.0,
+      ap (λ y. asked_by y ++ asked_in (saying p) ts) is ∙ ap (λ ys. asked_by x ++ ys) more.1 ∙ e,
     )
 
     step : (b : Bool) → is_blank t ≡ b → (asked : List Asked) → AreSpelt p (t ∷ ts) asked
-        → ((xs : List Asked) → AreSpelt p ts xs → pass_limit p ((before ++ t ∷ []) ++ ts) ≡ false → (first_bad p (before ++ t ∷ []) ts ≡ None) × (asked_in p ts ≡ xs))
-        → (first_bad p before (t ∷ ts) ≡ None) × (asked_in p (t ∷ ts) ≡ asked)
+        → ((xs : List Asked) → AreSpelt p ts xs → pass_limit (saying p) ((before ++ t ∷ []) ++ ts) ≡ false → (first_bad (saying p) (before ++ t ∷ []) ts ≡ None) × (asked_in (saying p) ts ≡ xs))
+        → (first_bad (saying p) before (t ∷ ts) ≡ None) × (asked_in (saying p) (t ∷ ts) ≡ asked)
     step true is asked h more =
         let says = blank_says p t is in
         joined nothing asked asked says (no_cause p before t ts nothing says within (no_limit nothing (λ k e. cc)))
@@ -198,7 +198,7 @@ script_is_spelt p bytes lines s =
     record {
       texts = h.texts ∙ ap (map (text_of p)) (sym s.lines_are);
       may = ap (list_all (may_ask p)) s.lines_are ∙ h.may;
-      limits = within_limits p [] (lines_of bytes) s.good refl;
+      limits = within_limits (saying p) [] (lines_of bytes) s.good refl;
     }
 
 pub spelt_is_script : (p : Plan) (m : Mapping) (bytes : Letters) (lines : List Line) → IsSound p m → SpellsScript p bytes lines → IsScript p bytes lines

@@ -3,6 +3,7 @@ pub mod Offers
 pub mod Meaning
 pub mod Limits
 pub mod Reading
+pub mod Reserved
 pub mod Pieces
 pub mod Index
 pub mod Numbers

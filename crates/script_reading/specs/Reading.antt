@@ -1,4 +1,5 @@
--- What a script is read as: what its lines ask for, in order, or its first bad line with its least cause.
+-- What a script is read as: what its lines ask for, in order, or its first bad line with its least cause. What a line says is given by a
+-- function: over a plan it is `saying`.
 use Rattle.std.specs.Prelude.{◌≡◌, ℕ, ◌+◌, List, [], ◌∷◌, ◌++◌, length, map, Bool, if◌then◌else◌, Option, Some, None}
 use Rattle.bus_semantics.specs.Plan.{Plan}
 use Rattle.bus_semantics.specs.Spelling.{Letters}
@@ -16,8 +17,8 @@ abbrev pub too_many : ℕ
 too_many = 4
 
 -- whether this line, which says so, passes a limit where these lines stand before it
-abbrev pub passes : Plan → (before : List Letters) → Saying → Bool
-passes p before s = are_too_many (length before + 1) (ticks_in p before + ticks_said s) (runs_in p before + runs_said s)
+abbrev pub passes : (say : Letters → Saying) → (before : List Letters) → Saying → Bool
+passes say before s = are_too_many (length before + 1) (ticks_in say before + ticks_said s) (runs_in say before + runs_said s)
 
 -- the least cause of a line that says so, and none where it is good
 abbrev pub least_cause : (passes : Bool) → Saying → Option ℕ
@@ -25,17 +26,17 @@ least_cause past (is_bad cause) = Some cause
 least_cause past nothing = if past then Some too_many else None
 least_cause past (asks a) = if past then Some too_many else None
 
-abbrev pub cause_of : Plan → (before : List Letters) → Letters → Option ℕ
-cause_of p before t = least_cause (passes p before (saying p t)) (saying p t)
+abbrev pub cause_of : (say : Letters → Saying) → (before : List Letters) → Letters → Option ℕ
+cause_of say before t = least_cause (passes say before (say t)) (say t)
 
 abbrev pub bad_or : (number : ℕ) → Option ℕ → Option (ℕ × ℕ) → Option (ℕ × ℕ)
 bad_or n None later = later
 bad_or n (Some cause) later = Some (n, cause)
 
 -- the number of the first bad line after those before, counted from 1, with its cause
-abbrev pub first_bad : Plan → (before : List Letters) → List Letters → Option (ℕ × ℕ)
-first_bad p before [] = None
-first_bad p before (t ∷ ts) = bad_or (length before + 1) (cause_of p before t) (first_bad p (before ++ t ∷ []) ts)
+abbrev pub first_bad : (say : Letters → Saying) → (before : List Letters) → List Letters → Option (ℕ × ℕ)
+first_bad say before [] = None
+first_bad say before (t ∷ ts) = bad_or (length before + 1) (cause_of say before t) (first_bad say (before ++ t ∷ []) ts)
 
 -- ---- a script
 
@@ -44,14 +45,18 @@ abbrev pub asked_by : Saying → List Asked
 asked_by (asks a) = a ∷ []
 asked_by _ = []
 
-abbrev pub asked_in : Plan → List Letters → List Asked
-asked_in p [] = []
-asked_in p (t ∷ ts) = asked_by (saying p t) ++ asked_in p ts
+abbrev pub asked_in : (say : Letters → Saying) → List Letters → List Asked
+asked_in say [] = []
+asked_in say (t ∷ ts) = asked_by (say t) ++ asked_in say ts
 
--- the bytes are a script of these lines
-pub record IsScript (p : Plan) (bytes : Letters) (lines : List Line) : Type 0 where
-  pub good : first_bad p [] (lines_of bytes) ≡ None
-  pub lines_are : map asked_of lines ≡ asked_in p (lines_of bytes)
+-- the bytes are a script of these lines, where lines say this
+pub record IsScriptBy (say : Letters → Saying) (bytes : Letters) (lines : List Line) : Type 0 where
+  pub good : first_bad say [] (lines_of bytes) ≡ None
+  pub lines_are : map asked_of lines ≡ asked_in say (lines_of bytes)
+
+-- the bytes are a script of these lines over the plan
+abbrev pub IsScript : Plan → (bytes : Letters) → List Line → Type 0
+IsScript p bytes lines = IsScriptBy (saying p) bytes lines
 
 -- ---- what reading answers
 

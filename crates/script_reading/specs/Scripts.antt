@@ -4,7 +4,7 @@ use Rattle.std.specs.List.{list_all}
 use Rattle.bus_semantics.specs.declared.script.Line.{Line}
 use Rattle.bus_semantics.specs.Plan.{Plan}
 use Rattle.bus_semantics.specs.Spelling.{Letters}
-use Rattle.script_reading.specs.Meaning.{asked_of}
+use Rattle.script_reading.specs.Meaning.{asked_of, saying}
 use Rattle.script_reading.specs.Sentences.{is_blank, may_ask, pass_limit, text_of}
 use Rattle.line_fields.specs.Texts.{lines_of}
 
@@ -16,4 +16,4 @@ spoken ts = filter (λ t. not (is_blank t)) ts
 pub record SpellsScript (p : Plan) (bytes : Letters) (lines : List Line) : Type 0 where
   pub texts : spoken (lines_of bytes) ≡ map (text_of p) (map asked_of lines)
   pub may : list_all (may_ask p) (map asked_of lines) ≡ true
-  pub limits : pass_limit p (lines_of bytes) ≡ false
+  pub limits : pass_limit (saying p) (lines_of bytes) ≡ false

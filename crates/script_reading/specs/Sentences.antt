@@ -13,7 +13,7 @@ use Rattle.script_reading.specs.declared.forms.Form.TheVariants.{Write, Send, Re
 use Rattle.script_reading.specs.declared.forms.Follows.TheVariants as follow
 use Rattle.script_reading.specs.Forms.{Phrase, to_call, behind, is_phrase, phrase_text}
 use Rattle.script_reading.specs.Limits.{are_too_many, runs_in, ticks_in}
-use Rattle.script_reading.specs.Meaning.{Asked, ticks, a_run, a_call, no_form, no_such, not_of_type}
+use Rattle.script_reading.specs.Meaning.{Asked, Saying, ticks, a_run, a_call, no_form, no_such, not_of_type, saying}
 use Rattle.line_fields.specs.Numbers.{words_in}
 use Rattle.script_reading.specs.Offers.{offered, takes}
 use Rattle.script_reading.specs.Reading.{too_many}
@@ -153,12 +153,12 @@ IsBadItself p t cause = ((cause ≡ no_form) × HasNoForm t)
     ⊎ (((cause ≡ no_such) × (NamesNothing p t ⊎ NamesNoMode p t)) ⊎ ((cause ≡ not_of_type) × GivesNoValue p t))
 
 -- 4: with this line there are too many lines, ticks or run lines
-abbrev pub pass_limit : Plan → List Letters → Bool
-pass_limit p ts = are_too_many (length ts) (ticks_in p ts) (runs_in p ts)
+abbrev pub pass_limit : (say : Letters → Saying) → List Letters → Bool
+pass_limit say ts = are_too_many (length ts) (ticks_in say ts) (runs_in say ts)
 
 pub record PassesLimit (p : Plan) (before : List Letters) (t : Letters) : Type 0 where
   pub good_itself : (cause : ℕ) → IsBadItself p t cause → ⊥
-  pub passes : pass_limit p (before ++ t ∷ []) ≡ true
+  pub passes : pass_limit (saying p) (before ++ t ∷ []) ≡ true
 
 -- the least cause of a line where these stand before it
 abbrev pub IsCauseOf : Plan → (before : List Letters) → Letters → (cause : ℕ) → Type 0

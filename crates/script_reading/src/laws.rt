@@ -1,14 +1,16 @@
 //! Laws of scripts.
 
-ghost use Rattle.std.specs.Prelude.{◌≡◌, ◌↔◌, ℕ, List, All, Some};
+ghost use Rattle.std.specs.Prelude.{◌≡◌, ◌↔◌, ℕ, List, All, Bool, Some, map, true, false};
+ghost use Rattle.std.specs.List.{list_all};
 ghost use Rattle.bus_semantics.specs.declared.script.Line.{Line};
 ghost use Rattle.bus_semantics.specs.declared.script.Mapping.{Mapping};
 ghost use Rattle.bus_semantics.specs.Plan.{Plan};
 ghost use Rattle.bus_semantics.specs.Sound.{IsSound};
 ghost use Rattle.bus_semantics.specs.Spelling.{Letters};
 ghost use Rattle.script_reading.specs.Carried.{IsCarriable};
-ghost use Rattle.script_reading.specs.Meaning.{Asked, asks, saying};
-ghost use Rattle.script_reading.specs.Reading.{IsScript, cause_of};
+ghost use Rattle.script_reading.specs.Meaning.{Asked, asked_of, asks, no_such, saying};
+ghost use Rattle.script_reading.specs.Reading.{IsScript, IsScriptBy, cause_of};
+ghost use Rattle.script_reading.specs.Reserved.{is_reserved, keeps_off, saying_around};
 ghost use Rattle.script_reading.specs.Scripts.{SpellsScript};
 ghost use Rattle.script_reading.specs.Sentences.{AsksFor, IsCauseOf, IsSpelling};
 
@@ -29,7 +31,7 @@ pub fn lines_spell_what_they_ask()
 /// The least cause of a line is this one exactly where its sentence holds: it has none of the forms; it has one, but
 /// names nothing that there is; it names such a thing, but gives it no value that it takes; or a limit is passed.
 pub fn causes_are_sentences()
-    ensures { (p : Plan) (before : List Letters) (t : Letters) (cause : ℕ) → cause_of p before t ≡ Some cause ↔ IsCauseOf p before t cause }
+    ensures { (p : Plan) (before : List Letters) (t : Letters) (cause : ℕ) → cause_of (saying p) before t ≡ Some cause ↔ IsCauseOf p before t cause }
 {}
 
 /// In a sound plan bytes are a script of these lines exactly where they spell them: without blank lines and comments the
@@ -37,4 +39,15 @@ pub fn causes_are_sentences()
 /// is passed.
 pub fn scripts_spell_their_lines()
     ensures { (p : Plan) (m : Mapping) (bytes : Letters) (lines : List Line) → IsSound p m → IsScript p bytes lines ↔ SpellsScript p bytes lines }
+{}
+
+/// A line that receives from a reserved element has cause 2, and any other the cause that it has over the plan. So the scripts
+/// that keep off what is reserved are those over the plan that ask for nothing of it.
+pub fn scripts_keep_off_what_is_reserved()
+    ensures reserved { (p : Plan) (reserved : List Bool) (before : List Letters) (t : Letters) → is_reserved reserved (saying p t) ≡ true
+        → cause_of (saying_around p reserved) before t ≡ Some no_such }
+    ensures others { (p : Plan) (reserved : List Bool) (before : List Letters) (t : Letters) → is_reserved reserved (saying p t) ≡ false
+        → cause_of (saying_around p reserved) before t ≡ cause_of (saying p) before t }
+    ensures scripts { (p : Plan) (reserved : List Bool) (bytes : Letters) (lines : List Line) → IsScriptBy (saying_around p reserved) bytes lines
+        ↔ (IsScript p bytes lines × (list_all (keeps_off reserved) (map asked_of lines) ≡ true)) }
 {}

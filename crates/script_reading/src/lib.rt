@@ -8,6 +8,7 @@ mod counts;
 mod environment;
 mod fields;
 mod forms;
+mod grammar;
 mod laws;
 mod limits;
 mod line;
@@ -15,8 +16,11 @@ mod offers;
 mod phrases;
 mod script_read;
 
+pub use environment::Environment;
+pub use grammar::Grammar;
 pub use laws::{
     causes_are_sentences, lines_spell_what_they_ask, scripts_are_carriable,
-    scripts_spell_their_lines,
+    scripts_keep_off_what_is_reserved, scripts_spell_their_lines,
 };
-pub use script_read::{ScriptRead, read_script};
+pub use line::Said;
+pub use script_read::{ScriptRead, read_script, read_script_around};

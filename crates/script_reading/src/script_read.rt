@@ -5,14 +5,16 @@ ghost use Rattle.bus_semantics.specs.declared.script.Mapping.{Mapping};
 ghost use Rattle.bus_semantics.specs.Plan.{plan_of};
 ghost use Rattle.bus_semantics.specs.Sound.{IsSound};
 ghost use Rattle.script_reading.specs.Numbers.{HasFewNumbers};
-ghost use Rattle.script_reading.specs.Meaning.{asked_of};
+ghost use Rattle.script_reading.specs.Meaning.{asked_of, saying};
 ghost use Rattle.script_reading.specs.Pieces.{saying_of};
-ghost use Rattle.script_reading.specs.Reading.{IfBadLine, IfRead, IsScript, asked_by, first_bad};
+ghost use Rattle.script_reading.specs.Reading.{IfBadLine, IfRead, IsScript, IsScriptBy, asked_by, first_bad};
+ghost use Rattle.script_reading.specs.Reserved.{saying_around};
 ghost use Rattle.line_fields.specs.Texts.{lines_of};
 
 use crate::counts::Counts;
 use crate::environment::Environment;
-use crate::line::{Said, read_line_of};
+use crate::grammar::{Grammar, Reserving};
+use crate::line::Said;
 use bus_semantics::{BusPlan, Line, Script};
 use line_fields::split_line;
 use rte_text::{Memory, Seq};
@@ -39,10 +41,30 @@ pub fn read_script(alloc: Global, p: &BusPlan, bytes: &[u8]) -> ScriptRead
     requires sound { (m : Mapping) × IsSound (plan_of p.now) m }
     requires few { HasFewNumbers (plan_of p.now) }
     ensures read { IfRead result (λ lines. IsScript (plan_of p.now) bytes.now lines) }
-    ensures bad_line { IfBadLine result (λ line cause. first_bad (plan_of p.now) [] (lines_of bytes.now) ≡ Some (line, cause)) }
+    ensures bad_line { IfBadLine result (λ line cause. first_bad (saying (plan_of p.now)) [] (lines_of bytes.now) ≡ Some (line, cause)) }
 {
     match Environment::of(alloc, p) {
-        Ok(environment) => read_lines(alloc, &environment, bytes),
+        Ok(environment) => read_by(alloc, &environment, bytes),
+        Err(_) => ScriptRead::Memory,
+    }
+}
+
+/// Reads a script as `read_script` does, but a line that receives from a reserved element has cause 2. `reserved` says of each element
+/// of the plan whether it is.
+pub fn read_script_around(alloc: Global, p: &BusPlan, reserved: &[bool], bytes: &[u8]) -> ScriptRead
+    requires sound { (m : Mapping) × IsSound (plan_of p.now) m }
+    requires few { HasFewNumbers (plan_of p.now) }
+    ensures read { IfRead result (λ lines. IsScriptBy (saying_around (plan_of p.now) reserved.now) bytes.now lines) }
+    ensures bad_line { IfBadLine result (λ line cause. first_bad (saying_around (plan_of p.now) reserved.now) [] (lines_of bytes.now) ≡ Some (line, cause)) }
+{
+    match Environment::of(alloc, p) {
+        Ok(environment) => {
+            let grammar = Reserving {
+                environment: &environment,
+                reserved,
+            };
+            read_by(alloc, &grammar, bytes)
+        }
         Err(_) => ScriptRead::Memory,
     }
 }
@@ -57,16 +79,17 @@ fn push_line(lines: &mut Vec<Line>, said: &Said) -> Result<(), Memory>
     Ok(())
 }
 
-fn read_lines(alloc: Global, environment: &Environment, bytes: &[u8]) -> ScriptRead
-    ensures read { IfRead result (λ lines. IsScript (plan_of environment.now.plan.now) bytes.now lines) }
-    ensures bad_line { IfBadLine result (λ line cause. first_bad (plan_of environment.now.plan.now) [] (lines_of bytes.now) ≡ Some (line, cause)) }
+/// Reads a script whose lines say what the grammar reads in them.
+fn read_by<G: Grammar>(alloc: Global, grammar: &G, bytes: &[u8]) -> ScriptRead
+    ensures read { IfRead result (λ lines. IsScriptBy (G.say grammar.now) bytes.now lines) }
+    ensures bad_line { IfBadLine result (λ line cause. first_bad (G.say grammar.now) [] (lines_of bytes.now) ≡ Some (line, cause)) }
 {
     let mut lines = Vec::new(alloc);
     let mut counts = Counts::none();
     let mut rest = bytes;
     while !rest.is_empty() {
         let (text, after) = split_line(rest);
-        let said = read_line_of(environment, text);
+        let said = grammar.read_line(text);
         let more = match counts.judge(&said) {
             Ok(more) => more,
             Err(cause) => {

@@ -1,6 +1,7 @@
 use Rattle.std.proofs.Common.{◌≡◌, [], Some, subst}
 use Rattle.bus_semantics.specs.Plan.{plan_of}
-use Rattle.script_reading.specs.Reading.{IfBadLine, first_bad}
+use Rattle.script_reading.specs.Meaning.{saying}
+use Rattle.script_reading.specs.Reading.{IfBadLine, IfRead, IsScript, first_bad}
 use Rattle.line_fields.specs.Texts.{lines_of}
 use Rattle.script_reading.proofs.Numbered.{numbered}
 use Rattle.script_reading.proofs.script_read.read_script.Goals as goal
@@ -8,7 +9,11 @@ use Rattle.script_reading.proofs.script_read.read_script.Goals as goal
 pub of-requires : goal.of-requires
 of-requires c = numbered (plan_of c.args.p.now) c.requires.sound.0 c.requires.sound.1 c.requires.few
 
+pub returns-in-Ok-clause-read : goal.returns-in-Ok-clause-read
+returns-in-Ok-clause-read c =
+    subst (λ p. IfRead c.read_by.result (λ lines. IsScript (plan_of p) c.args.bytes.now lines)) c.in-Ok.ensures c.read_by.ensures.read
+
 pub returns-in-Ok-clause-bad_line : goal.returns-in-Ok-clause-bad_line
 returns-in-Ok-clause-bad_line c =
-    subst (λ p. IfBadLine c.read_lines.result (λ line cause. first_bad (plan_of p) [] (lines_of c.args.bytes.now) ≡ Some (line, cause))) c.in-Ok.ensures
-    c.read_lines.ensures.bad_line
+    subst (λ p. IfBadLine c.read_by.result (λ line cause. first_bad (saying (plan_of p)) [] (lines_of c.args.bytes.now) ≡ Some (line, cause))) c.in-Ok.ensures
+    c.read_by.ensures.bad_line
