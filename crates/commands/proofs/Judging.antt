@@ -8,6 +8,7 @@ use Rattle.check_definitions.specs.declared.checked.Checked.TheVariants.{Legal}
 use Rattle.description_stages.specs.declared.planning.PlannedDescription.{PlannedDescription}
 use Rattle.description_stages.specs.Plans.{IsPlannedOf}
 use Rattle.plan_text.specs.Lines.{plan_text}
+use Rattle.script_reading.specs.Meaning.{Saying, saying}
 use Rattle.script_reading.specs.Reading.{bad_or, cause_of, first_bad}
 use Rattle.line_fields.specs.Texts.{lines_of, onto_first}
 use Rattle.commands.specs.declared.status.Status.{Status}
@@ -55,18 +56,18 @@ lines_fit (c ∷ cs) = by (c == 10) refl (lines_fit cs)
 number_of : (x y : ℕ × ℕ) → Some x ≡ Some y → x.0 ≡ y.0
 number_of x y e = let same : x ≡ y = cc in ap (λ (z : ℕ × ℕ). z.0) same
 
-bad_within : (p : Plan) (before ts : List Letters) (n cause : ℕ) → first_bad p before ts ≡ Some (n, cause) → n ≤ length before + length ts
-bad_within p before [] n cause e = absurd cc
-bad_within p before (t ∷ ts) n cause e = by (cause_of p before t) e (λ later. bad_within p (before ++ t ∷ []) ts n cause later)
+bad_within : (say : Letters → Saying) (before ts : List Letters) (n cause : ℕ) → first_bad say before ts ≡ Some (n, cause) → n ≤ length before + length ts
+bad_within say before [] n cause e = absurd cc
+bad_within say before (t ∷ ts) n cause e = by (cause_of say before t) e (λ later. bad_within say (before ++ t ∷ []) ts n cause later)
   where
-    by : (o : Option ℕ) → bad_or (length before + 1) o (first_bad p (before ++ t ∷ []) ts) ≡ Some (n, cause)
-        → (first_bad p (before ++ t ∷ []) ts ≡ Some (n, cause) → n ≤ length (before ++ t ∷ []) + length ts) → n ≤ length before + length (t ∷ ts)
+    by : (o : Option ℕ) → bad_or (length before + 1) o (first_bad say (before ++ t ∷ []) ts) ≡ Some (n, cause)
+        → (first_bad say (before ++ t ∷ []) ts ≡ Some (n, cause) → n ≤ length (before ++ t ∷ []) + length ts) → n ≤ length before + length (t ∷ ts)
     by None later more = omega (arith, more later, length-append before (t ∷ []))
     by (Some k) now more = omega (arith, number_of (length before + 1, k) (n, cause) now)
 
 pub found_short : (d s : Bytes) → length s ≤ 8388608 → (found : Finding) → IsRunFinding d s found → IsShortFinding found
 found_short d s fits (finding.Refused refusal) is = tt
-found_short d s fits (finding.Script line cause) is = omega (arith, bad_within (plan_of is.found.plan) [] (lines_of s) line cause is.bad, lines_fit s, fits)
+found_short d s fits (finding.Script line cause) is = omega (arith, bad_within (saying (plan_of is.found.plan)) [] (lines_of s) line cause is.bad, lines_fit s, fits)
 found_short d s fits (finding.Trace checked) is = absurd is
 found_short d s fits finding.NoComponent is = absurd is
 found_short d s fits (finding.Clash name) is = absurd is

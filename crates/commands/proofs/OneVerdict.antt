@@ -14,6 +14,7 @@ use Rattle.description_stages.specs.declared.planning.PlannedDescription.{Planne
 use Rattle.description_stages.specs.Plans.{IsPlannedOf, IsPlanRefusalOf}
 use Rattle.line_fields.specs.Texts.{lines_of}
 use Rattle.plan_laws.specs.Same.{IsSamePlan}
+use Rattle.script_reading.specs.Meaning.{saying}
 use Rattle.script_reading.specs.Reading.{IsScript, first_bad}
 use Rattle.commands.specs.declared.stop.Finding.{Finding}
 use Rattle.commands.specs.declared.stop.Finding.TheVariants as finding
@@ -48,14 +49,14 @@ module _ (plans : PlansAreOne) (headers : HeadersAreOne) (refusals : RefusalsAre
   good : (d s : Bytes) → CanRun d s → (line cause : ℕ) → HaveBadLine d s line cause → ⊥
   good d s can line cause bad =
       let inputs = can.2 in
-      let same : first_bad (plan_of can.0.plan) [] (lines_of s) ≡ Some (line, cause) =
-      subst (λ p. first_bad p [] (lines_of s) ≡ Some (line, cause)) ((plans d bad.found can.0 bad.described inputs.described).plan) bad.bad in
-      let none : first_bad (plan_of can.0.plan) [] (lines_of s) ≡ None = inputs.scripted.good in
+      let same : first_bad (saying (plan_of can.0.plan)) [] (lines_of s) ≡ Some (line, cause) =
+      subst (λ p. first_bad (saying p) [] (lines_of s) ≡ Some (line, cause)) ((plans d bad.found can.0 bad.described inputs.described).plan) bad.bad in
+      let none : first_bad (saying (plan_of can.0.plan)) [] (lines_of s) ≡ None = inputs.scripted.good in
       absurd cc
 
   bad_once : (d s : Bytes) (n k m l : ℕ) → HaveBadLine d s n k → HaveBadLine d s m l → (n ≡ m) × (k ≡ l)
   bad_once d s n k m l a b =
-      some_pair_parts n m k l (sym a.bad ∙ (ap (λ p. first_bad p [] (lines_of s)) ((plans d a.found b.found a.described b.described).plan) ∙ b.bad))
+      some_pair_parts n m k l (sym a.bad ∙ (ap (λ p. first_bad (saying p) [] (lines_of s)) ((plans d a.found b.found a.described b.described).plan) ∙ b.bad))
 
   same_line : (d s : Bytes) (n k m l : ℕ) → HaveBadLine d s n k → HaveBadLine d s m l → finding.Script n k ≡ finding.Script m l
   same_line d s n k m l a b = let same = bad_once d s n k m l a b in ap (λ x. finding.Script x k) same.0 ∙ ap (finding.Script m) same.1

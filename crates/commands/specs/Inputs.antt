@@ -5,6 +5,7 @@ use Rattle.bus_semantics.specs.Plan.{plan_of}
 use Rattle.description_stages.specs.declared.planning.PlannedDescription.{PlannedDescription}
 use Rattle.description_stages.specs.Plans.{IsPlannedOf}
 use Rattle.line_fields.specs.Texts.{lines_of}
+use Rattle.script_reading.specs.Meaning.{saying}
 use Rattle.script_reading.specs.Reading.{IsScript, first_bad}
 use Rattle.commands.specs.Commands.{Bytes}
 
@@ -17,4 +18,4 @@ pub record AreInputs (description script : Bytes) (found : PlannedDescription) (
 pub record HaveBadLine (description script : Bytes) (line cause : ℕ) : Type 0 where
   pub found : PlannedDescription
   pub described : IsPlannedOf description found
-  pub bad : first_bad (plan_of found.plan) [] (lines_of script) ≡ Some (line, cause)
+  pub bad : first_bad (saying (plan_of found.plan)) [] (lines_of script) ≡ Some (line, cause)

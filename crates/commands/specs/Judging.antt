@@ -6,6 +6,7 @@ use Rattle.bus_semantics.specs.Plan.{Plan}
 use Rattle.check_definitions.specs.declared.checked.Checked.TheVariants.{Legal}
 use Rattle.check_definitions.specs.Verdicts.{IsVerdict}
 use Rattle.line_fields.specs.Texts.{lines_of}
+use Rattle.script_reading.specs.Meaning.{saying}
 use Rattle.script_reading.specs.Reading.{first_bad}
 use Rattle.commands.specs.declared.stop.Finding.{Finding}
 use Rattle.commands.specs.declared.stop.Finding.TheVariants as finding
@@ -30,7 +31,7 @@ IsNotRun d s why = IsFound (IsRunFinding d s) why
 
 -- of a script alone, over a plan
 abbrev pub IsBadLine : Plan → (script : Bytes) → Finding → Type 0
-IsBadLine p s (finding.Script line cause) = first_bad p [] (lines_of s) ≡ Some (line, cause)
+IsBadLine p s (finding.Script line cause) = first_bad (saying p) [] (lines_of s) ≡ Some (line, cause)
 IsBadLine p s (finding.Refused refusal) = ⊥
 IsBadLine p s (finding.Trace checked) = ⊥
 IsBadLine p s finding.NoComponent = ⊥

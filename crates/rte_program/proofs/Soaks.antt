@@ -16,6 +16,7 @@ use Rattle.description_places.specs.Rules.{Reads}
 use Rattle.description_stages.specs.declared.planning.PlannedDescription.{PlannedDescription}
 use Rattle.description_stages.specs.Plans.{IsPlanRefusalOf}
 use Rattle.line_fields.specs.Texts.{lines_of}
+use Rattle.script_reading.specs.Meaning.{saying}
 use Rattle.script_reading.specs.Reading.{IsScript, first_bad}
 use Rattle.soak_maker.specs.Script.{soak_lines}
 use Rattle.soak_maker.specs.Soak.{soak_value}
@@ -52,8 +53,8 @@ soaked n d s reads once (Ok x) inputs = record {
 only_memory_by : (n : ℕ) (d s : Bytes) → ((r : Refusal) → ¬ IsPlanRefusalOf d (Rule r)) → ((p : Plan) → IsScript p s soak_lines) → (why : Stop) → IsNotRun d s why → why ≡ stop.Memory
 only_memory_by n d s keeps is (stop.Found (finding.Refused refusal)) found = absurd (keeps refusal found)
 only_memory_by n d s keeps is (stop.Found (finding.Script line cause)) found =
-    let none : first_bad (plan_of found.found.plan) [] (lines_of s) ≡ None = (is (plan_of found.found.plan)).good in
-    let bad : first_bad (plan_of found.found.plan) [] (lines_of s) ≡ Some (line, cause) = found.bad in
+    let none : first_bad (saying (plan_of found.found.plan)) [] (lines_of s) ≡ None = (is (plan_of found.found.plan)).good in
+    let bad : first_bad (saying (plan_of found.found.plan)) [] (lines_of s) ≡ Some (line, cause) = found.bad in
     absurd cc
 only_memory_by n d s keeps is (stop.Found (finding.Trace checked)) found = absurd found
 only_memory_by n d s keeps is (stop.Found finding.NoComponent) found = absurd found

@@ -1,22 +1,22 @@
 -- A session and entries of runnables and machines that follow it inside a run line.
-use Rattle.std.proofs.Common.{◌≡◌, suc, ◌+◌, Bool, true, false, not, ◌&&◌, List, [], ◌∷◌, ◌++◌, length, refl, sym, ◌∙◌, append_assoc, append-nil, arith}
+use Rattle.std.proofs.Common.{◌≡◌, suc, ◌+◌, Bool, true, false, not, ◌&&◌, List, [], ◌∷◌, ◌++◌, length, refl, sym, ap, ◌∙◌, append_assoc, append-nil, arith}
 use Rattle.std.specs.List.{list_all}
 use Rattle.std.proofs.lemmas.Bool.{and_parts, and_from}
 use Rattle.bus_semantics.specs.declared.entries.Entry.{Entry}
 use Rattle.bus_semantics.specs.declared.entries.Stamped.{Stamped}
 use Rattle.bus_semantics.specs.declared.script.Mapping.{Mapping}
-use Rattle.bus_semantics.specs.declared.version.Version.{Version}
 use Rattle.bus_semantics.specs.Plan.{Plan}
 use Rattle.bus_semantics.specs.History.{History, is_environment}
 use Rattle.bus_semantics.specs.Legal.{IsLegal}
 use Rattle.bus_semantics.specs.Fitting.{fits}
 use Rattle.bus_semantics.specs.Reading.{item_fits}
 use Rattle.bus_semantics.specs.Run.{Session, made, run_begins, run_closes, history_of, is_inside, is_placed, made_in_line, orders_of}
-use Rattle.bus_semantics.specs.Spelling.{entry_text, spelling_of}
+use Rattle.bus_semantics.specs.Spelling.{entry_text, item_text}
 use Rattle.core_runtime.specs.After.{after, are_within}
 use Rattle.script_run.specs.Legal.{IsLegalFrom}
 use Rattle.script_run.specs.Sizes.{is_sized_entry, is_sized_stamped, is_sized_item}
-use Rattle.script_run.specs.Texts.{entries_text}
+use Rattle.script_run.specs.declared.writing.Writing.{Writing}
+use Rattle.script_run.specs.Texts.{behind, entries_text, lines_of}
 
 -- the session and then these entries, of which the oldest comes first
 abbrev pub items_after : List Stamped → Session → Session
@@ -27,9 +27,21 @@ pub history-items : (es : List Stamped) (s : Session) (h : History) → history_
 history-items [] s h = refl
 history-items (e ∷ es) s h = history-items es (made e.entry ∷ s) h
 
-pub spelling-items : (v : Version) (p : Plan) (es : List Stamped) (s : Session) → spelling_of v p (items_after es s) ≡ spelling_of v p s ++ entries_text v p es
-spelling-items v p [] s = sym (append-nil (spelling_of v p s))
-spelling-items v p (e ∷ es) s = spelling-items v p es (made e.entry ∷ s) ∙ append_assoc (spelling_of v p s) (entry_text v p e.entry) (entries_text v p es)
+-- before a session as after it
+pub items-onto : (es : List Stamped) (a s : Session) → items_after es (a ++ s) ≡ items_after es a ++ s
+items-onto [] a s = refl
+items-onto (e ∷ es) a s = items-onto es (made e.entry ∷ a) s
+
+pub lines-items : (w : Writing) (p : Plan) (es : List Stamped) (s : Session) → lines_of w p (items_after es s) ≡ lines_of w p s ++ entries_text w p es
+lines-items w p [] s = sym (append-nil (lines_of w p s))
+lines-items w p (e ∷ es) s = lines-items w p es (made e.entry ∷ s) ∙ append_assoc (lines_of w p s) (behind w (entry_text w.version p e.entry)) (entries_text w p es)
+
+-- the newer items stand first, and their lines last
+pub lines-append : (w : Writing) (p : Plan) (newer older : Session) → lines_of w p (newer ++ older) ≡ lines_of w p older ++ lines_of w p newer
+lines-append w p [] older = sym (append-nil (lines_of w p older))
+lines-append w p (i ∷ newer) older =
+    ap (λ t. t ++ behind w (item_text w.version p i)) (lines-append w p newer older)
+    ∙ append_assoc (lines_of w p older) (lines_of w p newer) (behind w (item_text w.version p i))
 
 legal_before : (p : Plan) (es : List Stamped) (g : History) → IsLegal p (after es g) → IsLegal p g
 legal_before p [] g legal = legal

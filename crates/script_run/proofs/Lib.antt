@@ -1,3 +1,4 @@
+pub mod Added
 pub mod EntryTexts
 pub mod Items
 pub mod Quieting

@@ -4,13 +4,16 @@
 //! history.
 #![tactic(auto)]
 
+mod laps;
 mod laws;
 mod lines;
-mod run_line;
 mod script;
 mod sizes;
+mod writing;
 
-pub use laws::runs_from_nothing_are_runs;
-pub use run_line::{Lap, put_lap};
-pub use script::{ScriptRun, run_script};
+pub use laps::{Lap, put_lap, put_run};
+pub use laws::{runs_from_nothing_are_runs, what_is_added_is_a_session};
+pub use lines::put_entry;
+pub use script::{ScriptRun, make_call, put_ticks, run_line, run_script};
 pub use script_reading::{ScriptRead, read_script};
+pub use writing::{Writing, put_behind};

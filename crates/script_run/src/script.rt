@@ -1,7 +1,9 @@
 //! Running a script on a node.
 
 ghost use Rattle.std.specs.Prelude.{◌≡◌, ◌≢◌, [], ◌∷◌, replicate, true, All};
+ghost use Rattle.rte_text.specs.Sinks.{SinkFaultsAfter};
 ghost use Rattle.bus_semantics.specs.declared.entries.Actor.TheVariants.{Env};
+ghost use Rattle.bus_semantics.specs.declared.script.Line.TheVariants as line;
 ghost use Rattle.bus_semantics.specs.Fitting.{wish_fits};
 ghost use Rattle.bus_semantics.specs.History.{History};
 ghost use Rattle.bus_semantics.specs.Plan.{plan_of};
@@ -10,12 +12,13 @@ ghost use Rattle.bus_semantics.specs.Wanted.{to_tick, wanted_of};
 ghost use Rattle.script_reading.specs.Carried.{IsCarriable};
 ghost use Rattle.core_runtime.specs.Nodes.{IsLawfulNode};
 ghost use Rattle.script_run.specs.declared.script.ScriptRun.TheVariants.{Finished};
-ghost use Rattle.script_run.specs.Running.{FaultsAfter, PrintsBeginning, PrintsRun};
-ghost use Rattle.script_run.specs.Standing.{Carries, outside};
+ghost use Rattle.script_run.specs.Running.{FaultsAfter, PrintsBeginning, PrintsFirstLines, PrintsLines, PrintsRun};
+ghost use Rattle.script_run.specs.Standing.{Calls, Carries, outside};
 
+use crate::laps::put_run;
 use crate::lines::{came_of, put_entry};
-use crate::run_line::put_run;
-use bus_semantics::{Line, Script, Version, Wish};
+use crate::writing::Writing;
+use bus_semantics::{Entry, Line, Script, Version, Wish};
 use core_runtime::Node;
 use no_stall::no_history_stalls;
 use rte_text::{Gate, LineBuf, Put, Sink};
@@ -34,39 +37,58 @@ pub enum ScriptRun {
     Memory,
 }
 
+/// A call of the environment: the entry that it makes, and what the put of its line answered.
+pub fn make_call<K: Sink>(
+    n: &mut Node,
+    wish: &Wish,
+    w: Writing,
+    out: &mut K,
+    line: &mut LineBuf,
+) -> (Entry, Put)
+    requires { wish_fits (plan_of n.old.plan) Env (wanted_of wish.now) ≡ true }
+    ensures plan { n.new.plan ≡ n.old.plan }
+    ensures mapping { n.new.mapping ≡ n.old.mapping }
+    ensures calls { Calls w result.1 (wanted_of wish.now) result.0 n.old n.new (K.told out.old) (K.told out.new) }
+    ensures faults { SinkFaultsAfter result.1 (K.faults out.old) (K.faults out.new) }
+{
+    let entry = n.environment(wish);
+    let put = put_entry(n.plan(), &entry, w, out, line);
+    (entry, put)
+}
+
 /// One call of the environment.
 fn put_call<K: Sink>(
     n: &mut Node,
     wish: &Wish,
-    v: Version,
+    w: Writing,
     out: &mut K,
     line: &mut LineBuf,
 ) -> ScriptRun
     requires { wish_fits (plan_of n.old.plan) Env (wanted_of wish.now) ≡ true }
     ensures plan { n.new.plan ≡ n.old.plan }
     ensures mapping { n.new.mapping ≡ n.old.mapping }
-    ensures carries { Carries v result (a_call (wanted_of wish.now) ∷ []) outside outside n.old n.new (K.told out.old) (K.told out.new) }
+    ensures carries { Carries w result (a_call (wanted_of wish.now) ∷ []) outside outside n.old n.new (K.told out.old) (K.told out.new) }
     ensures faults { FaultsAfter result (K.faults out.old) (K.faults out.new) }
 {
-    let entry = n.environment(wish);
-    came_of(put_entry(n.plan(), &entry, v, out, line))
+    let made = make_call(n, wish, w, out, line);
+    came_of(made.1)
 }
 
 /// So many ticks.
-fn put_ticks<K: Sink>(
+pub fn put_ticks<K: Sink>(
     n: &mut Node,
     count: u32,
-    v: Version,
+    w: Writing,
     out: &mut K,
     line: &mut LineBuf,
 ) -> ScriptRun
     ensures plan { n.new.plan ≡ n.old.plan }
     ensures mapping { n.new.mapping ≡ n.old.mapping }
-    ensures carries { Carries v result (replicate count (a_call to_tick)) outside outside n.old n.new (K.told out.old) (K.told out.new) }
+    ensures carries { Carries w result (replicate count (a_call to_tick)) outside outside n.old n.new (K.told out.old) (K.told out.new) }
     ensures faults { FaultsAfter result (K.faults out.old) (K.faults out.new) }
 {
     for i in 0..count {
-        match put_call(n, &Wish::Tick, v, out, line) {
+        match put_call(n, &Wish::Tick, w, out, line) {
             ScriptRun::Finished => {}
             ScriptRun::Failed => return ScriptRun::Failed,
             ScriptRun::Memory => return ScriptRun::Memory,
@@ -81,7 +103,7 @@ fn put_line<R: Threads + Sync, K: Sink, G: Gate>(
     alloc: Global,
     n: &mut Node,
     script_line: &Line,
-    v: Version,
+    w: Writing,
     out: &mut K,
     line: &mut LineBuf,
     gate: &G,
@@ -89,13 +111,13 @@ fn put_line<R: Threads + Sync, K: Sink, G: Gate>(
     requires { IsCarriable (plan_of n.old.plan) script_line.now }
     ensures plan { n.new.plan ≡ n.old.plan }
     ensures mapping { n.new.mapping ≡ n.old.mapping }
-    ensures carries { Carries v result (orders_of_line script_line.now) outside outside n.old n.new (K.told out.old) (K.told out.new) }
+    ensures carries { Carries w result (orders_of_line script_line.now) outside outside n.old n.new (K.told out.old) (K.told out.new) }
     ensures faults { FaultsAfter result (K.faults out.old) (K.faults out.new) }
 {
     match script_line {
-        Line::Tick(count) => put_ticks(n, *count, v, out, line),
-        Line::Run => put_run(rt, alloc, n, v, out, line, gate),
-        Line::Call(wish) => put_call(n, wish, v, out, line),
+        Line::Tick(count) => put_ticks(n, *count, w, out, line),
+        Line::Run => put_run(rt, alloc, n, w, out, line, gate),
+        Line::Call(wish) => put_call(n, wish, w, out, line),
     }
 }
 
@@ -105,7 +127,7 @@ fn put_lines<R: Threads + Sync, K: Sink, G: Gate>(
     alloc: Global,
     n: &mut Node,
     script_lines: &[Line],
-    v: Version,
+    w: Writing,
     out: &mut K,
     line: &mut LineBuf,
     gate: &G,
@@ -113,17 +135,43 @@ fn put_lines<R: Threads + Sync, K: Sink, G: Gate>(
     requires { All (IsCarriable (plan_of n.old.plan)) script_lines.now }
     ensures plan { n.new.plan ≡ n.old.plan }
     ensures mapping { n.new.mapping ≡ n.old.mapping }
-    ensures carries { Carries v result (orders_of_script script_lines.now) outside outside n.old n.new (K.told out.old) (K.told out.new) }
+    ensures carries { Carries w result (orders_of_script script_lines.now) outside outside n.old n.new (K.told out.old) (K.told out.new) }
     ensures faults { FaultsAfter result (K.faults out.old) (K.faults out.new) }
 {
     for script_line in script_lines {
-        match put_line(rt, alloc, n, script_line, v, out, line, gate) {
+        match put_line(rt, alloc, n, script_line, w, out, line, gate) {
             ScriptRun::Finished => {}
             ScriptRun::Failed => return ScriptRun::Failed,
             ScriptRun::Memory => return ScriptRun::Memory,
         }
     }
     ScriptRun::Finished
+}
+
+/// Runs one run line on the node, which goes on from what has happened to it, and puts its lines, from its mark to the word that closes
+/// it: what `run_script` makes of a script of this one line, without the header.
+///
+/// It ends at the first put that fails, and at a round for which there is no memory.
+pub fn run_line<R: Threads + Sync, K: Sink, G: Gate>(
+    rt: &R,
+    alloc: Global,
+    n: &mut Node,
+    w: Writing,
+    out: &mut K,
+    gate: &G,
+) -> ScriptRun
+    ensures plan { n.new.plan ≡ n.old.plan }
+    ensures mapping { n.new.mapping ≡ n.old.mapping }
+    ensures finished { result ≡ Finished → (h : History) → IsLawfulNode n.old h
+        → PrintsLines w (plan_of n.old.plan) n.old.mapping h (line.Run ∷ []) n.new (K.told out.old) (K.told out.new) }
+    ensures cut { result ≢ Finished → (h : History) → IsLawfulNode n.old h
+        → PrintsFirstLines w (plan_of n.old.plan) n.old.mapping h (line.Run ∷ []) (K.told out.old) (K.told out.new) }
+    ensures faults { FaultsAfter result (K.faults out.old) (K.faults out.new) }
+{
+    no_history_stalls();
+    let _plan = n.plan();
+    let mut line = LineBuf::new();
+    put_run(rt, alloc, n, w, out, &mut line, gate)
 }
 
 /// Runs the script on the node, which goes on from what has happened to it, and puts the trace of the version, one put a line: the header,
@@ -153,9 +201,10 @@ pub fn run_script<R: Threads + Sync, K: Sink, G: Gate>(
 {
     no_history_stalls();
     let _plan = n.plan();
+    let w = Writing::plain(v);
     let mut line = LineBuf::new();
     match out.put(header(v)) {
-        Put::Done => put_lines(rt, alloc, n, s.lines.items(), v, out, &mut line, gate),
+        Put::Done => put_lines(rt, alloc, n, s.lines.items(), w, out, &mut line, gate),
         Put::Failed => ScriptRun::Failed,
     }
 }

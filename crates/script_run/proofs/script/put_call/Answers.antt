@@ -1,5 +1,3 @@
-use Rattle.std.proofs.Common.{ap}
-use Rattle.bus_semantics.specs.Plan.{plan_of}
 use Rattle.bus_semantics.specs.Wanted.{wanted_of}
 use Rattle.script_run.proofs.Sessions as by
 use Rattle.script_run.proofs.script.put_call.Goals as goal
@@ -7,8 +5,6 @@ use Rattle.script_run.proofs.script.put_call.Goals as goal
 pub returns-clause-carries : goal.returns-clause-carries
 returns-clause-carries g c =
     let told = g.K.Sink.told in
-    let made = c.environment-entry.ensures in
     rw c.came_of.ensures
-    (by.call_carries c.args.v c.args.n.now c.environment-entry.new.self c.environment-entry.result (wanted_of c.args.wish.now) c.put_entry.result
-    (told c.args.out.now) (told c.put_entry.new.out) (plan_of c.plan.result.now)
-    made.actor (made.wish 0) made.plan made.mapping made.lawful (ap plan_of c.plan.ensures.plan) c.put_entry.ensures.sized c.put_entry.ensures.told)
+    (by.call_carries c.args.w c.args.n.now c.make_call-made.new.n c.make_call-made.result.0 (wanted_of c.args.wish.now) c.make_call-made.result.1
+    (told c.args.out.now) (told c.make_call-made.new.out) c.make_call-made.ensures.calls)

@@ -9,6 +9,6 @@ abbrev pub invariant-loop-script_line : goal.invariant-loop-script_line
 invariant-loop-script_line g l = let told = g.K.Sink.told in let faults = g.K.Sink.faults in record {
   plan : l.n.plan ≡ l.initial.n.plan;
   mapping : l.n.mapping ≡ l.initial.n.mapping;
-  carries : Carries l.v Finished (orders_of_script (take l.script_line-index l.script_lines)) outside outside l.initial.n l.n (told l.initial.out) (told l.out);
+  carries : Carries l.w Finished (orders_of_script (take l.script_line-index l.script_lines)) outside outside l.initial.n l.n (told l.initial.out) (told l.out);
   faults : faults l.out ≡ faults l.initial.out;
 }

@@ -1,7 +1,8 @@
-use Rattle.std.proofs.Common.{◌-◌, [], ◌∷◌, ◌++◌, suc, replicate, subst}
+use Rattle.std.proofs.Common.{◌≡◌, ◌+◌, ◌-◌, [], ◌∷◌, ◌++◌, suc, replicate, subst, ◌∙◌, arith}
+use Rattle.std.proofs.lemmas.List.{replicate-append-replicate}
 use Rattle.bus_semantics.specs.Run.{a_call}
 use Rattle.bus_semantics.specs.Wanted.{to_tick}
-use Rattle.script_run.specs.declared.script.ScriptRun.TheVariants.{Failed, Memory}
+use Rattle.script_run.specs.declared.script.ScriptRun.TheVariants.{Finished, Failed, Memory}
 use Rattle.script_run.specs.Standing.{Carries, outside}
 use Rattle.script_run.proofs.Sessions as by
 use Rattle.script_run.proofs.script.put_ticks.Goals as goal
@@ -12,10 +13,10 @@ returns-in-Failed-clause-carries g c =
     let i = c.loop-i.i in
     let left = replicate (c.args.count - suc i) tick in
     let told = g.K.Sink.told in
-    subst (λ os. Carries c.args.v Failed os outside outside c.args.n.now c.put_call.new.n (told c.args.out.now) (told c.put_call.new.out)) (by.all_of tick i c.args.count c.loop-i-test.true)
-    (by.carries_then c.args.v Failed (replicate i tick) (tick ∷ [] ++ left) outside outside outside c.args.n.now c.loop-i.n c.put_call.new.n
+    subst (λ os. Carries c.args.w Failed os outside outside c.args.n.now c.put_call.new.n (told c.args.out.now) (told c.put_call.new.out)) (by.all_of tick i c.args.count c.loop-i-test.true)
+    (by.carries_then c.args.w Failed (replicate i tick) (tick ∷ [] ++ left) outside outside outside c.args.n.now c.loop-i.n c.put_call.new.n
     (told c.args.out.now) (told c.loop-i.out) (told c.put_call.new.out) c.loop-i.invariant.carries
-    (by.cut_before c.args.v Failed (tick ∷ []) left outside outside outside c.loop-i.n c.put_call.new.n (told c.loop-i.out) (told c.put_call.new.out) (λ e. cc) c.in-Failed.ensures.carries))
+    (by.cut_before c.args.w Failed (tick ∷ []) left outside outside outside c.loop-i.n c.put_call.new.n (told c.loop-i.out) (told c.put_call.new.out) (λ e. cc) c.in-Failed.ensures.carries))
 
 pub returns-in-Memory-clause-carries : goal.returns-in-Memory-clause-carries
 returns-in-Memory-clause-carries g c =
@@ -23,7 +24,29 @@ returns-in-Memory-clause-carries g c =
     let i = c.loop-i.i in
     let left = replicate (c.args.count - suc i) tick in
     let told = g.K.Sink.told in
-    subst (λ os. Carries c.args.v Memory os outside outside c.args.n.now c.put_call.new.n (told c.args.out.now) (told c.put_call.new.out)) (by.all_of tick i c.args.count c.loop-i-test.true)
-    (by.carries_then c.args.v Memory (replicate i tick) (tick ∷ [] ++ left) outside outside outside c.args.n.now c.loop-i.n c.put_call.new.n
+    subst (λ os. Carries c.args.w Memory os outside outside c.args.n.now c.put_call.new.n (told c.args.out.now) (told c.put_call.new.out)) (by.all_of tick i c.args.count c.loop-i-test.true)
+    (by.carries_then c.args.w Memory (replicate i tick) (tick ∷ [] ++ left) outside outside outside c.args.n.now c.loop-i.n c.put_call.new.n
     (told c.args.out.now) (told c.loop-i.out) (told c.put_call.new.out) c.loop-i.invariant.carries
-    (by.cut_before c.args.v Memory (tick ∷ []) left outside outside outside c.loop-i.n c.put_call.new.n (told c.loop-i.out) (told c.put_call.new.out) (λ e. cc) c.in-Memory.ensures.carries))
+    (by.cut_before c.args.w Memory (tick ∷ []) left outside outside outside c.loop-i.n c.put_call.new.n (told c.loop-i.out) (told c.put_call.new.out) (λ e. cc) c.in-Memory.ensures.carries))
+
+pub loop-i-preserved : goal.loop-i-preserved
+loop-i-preserved g c =
+    let tick = a_call to_tick in
+    let i = c.loop-i.i in
+    let told = g.K.Sink.told in
+    let so_far = c.loop-i.invariant in
+    let done = c.in-Finished.ensures in
+    record {
+      plan = done.plan ∙ so_far.plan;
+      mapping = done.mapping ∙ so_far.mapping;
+      carries = subst (λ os. Carries c.args.w Finished os outside outside c.args.n.now c.put_call.new.n (told c.args.out.now) (told c.put_call.new.out)) (replicate-append-replicate i 1 tick)
+          (by.carries_then c.args.w Finished (replicate i tick) (tick ∷ []) outside outside outside c.args.n.now c.loop-i.n c.put_call.new.n
+          (told c.args.out.now) (told c.loop-i.out) (told c.put_call.new.out) so_far.carries done.carries);
+      faults = done.faults ∙ so_far.faults;
+    }
+
+pub returns-clause-carries : goal.returns-clause-carries
+returns-clause-carries g c =
+    let told = g.K.Sink.told in
+    let all : c.loop-i.i ≡ c.args.count = omega (arith, c.loop-i-test.false, c.loop-i.auto.i-end) in
+    subst (λ k. Carries c.args.w Finished (replicate k (a_call to_tick)) outside outside c.args.n.now c.loop-i.n (told c.args.out.now) (told c.loop-i.out)) all c.loop-i.invariant.carries

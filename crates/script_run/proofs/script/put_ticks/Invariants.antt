@@ -10,6 +10,6 @@ abbrev pub invariant-loop-i : goal.invariant-loop-i
 invariant-loop-i g l = let told = g.K.Sink.told in let faults = g.K.Sink.faults in record {
   plan : l.n.plan ≡ l.initial.n.plan;
   mapping : l.n.mapping ≡ l.initial.n.mapping;
-  carries : Carries l.v Finished (replicate l.i (a_call to_tick)) outside outside l.initial.n l.n (told l.initial.out) (told l.out);
+  carries : Carries l.w Finished (replicate l.i (a_call to_tick)) outside outside l.initial.n l.n (told l.initial.out) (told l.out);
   faults : faults l.out ≡ faults l.initial.out;
 }

@@ -2,7 +2,6 @@
 
 ghost use Rattle.std.specs.Prelude.{◌≡◌, ◌+◌, ◌-◌, ◌^◌, ◌<◌, ◌≤◌, min, ℕ, List, [], ◌∷◌, length};
 ghost use Rattle.bus_semantics.specs.declared.entries.Stamped.{Stamped};
-ghost use Rattle.bus_semantics.specs.declared.version.Version.{Version};
 ghost use Rattle.bus_semantics.specs.Run.{a_run};
 ghost use Rattle.script_run.specs.declared.script.ScriptRun.TheVariants.{Finished};
 ghost use Rattle.core_runtime.specs.Nodes.{NodeState};
@@ -11,7 +10,7 @@ ghost use Rattle.script_run.specs.Standing.{Carries, CarriesLap, LapCloses, LapF
 
 use crate::lines::{came_of, put_entries};
 use crate::script::ScriptRun;
-use bus_semantics::Version;
+use crate::writing::{Writing, put_behind};
 use core_runtime::{Node, RoundRun, run_round, serial_pass};
 use rte_text::{Gate, LineBuf, Put, Sink};
 use std::alloc::Global;
@@ -35,7 +34,7 @@ fn put_round<R: Threads + Sync, K: Sink, G: Gate>(
     rt: &R,
     alloc: Global,
     n: &mut Node,
-    v: Version,
+    w: Writing,
     out: &mut K,
     line: &mut LineBuf,
     gate: &G,
@@ -43,44 +42,44 @@ fn put_round<R: Threads + Sync, K: Sink, G: Gate>(
     ensures plan { n.new.plan ≡ n.old.plan }
     ensures mapping { n.new.mapping ≡ n.old.mapping }
     ensures room { result ≡ Finished → n.new.mapping.cores ≤ n.new.spare }
-    ensures carries { (made : ℕ) → Carries v result [] (inside made) (inside (min (made + length n.new.entries) (2 ^ 64 - 1))) n.old n.new (K.told out.old) (K.told out.new) }
+    ensures carries { (made : ℕ) → Carries w result [] (inside made) (inside (min (made + length n.new.entries) (2 ^ 64 - 1))) n.old n.new (K.told out.old) (K.told out.new) }
     ensures faults { FaultsAfter result (K.faults out.old) (K.faults out.new) }
 {
     match run_round(rt, alloc, n, gate) {
-        RoundRun::Ran => came_of(put_entries(n.plan(), n.entries(), v, out, line)),
+        RoundRun::Ran => came_of(put_entries(n.plan(), n.entries(), w, out, line)),
         RoundRun::Memory => ScriptRun::Memory,
     }
 }
 
 /// Closes the run line if it has made 100,000 entries or more.
-fn close_late<K: Sink>(made: u64, out: &mut K) -> Lap
-    ensures carries { (v : Version) (n : NodeState) → CarriesLap v result made n n (K.told out.old) (K.told out.new) }
+fn close_late<K: Sink>(made: u64, w: Writing, out: &mut K) -> Lap
+    ensures carries { (n : NodeState) → CarriesLap w result made n n (K.told out.old) (K.told out.new) }
     ensures rises { (before : ℕ) → (made < 100000 → before < made) → LapRises result before }
-    ensures closes { (s : Stamped) (pass : List Stamped) → LapCloses result (s ∷ pass) (K.told out.new) }
+    ensures closes { (s : Stamped) (pass : List Stamped) → LapCloses w result (s ∷ pass) (K.told out.new) }
     ensures faults { LapFaults result (K.faults out.old) (K.faults out.new) }
 {
     if made < MOST_MADE {
         return Lap::Made(made);
     }
-    Lap::Ended(came_of(out.put(unsettled_line())))
+    Lap::Ended(came_of(put_behind(out, w.prefix, unsettled_line())))
 }
 
 /// Makes a serial pass after so many entries, and puts its entries; or closes the run line at rest, where there are none.
-fn put_pass<K: Sink>(n: &mut Node, made: u64, v: Version, out: &mut K, line: &mut LineBuf) -> Lap
+fn put_pass<K: Sink>(n: &mut Node, made: u64, w: Writing, out: &mut K, line: &mut LineBuf) -> Lap
     requires { n.old.mapping.cores ≤ n.old.spare }
     ensures plan { n.new.plan ≡ n.old.plan }
     ensures mapping { n.new.mapping ≡ n.old.mapping }
-    ensures carries { CarriesLap v result made n.old n.new (K.told out.old) (K.told out.new) }
+    ensures carries { CarriesLap w result made n.old n.new (K.told out.old) (K.told out.new) }
     ensures rises { LapRises result made }
-    ensures closes { LapCloses result n.new.entries (K.told out.new) }
+    ensures closes { LapCloses w result n.new.entries (K.told out.new) }
     ensures faults { LapFaults result (K.faults out.old) (K.faults out.new) }
 {
     serial_pass(n);
     if n.entries().is_empty() {
-        return Lap::Ended(came_of(out.put(idle_line())));
+        return Lap::Ended(came_of(put_behind(out, w.prefix, idle_line())));
     }
-    match put_entries(n.plan(), n.entries(), v, out, line) {
-        Put::Done => close_late(made.saturating_add(n.entries().len() as u64), out),
+    match put_entries(n.plan(), n.entries(), w, out, line) {
+        Put::Done => close_late(made.saturating_add(n.entries().len() as u64), w, out),
         Put::Failed => Lap::Ended(ScriptRun::Failed),
     }
 }
@@ -93,24 +92,24 @@ pub fn put_lap<R: Threads + Sync, K: Sink, G: Gate>(
     alloc: Global,
     n: &mut Node,
     made: u64,
-    v: Version,
+    w: Writing,
     out: &mut K,
     line: &mut LineBuf,
     gate: &G,
 ) -> Lap
     ensures plan { n.new.plan ≡ n.old.plan }
     ensures mapping { n.new.mapping ≡ n.old.mapping }
-    ensures carries { CarriesLap v result made n.old n.new (K.told out.old) (K.told out.new) }
+    ensures carries { CarriesLap w result made n.old n.new (K.told out.old) (K.told out.new) }
     ensures rises { LapRises result made }
-    ensures closes { LapCloses result n.new.entries (K.told out.new) }
+    ensures closes { LapCloses w result n.new.entries (K.told out.new) }
     ensures faults { LapFaults result (K.faults out.old) (K.faults out.new) }
 {
-    match put_round(rt, alloc, n, v, out, line, gate) {
+    match put_round(rt, alloc, n, w, out, line, gate) {
         ScriptRun::Finished => {
             put_pass(
                 n,
                 made.saturating_add(n.entries().len() as u64),
-                v,
+                w,
                 out,
                 line,
             )
@@ -121,27 +120,27 @@ pub fn put_lap<R: Threads + Sync, K: Sink, G: Gate>(
 }
 
 /// A run line: its mark, then rounds and serial passes until a pass makes no entry, or 100,000 entries were made.
-pub(crate) fn put_run<R: Threads + Sync, K: Sink, G: Gate>(
+pub fn put_run<R: Threads + Sync, K: Sink, G: Gate>(
     rt: &R,
     alloc: Global,
     n: &mut Node,
-    v: Version,
+    w: Writing,
     out: &mut K,
     line: &mut LineBuf,
     gate: &G,
 ) -> ScriptRun
     ensures plan { n.new.plan ≡ n.old.plan }
     ensures mapping { n.new.mapping ≡ n.old.mapping }
-    ensures carries { Carries v result (a_run ∷ []) outside outside n.old n.new (K.told out.old) (K.told out.new) }
+    ensures carries { Carries w result (a_run ∷ []) outside outside n.old n.new (K.told out.old) (K.told out.new) }
     ensures faults { FaultsAfter result (K.faults out.old) (K.faults out.new) }
 {
-    match out.put(run_line()) {
+    match put_behind(out, w.prefix, run_line()) {
         Put::Done => {}
         Put::Failed => return ScriptRun::Failed,
     }
     let mut made: u64 = 0;
     'laps: loop {
-        match put_lap(rt, alloc, n, made, v, out, line, gate) {
+        match put_lap(rt, alloc, n, made, w, out, line, gate) {
             Lap::Made(more) => made = more,
             Lap::Ended(answer) => return answer,
         }
