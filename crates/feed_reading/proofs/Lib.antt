@@ -1,0 +1,2 @@
+mod Gifts
+mod Steps

@@ -1,0 +1,18 @@
+//! Stimuli: what four feeds give to a node while it runs, each in its order, or the first bad line with its cause.
+//!
+//! Stimuli are lines of text: a feed's number, a space and a line of a script. `read_feeds` reads them over the plan of a bus in a time that is
+//! linear in the bytes and the wishes.
+#![tactic(auto)]
+
+mod feeds;
+mod feeds_read;
+mod giving;
+mod heard;
+mod hearing;
+mod judging;
+mod progress;
+mod reading;
+
+pub use feeds::Feeds;
+pub use feeds_read::FeedsRead;
+pub use reading::read_feeds;
