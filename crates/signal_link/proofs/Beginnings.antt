@@ -1,5 +1,5 @@
 -- What is kept is the beginning of a good frame, and never all of one.
-use Rattle.std.proofs.Common.{◌≡◌, ◌≤◌, ◌<◌, ℕ, zero, suc, ◌+◌, ◌*◌, ◌-◌, ◌/◌, ◌%◌, ◌^◌, ℤ, List, [], ◌∷◌, ◌++◌, length, take, drop, Bool, true, false, ◌&&◌, ◌==◌, Option, Some, None, slice_get, refl, sym, ap, ◌∙◌, arith, subst, append_assoc, length-append, replicate}
+use Rattle.std.proofs.Common.{◌≡◌, ◌<◌, ℕ, zero, suc, ◌*◌, ◌-◌, ◌/◌, ◌%◌, ◌^◌, ℤ, List, [], ◌∷◌, ◌++◌, length, drop, true, Option, Some, slice_get, refl, sym, ap, ◌∙◌, arith, subst, append_assoc, length-append, replicate}
 use Rattle.std.proofs.lemmas.Bool.{and_from, and_parts, eq-eqb}
 use Rattle.std.proofs.lemmas.Grind.{flat_map-append}
 use Rattle.std.proofs.lemmas.List.{append-nil, length-drop, length-replicate, take-append-drop}
@@ -15,7 +15,7 @@ use Rattle.signal_link.specs.declared.part.Part.{Part}
 use Rattle.signal_link.specs.declared.part.Part.TheVariants.{InHeader, InWords, Bad}
 use Rattle.signal_link.specs.declared.payload.Payload.{Payload}
 use Rattle.signal_link.specs.Frames.{frame, header, word_bytes}
-use Rattle.signal_link.specs.Links.{AreLinks, is_link, is_within, takes}
+use Rattle.signal_link.specs.Links.{AreLinks, is_link, is_within}
 use Rattle.signal_link.specs.Parts.{IsHeader, IsLinked, IsPart, begun_of, head_bytes, header_bytes, payload_bytes}
 use Rattle.signal_link.specs.Unframing.{BeginsWithFrame, IsBeginning, IsGood}
 use Rattle.signal_link.proofs.Bytes.{length-word_bytes}

@@ -1,18 +1,16 @@
 -- What a feed answers, by the bytes at which it ends.
-use Rattle.std.proofs.Common.{◌≡◌, ◌≤◌, ◌<◌, ℕ, zero, suc, ◌+◌, ◌*◌, ◌-◌, ◌^◌, ℤ, List, [], ◌∷◌, ◌++◌, length, take, drop, get_or, Option, Some, None, is_none, false, true≢false, refl, sym, ap, ◌∙◌, ◌⊎◌, inl, inr, arith, subst, append_assoc, length-append}
-use Rattle.std.proofs.lemmas.List.{append-nil, length-take-le, take-append-drop, take_all, take_more, take_at}
-use Rattle.std.proofs.lemmas.Grind.{flat_map-append}
-use Rattle.std.specs.List.{AllByRecursion, flat_map}
+use Rattle.std.proofs.Common.{◌≡◌, ◌≤◌, ◌<◌, ℕ, ◌+◌, List, [], ◌∷◌, ◌++◌, length, take, drop, get_or, Option, Some, None, is_none, false, true≢false, refl, sym, ap, ◌∙◌, ◌⊎◌, inl, inr, arith, subst, append_assoc, length-append}
+use Rattle.std.proofs.lemmas.List.{length-take-le, take-append-drop, take_more}
 use Rattle.rte_value.specs.declared.value.Value.{Value}
 use Rattle.rte_value.specs.Values.{words_of}
 use Rattle.signal_link.specs.declared.link_elem.LinkElem.{LinkElem}
 use Rattle.signal_link.specs.declared.unframer.Found.{Found}
 use Rattle.signal_link.specs.declared.unframer.Found.TheVariants.{Whole, More, BadFrame}
 use Rattle.signal_link.specs.Feeding.{Feed, IsFed}
-use Rattle.signal_link.specs.Frames.{Pair, frame, frames}
-use Rattle.signal_link.specs.Unframing.{BeginsWithFrame, IsBeginning, IsFrames, IsGood, Keeps, Kept, StandsFor, given}
+use Rattle.signal_link.specs.Frames.{frame}
+use Rattle.signal_link.specs.Unframing.{BeginsWithFrame, IsBeginning, IsGood, Kept}
 use Rattle.signal_link.proofs.Beginnings.{IsCut, earlier, no_frame_in_a_cut}
-use Rattle.signal_link.proofs.Prefixes.{behind, shorter}
+use Rattle.signal_link.proofs.Prefixes.{shorter}
 
 -- the bytes kept, and those of a piece up to one
 abbrev pub up_to : (kept piece : List ℕ) (at : ℕ) → List ℕ
@@ -109,7 +107,3 @@ fed_whole links kept piece at k v within good is =
       used = omega (arith, count, same);
       kept = refl;
     }
-
-pub fed_behind_bad : (links : List LinkElem) (piece : List ℕ)
-    → IsFed (kept_as links None) (fed_as piece (length piece) BadFrame) (kept_as links None)
-fed_behind_bad links piece = record { found = refl; used = refl; kept = refl }

@@ -1,22 +1,18 @@
 -- No good frame begins another, and what a good frame says can be read from its bytes.
-use Rattle.std.proofs.Common.{◌≡◌, ◌≤◌, ◌<◌, ℕ, zero, suc, ◌+◌, ◌*◌, ◌/◌, ◌%◌, ◌^◌, ℤ, List, [], ◌∷◌, ◌++◌, length, take, drop, get_or, Bool, true, false, ◌&&◌, ◌==◌, Option, Some, slice_get, refl, sym, ap, ◌∙◌, arith, subst, append_assoc, length-append, replicate}
-use Rattle.std.proofs.lemmas.Bool.{and_from, and_parts}
-use Rattle.std.proofs.lemmas.List.{append-nil, drop_at, length-replicate, take-append-drop, take-append-le, take_at}
-use Rattle.std.proofs.lemmas.List.Folds.{list_all-append}
-use Rattle.std.proofs.lemmas.Int.{ints, to_z-of_z}
+use Rattle.std.proofs.Common.{◌≡◌, ◌<◌, ℕ, ◌+◌, ◌*◌, ◌/◌, ◌%◌, ◌^◌, ℤ, List, [], ◌∷◌, ◌++◌, length, take, drop, get_or, true, Option, Some, slice_get, refl, sym, ap, ◌∙◌, arith, append_assoc, length-append}
+use Rattle.std.proofs.lemmas.Bool.{and_parts}
+use Rattle.std.proofs.lemmas.List.{append-nil, drop_at, take_at}
+use Rattle.std.proofs.lemmas.Int.{to_z-of_z}
 use Rattle.std.specs.Int.{w64, cast_signed, cast_unsigned}
 use Rattle.std.specs.Int.RustNames.{FitsSigned, int_le}
 use Rattle.std.specs.List.{flat_map, list_all}
 use Rattle.std.specs.Option.{unwrap_or}
-use Rattle.byteorder.specs.Endian.{big_bytes}
 use Rattle.rte_value.specs.declared.kinds.Limits.{Limits}
 use Rattle.signal_link.specs.declared.link_elem.LinkElem.{LinkElem}
 use Rattle.signal_link.specs.Frames.{frame, word_bytes}
-use Rattle.signal_link.specs.Links.{is_within, takes}
-use Rattle.signal_link.specs.Unframing.{BeginsWithFrame, IsBeginning, IsGood}
+use Rattle.signal_link.specs.Links.{is_within}
 use Rattle.signal_link.proofs.Bytes.{bytes_are_one, length-word_bytes}
 use Rattle.signal_link.proofs.Heads.{fits_between, le_of, unsigned_fits}
-use Rattle.signal_link.proofs.Prefixes.{behind, shorter}
 
 -- ---- lengths
 

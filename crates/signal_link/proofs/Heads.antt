@@ -1,5 +1,5 @@
 -- Which words begin with given bytes: those of one interval, in which no sign changes.
-use Rattle.std.proofs.Common.{◌≡◌, ◌≤◌, ◌<◌, ◌↔◌, ℕ, zero, suc, ◌+◌, ◌*◌, ◌-◌, ◌/◌, ◌^◌, ℤ, pos, negsuc, ◌≤ℤ◌, Bool, true, false, ◌&&◌, ◌⊎◌, inl, inr, take, refl, sym, ap, ◌∙◌, arith, pow-add, subst}
+use Rattle.std.proofs.Common.{◌≡◌, ◌≤◌, ◌<◌, ◌↔◌, ℕ, ◌+◌, ◌*◌, ◌-◌, ◌/◌, ◌^◌, ℤ, pos, negsuc, ◌≤ℤ◌, Bool, true, false, ◌&&◌, take, refl, sym, ap, ◌∙◌, arith, pow-add, subst}
 use Rattle.std.proofs.Math.Nat.{div-eq_of_lt-le, div-mul-le_self, lt-div-mul-add, lt_of_mul-lt-mul_right, mul-le-mul_right, add-mul, one-le-pow, div-lt_iff_lt-mul, pow-le-pow_right}
 use Rattle.std.proofs.lemmas.Bool.{and_from, and_parts}
 use Rattle.byteorder.specs.Endian.{big_bytes}
@@ -9,7 +9,6 @@ use Rattle.std.specs.Int.RustNames.{FitsSigned, int_le}
 use Rattle.rte_value.specs.declared.kinds.Limits.{Limits}
 use Rattle.signal_link.specs.declared.word_head.WordHead.{WordHead}
 use Rattle.signal_link.specs.Frames.{word_bytes}
-use Rattle.signal_link.specs.Links.{is_within}
 use Rattle.signal_link.specs.Parts.{IsHead, IsOpen, head_bytes}
 use Rattle.signal_link.proofs.Bytes.{bytes_are_one, take-word_bytes}
 

@@ -1,11 +1,11 @@
 -- A frame whose header came: how it goes on, and when it cannot.
-use Rattle.std.proofs.Common.{◌≡◌, ◌≢◌, ◌≤◌, ◌<◌, ℕ, zero, suc, ◌+◌, ◌*◌, ◌-◌, ◌^◌, ℤ, List, [], ◌∷◌, ◌++◌, length, take, drop, get_or, Bool, true, false, ◌&&◌, ◌==◌, Some, slice_get, refl, sym, ap, ◌∙◌, arith, subst, append_assoc, length-append, replicate}
+use Rattle.std.proofs.Common.{◌≡◌, ◌≢◌, ◌<◌, ℕ, ◌+◌, ◌*◌, ◌^◌, ℤ, List, [], ◌∷◌, ◌++◌, length, take, drop, get_or, true, false, ◌==◌, refl, sym, ap, ◌∙◌, arith, subst, append_assoc, length-append}
 use Rattle.std.proofs.lemmas.Bool.{and_from, and_parts, eq-eqb}
 use Rattle.std.proofs.lemmas.Grind.{flat_map-append}
-use Rattle.std.proofs.lemmas.List.{append-nil, length-replicate, take-append-drop, take-append-le, take_at}
+use Rattle.std.proofs.lemmas.List.{append-nil, take-append-le, take_at}
 use Rattle.std.proofs.lemmas.List.Folds.{list_all-append}
 use Rattle.std.proofs.lemmas.Int.{of_z-to_z}
-use Rattle.std.specs.Int.{w64, cast_signed, cast_unsigned}
+use Rattle.std.specs.Int.{w64, cast_signed}
 use Rattle.std.specs.Int.RustNames.{int_le}
 use Rattle.std.specs.List.{flat_map, list_all}
 use Rattle.byteorder.specs.Endian.{big_bytes}
@@ -17,11 +17,11 @@ use Rattle.signal_link.specs.declared.link_elem.LinkElem.{LinkElem}
 use Rattle.signal_link.specs.declared.payload.Payload.{Payload}
 use Rattle.signal_link.specs.declared.word_head.WordHead.{WordHead}
 use Rattle.signal_link.specs.Frames.{frame, header, word_bytes}
-use Rattle.signal_link.specs.Links.{is_link, is_within, takes}
+use Rattle.signal_link.specs.Links.{is_link, is_within}
 use Rattle.signal_link.specs.Parts.{IsHead, IsLinked, IsOpen, IsPayload, IsPushed, IsValueOf, empty_head, head_bytes, payload_bytes}
 use Rattle.signal_link.specs.Unframing.{IsBeginning, IsGood}
 use Rattle.signal_link.proofs.Bytes.{bytes_pushed, length-word_bytes}
-use Rattle.signal_link.proofs.Frames.{Peeled, length-words, peeled, same_link, same_number}
+use Rattle.signal_link.proofs.Frames.{Peeled, peeled, same_link, same_number}
 use Rattle.signal_link.proofs.Heads.{le_self}
 
 -- ---- the head

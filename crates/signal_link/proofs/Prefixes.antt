@@ -1,6 +1,6 @@
 -- Two beginnings of one list.
-use Rattle.std.proofs.Common.{◌≡◌, ◌≤◌, ℕ, List, ◌++◌, length, take, drop, refl, sym, ap, ◌∙◌, append_assoc}
-use Rattle.std.proofs.lemmas.List.{append_cancel_left, take-append-drop, take-append-le, take_at}
+use Rattle.std.proofs.Common.{◌≡◌, ◌≤◌, ℕ, List, ◌++◌, length, take, drop, refl, sym, ap, ◌∙◌}
+use Rattle.std.proofs.lemmas.List.{take-append-drop, take-append-le, take_at}
 
 -- the shorter one begins the longer one
 pub shorter : (a x b y : List ℕ) → a ++ x ≡ b ++ y → length a ≤ length b → b ≡ a ++ drop (length a) b
@@ -8,9 +8,3 @@ shorter a x b y same short =
     let first : take (length a) b ≡ a =
     sym (take-append-le (length a) b y short) ∙ ap (λ (l : List ℕ). take (length a) l) (sym same) ∙ take_at a x (length a) refl in
     sym (take-append-drop (length a) b) ∙ ap (λ (l : List ℕ). l ++ drop (length a) b) first
-
--- and what stands behind it begins with the rest of the longer one
-pub behind : (a x b y : List ℕ) → a ++ x ≡ b ++ y → length a ≤ length b → x ≡ drop (length a) b ++ y
-behind a x b y same short =
-    append_cancel_left a x (drop (length a) b ++ y)
-    (same ∙ ap (λ (l : List ℕ). l ++ y) (shorter a x b y same short) ∙ append_assoc a (drop (length a) b) y)

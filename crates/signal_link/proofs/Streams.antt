@@ -1,6 +1,6 @@
 -- The values of a stream of frames, however it is cut.
-use Rattle.std.proofs.Common.{◌≡◌, ◌≤◌, ◌<◌, ℕ, zero, suc, ◌+◌, ◌*◌, ◌-◌, ◌^◌, ℤ, pos, negsuc, List, [], ◌∷◌, ◌++◌, length, take, drop, get_or, Bool, true, false, ◌&&◌, ◌==◌, Option, Some, None, slice_get, refl, sym, ap, ◌∙◌, ◌⊎◌, inl, inr, arith, subst, append_assoc, length-append}
-use Rattle.std.proofs.lemmas.Bool.{and_parts, eqb-true}
+use Rattle.std.proofs.Common.{◌≡◌, ◌≤◌, ◌<◌, ℕ, zero, suc, ◌+◌, ◌-◌, ℤ, pos, negsuc, List, [], ◌∷◌, ◌++◌, length, take, drop, get_or, true, ◌&&◌, ◌==◌, Option, Some, None, slice_get, refl, sym, ap, ◌∙◌, ◌⊎◌, inl, inr, arith, subst, append_assoc, length-append}
+use Rattle.std.proofs.lemmas.Bool.{and_parts}
 use Rattle.std.proofs.lemmas.Grind.{flat_map-append}
 use Rattle.std.proofs.Math.Seq.{take-append-add}
 use Rattle.std.proofs.lemmas.List.{append-nil, take_all, take_at}
@@ -9,8 +9,6 @@ use Rattle.std.specs.Int.RustNames.{FitsSigned, int_le}
 use Rattle.std.specs.List.{AllByRecursion, flat_map, list_all}
 use Rattle.std.specs.Option.{unwrap_or}
 use Rattle.rte_value.specs.EqualValues.{Value-by_words}
-use Rattle.rte_value.specs.declared.kinds.Limits.{Limits}
-use Rattle.rte_value.specs.declared.value.Value.{Value}
 use Rattle.rte_value.specs.Values.{words_of}
 use Rattle.signal_link.specs.declared.header.Header.TheVariants.{Nothing}
 use Rattle.signal_link.specs.declared.link_elem.LinkElem.{LinkElem}
@@ -21,10 +19,10 @@ use Rattle.signal_link.specs.Frames.{Pair, frame, frames, word_bytes}
 use Rattle.signal_link.specs.Links.{AreLinks, AreOfWords, is_within, is_word}
 use Rattle.signal_link.specs.Unframing.{BeginsWithFrame, Finds, IsBeginning, IsFrames, IsGood, Keeps, Kept, Shows, StandsFor, after_feed, fresh, given, used_by}
 use Rattle.signal_link.proofs.Beginnings.{cut_header, earlier}
-use Rattle.signal_link.proofs.Feeds.{fed_as, kept_as}
+use Rattle.signal_link.proofs.Feeds.{kept_as}
 use Rattle.signal_link.proofs.Heads.{fits_between, le_of}
 use Rattle.signal_link.proofs.Frames.{length-frame, same_link, same_number, same_words}
-use Rattle.signal_link.proofs.Prefixes.{behind, shorter}
+use Rattle.signal_link.proofs.Prefixes.{shorter}
 
 -- ---- one feed
 

@@ -1,5 +1,5 @@
 -- Feeds one after the other.
-use Rattle.std.specs.Prelude.{◌≡◌, ◌≤◌, ℕ, List, [], ◌∷◌, length, take}
+use Rattle.std.specs.Prelude.{◌≡◌, ℕ, List, [], ◌∷◌, take}
 use Rattle.std.specs.List.{flat_map}
 use Rattle.signal_link.specs.declared.unframer.Fed.{Fed}
 use Rattle.signal_link.specs.declared.unframer.Found.{Found}

@@ -1,5 +1,5 @@
 -- Links, and the values that they take.
-use Rattle.std.specs.Prelude.{◌≡◌, ◌<◌, ℕ, ℤ, pos, negsuc, List, length, Bool, true, ◌&&◌, ◌==◌, nat_le, int_le}
+use Rattle.std.specs.Prelude.{◌≡◌, ◌<◌, ℤ, pos, negsuc, List, length, Bool, true, ◌&&◌, ◌==◌, nat_le, int_le}
 use Rattle.std.specs.List.{list_all}
 use Rattle.rte_value.specs.declared.kinds.Limits.{Limits}
 use Rattle.signal_link.specs.declared.link_elem.LinkElem.{LinkElem}

@@ -1,4 +1,4 @@
-use Rattle.std.proofs.Common.{◌≡◌, ◌++◌, ◌∷◌, ℕ, List, [], Bool, Option, sym, ap, ◌∙◌, subst, arith}
+use Rattle.std.proofs.Common.{◌++◌, ◌∷◌, ℕ, List, [], Bool, Option, sym, ap, ◌∙◌, subst, arith}
 use Rattle.std.specs.Option.{unwrap_or}
 use Rattle.signal_link.specs.declared.part.Part.{Part}
 use Rattle.signal_link.specs.Parts.{IsPart, IsPushed, begun_of}

@@ -1,4 +1,4 @@
-use Rattle.std.proofs.Common.{refl, sym, ap, ◌∙◌, subst}
+use Rattle.std.proofs.Common.{refl, sym, ◌∙◌, subst}
 use Rattle.signal_link.specs.declared.part.Part.{Part}
 use Rattle.signal_link.specs.Parts.{IsNext}
 use Rattle.signal_link.proofs.Payloads.{whole_frame}

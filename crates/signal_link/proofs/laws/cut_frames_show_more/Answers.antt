@@ -1,4 +1,4 @@
-use Rattle.std.proofs.Common.{◌≡◌, ◌<◌, [], ◌∷◌, ◌++◌, ℕ, ℤ, length, take, drop, sym, arith}
+use Rattle.std.proofs.Common.{[], ◌∷◌, ◌++◌, take, drop, sym, arith}
 use Rattle.std.proofs.lemmas.List.{length-drop, take-append-drop}
 use Rattle.signal_link.specs.Frames.{frame}
 use Rattle.signal_link.proofs.Beginnings.{IsCut, cut_where_more, earlier, no_frame_in_a_cut}

@@ -1,6 +1,6 @@
-use Rattle.std.proofs.Common.{◌≡◌, ◌≤◌, ◌++◌, ℕ, List, Bool, true, false, min, length, take, drop, if◌then◌else◌, refl, sym, ap, ◌∙◌, arith}
+use Rattle.std.proofs.Common.{◌≡◌, ◌++◌, ℕ, List, Bool, false, length, take, drop, if◌then◌else◌, sym, ap, ◌∙◌, arith}
 use Rattle.std.proofs.lemmas.List.{length-take}
-use Rattle.signal_link.specs.Pipes.{Pipe, cut_of, fails_next, filled_by, given_of}
+use Rattle.signal_link.specs.Pipes.{Pipe, fails_next, given_of}
 use Rattle.signal_link.proofs.Pipes.{filled}
 use Rattle.signal_link.proofs.pipe_link.PipeLinkLink.receive.Goals as goal
 

@@ -1,4 +1,4 @@
-use Rattle.std.proofs.Common.{◌≡◌, ◌++◌, ℕ, List, take, sym, ◌∙◌, subst}
+use Rattle.std.proofs.Common.{◌++◌, List, take, sym, subst}
 use Rattle.signal_link.specs.declared.link_elem.LinkElem.{LinkElem}
 use Rattle.signal_link.specs.Feeding.{feed_of}
 use Rattle.signal_link.specs.Parts.{begun_of, kept_of}
