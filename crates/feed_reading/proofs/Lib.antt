@@ -1,2 +1,4 @@
+mod Callable
+mod Few
 mod Gifts
 mod Steps

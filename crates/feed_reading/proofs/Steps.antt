@@ -26,7 +26,7 @@ pub record HasRead (p : Plan) (bytes : Letters) (lists : List (Vec Wish Global))
   pub wishes_are : c.wishes ≡ wishes_in p seen
   pub stopped_is : c.stopped ≡ has_stopped p seen
 
-wishes_in-more : (p : Plan) (ts : List Letters) (t : Letters) → wishes_in p (ts ++ t ∷ []) ≡ wishes_in p ts + how_many (stimulus p t)
+pub wishes_in-more : (p : Plan) (ts : List Letters) (t : Letters) → wishes_in p (ts ++ t ∷ []) ≡ wishes_in p ts + how_many (stimulus p t)
 wishes_in-more p [] t = omega arith
 wishes_in-more p (x ∷ xs) t = let h = wishes_in-more p xs t in omega arith
 

@@ -1,4 +1,5 @@
 pub mod Gifts
+pub mod Given
 pub mod Heard
 pub mod Progress
 pub mod Reading

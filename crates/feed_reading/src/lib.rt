@@ -10,9 +10,11 @@ mod giving;
 mod heard;
 mod hearing;
 mod judging;
+mod laws;
 mod progress;
 mod reading;
 
 pub use feeds::Feeds;
 pub use feeds_read::FeedsRead;
+pub use laws::{feeds_are_few, feeds_give_what_may_be_called};
 pub use reading::read_feeds;
