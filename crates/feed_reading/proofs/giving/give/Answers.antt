@@ -1,4 +1,4 @@
-use Rattle.std.proofs.Common.{◌≡◌, ◌++◌, ℕ, map, slice_set, sym, subst}
+use Rattle.std.proofs.Common.{◌≡◌, ◌++◌, map, slice_set, sym, subst}
 use Rattle.bus_semantics.specs.Wanted.{wanted_of}
 use Rattle.feed_reading.specs.Gifts.{wishes_at}
 use Rattle.feed_reading.specs.Heard.{heard_as, wishes_of}

@@ -2,7 +2,7 @@ use Rattle.std.proofs.Common.{◌≡◌, [], Some, subst}
 use Rattle.bus_semantics.specs.Plan.{plan_of}
 use Rattle.line_fields.specs.Texts.{lines_of}
 use Rattle.script_reading.proofs.Numbered.{numbered}
-use Rattle.feed_reading.specs.Reading.{AreFeeds, IfBadLine, IfRead, first_bad}
+use Rattle.feed_reading.specs.Reading.{IfBadLine, first_bad}
 use Rattle.feed_reading.proofs.reading.read_feeds.Goals as goal
 
 pub of-requires : goal.of-requires
