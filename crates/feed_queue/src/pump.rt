@@ -9,8 +9,8 @@ use crate::rule::{Feeding, Popped};
 use std::sync::Wait;
 
 impl Pump {
-    /// Pops the next number of some feed: the feed, and its number. None, only where the queue was empty at one moment of this call, if
-    /// nothing was popped. It may spin behind another thread that was stopped within a push or a pop. It takes no memory.
+    /// Pops the next number of some feed: the feed, and its number. Or `None`, if nothing was popped: the queue was empty at some moment of
+    /// this call. It may spin behind another thread that was stopped within a push or a pop. It takes no memory.
     pub fn next<F: Feeding, R: Wait>(&mut self, rt: &R, q: &FeedQueue<F>) -> Option<(u8, u32)>
         requires queue { IsPumpOf F.lengths q.now self.old }
         ensures queue { IsPumpOf F.lengths q.now self.new }
