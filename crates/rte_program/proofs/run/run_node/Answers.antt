@@ -3,6 +3,10 @@ use Rattle.bus_semantics.specs.Plan.{plan_of}
 use Rattle.rte_program.proofs.Ran as by
 use Rattle.rte_program.proofs.run.run_node.Goals as goal
 
+pub run_script-requires-clause-fits : goal.run_script-requires-clause-fits
+run_script-requires-clause-fits g c κs within =
+    c.scripts_are_carriable.ensures (plan_of c.args.node.now.plan) c.requires.scripted.0 c.args.script.now.lines c.requires.scripted.1
+
 pub returns-in-Finished : goal.returns-in-Finished
 returns-in-Finished g c = inl (
   refl,
