@@ -6,4 +6,5 @@ pub mod Heads
 pub mod Payloads
 pub mod Pipes
 pub mod Prefixes
+pub mod Sending
 pub mod Streams

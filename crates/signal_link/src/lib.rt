@@ -3,6 +3,7 @@
 #![tactic(auto)]
 
 mod advancing;
+mod carrying;
 mod frame_buf;
 mod header;
 mod laws;
@@ -15,6 +16,7 @@ mod threads;
 mod unframer;
 mod word_head;
 
+pub use carrying::{Arrived, carry};
 pub use frame_buf::{FRAME_LIMIT, FrameBuf, frame};
 pub use laws::{answers_are_one, cut_frames_show_more, frames_are_one, pieces_are_all_one};
 pub use link::{Got, Link, Sent};
