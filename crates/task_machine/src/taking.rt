@@ -51,8 +51,8 @@ fn value_of_answer(answer: &Deed) -> Value
     }
 }
 
-/// The slots take what was fetched together. It stays a function of its own, since the room of a value is cleared where a function begins.
-#[inline(never)]
+/// The slots take what was fetched together. No hint keeps it a function of its own: the answer's address would leave its
+/// caller then, and each answer would be written out whole.
 fn take_together(parts: &[SlotPart], answer: &Deed, store: &mut Store)
     ensures store { store_of store.new ≡ with_parts parts.now (words_in answer.now) (store_of store.old) }
     ensures room { room_of store.new ≡ room_of store.old }
