@@ -17,6 +17,7 @@ mod phrases;
 mod script_read;
 
 pub use environment::Environment;
+pub use forms::Form;
 pub use grammar::Grammar;
 pub use laws::{
     causes_are_sentences, lines_spell_what_they_ask, scripts_are_carriable,
