@@ -25,7 +25,7 @@ IsFit p (ticks n) = Unit {0}
 IsFit p a_run = Unit {0}
 IsFit p (a_call w) = wish_fits p Env w ≡ true
 
-call_fits : (p : Plan) (w : Wanted) → may_call p w ≡ true → wish_fits p Env w ≡ true
+pub call_fits : (p : Plan) (w : Wanted) → may_call p w ≡ true → wish_fits p Env w ≡ true
 call_fits p to_tick may = absurd (cc)
 call_fits p (to_write x ws) may = (and_parts (wish_fits p Env (to_write x ws)) (takes Write p x ws) may).0
 call_fits p (to_send x ws) may = (and_parts (wish_fits p Env (to_send x ws)) (takes Send p x ws) may).0
