@@ -1,4 +1,4 @@
-//! Tests of what no row reaches: the edge to the system, numbers of statuses, and what a refusal is printed as.
+//! Tests of what no row reaches: the edge to the system, and what a refusal is printed as.
 #![tactic(auto)]
 
 #[cfg(test)]

@@ -2,6 +2,7 @@
 
 ghost use Rattle.std.specs.Prelude.{◌≤◌, IfOk, length};
 ghost use Rattle.bus_semantics.specs.Plan.{plan_of};
+ghost use Rattle.bus_semantics.specs.Sound.{IsSound};
 ghost use Rattle.trace_reading.specs.Readable.{IsReadable};
 
 use crate::fault::Fault;
@@ -14,9 +15,13 @@ use trace_reading::{LineRead, read_entry, sound_plans_are_readable};
 use trace_text::{header, write_entry};
 
 /// The plan of a description, which rules 1 to 31 accept.
-fn plan_of_description(alloc: Global, description: &[u8]) -> Result<PlannedDescription, Fault>
+pub(crate) fn plan_of_description(
+    alloc: Global,
+    description: &[u8],
+) -> Result<PlannedDescription, Fault>
     requires { length description.now ≤ 8388608 }
-    ensures { IfOk result (λ found. IsReadable (plan_of found.plan)) }
+    ensures sound { IfOk result (λ found. IsSound (plan_of found.plan) found.mapping) }
+    ensures readable { IfOk result (λ found. IsReadable (plan_of found.plan)) }
 {
     sound_plans_are_readable();
     match plan_description(alloc, description) {

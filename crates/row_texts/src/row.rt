@@ -100,6 +100,14 @@ pub enum Row<'a> {
     },
     /// `back FOLDER` reads each line of the trace that is the folder's `expected.txt`, and writes it back in both versions.
     Back(&'a str),
+    /// `seats FOLDER` shows what two seats of one round are answered over the plan of the folder's description, and what the close gives: the
+    /// environment switches machine 0 to its mode 1, and then the machine makes its first phase.
+    Seats(&'a str),
+    /// `statuses` shows each status and the number with which the program ends then.
+    Statuses,
+    /// `turns FOLDER` shows the entries that eight turns of the first core make over the plan of the folder's description, and for each turn
+    /// whether it made one, and how often the bench had answered `NotYet` by then.
+    Turns(&'a str),
 }
 
 /// What comes before the first space, and what comes after it.
@@ -205,6 +213,9 @@ impl<'a> Row<'a> {
             "alone" => Some(Row::Alone(rest)),
             "text" => Some(Row::Text(rest)),
             "back" => Some(Row::Back(rest)),
+            "seats" => Some(Row::Seats(rest)),
+            "statuses" => Some(Row::Statuses),
+            "turns" => Some(Row::Turns(rest)),
             "legal" => legal(first, more),
             "held" => held(first, more),
             _ => row_in(kind, first, more),

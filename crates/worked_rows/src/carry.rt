@@ -9,15 +9,30 @@ use crate::runs::{
 use bus_semantics::Version;
 use row_texts::{
     Fault, HashSign, Row, Shown, edited, expanded, numbers_of, pairs_of, read_back, read_lines,
+    seats_told, turns_told,
 };
 use rte_program::{Status, rte_top};
 use rte_text::{Fetched, FileShelf, OpenGate, Shelf, StdSink};
-use std::alloc::AllocError;
+use std::alloc::{AllocError, Global};
 use std::rt::Files;
 use std::sync::Wait;
 use std::thread::Threads;
 
 const EXPECTED: &str = "expected.txt";
+
+/// All statuses, each with what it is called in a row.
+const STATUSES: [(&str, Status); 10] = [
+    ("done", Status::Done),
+    ("refused", Status::Refused),
+    ("words", Status::Words),
+    ("not read", Status::NotRead),
+    ("not written", Status::NotWritten),
+    ("script", Status::Script),
+    ("trace", Status::Trace),
+    ("memory", Status::Memory),
+    ("no component", Status::NoComponent),
+    ("clash", Status::Clash),
+];
 
 /// The bytes of a folder's file.
 fn file<R: Files + AllocGlobal + Clone + Drop>(
@@ -282,6 +297,39 @@ fn show_back<R: Files + AllocGlobal + Clone + Drop>(rt: &R, folder: &str) -> Res
     Ok(Answer { text, status })
 }
 
+/// Shows what two seats of one round are answered over the plan of the folder's description.
+fn show_seats<R: Files + AllocGlobal + Clone + Drop>(
+    rt: &R,
+    folder: &str,
+) -> Result<Answer, Fault> {
+    let description = file(rt, folder, DESCRIPTION)?;
+    let text = seats_told(rt.alloc(), description.as_slice())?;
+    let status = Status::Done;
+    Ok(Answer { text, status })
+}
+
+/// Shows each status and its number, a line each.
+fn show_statuses(alloc: Global) -> Result<Answer, Fault> {
+    let mut text = Vec::new(alloc);
+    for (name, status) in STATUSES {
+        let line = format!(in alloc; "{name} {}\n", status as u8)?;
+        text.extend_from_slice(line.as_bytes())?;
+    }
+    let status = Status::Done;
+    Ok(Answer { text, status })
+}
+
+/// Shows what turns of the first core tell over the plan of the folder's description.
+fn show_turns<R: Files + AllocGlobal + Clone + Drop>(
+    rt: &R,
+    folder: &str,
+) -> Result<Answer, Fault> {
+    let description = file(rt, folder, DESCRIPTION)?;
+    let text = turns_told(rt.alloc(), description.as_slice())?;
+    let status = Status::Done;
+    Ok(Answer { text, status })
+}
+
 /// Carries out the row.
 pub fn carry_out<R: Files + Print + AllocGlobal + Clone + Drop + Threads + Wait + Sync>(
     rt: &R,
@@ -324,5 +372,8 @@ pub fn carry_out<R: Files + Print + AllocGlobal + Clone + Drop + Threads + Wait 
             text,
         } => show_lines(rt, folder, version, text),
         Row::Back(folder) => show_back(rt, folder),
+        Row::Seats(folder) => show_seats(rt, folder),
+        Row::Turns(folder) => show_turns(rt, folder),
+        Row::Statuses => show_statuses(rt.alloc()),
     }
 }

@@ -3,7 +3,7 @@ use Rattle.std.specs.List.{slice_get}
 use Rattle.bus_semantics.specs.Plan.{plan_of}
 use Rattle.task_slots.specs.Slots.{table_of}
 use Rattle.core_turn.specs.Cores.{tables_of_core}
-use Rattle.bench_tests.proofs.turns.ready_core.Goals as goal
+use Rattle.row_texts.proofs.turns.ready_core.Goals as goal
 
 pub returns-in-Ok-clause-ready : goal.returns-in-Ok-clause-ready
 returns-in-Ok-clause-ready c =

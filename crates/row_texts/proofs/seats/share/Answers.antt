@@ -1,6 +1,6 @@
 use Rattle.std.proofs.Common.{◌∙◌}
-use Rattle.bench_tests.proofs.TwoSeats.{two_popped}
-use Rattle.bench_tests.proofs.rounds.share.Goals as goal
+use Rattle.row_texts.proofs.TwoSeats.{two_popped}
+use Rattle.row_texts.proofs.seats.share.Goals as goal
 
 pub take_turns-requires-clause-first : goal.take_turns-requires-clause-first
 take_turns-requires-clause-first c =

@@ -27,7 +27,7 @@ pub struct CountingBench<'a, L: Ledger> {
 impl<'a, L: Ledger> Model for CountingBench<'a, L> {
     ghost use Rattle.std.specs.Prelude.{◌≡◌, ◌+◌, ◌-◌, ◌^◌, ◌≤◌, length, min};
     ghost use Rattle.std.specs.Vec.{vec_capacity};
-    ghost use Rattle.bench_tests.specs.Counting.{Counting};
+    ghost use Rattle.row_texts.specs.Counting.{Counting};
     ghost use Rattle.runnable_lang.specs.contracts.stmt.Stmt as statements;
     ghost use Rattle.runnable_lang.specs.contracts.stmt.Expr as expressions;
     ghost use Rattle.std.specs.Coded.{codes};

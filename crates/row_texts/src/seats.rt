@@ -1,6 +1,6 @@
-//! Two seats of one round, on one thread. What is wanted was found by hand.
+//! Two seats of one round, on one thread.
 
-ghost use Rattle.std.specs.Prelude.{◌≡◌, ◌<◌, [], length, true, IfOk, IfSome};
+ghost use Rattle.std.specs.Prelude.{◌≡◌, ◌<◌, ◌≤◌, [], length, true, IfOk};
 ghost use Rattle.bus_semantics.specs.Asked.{asks_its_own};
 ghost use Rattle.bus_semantics.specs.Fitting.{wish_fits};
 ghost use Rattle.bus_semantics.specs.Plan.{plan_of};
@@ -10,49 +10,15 @@ ghost use Rattle.cross_core_table.specs.Logs.{plan_in};
 ghost use Rattle.cross_core_table.specs.Opened.{IsOpened};
 ghost use Rattle.cross_core_table.specs.Seats.{IsSeatOf, view_of};
 
+use crate::fault::Fault;
+use crate::readings::plan_of_description;
 use bus_semantics::{Actor, BusPlan, Deed, Mapping, Stamped, Wish};
 use cross_core_table::{CoreSeat, Opened, Round, SeatBench, Spare};
-use description_stages::{PlannedDescription, plan_description};
+use description_stages::PlannedDescription;
 use port_objects::{Benched, make_objects, object_of, sound_plans_have_objects};
 use rte_value::Step;
 use std::alloc::{AllocError, Global};
-use std::test::Fail;
 use trace_reading::wish_fits;
-
-/// A mode machine of the environment whose switches three tasks on three cores carry out: `Off` is left, passed and `On` entered. A
-/// TimingEvent is disabled in `On`.
-const DESCRIPTION: &[u8] = b"{
-\"dataTypes\":[{\"shortName\":\"T\",\"baseType\":\"uint16\",\"lower\":0,\"upper\":1000,\"words\":1}],
-\"modeGroups\":[{\"shortName\":\"G\",\"modes\":[\"Off\",\"On\"],\"initialMode\":\"Off\"}],
-\"interfaces\":[{\"kind\":\"ModeSwitchInterface\",\"shortName\":\"N\",\"modeGroup\":{\"shortName\":\"g\",\"type\":\"G\"}}],
-\"components\":[{\"shortName\":\"User\",\"ports\":[{\"kind\":\"RPortPrototype\",\"shortName\":\"p\",\"interface\":\"N\"}],\"behavior\":{
-  \"runnables\":[{\"shortName\":\"F\"},{\"shortName\":\"X\"},{\"shortName\":\"Y\"},{\"shortName\":\"Z\"}],
-  \"events\":[
-    {\"kind\":\"TimingEvent\",\"shortName\":\"E\",\"runnable\":\"F\",\"period\":10,\"disabledInModes\":{\"port\":\"p\",\"modes\":[\"On\"]}},
-    {\"kind\":\"SwcModeSwitchEvent\",\"shortName\":\"X1\",\"runnable\":\"X\",\"port\":\"p\",\"activation\":\"onExit\",\"modes\":[\"Off\"]},
-    {\"kind\":\"SwcModeSwitchEvent\",\"shortName\":\"Y1\",\"runnable\":\"Y\",\"port\":\"p\",\"activation\":\"onTransition\",\"modes\":[\"Off\",\"On\"]},
-    {\"kind\":\"SwcModeSwitchEvent\",\"shortName\":\"Z1\",\"runnable\":\"Z\",\"port\":\"p\",\"activation\":\"onEntry\",\"modes\":[\"On\"]}]}}],
-\"compositions\":[{\"shortName\":\"Top\",
-  \"ports\":[{\"kind\":\"RPortPrototype\",\"shortName\":\"m\",\"interface\":\"N\",\"comSpecs\":[{\"element\":\"g\",\"queueLength\":2}]}],
-  \"prototypes\":[{\"shortName\":\"u\",\"type\":\"User\"}],
-  \"connectors\":[{\"kind\":\"DelegationSwConnector\",\"inner\":[\"u\",\"p\"],\"outer\":\"m\"}]}],
-\"root\":\"Top\",
-\"mapping\":{\"cores\":3,
-  \"tasks\":[{\"shortName\":\"TX\",\"core\":0},{\"shortName\":\"TF\",\"core\":0},{\"shortName\":\"TY\",\"core\":1},{\"shortName\":\"TZ\",\"core\":2}],
-  \"events\":[
-    {\"instance\":\"u\",\"event\":\"X1\",\"task\":\"TX\",\"position\":0},
-    {\"instance\":\"u\",\"event\":\"E\",\"task\":\"TF\",\"position\":0},
-    {\"instance\":\"u\",\"event\":\"Y1\",\"task\":\"TY\",\"position\":0},
-    {\"instance\":\"u\",\"event\":\"Z1\",\"task\":\"TZ\",\"position\":0}]}}";
-
-/// What the first seat was answered: the environment switches machine 0 to mode 1, `On`.
-const FIRST: &str = "0 env switch 0 1 code 0;";
-
-/// What the second seat was answered: the first phase of machine 0.
-const SECOND: &str = "1 machine 0 stable;";
-
-/// What the close gives, in order of stamps.
-const ALL: &str = "0 env switch 0 1 code 0;1 machine 0 stable;";
 
 /// The stamp of an entry, its actor and its deed.
 fn told(alloc: Global, made: &Stamped) -> Result<String, AllocError> {
@@ -207,17 +173,7 @@ fn run(alloc: Global, p: &BusPlan, m: &Mapping) -> Result<(String, String, Strin
     }
 }
 
-/// The description with its plan, if it breaks no rule.
-fn planned(alloc: Global) -> Option<PlannedDescription>
-    ensures sound { IfSome result (λ x. IsSound (plan_of x.plan) x.mapping) }
-{
-    match plan_description(alloc, DESCRIPTION) {
-        Ok(found) => Some(found),
-        Err(_) => None,
-    }
-}
-
-/// What is told over a description's plan.
+/// What is told over a plan.
 fn run_planned(
     alloc: Global,
     found: PlannedDescription,
@@ -229,12 +185,13 @@ fn run_planned(
     told
 }
 
-#[test]
-fn two_seats_share_a_round(rt: HostRuntime) -> Result<(), Fail> {
-    let alloc = rt.alloc();
-    let (first, second, all) = run_planned(alloc, planned(alloc).expect(&rt, "a plan"))?;
-    assert_eq!(rt; first.as_str(), FIRST);
-    assert_eq!(rt; second.as_str(), SECOND);
-    assert_eq!(rt; all.as_str(), ALL);
-    Ok(())
+/// What two seats of one round are answered over the plan of the description, a line each, and then what the close gives, in order of stamps:
+/// the environment switches machine 0 to its mode 1, and then the machine makes its first phase.
+pub fn seats_told(alloc: Global, description: &[u8]) -> Result<Vec<u8>, Fault>
+    requires { length description.now ≤ 8388608 }
+{
+    let found = plan_of_description(alloc, description)?;
+    let (first, second, all) = run_planned(alloc, found)?;
+    let text = format!(in alloc; "{first}\n{second}\n{all}\n")?;
+    Ok(Vec::from_slice(alloc, text.as_bytes())?)
 }

@@ -1,7 +1,7 @@
 use Rattle.std.specs.Prelude.{◌≡◌, ◌+◌, ◌≤◌}
 use Rattle.bus_semantics.specs.Plan.{plan_of}
 use Rattle.core_turn.specs.Ready.{IsReady}
-use Rattle.bench_tests.proofs.turns.make_turns.Given as goal
+use Rattle.row_texts.proofs.turns.make_turns.Given as goal
 
 abbrev pub invariant-loop-turn : goal.invariant-loop-turn
 invariant-loop-turn g l = record {

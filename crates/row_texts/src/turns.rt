@@ -1,6 +1,6 @@
-//! What a bench that counts its work tells of turns. What is wanted was found by hand.
+//! What a bench that counts its work tells of turns.
 
-ghost use Rattle.std.specs.Prelude.{◌≡◌, ◌+◌, ◌<◌, ◌≤◌, IfOk, IfSome};
+ghost use Rattle.std.specs.Prelude.{◌≡◌, ◌+◌, ◌<◌, ◌≤◌, IfOk, length};
 ghost use Rattle.bus_semantics.specs.declared.script.Mapping.{Mapping};
 ghost use Rattle.bus_semantics.specs.Plan.{plan_of};
 ghost use Rattle.task_generator.specs.Promise.{AsksAsPlanned};
@@ -8,47 +8,17 @@ ghost use Rattle.bus_semantics.specs.Sound.{IsSound};
 ghost use Rattle.core_turn.specs.Ready.{IsReady};
 
 use crate::counting::CountingBench;
+use crate::fault::Fault;
+use crate::readings::plan_of_description;
 use bus_semantics::{BusPlan, Deed, Mapping, Stamped};
 use core_turn::{Core, Turned, turn};
-use description_stages::{PlannedDescription, plan_description};
+use description_stages::PlannedDescription;
 use port_objects::{make_objects, sound_plans_have_objects};
 use std::alloc::{AllocError, Global};
 use std::marker::Brand;
 use std::sync::ledger::{Blank, Ledger};
-use std::test::Fail;
 use task_generator::generate;
 use task_machine::TaskSet;
-
-/// At the start `boot` writes what `show` reads when it is received; `show` has a TimingEvent too, which is never due. The first
-/// task of the core has the events `Beat` and `OnData`, the second has `AtStart`.
-const DESCRIPTION: &[u8] = b"{
-\"dataTypes\":[{\"shortName\":\"T\",\"baseType\":\"uint8\",\"lower\":0,\"upper\":9,\"words\":1}],
-\"interfaces\":[{\"kind\":\"SenderReceiverInterface\",\"shortName\":\"I\",\"dataElements\":[
-  {\"shortName\":\"v\",\"type\":\"T\",\"swImplPolicy\":\"standard\"}]}],
-\"components\":[
-  {\"shortName\":\"Boot\",\"ports\":[{\"kind\":\"PPortPrototype\",\"shortName\":\"o\",\"interface\":\"I\"}],\"behavior\":{
-    \"runnables\":[{\"shortName\":\"Begin\",\"accesses\":[[\"write\",\"o\",\"v\"]],\"program\":[[\"write\",\"o\",\"v\",[7],\"s\"]]}],
-    \"events\":[{\"kind\":\"InitEvent\",\"shortName\":\"AtStart\",\"runnable\":\"Begin\"}]}},
-  {\"shortName\":\"Show\",\"ports\":[{\"kind\":\"RPortPrototype\",\"shortName\":\"i\",\"interface\":\"I\"}],\"behavior\":{
-    \"runnables\":[{\"shortName\":\"Rest\"},
-      {\"shortName\":\"Take\",\"accesses\":[[\"read\",\"i\",\"v\"]],\"program\":[[\"read\",\"i\",\"v\",[\"x\"],\"s\"]]}],
-    \"events\":[{\"kind\":\"TimingEvent\",\"shortName\":\"Beat\",\"runnable\":\"Rest\",\"period\":10},
-      {\"kind\":\"DataReceivedEvent\",\"shortName\":\"OnData\",\"runnable\":\"Take\",\"port\":\"i\",\"element\":\"v\"}]}}],
-\"compositions\":[{\"shortName\":\"Top\",
-  \"prototypes\":[{\"shortName\":\"boot\",\"type\":\"Boot\"},{\"shortName\":\"show\",\"type\":\"Show\"}],
-  \"connectors\":[{\"kind\":\"AssemblySwConnector\",\"provider\":[\"boot\",\"o\"],\"requester\":[\"show\",\"i\"]}]}],
-\"root\":\"Top\",
-\"mapping\":{\"cores\":1,\"tasks\":[{\"shortName\":\"A\",\"core\":0},{\"shortName\":\"B\",\"core\":0}],\"events\":[
-  {\"instance\":\"show\",\"event\":\"Beat\",\"task\":\"A\",\"position\":0},
-  {\"instance\":\"show\",\"event\":\"OnData\",\"task\":\"A\",\"position\":1},
-  {\"instance\":\"boot\",\"event\":\"AtStart\",\"task\":\"B\",\"position\":0}]}}";
-
-/// The entries in the order of their stamps.
-const MADE: &str = "0 start;1 write;2 start;3 end;4 read;5 end;";
-
-/// Whether each turn made an entry, and how often the bench had answered `NotYet` by then. Turns that make nothing look at the
-/// three events, each of which waits for an object and is of a free task.
-const TURNS: &str = "true 2;true 4;true 5;true 5;true 5;true 6;false 9;false 12;";
 
 /// How many turns are made.
 const COUNT: u32 = 8;
@@ -211,16 +181,6 @@ fn run<L: Ledger>(
     told
 }
 
-/// The description with its plan, if it breaks no rule.
-fn planned(alloc: Global) -> Option<PlannedDescription>
-    ensures sound { IfSome result (λ x. IsSound (plan_of x.plan) x.mapping) }
-{
-    match plan_description(alloc, DESCRIPTION) {
-        Ok(found) => Some(found),
-        Err(_) => None,
-    }
-}
-
 /// What is told over a plan, with its bodies.
 fn run_bodies(
     alloc: Global,
@@ -237,7 +197,7 @@ fn run_bodies(
     told
 }
 
-/// What is told over a description's plan.
+/// What is told over a plan, by a ledger of its own.
 fn run_planned(
     alloc: Global,
     found: PlannedDescription,
@@ -251,12 +211,13 @@ fn run_planned(
     told
 }
 
-#[test]
-fn counts_entries_and_looks(rt: HostRuntime) -> Result<(), Fail> {
-    let alloc = rt.alloc();
-    let found = planned(alloc).expect(&rt, "a plan");
+/// The entries that eight turns of the first core make over the plan of the description, in the order of their stamps, and in a line of its own
+/// for each turn whether it made an entry, and how often the bench had answered `NotYet` by then.
+pub fn turns_told(alloc: Global, description: &[u8]) -> Result<Vec<u8>, Fault>
+    requires { length description.now ≤ 8388608 }
+{
+    let found = plan_of_description(alloc, description)?;
     let (made, turns) = run_planned(alloc, found, Blank::new(1))?;
-    assert_eq!(rt; made.as_str(), MADE);
-    assert_eq!(rt; turns.as_str(), TURNS);
-    Ok(())
+    let text = format!(in alloc; "{made}\n{turns}\n")?;
+    Ok(Vec::from_slice(alloc, text.as_bytes())?)
 }

@@ -4,7 +4,7 @@ use Rattle.bus_semantics.specs.Objects.{IsObject}
 use Rattle.bus_semantics.specs.Plan.{Plan, plan_of}
 use Rattle.bus_semantics.specs.Wanted.{wanted_of}
 use Rattle.port_objects.specs.Benches.{IsAsked}
-use Rattle.bench_tests.proofs.rounds.ask_what_fits.Goals as goal
+use Rattle.row_texts.proofs.seats.ask_what_fits.Goals as goal
 
 pub object_of-requires : goal.object_of-requires
 object_of-requires c =

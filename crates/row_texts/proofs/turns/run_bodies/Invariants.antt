@@ -1,4 +1,4 @@
-use Rattle.bench_tests.proofs.turns.run_bodies.Given as goal
+use Rattle.row_texts.proofs.turns.run_bodies.Given as goal
 
 abbrev pub ghosts-run : goal.ghosts-run
 ghosts-run a = record { name = a.blank.name; parts = a.blank.parts }
