@@ -9,7 +9,7 @@ use Rattle.bus_semantics.specs.Sound.{IsSound}
 use Rattle.check_definitions.specs.declared.checked.Checked.{Checked}
 use Rattle.check_definitions.specs.declared.checked.Checked.TheVariants.{Legal}
 use Rattle.check_definitions.specs.Verdicts.{IsVerdict}
-use Rattle.check_laws.specs.Laws.{TracesHaveOneVerdict}
+use Rattle.check_definitions.specs.Laws.{TracesHaveOneVerdict}
 use Rattle.description_stages.specs.declared.planning.PlannedDescription.{PlannedDescription}
 use Rattle.description_stages.specs.Plans.{IsPlannedOf, IsPlanRefusalOf}
 use Rattle.line_fields.specs.Texts.{lines_of}

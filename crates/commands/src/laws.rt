@@ -4,7 +4,7 @@ ghost use Rattle.std.specs.Prelude.{◌≡◌, ℕ, List};
 ghost use Rattle.commands.specs.Commands.{Command};
 ghost use Rattle.commands.specs.Verdicts.{IsVerdictOn, Verdict};
 
-use check_laws::traces_have_one_verdict;
+use check_definitions::traces_have_one_verdict;
 use plan_laws::{
     headers_are_one, no_refused_description_has_a_plan, plans_are_one, refusals_are_one,
 };

@@ -8,10 +8,10 @@ ghost use Rattle.declared_names.specs.Sizes.{AreFew};
 ghost use Rattle.description_stages.specs.Plans.{IsPlanRefusalOf, IsPlannedFrom, IsPlannedOf, IsToldBy};
 
 use crate::joining::{JoinedDescription, join_description};
+use crate::laws::read_descriptions_are_well_formed;
 use crate::soundness::plans_are_sound;
 use bus_semantics::{BusPlan, Mapping};
 use component_model::Description;
-use description_laws::read_descriptions_are_well_formed;
 use description_types::Flat;
 use event_mapping::map_events;
 use rte_text::Refused;

@@ -12,7 +12,7 @@ use Rattle.plan_definitions.specs.Listed.{groups_listed}
 use Rattle.plan_definitions.specs.Planned.{object_count, plan_of}
 use Rattle.plan_definitions.specs.PlanRules.{is_too_large, received, requested}
 use Rattle.plan_definitions.proofs.Labels.{groups_few, many_leaders}
-use Rattle.plan_bundles.specs.Bundled.{leaders_over}
+use Rattle.plan_elements.specs.Bundled.{leaders_over}
 use Rattle.event_mapping.specs.declared.pieces.Pieces.{Pieces}
 use Rattle.event_mapping.specs.Pieces.{ArePieces}
 use Rattle.event_mapping.specs.Sized.{are_too_large, few_things, queues_of, things_of}

@@ -13,7 +13,7 @@ ghost use Rattle.event_mapping.specs.Sized.{are_too_large};
 
 use crate::pieces::Pieces;
 use bus_semantics::{BusPlan, RunnablePlan};
-use plan_bundles::{bundle_lists, lists_over};
+use plan_elements::{bundle_lists, lists_over};
 use plan_numbers::{Source, position};
 use plan_services::{Callings, runnable_plans};
 use rte_text::{Memory, Seq};

@@ -5,3 +5,5 @@ pub mod Parts
 pub mod Spaces
 pub mod Spelt
 pub mod Words
+pub mod Distinct
+pub mod Found

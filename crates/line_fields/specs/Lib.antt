@@ -1,3 +1,4 @@
 pub mod Cuts
 pub mod Numbers
 pub mod Texts
+pub mod Named

@@ -15,7 +15,7 @@ use Rattle.check_definitions.specs.declared.checked.Checked.{Checked}
 use Rattle.check_definitions.specs.declared.checked.Checked.TheVariants.{BadLine, Illegal, Legal}
 use Rattle.check_definitions.specs.Refusals.{IsAccepted, IsRefused}
 use Rattle.check_definitions.specs.Verdicts.{GoesOn, IsVerdict, line_after}
-use Rattle.check_laws.specs.Laws.{AcceptedItemsGoOn}
+use Rattle.check_definitions.specs.Laws.{AcceptedItemsGoOn}
 
 -- the line of an item has a character
 closing_some : (word : Closing) → 1 ≤ length (closing_text word)

@@ -14,7 +14,7 @@ use Rattle.plan_definitions.specs.MappingRules.{Chain, HaveOrder, ReachesItself,
 use Rattle.plan_definitions.specs.Parts.{component_of}
 use Rattle.mapping_rules.proofs.Reached.{found_wait, wait_found}
 use Rattle.mapping_rules.specs.Waiting.{has_wait}
-use Rattle.flat_laws.proofs.Graphs.{Steps, circle_or_order}
+use Rattle.outcome_laws.proofs.Graphs.{Steps, circle_or_order}
 
 module _ (d : Description) (f : Flat) where
   abbrev tasks : List ℕ

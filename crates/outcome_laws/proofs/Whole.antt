@@ -30,7 +30,7 @@ use Rattle.plan_definitions.specs.Tasks.{mapping_of}
 use Rattle.plan_definitions.specs.WellFormed.{IsWellFormed}
 use Rattle.plan_definitions.specs.Whole.{IsWhole}
 use Rattle.mapping_rules.proofs.Reached.{never_reaches}
-use Rattle.flat_laws.specs.Outcomes as flat
+use Rattle.outcome_laws.specs.Flattened as flat
 use Rattle.outcome_laws.specs.Outcomes.{HasPlan, HasRefusal}
 use Rattle.outcome_laws.proofs.Described.{description_for}
 use Rattle.outcome_laws.proofs.Plans.{plan_for}

@@ -8,10 +8,9 @@ ghost use Rattle.script_reading.specs.Meaning.{saying};
 ghost use Rattle.script_reading.specs.Reserved.{saying_around};
 ghost use Rattle.outcome_laws.specs.Outcomes.{HasBadLine, HasPlan, HasRefusal, HasScript, HasVerdict};
 
-use check_laws::accepted_items_go_on;
-use description_laws::read_descriptions_are_well_formed;
-use description_stages::plans_are_sound;
-use flat_laws::descriptions_are_made_flat_or_refused;
+use crate::flat::descriptions_are_made_flat_or_refused;
+use check_definitions::accepted_items_go_on;
+use description_stages::{plans_are_sound, read_descriptions_are_well_formed};
 
 /// The bytes of a file have a plan or are refused by a rule.
 pub fn bytes_have_a_plan_or_a_refusal()

@@ -8,3 +8,6 @@ pub mod Joining
 pub mod Ranking
 pub mod Mapped
 pub mod Marking
+pub mod Lowest
+mod Listing
+pub mod Connecting

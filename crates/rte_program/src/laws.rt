@@ -10,7 +10,7 @@ ghost use Rattle.check_definitions.specs.declared.checked.Checked.TheVariants.{L
 ghost use Rattle.check_definitions.specs.Verdicts.{IsLegalTrace, IsVerdict};
 ghost use Rattle.commands.specs.RunCommand.{IsTextOfRun};
 
-use check_laws::traces_have_one_verdict;
+use check_definitions::traces_have_one_verdict;
 
 /// What a run puts is a legal trace of its script, and no other verdict on it is right.
 pub fn runs_are_legal_traces()

@@ -29,7 +29,7 @@ use Rattle.line_fields.specs.Numbers.{are_held, is_value, words_in}
 use Rattle.script_reading.specs.Offers.{elem_offered, is_for, machine_offered, mode_in, mode_of, mode_port_offered, named_if, offered, point_offered, takes}
 use Rattle.script_reading.specs.Sentences.{IsSpelling, AsksOfFirst, IsFirst, IsFirstMode, IsOfFirst, may_ask, may_call, mode_name, text_of}
 use Rattle.line_fields.specs.Texts.{is_pair_name, parts}
-use Rattle.plan_names.proofs.Distinct.{all_at}
+use Rattle.line_fields.proofs.Distinct.{all_at}
 use Rattle.script_reading.proofs.Apart.{AreDistinct, are_distinct, elem_apart, machine_apart, mode_port_apart, modes_apart, point_apart}
 use Rattle.script_reading.proofs.Asking.{at_place, saying_asks}
 use Rattle.script_reading.proofs.Causes.{form_says}

@@ -12,7 +12,7 @@ use Rattle.bus_semantics.specs.SoundPlan.{rank}
 use Rattle.bus_semantics.specs.Spelling.{Letters}
 use Rattle.script_reading.specs.declared.forms.Form.{Form}
 use Rattle.script_reading.specs.Offers.{elem_offered, is_for, machine_offered, mode_port_offered, point_offered}
-use Rattle.plan_names.proofs.Distinct.{labels_apart}
+use Rattle.line_fields.proofs.Distinct.{labels_apart}
 use Rattle.script_reading.proofs.Asking.{if_named}
 use Rattle.script_reading.proofs.Naming.{looked_up}
 

@@ -9,7 +9,7 @@ use Rattle.bus_semantics.specs.Spelling.{Letters, header}
 use Rattle.check_definitions.specs.declared.checked.Checked.{Checked}
 use Rattle.check_definitions.specs.declared.checked.Checked.TheVariants.{Legal}
 use Rattle.check_definitions.specs.Verdicts.{HasNoHeader, IsLegalTrace, IsVerdict}
-use Rattle.check_laws.specs.Laws.{TracesHaveOneVerdict}
+use Rattle.check_definitions.specs.Laws.{TracesHaveOneVerdict}
 use Rattle.trace_check.specs.FirstLines.{IsFirstLine}
 use Rattle.trace_check.proofs.LineCuts.{first_is, header_is_line}
 

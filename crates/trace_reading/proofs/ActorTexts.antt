@@ -20,8 +20,8 @@ use Rattle.bus_semantics.specs.SoundNames.{is_env_path, is_name, is_pair_name, i
 use Rattle.bus_semantics.specs.SoundPlan.{instance_exists}
 use Rattle.bus_semantics.specs.Spelling.{Letters, actor_text, caller_text, instance_text, key_text, machine_text, point_text, runnable_text}
 use Rattle.line_fields.proofs.Joining.{all-append, lacks}
-use Rattle.plan_names.proofs.Distinct.{all_at}
-use Rattle.plan_names.specs.Named.{is_text}
+use Rattle.line_fields.proofs.Distinct.{all_at}
+use Rattle.line_fields.specs.Named.{is_text}
 use Rattle.trace_reading.specs.Actors.{actor_in, caller_in, home_in, key_in, key_with, machine_in, point_in, runnable_in}
 use Rattle.trace_reading.specs.Cuts.{before, behind}
 use Rattle.trace_reading.specs.Fields.{numbered}

@@ -33,7 +33,7 @@ use Rattle.trace_reading.specs.Fields.{code_at, no_value, value_at}
 use Rattle.trace_reading.specs.Actors.{point_in}
 use Rattle.trace_reading.specs.Finding.{elem_at, point_at}
 use Rattle.trace_reading.specs.Guess.{deed_in}
-use Rattle.plan_names.proofs.Distinct.{all_at}
+use Rattle.line_fields.proofs.Distinct.{all_at}
 use Rattle.trace_reading.proofs.ActorTexts.{IsThere, point_read_in, served_within}
 use Rattle.trace_reading.proofs.Cutting.{are_visible, part}
 use Rattle.trace_reading.specs.Lists.{list_at, marks_at}

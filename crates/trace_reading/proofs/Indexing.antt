@@ -15,8 +15,8 @@ use Rattle.bus_semantics.specs.declared.plan.ModePortPlan.{ModePortPlan}
 use Rattle.bus_semantics.specs.declared.plan.PointPlan.{PointPlan}
 use Rattle.bus_semantics.specs.Plan.{Plan, Runnable, instance_of, look}
 use Rattle.bus_semantics.specs.Spelling.{Letters}
-use Rattle.plan_names.proofs.Found.{position-map}
-use Rattle.plan_names.specs.Named.{is_area, is_elem, is_event, is_machine, is_mode_port, is_point, is_runnable, is_text}
+use Rattle.line_fields.proofs.Found.{position-map}
+use Rattle.line_fields.specs.Named.{is_area, is_elem, is_event, is_machine, is_mode_port, is_point, is_runnable, is_text}
 use Rattle.trace_reading.specs.Finding.{home_of_caller, is_result}
 use Rattle.trace_reading.specs.declared.tables.Kind.{Kind}
 use Rattle.trace_reading.specs.declared.tables.Kind.TheVariants.{Instance, Runnable as a_runnable, Elem, Point, Result, Area, Machine, ModePort, Event}

@@ -19,8 +19,8 @@ use Rattle.bus_semantics.specs.SoundNames.{is_name, is_pair_name}
 use Rattle.bus_semantics.specs.SoundPlan.{same_numbers}
 use Rattle.bus_semantics.specs.Spelling.{Letters, mode_text, point_name}
 use Rattle.bus_laws.proofs.Thinning.{every_at}
-use Rattle.plan_names.proofs.Distinct.{all_at}
-use Rattle.plan_names.specs.Named.{is_text}
+use Rattle.line_fields.proofs.Distinct.{all_at}
+use Rattle.line_fields.specs.Named.{is_text}
 use Rattle.trace_reading.specs.Deeds.{mode_at}
 use Rattle.trace_reading.specs.Fields.{numbered}
 use Rattle.trace_reading.specs.Finding.{home_of_caller, is_result, mode_named, result_at}

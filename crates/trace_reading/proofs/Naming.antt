@@ -17,8 +17,8 @@ use Rattle.bus_semantics.specs.SoundLists.{lists_sound}
 use Rattle.bus_semantics.specs.SoundNames.{is_env_path, is_name, is_pair_name, is_path, names_distinct, names_fit, none_is_env, parts}
 use Rattle.bus_semantics.specs.SoundPlan.{instance_exists, is_variable}
 use Rattle.bus_semantics.specs.SoundPrograms.{runnable_sound}
-use Rattle.plan_names.specs.Named.{FindsAreas, FindsElems, FindsEvents, FindsInstances, FindsMachines, FindsModePorts, FindsModes, FindsPoints, FindsRunnables}
-use Rattle.plan_names.proofs.Found.{finds_areas, finds_elems, finds_events, finds_instances, finds_machines, finds_mode_ports, finds_modes, finds_points, finds_runnables}
+use Rattle.line_fields.specs.Named.{FindsAreas, FindsElems, FindsEvents, FindsInstances, FindsMachines, FindsModePorts, FindsModes, FindsPoints, FindsRunnables}
+use Rattle.line_fields.proofs.Found.{finds_areas, finds_elems, finds_events, finds_instances, finds_machines, finds_mode_ports, finds_modes, finds_points, finds_runnables}
 use Rattle.trace_reading.specs.Readable.{IsReadable}
 
 abbrev pub elem_passes : ElemPlan → Bool

@@ -18,8 +18,8 @@ use Rattle.bus_semantics.specs.Reading.{is_index}
 use Rattle.bus_semantics.specs.SoundNames.{is_name, is_pair_name}
 use Rattle.bus_semantics.specs.SoundPlan.{is_variable}
 use Rattle.bus_semantics.specs.Spelling.{Letters, area_name, elem_name, event_name, machine_name, mode_port_name, point_name}
-use Rattle.plan_names.proofs.Distinct.{all_at}
-use Rattle.plan_names.specs.Named.{is_area, is_elem, is_event, is_machine, is_mode_port, is_point}
+use Rattle.line_fields.proofs.Distinct.{all_at}
+use Rattle.line_fields.specs.Named.{is_area, is_elem, is_event, is_machine, is_mode_port, is_point}
 use Rattle.trace_reading.specs.Fields.{numbered}
 use Rattle.trace_reading.specs.Finding.{area_at, elem_at, event_at, machine_at, mode_port_at, point_at}
 use Rattle.trace_reading.proofs.Cutting.{are_visible}

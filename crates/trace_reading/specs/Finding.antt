@@ -5,7 +5,7 @@ use Rattle.bus_semantics.specs.declared.plan.PointPlan.{PointPlan}
 use Rattle.bus_semantics.specs.declared.plan.MachinePlan.{MachinePlan}
 use Rattle.bus_semantics.specs.Plan.{Plan, look, instance_of}
 use Rattle.bus_semantics.specs.Spelling.{Letters}
-use Rattle.plan_names.specs.Named.{is_area, is_elem, is_event, is_machine, is_mode_port, is_point, is_runnable, is_text}
+use Rattle.line_fields.specs.Named.{is_area, is_elem, is_event, is_machine, is_mode_port, is_point, is_runnable, is_text}
 use Rattle.trace_reading.specs.Fields.{numbered}
 
 abbrev pub instance_at : Plan → Letters → Option ℕ

@@ -11,7 +11,7 @@ use crate::fields::{Fields, code_at, no_value, number_at, value_at};
 use crate::names::Names;
 use crate::words::{CallWord, DataWord, ModeWord, PlainWord};
 use bus_semantics::{Actor, BusPlan, Deed, Version};
-use plan_names::instance_of;
+use line_fields::instance_of;
 use rte_value::Step;
 
 /// The instance whose names an actor uses. None for the environment.

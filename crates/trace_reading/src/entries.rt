@@ -12,7 +12,7 @@ use crate::looking::modes_of;
 use crate::owners::key_fits;
 use crate::wishes::wish_fits;
 use bus_semantics::{Actor, BusPlan, Deed, Entry, EventKind, wish_of};
-use plan_names::same_number;
+use line_fields::same_number;
 use rte_value::{Step, Value};
 
 /// Whether a start names a point that is joined to its server, and for any other event no point and the empty value.

@@ -8,7 +8,7 @@ ghost use Rattle.bus_semantics.specs.Owners.{modes_of};
 ghost use Rattle.trace_reading.specs.Finding.{home_of_caller};
 
 use bus_semantics::BusPlan;
-use plan_names::instance_of;
+use line_fields::instance_of;
 use rte_value::ActKey;
 
 /// The instance of a runnable that calls. None for the environment.

@@ -9,7 +9,7 @@ use crate::fields::numbered;
 use crate::looking::home_of_caller;
 use crate::tables::Tables;
 use bus_semantics::{BusPlan, MachinePlan, PointPlan};
-use plan_names::same_number;
+use line_fields::same_number;
 
 /// A plan in which names are found: in tables, or by walks.
 #[derive(Clone, Copy)]
@@ -44,7 +44,7 @@ fn mode_place(machine: &MachinePlan, name: &[u8]) -> Option<usize>
     if name == b"-".as_slice() {
         Some(machine.modes.len())
     } else {
-        plan_names::mode_named(machine, name)
+        line_fields::mode_named(machine, name)
     }
 }
 
@@ -55,7 +55,7 @@ impl Names<'_> {
     {
         match self.tables {
             Some(tables) => numbered(tables.instance(path)),
-            None => numbered(plan_names::instance_named(self.plan, path)),
+            None => numbered(line_fields::instance_named(self.plan, path)),
         }
     }
 
@@ -65,7 +65,7 @@ impl Names<'_> {
     {
         match self.tables {
             Some(tables) => tables.runnable(Some(instance), name),
-            None => plan_names::runnable_named(self.plan, Some(instance), name),
+            None => line_fields::runnable_named(self.plan, Some(instance), name),
         }
     }
 
@@ -75,7 +75,7 @@ impl Names<'_> {
     {
         match self.tables {
             Some(tables) => numbered(tables.elem(home, name)),
-            None => numbered(plan_names::elem_named(self.plan, home, name)),
+            None => numbered(line_fields::elem_named(self.plan, home, name)),
         }
     }
 
@@ -85,7 +85,7 @@ impl Names<'_> {
     {
         match self.tables {
             Some(tables) => numbered(tables.area(home, name)),
-            None => numbered(plan_names::area_named(self.plan, home, name)),
+            None => numbered(line_fields::area_named(self.plan, home, name)),
         }
     }
 
@@ -95,7 +95,7 @@ impl Names<'_> {
     {
         match self.tables {
             Some(tables) => numbered(tables.machine(home, name)),
-            None => numbered(plan_names::machine_named(self.plan, home, name)),
+            None => numbered(line_fields::machine_named(self.plan, home, name)),
         }
     }
 
@@ -105,7 +105,7 @@ impl Names<'_> {
     {
         match self.tables {
             Some(tables) => numbered(tables.mode_port(home, name)),
-            None => numbered(plan_names::mode_port_named(self.plan, home, name)),
+            None => numbered(line_fields::mode_port_named(self.plan, home, name)),
         }
     }
 
@@ -115,7 +115,7 @@ impl Names<'_> {
     {
         match self.tables {
             Some(tables) => numbered(tables.event(home, name)),
-            None => numbered(plan_names::event_named(self.plan, home, name)),
+            None => numbered(line_fields::event_named(self.plan, home, name)),
         }
     }
 
@@ -125,7 +125,7 @@ impl Names<'_> {
     {
         match self.tables {
             Some(tables) => numbered(tables.point(caller, name)),
-            None => numbered(plan_names::point_named(self.plan, caller, name)),
+            None => numbered(line_fields::point_named(self.plan, caller, name)),
         }
     }
 

@@ -7,7 +7,7 @@ ghost use Rattle.bus_semantics.specs.Owners.{area_fits, elem_fits, event_fits, h
 
 use crate::looking::{caller_of, queue_of, runnable_of_event, served_by};
 use bus_semantics::{BusPlan, ElemKind, ElemPlan};
-use plan_names::{instance_of, same_number};
+use line_fields::{instance_of, same_number};
 use rte_value::{ActKey, Value};
 
 /// Whether the runnable of a key serves a server that runs in its caller's task.

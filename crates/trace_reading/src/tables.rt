@@ -3,7 +3,7 @@
 ghost use Rattle.std.specs.Prelude.{◌≡◌, IfOk, OnOk, length, position};
 ghost use Rattle.indexmap.specs.IndexMap.{get};
 ghost use Rattle.bus_semantics.specs.Plan.{plan_of};
-ghost use Rattle.plan_names.specs.Named.{is_area, is_elem, is_event, is_machine, is_mode_port, is_point, is_runnable, is_text};
+ghost use Rattle.line_fields.specs.Named.{is_area, is_elem, is_event, is_machine, is_mode_port, is_point, is_runnable, is_text};
 ghost use Rattle.trace_reading.specs.Finding.{is_result};
 ghost use Rattle.trace_reading.specs.Tables.{IsNoted, IsTable, first_of, label_at, label_of, labels, result_label, same_key};
 ghost use Rattle.trace_reading.specs.declared.tables.Kind.TheVariants.{Area, Elem, Event, Instance, Machine, ModePort, Point, Result, Runnable};
@@ -11,7 +11,7 @@ ghost use Rattle.trace_reading.specs.declared.tables.Kind.TheVariants.{Area, Ele
 use crate::looking::home_of_caller;
 use bus_semantics::{BusPlan, PointPlan};
 use indexmap::IndexMap;
-use plan_names::instance_of;
+use line_fields::instance_of;
 use rte_text::Memory;
 use std::alloc::Global;
 

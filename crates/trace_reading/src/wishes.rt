@@ -11,7 +11,7 @@ use crate::owners::{
     may_be_sent, may_be_written, mode_port_fits, own_point, result_point, switch_fits, takes,
 };
 use bus_semantics::{Actor, BusPlan, Wish};
-use plan_names::instance_of;
+use line_fields::instance_of;
 use rte_value::ActKey;
 
 /// Whether an activation of an instance may want this.

@@ -1,3 +1,0 @@
-pub mod Lowest
-mod Listing
-pub mod Connecting

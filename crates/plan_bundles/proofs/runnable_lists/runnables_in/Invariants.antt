@@ -1,5 +1,0 @@
-use Rattle.std.proofs.Common.{◌≡◌, map, take}
-use Rattle.plan_bundles.proofs.runnable_lists.runnables_in.Given as goal
-
-abbrev pub invariant-loop-list : goal.invariant-loop-list
-invariant-loop-list l = l.numbers.items ≡ map (λ c. c.runnable) (take l.list-index l.lists)
