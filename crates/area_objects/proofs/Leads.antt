@@ -13,7 +13,7 @@ use Rattle.bus_semantics.specs.History.{Past}
 use Rattle.bus_semantics.specs.Objects.{touches}
 use Rattle.bus_semantics.specs.Areas.{is_held}
 use Rattle.bus_semantics.specs.Pasts.{IsPastOf}
-use Rattle.exclusive_areas.specs.Kept.{is_held_by}
+use Rattle.area_objects.specs.Held.{is_held_by}
 use Rattle.object_kinds.proofs.Options.{given_some}
 use Rattle.object_kinds.proofs.Proper.{noting}
 use Rattle.area_objects.specs.Layout.{area_of}

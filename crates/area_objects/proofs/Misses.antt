@@ -14,7 +14,7 @@ use Rattle.bus_semantics.specs.Areas.{is_held}
 use Rattle.bus_semantics.specs.Matching.{is_open, enters_by}
 use Rattle.bus_semantics.specs.Pasts.{Follows, IsPastOf}
 use Rattle.bus_semantics.specs.Sound.{IsSound}
-use Rattle.exclusive_areas.specs.Kept.{is_held_by}
+use Rattle.area_objects.specs.Held.{is_held_by}
 use Rattle.object_kinds.proofs.Classes.{On}
 use Rattle.object_kinds.proofs.Numbers.{an_area}
 use Rattle.object_kinds.proofs.Options.{given_where}

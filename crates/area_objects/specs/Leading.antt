@@ -8,7 +8,7 @@ use Rattle.bus_semantics.specs.declared.entries.Deed.{Deed}
 use Rattle.bus_semantics.specs.declared.entries.Deed.TheVariants as deed
 use Rattle.bus_semantics.specs.History.{Noted}
 use Rattle.bus_semantics.specs.Wanted.{Wanted, to_enter}
-use Rattle.exclusive_areas.specs.Kept.{is_held_by}
+use Rattle.area_objects.specs.Held.{is_held_by}
 use Rattle.object_kinds.specs.declared.acted.Shown.{Shown}
 use Rattle.object_kinds.specs.declared.acted.Shown.TheVariants.{HeldBy, Unmatched}
 use Rattle.object_kinds.specs.Flags.{given}

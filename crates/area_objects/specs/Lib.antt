@@ -3,3 +3,4 @@ pub mod Kept
 pub mod Plans
 pub mod Leading
 pub mod Standing
+pub mod Held

@@ -8,8 +8,8 @@ ghost use Rattle.area_objects.specs.Kept.{opening, may_start};
 ghost use Rattle.area_objects.specs.Leading.{lead, why_held};
 ghost use Rattle.area_objects.specs.Plans.{IsOfPlan};
 
+use crate::held::{Area, Entered};
 use bus_semantics::{Actor, Deed, Entry, Wish};
-use exclusive_areas::{Area, Entered};
 use object_kinds::{Acted, Shown};
 use std::marker::Model;
 

@@ -1,8 +1,0 @@
-use Rattle.coherence_laws.proofs.Moments as by
-use Rattle.coherence_laws.proofs.laws.fetches_one_moment.Goals as goal
-
-pub returns-clause-moment : goal.returns-clause-moment
-returns-clause-moment c = by.moment
-
-pub returns-clause-whole : goal.returns-clause-whole
-returns-clause-whole c = by.fetches

@@ -1,8 +1,0 @@
-use Rattle.coherence_laws.proofs.Moments as by
-use Rattle.coherence_laws.proofs.laws.publishes_all_or_none.Goals as goal
-
-pub returns-clause-all : goal.returns-clause-all
-returns-clause-all c = by.all
-
-pub returns-clause-none : goal.returns-clause-none
-returns-clause-none c = by.none

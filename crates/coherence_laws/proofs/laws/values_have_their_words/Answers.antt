@@ -1,8 +1,0 @@
-use Rattle.coherence_laws.proofs.Moments as by
-use Rattle.coherence_laws.proofs.laws.values_have_their_words.Goals as goal
-
-pub returns-clause-words : goal.returns-clause-words
-returns-clause-words c = by.words
-
-pub returns-clause-few : goal.returns-clause-few
-returns-clause-few c = by.few

@@ -1,0 +1,4 @@
+pub mod Within
+pub mod Waiting
+pub mod Giving
+pub mod Moments

@@ -1,0 +1,8 @@
+use Rattle.value_laws.proofs.Moments as by
+use Rattle.value_laws.proofs.coherence.fetches_one_moment.Goals as goal
+
+pub returns-clause-moment : goal.returns-clause-moment
+returns-clause-moment c = by.moment
+
+pub returns-clause-whole : goal.returns-clause-whole
+returns-clause-whole c = by.fetches
