@@ -1,6 +1,7 @@
 #!/usr/bin/env bash
 # Tries the tools: their tests, each of them on the examples, the schema, whether what README.md and docs/PROVED.md
-# name as proof exists, and whether the program is quick on small files that are hard for it. It takes half a minute on a
+# name as proof exists, and whether the program is quick on small files that are hard for it. It sees that the tables of crates are fresh, and
+# that no count of the house got worse. It takes half a minute on a
 # quiet machine and proves nothing.
 #
 # What cannot be tried because something is not installed or not built is skipped, and said. The program is the one that
@@ -137,6 +138,7 @@ has_headers() {
 
 try "schema" schema/check.py
 try "claims of the documents" tools/dev/claims.py
+try "list of crates and its tables" tools/dev/crates.py --check
 try "lint.py on the examples" on_each_example lint_is_silent
 try "timeline.py on the examples" on_each_example is_drawn
 try "diagram.py on the examples" on_each_example has_a_diagram
