@@ -58,7 +58,9 @@ impl<W: Write + Drop> CountedWriter<W> {
         CountedWriter { out, faults: 0 }
     }
 
-    /// Writes as many bytes of the piece as the writer takes, and returns how many these are. Where they are not all, there was a fault.
+    /// Writes as many bytes of the piece as the writer takes, and returns how many these are. Where they are not all, there was a
+    /// fault. The writer has the first bytes of the piece, as many as were written, each once. Its count rises exactly if these
+    /// are not all.
     pub fn write(&mut self, piece: &[u8]) -> usize
         ensures bound { result ≤ length piece.now }
         ensures written { Appends self.old.contents self.new.contents (take result piece.now) }
@@ -73,7 +75,7 @@ impl<W: Write + Drop> CountedWriter<W> {
         written
     }
 
-    /// Hands on what the writer itself has gathered. It fails where there was a fault.
+    /// Hands on what the writer itself has gathered. It fails where there was a fault. Then its count rises.
     pub fn flush(&mut self) -> Put
         ensures contents { Keeps self.old.contents self.new.contents }
         ensures faults_never_fall { self.old.faults ≤ self.new.faults }

@@ -92,7 +92,8 @@ impl<W: Write + Drop> GatheringSink<W> {
         }
     }
 
-    /// Writes all that was taken. It fails where the writer had a fault; what was not written then is left.
+    /// Writes all that was taken. It fails where the writer had a fault; what was not written then is left. In both cases all that
+    /// was taken is kept, and what the writer has is a prefix of it.
     pub fn finish(&mut self) -> Put
         ensures whole { result ≡ Done → self.new.left ≡ [] }
         ensures taken { Keeps (taken self.old) (taken self.new) }
@@ -114,6 +115,8 @@ impl<W: Write + Drop> Sink for GatheringSink<W> {
 
     ghost faults = { λ s. s.faults };
 
+    /// `Done`: the whole piece was taken, behind all before it. `Failed`: a prefix of it was, once, and then the writer had a
+    /// fault.
     fn put(&mut self, piece: &[u8]) -> Put
         ensures faults_never_fall { self.old.faults ≤ self.new.faults }
         ensures faults { SinkFaultsAfter result self.old.faults self.new.faults }

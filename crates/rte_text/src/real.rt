@@ -17,7 +17,8 @@ use std::rt::Files;
 /// How many bytes are read at once.
 const CHUNK: usize = 4_096;
 
-/// Reads to the end, which is where a read gives nothing, or until more than `FILE_LIMIT` bytes came.
+/// Reads to the end, which is where a read gives nothing, or until more than `FILE_LIMIT` bytes came. If the bytes of the reader
+/// are known and within the limit, it gives all of them.
 fn read_to_end<F: Read>(alloc: Global, file: &mut F) -> Fetched
     ensures within_limit { IfBytes result (λ bytes. length bytes ≤ 8388608) }
     ensures whole { IfBytes result (λ bytes. IfSome (F.remaining file.old) (λ rest. bytes ≡ rest)) }
@@ -42,7 +43,7 @@ fn read_to_end<F: Read>(alloc: Global, file: &mut F) -> Fetched
     Fetched::Failed
 }
 
-/// Writes the piece to its end. A writer that takes nothing is a fault.
+/// Writes the piece to its end. A writer that takes nothing is a fault. At a fault the writer took a prefix of it.
 fn write_to_end<W: Write>(out: &mut W, piece: &[u8]) -> Put
     ensures { TakesPiece result (W.contents out.old) (W.contents out.new) piece.now }
 {

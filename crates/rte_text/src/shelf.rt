@@ -35,7 +35,9 @@ pub trait Shelf {
 
     ghost fetches: { Self → ℕ };
 
-    /// The bytes of the file of this name. A missing name is a fault, as is a read that fails.
+    /// The bytes of the file of this name. A missing name is a fault, as is a read that fails. There are at most 8,388,608 of
+    /// them; if the shelf tells its files, they are those held under the name. `Failed` and `TooLong` come only if their count
+    /// rose. Files stay, and counts never fall.
     fn fetch(&mut self, alloc: Global, name: &str) -> Fetched
         ensures files_stay { files self.new ≡ files self.old }
         ensures faults_never_fall { faults self.old ≤ faults self.new }

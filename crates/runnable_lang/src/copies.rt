@@ -15,7 +15,7 @@ fn combine(alloc: Global, op: Op, first: Expr, second: Expr) -> Result<Expr, Mem
     Ok(Expr::Bin(op, first, second))
 }
 
-/// A copy of the expression.
+/// A copy of the expression. It is the same, as a tree.
 pub fn copy_expr(alloc: Global, e: &Expr) -> Result<Expr, Memory>
     ensures { IfOk result (λ copy. expr_tree copy ≡ expr_tree e.now) }
 {
