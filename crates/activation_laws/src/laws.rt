@@ -43,7 +43,7 @@ pub fn activations_ask_what_fits()
 {}
 
 /// An activation asks something after its start, and again after each answer to what it asked, up to its End or an Admit
-/// that answers no.
+/// that answers no. The answers are followed: each one answers what was asked before it.
 pub fn activations_go_on()
     ensures { (p : Plan) (m : Mapping) (k : ActKey) (r : Runnable) (event : ℕ) (start : List ℤ) (answers : List Deed) →
         IsActivation p m k r event → Followed p r event start answers → list_all (λ d. not (is_over d)) answers ≡ true →
@@ -51,7 +51,8 @@ pub fn activations_go_on()
 {}
 
 /// An activation asks for its admission exactly where its event has disabled modes, and before all else (SWS_RTE:
-/// ModeDisablingDependency).
+/// ModeDisablingDependency). It asks so by its own event, and after followed answers at the beginning alone. Answers are followed
+/// if each one answers what was asked before it.
 pub fn admission_comes_first()
     ensures first { (p : Plan) (r : Runnable) (event : ℕ) (start : List ℤ) (d : Disabling) →
         disabling_of p event ≡ Some d → next_of_activity p r event start [] ≡ Some (to_admit event) }
@@ -72,7 +73,8 @@ pub fn what_touches_nothing()
 {}
 
 /// An activation hears an answer only right after its ask at that point was accepted, and only where it waits for the
-/// answer (SWS_RTE: Rte_Call, synchronous).
+/// answer (SWS_RTE: Rte_Call, synchronous). The first is so after followed answers, of which each one answers what was asked
+/// before it.
 pub fn hearing_follows_an_accepted_ask()
     ensures accepted { (p : Plan) (m : Mapping) (k : ActKey) (r : Runnable) (event point : ℕ) (start : List ℤ) (answers : List Deed) →
         IsActivation p m k r event → AsksNext p r event start answers (to_hear point) → HasJustAsked point answers }
@@ -80,7 +82,7 @@ pub fn hearing_follows_an_accepted_ask()
         IsActivation p m k r event → next_of_activity p r event start answers ≡ Some (to_hear point) → is_awaited p point ≡ true }
 {}
 
-/// An activation of a direct server, one without a queue, makes no calls.
+/// An activation of a direct server, one without a queue, makes no calls. Nor does it take results.
 pub fn direct_activations_make_no_calls()
     ensures { (p : Plan) (m : Mapping) (k : ActKey) (r : Runnable) (event : ℕ) (start : List ℤ) (answers : List Deed) (w : Wanted) →
         IsActivation p m k r event → serves_directly p k ≡ true → next_of_activity p r event start answers ≡ Some w →
@@ -88,7 +90,8 @@ pub fn direct_activations_make_no_calls()
 {}
 
 /// An activation leaves the area that it entered last, enters areas of rising numbers, and has left all at each call,
-/// publication, return and end (SWS_RTE: Rte_Enter, Rte_Exit).
+/// publication, return and end (SWS_RTE: Rte_Enter, Rte_Exit). It is so after followed answers, of which each one answers what was
+/// asked before it. An area that it enters has a greater number than those that it is in.
 pub fn areas_open_and_close()
     ensures leave { (p : Plan) (m : Mapping) (k : ActKey) (r : Runnable) (event area : ℕ) (start : List ℤ) (answers : List Deed) →
         IsActivation p m k r event → AsksNext p r event start answers (to_leave area) → innermost (open_areas answers) ≡ Some area }
@@ -101,7 +104,8 @@ pub fn areas_open_and_close()
         IsActivation p m k r event → Followed p r event start answers → are_nested (open_areas answers) ≡ true }
 {}
 
-/// An activation returns only if it serves an operation, and then once, and after it only ends.
+/// An activation returns only if it serves an operation, and then once, and after it only ends. It has returned once before its
+/// end after followed answers, of which each one answers what was asked before it.
 pub fn one_return_before_the_end()
     ensures before { (p : Plan) (m : Mapping) (k : ActKey) (r : Runnable) (event : ℕ) (start : List ℤ) (answers : List Deed) (w : Wanted) →
         IsActivation p m k r event → AsksNext p r event start answers w → is_the_end w ≡ false → count is_return answers ≡ 0 }

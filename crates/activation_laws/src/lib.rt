@@ -1,4 +1,7 @@
 //! Laws of what an activation asks of the bus, for every sound plan.
+//!
+//! They speak of each runnable of the plan and each of its events. 'Followed' answers are those of which each one answers what was
+//! asked before it; a claim that does not name them holds of any answers.
 #![tactic(auto)]
 
 mod laws;

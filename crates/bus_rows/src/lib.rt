@@ -1,5 +1,11 @@
 //! Worked rows as theorems: each is a legal run of its script, by computing, and wrong variants of it are refused by the clause that
 //! should refuse them. What traces of some of them are called, by the definition of the check, and why. And plans that are not sound, each for one fact that it lacks.
+//!
+//! Each law in `rows.rt` is a row: a plan, a mapping, a script, a session and its text. Of each row it says that the session is a
+//! whole legal run of the script (`runs`, `legal`) and has its text (`spelled`), and that the plan is sound (`sound`). At the end
+//! the bus is quiet (`quiet`), and the entries part into a past of each object (`parted`). What is refused is an entry that fits,
+//! after a legal beginning. The laws in `checked.rt` say what a trace of such a row is called, whatever stands behind the line
+//! that is refused; those in `unsound.rt` speak of plans alone.
 #![tactic(auto)]
 
 mod checked;

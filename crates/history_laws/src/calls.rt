@@ -20,7 +20,7 @@ ghost use Rattle.history_laws.specs.Coming.{IsAsked, Comes, may_be_held};
 /// An entry of a wish that fits always may come, unless it is a start, an admission, the hearing of an answer, a return, an
 /// end, a phase, or the entering or leaving of an area. A start has one if its event is due and no earlier one is open;
 /// entering an area if nobody holds it; hearing if something was returned; a phase if one may come; leaving, returning, an
-/// admission and an end if they match.
+/// admission and an end if they match. The wish is its actor's own and touches an object.
 pub fn calls_come()
     ensures always { (p : Plan) (m : Mapping) (a : Actor) (w : Wish) (l : Past) → IsAsked p m a w l →
         may_be_held (wanted_of w) ≡ false → Comes p a w l }

@@ -37,6 +37,7 @@ pub fn cut_frames_show_more()
 {}
 
 /// However bytes are cut into pieces, an unframer gives the values of the good frames at their beginning: those that were sent.
+/// Whatever pieces whole good frames come in, nothing is left.
 pub fn pieces_are_all_one()
     ensures stands { (u after : Kept) (feeds : List Feed) (bytes : List ℕ) (pairs : List Pair) → StandsFor u bytes pairs →
         AreFed u feeds after → StandsFor after (bytes ++ all_used feeds) (pairs ++ all_given feeds) }

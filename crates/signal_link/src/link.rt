@@ -33,7 +33,7 @@ pub trait Link {
     ghost never_fails: { Self → Bool };
 
     /// Takes bytes from the beginning of the piece behind those on the way. It takes none of a piece only where the piece is empty
-    /// or bytes are on the way.
+    /// or bytes are on the way. It fails only with its count, and a link that never fails does not.
     fn send(&mut self, piece: &[u8]) -> Sent
         ensures way { SentAfter result (way self.old) (way self.new) piece.now }
         ensures faults { SendFaults result (faults self.old) (faults self.new) }
@@ -42,7 +42,7 @@ pub trait Link {
         ensures never_fails { never_fails self.new ≡ never_fails self.old };
 
     /// Gives the first bytes on the way into the beginning of the room. It gives none only where the room is empty or no byte is on
-    /// the way.
+    /// the way. It fails only with its count, and a link that never fails does not.
     fn receive(&mut self, room: &mut [u8]) -> Got
         ensures way { GotAfter result (way self.old) (way self.new) room.old room.new }
         ensures faults { ReceiveFaults result (faults self.old) (faults self.new) }

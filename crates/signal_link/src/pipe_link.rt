@@ -101,6 +101,7 @@ impl Link for PipeLink {
 
     ghost never_fails = { never_fails };
 
+    /// Takes what there is room for, and fails at the calls that were named.
     fn send(&mut self, piece: &[u8]) -> Sent
         ensures answer { result ≡ sent_of self.old piece.now }
         ensures room { 0 < self.old.room }
@@ -115,6 +116,7 @@ impl Link for PipeLink {
         Sent::Took(took as u32)
     }
 
+    /// Gives bytes up to the cut whose turn it is, and fails at the calls that were named.
     fn receive(&mut self, room: &mut [u8]) -> Got
         ensures answer { result ≡ got_of self.old room.old }
         ensures cut { 0 < cut_of self.old }

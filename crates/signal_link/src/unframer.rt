@@ -79,7 +79,12 @@ impl Unframer {
         self.links.as_slice()
     }
 
-    /// Uses bytes of the piece: up to the end of the first good frame if one ends in it, else all.
+    /// Uses bytes of the piece: up to the end of the first good frame if one ends in it, else all. It looks at the bytes that are
+    /// kept and then the piece. `Whole` comes exactly if these begin with a good frame, with this frame's link and value;
+    /// `BadFrame` exactly if they neither begin with one nor are the beginning of one, and after a bad frame; else `More`. Of a
+    /// whole frame it uses what was missing and keeps nothing, else it uses all of the piece. It keeps the bytes of a frame that
+    /// is not finished, or that a bad one came. So if it stands for the bytes that it was fed and the values that it gave, it then
+    /// does so with those that it used and the one that it gave.
     pub fn feed(&mut self, piece: &[u8]) -> Fed
         requires { length piece.now < 2 ^ 32 }
         ensures found { Finds self.old piece.now result.found }

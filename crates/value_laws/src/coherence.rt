@@ -24,7 +24,9 @@ pub fn values_have_their_words()
 {}
 
 /// A FetchAll in a legal history gives the elements of its list as they stood after one entry, the one before it: each shows the
-/// last value that was given to its group until then, or its initial value. (`moment` holds of every plan, sound or not.)
+/// last value that was given to its group until then, or its initial value. (`moment` holds of every plan, sound or not.) In a
+/// sound plan (`whole`), after any earlier entry each element of a group to which this gave something shows what it gave last
+/// there, or what a later entry did. So no entry is seen in part.
 pub fn fetches_one_moment()
     ensures moment { (p : Plan) (h : History) (e : Entry) (list : ℕ) (value : Value) → IsLegal p (e ∷ h) →
         e.deed ≡ deed.FetchAll list value → words_of value ≡ moment_of p (elems_of p list) (noted h) }
@@ -33,7 +35,7 @@ pub fn fetches_one_moment()
 {}
 
 /// Of a PublishAll a FetchAll sees all marked elements, if it comes later, and none, if it comes earlier: then what it shows was
-/// given before it.
+/// given before it. All: for the group of each it shows what the publication gave last there, or what a later entry did.
 pub fn publishes_all_or_none()
     ensures all { (p : Plan) (m : Mapping) (after before : History) (f b : Entry) (list k written : ℕ) (value given : Value) →
         IsSound p m → IsLegal p (f ∷ (after ++ b ∷ before)) → f.deed ≡ deed.FetchAll list value →

@@ -15,7 +15,8 @@ ghost use Rattle.value_laws.specs.Sent.{takes, EnvironmentKeepsLimits, IsReceive
 
 /// What a queue of a sound plan accepts, and what a Receive takes there, are values of its element: as many words as this
 /// has, each within its limits. The history is legal, and what the environment sends in it keeps its limits (what
-/// activations send always does). A Receive with another code gives nothing (SWS_RTE: Rte_Send, Rte_Receive).
+/// activations send always does). A Receive with another code gives nothing (SWS_RTE: Rte_Send, Rte_Receive). A Receive gives such
+/// a value with 0 or 64, or none with 131 or 134; no other code comes.
 pub fn received_values_are_within()
     ensures accepted { (p : Plan) (m : Mapping) (h : History) (elem place : ℕ) (words : List ℤ) → IsSound p m → IsLegal p h →
         EnvironmentKeepsLimits p h → slice_get (accepted_at p elem (noted h)) place ≡ Some words → takes p elem words ≡ true }
