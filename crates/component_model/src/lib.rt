@@ -11,6 +11,16 @@
 //!
 //! A reading is there for every value (`specs/Descriptions.antt`), with defaults where the rules leave nothing to be read.
 //! Each name is looked up by hash, so reading grows linearly with the file.
+//!
+//! # Decisions
+//!
+//! **What is a description read as?** A function of its JSON value alone, which is there for every value. If the rules of shape
+//! and of declared names leave nothing to be read, it takes a default: an empty text or list, 0, or false. For a name that its
+//! list does not declare it takes the number of the names there (0 if there is no such list). So the reading needs nothing to be
+//! known before it, and later definitions can speak of the typed description alone.
+//!
+//! **Which initial values are judged?** Those of data elements and variables, on every port and side, used or not. An empty one is
+//! one with too few words. One of an operation or a mode element is not judged, for it has no type.
 #![tactic(auto)]
 
 mod behavior_reading;

@@ -115,7 +115,9 @@ fn checked(alloc: Global, description: Description) -> Result<Description, Refus
 /// of `check_types` of `interface_types`, and that an initial value of a data element or variable has as many words as its
 /// type, each within its limits (8, at the initial value). `Rule` names the least rule that they break, with its first
 /// place; `Memory` is answered where memory ran out, and never tells anything of the bytes. They are read as fewer values than
-/// 32 bits number, as bytes fewer than that are, so each name stands at a position of 32 bits.
+/// 32 bits number, as bytes fewer than that are, so each name stands at a position of 32 bits. What is read is the one typed
+/// reading of the JSON value: names that refer are positions, missing keys have their defaults, and a server's first variables are
+/// its operation's arguments and `error`.
 pub fn read_description(alloc: Global, bytes: &[u8]) -> Result<Description, Refused>
     requires { AreFew bytes.now }
     ensures read { IfOk result (λ d. IsRead bytes.now (description_of d)) }

@@ -93,7 +93,10 @@ fn check_connectors(alloc: Global, d: &Description) -> Result<(), Refused>
 /// of the description.
 ///
 /// Positions that are out of range lead nowhere, so any description may be given whose interfaces have fewer items than 32 bits
-/// number.
+/// number. The rules: no composition contains itself (9); the root has at most 1,024 instances, each at most 8 prototypes deep, no
+/// prototype named `env`, and at most 65,536 pairs of joined items (10); each connector joins ports that it may join, and repeats
+/// no other (11). Two items are joined if a chain of connectors leads between their ports: up, across one assembly and down, or by
+/// delegations alone from or to the environment.
 pub fn flatten(alloc: Global, d: &Description) -> Result<Flat, Refused>
     requires { HasFewItems d.now }
     ensures flat { IfOk result (IsFlatOf d.now) }

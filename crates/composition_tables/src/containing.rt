@@ -57,7 +57,7 @@ fn is_in_itself(
     contains_itself(alloc, d, composition)
 }
 
-/// The first composition that contains itself, directly or through others.
+/// The first composition that contains itself, directly or through others. None exactly if none does.
 pub fn first_in_itself(alloc: Global, d: &Description) -> Result<Option<usize>, Memory>
     ensures { IfOk result (λ first. IsFirst (ContainsItself d.now) (length d.now.compositions) first) }
 {

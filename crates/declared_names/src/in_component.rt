@@ -38,7 +38,7 @@ fn port_interfaces(
     Ok(Seq::of(list))
 }
 
-/// What a component and its behavior declare.
+/// What a component and its behavior declare. The component has at most 2^22 values in it.
 pub fn component_names<'a>(
     alloc: Global,
     interfaces: &InterfaceNames,

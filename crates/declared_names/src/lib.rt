@@ -4,6 +4,13 @@
 //! of one component. A name stands at the position of the first item of this name, and at the number of items where none
 //! has it. Names are looked up by hash, in maps that are built once for each list that declares them. Beside them stands
 //! what is taken from a JSON value: a key that is missing or of another kind counts as empty, zero or false.
+//!
+//! # Decisions
+//!
+//! **Which of two equal names does a reference mean?** The first. The rule on distinct names leaves no two.
+//!
+//! **How does a prototype name its type?** By its name among the components, and if none has it, among the compositions. They
+//! count as one list, so at most one has it.
 #![tactic(auto)]
 
 mod in_component;

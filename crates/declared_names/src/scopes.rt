@@ -197,7 +197,7 @@ pub fn prototype_names<'a>(alloc: Global, value: &'a Value) -> Result<PrototypeN
     })
 }
 
-/// The names of the description.
+/// The names of the description. The description has at most 2^22 values in it.
 pub fn scope_of<'a>(alloc: Global, value: &'a Value) -> Result<Scope<'a>, Memory>
     requires { IsSmall (view value.now) }
     ensures { IfOk result (λ scope. scope ≡ scope_of (view value.now)) }

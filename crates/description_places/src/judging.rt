@@ -20,7 +20,9 @@ use serde_json::{Category, Value};
 use std::alloc::Global;
 
 /// The JSON value of a description's bytes, where they break none of rules 1 to 5. `Rule` names the least rule that they
-/// break, with its first place; `Memory` is answered where memory ran out, and never tells anything of the bytes.
+/// break, with its first place; `Memory` is answered where memory ran out, and never tells anything of the bytes. Its bytes are
+/// JSON (1), each value has the shape of its kind (2), and each name the form of a name (3); what one list declares is distinct
+/// (4), and what each name refers to is declared (5).
 pub fn judge(alloc: Global, bytes: &[u8]) -> Result<Value, Refused>
     ensures unbroken { IfOk result (λ v. IsUnbroken bytes.now (view v)) }
     ensures refused { IfErr result (IsRefusalOf bytes.now) }

@@ -27,6 +27,53 @@
 //!
 //! Places are JSON pointers (RFC 6901), and the whole is `/`. A number that is written as `-0`, with a fraction or with an
 //! exponent is no whole number; of doubled keys the last one stands.
+//!
+//! # Decisions
+//!
+//! **How long may a place be?** As long as it comes. An unknown key is never in a place, since its object is named. A place has
+//! known keys, positions and names, and as many steps as its value is deep; no clause says how long it is at most. So the text of
+//! a refusal takes memory, and if there is none, nothing is put. All other lines fit a buffer of fixed room.
+//!
+//! **How does a rule know the values of a description?** By three tables: the keys of each kind of object, the parts of each kind
+//! of fixed array, and the words that name a kind. From them come the values in document order, each with its kind, its place and
+//! the values around it. A rule is a test of one of these, and one walk serves all such rules.
+//!
+//! **What is document order?** An object before what it holds, its keys in the order of the table (not of the file), the parts of
+//! an array in their order. So the first place does not depend on how a file orders its keys.
+//!
+//! **Where is a statement, access or expression of a wrong shape broken?** At itself, if its keyword is unknown or no text, or the
+//! number of its parts is wrong. A part of a wrong kind is broken at its own place, and a `repeat` count out of 0 to 1,000 at the
+//! number.
+//!
+//! **Where is an object with an unknown `kind` broken?** At its `kind`. But if a key is missing that every kind has, or one is
+//! there that no kind has, the object is broken.
+//!
+//! **Which numbers are whole, and how much nesting is read?** What the JSON reader says: `-0`, `1.0` and `1e2` are no whole
+//! numbers, those from 2^63 on do not fit, and `1e309` is no JSON. Of a doubled key the last one stands. 127 open brackets are
+//! read, 128 are not.
+//!
+//! **Where is a name broken that is not distinct?** At the second one itself: the `shortName`, the mode or the area, for com specs
+//! the `element`, for accesses the access, for positions the number. Positions of one task are compared by the task's text, before
+//! it is looked at whether the task is declared.
+//!
+//! **When are two names of one list the same?** When they have one key, which is the place of their list with the name. For an
+//! access its parts stand as the name, for a position the task and the number, each part apart by a space. Laws say that no two
+//! lists and no two names share a key (`keys_tell_lists_and_names` of `description_places`). The items of an interface count as
+//! one list, that of their interface; by its kind it has only one list of them.
+//!
+//! **Which item may an access, a statement or an event name?** Any item of its port's interface: a data element, an operation or a
+//! mode element. Whether the item's kind fits is for later rules. So are the modes in events and statements, and the instances and
+//! events of the mapping.
+//!
+//! **Which rule refuses a core that there is not?** The one on references, a negative core too. Both are whole numbers, so their
+//! shape is right.
+//!
+//! **How is a reference followed?** By keys. A declared name leads somewhere: a port to the key of its interface, a prototype to
+//! the key of its type, all others to their own place. So an item is found in two steps from its port, and no list is walked for a
+//! name.
+//!
+//! **Why do the laws ask for fewer than 2^64 bytes?** A place is written with the decimals of positions, and a decimal has 64
+//! digits at most. In a list of more than 10^64 items two items would have one place. Each slice is shorter than 2^64 bytes.
 #![tactic(auto)]
 
 mod alternatives;

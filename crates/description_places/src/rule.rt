@@ -28,11 +28,13 @@ pub trait Rule {
     ) -> Result<bool, Memory>
         ensures { IfOk result (λ answer. answer ≡ breaks self.now (visit_at (spot_of trail.now) kind (view value.now))) };
 
-    /// Whether the walk may pass a value of this kind, with all that it holds: then none of these breaks the rule.
+    /// Whether the walk may pass a value of this kind, with all that it holds: then none of these breaks the rule. So the rule of
+    /// references passes calculations of programs.
     fn passes(&self, kind: Kind) -> bool
         ensures { result ≡ true → Passes (breaks self.now) kind };
 
-    /// Whether the walk need not look where a value of this kind should stand: nothing there breaks the rule.
+    /// Whether the walk need not look where a value of this kind should stand: nothing there breaks the rule. So the rule of
+    /// references skips the keys of plain values that refer to nothing.
     fn skips(&self, kind: Kind) -> bool
         ensures { result ≡ true → Skips (breaks self.now) kind };
 }

@@ -69,7 +69,8 @@ fn provided_by(alloc: Global, crowded: &Crowded) -> Result<IndexSet<Key>, Memory
     Ok(found)
 }
 
-/// The required ends that are in a group of many to many.
+/// The required ends that are in a group of many to many. An end is exactly if one of its provided ends has several required ones,
+/// of which one has several provided ones: so it shows nearby, and is the same by all chains of joins.
 pub fn many_to_many(alloc: Global, degrees: &Degrees) -> Result<IndexSet<Key>, Memory>
     ensures nearby { IfOk result (λ found. (e : End) → contains same_key found (key_of e) ≡ is_many_to_many degrees.now.joins.now e) }
     ensures groups { IfOk result (λ found. (e : End) → IsTrue (contains same_key found (key_of e)) ↔ IsManyToMany degrees.now.joins.now e) }

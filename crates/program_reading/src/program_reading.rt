@@ -53,7 +53,7 @@ fn program_of(
 }
 
 /// The program that the value is, with first variables of these names. They and the values in it are fewer than 2^32, so 32
-/// bits number its variables.
+/// bits number its variables. Names are positions in the component around.
 pub fn read_program<'a>(
     alloc: Global,
     component: &InComponent,
