@@ -81,7 +81,8 @@ fn component_named<'a>(d: &'a Description, name: &[u8]) -> Option<&'a Component>
 
 /// Lists the calls that the code of a component may use, as its header `Rte_<name>.h` names them (SWS_RTE: 'Contract Phase').
 /// The text has a line with the name of the header, and then one for each call, in the order of the runnables and of their
-/// accesses, each once.
+/// accesses, each once. If two different calls have one name, the answer is the first name that clashes; if no component has the
+/// name, that there is none. Of several components of one name the first is meant.
 pub fn header(alloc: Global, d: &Description, component: &str) -> HeaderMade
     ensures { Makes (header_of d.now component.now) result }
 {

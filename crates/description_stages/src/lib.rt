@@ -8,6 +8,11 @@
 //! declares is declared once (`proofs/Kept.antt`). The key of a declaration leads to the list that has the name (`proofs/Hits.antt` to
 //! `proofs/InterfaceItems.antt`, which rest on `proofs/Reach.antt`: a value declares near its place alone), and so the position that is read of
 //! a name is one of the list.
+//!
+//! # Decisions
+//!
+//! **Why does one call take all stages?** `plan_description` (`description_stages`) goes from bytes to a sound plan. The stages
+//! stay calls of their own crates; but their order, and that the plan is sound, are then said once and not by each caller.
 #![tactic(auto)]
 
 mod joining;

@@ -12,7 +12,8 @@ use crate::flat::descriptions_are_made_flat_or_refused;
 use check_definitions::accepted_items_go_on;
 use description_stages::{plans_are_sound, read_descriptions_are_well_formed};
 
-/// The bytes of a file have a plan or are refused by a rule.
+/// The bytes of a file have a plan or are refused by a rule. A file has at most 8 MiB. With `plan_laws` they have exactly one of
+/// these.
 pub fn bytes_have_a_plan_or_a_refusal()
     ensures { (bytes : List ℕ) → length bytes ≤ 8388608 → HasPlan bytes ⊎ HasRefusal bytes }
 {
@@ -28,7 +29,8 @@ pub fn bytes_are_a_script_or_have_a_bad_line()
         → HasScript (saying_around p reserved) bytes ⊎ HasBadLine (saying_around p reserved) bytes }
 {}
 
-/// No trace is without a verdict, whatever the plan and the script. That one is missing is refuted; which one it is the check finds.
+/// No trace is without a verdict, whatever the plan and the script. That one is missing is refuted; which one it is the check
+/// finds. No verdict is constructed, since no law decides whether `idle` holds.
 pub fn no_trace_is_without_a_verdict()
     ensures { (p : Plan) (m : Mapping) (script : List Line) (trace : List ℕ) → ¬ (¬ HasVerdict p m script trace) }
 {

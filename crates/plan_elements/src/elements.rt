@@ -185,7 +185,7 @@ fn elements_at(
     Ok(list)
 }
 
-/// The data elements and variables of a plan, each with its group.
+/// The data elements and variables of a plan, each with its group. Each has what holds before any write.
 pub fn element_plans(
     alloc: Global,
     source: &Source<'_>,

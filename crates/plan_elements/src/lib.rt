@@ -1,5 +1,14 @@
 //! The data elements and variables of a plan, the groups that joins make of them, its coherent access lists, and the bundles that these make of
 //! groups.
+//!
+//! # Decisions
+//!
+//! **What is the least element of a group?** The least among an element's partners and their partners: by the rule on groups one
+//! side of a group has one element. An element belongs to the group of its group number, so that an element's group and the list
+//! of its group agree for every description.
+//!
+//! **When does a list read?** When its first item is of an R-port. Where rules 16 and 31 hold, all its items are then read
+//! implicitly, and else all are written so; the accesses need not be searched for each list.
 #![tactic(auto)]
 
 mod bundles;

@@ -13,7 +13,7 @@ ghost use Rattle.description_stages.specs.Plans.{IsPlanRefusalOf, IsPlannedOf};
 ghost use Rattle.plan_laws.specs.Same.{IsSamePlan};
 ghost use Rattle.plan_laws.specs.Sizes.{is_past};
 
-/// Bytes that have a plan have one plan, with one mapping and one text.
+/// Bytes that have a plan have one plan, with one mapping and one text. They are made flat in one way.
 pub fn plans_are_one()
     ensures { (bytes : List ℕ) (x y : PlannedDescription) → IsPlannedOf bytes x → IsPlannedOf bytes y → IsSamePlan x y }
 {}

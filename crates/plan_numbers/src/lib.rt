@@ -1,4 +1,11 @@
 //! What a plan numbers, in its order, and what stands at the other ends of the items of its ports.
+//!
+//! # Decisions
+//!
+//! **How is the number of an element found?** By arithmetic: the elements of a port follow one another, and so do those of ports
+//! and of instances. So sums tell how many stand before each. The sums of a component's ports stop at the greatest number of 32
+//! bits, since a component that no instance has may have any number of them; only the sums of components that instances have need
+//! be exact.
 #![tactic(auto)]
 
 mod all_sites;

@@ -1,4 +1,8 @@
 //! The machines, servers, points, events and runnables of a plan.
+//!
+//! # Decisions
+//!
+//! **When is a server direct?** When the event of its number is not mapped.
 #![tactic(auto)]
 
 mod arguments;

@@ -103,7 +103,8 @@ fn machines_at(
     Ok(list)
 }
 
-/// The mode machines of a plan: the mode elements that instances and the environment provide.
+/// The mode machines of a plan: the mode elements that instances and the environment provide. A machine makes asynchronous mode
+/// switches exactly if instances require it and all their mode elements say that they support these.
 pub fn machine_plans(alloc: Global, source: &Source<'_>) -> Result<Vec<MachinePlan>, Memory>
     ensures { IfOk result (λ list. list.items ≡ machines source.now.d.now source.now.f.now) }
 {

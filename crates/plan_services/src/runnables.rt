@@ -268,7 +268,8 @@ fn push_instances(
     Ok(())
 }
 
-/// The runnables of all instances, by instance and in declared order. `lists` has the numbers of the coherent lists of each.
+/// The runnables of all instances, by instance and in declared order. `lists` has the numbers of the coherent lists of each. Each
+/// access has the number of what it names. Runnables of one code have one program and one signature.
 pub fn runnable_plans(
     alloc: Global,
     source: &Source<'_>,

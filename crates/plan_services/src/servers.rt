@@ -124,7 +124,8 @@ fn servers_at(
     Ok(list)
 }
 
-/// The servers of a plan: the operations that instances provide. `mapped` tells of each numbered event whether it is mapped.
+/// The servers of a plan: the operations that instances provide. `mapped` tells of each numbered event whether it is mapped. A
+/// server is direct exactly if its event is not mapped.
 pub fn server_plans(
     alloc: Global,
     source: &Source<'_>,

@@ -12,7 +12,8 @@ use std::alloc::Global;
 
 /// Puts the text of the plan of a description, made flat, in one put. Its lines come in this order: the instances, the joins,
 /// the mode machines, each task with its mapped events by position, the events of direct servers. All lines are made before
-/// the put: the only error is want of memory, and then nothing was put.
+/// the put: the only error is want of memory, and then nothing was put. A sink that tells its bytes then has taken the whole text;
+/// if the put failed, a prefix of it, and its count of faults rose exactly then.
 pub fn put_plan<K: Sink>(
     alloc: Global,
     d: &Description,
