@@ -58,7 +58,9 @@ impl Model for Bundle {
 impl Bundle {
     /// Makes the entry of a wish on the bundle that it touches, if one may come (SWS_RTE: Rte_Write, Rte_Read, Rte_Invalidate,
     /// Rte_IsUpdated, implicit access, DataReceivedEvent). The values of a list are fetched, or published, at one moment. It takes no
-    /// memory. `NotYet` changes nothing.
+    /// memory. `NotYet` changes nothing. A publication of a list stores the words of each marked element, the last of a group's
+    /// elements last, and nothing in the groups of others. Every entry but a write or a publication leaves the list of woken
+    /// events as it was.
     pub fn act(&mut self, p: &BusPlan, who: &Actor, wish: &Wish) -> Acted
         requires groups { groups_fit (plan_of p.now) ≡ true }
         requires touching { object_of (plan_of p.now) who.now (wanted_of wish.now) ≡ Some (touched (plan_of p.now) who.now (wanted_of wish.now)) }

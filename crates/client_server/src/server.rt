@@ -44,7 +44,8 @@ impl Model for Server {
 
 impl Server {
     /// A server that nobody has asked, with this many points and the length of its queue, or none for a direct server. The only
-    /// error is that there is no memory.
+    /// error is that there is no memory. No other call answers out of memory, by its type; that none takes any is read in the
+    /// code.
     pub fn new(alloc: Global, points: u32, queue: Option<u32>) -> Result<Server, Memory>
         ensures { IfOk result (λ s. s ≡ fresh points queue) }
     {
@@ -135,7 +136,8 @@ impl Server {
         self.serving
     }
 
-    /// Returns to a point. False where its request has not started or has a reply; then nothing changes.
+    /// Returns to a point. False where its request has not started or has a reply; then nothing changes. The return events of that
+    /// point are then pending.
     pub fn reply(&mut self, point: u32, outcome: &Outcome) -> bool
         requires { point < length self.old.points }
         ensures answer { result ≡ is_started (point_at point self.old).stage }
@@ -155,7 +157,7 @@ impl Server {
     }
 
     /// Takes what was returned to a point, for a caller that waits for it (the end of Rte_Call). None exactly where nothing was
-    /// returned that is not yet taken.
+    /// returned that is not yet taken. Then no request of the point is outstanding.
     pub fn answer(&mut self, point: u32) -> Option<Outcome>
         requires { point < length self.old.points }
         ensures answer { result ≡ outcome_in (point_at point self.old).stage }
@@ -168,7 +170,8 @@ impl Server {
         outcome
     }
 
-    /// Takes what was returned to a point (Rte_Result). None exactly where nothing was returned that is not yet taken.
+    /// Takes what was returned to a point (Rte_Result). None exactly where nothing was returned that is not yet taken. Then no
+    /// request of the point is outstanding.
     pub fn result(&mut self, point: u32) -> Option<Outcome>
         requires { point < length self.old.points }
         ensures answer { result ≡ outcome_in (point_at point self.old).stage }

@@ -88,7 +88,9 @@ fn code_for(p: &BusPlan, elem: u32, state: &ReadState) -> Code
 
 impl Group {
     /// Makes the entry of a wish on the group that it touches, if one may come (SWS_RTE: Rte_Write, Rte_Read, Rte_Invalidate,
-    /// Rte_IsUpdated, implicit access, DataReceivedEvent). It takes no memory. `NotYet` changes nothing.
+    /// Rte_IsUpdated, implicit access, DataReceivedEvent). It takes no memory. `NotYet` changes nothing. Then no entry of the
+    /// actor and the wish leads on, and the answer says why. Every entry but a write or a publication leaves the list of woken
+    /// events as it was.
     pub fn act(&mut self, p: &BusPlan, who: &Actor, wish: &Wish) -> Acted
         requires groups { groups_fit (plan_of p.now) ≡ true }
         requires touching { object_of (plan_of p.now) who.now (wanted_of wish.now) ≡ Some (touched (plan_of p.now) who.now (wanted_of wish.now)) }

@@ -50,7 +50,8 @@ impl Model for MachineObject {
 impl MachineObject {
     /// Makes the entry of a wish on the machine, if one may come (SWS_RTE: Rte_Switch, Rte_Mode, mode switch procedure,
     /// SwcModeSwitchEvent, ModeSwitchedAckEvent, ModeDisablingDependency). The wish fits its actor and touches the machine. It takes no
-    /// memory. `NotYet` changes nothing; for a phase it names the event of the plan that forbids it.
+    /// memory. `NotYet` changes nothing; for a phase it names the event of the plan that forbids it. Every entry but a phase or an
+    /// end leaves the list of woken events as it was.
     pub fn act(&mut self, who: &Actor, wish: &Wish) -> Acted
         ensures planned { (p : Plan) (object : ℕ) → IsAskedOf p object who.now (wanted_of wish.now) self.old.kept → IsOfPlan p object self.new.kept }
         ensures answer { (p : Plan) (object : ℕ) → IsAskedOf p object who.now (wanted_of wish.now) self.old.kept → IsAnswerOf p lead may_start why_held who.now (wanted_of wish.now) self.old.kept self.new.kept result }

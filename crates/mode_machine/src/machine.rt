@@ -77,7 +77,9 @@ fn set_all(flags: &mut [bool])
 impl Machine {
     /// A machine in Entry of its initial mode: how many modes it has, the initial one, how many switches may wait, when each mode
     /// switch event occurs, how many acknowledgement events there are, the modes that disable each event that has some, and
-    /// whether Exit waits for activations that the next mode disables. The only error is that there is no memory.
+    /// whether Exit waits for activations that the next mode disables. The only error is that there is no memory. At first it owes
+    /// the on-entry events of that mode. No other call answers out of memory, by its type; that none takes any is read in the
+    /// code.
     pub fn new(
         alloc: Global,
         modes: u32,
@@ -228,7 +230,10 @@ impl Machine {
     /// Makes the next phase, where it may come (mode switch procedure). The list then has the names of the mode switch events by
     /// which a start became possible and of the acknowledgement events that became pending, and no others; each of these events has
     /// a name, at its place in its list of names. A phase goes through the events that it owes and those that the last one owed, a
-    /// Close through the activations that run, and a Stable through the acknowledgement events. Where none may come nothing changes.
+    /// Close through the activations that run, and a Stable through the acknowledgement events. Where none may come nothing
+    /// changes. The phases are Close, Exit, Transition, Entry and Stable. If none may come the answer says why: no accepted switch
+    /// waits, or the least event that forbids the phase. A machine that does not wait for activations takes Exit after Close
+    /// whatever runs. Each Stable but the first makes the acknowledgement events pending.
     pub fn advance(&mut self, names: &[u32], ack_names: &[u32], woken: &mut Vec<u32>) -> Advanced
         requires named { length names.now ≡ length self.old.owed }
         requires acks_named { length ack_names.now ≡ length self.old.acks }
@@ -269,7 +274,8 @@ impl Machine {
         may_start
     }
 
-    /// Ends the activation by a mode switch event. True exactly where it runs; else nothing changes.
+    /// Ends the activation by a mode switch event. True exactly where it runs; else nothing changes. What a phase owes is done
+    /// when an activation ends that was started by the event after the phase.
     pub fn end_owed(&mut self, event: u32) -> bool
         requires { event < length self.old.owed }
         ensures answer { result ≡ (owed_at event self.old).running }
@@ -312,7 +318,8 @@ impl Machine {
     }
 
     /// Admits an activation by an event that modes may disable, or drops it. Runs exactly where an admitted activation by it
-    /// runs; then nothing changes.
+    /// runs; then nothing changes. It is admitted exactly if none runs and the event is not disabled. One that is not admitted is
+    /// not remembered.
     pub fn admit(&mut self, event: u32) -> Admitted
         requires { event < length self.old.disablings }
         ensures answer { result ≡ answer_to_admit event self.old }

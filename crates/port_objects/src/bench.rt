@@ -47,7 +47,10 @@ pub trait Bench {
 
     ghost told: { Self → Told };
 
-    /// Makes the entry of a wish on the object of this number, if one may come. `NotYet` and `Contended` change nothing.
+    /// Makes the entry of a wish on the object of this number, if one may come. `NotYet` and `Contended` change nothing. `Done` is
+    /// an entry of the actor and of the wish, and each entry takes one of its room. A bench that tells its next stamp gives the
+    /// entry that; one that tells its objects answers as `act` does; one that tells its work adds each entry at the end, and no
+    /// count of it falls.
     fn act(&mut self, object: u32, who: &Actor, wish: &Wish) -> Benched
         requires room { 0 < (told self.old).room }
         requires asked { IsAsked (plan self.old) object who.now (wanted_of wish.now) }

@@ -26,7 +26,8 @@ use server_objects::{ServerObject, joined_points, return_events};
 use std::alloc::Global;
 
 /// The objects of a plan, to which nothing has happened: one for each bundle, one for each server, one for each area, one for each mode machine, and then the clock, so that each stands at its number. The only error is that there is
-/// no memory for them; what comes later on them takes none.
+/// no memory for them; what comes later on them takes none. Each keeps what it keeps before anything has happened, is the plan's
+/// object at its number, and stands for no entry. What is asked of the plan (`HasObjects`) a sound one has.
 pub fn make_objects(alloc: Global, p: &BusPlan) -> Result<Vec<Object>, Memory>
     requires sound { HasObjects (plan_of p.now) }
     ensures kept { IfOk result (λ objects. map kept_of objects.items ≡ opening (plan_of p.now)) }

@@ -55,7 +55,7 @@ impl Model for QueueGroup {
 impl QueueGroup {
     /// Makes the entry of a wish on the group that it touches, if one may come (SWS_RTE: Rte_Send, Rte_Receive,
     /// DataReceivedEvent). The wish fits its actor. One send reaches all receivers of the group. It takes no memory. `NotYet` changes
-    /// nothing.
+    /// nothing. Every entry but a send leaves the list of woken events as it was.
     pub fn act(&mut self, p: &BusPlan, who: &Actor, wish: &Wish) -> Acted
         requires fits { wish_fits (plan_of p.now) who.now (wanted_of wish.now) ≡ true }
         requires touching { object_of (plan_of p.now) who.now (wanted_of wish.now) ≡ Some (touched (plan_of p.now) who.now (wanted_of wish.now)) }

@@ -47,7 +47,8 @@ fn places_of(alloc: Global, receivers: &[u32]) -> Result<Vec<usize>, Memory>
 
 impl Queues {
     /// Empty queues: the length of each receiver's queue, the receiver of each DataReceivedEvent, and how many words a value
-    /// has. The only error is that there is no memory.
+    /// has. The only error is that there is no memory. No other call answers out of memory, by its type; that none takes any is
+    /// read in the code. A queue that is not full always finds a block.
     pub fn new(
         alloc: Global,
         lengths: Vec<u32>,

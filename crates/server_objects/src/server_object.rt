@@ -53,7 +53,8 @@ impl ServerObject {
     /// Makes the entry of a wish on the server that it touches, if one may come (SWS_RTE: Rte_Call, Rte_Result,
     /// OperationInvokedEvent, AsynchronousServerCallReturnsEvent). The wish fits its actor. A queued server starts with the request that
     /// waits longest; a direct one with that of the point of the activation's key. An Answer and a result give the Return of the point's own
-    /// request. It takes no memory. `NotYet` changes nothing.
+    /// request. It takes no memory. `NotYet` changes nothing. Every entry but an ask or a return leaves the list of woken events
+    /// as it was.
     pub fn act(&mut self, who: &Actor, wish: &Wish) -> Acted
         ensures planned { (p : Plan) (object : ℕ) → IsOfPlan p object self.old.kept → IsOfPlan p object self.new.kept }
         ensures answer { (p : Plan) (object : ℕ) → IsOfPlan p object self.old.kept → IsAnswerOf p lead may_start why_held who.now (wanted_of wish.now) self.old.kept self.new.kept result }
