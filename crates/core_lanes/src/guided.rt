@@ -199,7 +199,8 @@ impl Guided {
 
     /// The core makes a turn at its bench: over what is awake, and if that gives no entry and all are due, over all of its slots. The answer
     /// is whether it made an entry. A turn that found its object held by another core made none. The core's trace is empty, since the seat
-    /// keeps the entry.
+    /// keeps the entry. That it makes `turn_by_guide` each time, after the core has asked for news, is read in the code, since
+    /// what its guide knows is not seen outside a turn.
     pub(crate) fn turn(
         &mut self,
         p: &BusPlan,

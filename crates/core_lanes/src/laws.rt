@@ -24,7 +24,8 @@ use port_objects::sound_plans_have_objects;
 /// cores and the objects of the opening were lawful, the entries in order of stamps keep it legal, and the cores as they are now
 /// and the objects of the close are lawful for it and these entries. So a round on threads is one of the orders in which one
 /// thread could have given the turns: each activation lives on one core, which follows its program, and what the bus answers
-/// looks at one object, whose entries stand in order of stamps.
+/// looks at one object, whose entries stand in order of stamps. None of the entries is the environment's. If no core made more
+/// than so many of them, there are at most so many for each core.
 pub fn rounds_on_threads_keep_the_law()
     ensures lawful { (k : Opening) (m : Mapping) (t : TaskSet) (cores now : List CoreState) (parts : List (List Stamped)) (objects : List Object) (entries : List Stamped) (h : History) →
         IsSound (plan_in k) m → ArePlans (plan_in k) k.objects.value.items → IsLawful (plan_in k) m t cores k.objects.value.items h →

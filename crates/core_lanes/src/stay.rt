@@ -52,7 +52,8 @@ impl Stay {
     }
 
     /// The core makes a turn at its bench, which is counted. In the 33rd turn of a row without an entry it looks at all of its slots, and
-    /// in each other turn at what is awake. The answer is whether it made an entry.
+    /// in each other turn at what is awake. The answer is whether it made an entry. The count's fields, and the call that sets
+    /// them, are private to this file: nothing but a turn sets them.
     pub(crate) fn turn(
         &mut self,
         p: &BusPlan,

@@ -83,7 +83,10 @@ fn take_places(alloc: Global, of: &[Core]) -> Result<Places, AllocError>
 
 /// Cores, 1 to 8 and each at its number, make turns at the same time over the objects of a plan: each in a thread of its own, by its
 /// seat of a round, until it leaves, after 1,024 entries of its own or 64 turns in a row without one. A core passes the gate before
-/// each turn. All memory is taken before the round is open. `guesses` tells where a core looks first.
+/// each turn. All memory is taken before the round is open. `guesses` tells where a core looks first. For every history for which
+/// the cores and the objects were lawful, they are lawful for it and the entries made, which come in order of stamps. None of
+/// these is the environment's, and each core has room again for an entry. If there was no memory, no core made a turn, and cores
+/// and objects are unchanged.
 pub fn run_together<R: Threads + Sync, G: Gate>(
     rt: &R,
     alloc: Global,

@@ -20,7 +20,8 @@ use port_objects::{
 impl Node {
     /// Makes the one entry that a wish of the environment may have now: a tick, or a call at an outer port. The wish fits the
     /// environment. At an outer operation that is not joined, an ask and the taking of a result are answered RTE_E_UNCONNECTED.
-    /// It takes no memory.
+    /// It takes no memory. For every history for which the node is lawful, it is lawful for the history and the entry, so the
+    /// entry is legal there.
     pub fn environment(&mut self, wish: &Wish) -> Entry
         requires fits { wish_fits (plan_of self.old.plan) Env (wanted_of wish.now) ≡ true }
         ensures actor { result.actor ≡ Env }

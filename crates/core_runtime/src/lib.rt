@@ -1,4 +1,41 @@
 //! The node: a plan with its mapping, its cores and its objects. Rounds of several cores run each core in a thread of its own.
+//!
+//! A single core has its turns on the caller's thread, and so have all cores in a serial pass; in a round two and more cores have
+//! theirs at the same time, on threads (`core_lanes`). A node looks only at what is awake; its invariant (`IsWatch`) says that
+//! what sleeps is held by the objects, or waits at an area behind a task of its core that is awake. So the claims are those of
+//! turns that look at all.
+//!
+//! # Decisions
+//!
+//! **When does a single core leave a round?** After 1,024 entries, or the first turn without one. It has all objects to itself, so
+//! each further turn would make nothing either; the 64 turns that a core may make without an entry are for cores beside which
+//! others go on.
+//!
+//! **What of a round's memory is kept?** Its large lists: that of what each core made, and that of all entries in order of stamps.
+//! The close gives them back, the node keeps them (`Spare`), and the next round takes their room and only what they lack. A list
+//! that large goes back to the system when it is freed, and each of its pages costs a fault when it comes again. No contract
+//! speaks of what is spare: it may be any lists, also none. If there is no memory for a round's table, they are freed, so that a
+//! later call has a better chance. Words, seats and the list for the objects are small, and are taken for each round. If there is
+//! memory for it, the list of all entries of a round has as much room as that of the node, so that the two change places behind it
+//! and no entry is copied.
+//!
+//! **Why is all awake after a round of several cores?** What slept before it may be due by what another core made, and a seat is
+//! not told what others changed. So all flags are set again, in place and without memory; the next turns put to sleep what is
+//! held.
+//!
+//! **What does an entry wake?** Those of the events that the changed object tells which sleep and may start now; the node has a
+//! list of the places of each event on the cores. What an object tells are the events that its last write, publication or tick
+//! made pending and that were not so before, so each is looked at once between two of its starts. A Leave wakes one task on each
+//! core, of those that wait at the area. An entry that touches a mode machine's object (a switch, a phase, what a phase owes or
+//! disables) wakes that machine, which is tried once more: to see whether it made the phase come would cost what the try does. A
+//! server keeps to which point the last Return went, and not who waits. So a Return wakes each task in which an event of the
+//! caller stands, whether it waits or not, and each entry on the server up to the next Return does so again, for one try in vain.
+//! Other entries wake nothing; the environment enters no area, so its calls wake only events. A turn finds what is awake by words
+//! of 64 places, and these by a word for each 4,096.
+//!
+//! **What of a node keeps the entries?** The node's list does: the turn of a single core writes its entry at the end of it. In a
+//! lane a core needs room for one entry. In a round of several cores each seat has a list of what its core made, and the close one
+//! of all, in order of stamps, which the node copies: so its own room is what it was, whatever the close gave.
 #![tactic(auto)]
 
 mod alone;

@@ -52,7 +52,8 @@ impl Model for Node {
 
 impl Node {
     /// A node to which nothing has happened. The plan is sound with the mapping, and the bodies are those that `generate` makes
-    /// of it. The only error is that there is no memory.
+    /// of it. The only error is that there is no memory. It is lawful for the empty history: that is legal, the objects stand for
+    /// it, and so do the tasks of the cores.
     pub fn new(alloc: Global, p: BusPlan, m: Mapping, t: TaskSet) -> Result<Node, Memory>
         requires sound { IsSound (plan_of p) m }
         requires bodies { AsksAsPlanned (plan_of p) t }

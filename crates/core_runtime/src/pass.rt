@@ -39,7 +39,9 @@ impl<'a> Round<'a> {
 /// round makes it.
 ///
 /// A pass without an entry is rest, and then all is quiet: no activation runs, no event is due, and each mode machine is stable and has
-/// begun every accepted switch.
+/// begun every accepted switch. For every history for which the node is lawful, these entries keep it legal, and the node is
+/// lawful for it and them. None is the environment's, and stamps count from 0. Over the objects as the core before left them each
+/// makes its entry.
 pub fn serial_pass(n: &mut Node)
     requires spare { n.old.mapping.cores ≤ n.old.spare }
     ensures plan { n.new.plan ≡ n.old.plan }

@@ -38,7 +38,9 @@ fn make_ready(_alloc: Global, n: &mut Node) -> Result<(), AllocError>
 /// passes the gate before each turn. What they make, at most 1,024 entries for each core, takes the place of earlier entries. All memory
 /// is taken before the first turn; if there is none, the node is as it was, and has room for no fewer entries.
 ///
-/// A single core leaves after the first turn without an entry, since nothing may come then.
+/// A single core leaves after the first turn without an entry, since nothing may come then. For every history for which the node
+/// is lawful, these entries, in order of stamps, keep it legal, and the node is lawful for it and them. After a round of one core
+/// with fewer than 1,024 entries `idle` holds.
 pub fn run_round<R: Threads + Sync, G: Gate>(
     rt: &R,
     alloc: Global,

@@ -119,7 +119,8 @@ impl Awake {
         self.slots.contains(slot) && self.events[slot].contains(place)
     }
 
-    /// Wakes the event at a place of the slot, and the slot.
+    /// Wakes the event at a place of the slot, and the slot. The slot then waits at no area. Nothing else changes; what sleeps
+    /// then is held if it was.
     pub fn wake(&mut self, slot: usize, place: usize)
         requires slot { slot < length self.old.slots }
         requires place { place < length (slice_index_or self.old.events slot []) }
@@ -147,7 +148,7 @@ impl Awake {
         self.areas.len()
     }
 
-    /// Wakes a slot, and none of its events.
+    /// Wakes a slot, and none of its events. It then waits at no area; what sleeps is held if it was.
     pub fn rouse(&mut self, slot: usize)
         requires slot { slot < length self.old.slots }
         requires waiting { length self.old.waiting ≡ length self.old.slots }

@@ -25,7 +25,10 @@ use task_machine::TaskSet;
 /// Where the bench tells its objects, what sleeps is held by them as they are before the turn, and so is what it puts to
 /// sleep, except those that wait at the area which its entry touched. Where it tells none, what sleeps is a guess: an entry
 /// is one that `turn` may make, and `NothingNow` says only that nothing of what is awake may come. Where the bench tells its
-/// work, each look that it takes to see this answered NotYet.
+/// work, each look that it takes to see this answered NotYet. It makes what a turn makes that looks at all. What sleeps has to be
+/// held by the objects: no event that sleeps may start; in a slot that sleeps nothing runs and none of its events may start, or
+/// its machine's next phase may not come, or its activation waits for an answer that may not come, or at an area that it may not
+/// enter, or not before another of the core that waits there and is awake. After an entry the caller wakes what it made due.
 pub fn turn_of_awake<B: Bench>(
     p: &BusPlan,
     t: &TaskSet,

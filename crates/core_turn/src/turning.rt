@@ -31,7 +31,11 @@ pub enum Turned {
 ///
 /// A task with a running activation tries that activation's next call, and after its ask at a direct point the direct activation, up
 /// to its end (SWS_RTE: Rte_Call); a free task tries its events in order of position. On core 0 the mode machines come behind the
-/// tasks.
+/// tasks. The entry fits, and follows the actor rule after each history for which the core stands; the core then stands for the
+/// history and it. A turn without an entry changes nothing of the core, nor of objects that are told. Over a bench that tells its
+/// work: then the count of `NotYet` rose at least by the number of tasks in which something runs, of events with an object of free
+/// tasks, and of mode machines (an event whose start touches no object costs no look); if the core met another one, the count of
+/// that rose.
 pub fn turn<B: Bench>(p: &BusPlan, t: &TaskSet, c: &mut Core, b: &mut B) -> Turned
     requires room { 0 < c.old.room }
     requires bench_room { 0 < (B.told b.old).room }

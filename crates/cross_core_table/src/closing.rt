@@ -83,7 +83,8 @@ fn take_in(
 
 impl Round {
     /// Closes a round, with all its seats in the order of their cores: gives back the objects, and what the cores made, in order of
-    /// stamps. It takes no memory.
+    /// stamps. It takes no memory. The entries are an interleaving of what each core made. Whatever entries an object stood for at
+    /// the opening, it stands for these and its entries of the round, each of which is what the bus answers after those before it.
     pub fn close(self, seats: Vec<CoreSeat>) -> Closed
         requires seats { AreSeatsOf self seats.items }
         ensures { IsClosed self.opening (map made_of seats.items) result.objects.items result.entries.items }

@@ -21,7 +21,9 @@ use std::snapshot::Snapshot;
 
 impl Round {
     /// Opens a round of 1 to 8 cores over the objects of a plan, each at its number, with room for so many entries of each core. This
-    /// takes all memory of the round, what is spare before any other. If there is no memory, what is spare is freed.
+    /// takes all memory of the round, what is spare before any other. If there is no memory, what is spare is freed. The objects
+    /// then come back unchanged. That no later call of a round takes memory is read in the code: each list has the room that its
+    /// invariant tells, and what is pushed is pushed into that.
     pub fn open(
         alloc: Global,
         p: &BusPlan,

@@ -10,7 +10,9 @@ use std::sync::Wait;
 
 impl Pump {
     /// Pops the next number of some feed: the feed, and its number. Or `None`, if nothing was popped: the queue was empty at some moment of
-    /// this call. It may spin behind another thread that was stopped within a push or a pop. It takes no memory.
+    /// this call. It may spin behind another thread that was stopped within a push or a pop. It takes no memory. Of each feed the
+    /// numbers 0, 1, 2 and so on are popped, in this order and each once: a popped number is how often its feed was popped before,
+    /// and is below the feed's length.
     pub fn next<F: Feeding, R: Wait>(&mut self, rt: &R, q: &FeedQueue<F>) -> Option<(u8, u32)>
         requires queue { IsPumpOf F.lengths q.now self.old }
         ensures queue { IsPumpOf F.lengths q.now self.new }

@@ -1,4 +1,10 @@
 //! What each runnable fetches at its start and publishes at its end.
+//!
+//! # Decisions
+//!
+//! **What do buffers list, elements or lists?** Elements, since these have the slots (`BufferPlan`): so a statement is compiled as
+//! if there were no lists. What is asked for at once is a list apart, made for a runnable when its code is (`fetches_of`,
+//! `publications_of`), and an instruction that fetches or publishes a coherent list names the slots of its elements.
 #![tactic(auto)]
 
 mod fetchings;

@@ -115,7 +115,10 @@ fn disabled_of(alloc: Global, events: &[EventPlan]) -> Result<Vec<bool>, Memory>
 ///
 /// An activation begun by any Start, and fed any answers, asks what the actor rule wants next, up to its End or an admission
 /// that was refused, and nothing after that. It is over exactly where the actor rule wants nothing. The only error is that there
-/// is no memory.
+/// is no memory. That is admission, fetches, the calls of its program, publications, the return, the end. That a fetched value
+/// stays what it was says a law of `implicit_buffers`; that what is published was written last stands in the definitions of
+/// publications, and no law says so apart. Bodies whose runnables have one code may share it, and ask the same as with code of
+/// their own.
 pub fn generate(alloc: Global, p: &BusPlan, _m: &Mapping) -> Result<TaskSet, Memory>
     requires sound { IsSound (plan_of p.now) _m.now }
     ensures { IfOk result (λ t. AsksAsPlanned (plan_of p.now) t) }

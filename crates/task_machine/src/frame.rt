@@ -248,7 +248,8 @@ fn return_of(returned: &Returned, vars: &[Word]) -> Next
 }
 
 impl Frame {
-    /// A frame for these bodies, with the room of the largest. No activation has begun.
+    /// A frame for these bodies, with the room of the largest. No activation has begun. So beginning, asking and feeding never
+    /// answer out of memory.
     pub fn new(alloc: Global, t: &TaskSet) -> Result<Frame, Memory>
         ensures { IfOk result (λ f. IsMadeFor t.now f) }
     {
@@ -294,7 +295,8 @@ impl Frame {
         }
     }
 
-    /// An activation of the key begins with this Start (SWS_RTE: runnable activation). The frame was made for these bodies.
+    /// An activation of the key begins with this Start (SWS_RTE: runnable activation). The frame was made for these bodies. The
+    /// frame then stands for the key, this Start and no answers.
     pub fn begin(&mut self, t: &TaskSet, key: ActKey, start: &Deed)
         requires made_for { IsMadeFor t.now self.old }
         ensures stands { Stands t.now key start.now [] self.new }
@@ -378,7 +380,8 @@ impl Frame {
         }
     }
 
-    /// The bus has answered the call that `next_call` gave. Where the activation is over nothing changes.
+    /// The bus has answered the call that `next_call` gave. Where the activation is over nothing changes. The frame then stands
+    /// for one answer more.
     pub fn feed(&mut self, t: &TaskSet, answer: &Deed)
         ensures stands { (k : ActKey) (start : Deed) (answers : List Deed) → Stands t.now k start answers self.old → Stands t.now k start (answers ++ answer.now ∷ []) self.new }
         ensures room { self.new.room ≡ self.old.room }
