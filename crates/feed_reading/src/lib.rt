@@ -2,6 +2,14 @@
 //!
 //! Stimuli are lines of text: a feed's number, a space and a line of a script. `read_feeds` reads them over the plan of a bus in a time that is
 //! linear in the bytes and the wishes.
+//!
+//! # Decisions
+//!
+//! **Which limits do stimuli have?** 100,000 lines as a script, and 65,536 wishes in all, of which each tick is one. So no limit
+//! of ticks is needed, and there are no run lines.
+//!
+//! **What is bad if `stop` is missing?** The line behind the last, since there it should stand. Its number is the number of lines
+//! plus one.
 #![tactic(auto)]
 
 mod feeds;

@@ -20,7 +20,9 @@ use std::alloc::Global;
 
 /// Reads stimuli over a plan. Empty lines and lines that begin with `#` say nothing. Any other is `stop`, behind which no line stands, or the
 /// number of a feed, 0 to 3, a space and a line of a script other than `run`. `tick N` gives N wishes. The plan is sound with some
-/// mapping, and 32 bits number its elements and mode elements.
+/// mapping, and 32 bits number its elements and mode elements. If the bytes are none, the answer is the number of the first bad
+/// line with its least cause: 1, it has none of the forms or stands after `stop`; 2 and 3 as in a script; 4, with it there are
+/// more than 100,000 lines or 65,536 wishes. If each line is good and none is `stop`, it is the line after the last, with cause 1.
 pub fn read_feeds(alloc: Global, p: &BusPlan, bytes: &[u8]) -> FeedsRead
     requires sound { (m : Mapping) × IsSound (plan_of p.now) m }
     requires few { HasFewNumbers (plan_of p.now) }

@@ -36,7 +36,9 @@ pub enum ScriptRead {
 
 /// Reads a script over a plan. Empty lines and lines that begin with `#` give no `Line`; all others give one each, in
 /// order: `tick N`, `run`, `write P.E V`, `send P.E V`, `read P.E`, `receive P.E`, `ask P.O V`, `result P.O`,
-/// `switch P.O MODE` and `mode P.O`. The plan is sound with some mapping, and 32 bits number its elements and mode elements.
+/// `switch P.O MODE` and `mode P.O`. The plan is sound with some mapping, and 32 bits number its elements and mode elements. What
+/// is read is a script: no line is bad, and it asks, in order, for what the lines of the text ask for. Else the first bad line is
+/// named, with its least cause.
 pub fn read_script(alloc: Global, p: &BusPlan, bytes: &[u8]) -> ScriptRead
     requires sound { (m : Mapping) × IsSound (plan_of p.now) m }
     requires few { HasFewNumbers (plan_of p.now) }

@@ -119,7 +119,8 @@ pub fn put_lap<R: Threads + Sync, K: Sink, G: Gate>(
     }
 }
 
-/// A run line: its mark, then rounds and serial passes until a pass makes no entry, or 100,000 entries were made.
+/// A run line: its mark, then rounds and serial passes until a pass makes no entry, or 100,000 entries were made. It goes on from
+/// a session as `put_ticks` does.
 pub fn put_run<R: Threads + Sync, K: Sink, G: Gate>(
     rt: &R,
     alloc: Global,

@@ -37,7 +37,8 @@ pub enum ScriptRun {
     Memory,
 }
 
-/// A call of the environment: the entry that it makes, and what the put of its line answered.
+/// A call of the environment: the entry that it makes, and what the put of its line answered. The entry goes on legally with the
+/// session, and is given out whatever came of its line.
 pub fn make_call<K: Sink>(
     n: &mut Node,
     wish: &Wish,
@@ -74,7 +75,9 @@ fn put_call<K: Sink>(
     came_of(made.1)
 }
 
-/// So many ticks.
+/// So many ticks. They go on whatever session the node stands after, outside run lines: they add items to it that go on legally,
+/// and put a line for each, in order, behind the prefix that was asked for. With `Failed` and `Memory`, what was put is a prefix
+/// of the lines of such items that do some of the orders.
 pub fn put_ticks<K: Sink>(
     n: &mut Node,
     count: u32,
@@ -180,7 +183,11 @@ pub fn run_line<R: Threads + Sync, K: Sink, G: Gate>(
 /// without an entry, and `unsettled` where at least 100,000 entries were made since the mark. Each line of the script is one
 /// that the environment may carry out.
 ///
-/// It ends at the first put that fails, and at a round for which there is no memory.
+/// It ends at the first put that fails, and at a round for which there is no memory. For every history for which the node is
+/// lawful: with `Finished`, what was put is the text of a run of the script that goes on legally from the history, with all of its
+/// lines in order, and its items fit the plan; the node is lawful for the history and what the run made; and where a run line
+/// closes with `idle`, all is quiet. With `Failed` and `Memory` it is a prefix of the text of a begun run. The sink's count of
+/// faults rose exactly with `Failed`.
 pub fn run_script<R: Threads + Sync, K: Sink, G: Gate>(
     rt: &R,
     alloc: Global,

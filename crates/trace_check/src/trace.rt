@@ -116,7 +116,9 @@ fn check_bytes(
 }
 
 /// Checks a trace against a sound bus and a script: whether it is the text of a whole legal run of the script, and if not, which line is
-/// the first that does not go on so, and why. An error says that there was no memory.
+/// the first that does not go on so, and why. An error says that there was no memory. A line that is not that of any item is bad;
+/// else the reason is the least clause that the line breaks. By `traces_have_one_verdict` no other answer is right. When memory
+/// runs out is not said.
 pub fn check_trace(
     alloc: Global,
     p: &BusPlan,

@@ -21,7 +21,7 @@ impl CountingSink {
     ghost use Rattle.std.specs.Prelude.{[]};
     ghost use Rattle.trace_counts.specs.Tallies.{numbers_in};
 
-    /// A sink that took nothing yet.
+    /// A sink that took nothing yet. It never fails.
     pub fn new() -> CountingSink
         ensures { result.told.bytes ≡ [] }
     {

@@ -135,7 +135,7 @@ fn try_entry(
 /// prints. None: it is what the bus answers after the entries for which the objects stand, and then they stand for these and it. If it
 /// breaks one, what the objects keep then is of no use. The entry fits, and its actor's program asks for it; `event` is the one that
 /// started the activation, for an admission and an end. Whatever it answers, what may come of its own then is among `unrest`, if it was
-/// before. It takes no memory.
+/// before. It takes no memory. The objects stay the plan's.
 pub fn make(
     p: &BusPlan,
     objects: &mut Vec<Object>,

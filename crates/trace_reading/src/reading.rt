@@ -102,7 +102,7 @@ fn read_by(names: &Names, v: Version, line: &[u8], out: &mut LineBuf) -> LineRea
 
 /// Reads a line of a trace of the version: the item of a run that fits the plan and has this line. The line is given with its
 /// newline, which ends it; a line without it is bad. It takes no memory, and goes over the lists of the plan for each name. The
-/// plan has to be readable, as every sound plan is.
+/// plan has to be readable, as every sound plan is. If it is read as bad, no item has it.
 pub fn read_entry(p: &BusPlan, v: Version, line: &[u8]) -> LineRead
     requires readable { IsReadable (plan_of p.now) }
     ensures reads { Reads v (plan_of p.now) line.now result }
