@@ -9,7 +9,8 @@ use plan_laws::{
     headers_are_one, no_refused_description_has_a_plan, plans_are_one, refusals_are_one,
 };
 
-/// Of a command there is at most one verdict on the same files.
+/// Of a command there is at most one verdict on the same files. So the clauses of `rte_top` may speak of any verdict that someone
+/// finds: it is the one that the program finds.
 pub fn verdicts_are_one()
     ensures { (command : Command) (files : List (List ℕ)) (v w : Verdict) → IsVerdictOn command files v → IsVerdictOn command files w → v ≡ w }
 {

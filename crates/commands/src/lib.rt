@@ -1,4 +1,16 @@
 //! The commands: the words that give each, the files that it reads, what it may find of them, and the text and the status that say so.
+//!
+//! # Decisions
+//!
+//! **Which refusal comes first?** Words, the files in the order of the words, the description, the script. Both files are fetched
+//! before the description is judged, so that `not read` does not depend on what a file holds.
+//!
+//! **Which number is behind `not read`?** That of the first word whose file could not be read, the command being 0. The files are
+//! fetched in the order of the words, and a shelf that tells its files counts its fetches: so the number is by how much that count
+//! rose in the call, as long as it does not come near 2^64.
+//!
+//! **Is `done` a verdict of each command?** Yes, and what is then put is the command's own (`SaysDone`). `legal` is the `done` of
+//! `check`. A refusal has its text by an equation, so `report` is one function for all of them.
 #![tactic(auto)]
 
 mod command;

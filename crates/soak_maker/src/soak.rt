@@ -36,7 +36,8 @@ fn script(alloc: Global, count: u32) -> Result<Vec<u8>, Memory>
 }
 
 /// The description of `n` producers, `n` consumers and a server on four cores, and the script that ticks ten times and runs, twenty
-/// times. The only error is that there is no memory.
+/// times. The only error is that there is no memory. `serde_json` reads the bytes of the description as one value (`soak_value`),
+/// and over any plan those of the script are this script and no other.
 pub fn make_soak(alloc: Global, n: u32) -> Result<Soak, Memory>
     ensures described { IfOk result (λ s. Reads s.description.items (soak_value n)) }
     ensures scripted { IfOk result (λ s. (p : Plan) → IsScript p s.script.items soak_lines) }
