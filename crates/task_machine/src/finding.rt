@@ -9,9 +9,11 @@ ghost use Rattle.task_machine.specs.Spots.{code_in};
 
 use crate::instr::{Body, Instr};
 
-/// The instruction at a place in so many instructions, those of a program, and the others of those around it.
+/// The instruction at a place in so many instructions, those of a program, and the others of those around it. It stays a function of
+/// its own, since most places are in the program.
+#[inline(never)]
 #[tactic(auto, using(crate::proofs::Parts::in_front, crate::proofs::Parts::in_program, crate::proofs::Parts::behind_it))]
-pub fn instr_at<'a>(
+fn instr_anywhere<'a>(
     around: &'a [Instr],
     before: usize,
     program: &'a [Instr],
@@ -33,8 +35,30 @@ pub fn instr_at<'a>(
     around.get(place - program.len())
 }
 
+/// The same; the program is looked at first.
+#[inline(always)]
+#[tactic(auto, using(crate::proofs::Parts::in_front, crate::proofs::Parts::in_program, crate::proofs::Parts::behind_it))]
+pub fn instr_at<'a>(
+    around: &'a [Instr],
+    before: usize,
+    program: &'a [Instr],
+    place: usize,
+) -> Option<&'a Instr>
+    requires around { before ≤ length around.now }
+    requires short { length program.now < 2 ^ 32 }
+    ensures instr { option_copied result ≡ slice_get (take before around.now ++ (program.now ++ drop before around.now)) place }
+    ensures near { IfSome result (λ x. place < 2 ^ 63 + 2 ^ 32) }
+{
+    let behind = place.wrapping_sub(before);
+    if behind < program.len() {
+        return program.get(behind);
+    }
+    instr_anywhere(around, before, program, place)
+}
+
 impl Body {
     /// The instruction at a place.
+    #[inline(always)]
     fn found(&self, place: usize) -> Option<&Instr>
         ensures instr { option_copied result ≡ slice_get (take self.now.before self.now.around ++ ((arc_value self.now.code).instrs ++ drop self.now.before self.now.around)) place }
         ensures near { IfSome result (λ x. place < 2 ^ 63 + 2 ^ 32) }
@@ -48,6 +72,7 @@ impl Body {
     }
 
     /// The instruction at a place.
+    #[inline(always)]
     pub fn at(&self, place: usize) -> Option<&Instr>
         ensures instr { option_map (λ (x : Instr). instruction_of x self.now.targets) (option_copied result) ≡ slice_get (code_in self.now) place }
         ensures near { IfSome result (λ x. place < 2 ^ 63 + 2 ^ 32) }

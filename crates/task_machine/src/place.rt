@@ -70,6 +70,7 @@ impl Place {
     }
 
     /// Executes an instruction that asks nothing of the bus. Answers whether it is one; a call changes nothing.
+    #[inline(always)]
     fn step(&mut self, instr: &Instr, targets: &Targets) -> bool
         requires within { self.old.place < 2 ^ 63 + 2 ^ 32 }
         ensures stepped { (rest : Rest) (here : Spot) → silently (Some (instruction_of instr.now targets.now)) rest self.old.place (store_of self.old.store) self.old.counters.items here
@@ -142,16 +143,18 @@ impl Place {
         true
     }
 
-    /// Executes the instructions that ask nothing of the bus, one after the other, while the budget lasts.
+    /// Executes the instructions that ask nothing of the bus, one after the other, while the budget lasts. It is written into `feed`:
+    /// few of them stand between two calls, so that a function of its own would cost more than what it does.
+    #[inline(always)]
     fn settle(&mut self, body: &Body)
         ensures settled { spot_of self.new ≡ settled (code_in body.now) self.old.left self.old.place (store_of self.old.store) self.old.counters.items }
         ensures room { room_of self.new.store ≡ room_of self.old.store }
         ensures counters_room { vec_capacity self.new.counters ≡ vec_capacity self.old.counters }
     {
-        let around = body.around.items();
         let before = body.before;
         let program = body.code.instrs.items();
         while self.left > 0 {
+            let around = body.around.items();
             match instr_at(around, before, program, self.place) {
                 Some(instr) => {
                     if !self.step(instr, &body.targets) {
