@@ -50,7 +50,7 @@ pub fn activations_go_on()
         ((w : Wanted) × (next_of_activity p r event start answers ≡ Some w)) }
 {}
 
-/// An activation asks for its admission exactly where its event has disabled modes, and before all else (SWS_RTE:
+/// An activation asks for its admission exactly if its event has disabled modes, and before all else (SWS_RTE:
 /// ModeDisablingDependency). It asks so by its own event, and after followed answers at the beginning alone. Answers are followed
 /// if each one answers what was asked before it.
 pub fn admission_comes_first()
@@ -72,7 +72,7 @@ pub fn what_touches_nothing()
         (is_of_a_call w || is_the_end w) ≡ true }
 {}
 
-/// An activation hears an answer only right after its ask at that point was accepted, and only where it waits for the
+/// An activation hears an answer only right after its ask at that point was accepted, and only if it waits for the
 /// answer (SWS_RTE: Rte_Call, synchronous). The first is so after followed answers, of which each one answers what was asked
 /// before it.
 pub fn hearing_follows_an_accepted_ask()

@@ -7,7 +7,7 @@ ghost use Rattle.api_header.specs.Clashes.{HaveNamesOfTheirOwn, IsFirstClash};
 ghost use Rattle.api_header.specs.Listing.{first_clash, listed};
 ghost use Rattle.api_header.specs.Targets.{Letters};
 
-/// Where no names clash, each name is listed once.
+/// If no names clash, each name is listed once.
 pub fn without_a_clash_each_name_stands_once()
     ensures { (types : TypeTable) (c : Component) → first_clash [] (listed types c) ≡ None → HaveNamesOfTheirOwn (listed types c) }
 {}

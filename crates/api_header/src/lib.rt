@@ -2,7 +2,7 @@
 //!
 //! # Decisions
 //!
-//! **When do two calls of a header clash?** Where their names are one and what they are of is not. A call is kept as its word and
+//! **When do two calls of a header clash?** If their names are one and what they are of is not. A call is kept as its word and
 //! the names in it, apart; so two runnables that write one element have one call, and so have `call` and `acall` of one operation.
 //! A clash is looked for among the calls that are listed, each once, and not among accesses. Numbers of ports and items would
 //! serve as well, but would have to be told apart for variables and areas. Which of several clashes is answered has to be one: it

@@ -35,7 +35,7 @@ impl AreaObject {
         AreaObject { area: Area::new() }
     }
 
-    /// Makes the entry of a wish on the area, if one may come: an activation enters it where nobody is in it, and leaves it where it
+    /// Makes the entry of a wish on the area, if one may come: an activation enters it if nobody is in it, and leaves it if it
     /// is in it itself (SWS_RTE: Rte_Enter, Rte_Exit). It takes no memory. `NotYet` changes nothing; for an Enter it names the
     /// activation that is in the area.
     pub fn act(&mut self, who: &Actor, wish: &Wish) -> Acted

@@ -45,7 +45,7 @@ impl Area {
         self.holder
     }
 
-    /// Enters the area for an activation (Rte_Enter). Where one is in it, also the same one, nothing changes and the answer
+    /// Enters the area for an activation (Rte_Enter). If one is in it, also the same one, nothing changes and the answer
     /// names it.
     pub fn enter(&mut self, key: ActKey) -> Entered
         ensures answer { result ≡ answer_to_enter self.old }
@@ -60,7 +60,7 @@ impl Area {
         }
     }
 
-    /// Leaves the area for an activation (Rte_Exit). False where it is not in the area; then nothing changes.
+    /// Leaves the area for an activation (Rte_Exit). False if it is not in the area; then nothing changes.
     pub fn exit(&mut self, key: ActKey) -> bool
         ensures answer { result ≡ is_held_by key self.old }
         ensures kept { self.new ≡ after_exit key self.old }

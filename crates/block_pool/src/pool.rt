@@ -43,7 +43,7 @@ impl Pool {
         Ok(Pool { values, free })
     }
 
-    /// Takes a block that is free. None exactly where none is. What it holds is what it held last.
+    /// Takes a block that is free. None exactly if none is. What it holds is what it held last.
     pub fn take(&mut self) -> Option<Block>
         ensures variant { IsSome result ↔ (0 < length self.old.free) }
         ensures taken { self.old.free ≡ self.new.free ++ option_to_list result }

@@ -18,7 +18,7 @@ use object_kinds::{Acted, Shown};
 use rte_value::{MOST_WORDS, Value, Word};
 
 impl Bundle {
-    /// A fetch of a list. There is none where its values together have more words than a value may have.
+    /// A fetch of a list. There is none if its values together have more words than a value may have.
     pub(crate) fn fetch_all(&self, p: &BusPlan, who: &Actor, list: u32) -> Acted
         requires groups { groups_fit (plan_of p.now) ≡ true }
         requires planned { AreGroups (plan_of p.now) self.now.kept }
@@ -33,7 +33,7 @@ impl Bundle {
         }
     }
 
-    /// The values of some elements, one after the other, where they have at most 16 words together.
+    /// The values of some elements, one after the other, if they have at most 16 words together.
     fn moment(&self, p: &BusPlan, elems: &[u32]) -> Option<Value>
         requires groups { groups_fit (plan_of p.now) ≡ true }
         requires planned { AreGroups (plan_of p.now) self.now.kept }

@@ -27,7 +27,7 @@ ghost use Rattle.bus_laws.specs.Returned.{IsAnswered};
 ghost use Rattle.bus_laws.specs.Waiting.{Chain};
 ghost use Rattle.bus_semantics.specs.Legal.{IsLegal, is_legal};
 
-/// A history is legal exactly where computing says so.
+/// A history is legal exactly if computing says so.
 pub fn legal_is_computed()
     ensures computed { (p : Plan) (h : History) → is_legal p h ≡ true → IsLegal p h }
     ensures computes { (p : Plan) (h : History) → IsLegal p h → is_legal p h ≡ true }
@@ -39,14 +39,14 @@ pub fn due_follows_the_last_start()
         (follows_last starts happened h ≡ true) ↔ HappenedSince starts happened h }
 {}
 
-/// A timing event is due exactly where a tick whose number is a multiple of the period follows the last start by it
+/// A timing event is due exactly if a tick whose number is a multiple of the period follows the last start by it
 /// (SWS_RTE: TimingEvent).
 pub fn timing_is_due_after_a_tick()
     ensures due { (p : Plan) (a : Actor) (event period : ℕ) (h : Past) → kind_of p event ≡ Timing period →
         (is_due p a event h ≡ true) ↔ TickedSince event period h }
 {}
 
-/// What a phase owes is done exactly where a start by the event, and the end of that activation, follow the machine's last
+/// What a phase owes is done exactly if a start by the event, and the end of that activation, follow the machine's last
 /// phase (SWS_RTE: mode switch procedure).
 pub fn done_after_the_last_phase()
     ensures done { (machine event : ℕ) (h : Past) → (is_done machine event h ≡ true) ↔ DoneInPhase machine event h }

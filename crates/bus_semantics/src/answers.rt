@@ -6,7 +6,7 @@ ghost use Rattle.bus_semantics.specs.State.{code_in, words_in, number_in};
 use crate::entries::Deed;
 use rte_value::{Code, Word};
 
-/// The status in an answer, and 0 where it has none.
+/// The status in an answer, and 0 if it has none.
 pub fn code_of(answer: &Deed) -> Code
     ensures { result ≡ code_in answer.now }
 {
@@ -22,7 +22,7 @@ pub fn code_of(answer: &Deed) -> Code
     }
 }
 
-/// The words that an answer gives, and none where it gives no value.
+/// The words that an answer gives, and none if it gives no value.
 pub fn words_of_answer(answer: &Deed) -> &[Word]
     ensures { result.now ≡ words_in answer.now }
 {
@@ -37,7 +37,7 @@ pub fn words_of_answer(answer: &Deed) -> &[Word]
     }
 }
 
-/// The number in an answer: of a mode, or 1 where there was an update. 0 where it has none.
+/// The number in an answer: of a mode, or 1 if there was an update. 0 if it has none.
 pub fn number_of(answer: &Deed) -> u32
     ensures { result ≡ number_in answer.now }
 {

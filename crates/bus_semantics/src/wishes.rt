@@ -6,7 +6,7 @@ ghost use Rattle.bus_semantics.specs.Wanted.{wanted_by, wanted_of};
 use crate::entries::{Deed, Entry, Wish};
 
 /// The wish of an entry: its deed without what the bus answered. `event` is the event that started the activation; an Admit
-/// and an End name it, and event 0 where it is None.
+/// and an End name it, and event 0 if it is None.
 pub fn wish_of(e: &Entry, event: Option<u32>) -> Wish
     ensures { wanted_of result ≡ wanted_by (unwrap_or event 0) e.now.deed }
 {

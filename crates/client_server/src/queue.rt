@@ -8,7 +8,7 @@ use circular_buffer::HeapCircularBuffer;
 /// The points whose requests wait, the oldest first; none for a direct server.
 pub(crate) type Waiting = Option<HeapCircularBuffer<u32>>;
 
-/// Puts a point behind those that wait. False where the queue is full; a direct server takes any.
+/// Puts a point behind those that wait. False if the queue is full; a direct server takes any.
 pub(crate) fn queue_up(waiting: &mut Waiting, point: u32) -> bool
     ensures answer { result ≡ has_place_in waiting.old }
     ensures kept { waiting.new ≡ after_queueing point waiting.old }

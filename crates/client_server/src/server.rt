@@ -65,7 +65,7 @@ impl Server {
         })
     }
 
-    /// Asks for a point (the beginning of Rte_Call). 130 RTE_E_LIMIT exactly where the point's earlier request is outstanding or
+    /// Asks for a point (the beginning of Rte_Call). 130 RTE_E_LIMIT exactly if the point's earlier request is outstanding or
     /// the queue is full, else 0.
     pub fn ask(&mut self, point: u32, value: &Value) -> Code
         requires { point < length self.old.points }
@@ -79,7 +79,7 @@ impl Server {
         OK
     }
 
-    /// Starts a queued server with the oldest request that waits. None exactly where none waits or one is being served.
+    /// Starts a queued server with the oldest request that waits. None exactly if none waits or one is being served.
     pub fn start(&mut self) -> Option<Request>
         requires { IsSome self.old.queue }
         ensures answer { result ≡ starting self.old }
@@ -115,7 +115,7 @@ impl Server {
         self.serving.is_none() && has_first(&self.waiting)
     }
 
-    /// Starts a direct server with the request of a point. None exactly where the point has none that has not started.
+    /// Starts a direct server with the request of a point. None exactly if the point has none that has not started.
     pub fn start_direct(&mut self, point: u32) -> Option<Value>
         requires within { point < length self.old.points }
         requires direct { self.old.queue ≡ None }
@@ -136,7 +136,7 @@ impl Server {
         self.serving
     }
 
-    /// Returns to a point. False where its request has not started or has a reply; then nothing changes. The return events of that
+    /// Returns to a point. False if its request has not started or has a reply; then nothing changes. The return events of that
     /// point are then pending.
     pub fn reply(&mut self, point: u32, outcome: &Outcome) -> bool
         requires { point < length self.old.points }
@@ -156,7 +156,7 @@ impl Server {
         true
     }
 
-    /// Takes what was returned to a point, for a caller that waits for it (the end of Rte_Call). None exactly where nothing was
+    /// Takes what was returned to a point, for a caller that waits for it (the end of Rte_Call). None exactly if nothing was
     /// returned that is not yet taken. Then no request of the point is outstanding.
     pub fn answer(&mut self, point: u32) -> Option<Outcome>
         requires { point < length self.old.points }
@@ -170,7 +170,7 @@ impl Server {
         outcome
     }
 
-    /// Takes what was returned to a point (Rte_Result). None exactly where nothing was returned that is not yet taken. Then no
+    /// Takes what was returned to a point (Rte_Result). None exactly if nothing was returned that is not yet taken. Then no
     /// request of the point is outstanding.
     pub fn result(&mut self, point: u32) -> Option<Outcome>
         requires { point < length self.old.points }

@@ -39,7 +39,7 @@ fn is_init(p: &BusPlan, event: u32) -> bool
     }
 }
 
-/// Appends a number where it passes.
+/// Appends a number if it passes.
 fn push_where(numbers: &mut Vec<u32>, number: u32, passes: bool) -> Result<(), Memory>
     ensures { OnOk result (numbers.new.items ≡ (if passes then numbers.old.items ++ number ∷ [] else numbers.old.items)) }
 {

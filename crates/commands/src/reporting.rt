@@ -1,4 +1,4 @@
-//! What is said where nothing is carried out.
+//! What is said if nothing is carried out.
 
 ghost use Rattle.std.specs.Prelude.{◌≡◌, ◌<◌, ◌^◌, [], IfOk};
 ghost use Rattle.commands.specs.declared.stop.Stop.TheVariants as stop;

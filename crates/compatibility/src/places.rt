@@ -15,7 +15,7 @@ fn put_number(text: &mut Vec<u8>, number: usize) -> Result<(), Memory>
     Ok(())
 }
 
-/// The JSON pointer of a position in a list of a composition, where the list has this key.
+/// The JSON pointer of a position in a list of a composition, if the list has this key.
 pub fn in_composition(
     alloc: Global,
     composition: usize,

@@ -9,7 +9,7 @@
 //! (`declared_names`); programs are read by `program_reading`, and in a server the program's first variables are the
 //! arguments of its operation and `error`. The typed values are those of `description_types`.
 //!
-//! A reading is there for every value (`specs/Descriptions.antt`), with defaults where the rules leave nothing to be read.
+//! A reading is there for every value (`specs/Descriptions.antt`), with defaults if the rules leave nothing to be read.
 //! Each name is looked up by hash, so reading grows linearly with the file.
 //!
 //! # Decisions

@@ -25,7 +25,7 @@ impl FromValue<()> for Word {
     }
 }
 
-/// The initial value, where there is one.
+/// The initial value, if there is one.
 pub fn init_value(alloc: Global, value: &Value) -> Result<Option<Seq<Word>>, Memory>
     ensures { IfOk result (λ words. words ≡ init_value_reading (view value.now)) }
 {

@@ -97,7 +97,7 @@ fn check(alloc: Global, description: &Description) -> Result<(), Refused>
     check_initials(alloc, description)
 }
 
-/// The description, where its types and initial values break no rule.
+/// The description, if its types and initial values break no rule.
 fn checked(alloc: Global, description: Description) -> Result<Description, Refused>
     ensures read { IfOk result (λ d. description_of d ≡ description_of description) }
     ensures judged { Tells (typed_refusal (description_of description)) result }
@@ -111,10 +111,10 @@ fn checked(alloc: Global, description: Description) -> Result<Description, Refus
     }
 }
 
-/// The description that the bytes are, where they break none of rules 1 to 8: those of `judge` of `description_places`, those
+/// The description that the bytes are, if they break none of rules 1 to 8: those of `judge` of `description_places`, those
 /// of `check_types` of `interface_types`, and that an initial value of a data element or variable has as many words as its
 /// type, each within its limits (8, at the initial value). `Rule` names the least rule that they break, with its first
-/// place; `Memory` is answered where memory ran out, and never tells anything of the bytes. They are read as fewer values than
+/// place; `Memory` is answered if memory ran out, and never tells anything of the bytes. They are read as fewer values than
 /// 32 bits number, as bytes fewer than that are, so each name stands at a position of 32 bits. What is read is the one typed
 /// reading of the JSON value: names that refer are positions, missing keys have their defaults, and a server's first variables are
 /// its operation's arguments and `error`.

@@ -108,7 +108,7 @@ fn check_program_rules(alloc: Global, d: &Description) -> Result<(), Refused>
     check_program_rule(alloc, 20, d)
 }
 
-/// The rules of programs one by one only where one of them is broken, since each looks at all programs.
+/// The rules of programs one by one only if one of them is broken, since each looks at all programs.
 #[tactic(auto, using(crate::proofs::Passing::programs_pass))]
 fn check_programs(alloc: Global, d: &Description) -> Result<(), Refused>
     requires { types_fit d.now.types ≡ true }

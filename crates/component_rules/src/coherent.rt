@@ -184,7 +184,7 @@ impl Items<'_> {
     }
 }
 
-/// The first list of a runnable that does not fit. Where there is none, nothing is counted.
+/// The first list of a runnable that does not fit. If there is none, nothing is counted.
 fn incoherent_among(
     alloc: Global,
     types: &TypeTable,

@@ -88,7 +88,7 @@ fn put_path(text: &mut Vec<u8>, path: &[usize]) -> Result<(), Memory>
     Ok(())
 }
 
-/// The JSON pointer of a statement of a program, or of the whole program where the path is empty.
+/// The JSON pointer of a statement of a program, or of the whole program if the path is empty.
 pub fn program_text(
     alloc: Global,
     component: usize,

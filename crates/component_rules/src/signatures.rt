@@ -191,7 +191,7 @@ fn access_sig(
 
 /// The signature of a runnable of a component with these accesses, in their order: the limits of each word or argument that
 /// goes through each access, and how many modes a mode port has (SWS_RTE: the signatures of Rte_Write, Rte_Read, Rte_Call and
-/// the like). What an access gives or takes is none where it does not fit its port, or names nothing. The types fit, as those of
+/// the like). What an access gives or takes is none if it does not fit its port, or names nothing. The types fit, as those of
 /// each description that is read: so no group has more than 32 modes.
 pub fn signature_of(
     alloc: Global,

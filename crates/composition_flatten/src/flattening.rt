@@ -89,7 +89,7 @@ fn check_connectors(alloc: Global, d: &Description) -> Result<(), Refused>
 
 /// A description made flat: its component instances, depth first, and exactly the pairs of data elements, operations and
 /// mode elements that connectors join, each once and in order (VFB: connectors). `Rule` names the least of the rules 9 to
-/// 11 that the description breaks, with its first place; `Memory` is answered where memory ran out, and never tells anything
+/// 11 that the description breaks, with its first place; `Memory` is answered if memory ran out, and never tells anything
 /// of the description.
 ///
 /// Positions that are out of range lead nowhere, so any description may be given whose interfaces have fewer items than 32 bits

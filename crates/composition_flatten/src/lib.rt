@@ -10,7 +10,7 @@
 //! them. The definition speaks of chains alone; that both are the same is proved.
 //!
 //! **How are joined pairs kept until all are found?** In a list, as they come, and not in a tree: a tree took 930 instructions for
-//! each pair. The pairs of one provided port are put in order as soon as those of another port come. Where the ports come in
+//! each pair. The pairs of one provided port are put in order as soon as those of another port come. If the ports come in
 //! order, the whole list is in order then, and what is left is to see that it is. A pair that two compositions join stands in the
 //! list twice until the list is put in order. This is also done when it reaches twice the limit, so it never gets longer.
 #![tactic(auto)]

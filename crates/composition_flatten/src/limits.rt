@@ -110,7 +110,7 @@ fn keeps_counts(alloc: Global, d: &Description, levels: &[Vec<u32>]) -> Result<b
     Ok(!is_deep)
 }
 
-/// The joins in order, or none where there are more than the limit.
+/// The joins in order, or none if there are more than the limit.
 fn joins_within(alloc: Global, tree: &Tree) -> Result<Option<Vec<Join>>, Memory>
     requires is_tree { IsTree tree.now }
     requires counts { KeepsCounts tree.now.d.now }
@@ -131,7 +131,7 @@ fn joins_within(alloc: Global, tree: &Tree) -> Result<Option<Vec<Join>>, Memory>
     Ok(Some(joins))
 }
 
-/// The joins of a description with few enough instances, in order, or none where there are more than the limit.
+/// The joins of a description with few enough instances, in order, or none if there are more than the limit.
 fn joins_over(
     alloc: Global,
     d: &Description,

@@ -82,7 +82,7 @@ fn list_prototype(
     }
 }
 
-/// The instances of the root that stand at most 8 deep. Those of a composition are looked for only where it has some.
+/// The instances of the root that stand at most 8 deep. Those of a composition are looked for only if it has some.
 pub fn list_instances(
     alloc: Global,
     d: &Description,

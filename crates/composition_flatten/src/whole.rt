@@ -33,7 +33,7 @@ use std::alloc::Global;
 /// A number that no composition has: the links of none are taken first.
 const NO_COMPOSITION: u32 = u32::MAX;
 
-/// The links that a composition's assemblies make, with instances numbered from its first one on. Where there are more
+/// The links that a composition's assemblies make, with instances numbered from its first one on. If there are more
 /// than the limit, some may be missing.
 #[derive(Drop)]
 pub struct Own {
@@ -183,7 +183,7 @@ fn add_node(
     Ok(is_full)
 }
 
-/// Adds the links of each of these, where some composition's links were taken last.
+/// Adds the links of each of these, if some composition's links were taken last.
 fn add_each_node(
     alloc: Global,
     tree: &Tree,
@@ -359,7 +359,7 @@ fn add_each_outer(
     Ok(false)
 }
 
-/// Adds the links of all ports of the root. A port has some only where a connector delegates it.
+/// Adds the links of all ports of the root. A port has some only if a connector delegates it.
 fn add_outers(
     alloc: Global,
     tree: &Tree,

@@ -38,7 +38,7 @@ fn contains_itself(alloc: Global, d: &Description, composition: usize) -> Result
     Ok(is_held_by_any(d, below.as_slice(), composition))
 }
 
-/// Whether a composition contains itself, directly or through others. Where the ranks are right, its rank may show at once
+/// Whether a composition contains itself, directly or through others. If the ranks are right, its rank may show at once
 /// that it does not.
 fn is_in_itself(
     alloc: Global,

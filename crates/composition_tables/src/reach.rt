@@ -16,7 +16,7 @@ fn number_at(list: &[usize], place: usize) -> Option<usize>
     list.get(place).copied()
 }
 
-/// The composition that a prototype is of, where it is a declared one.
+/// The composition that a prototype is of, if it is a declared one.
 pub fn declared_composition(d: &Description, prototype: &Prototype) -> Option<usize>
     ensures { result ≡ declared_composition d.now prototype.now }
 {

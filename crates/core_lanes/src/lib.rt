@@ -8,7 +8,7 @@
 //! it can't tell what they will make, and a gate can see when it leaves.
 //!
 //! **Who counts the turns of a core in a round?** The core itself, in a count that only a turn changes (`Stay`). The seat can't:
-//! where all of a core sleeps, a turn makes no look, and leaves the seat as it was. What the seat knows of looks and tries bears
+//! if all of a core sleeps, a turn makes no look, and leaves the seat as it was. What the seat knows of looks and tries bears
 //! the count out.
 //!
 //! **Why lanes?** A lane is a core and its seat, lent to one thread. What each lane is afterwards is known by the contract of the

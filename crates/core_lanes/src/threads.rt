@@ -8,7 +8,7 @@ use bus_semantics::BusPlan;
 use cross_core_table::Round;
 use task_machine::TaskSet;
 
-/// Is called only where values of the type may be moved to another thread.
+/// Is called only if values of the type may be moved to another thread.
 fn passes<T: Send>() {}
 
 /// Values of the type may be shared with other threads.

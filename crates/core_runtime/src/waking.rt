@@ -22,7 +22,7 @@ use port_objects::{
     touched_object, wakes, woken,
 };
 
-/// Wakes an event at a seat, where it sleeps and may start now.
+/// Wakes an event at a seat, if it sleeps and may start now.
 fn wake_seat(object: &Object, event: u32, seat: &Seat, awake: &mut Vec<Awake>)
     requires there { IsThere awake.old.items seat.now }
     ensures woken { AreWoken awake.old.items awake.new.items }

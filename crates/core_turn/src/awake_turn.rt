@@ -22,9 +22,9 @@ use task_machine::TaskSet;
 /// runnable activation). Its entry goes to the end of the list, which has room for it, and the core's trace stays. It takes
 /// no memory.
 ///
-/// Where the bench tells its objects, what sleeps is held by them as they are before the turn, and so is what it puts to
-/// sleep, except those that wait at the area which its entry touched. Where it tells none, what sleeps is a guess: an entry
-/// is one that `turn` may make, and `NothingNow` says only that nothing of what is awake may come. Where the bench tells its
+/// If the bench tells its objects, what sleeps is held by them as they are before the turn, and so is what it puts to
+/// sleep, except those that wait at the area which its entry touched. If it tells none, what sleeps is a guess: an entry
+/// is one that `turn` may make, and `NothingNow` says only that nothing of what is awake may come. If the bench tells its
 /// work, each look that it takes to see this answered NotYet. It makes what a turn makes that looks at all. What sleeps has to be
 /// held by the objects: no event that sleeps may start; in a slot that sleeps nothing runs and none of its events may start, or
 /// its machine's next phase may not come, or its activation waits for an answer that may not come, or at an area that it may not

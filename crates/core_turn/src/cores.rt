@@ -64,7 +64,7 @@ impl Core {
         })
     }
 
-    /// Room in the trace for so many more entries. Where there is no memory for it, the trace keeps its entries and its
+    /// Room in the trace for so many more entries. If there is no memory for it, the trace keeps its entries and its
     /// room.
     pub fn make_room(&mut self, _alloc: Global, n: u32) -> Result<(), Memory>
         ensures room { OnOk result (n ≤ self.new.room) }

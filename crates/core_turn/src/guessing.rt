@@ -8,7 +8,7 @@ ghost use Rattle.core_turn.specs.Awake.{Fits};
 use crate::awake::Awake;
 use crate::cores::Core;
 
-/// Where nobody tells what others change, what sleeps is a guess: if nothing of what is awake steps, a turn looks at all.
+/// If nobody tells what others change, what sleeps is a guess: if nothing of what is awake steps, a turn looks at all.
 impl Awake {
     /// Wakes the event at a place of a slot of the core, if there is such a place.
     pub fn wake_at(&mut self, c: &Core, slot: usize, place: usize)

@@ -63,7 +63,7 @@ pub fn cores_stand_beside_one_another()
         one.number ≢ other.number → slice_get one.slots at ≡ Some slot → IsOwn p slot e.actor → CoreStands p t g other → CoreStands p t (e ∷ g) other }
 {}
 
-/// Where cores and objects are lawful for a history, and a turn of a core over a bench that tells these objects makes
+/// If cores and objects are lawful for a history, and a turn of a core over a bench that tells these objects makes
 /// nothing, the core rests: no next wish of a running activation of its tasks may follow the history, no start of a direct one
 /// that is called, no start by an event of a free task, and no phase of its mode machines.
 pub fn nothing_now_is_rest_of_the_core()
@@ -88,7 +88,7 @@ pub fn resting_cores_are_at_rest()
 }
 
 /// After an entry that is no Leave no activation need be woken that waits at the area which it touched: nobody may enter that
-/// now (SWS_RTE: Rte_Enter). And where none is left to be told of an entry, it is so whatever the next one touches.
+/// now (SWS_RTE: Rte_Enter). And if none is left to be told of an entry, it is so whatever the next one touches.
 pub fn waiters_sleep_on()
     ensures touched { (p : Plan) (t : TaskSet) (objects : List Object) (object : ℕ) (before after : Object) (n : Noted) (of : List Slot) (first : ℕ) (a : AwakeState) →
         slice_get objects object ≡ Some before → lead p object (kept_of before) n ≡ Some (kept_of after) → is_leave n.entry.deed ≡ false →

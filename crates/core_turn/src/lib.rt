@@ -37,7 +37,7 @@
 //! **Why are there two turns?** `turn` looks at every task and says what a turn is. `turn_of_awake` looks at what is awake and
 //! makes the same; the node calls that one. `Awake`, `Core::tasks` and `Core::events` serve it. Below them is one look: `look_at`
 //! of `task_slots` asks which events are awake (`Hints`: `All`, or a `PlaceSet`), and its contract is one, since what differs is a
-//! number, how many looks are counted (`looks_awake`), and a premise that is void where nothing sleeps (`EventsHeld`).
+//! number, how many looks are counted (`looks_awake`), and a premise that is void if nothing sleeps (`EventsHeld`).
 //!
 //! **Why is the pass over slots not one in the same way?** What is kept of events that sleep depends on these events alone. What
 //! is kept of slots does not: a slot that waits at an area may sleep since another one that is awake comes before it in the order

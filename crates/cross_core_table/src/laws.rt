@@ -18,7 +18,7 @@ pub fn each_step_keeps_the_rule()
     ensures joins { JoinsKeep }
 {}
 
-/// Where the first seat has taken in every other, the entries of the round in order of stamps are an interleaving of what the
+/// If the first seat has taken in every other, the entries of the round in order of stamps are an interleaving of what the
 /// cores made; all objects are at home; and whatever entries an object stood for at the opening, it stands for these and the
 /// entries of the round that touch it, each of which is what the bus answers after those before it.
 pub fn rounds_end_whole()

@@ -85,7 +85,7 @@ pub(crate) fn stamp_on(
     stamp_on_as::<Brand>(top, place, object, entry, event)
 }
 
-/// The same, where the entry is named.
+/// The same, if the entry is named.
 fn stamp_on_as<N: Names>(
     top: &Top,
     place: &mut Place,
@@ -120,7 +120,7 @@ pub(crate) fn stamp_off(top: &Top, place: &mut Place, entry: &Entry) -> u64
     stamp_off_as::<Brand>(top, place, entry)
 }
 
-/// The same, where the entry is named.
+/// The same, if the entry is named.
 fn stamp_off_as<N: Names>(top: &Top, place: &mut Place, entry: &Entry) -> u64
     requires named { N.entry ≡ entry.now }
     requires table { place.old.table_id ≡ top.now.table_id }

@@ -2,10 +2,10 @@
 
 use crate::{CoreSeat, Round};
 
-/// Is called only where values of the type may be moved to another thread.
+/// Is called only if values of the type may be moved to another thread.
 fn passes<T: Send>() {}
 
-/// Is called only where values of the type may be shared with other threads.
+/// Is called only if values of the type may be shared with other threads.
 fn is_shared<T: Sync>() {}
 
 /// Seats pass, and the round is shared.

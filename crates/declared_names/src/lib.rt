@@ -1,7 +1,7 @@
 //! What the names of a description mean: the lists that declare them, and where a name stands in its list.
 //!
 //! `scope_of` gathers the names of a description's types, interfaces, components and compositions, `component_names` those
-//! of one component. A name stands at the position of the first item of this name, and at the number of items where none
+//! of one component. A name stands at the position of the first item of this name, and at the number of items if none
 //! has it. Names are looked up by hash, in maps that are built once for each list that declares them. Beside them stands
 //! what is taken from a JSON value: a key that is missing or of another kind counts as empty, zero or false.
 //!

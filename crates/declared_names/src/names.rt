@@ -35,7 +35,7 @@ impl<'a> Model for Positions<'a> {
 }
 
 impl<'a> Positions<'a> {
-    /// The positions of these names, of which there are fewer than 2^32; the first one's where a name is doubled.
+    /// The positions of these names, of which there are fewer than 2^32; the first one's if a name is doubled.
     pub fn of(alloc: Global, names: Vec<&'a str>) -> Result<Positions<'a>, Memory>
         requires { length names.items < 2 ^ 32 }
         ensures { IfOk result (λ p. p ≡ map text_of names.entry.items) }
@@ -68,7 +68,7 @@ impl<'a> Positions<'a> {
         self.count
     }
 
-    /// Where the name stands, and how many names there are where it is none of them.
+    /// Where the name stands, and how many names there are if it is none of them.
     pub fn find(&self, name: &str) -> u32
         ensures { result ≡ position_in self.now name.now }
     {
@@ -79,7 +79,7 @@ impl<'a> Positions<'a> {
     }
 }
 
-/// Where the name stands in the list of this position, and 0 where there is no such list.
+/// Where the name stands in the list of this position, and 0 if there is no such list.
 pub fn find_at(lists: &[Positions], position: u32, name: &str) -> u32
     ensures { result ≡ position_at lists.now position name.now }
 {

@@ -43,7 +43,7 @@ pub fn items_of_part(value: &Value, part: usize) -> &[Value]
     }
 }
 
-/// The item at this position, where there is one.
+/// The item at this position, if there is one.
 #[tactic(auto, using(crate::proofs::Lists::item_seen))]
 pub fn item<'a>(values: &'a [Value], position: u32) -> Option<&'a Value>
     ensures { option_map seen result ≡ slice_get (map view values.now) position }
@@ -54,7 +54,7 @@ pub fn item<'a>(values: &'a [Value], position: u32) -> Option<&'a Value>
     }
 }
 
-/// The value at the key, and the other where there is none.
+/// The value at the key, and the other if there is none.
 pub fn value_at<'a>(value: &'a Value, key: &str, other: &'a Value) -> &'a Value
     ensures { view result.now ≡ unwrap_or (get key.now (view value.now)) (view other.now) }
 {
@@ -153,14 +153,14 @@ fn below(limit: u64, other: u64, number: Option<u64>) -> u64
     }
 }
 
-/// The number at the key, of 8 bits, and 0 where it is none.
+/// The number at the key, of 8 bits, and 0 if it is none.
 pub fn small_number_at(value: &Value, key: &str) -> u8
     ensures { result ≡ number_at (2 ^ 8) 0 key.now (view value.now) }
 {
     below(0x100, 0, value.get(key).and_then(Value::as_u64)) as u8
 }
 
-/// The number at the key, of 32 bits, and the other where it is none.
+/// The number at the key, of 32 bits, and the other if it is none.
 pub fn number_at(value: &Value, key: &str, other: u32) -> u32
     ensures { result ≡ number_at (2 ^ 32) other key.now (view value.now) }
 {
@@ -171,7 +171,7 @@ pub fn number_at(value: &Value, key: &str, other: u32) -> u32
     ) as u32
 }
 
-/// The number that the part of the array is, of 32 bits, and 0 where it is none.
+/// The number that the part of the array is, of 32 bits, and 0 if it is none.
 pub fn number_of_part(value: &Value, part: usize) -> u32
     ensures { result ≡ number_of_part (2 ^ 32) 0 part (view value.now) }
 {

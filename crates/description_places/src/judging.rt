@@ -19,8 +19,8 @@ use rte_text::{Memory, Refusal, Refused, Text};
 use serde_json::{Category, Value};
 use std::alloc::Global;
 
-/// The JSON value of a description's bytes, where they break none of rules 1 to 5. `Rule` names the least rule that they
-/// break, with its first place; `Memory` is answered where memory ran out, and never tells anything of the bytes. Its bytes are
+/// The JSON value of a description's bytes, if they break none of rules 1 to 5. `Rule` names the least rule that they
+/// break, with its first place; `Memory` is answered if memory ran out, and never tells anything of the bytes. Its bytes are
 /// JSON (1), each value has the shape of its kind (2), and each name the form of a name (3); what one list declares is distinct
 /// (4), and what each name refers to is declared (5).
 pub fn judge(alloc: Global, bytes: &[u8]) -> Result<Value, Refused>
@@ -41,7 +41,7 @@ pub fn judge(alloc: Global, bytes: &[u8]) -> Result<Value, Refused>
     }
 }
 
-/// Rules 2 and 3 are looked at together, and one after the other only where one of them is broken.
+/// Rules 2 and 3 are looked at together, and one after the other only if one of them is broken.
 #[tactic(auto, using(crate::proofs::Judged::refusal_is_of_names))]
 fn refusal_of(alloc: Global, value: &Value) -> Result<Option<Refusal>, Memory>
     ensures { IfOk result (λ found. option_map {U = ℕ × List ℕ} (λ r. (r.rule, r.place)) found ≡ refusal (view value.now)) }

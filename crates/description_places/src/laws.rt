@@ -11,7 +11,7 @@ ghost use Rattle.description_places.specs.References.{breaks_references};
 ghost use Rattle.description_places.specs.Rules.{refusal, visits_of, declarations_of, breaks_shape, breaks_names};
 
 /// A key tells its list and its name there, since what stands there as a name has no `/` (47): neither has a name, nor the
-/// parts of an access, nor a position in a task, where their parts are names. And the text of such an access tells its
+/// parts of an access, nor a position in a task, if their parts are names. And the text of such an access tells its
 /// parts, and that of a position the task and the number.
 pub fn keys_tell_lists_and_names()
     ensures told { (list other name another : List ℕ) →

@@ -4,14 +4,14 @@
 //! parts of each kind of array with a fixed number of them (`row_of`), and the words that name a kind (`choices_of`). From
 //! them come the *visits* of a description: each value in document order, an object before what it holds, its values in
 //! the order of the table and an array's parts in the order in which they stand, each with its kind, its place and the
-//! values round it. A rule is a test of one visit. Where a visit fails it, the rule is broken at the visit's place; the
+//! values round it. A rule is a test of one visit. If a visit fails it, the rule is broken at the visit's place; the
 //! refusal is the least rule that is broken, with the first place at which it is. One walk, `first_fault`, serves every
 //! rule of this form.
 //!
 //! - Rule 1: the bytes are a value that `serde_json` reads. The place is `/`, the whole.
 //! - Rule 2: each value has the shape of its kind; no key is missing or unknown (the place is the object). A statement,
 //!   access or operator with an unknown keyword or a wrong number of parts is broken itself, a part of a wrong kind at
-//!   its own place; of an interface, event or connector of unknown `kind` the `kind` is broken, but the object where a
+//!   its own place; of an interface, event or connector of unknown `kind` the `kind` is broken, but the object if a
 //!   key is missing that every kind has or one stands there that no kind has.
 //! - Rule 3: each name has 1 to 32 bytes, a letter, then letters, digits and `_`.
 //! - Rule 4: the names that one list declares are distinct; components and compositions count as one list, com specs of

@@ -33,7 +33,7 @@ fn check(alloc: Global, description: &Description, flat: &Flat) -> Result<(), Re
     }
 }
 
-/// The description made flat, where what is joined may be joined.
+/// The description made flat, if what is joined may be joined.
 fn join(alloc: Global, description: &Description) -> Result<Flat, Refused>
     requires { HasFewItems description.now }
     ensures flat { IfOk result (IsFlatOf description.now) }
@@ -47,9 +47,9 @@ fn join(alloc: Global, description: &Description) -> Result<Flat, Refused>
     }
 }
 
-/// The description that the bytes are, made flat, where it breaks none of rules 1 to 15: those of `read_description` of
+/// The description that the bytes are, made flat, if it breaks none of rules 1 to 15: those of `read_description` of
 /// `component_model`, of `flatten` of `composition_flatten` and of `check_joins` of `compatibility`. `Rule` names the least
-/// rule that is broken, with its first place; `Memory` is answered where memory ran out, and never tells anything of the
+/// rule that is broken, with its first place; `Memory` is answered if memory ran out, and never tells anything of the
 /// bytes. They are read as fewer values than 32 bits number.
 pub fn join_description(alloc: Global, bytes: &[u8]) -> Result<JoinedDescription, Refused>
     requires { AreFew bytes.now }

@@ -47,9 +47,9 @@ fn planned(alloc: Global, joined: JoinedDescription) -> Result<PlannedDescriptio
     }
 }
 
-/// The description that the bytes are, made flat, with its plan and its mapping, where it breaks none of rules 1 to 31: those
+/// The description that the bytes are, made flat, with its plan and its mapping, if it breaks none of rules 1 to 31: those
 /// of `join_description`, and those of `map_events` of `event_mapping`. The plan is sound with the mapping. `Rule` names the
-/// least rule that is broken, with its first place; `Memory` is answered where memory ran out, and never tells anything of
+/// least rule that is broken, with its first place; `Memory` is answered if memory ran out, and never tells anything of
 /// the bytes. They are read as fewer values than 32 bits number.
 pub fn plan_description(alloc: Global, bytes: &[u8]) -> Result<PlannedDescription, Refused>
     requires { AreFew bytes.now }

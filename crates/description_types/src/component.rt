@@ -51,7 +51,7 @@ pub struct Variable {
     pub short_name: Text,
     /// The position of its data type.
     pub of_type: u32,
-    /// The words before the first write; None where the description gives none.
+    /// The words before the first write; None if the description gives none.
     pub init_value: Option<Seq<Word>>,
 }
 
@@ -59,7 +59,7 @@ pub struct Variable {
 #[derive(Drop)]
 pub struct Runnable {
     pub short_name: Text,
-    /// False where the description does not say.
+    /// False if the description does not say.
     pub can_be_invoked_concurrently: bool,
     pub accesses: Seq<Access>,
     /// Its coherent access lists: the items of each are fetched at one moment, or published at one.
@@ -136,7 +136,7 @@ pub enum EventKind {
 }
 
 /// The moment of a mode switch at which an event comes (ModeActivationKind), with its modes by number. A mode that the port's
-/// group does not have has the number of modes of that group, and 0 where the port has no modes.
+/// group does not have has the number of modes of that group, and 0 if the port has no modes.
 #[derive(Clone, Copy, Debug, PartialEq, Eq)]
 pub enum ModeActivation {
     OnEntry(u32),

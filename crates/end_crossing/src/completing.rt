@@ -47,7 +47,7 @@ fn note_known(side: &mut Side, gate: Gate, interface: u32, ends: Vec<PortEnd>) -
     Ok(())
 }
 
-/// The ends of an interface below a gate, cut short where there are more than there may be links.
+/// The ends of an interface below a gate, cut short if there are more than there may be links.
 fn found_of(alloc: Global, tree: &Tree, gate: Gate, interface: u32) -> Result<Found, Memory>
     requires is_tree { IsTree tree.now }
     requires shallow { IsShallow gate }
@@ -62,7 +62,7 @@ fn found_of(alloc: Global, tree: &Tree, gate: Gate, interface: u32) -> Result<Fo
     Ok(found)
 }
 
-/// All ends of an interface below a gate, or none where there are more than there may be links.
+/// All ends of an interface below a gate, or none if there are more than there may be links.
 fn ends_of(
     alloc: Global,
     tree: &Tree,

@@ -25,7 +25,7 @@ use indexmap::IndexSet;
 use rte_text::Memory;
 use std::alloc::Global;
 
-/// How many ends are looked for at most before all of them are: as many as a list of links has when each is kept once. So where there
+/// How many ends are looked for at most before all of them are: as many as a list of links has when each is kept once. So if there
 /// are more, their links mostly fill the list, and it is known that there are too many.
 const ENDS_LIMIT: usize = 2 * LINK_LIMIT;
 
@@ -102,7 +102,7 @@ fn seconds_below(
 }
 
 /// Adds the links of the ports that were found below two gates. The answer is whether there are more links now than the limit
-/// on them; none where a search was cut short, and that is not known yet.
+/// on them; none if a search was cut short, and that is not known yet.
 fn cross_found(
     alloc: Global,
     d: &Description,
@@ -145,7 +145,7 @@ fn cross_found(
 }
 
 /// Adds the links of the ports below two gates, given which pairs of their interfaces share an item, after searches that
-/// are cut short past a limit. The answer is whether there are more links now than the limit on them; none where that is not
+/// are cut short past a limit. The answer is whether there are more links now than the limit on them; none if that is not
 /// known yet, which never is with the limit `usize::MAX`.
 fn add_within(
     alloc: Global,
@@ -212,7 +212,7 @@ fn add_whole(
     }
 }
 
-/// Adds the links of the ports below two gates, given which pairs of their interfaces share an item, where not all ports
+/// Adds the links of the ports below two gates, given which pairs of their interfaces share an item, if not all ports
 /// are at hand. More of those that share one than a list of links has mostly show that there are too many links.
 fn add_rest(
     alloc: Global,
@@ -243,7 +243,7 @@ fn add_rest(
     }
 }
 
-/// The same where not all ports are at hand. Those at hand are joined first: where there are more of them, there are mostly
+/// The same if not all ports are at hand. Those at hand are joined first: if there are more of them, there are mostly
 /// too many links.
 fn add_cut(
     alloc: Global,

@@ -53,7 +53,7 @@ const SIDE_LIMIT: usize = 4_194_304;
 /// How many crossings are noted until gates are split no more.
 const CROSSED_LIMIT: usize = 524_288;
 
-/// Forgets what was found where it is of as many pairs as there may be links. So what is kept is bounded.
+/// Forgets what was found if it is of as many pairs as there may be links. So what is kept is bounded.
 fn make_room(matched: &mut Matched, d: &Description)
     requires { IsMatched d.now matched.old }
     ensures matched { IsMatched d.now matched.new }
@@ -163,7 +163,7 @@ impl<'a> Matched<'a> {
         self.crossed.contains(&crossing)
     }
 
-    /// Whether so many crossings are noted that gates are split no more. Where there are very many ways between ports, each of
+    /// Whether so many crossings are noted that gates are split no more. If there are very many ways between ports, each of
     /// them would be followed.
     pub fn has_crossed_much(&self) -> bool
         ensures { result ≡ nat_le 524288 (length self.now.crossed.keys) }
@@ -207,7 +207,7 @@ impl<'a> Matched<'a> {
         }
     }
 
-    /// Forgets what is below gates where it is much. So what is kept is bounded.
+    /// Forgets what is below gates if it is much. So what is kept is bounded.
     fn make_room_for(&mut self, d: &Description, more: usize)
         requires { IsMatched d.now self.old }
         ensures matched { IsMatched d.now self.new }

@@ -48,7 +48,7 @@ fn is_split(d: &Description, composition: u32, ports: &[InnerPort]) -> bool
     ports.len() <= SPLIT_LIMIT && leads_on(d, composition, ports)
 }
 
-/// The inner ports that a gate is split into, where it is.
+/// The inner ports that a gate is split into, if it is.
 pub fn parts_of<'a>(tree: &'a Tree, gate: Gate) -> Option<Parts<'a>>
     requires is_tree { IsTree tree.now }
     requires shallow { IsShallow gate }

@@ -193,7 +193,7 @@ fn add_interfaces(
     Ok(is_full)
 }
 
-/// Adds the links of the ports below two gates, given which pairs of their interfaces share an item, where all ports of these
+/// Adds the links of the ports below two gates, given which pairs of their interfaces share an item, if all ports of these
 /// interfaces are at hand.
 pub fn add_known(
     alloc: Global,

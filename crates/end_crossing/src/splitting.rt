@@ -132,7 +132,7 @@ fn cross_required_parts(
     Ok(false)
 }
 
-/// Adds the links of the ports below two gates. The one of less parts is split, where one is split at all.
+/// Adds the links of the ports below two gates. The one of less parts is split, if one is split at all.
 #[cycle(splitting)]
 fn cross_split(
     alloc: Global,

@@ -76,7 +76,7 @@ fn only_port(ports: &[InnerPort]) -> Option<InnerPort>
     }
 }
 
-/// The gate one delegation further down, where a port of a composition is delegated to one port alone.
+/// The gate one delegation further down, if a port of a composition is delegated to one port alone.
 fn further(tree: &Tree, gate: Gate) -> Option<Gate>
     requires is_tree { IsTree tree.now }
     requires shallow { IsShallow gate }

@@ -35,7 +35,7 @@ pub struct Wish {
     pub limit: usize,
 }
 
-/// The ends that a search has found; where it was cut short, there may be more.
+/// The ends that a search has found; if it was cut short, there may be more.
 #[derive(Drop)]
 pub struct Found {
     pub ends: IndexSet<PortEnd>,
@@ -432,7 +432,7 @@ fn ends_moved(alloc: Global, first: u32, near: &Found, limit: usize) -> Result<F
     })
 }
 
-/// The ends at or below a port of a composition, each once. Where many chains lead to one port, it is followed once.
+/// The ends at or below a port of a composition, each once. If many chains lead to one port, it is followed once.
 pub fn ends_below(
     alloc: Global,
     tree: &Tree,

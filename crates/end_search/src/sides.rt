@@ -31,7 +31,7 @@ use std::alloc::Global;
 pub struct Side<'a> {
     /// The interfaces of the ports.
     pub interfaces: IndexSet<u32>,
-    /// For each key of their items those that have it, where there are several interfaces. A single one needs no index.
+    /// For each key of their items those that have it, if there are several interfaces. A single one needs no index.
     pub index: Index<'a>,
     /// The ends, for each interface.
     pub groups: Groups,
@@ -67,7 +67,7 @@ fn interfaces_of(alloc: Global, ends: &[PortEnd]) -> Result<IndexSet<u32>, Memor
     Ok(interfaces)
 }
 
-/// The interfaces of the ends below a gate. Where not all ends were found, delegations are followed once more, whatever the
+/// The interfaces of the ends below a gate. If not all ends were found, delegations are followed once more, whatever the
 /// ends.
 fn interfaces_at(
     alloc: Global,
@@ -104,7 +104,7 @@ fn index_over<'a>(
     Ok(index)
 }
 
-/// What is below a gate where these ends were found, with its interfaces and for each of their keys those that have it.
+/// What is below a gate if these ends were found, with its interfaces and for each of their keys those that have it.
 fn side_with<'a>(
     alloc: Global,
     found: &Found,
@@ -128,7 +128,7 @@ fn side_with<'a>(
     })
 }
 
-/// What is below a gate where these ends were found.
+/// What is below a gate if these ends were found.
 fn side_over<'a>(
     alloc: Global,
     tree: &Tree,
@@ -201,7 +201,7 @@ fn pairs_of_required<'a>(
     list
 }
 
-/// The pairs of an interface of a provided side and one of a required side that share an item, where one side has several
+/// The pairs of an interface of a provided side and one of a required side that share an item, if one side has several
 /// interfaces. The side with less interfaces is walked, so that a large one costs nothing beside a small one.
 pub fn shared(
     alloc: Global,

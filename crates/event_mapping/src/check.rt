@@ -1,4 +1,4 @@
-//! The checks of a description made flat, and its plan and mapping where it keeps them.
+//! The checks of a description made flat, and its plan and mapping if it keeps them.
 
 ghost use Rattle.std.specs.Prelude.{◌≡◌, ◌≤◌, Err, IfOk, OnOk, Some, false, length, true};
 ghost use Rattle.plan_definitions.specs.Callings.{callings as all_callings};
@@ -36,7 +36,7 @@ fn size_refusal(alloc: Global) -> Refused
     }
 }
 
-/// The plan of these pieces, which may be so large, where each coherent access list fits. So lists are listed only where they fit.
+/// The plan of these pieces, which may be so large, if each coherent access list fits. So lists are listed only if they fit.
 fn coherent_plan(
     alloc: Global,
     source: &Source<'_>,
@@ -120,7 +120,7 @@ fn listed(
     }
 }
 
-/// The plan and the mapping, listed only where the counts do not tell that the plan is too large.
+/// The plan and the mapping, listed only if the counts do not tell that the plan is too large.
 fn planned(
     alloc: Global,
     d: &Description,
@@ -173,7 +173,7 @@ fn mapped_plan(alloc: Global, d: &Description, f: &Flat) -> Result<(BusPlan, Map
 ///   Every required queued element is a receiver, joined or not, the environment's too. Too many groups, events or points are
 ///   told from counts, before the plan and the mapping are listed, unless joins may put enough elements into common groups.
 /// - The coherent access lists of each component, used or not, fit, as `check_coherent` says (31, at the list). Lists are listed
-///   only where they do.
+///   only if they do.
 ///
 /// The types of the description fit and it has few parts, as a description has that is read from a file; and rule 10 holds: it has at
 /// most 1,024 instances and 65,536 joins. So 32 bits number what a plan numbers.

@@ -73,7 +73,7 @@ fn after_component(left: usize, types: &TypeTable, component: &Component) -> usi
     inner.saturating_sub(behavior.exclusive_areas.len())
 }
 
-/// The items of an instance of each component, `most` where there are more. Counted once for each component, however many
+/// The items of an instance of each component, `most` if there are more. Counted once for each component, however many
 /// instances it has.
 fn items_of_components(
     alloc: Global,
@@ -186,7 +186,7 @@ fn after_runnables(left: usize, runnables: &[Runnable]) -> usize
     rest
 }
 
-/// The points of an instance of each component, `most` where there are more. Counted once for each component, however many
+/// The points of an instance of each component, `most` if there are more. Counted once for each component, however many
 /// instances it has.
 fn points_of_components(
     alloc: Global,

@@ -7,7 +7,7 @@
 //! what bundling costs, at most a walk over all groups for each time that two bundles become one.
 //!
 //! **When are the coherent lists of a plan listed?** When rule 31 holds, which is looked at behind the rule on sizes. A file of 8
-//! MiB may name two million lists in a component of a thousand instances; where each fits, a runnable has at most half as many of
+//! MiB may name two million lists in a component of a thousand instances; if each fits, a runnable has at most half as many of
 //! them as implicit accesses. So the rule on sizes is judged from the plan's other pieces. No rule limits runnables, so very many
 //! of them in very many instances may still have very many lists (`bench/README.md` says what that costs).
 //!

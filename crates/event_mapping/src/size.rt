@@ -30,7 +30,7 @@ fn is_queued(kind: ElemKind) -> bool
     }
 }
 
-/// How long the queue of an element is, where it has one: only what is required and queued receives.
+/// How long the queue of an element is, if it has one: only what is required and queued receives.
 fn received(element: &ElemPlan) -> u32
     ensures { result ≡ received (elem_seen element.now) }
 {
@@ -92,7 +92,7 @@ fn after_queues(pieces: &Pieces) -> u32
     after_switches(requested, pieces.modes.machines.items())
 }
 
-/// How many groups, servers, areas and machines there are, with the clock. None where there may not be so many.
+/// How many groups, servers, areas and machines there are, with the clock. None if there may not be so many.
 fn thing_count(groups: usize, servers: usize, areas: usize, machines: usize) -> Option<u32>
     ensures { result ≡ few_things (object_count groups servers areas machines) }
 {

@@ -3,10 +3,10 @@
 use crate::{FeedQueue, Feeder, Feeding, Pump};
 use std::marker::Brand;
 
-/// Is called only where values of the type may be moved to another thread.
+/// Is called only if values of the type may be moved to another thread.
 fn passes<T: Send>() {}
 
-/// Is called only where values of the type may be shared with other threads.
+/// Is called only if values of the type may be shared with other threads.
 fn is_shared<T: Sync>() {}
 
 /// Feeders and the pump pass, and the queue is shared.

@@ -37,7 +37,7 @@ fn is_stop(heard: &Heard) -> bool
 }
 
 impl Progress {
-    /// With this line too. None where it passes a limit.
+    /// With this line too. None if it passes a limit.
     fn and(&self, heard: &Heard) -> Option<Progress>
         ensures some { IfSome result (λ more. (are_too_many more.lines more.wishes ≡ false) × IsWith self.now (heard_as heard.now) more) }
         ensures none { IfNone result (are_too_many (self.now.lines + 1) (self.now.wishes + how_many (heard_as heard.now)) ≡ true) }
@@ -54,7 +54,7 @@ impl Progress {
         })
     }
 
-    /// With this line too; or its least cause, where it is bad.
+    /// With this line too; or its least cause, if it is bad.
     pub(crate) fn judge(&self, heard: &Heard) -> Result<Progress, u8>
         ensures { IsJudged self.now (heard_as heard.now) result }
     {

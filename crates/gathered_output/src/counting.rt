@@ -1,7 +1,7 @@
 //! A writer that counts its faults.
 //!
-//! No clause says when a writer of the system fails. What is read here is that a fault is counted where a write fails or takes nothing
-//! of a piece, and nowhere else: then all that stands on this writer fails only where its count rises.
+//! No clause says when a writer of the system fails. What is read here is that a fault is counted if a write fails or takes nothing
+//! of a piece, and nowhere else: then all that stands on this writer fails only if its count rises.
 
 ghost use Rattle.std.specs.Prelude.{◌≡◌, ◌<◌, ◌≤◌, length, take};
 ghost use Rattle.std.specs.Io.KnownBytes.{Appends, Keeps};
@@ -33,7 +33,7 @@ fn written_of<W: Write>(out: &mut W, piece: &[u8]) -> usize
     written
 }
 
-/// A writer with a count of its faults, seen as the bytes that it has, where they are known, and the count. The count stands at its
+/// A writer with a count of its faults, seen as the bytes that it has, if they are known, and the count. The count stands at its
 /// last value, 2^64 - 1.
 #[derive(Drop)]
 pub struct CountedWriter<W: Write + Drop> {
@@ -58,7 +58,7 @@ impl<W: Write + Drop> CountedWriter<W> {
         CountedWriter { out, faults: 0 }
     }
 
-    /// Writes as many bytes of the piece as the writer takes, and returns how many these are. Where they are not all, there was a
+    /// Writes as many bytes of the piece as the writer takes, and returns how many these are. If they are not all, there was a
     /// fault. The writer has the first bytes of the piece, as many as were written, each once. Its count rises exactly if these
     /// are not all.
     pub fn write(&mut self, piece: &[u8]) -> usize
@@ -75,7 +75,7 @@ impl<W: Write + Drop> CountedWriter<W> {
         written
     }
 
-    /// Hands on what the writer itself has gathered. It fails where there was a fault. Then its count rises.
+    /// Hands on what the writer itself has gathered. It fails if there was a fault. Then its count rises.
     pub fn flush(&mut self) -> Put
         ensures contents { Keeps self.old.contents self.new.contents }
         ensures faults_never_fall { self.old.faults ≤ self.new.faults }

@@ -73,7 +73,7 @@ impl<W: Write + Drop> GatheringSink<W> {
         })
     }
 
-    /// Takes a piece behind what is left. It is written at once where the room is too small for it.
+    /// Takes a piece behind what is left. It is written at once if the room is too small for it.
     fn take(&mut self, piece: &[u8]) -> Put
         requires { ROOM < length self.old.left + length piece.now → self.old.left ≡ [] }
         ensures taken { TakesPiece result (taken self.old) (taken self.new) piece.now }
@@ -92,7 +92,7 @@ impl<W: Write + Drop> GatheringSink<W> {
         }
     }
 
-    /// Writes all that was taken. It fails where the writer had a fault; what was not written then is left. In both cases all that
+    /// Writes all that was taken. It fails if the writer had a fault; what was not written then is left. In both cases all that
     /// was taken is kept, and what the writer has is a prefix of it.
     pub fn finish(&mut self) -> Put
         ensures whole { result ≡ Done → self.new.left ≡ [] }

@@ -2,7 +2,7 @@
 //!
 //! What was taken is what the writer has and then what is left to be written. Claims on bytes speak of a writer whose bytes are
 //! known; those of standard output are not. Claims on what is left and on faults hold of every writer. No clause says when a
-//! writer of the system fails: that a fault is counted only where a write fails or takes nothing, or a flush fails, is read in
+//! writer of the system fails: that a fault is counted only if a write fails or takes nothing, or a flush fails, is read in
 //! `counting.rt`.
 //!
 //! # Decisions

@@ -11,7 +11,7 @@ use std::io::Write;
 use std::sync::Wait;
 use std::thread::Threads;
 
-/// Carries out the command, and writes all that it put. What could not be written at the end was not written: then, as where a put
+/// Carries out the command, and writes all that it put. What could not be written at the end was not written: then, as when a put
 /// fails, the status is `NotWritten`. That status comes only if the writer had a fault, any other only if nothing is left to be
 /// written and it had none.
 pub fn run_gathered<R: Threads + Wait + Sync, S: Shelf, W: Write + Drop, G: Gate>(

@@ -130,7 +130,7 @@ fn operation_place(alloc: Global, interface: usize, position: usize) -> Result<T
 /// Whether the types of a description keep their rules: the limits of a data type are in order and within the range of its
 /// base type (6, at the data type); an operation has at most 16 arguments, each of a type of one word and none named
 /// `error`, and its error codes are distinct (7, at the operation). An error of `Rule` names the least rule that is broken,
-/// with its first place; one of `Memory` comes only where a rule is broken, and there was no memory for the place.
+/// with its first place; one of `Memory` comes only if a rule is broken, and there was no memory for the place.
 ///
 /// An argument whose type is no position of the table breaks rule 7. No description that names declared types gives one.
 pub fn check_types(alloc: Global, t: &TypeTable) -> Result<(), Refused>

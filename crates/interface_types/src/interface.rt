@@ -97,14 +97,14 @@ pub struct ModeElement {
 pub struct ComSpec {
     /// The item, by its position in the interface of the port.
     pub element: u32,
-    /// The words before the first write; None where the description gives none.
+    /// The words before the first write; None if the description gives none.
     pub init_value: Option<Seq<Word>>,
-    /// A read before the first write answers that nothing was received. False where the description does not say.
+    /// A read before the first write answers that nothing was received. False if the description does not say.
     pub handle_never_received: bool,
-    /// How many values, requests or switches wait at most, 1 to 1,024. 1 where the description does not say.
+    /// How many values, requests or switches wait at most, 1 to 1,024. 1 if the description does not say.
     pub queue_length: u32,
     /// A mode switch need not wait, before its on-exit events, for what the next mode disables to end
-    /// (ModeSwitchReceiverComSpec). False where the description does not say.
+    /// (ModeSwitchReceiverComSpec). False if the description does not say.
     pub supports_asynchronous_mode_switch: bool,
 }
 

@@ -46,7 +46,7 @@ fn operation_hints(alloc: Global, operations: &[Operation]) -> Result<Hints<'_>,
     Ok(hints)
 }
 
-/// One of the items, with this name where the hints are right.
+/// One of the items, with this name if the hints are right.
 fn hinted<'a, T>(hints: Option<&Hints>, items: &'a [T], name: &Text) -> Option<&'a T>
     ensures { IfSome result (λ item. IsAmong items.now item.now) }
 {

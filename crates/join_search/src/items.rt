@@ -82,7 +82,7 @@ impl Search<'_> {
         }
     }
 
-    /// Whether no item of a port breaks the rule, which shows at once where no joined end of the port does.
+    /// Whether no item of a port breaks the rule, which shows at once if no joined end of the port does.
     fn is_kept_at(
         &self,
         rule: JoinRule,

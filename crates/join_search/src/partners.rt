@@ -134,7 +134,7 @@ fn has_several(kept: &IndexMap<Key, Partners>, item: &Item) -> bool
     }
 }
 
-/// What is kept of the partners of provided ends, and None where no required end has several: then nobody asks for it.
+/// What is kept of the partners of provided ends, and None if no required end has several: then nobody asks for it.
 fn kept_of_provided(
     alloc: Global,
     joins: &[Join],
@@ -155,7 +155,7 @@ fn kept_of_provided(
 pub struct Degrees<'a> {
     pub joins: &'a [Join],
     of_required: IndexMap<Key, Partners>,
-    /// None where no required end has several partners.
+    /// None if no required end has several partners.
     of_provided: Option<IndexMap<Key, Partners>>,
     ghost required: { AreKept side.Required joins.now of_required },
     ghost provided: { MayBeKept side.Provided joins.now of_provided },
@@ -176,7 +176,7 @@ impl Degrees<'_> {
         })
     }
 
-    /// Whether no required end has several provided ones, where that is known at once.
+    /// Whether no required end has several provided ones, if that is known at once.
     pub fn are_single(&self) -> bool
         ensures { IsTrue result → (e : End) → are_several (providers self.now.joins.now e) ≡ false }
     {

@@ -53,7 +53,7 @@ fn delegated(inner: Option<u32>, outer: &Port) -> Option<(u32, u32)>
     }
 }
 
-/// The interface of the provided port of a connector, and that of the required one. None where a port is missing.
+/// The interface of the provided port of a connector, and that of the required one. None if a port is missing.
 pub fn sides(
     d: &Description,
     composition: &Composition,

@@ -43,7 +43,7 @@ impl Latches {
         requires { All (λ g. g < count) groups.now }
         ensures { IfOk result (λ l. l ≡ map clear_in groups.now) }
     {
-        // Where all flags are set, each list is empty; clearing them then fills the lists.
+        // If all flags are set, each list is empty; clearing them then fills the lists.
         let mut latches = Latches {
             flags: all_set(alloc, groups)?,
             cleared: empty_lists(alloc, groups, count)?,

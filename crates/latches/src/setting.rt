@@ -21,7 +21,7 @@ pub(crate) fn set_flags(flags: &mut [Flag], cleared: &mut [Vec<usize>], group: u
     }
 }
 
-/// Sets a flag, and appends its name where it was clear.
+/// Sets a flag, and appends its name if it was clear.
 fn tell(flags: &mut [Flag], place: usize, names: &[u32], told: &mut Vec<u32>)
     requires within { place < length flags.old }
     requires named { length names.now ≡ length flags.old }

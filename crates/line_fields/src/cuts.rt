@@ -11,7 +11,7 @@ fn place_of(byte: u8, text: &[u8]) -> Option<usize>
     text.iter().position(|b| *b == byte)
 }
 
-/// The bytes before the first separator, and those after it. No such part after it where there is none.
+/// The bytes before the first separator, and those after it. No such part after it if there is none.
 pub fn cut(text: &[u8], separator: u8) -> (&[u8], Option<&[u8]>)
     ensures parts { IsCut separator text.now result }
     ensures shorter { IfSome result.1 (λ rest. length rest.now < length text.now) }

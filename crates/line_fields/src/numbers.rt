@@ -40,7 +40,7 @@ fn is_negated(text: &[u8]) -> bool
     }
 }
 
-/// Whether the text is a word: a number, which may have a minus sign where it is not zero.
+/// Whether the text is a word: a number, which may have a minus sign if it is not zero.
 pub fn is_word(text: &[u8]) -> bool
     ensures { result ≡ is_word text.now }
 {
@@ -51,7 +51,7 @@ pub fn is_word(text: &[u8]) -> bool
     }
 }
 
-/// The number that the text is. None where it has more than 32 bits.
+/// The number that the text is. None if it has more than 32 bits.
 pub fn number_in(text: &[u8]) -> Option<u32>
     requires { is_number text.now ≡ true }
     ensures found { IfSome result (λ n. n ≡ number_in text.now) }
@@ -66,7 +66,7 @@ pub fn number_in(text: &[u8]) -> Option<u32>
     }
 }
 
-/// The word that the text is. None where it has more than 64 bits.
+/// The word that the text is. None if it has more than 64 bits.
 pub fn word_in(text: &[u8]) -> Option<Word>
     requires { is_word text.now ≡ true }
     ensures found { IfSome result (λ w. w ≡ word_in text.now) }

@@ -36,7 +36,7 @@ pub fn is_value(text: &[u8]) -> bool
     text == b"-".as_slice() || are_words(text)
 }
 
-/// Appends the word that the text is. False where that cannot be held.
+/// Appends the word that the text is. False if that cannot be held.
 fn take_word(held: &mut ArrayVec<Word, MOST_WORDS>, text: &[u8]) -> bool
     requires { is_word text.now ≡ true }
     ensures { HasTaken held.old.items held.new.items (word_in text.now) result }
@@ -47,7 +47,7 @@ fn take_word(held: &mut ArrayVec<Word, MOST_WORDS>, text: &[u8]) -> bool
     }
 }
 
-/// Appends the words of the text. False where these cannot be held.
+/// Appends the words of the text. False if these cannot be held.
 fn take_words(held: &mut ArrayVec<Word, MOST_WORDS>, text: &[u8]) -> bool
     requires { list_all is_word (parts 44 text.now) ≡ true }
     ensures taken { result ≡ true → held.new.items ≡ held.old.items ++ map word_in (parts 44 text.now) }
@@ -67,7 +67,7 @@ fn take_words(held: &mut ArrayVec<Word, MOST_WORDS>, text: &[u8]) -> bool
     }
 }
 
-/// The value that the text is. None where it has more than 16 words, or a word of more than 64 bits.
+/// The value that the text is. None if it has more than 16 words, or a word of more than 64 bits.
 pub fn value_in(text: &[u8]) -> Option<Value>
     requires { is_value text.now ≡ true }
     ensures found { IfSome result (λ v. words_of v ≡ words_in text.now) }

@@ -49,7 +49,7 @@ pub fn other_entries_wake_nothing()
     ensures { OthersWakeNothing wakes may_start lead }
 {}
 
-/// Where no phase may come, none leads on.
+/// If no phase may come, none leads on.
 pub fn phases_go_by_may_move()
     ensures { (k : Kept) (n : Noted) → may_move k ≡ false → wanted_by (unwrap_or n.event 0) n.entry.deed ≡ to_move_on → lead k n ≡ None }
 {}

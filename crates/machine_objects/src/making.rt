@@ -55,7 +55,7 @@ impl MachineObject {
     }
 }
 
-/// Appends an event where it passes.
+/// Appends an event if it passes.
 fn push_where(events: &mut Vec<u32>, event: u32, passes: bool) -> Result<(), Memory>
     ensures { OnOk result (events.new.items ≡ (if passes then events.old.items ++ event ∷ [] else events.old.items)) }
 {

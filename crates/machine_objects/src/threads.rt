@@ -2,7 +2,7 @@
 
 use crate::MachineObject;
 
-/// Is called only where values of the type may be moved to and shared with other threads.
+/// Is called only if values of the type may be moved to and shared with other threads.
 fn passes<T: Send + Sync>() {}
 
 /// Machines pass.

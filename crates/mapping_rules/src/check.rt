@@ -163,12 +163,12 @@ fn check_mapped(alloc: Global, mapped: &Mapped<'_>) -> Result<(), Refused>
 /// at the mapped event); each event of each instance is mapped once, an OperationInvokedEvent at most once (26, at the event);
 /// all events of a runnable of an instance are mapped to one task (27, at the runnable); an OperationInvokedEvent that is not
 /// mapped has a runnable that may be invoked concurrently and makes no call, and its operation is not joined to the environment
-/// (28, at the event); no task waits for itself, directly or through others, where a task waits for that of each queued server
+/// (28, at the event); no task waits for itself, directly or through others, if a task waits for that of each queued server
 /// that a runnable in it calls by `call` (29, at the mapping). An error of `Rule` names the least of these that is broken and
 /// its first place: a JSON pointer, or a name as in a trace, in the order of instances and of their declarations. An error of
 /// `Memory` may come at any time.
 ///
-/// Where they are kept, the tasks can be put in an order in which each waits only for later ones. Of events that are not mapped
+/// If they are kept, the tasks can be put in an order in which each waits only for later ones. Of events that are not mapped
 /// nothing is listed, so they may be counted before `list_mapping` lists all, which is given what is found of the events here.
 ///
 /// SWS_RTE: RteEventToTaskMapping.

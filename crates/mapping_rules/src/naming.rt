@@ -136,7 +136,7 @@ impl<'a> Names<'a> {
     }
 
     /// The instance and the event of it that a mapped event names, by the number of the instance and the position of the event in
-    /// its component. None where it names none.
+    /// its component. None if it names none.
     pub fn named_by(&self, mapped: &'a MappedEvent) -> Option<(usize, usize)>
         ensures { result ≡ named_by self.now.d.now self.now.f.now mapped.now }
     {

@@ -26,7 +26,7 @@ type Invocations = Table<(u32, u32), usize>;
 pub struct Servers<'a> {
     pub mapped: &'a Mapped<'a>,
     outside: Outside<'a>,
-    /// None where no component serves an operation: then no task waits for one.
+    /// None if no component serves an operation: then no task waits for one.
     providers: Option<Providers<'a>>,
     /// For each component.
     invocations: Vec<Invocations>,
@@ -95,7 +95,7 @@ fn serve_nothing(list: &[Invocations]) -> bool
     list.iter().all(|table| is_empty(table))
 }
 
-/// Who provides what is required, and None where no component serves an operation: then nobody asks for it.
+/// Who provides what is required, and None if no component serves an operation: then nobody asks for it.
 fn providers_of<'a>(
     alloc: Global,
     f: &'a Flat,

@@ -108,7 +108,7 @@ impl Machine {
         })
     }
 
-    /// Asks for a switch to a mode (Rte_Switch). 130 RTE_E_LIMIT exactly where as many accepted switches have not begun as may
+    /// Asks for a switch to a mode (Rte_Switch). 130 RTE_E_LIMIT exactly if as many accepted switches have not begun as may
     /// wait, else 0.
     pub fn switch(&mut self, mode: u32) -> Code
         ensures answer { result ≡ answer_to_switch self.old }
@@ -120,7 +120,7 @@ impl Machine {
         }
     }
 
-    /// The mode where the machine is stable, else the number of modes (Rte_Mode).
+    /// The mode if the machine is stable, else the number of modes (Rte_Mode).
     pub fn mode(&self) -> u32
         ensures { result ≡ mode_of self.now }
     {
@@ -227,10 +227,10 @@ impl Machine {
         }
     }
 
-    /// Makes the next phase, where it may come (mode switch procedure). The list then has the names of the mode switch events by
+    /// Makes the next phase, if it may come (mode switch procedure). The list then has the names of the mode switch events by
     /// which a start became possible and of the acknowledgement events that became pending, and no others; each of these events has
     /// a name, at its place in its list of names. A phase goes through the events that it owes and those that the last one owed, a
-    /// Close through the activations that run, and a Stable through the acknowledgement events. Where none may come nothing
+    /// Close through the activations that run, and a Stable through the acknowledgement events. If none may come nothing
     /// changes. The phases are Close, Exit, Transition, Entry and Stable. If none may come the answer says why: no accepted switch
     /// waits, or the least event that forbids the phase. A machine that does not wait for activations takes Exit after Close
     /// whatever runs. Each Stable but the first makes the acknowledgement events pending.
@@ -263,7 +263,7 @@ impl Machine {
         self.owed.may_start(event as usize)
     }
 
-    /// Starts an activation by a mode switch event. True exactly where the event is due and does not run; else nothing changes.
+    /// Starts an activation by a mode switch event. True exactly if the event is due and does not run; else nothing changes.
     pub fn start_owed(&mut self, event: u32) -> bool
         requires { event < length self.old.owed }
         ensures answer { result ≡ may_start (owed_at event self.old) }
@@ -274,7 +274,7 @@ impl Machine {
         may_start
     }
 
-    /// Ends the activation by a mode switch event. True exactly where it runs; else nothing changes. What a phase owes is done
+    /// Ends the activation by a mode switch event. True exactly if it runs; else nothing changes. What a phase owes is done
     /// when an activation ends that was started by the event after the phase.
     pub fn end_owed(&mut self, event: u32) -> bool
         requires { event < length self.old.owed }
@@ -317,7 +317,7 @@ impl Machine {
         }
     }
 
-    /// Admits an activation by an event that modes may disable, or drops it. Runs exactly where an admitted activation by it
+    /// Admits an activation by an event that modes may disable, or drops it. Runs exactly if an admitted activation by it
     /// runs; then nothing changes. It is admitted exactly if none runs and the event is not disabled. One that is not admitted is
     /// not remembered.
     pub fn admit(&mut self, event: u32) -> Admitted
@@ -335,7 +335,7 @@ impl Machine {
         Admitted::Yes
     }
 
-    /// Ends the admitted activation by an event that modes may disable. True exactly where one runs; else nothing changes.
+    /// Ends the admitted activation by an event that modes may disable. True exactly if one runs; else nothing changes.
     pub fn end_admitted(&mut self, event: u32) -> bool
         requires { event < length self.old.disablings }
         ensures answer { result ≡ (dependency_at event self.old).admitted }

@@ -109,7 +109,7 @@ impl OwedEvent {
         !self.may_start() && self.after_phase(step, settled, next).may_start()
     }
 
-    /// The event after a start by it, where one may come.
+    /// The event after a start by it, if one may come.
     pub(crate) fn after_start(&self) -> OwedEvent
         ensures { result ≡ after_owed_start self.now }
     {
@@ -125,7 +125,7 @@ impl OwedEvent {
         }
     }
 
-    /// The event after the end of an activation by it, where one runs.
+    /// The event after the end of an activation by it, if one runs.
     pub(crate) fn after_end(&self) -> OwedEvent
         ensures { result ≡ after_end self.now }
     {

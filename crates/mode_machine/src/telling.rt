@@ -11,7 +11,7 @@ use crate::chains::Chains;
 use crate::owed::{ModeEvent, OwedEvent};
 use rte_value::Step;
 
-/// Appends a name where it is to be told.
+/// Appends a name if it is to be told.
 fn tell_if(is_told: bool, name: u32, told: &mut Vec<u32>)
     requires { length told.old.items < vec_capacity told.old }
     ensures told { is_told ≡ true → Contains told.new.items name }

@@ -163,7 +163,7 @@ impl TrackedEvents {
         self.events[event].may_start()
     }
 
-    /// Starts an activation by an event, where one may come.
+    /// Starts an activation by an event, if one may come.
     pub fn start(&mut self, event: usize)
         requires { event < length self.old.events }
         ensures { self.new ≡ record { events = set self.old.events event (after_owed_start (event_at self.old.events event)); last = self.old.last } }
@@ -179,7 +179,7 @@ impl TrackedEvents {
         self.events[event].running
     }
 
-    /// Ends the activation by an event, where one runs. All ends since a phase go through what it owes once.
+    /// Ends the activation by an event, if one runs. All ends since a phase go through what it owes once.
     pub fn end(&mut self, event: usize)
         requires { event < length self.old.events }
         ensures { self.new ≡ record { events = set self.old.events event (after_end (event_at self.old.events event)); last = self.old.last } }

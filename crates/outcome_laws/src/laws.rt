@@ -22,7 +22,7 @@ pub fn bytes_have_a_plan_or_a_refusal()
     plans_are_sound();
 }
 
-/// Over any plan, bytes are a script or have a first bad line, with its cause; and so are they where elements are reserved.
+/// Over any plan, bytes are a script or have a first bad line, with its cause; and so are they if elements are reserved.
 pub fn bytes_are_a_script_or_have_a_bad_line()
     ensures over_plans { (p : Plan) (bytes : List ℕ) → HasScript (saying p) bytes ⊎ HasBadLine (saying p) bytes }
     ensures around { (p : Plan) (reserved : List Bool) (bytes : List ℕ)

@@ -16,7 +16,7 @@ pub struct Site {
 /// What it is.
 #[derive(Clone, Copy, Debug, PartialEq, Eq)]
 pub enum SiteKind {
-    /// A data element (VariableDataPrototype), which its owner provides where this is true, and else requires.
+    /// A data element (VariableDataPrototype), which its owner provides if this is true, and else requires.
     Element(bool),
     /// An inter-runnable variable.
     Variable,

@@ -95,7 +95,7 @@ fn are_one(theirs: &[u32], first: u32) -> bool
     theirs.iter().all(|label| is_same(*label, first))
 }
 
-/// The least of some labels, where they are not all one.
+/// The least of some labels, if they are not all one.
 fn lowest(theirs: &[u32]) -> Option<u32>
     ensures { result ≡ lowest theirs.now }
 {
@@ -113,14 +113,14 @@ fn is_theirs(theirs: &[u32], label: u32) -> bool
     theirs.iter().any(|other| is_same(*other, label))
 }
 
-/// The new label of a group, where those of these labels are connected.
+/// The new label of a group, if those of these labels are connected.
 fn label_of(theirs: &[u32], low: u32, label: u32) -> u32
     ensures { result ≡ (if list_any (λ t. t == label) theirs.now then low else label) }
 {
     if is_theirs(theirs, label) { low } else { label }
 }
 
-/// The new labels of all groups, where those of these labels are connected.
+/// The new labels of all groups, if those of these labels are connected.
 fn relabeled(alloc: Global, labels: &[u32], theirs: &[u32], low: u32) -> Result<Vec<u32>, Memory>
     ensures { IfOk result (λ found. found.items ≡ map (λ l. if list_any (λ t. t == l) theirs.now then low else l) labels.now) }
 {

@@ -51,7 +51,7 @@ fn number_of(place: Option<usize>) -> u32
     }
 }
 
-/// Marks an end where it is an element. Returns its number, 0 where it is none.
+/// Marks an end if it is an element. Returns its number, 0 if it is none.
 fn mark_end(marks: &mut Vec<bool>, source: &Source<'_>, end: End) -> u32
     ensures number { result ≡ own_number (keys_of (elements_of source.now.d.now source.now.f.now)) end }
     ensures length { length marks.new.items ≡ length marks.old.items }

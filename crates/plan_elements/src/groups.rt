@@ -33,7 +33,7 @@ struct Ranks {
     count: u32,
 }
 
-/// Adds the rank of an element, where so many groups are before; and counts its group.
+/// Adds the rank of an element, if so many groups are before; and counts its group.
 fn push_rank(list: &mut Vec<u32>, number: usize, count: u32, leader: u32) -> Result<u32, Memory>
     requires { count + 1 < 2 ^ 32 }
     ensures rank { OnOk result (list.new.items ≡ list.old.items ++ (if nat_eq leader number then count else 0) ∷ []) }

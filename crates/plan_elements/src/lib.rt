@@ -7,7 +7,7 @@
 //! side of a group has one element. An element belongs to the group of its group number, so that an element's group and the list
 //! of its group agree for every description.
 //!
-//! **When does a list read?** When its first item is of an R-port. Where rules 16 and 31 hold, all its items are then read
+//! **When does a list read?** When its first item is of an R-port. If rules 16 and 31 hold, all its items are then read
 //! implicitly, and else all are written so; the accesses need not be searched for each list.
 #![tactic(auto)]
 

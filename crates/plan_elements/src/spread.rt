@@ -17,7 +17,7 @@ pub fn number_at(list: &[u32], position: u32) -> u32
     }
 }
 
-/// Lowers the number at a position to this one, where it is greater.
+/// Lowers the number at a position to this one, if it is greater.
 fn lower_at(list: &mut Vec<u32>, position: u32, number: u32)
     ensures length { length list.new.items ≡ length list.old.items }
     ensures numbers { (n : ℕ) → number_at list.new.items n ≡ lowered_at position number n (number_at list.old.items n) }

@@ -49,7 +49,7 @@ impl<K: Eq + Hash + Copy> Numbers<K> {
         Ok(Numbers { positions })
     }
 
-    /// The number of a key: its first position, and 0 where it is not among them.
+    /// The number of a key: its first position, and 0 if it is not among them.
     #[tactic(auto, using(crate::proofs::Numbering::position_within))]
     pub fn number(&self, key: K) -> u32
         ensures { result ≡ unwrap_or (position_from (K.eq key) 0 self.now) 0 }

@@ -139,7 +139,7 @@ impl Source<'_> {
         com_spec_of(self.d, self.f, &self.found.places.tables, owner, port, item)
     }
 
-    /// How many wait at most at an item: 1 where its port does not say.
+    /// How many wait at most at an item: 1 if its port does not say.
     pub fn queue_length_of(&self, owner: Option<u32>, port: u32, item: u32) -> u32
         ensures { result ≡ queue_length_of self.now.d.now self.now.f.now owner port item }
     {

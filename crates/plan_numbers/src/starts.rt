@@ -227,7 +227,7 @@ pub fn element_place(d: &Description, f: &Flat, starts: &Starts, key: Key) -> Op
     }
 }
 
-/// The number of a data element or variable: where it stands, and 0 where it is not among them.
+/// The number of a data element or variable: where it stands, and 0 if it is not among them.
 pub fn element_number(d: &Description, f: &Flat, starts: &Starts, key: Key) -> u32
     requires { AreStarts d.now f.now starts.now }
     ensures { result ≡ number_in (keys_of (elements_of d.now f.now)) key }

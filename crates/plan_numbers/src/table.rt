@@ -52,7 +52,7 @@ impl<K: Eq + Hash + Copy, V: Copy> Table<K, V> {
         Ok(Table { entries, firsts })
     }
 
-    /// The value of the first entry with this key. None where there is none.
+    /// The value of the first entry with this key. None if there is none.
     pub fn find(&self, key: K) -> Option<V>
         ensures { result ≡ lookup (K.eq key) self.now.entries.items }
     {

@@ -72,7 +72,7 @@ fn arguments_in(
     Ok(list)
 }
 
-/// The arguments of an operation of a port; none where there is no such operation.
+/// The arguments of an operation of a port; none if there is no such operation.
 pub fn arguments_at(
     alloc: Global,
     source: &Source<'_>,
@@ -89,7 +89,7 @@ pub fn arguments_at(
     Ok(Seq::of(list))
 }
 
-/// The codes of the errors of an operation of a port; none where there is no such operation.
+/// The codes of the errors of an operation of a port; none if there is no such operation.
 pub fn errors_at(
     alloc: Global,
     source: &Source<'_>,
@@ -137,7 +137,7 @@ fn words_of(
     Ok(list)
 }
 
-/// The limits of the arguments of one direction of an operation of a port; none where there is no such operation.
+/// The limits of the arguments of one direction of an operation of a port; none if there is no such operation.
 pub fn words_at(
     alloc: Global,
     source: &Source<'_>,

@@ -109,14 +109,14 @@ impl Callings {
         self.list.as_slice()
     }
 
-    /// The number of the point at which a runnable of an instance calls an operation; 0 where there is none.
+    /// The number of the point at which a runnable of an instance calls an operation; 0 if there is none.
     pub fn called(&self, instance: u32, runnable: u32, port: u32, item: u32) -> u32
         ensures { result ≡ first_calling (is_calling (instance, runnable) port item) self.now }
     {
         self.calls.number((Some((instance, runnable)), port, item))
     }
 
-    /// The number of the first point of an instance at which it calls an operation without waiting; 0 where there is none.
+    /// The number of the first point of an instance at which it calls an operation without waiting; 0 if there is none.
     pub fn left(&self, instance: u32, port: u32, item: u32) -> u32
         ensures { result ≡ first_calling (leaves instance port item) self.now }
     {

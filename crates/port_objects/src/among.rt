@@ -15,7 +15,7 @@ use crate::object::Object;
 use bus_semantics::{Actor, BusPlan, Wish};
 use object_kinds::Acted;
 
-/// Makes the entry of a wish on the object of this number, where one may come.
+/// Makes the entry of a wish on the object of this number, if one may come.
 pub(crate) fn act_among(
     p: &BusPlan,
     objects: &mut Vec<Object>,

@@ -101,7 +101,7 @@ fn list_bundle(p: &BusPlan, list: &CoherentList) -> Option<u32>
     }
 }
 
-/// The object of a bundle for whose groups these events wait: a bundle where coherent lists touch it, else a group.
+/// The object of a bundle for whose groups these events wait: a bundle if coherent lists touch it, else a group.
 fn make_bundle(
     alloc: Global,
     p: &BusPlan,

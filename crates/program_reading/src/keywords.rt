@@ -86,7 +86,7 @@ fn keyword_in(words: &[StatementWord], word: &str) -> Keyword
     Keyword::Set
 }
 
-/// The keyword of the word, and `Set` where it is none.
+/// The keyword of the word, and `Set` if it is none.
 #[tactic(auto, unfolding(crate::specs::Keywords::keyword_of))]
 pub fn keyword_of(word: &str) -> Keyword
     ensures { result ≡ keyword_of word.now }

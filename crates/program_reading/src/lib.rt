@@ -3,7 +3,7 @@
 //! `read_program` gives the program that a value is. The names of ports, items, modes, areas and inter-runnable variables
 //! become positions in the component around; the program's own variables are numbered by their first place in its text,
 //! after those whose names come first (in a server, the arguments of its operation and `error`). A reading is there for
-//! every value (`specs/Programs.antt`), with defaults where the rules of shape leave nothing to be read.
+//! every value (`specs/Programs.antt`), with defaults if the rules of shape leave nothing to be read.
 //!
 //! # Decisions
 //!

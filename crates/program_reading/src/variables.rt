@@ -40,7 +40,7 @@ impl<'a> Variables<'a> {
         }
     }
 
-    /// Gives the variable of this name the next number, where it has none.
+    /// Gives the variable of this name the next number, if it has none.
     pub fn add(&mut self, name: &'a str) -> Result<(), Memory>
         ensures { OnOk result (self.new ≡ added self.old name.now) }
     {

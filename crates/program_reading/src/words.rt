@@ -58,7 +58,7 @@ fn access_in(words: &[AccessWord], word: &str) -> AccessKind
     AccessKind::Write
 }
 
-/// The kind of access that the word names, and `Write` where it names none.
+/// The kind of access that the word names, and `Write` if it names none.
 pub fn access_kind_of(word: &str) -> AccessKind
     ensures { result ≡ access_kind_of word.now }
 {

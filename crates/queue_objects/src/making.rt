@@ -43,7 +43,7 @@ impl QueueGroup {
     }
 }
 
-/// Appends a number where it passes.
+/// Appends a number if it passes.
 fn push_where(numbers: &mut Vec<u32>, number: u32, passes: bool) -> Result<(), Memory>
     ensures { OnOk result (numbers.new.items ≡ (if passes then numbers.old.items ++ number ∷ [] else numbers.old.items)) }
 {

@@ -79,7 +79,7 @@ impl Lanes {
         self.lanes.len()
     }
 
-    /// A value arrives at a queue, behind those that are there. False where the queue is full; then the value is discarded.
+    /// A value arrives at a queue, behind those that are there. False if the queue is full; then the value is discarded.
     pub fn arrive(&mut self, receiver: usize, value: &Value) -> bool
         requires within { receiver < length self.old.queues }
         requires fits { length (words_of value.now) ≡ self.old.words }

@@ -65,7 +65,7 @@ impl Queues {
     }
 
     /// Sends a value to each receiver whose queue has room, and discards it at each other (Rte_Send). The answer is 130
-    /// RTE_E_LIMIT exactly where one queue was full, else 0. The list then has the names of the events that became pending, and
+    /// RTE_E_LIMIT exactly if one queue was full, else 0. The list then has the names of the events that became pending, and
     /// no others; each event has a name, at its place in the list of names. The call costs as much as there are receivers, and
     /// events that become pending.
     pub fn send(&mut self, value: &Value, names: &[u32], woken: &mut Vec<u32>) -> Code
@@ -90,8 +90,8 @@ impl Queues {
         code
     }
 
-    /// Takes the oldest value of a receiver's queue (Rte_Receive). The code is 131 RTE_E_NO_DATA where the queue is empty, else
-    /// 64 RTE_E_LOST_DATA where a value was discarded there since the last receive, and else 0.
+    /// Takes the oldest value of a receiver's queue (Rte_Receive). The code is 131 RTE_E_NO_DATA if the queue is empty, else
+    /// 64 RTE_E_LOST_DATA if a value was discarded there since the last receive, and else 0.
     pub fn receive(&mut self, receiver: u32) -> Received
         requires { receiver < length self.old.queues }
         ensures answer { Some result ≡ answer_to_receive receiver self.old }

@@ -203,7 +203,7 @@ fn row_in<'a>(kind: &str, folder: &'a str, text: &'a str) -> Option<Row<'a>> {
 }
 
 impl<'a> Row<'a> {
-    /// The row of this line, where it begins with the word of one.
+    /// The row of this line, if it begins with the word of one.
     pub fn read(line: &'a str) -> Option<Row<'a>> {
         let (kind, rest) = split_word(line);
         let (first, more) = split_word(rest);

@@ -34,7 +34,7 @@ impl LineBuf {
         }
     }
 
-    /// Appends the text, and answers whether it fits. Where it does not, the line stays.
+    /// Appends the text, and answers whether it fits. If it does not, the line stays.
     pub fn text(&mut self, s: &[u8]) -> bool
         ensures line { self.new ≡ (if result then self.old ++ s.now else self.old) }
         ensures fits { IsTrue result ↔ (length self.old + length s.now ≤ 2048) }
@@ -43,7 +43,7 @@ impl LineBuf {
         self.held.try_extend_from_slice(s).is_ok()
     }
 
-    /// Appends the number in decimal, and answers whether it fits. Where it does not, the line stays.
+    /// Appends the number in decimal, and answers whether it fits. If it does not, the line stays.
     /// A number has at most 20 bytes.
     pub fn number(&mut self, n: i64) -> bool
         ensures line { self.new ≡ (if result then self.old ++ signed_decimal n else self.old) }

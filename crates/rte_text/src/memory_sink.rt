@@ -11,7 +11,7 @@ use std::marker::Model;
 /// Bytes in memory, and the calls that fail: each by its number, counted from 0, and the number of
 /// bytes that it takes before.
 ///
-/// Of two numbers named for one call the first holds. A call also fails where its piece does not
+/// Of two numbers named for one call the first holds. A call also fails if its piece does not
 /// fit in the room, after it took what fits.
 #[derive(Debug, Drop)]
 pub struct MemorySink {
@@ -66,7 +66,7 @@ impl MemorySink {
         self.held.as_slice()
     }
 
-    /// How many bytes the next call takes at most, where it is one that fails.
+    /// How many bytes the next call takes at most, if it is one that fails.
     fn next_stop(&self) -> Option<u64>
         ensures { result ≡ next_stop self.now }
     {

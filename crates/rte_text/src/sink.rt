@@ -21,7 +21,7 @@ pub trait Sink {
 
     ghost faults: { Self → ℕ };
 
-    /// Takes the piece after all that came before. It fails where not all of the piece could be taken. `Done`: the whole piece was
+    /// Takes the piece after all that came before. It fails if not all of the piece could be taken. `Done`: the whole piece was
     /// appended, and the count of faults is as it was. `Failed`: a prefix of it was, and the count rose.
     fn put(&mut self, piece: &[u8]) -> Put
         ensures faults_never_fall { faults self.old ≤ faults self.new }

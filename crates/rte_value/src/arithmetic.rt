@@ -39,7 +39,7 @@ pub fn div(a: Word, b: Word) -> Word
     }
 }
 
-/// 1 where the comparison holds, and else 0.
+/// 1 if the comparison holds, and else 0.
 pub fn cmp(kind: Cmp, a: Word, b: Word) -> Word
     ensures { result ≡ comparison kind a b }
 {
@@ -52,7 +52,7 @@ pub fn cmp(kind: Cmp, a: Word, b: Word) -> Word
     if holds { 1 } else { 0 }
 }
 
-/// The word itself where it lies within the limits, and else the limit that it passes.
+/// The word itself if it lies within the limits, and else the limit that it passes.
 pub fn clamp(word: Word, limits: &Limits) -> Word
     requires { limits.now.low ≤ℤ limits.now.high }
     ensures value { result ≡ clamped limits.now word }

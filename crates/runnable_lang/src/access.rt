@@ -16,7 +16,7 @@ fn is_access_at(access: &AccessSig, kind: AccessKind, port: u32) -> bool
     number(access.kind) == number(kind) && access.port == port
 }
 
-/// Whether there are as many words as the statement gives or takes, where it does so.
+/// Whether there are as many words as the statement gives or takes, if it does so.
 fn counts_words(wanted: Option<usize>, words: usize) -> bool
     ensures { result ≡ counts wanted words }
 {
@@ -26,7 +26,7 @@ fn counts_words(wanted: Option<usize>, words: usize) -> bool
     }
 }
 
-/// What a statement names, and how many values it gives and variables it takes, where it does so.
+/// What a statement names, and how many values it gives and variables it takes, if it does so.
 #[derive(Clone, Copy)]
 struct Need {
     kind: AccessKind,

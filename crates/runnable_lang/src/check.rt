@@ -75,7 +75,7 @@ fn check_rules(alloc: Global, p: &Program, table: &Table) -> Result<(), ProgramR
 /// stands inside an area (20). An error of `Broken` names the least of these that is broken and the
 /// first statement that breaks it.
 ///
-/// `alloc` gives the memory for the path. There is an error of `Memory` only where a rule is broken. A program is small enough if
+/// `alloc` gives the memory for the path. There is an error of `Memory` only if a rule is broken. A program is small enough if
 /// it costs at most 100,000 and has at most 256 variables.
 pub fn check_program(alloc: Global, p: &Program, s: &Signature) -> Result<(), ProgramRefused>
     ensures { Tells (refusal s.now.accesses (program_tree p.now)) result }

@@ -16,7 +16,7 @@ pub enum ProgramRefused {
         /// more than 256 variables. 19: an area stands inside one that was declared after it. 20: a
         /// call stands inside an area.
         rule: u16,
-        /// The position of the statement in its body, counted from 0. Where the body is that of
+        /// The position of the statement in its body, counted from 0. If the body is that of
         /// another statement, the path of that statement stands before it, and then the position of
         /// the body as it is written: 2 and 3 in an `if`, 2 in a `repeat` and in an area. The path of
         /// the whole program is empty.

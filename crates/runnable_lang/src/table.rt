@@ -39,7 +39,7 @@ impl Table<'_> {
         }
     }
 
-    /// One of the accesses, with this key where the hints have one.
+    /// One of the accesses, with this key if the hints have one.
     pub fn hinted(&self, key: Key) -> Option<&AccessSig>
         ensures { IfSome result (λ access. IsAmong self.now.accesses.now access.now) }
     {

@@ -51,7 +51,7 @@ fn gives(deed: &Deed, wish: &Wish) -> bool
 }
 
 /// Whether an entry is what a wish asks for: whether `wish_of` makes a wish of it that is the same. `event` is the event that started the
-/// activation; an Admit and an End name it, and event 0 where it is None.
+/// activation; an Admit and an End name it, and event 0 if it is None.
 pub fn is_wish_of(entry: &Entry, event: Option<u32>, wish: &Wish) -> bool
     ensures { result ≡ same_wanted (wanted_by (unwrap_or event 0) entry.now.deed) (wanted_of wish.now) }
 {

@@ -58,7 +58,7 @@ fn note<'p>(
     Ok(())
 }
 
-/// The things that the form is for by name, the first one's number where a name is doubled.
+/// The things that the form is for by name, the first one's number if a name is doubled.
 fn index_of<'p>(
     alloc: Global,
     plan: &'p BusPlan,

@@ -35,7 +35,7 @@ impl<'p> Grammar for Environment<'p> {
     }
 }
 
-/// What the environment of a plan has, where scripts receive nothing from some of its elements.
+/// What the environment of a plan has, if scripts receive nothing from some of its elements.
 #[derive(Clone, Copy)]
 pub struct Reserving<'e, 'p> {
     pub environment: &'e Environment<'p>,

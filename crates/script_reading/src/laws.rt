@@ -20,7 +20,7 @@ pub fn scripts_are_carriable()
 {}
 
 /// A line that asks for something is the spelling of it, and the environment may ask for it. In a sound plan a line asks
-/// for something exactly where it is the spelling of it and the environment may ask for it, and for nothing else. In
+/// for something exactly if it is the spelling of it and the environment may ask for it, and for nothing else. In
 /// others the first of those with one name is meant.
 pub fn lines_spell_what_they_ask()
     ensures asked { (p : Plan) (t : Letters) (a : Asked) → saying p t ≡ asks a → AsksFor p t a }
@@ -28,13 +28,13 @@ pub fn lines_spell_what_they_ask()
     ensures once { (p : Plan) (m : Mapping) (t : Letters) (a b : Asked) → IsSound p m → IsSpelling p t a → IsSpelling p t b → a ≡ b }
 {}
 
-/// The least cause of a line is this one exactly where its sentence holds: it has none of the forms; it has one, but
+/// The least cause of a line is this one exactly if its sentence holds: it has none of the forms; it has one, but
 /// names nothing that there is; it names such a thing, but gives it no value that it takes; or a limit is passed.
 pub fn causes_are_sentences()
     ensures { (p : Plan) (before : List Letters) (t : Letters) (cause : ℕ) → cause_of (saying p) before t ≡ Some cause ↔ IsCauseOf p before t cause }
 {}
 
-/// In a sound plan bytes are a script of these lines exactly where they spell them: without blank lines and comments the
+/// In a sound plan bytes are a script of these lines exactly if they spell them: without blank lines and comments the
 /// lines of the text are the spellings of what these ask for, in order, the environment may ask for each, and no limit
 /// is passed.
 pub fn scripts_spell_their_lines()

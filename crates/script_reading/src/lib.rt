@@ -11,7 +11,7 @@
 //! **What of a value of more than 16 words, or with a word of more than 64 bits?** It is well formed, so it has cause 3, or cause
 //! 2 if its element is not there. `tick N` outside 1 to 100,000 has none of the forms: cause 1.
 //!
-//! **What of a line of a kind that the plan has nothing of?** It has cause 2, as where the name alone is not there: `ask P.O V`
+//! **What of a line of a kind that the plan has nothing of?** It has cause 2, as when the name alone is not there: `ask P.O V`
 //! over a plan with no operation, `switch P.O MODE` over one with no modes. The grammar of scripts is the same for every plan, so
 //! a line never changes from one cause to another but for its plan.
 //!
@@ -27,7 +27,7 @@
 //! **How are values compared with limits?** An element has one pair of limits for all its words, an operation one pair for each
 //! `in` argument. A value that cannot be held, of more than 16 words or with a word of more than 64 bits, is taken nowhere.
 //!
-//! **Why is what a line says a parameter of reading a script?** Where two nodes share a link, no line may receive from a linked
+//! **Why is what a line says a parameter of reading a script?** If two nodes share a link, no line may receive from a linked
 //! element, and other inputs will have lines of a script among lines of their own. They differ in what a line says and in nothing
 //! else. So the first bad line, the limits and what a script asks for are defined over any function that says what a line says,
 //! and `read_script` and `read_script_around` are one loop over a trait, `Grammar`, which the compiler resolves: reading a script

@@ -38,7 +38,7 @@ fn runs_said(said: &Said) -> u64
 }
 
 impl Counts {
-    /// With this line too. None where it passes a limit.
+    /// With this line too. None if it passes a limit.
     fn and(&self, said: &Said) -> Option<Counts>
         ensures some { IfSome result (λ more. (are_too_many more.lines more.ticks more.runs ≡ false) × AreCountedWith self.now (saying_of said.now) more) }
         ensures none { IfNone result (are_too_many (self.now.lines + 1) (self.now.ticks + ticks_said (saying_of said.now)) (self.now.runs + runs_said (saying_of said.now)) ≡ true) }
@@ -52,7 +52,7 @@ impl Counts {
         Some(Counts { lines, ticks, runs })
     }
 
-    /// With this line too; or its least cause, where it is bad.
+    /// With this line too; or its least cause, if it is bad.
     pub fn judge(&self, said: &Said) -> Result<Counts, u8>
         ensures { IsJudged self.now (saying_of said.now) result }
     {

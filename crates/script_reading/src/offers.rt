@@ -18,7 +18,7 @@ fn is_for(form: Form, element: &ElemPlan) -> bool
     }
 }
 
-/// The name of an element, where it is the environment's and the form is for it.
+/// The name of an element, if it is the environment's and the form is for it.
 fn elem_offered(form: Form, element: &ElemPlan) -> Option<&[u8]>
     ensures { option_copied result ≡ elem_offered form element.now }
 {
@@ -29,7 +29,7 @@ fn elem_offered(form: Form, element: &ElemPlan) -> Option<&[u8]>
     }
 }
 
-/// The name of the element of this number, where it is the environment's and the form is for it.
+/// The name of the element of this number, if it is the environment's and the form is for it.
 fn elem_at(plan: &BusPlan, form: Form, number: usize) -> Option<&[u8]>
     ensures { option_copied result ≡ look plan.now.elements number (elem_offered form) None }
 {
@@ -39,7 +39,7 @@ fn elem_at(plan: &BusPlan, form: Form, number: usize) -> Option<&[u8]>
     }
 }
 
-/// The name of the operation that is called at this point, where the point is the environment's.
+/// The name of the operation that is called at this point, if the point is the environment's.
 fn point_at(plan: &BusPlan, number: usize) -> Option<&[u8]>
     ensures { option_copied result ≡ look plan.now.points number point_offered None }
 {
@@ -49,7 +49,7 @@ fn point_at(plan: &BusPlan, number: usize) -> Option<&[u8]>
     }
 }
 
-/// The name of the mode element of this machine, where it is the environment's.
+/// The name of the mode element of this machine, if it is the environment's.
 fn machine_at(plan: &BusPlan, number: usize) -> Option<&[u8]>
     ensures { option_copied result ≡ look plan.now.machines number machine_offered None }
 {
@@ -59,7 +59,7 @@ fn machine_at(plan: &BusPlan, number: usize) -> Option<&[u8]>
     }
 }
 
-/// The name of the mode element of this mode port, where it is the environment's.
+/// The name of the mode element of this mode port, if it is the environment's.
 fn mode_port_at(plan: &BusPlan, number: usize) -> Option<&[u8]>
     ensures { option_copied result ≡ look plan.now.mode_ports number mode_port_offered None }
 {
@@ -69,7 +69,7 @@ fn mode_port_at(plan: &BusPlan, number: usize) -> Option<&[u8]>
     }
 }
 
-/// The name of the environment's thing of this number, where the form is for it.
+/// The name of the environment's thing of this number, if the form is for it.
 pub fn offered(plan: &BusPlan, form: Form, number: usize) -> Option<&[u8]>
     ensures { option_copied result ≡ offered form (plan_of plan.now) number }
 {

@@ -80,7 +80,7 @@ fn by_fields<'a>(fields: &Fields<'a>) -> Option<Parsed<'a>>
     }
 }
 
-/// What the text of a line says. None where it has none of the forms.
+/// What the text of a line says. None if it has none of the forms.
 pub fn parse(text: &[u8]) -> Option<Parsed<'_>>
     ensures phrase { option_map phrase_of result ≡ phrase_in text.now }
     ensures fits { IfSome result (λ parsed. is_phrase (phrase_of parsed) ≡ true) }

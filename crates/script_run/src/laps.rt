@@ -64,7 +64,7 @@ fn close_late<K: Sink>(made: u64, w: Writing, out: &mut K) -> Lap
     Lap::Ended(came_of(put_behind(out, w.prefix, unsettled_line())))
 }
 
-/// Makes a serial pass after so many entries, and puts its entries; or closes the run line at rest, where there are none.
+/// Makes a serial pass after so many entries, and puts its entries; or closes the run line at rest, if there are none.
 fn put_pass<K: Sink>(n: &mut Node, made: u64, w: Writing, out: &mut K, line: &mut LineBuf) -> Lap
     requires { n.old.mapping.cores ≤ n.old.spare }
     ensures plan { n.new.plan ≡ n.old.plan }

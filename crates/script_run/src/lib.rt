@@ -16,7 +16,7 @@
 //! the two it was: the last entry may be of the round or of the pass. So this is no clause of `run_script`, which speaks of what
 //! was put, but one of `put_lap`, which makes one round and one pass and knows what the pass made.
 //!
-//! **Why do calls of a script say what they add to a session, and not what was put since the script began?** Where two nodes write
+//! **Why do calls of a script say what they add to a session, and not what was put since the script began?** If two nodes write
 //! one trace, lines of the other stand between, so a text that goes back to the header is nobody's. A session and the lines of
 //! what a call adds to it can be said of each node alone. For the same reason a line is put behind a prefix, which says whose it
 //! is, by a put of its own; without a prefix it is one put, as ever. A sink that adds prefixes would not do: a sink may be given

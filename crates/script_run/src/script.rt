@@ -180,12 +180,12 @@ pub fn run_line<R: Threads + Sync, K: Sink, G: Gate>(
 /// Runs the script on the node, which goes on from what has happened to it, and puts the trace of the version, one put a line: the header,
 /// then for each line of the script what comes of it. A line of ticks or a call makes the environment's entries. A run line
 /// puts its mark, then makes rounds, each with a serial pass after it, and puts their entries; `idle` closes it after a pass
-/// without an entry, and `unsettled` where at least 100,000 entries were made since the mark. Each line of the script is one
+/// without an entry, and `unsettled` if at least 100,000 entries were made since the mark. Each line of the script is one
 /// that the environment may carry out.
 ///
 /// It ends at the first put that fails, and at a round for which there is no memory. For every history for which the node is
 /// lawful: with `Finished`, what was put is the text of a run of the script that goes on legally from the history, with all of its
-/// lines in order, and its items fit the plan; the node is lawful for the history and what the run made; and where a run line
+/// lines in order, and its items fit the plan; the node is lawful for the history and what the run made; and if a run line
 /// closes with `idle`, all is quiet. With `Failed` and `Memory` it is a prefix of the text of a begun run. The sink's count of
 /// faults rose exactly with `Failed`.
 pub fn run_script<R: Threads + Sync, K: Sink, G: Gate>(

@@ -6,7 +6,7 @@ ghost use Rattle.rte_text.specs.Sinks.{SinkFaultsAfter, ToldAfter};
 use bus_semantics::Version;
 use rte_text::{Put, Sink};
 
-/// How the lines of a trace are written: in the spelling of a version, each behind a prefix. Where two nodes share an output, the prefix
+/// How the lines of a trace are written: in the spelling of a version, each behind a prefix. If two nodes share an output, the prefix
 /// says whose line it is.
 #[derive(Clone, Copy)]
 pub struct Writing {
@@ -29,7 +29,7 @@ impl Writing {
     }
 }
 
-/// Puts a line behind a prefix: in two puts, or in one where the prefix is empty.
+/// Puts a line behind a prefix: in two puts, or in one if the prefix is empty.
 pub fn put_behind<K: Sink>(out: &mut K, prefix: &[u8], line: &[u8]) -> Put
     ensures told { ToldAfter result (K.told out.old) (K.told out.new) (prefix.now ++ line.now) }
     ensures faults { SinkFaultsAfter result (K.faults out.old) (K.faults out.new) }

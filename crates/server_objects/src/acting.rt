@@ -49,7 +49,7 @@ impl ServerObject {
         code
     }
 
-    /// Tells the server's event, where it may start now and might not before.
+    /// Tells the server's event, if it may start now and might not before.
     fn tell_next(&mut self, had_next: bool)
         ensures kept { self.new.kept ≡ self.old.kept }
         ensures woken { self.new.woken ≡ told_where had_next (has_next self.old.kept.served) (self.old.kept.event ∷ []) }
@@ -61,7 +61,7 @@ impl ServerObject {
         }
     }
 
-    /// Tells besides the return events of the point at a place, where they were not pending before.
+    /// Tells besides the return events of the point at a place, if they were not pending before.
     fn tell_returns(&mut self, was_due: bool, place: u32)
         requires within { place < length self.old.kept.points }
         requires first { length self.old.woken ≤ 1 }

@@ -67,7 +67,7 @@ fn event_of(p: &BusPlan, server: u32) -> u32
     }
 }
 
-/// The length of a server's queue; none where it is direct.
+/// The length of a server's queue; none if it is direct.
 fn queue_of(p: &BusPlan, server: u32) -> Option<u32>
     ensures { result ≡ queue_of (plan_of p.now) server }
 {

@@ -23,7 +23,7 @@ pub struct Arrived {
 }
 
 /// Sends the frame of a value, which its link takes, and receives by turns until the value came. Before and after nothing is on
-/// the way, and the unframer keeps no byte. None exactly where the way failed; then bytes may be left. What arrives is this value,
+/// the way, and the unframer keeps no byte. None exactly if the way failed; then bytes may be left. What arrives is this value,
 /// for this link. It never fails on a link that never fails.
 pub fn carry<L: Link>(
     link: u16,

@@ -32,7 +32,7 @@ pub trait Link {
 
     ghost never_fails: { Self → Bool };
 
-    /// Takes bytes from the beginning of the piece behind those on the way. It takes none of a piece only where the piece is empty
+    /// Takes bytes from the beginning of the piece behind those on the way. It takes none of a piece only if the piece is empty
     /// or bytes are on the way. It fails only with its count, and a link that never fails does not.
     fn send(&mut self, piece: &[u8]) -> Sent
         ensures way { SentAfter result (way self.old) (way self.new) piece.now }
@@ -41,7 +41,7 @@ pub trait Link {
         ensures may_fail { MayFailToSend result (never_fails self.old) }
         ensures never_fails { never_fails self.new ≡ never_fails self.old };
 
-    /// Gives the first bytes on the way into the beginning of the room. It gives none only where the room is empty or no byte is on
+    /// Gives the first bytes on the way into the beginning of the room. It gives none only if the room is empty or no byte is on
     /// the way. It fails only with its count, and a link that never fails does not.
     fn receive(&mut self, room: &mut [u8]) -> Got
         ensures way { GotAfter result (way self.old) (way self.new) room.old room.new }

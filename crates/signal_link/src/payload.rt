@@ -41,7 +41,7 @@ impl Payload {
         }
     }
 
-    /// Takes the next byte. False exactly where no word within the limits begins so; then nothing changes.
+    /// Takes the next byte. False exactly if no word within the limits begins so; then nothing changes.
     pub(crate) fn push(&mut self, byte: u8) -> bool
         requires payload { IsPayload self.old }
         requires room { length self.old.words.items < self.old.link.words }

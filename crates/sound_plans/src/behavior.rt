@@ -18,7 +18,7 @@ ghost use Rattle.plan_definitions.specs.Whole.{IsWhole};
 use bus_laws::accepted_programs_are_sound;
 
 /// The tasks fit the plan (SWS_RTE, RteEventToTaskMapping): cores, names and events are in range, each event is mapped
-/// as often as it is owed, a server's where it has a queue, and the events of a runnable are in one task.
+/// as often as it is owed, a server's if it has a queue, and the events of a runnable are in one task.
 pub fn tasks_fit()
     ensures { (d : Description) (f : Flat) (p : BusPlan) (m : Mapping) → IsWhole d f p m → mapping_fits (plan_of p) m ≡ true }
 {}

@@ -23,13 +23,13 @@ pub fn groups_of_plans_fit()
     ensures { (d : Description) (f : Flat) (p : BusPlan) (m : Mapping) → IsWhole d f p m → groups_fit (plan_of p) ≡ true }
 {}
 
-/// The elements of a group agree in kind, limits and words. An element is joined exactly where its group has both sides, and one
+/// The elements of a group agree in kind, limits and words. An element is joined exactly if its group has both sides, and one
 /// of the sides has one element.
 pub fn joined_elements_of_plans_agree()
     ensures { (d : Description) (f : Flat) (p : BusPlan) (m : Mapping) → IsWhole d f p m → joins_fit (plan_of p) ≡ true }
 {}
 
-/// Two data elements of a plan are in one group exactly where a chain of joins connects them. An element of the plan is that of the
+/// Two data elements of a plan are in one group exactly if a chain of joins connects them. An element of the plan is that of the
 /// site at its number; a variable is connected with none but itself (SWS_RTE: sender-receiver communication 1:n and n:1).
 pub fn groups_are_what_joins_connect()
     ensures { (d : Description) (f : Flat) (p : BusPlan) (m : Mapping) → IsWhole d f p m → GroupsAreConnected d f p }

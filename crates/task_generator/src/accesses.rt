@@ -30,7 +30,7 @@ fn key_of(kind: AccessKind, port: u32, item: u32) -> Key
     (kind as u8, port, item)
 }
 
-/// The accesses of a signature, which have these numbers of their own, by their keys; the first one where a key is doubled.
+/// The accesses of a signature, which have these numbers of their own, by their keys; the first one if a key is doubled.
 fn found_of<'p>(
     alloc: Global,
     accesses: &'p [AccessSig],

@@ -125,7 +125,7 @@ fn slots_of_list(
     Ok(Seq::of(slots))
 }
 
-/// The publication of a coherent list, which is passed over where nothing was written into any slot.
+/// The publication of a coherent list, which is passed over if nothing was written into any slot.
 fn put_list_publication(
     alloc: Global,
     code: &mut Vec<Instr>,
@@ -148,7 +148,7 @@ fn put_list_publication(
     Ok(())
 }
 
-/// The publication of an element, which is passed over where nothing was written, or of a coherent list.
+/// The publication of an element, which is passed over if nothing was written, or of a coherent list.
 fn put_publication(
     alloc: Global,
     code: &mut Vec<Instr>,

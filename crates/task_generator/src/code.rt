@@ -47,7 +47,7 @@ pub fn hold(code: &mut Vec<Instr>) -> Result<usize, Memory>
     Ok(at)
 }
 
-/// Another instruction in the place of one. Where there is none, nothing changes.
+/// Another instruction in the place of one. If there is none, nothing changes.
 #[tactic(auto, using(crate::proofs::Patching::map_replaced))]
 fn replace(code: &mut Vec<Instr>, at: usize, instr: Instr)
     ensures code { map instruction_of code.new.items ≡ set (map instruction_of code.old.items) at (instruction_of instr) }

@@ -69,7 +69,7 @@ fn body_of(
     })
 }
 
-/// The elements at a place, and none where there is no such place.
+/// The elements at a place, and none if there is no such place.
 fn elements_at(lists: &[Seq<u32>], place: usize) -> &[u32]
     ensures { result.now ≡ get_or lists.now place [] }
 {
@@ -114,7 +114,7 @@ fn disabled_of(alloc: Global, events: &[EventPlan]) -> Result<Vec<bool>, Memory>
 /// Makes the bodies of the plan's runnables (SWS_RTE: runnable activation, implicit access, ModeDisablingDependency).
 ///
 /// An activation begun by any Start, and fed any answers, asks what the actor rule wants next, up to its End or an admission
-/// that was refused, and nothing after that. It is over exactly where the actor rule wants nothing. The only error is that there
+/// that was refused, and nothing after that. It is over exactly if the actor rule wants nothing. The only error is that there
 /// is no memory. That is admission, fetches, the calls of its program, publications, the return, the end. That a fetched value
 /// stays what it was says a law of `implicit_buffers`; that what is published was written last stands in the definitions of
 /// publications, and no law says so apart. Bodies whose runnables have one code may share it, and ask the same as with code of

@@ -12,7 +12,7 @@ use rte_text::Seq;
 use std::alloc::Global;
 use task_machine::Targets;
 
-/// The slot of an element: its first place among the elements, and their number where it has none.
+/// The slot of an element: its first place among the elements, and their number if it has none.
 #[tactic(auto, using(crate::proofs::Slots::slot_turn, crate::proofs::Slots::slot_here, crate::proofs::Slots::slot_end))]
 pub fn slot_of(elements: &[u32], elem: u32) -> usize
     ensures { result ≡ slot_of elem elements.now }

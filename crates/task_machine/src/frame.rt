@@ -314,7 +314,7 @@ impl Frame {
         }
     }
 
-    /// The request of the call where the activation stands, and what the call names. None where it is over.
+    /// The request of the call where the activation stands, and what the call names. None if it is over.
     #[inline(always)]
     fn call_here<'a>(&self, t: &'a TaskSet) -> Option<(&'a Request, u32)>
         ensures { MatchOption result (wanted_here t.now self.now ≡ None)
@@ -380,7 +380,7 @@ impl Frame {
         }
     }
 
-    /// The bus has answered the call that `next_call` gave. Where the activation is over nothing changes. The frame then stands
+    /// The bus has answered the call that `next_call` gave. If the activation is over nothing changes. The frame then stands
     /// for one answer more.
     pub fn feed(&mut self, t: &TaskSet, answer: &Deed)
         ensures stands { (k : ActKey) (start : Deed) (answers : List Deed) → Stands t.now k start answers self.old → Stands t.now k start (answers ++ answer.now ∷ []) self.new }

@@ -25,7 +25,7 @@ pub struct Given {
     ghost short: { length words.items ≤ 16 },
 }
 
-/// The word itself where it lies within the limits, and else the nearest one, or the least where there is none.
+/// The word itself if it lies within the limits, and else the nearest one, or the least if there is none.
 pub fn nearest(word: Word, limits: &Limits) -> Word
     ensures { result ≡ clamped limits.now word }
 {
@@ -42,7 +42,7 @@ impl GivenWord {
 }
 
 impl Given {
-    /// A list of these words. None exactly where there are more than 16. It takes no memory.
+    /// A list of these words. None exactly if there are more than 16. It takes no memory.
     pub fn new(words: Vec<GivenWord>) -> Option<Given>
         ensures fits { IsSome result ↔ (length words.items ≤ 16) }
         ensures words { IfSome result (λ g. g.words.items ≡ words.items) }

@@ -65,9 +65,9 @@ pub enum Taken {
     Zero(u32),
     /// The status.
     Code(u32),
-    /// A mode, or 1 where there was an update and else 0.
+    /// A mode, or 1 if there was an update and else 0.
     Number(u32),
-    /// The words, from left to right. Where there are fewer words, the other variables stay.
+    /// The words, from left to right. If there are fewer words, the other variables stay.
     Value(Seq<u32>),
     /// The words, from left to right, and then the status into the last one.
     Words(Seq<u32>, u32),
@@ -76,7 +76,7 @@ pub enum Taken {
     Refusal(u32),
     /// What was fetched, into this slot.
     Slot(usize),
-    /// What was fetched together, into these slots: each takes so many words from the left. Where there are fewer words, the later slots
+    /// What was fetched together, into these slots: each takes so many words from the left. If there are fewer words, the later slots
     /// take the words that are left, or none.
     Slots(Seq<SlotPart>),
 }
@@ -96,7 +96,7 @@ pub enum Instr {
         var: u32,
         value: Expr,
     },
-    /// The variables take what was fetched by an access, from left to right. Where there are fewer words, the others stay.
+    /// The variables take what was fetched by an access, from left to right. If there are fewer words, the others stay.
     Load {
         vars: Seq<u32>,
         access: usize,
@@ -106,17 +106,17 @@ pub enum Instr {
         access: usize,
         given: Given,
     },
-    /// So many instructions are passed over where the value is 0.
+    /// So many instructions are passed over if the value is 0.
     Unless {
         cond: Expr,
         past: u32,
     },
-    /// So many instructions are passed over where nothing was written into the slot.
+    /// So many instructions are passed over if nothing was written into the slot.
     Unwritten {
         slot: usize,
         past: u32,
     },
-    /// So many instructions are passed over where nothing was written into any of the slots.
+    /// So many instructions are passed over if nothing was written into any of the slots.
     NoneWritten {
         slots: Seq<usize>,
         past: u32,
@@ -125,13 +125,13 @@ pub enum Instr {
     Skip {
         past: u32,
     },
-    /// A loop begins: its counter takes the number of times, or where that is 0 so many instructions are passed over.
+    /// A loop begins: its counter takes the number of times, or if that is 0 so many instructions are passed over.
     Repeat {
         counter: u32,
         times: u32,
         past: u32,
     },
-    /// A loop has gone through its body: where its counter is above 1 it is lowered by 1, and so many instructions are gone
+    /// A loop has gone through its body: if its counter is above 1 it is lowered by 1, and so many instructions are gone
     /// back, counted from this one on.
     Again {
         counter: u32,
@@ -156,14 +156,14 @@ pub struct Targets {
     pub written: Seq<usize>,
 }
 
-/// The number at a place, and 0 where there is none.
+/// The number at a place, and 0 if there is none.
 fn number_in(numbers: &[u32], place: usize) -> u32
     ensures { result ≡ get_or numbers.now place 0 }
 {
     numbers.get(place).copied().unwrap_or(0)
 }
 
-/// The slot at a place, and 0 where there is none.
+/// The slot at a place, and 0 if there is none.
 fn slot_in(slots: &[usize], place: usize) -> usize
     ensures { result ≡ get_or slots.now place 0 }
 {

@@ -184,7 +184,7 @@ impl Place {
         self.settle(body);
     }
 
-    /// An activation begins where there is no body, and is over.
+    /// An activation begins if there is no body, and is over.
     pub fn begin_nowhere(&mut self)
         ensures first { spot_of self.new ≡ no_spot }
         ensures room { room_of self.new.store ≡ room_of self.old.store }
@@ -219,7 +219,7 @@ impl Place {
         }
     }
 
-    /// An answer where there is no body changes nothing, but the last one ends the activation.
+    /// An answer if there is no body changes nothing, but the last one ends the activation.
     pub fn feed_nowhere(&mut self, answer: &Deed)
         ensures answered { spot_of self.new ≡ answered [] answer.now (spot_of self.old) }
         ensures room { room_of self.new.store ≡ room_of self.old.store }

@@ -32,7 +32,7 @@ fn push_result(words: &mut ArrayVec<Word, 16>, argument: &ArgPlan, word: &Word)
 }
 
 impl Returned {
-    /// Of an operation with these errors and arguments. None exactly where there are more than 16 arguments. It takes no memory.
+    /// Of an operation with these errors and arguments. None exactly if there are more than 16 arguments. It takes no memory.
     pub fn new(errors: Seq<Code>, arguments: Vec<ArgPlan>) -> Option<Returned>
         ensures fits { IsSome result ↔ (length arguments.items ≤ 16) }
         ensures errors { IfSome result (λ r. r.errors ≡ errors) }
@@ -44,7 +44,7 @@ impl Returned {
         Some(Returned { errors, arguments })
     }
 
-    /// The variable `error` where it is an error that the operation declares, else 0. It takes no memory.
+    /// The variable `error` if it is an error that the operation declares, else 0. It takes no memory.
     pub fn code(&self, vars: &[Word]) -> Code
         ensures { result ≡ declared_code self.now.errors (get_or vars.now (length self.now.arguments.items) (pos 0)) }
     {

@@ -17,7 +17,7 @@ pub struct Store {
     pub vars: Vec<Word>,
     /// The values that it fetched, by slot (SWS_RTE: Rte_IRead, Rte_IrvIRead).
     pub fetched: Vec<Value>,
-    /// The values that it is to publish, by slot; none where nothing was written (SWS_RTE: Rte_IWrite, Rte_IrvIWrite).
+    /// The values that it is to publish, by slot; none if nothing was written (SWS_RTE: Rte_IWrite, Rte_IrvIWrite).
     pub written: Vec<Option<Value>>,
 }
 
@@ -44,7 +44,7 @@ fn put_word(vars: &mut Vec<Word>, var: u32, word: Word)
     }
 }
 
-/// The words go into the variables of these numbers from left to right. Where there are fewer words, the others stay.
+/// The words go into the variables of these numbers from left to right. If there are fewer words, the others stay.
 fn put_words(vars: &mut Vec<Word>, numbers: &[u32], words: &[Word])
     ensures vars { vars.new.items ≡ stored numbers.now words.now vars.old.items }
     ensures room { vec_capacity vars.new ≡ vec_capacity vars.old }
@@ -54,7 +54,7 @@ fn put_words(vars: &mut Vec<Word>, numbers: &[u32], words: &[Word])
     }
 }
 
-/// The words of the slot, and none where there is no such slot.
+/// The words of the slot, and none if there is no such slot.
 fn words_in(values: &[Value], slot: usize) -> &[Word]
     ensures { result.now ≡ get_or (map words_of values.now) slot [] }
 {
@@ -87,7 +87,7 @@ impl Store {
         put_word(&mut self.vars, var, word);
     }
 
-    /// The words go into the variables of these numbers from left to right. Where there are fewer words, the others stay.
+    /// The words go into the variables of these numbers from left to right. If there are fewer words, the others stay.
     pub fn put_all(&mut self, numbers: &[u32], words: &[Word])
         ensures store { store_of self.new ≡ with_vars (stored numbers.now words.now self.old.vars.items) (store_of self.old) }
         ensures room { room_of self.new ≡ room_of self.old }
@@ -133,7 +133,7 @@ impl Store {
         }
     }
 
-    /// What is to be published of the slot, and the empty value where nothing was written.
+    /// What is to be published of the slot, and the empty value if nothing was written.
     pub fn published(&self, slot: usize) -> Value
         ensures { words_of result ≡ words_or_none (written_in slot (store_of self.now)) }
     {

@@ -65,7 +65,7 @@ fn look_at_task<B: Bench, H: Hints>(
 ///
 /// In a task with an activation that activation's next call is tried; after its accepted ask at a direct point the start of the
 /// direct activation, then that one's calls, up to its end (SWS_RTE: Rte_Call); a free task tries its events that are awake in order of
-/// position (SWS_RTE: runnable activation); and a mode machine its next phase. One look is made for each that touches an object. Where the
+/// position (SWS_RTE: runnable activation); and a mode machine its next phase. One look is made for each that touches an object. If the
 /// bench tells its objects, what sleeps is held by the objects before, and so is what it puts to sleep.
 pub fn look_at<B: Bench, H: Hints>(
     p: &BusPlan,

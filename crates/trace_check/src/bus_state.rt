@@ -96,7 +96,7 @@ impl BusState {
         }
     }
 
-    /// A guess at what the key does next, after the last deed of the trace, or where it starts by this event.
+    /// A guess at what the key does next, after the last deed of the trace, or if it starts by this event.
     pub(crate) fn expected(
         &self,
         t: &TaskSet,

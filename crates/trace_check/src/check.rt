@@ -163,7 +163,7 @@ impl<'p> Check<'p> {
         }
     }
 
-    /// A guess at what the key does next, after the last deed of the trace, or where it starts by this event. Any line may come, whatever the guess.
+    /// A guess at what the key does next, after the last deed of the trace, or if it starts by this event. Any line may come, whatever the guess.
     pub(crate) fn expected(
         &self,
         t: &TaskSet,

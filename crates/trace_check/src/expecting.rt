@@ -11,7 +11,7 @@ use trace_reading::LineRead;
 /// What was seen of a runnable.
 #[derive(Clone, Copy)]
 struct Habit<'t> {
-    /// The activation that came after it last, with the text of its actor, which is empty where none did.
+    /// The activation that came after it last, with the text of its actor, which is empty if none did.
     next: ActKey,
     who: &'t [u8],
     /// The event that started it last, if without values.
@@ -78,7 +78,7 @@ impl<'t> Guesses<'t> {
         }
     }
 
-    /// The entry that the line is most likely that of. None where there is no good guess.
+    /// The entry that the line is most likely that of. None if there is no good guess.
     pub(crate) fn expected(&self, t: &TaskSet, check: &Check<'_>, line: &[u8]) -> Option<Entry> {
         let key = self.key_of(line)?;
         let event = self.habits.get(key.runnable as usize)?.event;

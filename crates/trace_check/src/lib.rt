@@ -10,7 +10,7 @@
 //! great, however long the trace is.
 //!
 //! **Why does the reader of traces take a hint?** To find what a line names takes longer than to write a line. So `check_trace`
-//! guesses the entry from the program of the activation whose line it is, and the reader reads the line whole only where it is not
+//! guesses the entry from the program of the activation whose line it is, and the reader reads the line whole only if it is not
 //! that entry's. The guess comes with no contract, since the reader trusts none: it answers the same to any hint.
 #![tactic(auto)]
 

@@ -20,7 +20,7 @@ pub(crate) fn takes_entry(orders: &mut Orders<'_>, inside: bool, entry: &Entry) 
     }
 }
 
-/// Takes a run mark, and answers whether it may come next in the order of the script: outside run lines, where that is the script's next line.
+/// Takes a run mark, and answers whether it may come next in the order of the script: outside run lines, if that is the script's next line.
 /// If not, what is left of the script is of no use.
 pub(crate) fn takes_run(orders: &mut Orders<'_>, inside: bool) -> bool
     ensures { (script : List Line) (s : Session) → Leaves script s orders.old → inside ≡ is_inside s →

@@ -1,4 +1,4 @@
-//! Whether a bus is at rest where no activation runs: the phases and starts of tasks that may come are tried.
+//! Whether a bus is at rest if no activation runs: the phases and starts of tasks that may come are tried.
 
 ghost use Rattle.std.specs.Prelude.{◌≡◌, ◌<◌, ℕ, length, true, false, is_some, slice_get, Some};
 ghost use Rattle.bus_semantics.specs.declared.script.Mapping.{Mapping};
@@ -99,7 +99,7 @@ fn has_queue(p: &BusPlan, server: u32) -> bool
     }
 }
 
-/// Whether an event is in a task: a server's is only where it has a queue.
+/// Whether an event is in a task: a server's is only if it has a queue.
 fn is_mapped(p: &BusPlan, event: u32) -> bool
     ensures { result ≡ is_mapped (plan_of p.now) event }
 {
@@ -167,7 +167,7 @@ fn no_start_comes(p: &BusPlan, objects: &mut Vec<Object>, events: &mut PlaceSet)
     true
 }
 
-/// Whether a bus is at rest where no activation runs: after a legal history for which the objects stand, no phase of a machine may
+/// Whether a bus is at rest if no activation runs: after a legal history for which the objects stand, no phase of a machine may
 /// come and no start by an event of a task. Only what is among `unrest` is tried, each on its object; what does not come is among it no
 /// longer, so that the next call tries only what entries made come since. If none comes, the objects have not changed; if one does, what
 /// they keep then is of no use. It takes no memory.

@@ -1,4 +1,4 @@
-//! What may come of its own along a trace, where no activation runs: starts by events of tasks, and phases of machines.
+//! What may come of its own along a trace, if no activation runs: starts by events of tasks, and phases of machines.
 
 ghost use Rattle.std.specs.Prelude.{◌≡◌, ◌<◌, ℕ, List, length, true, false, IfOk, slice_index_or, slice_get, set, Some};
 ghost use Rattle.std.specs.List.{Contains};

@@ -1,7 +1,7 @@
 //! Lines of a trace, read back, and whether an entry or a wish fits a plan: each name is one that its actor's own instance (or an
 //! outer port) has, and of the kind that the call takes.
 //!
-//! `guess` reads the fields of a line and finds what they name: where the line is that of any entry, then of this one. The entry
+//! `guess` reads the fields of a line and finds what they name: if the line is that of any entry, then of this one. The entry
 //! is written out again and compared with the line, so a line is read only as what it spells.
 //!
 //! # Decisions

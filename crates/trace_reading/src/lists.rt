@@ -29,7 +29,7 @@ fn list_at(p: &BusPlan, who: Actor, text: &[u8]) -> Option<u32>
     }
 }
 
-/// 1 where the digit is.
+/// 1 if the digit is.
 fn mark_in(digit: u8) -> u16
     ensures { result ≡ (if digit == 49 then 1 else 0) }
 {

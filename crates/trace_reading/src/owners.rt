@@ -20,7 +20,7 @@ fn serves_directly(p: &BusPlan, key: ActKey) -> bool
     }
 }
 
-/// Whether a key names a runnable, and a point exactly where this serves directly: one that is joined to its server.
+/// Whether a key names a runnable, and a point exactly if this serves directly: one that is joined to its server.
 pub fn key_fits(p: &BusPlan, key: ActKey) -> bool
     ensures { result ≡ key_fits (plan_of p.now) key }
 {

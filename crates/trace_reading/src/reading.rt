@@ -147,7 +147,7 @@ impl<'p> Reader<'p> {
         self.read_expecting(v, line, None, &mut LineBuf::new())
     }
 
-    /// Reads a line of a trace of the version, given with its newline, as `read` does. The expected entry is a guess, and may be any: where
+    /// Reads a line of a trace of the version, given with its newline, as `read` does. The expected entry is a guess, and may be any: if
     /// the line is its line, no names are looked up. `out` holds the texts that are compared, and what stands in it before and
     /// after means nothing. It takes no memory.
     pub fn read_expecting(

@@ -183,7 +183,7 @@ fn note<'p>(
     Ok(())
 }
 
-/// The table of the things of a kind. Where a key is doubled it has the first.
+/// The table of the things of a kind. If a key is doubled it has the first.
 fn table_of<'p>(
     alloc: Global,
     p: &'p BusPlan,

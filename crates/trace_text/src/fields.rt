@@ -35,7 +35,7 @@ fn write_more_words(words: &[Word], out: &mut LineBuf)
     }
 }
 
-/// Writes the words of the value, joined by commas, or a dash where it has none.
+/// Writes the words of the value, joined by commas, or a dash if it has none.
 fn write_value(value: &Value, out: &mut LineBuf)
     ensures text { Appends out.old out.new (value_text value.now) }
     ensures short { IsShortValue value.now }

@@ -1,6 +1,6 @@
 //! Traces: the line of each entry, and the lines that stand between entries.
 //!
-//! A line is written into a `LineBuf` of 2,048 bytes. Where the names of a plan are as short as a sound plan's, no
+//! A line is written into a `LineBuf` of 2,048 bytes. If the names of a plan are as short as a sound plan's, no
 //! line is longer, so it always fits.
 //!
 //! # Decisions

@@ -39,7 +39,7 @@ fn position_of(p: &BusPlan, list: u32) -> u32
     }
 }
 
-/// `1` where the lowest mark is set, else `0`.
+/// `1` if the lowest mark is set, else `0`.
 fn write_mark(marks: u16, out: &mut LineBuf)
     ensures { Appends out.old out.new (if marks % 2 == 1 then codes "1" else codes "0") }
 {
@@ -50,7 +50,7 @@ fn write_mark(marks: u16, out: &mut LineBuf)
     }
 }
 
-/// One digit for each element, `1` where it is marked.
+/// One digit for each element, `1` if it is marked.
 fn write_marks(written: u16, elems: &[u32], out: &mut LineBuf)
     ensures { Appends out.old out.new (mask_text written elems.now) }
 {

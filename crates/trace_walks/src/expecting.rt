@@ -61,7 +61,7 @@ fn granted(wish: &Wish) -> Option<Deed> {
     }
 }
 
-/// The deed that is most likely where an activation wants this after its last deed. None where there is no good guess.
+/// The deed that is most likely where an activation wants this after its last deed. None if there is no good guess.
 fn likely(wish: &Wish, last: &Deed) -> Option<Deed> {
     match *wish {
         Wish::Admit { .. } => Some(Deed::Admit { yes: true }),
@@ -88,8 +88,8 @@ fn likely(wish: &Wish, last: &Deed) -> Option<Deed> {
 }
 
 impl Walks {
-    /// A guess at what the key does next, after the last deed of the trace: where an activation runs, what it wants, with the answer that is
-    /// most likely; else it starts by this event, if there is one. None where there is no good guess. Any deed may come, whatever
+    /// A guess at what the key does next, after the last deed of the trace: if an activation runs, what it wants, with the answer that is
+    /// most likely; else it starts by this event, if there is one. None if there is no good guess. Any deed may come, whatever
     /// the guess.
     pub fn expected(
         &self,

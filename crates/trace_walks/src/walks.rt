@@ -174,7 +174,7 @@ impl Walks {
     }
 
     /// Whether the entry is what the program of its actor asks for after the entries for which the walks stand (SWS_RTE: runnable
-    /// activation): an activation starts where none of its key runs, and then does what its program says; a caller of a server without a
+    /// activation): an activation starts if none of its key runs, and then does what its program says; a caller of a server without a
     /// queue goes on after its end. The entry fits, and the bodies are the plan's.
     pub fn follows(&self, p: &BusPlan, t: &TaskSet, entry: &Entry) -> bool
         requires fits { fits (plan_of p.now) entry.now ≡ true }

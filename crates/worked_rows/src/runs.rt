@@ -11,7 +11,7 @@ use std::thread::Threads;
 /// How many bytes may be told in memory: 16 MiB.
 const ROOM: u64 = 16_777_216;
 
-/// How often a core looks at most in one hold of `Staggered`, while another one runs, and where none does.
+/// How often a core looks at most in one hold of `Staggered`, while another one runs, and if none does.
 const MOST_LOOKS: u32 = 100_000_000;
 
 const FEW_LOOKS: u32 = 1_000;
