@@ -229,7 +229,7 @@ impl Guesses {
         }
     }
 
-    /// The same for each object of a word of news, of which this is the first.
+    /// Wakes what may start by each object of a word of news, of which this is the first.
     fn wake_objects(&self, number: u32, core: &Core, objects: u64, first: u32, awake: &mut Awake)
         requires { Fits core.now.slots core.now.first awake.old }
         ensures { Fits core.now.slots core.now.first awake.new }

@@ -21,7 +21,7 @@ use cross_core_table::SeatBench;
 use rte_text::Gate;
 use task_machine::TaskSet;
 
-/// So many turns a core makes in a round at most: 1,024 with an entry, and before each of them 63 without one, or 64 at the end.
+/// How many turns a core makes in a round at most: 1,024 with an entry, and before each of them 63 without one, or 64 at the end.
 const MOST_TURNS: u32 = 1024 * 64;
 
 /// A core makes a turn at its bench over all of its slots, and the answer is whether it made an entry; then the trace is empty again,

@@ -17,7 +17,7 @@ use std::alloc::{AllocError, Global};
 use std::mem;
 use std::thread::Threads;
 
-/// These entries in the place of earlier ones. There has to be room for them.
+/// Puts these entries in the place of earlier ones. There has to be room for them.
 fn refilled(entries: Vec<Stamped>, made: &[Stamped]) -> Vec<Stamped>
     requires { length made.now ≤ vec_capacity entries }
     ensures items { result.items ≡ made.now }

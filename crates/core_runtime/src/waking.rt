@@ -34,7 +34,7 @@ fn wake_seat(object: &Object, event: u32, seat: &Seat, awake: &mut Vec<Awake>)
     }
 }
 
-/// The same at each of these seats.
+/// Wakes the event at each of these seats, if it sleeps there and may start now.
 fn wake_seats(object: &Object, event: u32, seats: &[Seat], awake: &mut Vec<Awake>)
     requires there { (k : ℕ) (s : Seat) → slice_get seats.now k ≡ Some s → IsThere awake.old.items s }
     ensures woken { AreWoken awake.old.items awake.new.items }
@@ -45,7 +45,7 @@ fn wake_seats(object: &Object, event: u32, seats: &[Seat], awake: &mut Vec<Awake
     }
 }
 
-/// The same at each seat of the event.
+/// Wakes an event at each of its seats, if it sleeps there and may start now.
 fn wake_event(object: &Object, event: u32, w: &mut Watch)
     requires there { (e : ℕ) (s : Seat) → IsAt w.old.seats.items e s → IsThere w.old.awake.items s }
     ensures seats { w.new.seats ≡ w.old.seats }
@@ -58,7 +58,7 @@ fn wake_event(object: &Object, event: u32, w: &mut Watch)
     }
 }
 
-/// The same of each of these events.
+/// Wakes each of these events at each of its seats, if it sleeps there and may start now.
 fn wake_events(object: &Object, events: &[u32], w: &mut Watch)
     requires there { (e : ℕ) (s : Seat) → IsAt w.old.seats.items e s → IsThere w.old.awake.items s }
     ensures seats { w.new.seats ≡ w.old.seats }

@@ -44,7 +44,7 @@ pub(crate) fn take_space(
     })
 }
 
-/// This list with nothing in it, and room for so many entries.
+/// Makes a list empty, with room for so many entries.
 fn emptied(list: Vec<Stamped>, room: usize) -> Result<Vec<Stamped>, Memory>
     ensures { IfOk result (λ v. (v.items ≡ []) × (room ≤ vec_capacity v)) }
 {

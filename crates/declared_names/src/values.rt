@@ -21,7 +21,7 @@ pub fn items_in(value: &Value) -> &[Value]
     }
 }
 
-/// Those of the array at the key.
+/// The items of the array at the key.
 #[tactic(auto, using(crate::proofs::Lists::items_listed))]
 pub fn items_at<'a>(value: &'a Value, key: &str) -> &'a [Value]
     ensures { map view result.now ≡ items_at key.now (view value.now) }
@@ -32,7 +32,7 @@ pub fn items_at<'a>(value: &'a Value, key: &str) -> &'a [Value]
     }
 }
 
-/// Those of the part of the array.
+/// The items of the part of the array.
 #[tactic(auto, using(crate::proofs::Lists::items_listed))]
 pub fn items_of_part(value: &Value, part: usize) -> &[Value]
     ensures { map view result.now ≡ items_of_part part (view value.now) }

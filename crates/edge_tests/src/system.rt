@@ -5,7 +5,7 @@ use std::alloc::{AllocError, Global};
 use std::fs;
 use std::test::Fail;
 
-/// So many bytes, of which no two neighbours are alike.
+/// A sample of so many bytes, of which no two neighbours are alike.
 fn sample(alloc: Global, size: usize) -> Result<Vec<u8>, AllocError> {
     (0..size).map(|at| (at % 251) as u8).collect(alloc)
 }

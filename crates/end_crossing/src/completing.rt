@@ -26,7 +26,7 @@ fn only(alloc: Global, interface: u32) -> Result<IndexSet<u32>, Memory>
     Ok(found)
 }
 
-/// Those of some ends that have an interface.
+/// The ends among some that have an interface.
 fn with_interface(alloc: Global, ends: &[PortEnd], interface: u32) -> Result<Vec<PortEnd>, Memory>
     ensures { IfOk result (λ list. (x : PortEnd) → Among x list.items ↔ (Among x ends.now × (x.interface ≡ interface))) }
 {

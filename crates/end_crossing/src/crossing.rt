@@ -243,7 +243,7 @@ fn add_rest(
     }
 }
 
-/// The same if not all ports are at hand. Those at hand are joined first: if there are more of them, there are mostly
+/// Adds the links of two sides of which not all ports are at hand. Those at hand are joined first: if there are more of them, there are mostly
 /// too many links.
 fn add_cut(
     alloc: Global,

@@ -15,7 +15,7 @@ pub struct Progress {
 impl Progress {
     ghost use Rattle.std.specs.Prelude.{◌≡◌, false};
 
-    /// Of no lines.
+    /// The progress before any line.
     pub fn none() -> Progress
         ensures lines { result.lines ≡ 0 }
         ensures wishes { result.wishes ≡ 0 }

@@ -14,9 +14,9 @@ use std::alloc::Global;
 /// The elements that the runnables access implicitly, each list at the place of its runnable's number.
 #[derive(Drop)]
 pub struct BufferPlan {
-    /// Those that an activation fetches at its start, in declared order (SWS_RTE: Rte_IRead, Rte_IrvIRead).
+    /// The elements that an activation fetches at its start, in declared order (SWS_RTE: Rte_IRead, Rte_IrvIRead).
     pub fetched: Seq<Seq<u32>>,
-    /// Those that it publishes at its end, in declared order (SWS_RTE: Rte_IWrite, Rte_IrvIWrite).
+    /// The elements that it publishes at its end, in declared order (SWS_RTE: Rte_IWrite, Rte_IrvIWrite).
     pub published: Seq<Seq<u32>>,
 }
 

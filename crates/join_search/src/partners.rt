@@ -163,7 +163,7 @@ pub struct Degrees<'a> {
 }
 
 impl Degrees<'_> {
-    /// Those of the ends of these joins.
+    /// The degrees of the ends of these joins.
     pub fn new(alloc: Global, joins: &[Join]) -> Result<Degrees<'_>, Memory>
         ensures { IfOk result (λ degrees. degrees.joins.now ≡ joins.now) }
     {

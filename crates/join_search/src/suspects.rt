@@ -101,7 +101,7 @@ pub struct Suspects<'a> {
 }
 
 impl Suspects<'_> {
-    /// Those among the ends of joins.
+    /// The suspects among the ends of joins.
     pub fn new<'a>(alloc: Global, degrees: &Degrees<'a>) -> Result<Suspects<'a>, Memory>
         ensures { IfOk result (λ suspects. suspects.joins.now ≡ degrees.now.joins.now) }
     {

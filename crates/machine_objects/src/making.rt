@@ -65,7 +65,7 @@ fn push_where(events: &mut Vec<u32>, event: u32, passes: bool) -> Result<(), Mem
     Ok(())
 }
 
-/// Those of the events that are SwcModeSwitchEvents of a machine.
+/// The events among some that are SwcModeSwitchEvents of a machine.
 fn switch_events(
     alloc: Global,
     p: &BusPlan,
@@ -81,7 +81,7 @@ fn switch_events(
     Ok(picked)
 }
 
-/// Those of the events that are ModeSwitchedAckEvents of a machine.
+/// The events among some that are ModeSwitchedAckEvents of a machine.
 fn ack_events(alloc: Global, p: &BusPlan, machine: u32, events: &[u32]) -> Result<Vec<u32>, Memory>
     ensures { IfOk result (λ picked. picked.items ≡ filter (λ e. waits_for_end machine (kind_of (plan_of p.now) e)) events.now) }
 {
@@ -92,7 +92,7 @@ fn ack_events(alloc: Global, p: &BusPlan, machine: u32, events: &[u32]) -> Resul
     Ok(picked)
 }
 
-/// Those of the events that a machine disables.
+/// The events among some that a machine disables.
 fn disabled_events(
     alloc: Global,
     p: &BusPlan,

@@ -48,7 +48,7 @@ fn lists_of<K: Eq + Hash + Copy, V: Copy + Drop>(
 }
 
 impl<K: Eq + Hash + Copy, V: Copy + Drop> Groups<K, V> {
-    /// These entries, with the values of each key.
+    /// Groups these entries by their keys.
     pub fn new(alloc: Global, entries: Vec<(K, V)>) -> Result<Groups<K, V>, Memory>
         ensures { IfOk result (λ groups. groups.entries.items ≡ entries.items) }
     {

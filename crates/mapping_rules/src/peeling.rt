@@ -8,7 +8,7 @@ use indexmap::IndexSet;
 use rte_text::Memory;
 use std::alloc::Global;
 
-/// From one task to another.
+/// A wait, from one task to another.
 pub type Edge = (u32, u32);
 
 fn targets_of(alloc: Global, edges: &[Edge]) -> Result<IndexSet<u32>, Memory>

@@ -12,7 +12,7 @@ use bus_semantics::{BusPlan, EventKind};
 use std::alloc::Global;
 use std::mem;
 
-/// That many empty lists.
+/// So many empty lists, in one list.
 pub fn empty_lists(alloc: Global, count: usize) -> Result<Vec<Vec<u32>>, Memory>
     ensures long { IfOk result (λ lists. length lists.items ≡ count) }
     ensures empty { IfOk result (λ lists. (group : ℕ) → listed_at lists.items group ≡ []) }

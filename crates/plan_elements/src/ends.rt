@@ -18,7 +18,7 @@ use std::alloc::Global;
 pub struct Ends {
     /// The numbers of the ends of each join, the provided one first.
     pub pairs: Vec<(u32, u32)>,
-    /// Of each element, by its number, whether a join has it as an end.
+    /// Whether a join has the element as an end, for each by its number.
     pub joined: Vec<bool>,
 }
 

@@ -22,7 +22,7 @@ pub struct Groups {
     pub numbers: Vec<u32>,
     /// How many groups there are.
     pub count: usize,
-    /// Of each element, whether a join has it as an end.
+    /// Whether a join has the element as an end, for each of them.
     pub joined: Vec<bool>,
 }
 

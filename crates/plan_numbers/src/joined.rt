@@ -51,7 +51,7 @@ impl<'a> Joined<'a> {
     ghost use Rattle.std.specs.Prelude.{◌≡◌, IfOk};
     ghost use Rattle.plan_definitions.specs.Joined.{provider_of};
 
-    /// Those of these joins.
+    /// What these joins join.
     pub fn of(alloc: Global, joins: &'a [Join]) -> Result<Joined<'a>, Memory>
         ensures { IfOk result (λ joined. joined ≡ joins.now) }
     {

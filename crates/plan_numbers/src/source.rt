@@ -88,7 +88,7 @@ fn found_of(alloc: Global, d: &Description, f: &Flat, lists: &Lists) -> Result<F
 }
 
 impl Source<'_> {
-    /// That of a description and its flat form. 32 bits number what is in them.
+    /// The source of a description and its flat form. 32 bits number what is in them.
     pub fn new<'a>(alloc: Global, d: &'a Description, f: &'a Flat) -> Result<Source<'a>, Memory>
         requires { HasFewThings d.now f.now }
         ensures { IfOk result (λ source. (source.d.now ≡ d.now) × (source.f.now ≡ f.now)) }
@@ -103,7 +103,7 @@ impl Source<'_> {
         }
     }
 
-    /// That of a description whose joins and lists are found.
+    /// The source of a description whose joins and lists are found.
     fn with_lists<'a>(
         alloc: Global,
         d: &'a Description,

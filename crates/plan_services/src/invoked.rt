@@ -45,7 +45,7 @@ fn invoked_in(alloc: Global, component: &Component) -> Result<Invocations, Memor
     Positions::of(alloc, keys.as_slice())
 }
 
-/// Those of each component.
+/// The invocations of each component.
 pub fn all_invoked(alloc: Global, d: &Description) -> Result<Seq<Invocations>, Memory>
     ensures { IfOk result (λ tables. tables ≡ all_invoked d.now) }
 {

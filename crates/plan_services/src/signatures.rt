@@ -29,7 +29,7 @@ fn shared(
     Ok(found)
 }
 
-/// Those of some runnables of a component.
+/// The signatures of some runnables of a component.
 fn signatures_in(
     alloc: Global,
     types: &TypeTable,

@@ -39,7 +39,7 @@ fn target_of(
     }
 }
 
-/// Those of all accesses of a runnable.
+/// The targets of all accesses of a runnable.
 pub fn targets_of(
     alloc: Global,
     source: &Source<'_>,

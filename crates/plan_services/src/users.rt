@@ -56,7 +56,7 @@ fn used(alloc: Global, source: &Source<'_>, sites: &[Site]) -> Result<IndexSet<u
     Ok(set)
 }
 
-/// Those among them that the mode element does not support to switch asynchronously.
+/// The machines of the mode elements among these sites that do not support to switch asynchronously.
 fn refused(alloc: Global, source: &Source<'_>, sites: &[Site]) -> Result<IndexSet<u32>, Memory>
     ensures { IfOk result (λ set. (n : ℕ) → contains nat_eq set n ≡ list_any (nat_eq n) (map (machine_required source.now.d.now source.now.f.now) (filter (is_refusal source.now.d.now source.now.f.now) sites.now))) }
 {
@@ -70,7 +70,7 @@ fn refused(alloc: Global, source: &Source<'_>, sites: &[Site]) -> Result<IndexSe
 }
 
 impl Users {
-    /// Those of the machines of a plan. The only error is that there is no memory.
+    /// The users of the machines of a plan. The only error is that there is no memory.
     pub fn new(alloc: Global, source: &Source<'_>) -> Result<Users, Memory>
         ensures { IfOk result (AreUsers source.now.d.now source.now.f.now) }
     {

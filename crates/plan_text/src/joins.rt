@@ -46,7 +46,7 @@ fn begin(d: &Description, f: &Flat, place: Place, text: &mut Vec<u8>) -> Result<
 }
 
 impl<'a> Beginning<'a> {
-    /// That of the lines of a port.
+    /// The state before the lines of a port.
     fn new(
         alloc: Global,
         d: &'a Description,

@@ -66,7 +66,7 @@ fn receivers_of(alloc: Global, p: &BusPlan, group: u32) -> Result<Vec<u32>, Memo
     Ok(receivers)
 }
 
-/// Those of the events that wait for a receiver of a group.
+/// The events among some that wait for a receiver of a group.
 fn awaiting(alloc: Global, p: &BusPlan, group: u32, events: &[u32]) -> Result<Vec<u32>, Memory>
     ensures { IfOk result (λ waiting. waiting.items ≡ filter (λ e. waits_for_receiver (plan_of p.now) group (kind_of (plan_of p.now) e)) events.now) }
 {

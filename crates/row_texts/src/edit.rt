@@ -28,7 +28,7 @@ fn sides(edit: &str) -> Option<(&str, &str)> {
     }
 }
 
-/// That the text of an edit stands so often.
+/// The fault that the text of an edit stands so often.
 fn stands(alloc: Global, from: &str, count: usize) -> Fault {
     match String::from_str(alloc, from) {
         Ok(from) => Fault::Stands { from, count },

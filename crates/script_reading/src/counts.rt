@@ -16,7 +16,7 @@ pub struct Counts {
 impl Counts {
     ghost use Rattle.std.specs.Prelude.{◌≡◌};
 
-    /// Of no lines.
+    /// The counts before any line.
     pub fn none() -> Counts
         ensures lines { result.lines ≡ 0 }
         ensures ticks { result.ticks ≡ 0 }

@@ -17,7 +17,7 @@ use std::alloc::Global;
 use std::thread::Threads;
 use trace_text::{idle_line, run_line, unsettled_line};
 
-/// So many entries since its mark end a run line that nothing else ends.
+/// How many entries since its mark end a run line that nothing else ends.
 const MOST_MADE: u64 = 100_000;
 
 /// What came of a round and the serial pass after it.
@@ -119,7 +119,7 @@ pub fn put_lap<R: Threads + Sync, K: Sink, G: Gate>(
     }
 }
 
-/// A run line: its mark, then rounds and serial passes until a pass makes no entry, or 100,000 entries were made. It goes on from
+/// Makes a run line and puts it: its mark, then rounds and serial passes until a pass makes no entry, or 100,000 entries were made. It goes on from
 /// a session as `put_ticks` does.
 pub fn put_run<R: Threads + Sync, K: Sink, G: Gate>(
     rt: &R,

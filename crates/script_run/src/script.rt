@@ -37,7 +37,7 @@ pub enum ScriptRun {
     Memory,
 }
 
-/// A call of the environment: the entry that it makes, and what the put of its line answered. The entry goes on legally with the
+/// Makes a call of the environment and puts its line: the entry that it makes, and what the put of its line answered. The entry goes on legally with the
 /// session, and is given out whatever came of its line.
 pub fn make_call<K: Sink>(
     n: &mut Node,
@@ -75,7 +75,7 @@ fn put_call<K: Sink>(
     came_of(made.1)
 }
 
-/// So many ticks. They go on whatever session the node stands after, outside run lines: they add items to it that go on legally,
+/// Makes so many ticks and puts their lines. They go on whatever session the node stands after, outside run lines: they add items to it that go on legally,
 /// and put a line for each, in order, behind the prefix that was asked for. With `Failed` and `Memory`, what was put is a prefix
 /// of the lines of such items that do some of the orders.
 pub fn put_ticks<K: Sink>(

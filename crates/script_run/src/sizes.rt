@@ -58,7 +58,7 @@ pub(crate) fn entry_is_sized(entry: &Entry)
     deed_is_sized(entry.deed);
 }
 
-/// So has each of these.
+/// Each of these entries has the sizes of its types.
 pub(crate) fn entries_are_sized(entries: &[Stamped])
     ensures { list_all is_sized_stamped entries.now ≡ true }
 {

@@ -116,7 +116,7 @@ fn feed_part(links: &[LinkElem], part: &mut Part, piece: &[u8]) -> Fed
     feed_begun(links, part, piece)
 }
 
-/// The same if no bad frame came before.
+/// Uses bytes of the piece as `feed_part` does, if no bad frame came before.
 fn feed_begun(links: &[LinkElem], part: &mut Part, piece: &[u8]) -> Fed
     requires links { AreLinks links.now }
     requires part { IsPart links.now part.old }

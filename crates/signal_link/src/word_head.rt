@@ -27,7 +27,7 @@ impl WordHead {
         }
     }
 
-    /// These bytes and one more.
+    /// The head of these bytes and one more.
     pub(crate) fn with(self, byte: u8) -> WordHead
         requires head { IsHead self }
         requires room { self.count < 8 }

@@ -75,7 +75,7 @@ pub struct Accesses<'p> {
 }
 
 impl<'p> Accesses<'p> {
-    /// Those of this list.
+    /// The accesses of this list.
     pub fn of(alloc: Global, list: &'p [AccessSig]) -> Result<Accesses<'p>, Memory>
         requires few { GivesFewWords list.now }
         ensures { IfOk result (λ accesses. accesses.list.now ≡ list.now) }

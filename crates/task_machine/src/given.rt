@@ -73,7 +73,7 @@ impl Given {
         }
     }
 
-    /// The same for any number of words. It stays a function of its own, since the room of a whole list costs a call with one
+    /// The value of any number of words, as `value` gives it. It stays a function of its own, since the room of a whole list costs a call with one
     /// word more than the word.
     #[inline(never)]
     fn value_of_all(&self, vars: &[Word]) -> Value

@@ -235,7 +235,7 @@ pub struct Body {
 /// The bodies of all runnables.
 #[derive(Drop)]
 pub struct TaskSet {
-    /// Those of the runnables, each at the place of its number.
+    /// The bodies of the runnables, each at the place of its number.
     pub bodies: Seq<Body>,
     /// For each event whether some mode disables it (SWS_RTE: ModeDisablingDependency).
     pub disabled: Seq<bool>,

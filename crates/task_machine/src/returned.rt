@@ -32,7 +32,7 @@ fn push_result(words: &mut ArrayVec<Word, 16>, argument: &ArgPlan, word: &Word)
 }
 
 impl Returned {
-    /// Of an operation with these errors and arguments. None exactly if there are more than 16 arguments. It takes no memory.
+    /// What an operation with these errors and arguments returns. None exactly if there are more than 16 arguments. It takes no memory.
     pub fn new(errors: Seq<Code>, arguments: Vec<ArgPlan>) -> Option<Returned>
         ensures fits { IsSome result ↔ (length arguments.items ≤ 16) }
         ensures errors { IfSome result (λ r. r.errors ≡ errors) }

@@ -21,7 +21,7 @@ pub struct Store {
     pub written: Vec<Option<Value>>,
 }
 
-/// So many of these items, in the room that there is.
+/// Fills a list with so many of these items, in the room that there is.
 #[tactic(auto, using(std::proofs::lemmas::List::replicate_more))]
 pub fn refill<T: Copy>(items: &mut Vec<T>, count: usize, item: T)
     requires room { count ≤ vec_capacity items.old }

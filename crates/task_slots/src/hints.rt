@@ -46,7 +46,7 @@ impl Hints for All {
     }
 }
 
-/// Those of the set are awake.
+/// The events of the set are awake.
 impl Hints for PlaceSet {
     ghost use Rattle.std.specs.Prelude.{◌≡◌, length};
     ghost use Rattle.task_slots.specs.Waiting.{flags};

@@ -18,7 +18,7 @@ pub(crate) fn winner(best: &[usize], node: usize) -> usize
     }
 }
 
-/// From a node goes on the one of its children's winners that has less left at this tick.
+/// Settles a node: of the winners of its children the one with less left at this tick goes on.
 fn settle(best: &mut [usize], countdowns: &[Countdown], now: u64, node: usize)
     requires count { length best.old ≡ length countdowns.now }
     requires places { ArePlaces best.old }

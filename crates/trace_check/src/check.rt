@@ -18,7 +18,7 @@ use std::alloc::Global;
 use task_machine::TaskSet;
 use trace_reading::LineRead;
 
-/// So many entries of a run line are counted.
+/// How many entries of a run line are counted at most.
 const MOST_MADE: u32 = 100_000;
 
 /// What an item of a trace comes to.

@@ -25,7 +25,7 @@ pub(crate) struct Guesses<'t> {
     key: ActKey,
     who: &'t [u8],
     deed: Deed,
-    /// Those of all runnables.
+    /// The habits of all runnables.
     habits: Vec<Habit<'t>>,
 }
 
@@ -43,7 +43,7 @@ fn is_of(line: &[u8], who: &[u8]) -> bool {
 }
 
 impl<'t> Guesses<'t> {
-    /// Those before a trace. An error says that there was no memory.
+    /// The guesses before a trace. An error says that there was no memory.
     pub(crate) fn new(alloc: Global, p: &BusPlan) -> Result<Guesses<'t>, Memory> {
         let nobody = ActKey {
             runnable: 0,

@@ -47,7 +47,7 @@ pub struct Numbers {
 impl Numbers {
     ghost use Rattle.trace_counts.specs.Numbers.{counted, no_numbers};
 
-    /// Of nothing.
+    /// The numbers of an empty text.
     pub(crate) fn none() -> Numbers
         ensures { result ≡ no_numbers }
     {

@@ -15,7 +15,7 @@ pub(crate) struct Tally {
 impl Tally {
     ghost use Rattle.trace_counts.specs.Tallies.{after, nothing_told, stepped};
 
-    /// Of nothing.
+    /// The tally of an empty text.
     pub(crate) fn new() -> Tally
         ensures { result ≡ nothing_told }
     {

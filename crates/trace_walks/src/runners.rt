@@ -48,7 +48,7 @@ impl Runners {
     ghost use Rattle.bus_semantics.specs.Sound.{IsSound};
     ghost use Rattle.trace_walks.specs.Runners.{CanNote, HasPlace, RunnersStand, with_key};
 
-    /// Those before a trace: none. An error says that there was no memory.
+    /// The runners before a trace: none runs. An error says that there was no memory.
     pub fn new(alloc: Global, p: &BusPlan) -> Result<Runners, Memory>
         ensures { IfOk result (λ runners. RunnersStand (plan_of p.now) [] runners) }
     {

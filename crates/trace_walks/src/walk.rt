@@ -109,7 +109,7 @@ impl Walk {
         }
     }
 
-    /// So many keys to which nothing has happened. An error says that there was no memory.
+    /// The walks of so many keys to which nothing has happened. An error says that there was no memory.
     pub(crate) fn fresh(alloc: Global, count: usize) -> Result<Vec<Walk>, Memory>
         ensures whole { IfOk result (λ walks. length walks.items ≡ count) }
         ensures fresh { IfOk result (λ walks. AreFresh walks.items) }

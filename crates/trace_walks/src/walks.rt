@@ -73,7 +73,7 @@ impl Walks {
     ghost use Rattle.task_generator.specs.Promise.{AsksAsPlanned};
     ghost use Rattle.trace_walks.specs.Standing.{CallerFreed, Freed, KeyNoted, WalksStand, asked_by, is_called, may_begin, walk_of};
 
-    /// Those before a trace. An error says that there was no memory.
+    /// The walks before a trace. They stand for the empty history. An error says that there was no memory.
     pub fn new(alloc: Global, p: &BusPlan) -> Result<Walks, Memory>
         ensures { IfOk result (λ walks. (t : TaskSet) → WalksStand t (plan_of p.now) [] walks) }
     {

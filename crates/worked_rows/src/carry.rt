@@ -254,7 +254,7 @@ fn check_bytes<R: Files + AllocGlobal + Clone + Drop + Threads + Wait + Sync>(
     check(rt, &case, trace)
 }
 
-/// The same of a trace of this text.
+/// Checks a trace of this text against the folder's description and script.
 fn check_text<R: Files + AllocGlobal + Clone + Drop + Threads + Wait + Sync>(
     rt: &R,
     folder: &str,

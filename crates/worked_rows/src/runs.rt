@@ -125,7 +125,7 @@ fn tell<R: AllocGlobal + Threads + Wait + Sync, G: Gate>(
     Ok(Answer { text, status })
 }
 
-/// The same over files and output that do not fail.
+/// Carries out the words over files and output that do not fail, and shows all that is told.
 fn tell_of<R: AllocGlobal + Threads + Wait + Sync, G: Gate>(
     rt: &R,
     words: &str,
