@@ -33,7 +33,7 @@ abbrev pub are_nested : List ℕ → Bool
 are_nested [] = true
 are_nested (x ∷ areas) = list_all (λ y. nat_lt y x) areas && are_nested areas
 
--- the wishes that come where no area is open: a call and its answer, a publication, a return and an end
+-- the wishes that come if no area is open: a call and its answer, a publication, a return and an end
 abbrev pub comes_outside : Wanted → Bool
 comes_outside (to_ask q ws) = true
 comes_outside (to_hear q) = true

@@ -5,7 +5,7 @@ use Rattle.rte_value.specs.declared.kinds.ActKey.{ActKey}
 use Rattle.area_objects.specs.declared.held.Entered.{Entered}
 use Rattle.area_objects.specs.declared.held.Entered.TheVariants.{In, Held}
 
--- the activation that is in the area, where there is one
+-- the activation that is in the area, if there is one
 abbrev pub Kept : Type 0
 Kept = Option ActKey
 
@@ -14,7 +14,7 @@ abbrev pub is_held_by : ActKey → Kept → Bool
 is_held_by key None = false
 is_held_by key (Some holder) = same_key holder key
 
--- an area is entered only where nobody is in it
+-- an area is entered only if nobody is in it
 abbrev pub answer_to_enter : Kept → Entered
 answer_to_enter None = In
 answer_to_enter (Some holder) = Held holder

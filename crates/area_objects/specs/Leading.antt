@@ -1,4 +1,4 @@
--- The lead: what an area keeps after an entry where it kept that before, or nothing where it would not answer so. It is a function of
+-- The lead: what an area keeps after an entry if it kept that before, or nothing if it would not answer so. It is a function of
 -- plain data, and knows no history. The entry touches the area.
 use Rattle.std.specs.Prelude.{Bool, false, Option, Some, None, is_none}
 use Rattle.rte_value.specs.declared.kinds.ActKey.{ActKey}
@@ -14,7 +14,7 @@ use Rattle.object_kinds.specs.declared.acted.Shown.TheVariants.{HeldBy, Unmatche
 use Rattle.object_kinds.specs.Flags.{given}
 use Rattle.area_objects.specs.Kept.{Kept}
 
--- an activation enters where nobody is in the area, and the one that is in it leaves
+-- an activation enters if nobody is in the area, and the one that is in it leaves
 abbrev pub lead_of_area : Kept → Deed → Actor → Option Kept
 lead_of_area k (deed.Enter x) (Act key) = given (is_none k.holder) (record { holder = Some key })
 lead_of_area k (deed.Leave x) (Act key) = given (is_held_by key k.holder) (record { holder = None })

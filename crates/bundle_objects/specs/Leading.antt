@@ -1,4 +1,4 @@
--- The lead: what a bundle keeps after an entry where it kept that before, or nothing where it would not answer so. It is a function of the
+-- The lead: what a bundle keeps after an entry if it kept that before, or nothing if it would not answer so. It is a function of the
 -- plan and of plain data, and knows no history. An entry on one element is its group's; a fetch of a list has the values of its elements at
 -- this one moment, and a publication of a list stores all its values at once, one after the other in the list's order.
 use Rattle.std.specs.Prelude.{ℕ, ℤ, List, [], ◌∷◌, flat_map, get_or, set, Bool, true, false, Option, Some, None, option_map, option_and_then, slice_get}

@@ -1,4 +1,4 @@
--- The value of these words, where there are at most 16.
+-- The value of these words, if there are at most 16.
 use Rattle.std.specs.Prelude.{◌≡◌, ◌-◌, ℤ, pos, List, length, replicate, Bool, true, false, nat_le}
 use Rattle.std.proofs.Common.{refl, sym, ap}
 use Rattle.std.proofs.Math.Seq.{take-append_seam}

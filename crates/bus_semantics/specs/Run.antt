@@ -92,7 +92,7 @@ pub record IsBeginningOf (script : List Line) (s : Session) : Type 0 where
   pub orders : orders_of s ++ left ≡ orders_of_script script
   pub placed : is_placed s ≡ true
 
--- `idle` holds at rest where no activation runs; `unsettled` where runnables and machines made at least 100,000 entries since the mark
+-- `idle` holds at rest if no activation runs; `unsettled` if runnables and machines made at least 100,000 entries since the mark
 abbrev pub Holds : Plan → Mapping → Session → Closing → Type 0
 Holds p m s idle = IsIdle p m (history_of s)
 Holds p m s unsettled = nat_le 100000 (made_in_line s) ≡ true

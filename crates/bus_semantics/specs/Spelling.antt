@@ -101,7 +101,7 @@ event_name p e = look p.events e (λ (v : EventPlan). v.name) []
 abbrev pub position_of : Plan → (list : ℕ) → ℕ
 position_of p l = look p.lists l (λ (c : CoherentList). look p.runnables c.runnable (λ (r : Runnable). unwrap_or (position (λ n. n == l) r.lists) 0) 0) 0
 
--- one digit for each element of a list, the first one's first: 1 where it is marked
+-- one digit for each element of a list, the first one's first: 1 if it is marked
 abbrev pub mask_text : (mask : ℕ) → (elems : List ℕ) → Letters
 mask_text w [] = []
 mask_text w (x ∷ xs) = (if w % 2 == 1 then codes "1" else codes "0") ++ mask_text (w / 2) xs

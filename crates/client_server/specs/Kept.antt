@@ -40,11 +40,11 @@ has_place k = by_queue k.queue
     by_queue None = true
     by_queue (Some n) = nat_lt (length k.waiting) n
 
--- a request is accepted where none of the point is outstanding and the queue has a place
+-- a request is accepted if none of the point is outstanding and the queue has a place
 abbrev pub accepts : (point : ℕ) → Kept → Bool
 accepts p k = is_idle (point_at p k).stage && has_place k
 
--- 130 RTE_E_LIMIT exactly where the request is not accepted, else 0
+-- 130 RTE_E_LIMIT exactly if the request is not accepted, else 0
 abbrev pub answer_to_ask : (point : ℕ) → Kept → ℕ
 answer_to_ask p k = if accepts p k then 0 else 130
 
@@ -57,7 +57,7 @@ after_ask p v k = if accepts p k then with_request p v k else k
 
 -- ---- starting
 
--- the point whose request a queued server starts next: the oldest that waits, where none is being served
+-- the point whose request a queued server starts next: the oldest that waits, if none is being served
 abbrev pub next_point : Kept → Option ℕ
 next_point k = if is_some k.serving then None else slice_get k.waiting 0
 

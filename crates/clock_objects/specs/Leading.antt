@@ -1,4 +1,4 @@
--- The lead: what the clock keeps after an entry where it kept that before, or nothing where it would not answer so. It is a function of
+-- The lead: what the clock keeps after an entry if it kept that before, or nothing if it would not answer so. It is a function of
 -- plain data, and knows no history. The entry touches the clock.
 use Rattle.std.specs.Prelude.{ℕ, List, Bool, true, false, Option, Some, None, option_map}
 use Rattle.bus_semantics.specs.declared.entries.Deed.{Deed}

@@ -10,7 +10,7 @@ use Rattle.commands.specs.Commands.{Bytes}
 abbrev pub counts_of : (faults : ℕ) → (long_files : ℕ) → ShelfCounts
 counts_of faults long_files = record { faults = faults; long_files = long_files }
 
--- the files of these names hold these bytes, where the shelf tells its files
+-- the files of these names hold these bytes, if the shelf tells its files
 abbrev pub AreHeldWhereTold : ToldFiles → (names : List Bytes) → (files : List Bytes) → Type 0
 AreHeldWhereTold told [] [] = Unit {0}
 AreHeldWhereTold told (name ∷ names) (file ∷ files) = HeldWhereTold told name file × AreHeldWhereTold told names files
@@ -37,7 +37,7 @@ pub record IsUnreadAt (told : ToldFiles) (names : List Bytes) (before after : Sh
 abbrev pub IsFetched : ToldFiles → (before : ℕ) → (after : ℕ) → Type 0
 IsFetched told before after = OnSome told (before < last_count → after ≡ before + 1)
 
--- Where the files are told, so many fetches were made. Since files are fetched in their order up to the first that cannot be read, this is
+-- If the files are told, so many fetches were made. Since files are fetched in their order up to the first that cannot be read, this is
 -- the place of that one.
 abbrev pub AreFetched : ToldFiles → (before : ℕ) → (after : ℕ) → (fetched : ℕ) → Type 0
 AreFetched told before after fetched = OnSome told (before < 2 ^ 63 → after ≡ before + fetched)

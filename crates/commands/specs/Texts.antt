@@ -1,4 +1,4 @@
--- What is said where nothing is run, and how a text is put.
+-- What is said if nothing is run, and how a text is put.
 use Rattle.std.specs.Prelude.{◌≡◌, ◌<◌, ◌^◌, ◌⊎◌, ℕ, ◌++◌, codes, decimal, Option}
 use Rattle.rte_text.specs.declared.sink.Put.{Put}
 use Rattle.rte_text.specs.declared.sink.Put.TheVariants as put

@@ -11,7 +11,7 @@ use Rattle.declared_names.specs.Components.{interface_of_port}
 use Rattle.declared_names.specs.Names.{Names, position_at}
 use Rattle.declared_names.specs.Values.{flag_at, items_at, items_in, number_at, text_at, word_in}
 
--- the initial value of a com spec or variable, where there is one
+-- the initial value of a com spec or variable, if there is one
 abbrev pub init_value_reading : Data → Option (List ℤ)
 init_value_reading d = option_map (λ v. map word_in (items_in v)) (get (codes "initValue") d)
 

@@ -32,7 +32,7 @@ pub record Breaks (bytes : List ℕ) (rule : ℕ) (place : List ℕ) : Type 0 wh
   pub reads : Reads bytes value
   pub is_least : refusal value ≡ Some (rule, place)
 
--- Which answer is right where bytes are refused. Want of memory says nothing of them.
+-- Which answer is right if bytes are refused. Want of memory says nothing of them.
 abbrev pub IsRefusalOf : List ℕ → Refused → Type 0
 IsRefusalOf bytes (Rule r) = IsUnreadable bytes r.rule r.place ⊎ Breaks bytes r.rule r.place
 IsRefusalOf bytes Memory = Unit {0}

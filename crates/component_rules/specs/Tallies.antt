@@ -3,7 +3,7 @@ use Rattle.std.specs.Prelude.{◌≡◌, ℕ, zero, suc, List, Bool, true, false
 use Rattle.indexmap.specs.IndexMap.{IndexMap, get}
 use Rattle.plan_definitions.specs.Counts.{count}
 
--- whether what comes so often comes again, where it comes at all
+-- whether what comes so often comes again, if it comes at all
 abbrev pub again_in : ℕ → Option Bool
 again_in zero = None
 again_in (suc zero) = Some false

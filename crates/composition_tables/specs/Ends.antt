@@ -23,7 +23,7 @@ offset d n c q = sum_of (λ p. size_of (size d n) p.of_type) (take q (prototypes
 abbrev pub number_from : ℕ → ℕ → ℕ
 number_from first further = min (first + min further 1025) (2 ^ 32 - 1)
 
--- the inner port, where the connector delegates to it from the outer port and may join the two
+-- the inner port, if the connector delegates to it from the outer port and may join the two
 abbrev pub delegated : Description → ℕ → ℕ → Connector → Option InnerPort
 delegated d c outer (Assembly p r) = None
 delegated d c outer (Delegation inner o) = if o == outer && lets_join d c (Delegation inner o) then Some inner else None

@@ -20,7 +20,7 @@ pub record IsEmptyTurn (looks : ℕ) (before after : View) : Type 0 where
   pub tried : before.tries ≤ after.tries
   pub cause : (before.looks + looks ≤ after.looks) ⊎ (before.tries < after.tries)
 
--- as many looks as it takes to see that nothing of any slot may come, where all of them are due
+-- as many looks as it takes to see that nothing of any slot may come, if all of them are due
 abbrev pub looks_due : Plan → List Slot → (all : Bool) → ℕ
 looks_due p slots all = if all then looks_in p slots else 0
 

@@ -48,7 +48,7 @@ pub record MakesInOrder (p : Plan) (t : TaskSet) (old new : CoreState) (objects 
   pub order : FirstInOrder p t old at slot objects (Some after) s
   pub first : new.first ≡ suc at
 
--- a turn of a core: that entry, or none where nothing of the core may come
+-- a turn of a core: that entry, or none if nothing of the core may come
 abbrev pub TakesOne : Plan → TaskSet → (old new : CoreState) → (objects after : List Object) → (made : List Stamped) → Type 0
 TakesOne p t old new objects after [] = NothingOf p t objects old × (new ≡ old) × (after ≡ objects)
 TakesOne p t old new objects after (s ∷ []) = MakesInOrder p t old new objects after s

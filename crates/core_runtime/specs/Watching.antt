@@ -115,7 +115,7 @@ pub record IsWatch (p : Plan) (t : TaskSet) (objects : List Object) (touched : O
   pub behind : AreBehind p (owners_of cores)
   pub starters : AreStarters p w.starters.items
 
--- over all objects the cores are watched, where all is awake
+-- over all objects the cores are watched, if all is awake
 abbrev pub AllWatched : List CoreState → List AwakeState → Type 0
 AllWatched cores awake = (p : Plan) (t : TaskSet) (objects : List Object) → AreWatched p t objects cores awake × AreWaiting p t objects None cores awake
 

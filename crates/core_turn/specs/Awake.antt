@@ -113,7 +113,7 @@ pub record AreHeld (p : Plan) (t : TaskSet) (objects : List Object) (touched : O
   pub starts : StartsHeld p t objects of a
   pub waiters : WaitersHeld p t objects touched of first a
 
--- where a bench tells its objects
+-- if a bench tells its objects
 abbrev pub HeldTold : Plan → TaskSet → Option (List Object) → (touched : Option ℕ) → List Slot → (first : ℕ) → AwakeState → Type 0
 HeldTold p t None touched slots first a = Unit {0}
 HeldTold p t (Some objects) touched slots first a = AreHeld p t objects touched slots first a
@@ -220,7 +220,7 @@ looks_at_place p slots a i = if slice_index_or a.slots i false then option_map_o
 abbrev pub looks_of_awake : Plan → List Slot → AwakeState → ℕ
 looks_of_awake p slots a = sum_below (looks_at_place p slots a) (length slots)
 
--- where a turn found nothing, so many looks answered NotYet
+-- if a turn found nothing, so many looks answered NotYet
 abbrev pub TurnCounted : (looks : ℕ) → (old new : Option Work) → Turned → Type 0
 TurnCounted n old new NothingNow = IsFurther old new [] n 0
 TurnCounted n old new r = Unit {0}

@@ -12,7 +12,7 @@ use Rattle.bus_semantics.specs.Rest.{Try, plain_key, option_list, gathered, dire
 use Rattle.task_slots.specs.Slots.{starts_at}
 use Rattle.core_turn.specs.Cores.{tasks_of_core}
 
--- the next wish of an activation, where it runs
+-- the next wish of an activation, if it runs
 abbrev pub calls_of : Plan → History → ActKey → List Try
 calls_of p h k = gathered (λ w. (Act k, w) ∷ []) (option_list (next_wish p h k))
 
@@ -29,7 +29,7 @@ abbrev pub direct_calls : Plan → History → (events : List ℕ) → List Try
 direct_calls p h events = gathered (λ q. if starts_at p (caller_of p q) events then calls_at p h q else []) (positions (length p.points))
 
 -- the next wishes of the activations that a task's events start, and of the direct ones that these call; and each of these events with its
--- start where the task is free
+-- start if the task is free
 abbrev pub tries_of_task : Plan → History → Task → List Try
 tries_of_task p h t = gathered (calls_by p h) t.events ++ direct_calls p h t.events ++ task_tries p h t
 

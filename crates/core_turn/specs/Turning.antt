@@ -56,7 +56,7 @@ IsPass p t looks old new from to before after xs ys (pass.Contended object) = Pa
 
 -- ---- a core steps
 
--- where the bench tells its objects: nothing of the slots that come before may come, and of this one the first that may come was made
+-- if the bench tells its objects: nothing of the slots that come before may come, and of this one the first that may come was made
 pub record FirstInOrder (p : Plan) (t : TaskSet) (c : CoreState) (at : ℕ) (slot : Slot) (objects : List Object) (after : Option (List Object)) (s : Stamped) : Type 0 where
   pub passed : AllHeld p objects (gathered (slot_tries p t) (slots_before c.first at c.slots))
   pub made : FirstMade p (slot_tries p t slot) objects after s
@@ -100,7 +100,7 @@ abbrev pub NoneTold : Plan → TaskSet → CoreState → (old new : Option (List
 NoneTold p t c None after = after ≡ None
 NoneTold p t c (Some objects) after = AllHeld p objects (gathered (slot_tries p t) c.slots) × (after ≡ Some objects)
 
--- nothing was found: where the bench tells its objects, nothing of any slot may come; where it tells its work, so many looks answered NotYet
+-- nothing was found: if the bench tells its objects, nothing of any slot may come; if it tells its work, so many looks answered NotYet
 pub record NothingFound (p : Plan) (t : TaskSet) (looks : ℕ) (old new : CoreState) (before after : Told) : Type 0 where
   pub same : new ≡ old
   pub room : after.room ≡ before.room

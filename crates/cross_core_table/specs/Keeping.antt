@@ -36,7 +36,7 @@ StampsOffKeep = (k : Opening) (slots id : ℕ) (m : Sat) (e : Entry) → m.0.ope
     touched_by (plan_in k) (record { entry = e; event = None }) ≡ None → length m.0.made < k.room →
     Allows (RoundRule k) slots id m 0 (λ n. (n + 1) % 2 ^ 64) (stamped_off e (step slots 0 1 0 none) m)
 
--- the object in hand is given back, where it keeps what the lead gives along the entries of the round that touch it: its word becomes 0
+-- the object in hand is given back, if it keeps what the lead gives along the entries of the round that touch it: its word becomes 0
 abbrev pub GivesBack : (then : (slots word : ℕ) → Sat → Sat → Type 0) → Type 0
 GivesBack then = (k : Opening) (slots id : ℕ) (v : View) (word o : ℕ) (object : Object) (more : List (ℕ × Object)) (h : Held) → word ≡ suc o → o < slots →
     v.opening ≡ Some k → v.held ≡ Some h → h.object ≡ o → kept_after k o h.entries ≡ Some (kept_of object) → IsOfPlan (plan_in k) o object →
@@ -45,7 +45,7 @@ GivesBack then = (k : Opening) (slots id : ℕ) (v : View) (word o : ℕ) (objec
 abbrev pub UnlocksKeep : Type 0
 UnlocksKeep = GivesBack (λ slots word m. unlocked (step slots word 0 0 none) m 0)
 
--- the same where nothing was stamped: the seat has looked
+-- the same if nothing was stamped: the seat has looked
 abbrev pub LooksKeep : Type 0
 LooksKeep = GivesBack (λ slots word m. looked (step slots word 0 0 none) m 0)
 

@@ -39,7 +39,7 @@ abbrev pub Looked : Opening → List Logged → Option Held → Type 0
 Looked k log None = Unit {0}
 Looked k log (Some h) = (newer : List Stamped) × (on_object (plan_in k) h.object log ≡ newer ++ h.entries)
 
--- a try failed where the word named another core
+-- a try failed if the word named another core
 abbrev pub Failed : (core : ℕ) → Option Tried → Type 0
 Failed c None = Unit {0}
 Failed c (Some t) = (t.word ≢ 0) × (t.word ≢ suc c)

@@ -1,4 +1,4 @@
--- The lead: what a group keeps after an entry where it kept that before, or nothing where it would not answer so. It is a function of the
+-- The lead: what a group keeps after an entry if it kept that before, or nothing if it would not answer so. It is a function of the
 -- plan and of plain data, and knows no history. The entry touches the group.
 use Rattle.std.specs.Prelude.{ℕ, List, Bool, true, false, not, ◌&&◌, ◌==◌, is_some, if◌then◌else◌, Option, Some, None, option_map, option_and_then, slice_get}
 use Rattle.rte_value.specs.declared.value.Value.{Value}

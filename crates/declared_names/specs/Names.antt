@@ -8,12 +8,12 @@ use Rattle.declared_names.specs.Values.{text_at, text_in}
 abbrev pub Names : Type 0
 Names = List (List ℕ)
 
--- the position of the first of the names that is this one, and their number where none is
+-- the position of the first of the names that is this one, and their number if none is
 abbrev pub position_in : Names → List ℕ → ℕ
 position_in [] name = 0
 position_in (n ∷ ns) name = if bytes_eq n name then 0 else 1 + position_in ns name
 
--- the same in one of several lists, and 0 where there is no such list
+-- the same in one of several lists, and 0 if there is no such list
 abbrev pub position_among : Option Names → List ℕ → ℕ
 position_among None name = 0
 position_among (Some ns) name = position_in ns name

@@ -22,7 +22,7 @@ item_names i =
     (if bytes_eq (text_at (codes "kind") i) (codes "ModeSwitchInterface") then text_at_in (codes "modeGroup") (codes "shortName") i ∷ [] else
     short_names (items_at (codes "dataElements") i))
 
--- the modes of an interface: those of its mode element's group, where it has one
+-- the modes of an interface: those of its mode element's group, if it has one
 abbrev pub modes_in : Option Data → Names
 modes_in None = []
 modes_in (Some g) = texts (items_at (codes "modes") g)

@@ -49,7 +49,7 @@ word_in d = unwrap_or (option_and_then as_i64 (as_number d)) (pos 0)
 abbrev pub word_at : List ℕ → Data → ℤ
 word_at key d = unwrap_or (option_and_then as_i64 (option_and_then as_number (get key d))) (pos 0)
 
--- a number below a limit, and the other where there is none
+-- a number below a limit, and the other if there is none
 abbrev pub below : (limit : ℕ) → (other : ℕ) → Option ℕ → ℕ
 below limit other None = other
 below limit other (Some n) = if nat_lt n limit then n else other

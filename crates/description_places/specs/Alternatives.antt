@@ -117,7 +117,7 @@ word_at key d = option_and_then as_str (get key d)
 abbrev pub first_word : Data → Option (List ℕ)
 first_word d = option_and_then as_str (at 0 d)
 
--- an event on a mode switch names two modes where it comes on transition, else one
+-- an event on a mode switch names two modes if it comes on transition, else one
 abbrev pub by_activation : Kind → Data → Kind
 by_activation ModeSwitchEvent d = pick_if (choices_of ModeSwitchEvent) ModeSwitchEvent (word_at (codes "activation") d)
 by_activation kind d = kind

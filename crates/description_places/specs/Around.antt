@@ -6,7 +6,7 @@ use Rattle.description_places.specs.declared.kind.Kind.{Kind}
 use Rattle.description_places.specs.declared.kind.Kind.TheVariants.{Anything, Component, Composition}
 use Rattle.description_places.specs.Spots.{Level}
 
--- a text, the text at a key and the text of a part, each empty where there is none
+-- a text, the text at a key and the text of a part, each empty if there is none
 abbrev pub text_in : Data → List ℕ
 text_in d = unwrap_or (as_str d) []
 
@@ -16,7 +16,7 @@ text_at key d = unwrap_or (option_and_then as_str (get key d)) []
 abbrev pub text_part : ℕ → Data → List ℕ
 text_part i d = unwrap_or (option_and_then as_str (at i d)) []
 
--- the number at a key, 0 where there is none
+-- the number at a key, 0 if there is none
 abbrev pub number_at : List ℕ → Data → ℕ
 number_at key d = unwrap_or (option_and_then as_u64 (option_and_then as_number (get key d))) 0
 

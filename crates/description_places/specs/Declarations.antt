@@ -105,7 +105,7 @@ with_earlier (x ∷ xs) = (x, []) ∷ map (λ p. (p.0, x ∷ p.1)) (with_earlier
 abbrev pub has_key : List ℕ → Declared → Bool
 has_key key d = bytes_eq key d.key
 
--- a declaration is repeated where an earlier one has its key
+-- a declaration is repeated if an earlier one has its key
 abbrev pub is_repeated : Declared × List Declared → Bool
 is_repeated p = list_any (has_key p.0.key) p.1
 

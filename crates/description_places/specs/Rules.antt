@@ -78,7 +78,7 @@ pub record Breaks (bytes : List ℕ) (rule : ℕ) (place : List ℕ) : Type 0 wh
 abbrev pub IsUnreadable : List ℕ → ℕ → List ℕ → Type 0
 IsUnreadable bytes rule place = (rule ≡ 1) × (place ≡ codes "/") × ((d : Data) → ¬ Reads bytes d)
 
--- Which answer is right where bytes are refused. Want of memory says nothing of them.
+-- Which answer is right if bytes are refused. Want of memory says nothing of them.
 abbrev pub IsRefusalOf : List ℕ → Refused → Type 0
 IsRefusalOf bytes (Rule r) = IsUnreadable bytes r.rule r.place ⊎ Breaks bytes r.rule r.place
 IsRefusalOf bytes Memory = Unit {0}

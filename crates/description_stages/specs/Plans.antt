@@ -42,6 +42,6 @@ pub record BreaksMapping (bytes : List ℕ) (r : Refused) : Type 0 where
   pub is_joined : IsJoinedOf bytes joined
   pub is_refusal : IsToldBy (IsRefusal joined.description joined.flat) r
 
--- Which answer is right where the bytes are refused: that of the first stage that refuses them. Want of memory says nothing of them.
+-- Which answer is right if the bytes are refused: that of the first stage that refuses them. Want of memory says nothing of them.
 abbrev pub IsPlanRefusalOf : List ℕ → Refused → Type 0
 IsPlanRefusalOf bytes r = joining.IsRefusalOf bytes r ⊎ BreaksMapping bytes r

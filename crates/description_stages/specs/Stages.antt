@@ -39,6 +39,6 @@ pub record BreaksLater (bytes : List ℕ) (r : Refused) : Type 0 where
   pub is_read : IsRead bytes (description_of description)
   pub is_refusal : IsJoinRefusalOf description r
 
--- Which answer is right where the bytes are refused: that of the first stage that refuses them. Want of memory says nothing of them.
+-- Which answer is right if the bytes are refused: that of the first stage that refuses them. Want of memory says nothing of them.
 abbrev pub IsRefusalOf : List ℕ → Refused → Type 0
 IsRefusalOf bytes r = reading.IsRefusalOf bytes r ⊎ BreaksLater bytes r

@@ -48,14 +48,14 @@ composition_place c = codes "/compositions/" ++ decimal c
 abbrev pub connector_place : ℕ × ℕ → List ℕ
 connector_place p = (composition_place p.0 ++ codes "/connectors/") ++ decimal p.1
 
--- a rule is broken where the lower ones hold, and this is its first place
+-- a rule is broken if the lower ones hold, and this is its first place
 abbrev pub IsRefusedAt : Description → ℕ → List ℕ → Type 0
 IsRefusedAt d rule place =
     ((rule ≡ 9) × ((c : ℕ) × IsFirst (ContainsItself d) (length d.compositions) (Some c) × (place ≡ composition_place c)))
     ⊎ (((rule ≡ 10) × KeepsNesting d × (¬ KeepsLimits d) × (place ≡ codes "/root"))
     ⊎ ((rule ≡ 11) × KeepsNesting d × KeepsLimits d × ((p : ℕ × ℕ) × IsFirstBroken d (Some p) × (place ≡ connector_place p))))
 
--- which answer is right where the description is refused; want of memory says nothing of it
+-- which answer is right if the description is refused; want of memory says nothing of it
 abbrev pub IsRefusalOf : Description → Refused → Type 0
 IsRefusalOf d (Rule r) = IsRefusedAt d r.rule r.place
 IsRefusalOf d Memory = Unit {0}

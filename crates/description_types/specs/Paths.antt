@@ -35,7 +35,7 @@ abbrev pub is_composition : ℕ → PrototypeType → Bool
 is_composition c (Component k) = false
 is_composition c (Composition e) = nat_eq e c
 
--- the composition that is a prototype's type, where it is a declared one
+-- the composition that is a prototype's type, if it is a declared one
 abbrev pub declared_in : ℕ → PrototypeType → Option ℕ
 declared_in count (Component k) = None
 declared_in count (Composition e) = if nat_lt e count then Some e else None

@@ -14,7 +14,7 @@ use Rattle.composition_tables.specs.Multi.{under}
 abbrev pub AreOf : Description → Gate → ℕ → List PortEnd → Type 0
 AreOf d gate interface list = (x : PortEnd) → Among x list ↔ (Among x (gate_ends d gate) × (x.interface ≡ interface))
 
--- The side has all interfaces of the ports below the gate, by their keys where they are several, and the ends there: all of them unless
+-- The side has all interfaces of the ports below the gate, by their keys if they are several, and the ends there: all of them unless
 -- their search was cut short, and then still all of the interfaces that are known.
 pub record IsSide (d : Description) (gate : Gate) (side : Side) : Type 0 where
   pub covers : (x : PortEnd) → Among x (gate_ends d gate) → Among x.interface side.interfaces.keys

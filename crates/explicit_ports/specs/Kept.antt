@@ -8,7 +8,7 @@ pub record Kept : Type 0 where
   -- what no call changes: the initial value of each receiver, and the receiver of each event
   pub inits : List Value
   pub events : List ℕ
-  -- the last value that was written or published; none where nothing was
+  -- the last value that was written or published; none if nothing was
   pub stored : Option Value
   -- the last write, publication or invalidation is an invalidation
   pub invalid : Bool

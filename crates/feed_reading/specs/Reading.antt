@@ -45,7 +45,7 @@ wishes_in p (t ∷ ts) = how_many (stimulus p t) + wishes_in p ts
 abbrev pub are_too_many : (lines : ℕ) → (wishes : ℕ) → Bool
 are_too_many n w = nat_lt 100000 n || nat_lt 65536 w
 
--- the least cause of a line that says this, and none where it is good: behind a stop each line has none of the forms
+-- the least cause of a line that says this, and none if it is good: behind a stop each line has none of the forms
 abbrev pub least_cause : (stopped : Bool) → (past : Bool) → Stimulus → Option ℕ
 least_cause true past s = Some no_form
 least_cause false past (unfit cause) = Some cause
@@ -56,7 +56,7 @@ least_cause false past (gives f wishes) = if past then Some too_many else None
 abbrev pub cause_of : Plan → (before : List Letters) → Letters → Option ℕ
 cause_of p before t = least_cause (has_stopped p before) (are_too_many (length before + 1) (wishes_in p before + how_many (stimulus p t))) (stimulus p t)
 
--- the number of the first bad line after those before, counted from 1, with its cause. Where no line stops, the one that is missing is bad
+-- the number of the first bad line after those before, counted from 1, with its cause. If no line stops, the one that is missing is bad
 abbrev pub first_bad : Plan → (before : List Letters) → List Letters → Option (ℕ × ℕ)
 first_bad p before [] = if has_stopped p before then None else Some (length before + 1, no_form)
 first_bad p before (t ∷ ts) = bad_or (length before + 1) (cause_of p before t) (first_bad p (before ++ t ∷ []) ts)
@@ -71,13 +71,13 @@ pub record AreFeeds (p : Plan) (bytes : Letters) (feeds : Feeds) : Type 0 where
 
 -- ---- what reading answers
 
--- where stimuli were read, this holds of the feeds
+-- if stimuli were read, this holds of the feeds
 abbrev pub IfRead : FeedsRead → (Feeds → Type 0) → Type 0
 IfRead (answer.Read feeds) P = P feeds
 IfRead (answer.BadLine line cause) P = Unit {0}
 IfRead answer.Memory P = Unit {0}
 
--- where a line is bad, this holds of its number and the cause
+-- if a line is bad, this holds of its number and the cause
 abbrev pub IfBadLine : FeedsRead → (ℕ → ℕ → Type 0) → Type 0
 IfBadLine (answer.Read feeds) P = Unit {0}
 IfBadLine (answer.BadLine line cause) P = P line cause

@@ -20,12 +20,12 @@ abbrev pub fits_type : Option DataType → List ℤ → Bool
 fits_type None ws = false
 fits_type (Some t) ws = fits t ws
 
--- an initial value, where there is one, fits its type
+-- an initial value, if there is one, fits its type
 abbrev pub keeps : List DataType → (of_type : ℕ) → Option (List ℤ) → Bool
 keeps types n None = true
 keeps types n (Some ws) = fits_type (slice_get types n) ws
 
--- the type of an item of an interface, where the item is a data element
+-- the type of an item of an interface, if the item is a data element
 abbrev pub type_in : InterfaceKind → (item : ℕ) → Option ℕ
 type_in (SenderReceiver es) item = option_map (λ e. e.of_type) (slice_get es item)
 type_in (ClientServer os) item = None

@@ -68,7 +68,7 @@ broken t = of_rule 6 type_place (broken_types t.data_types) ++ of_rule 7 operati
 abbrev pub type_refusal : TypeTable → Option (ℕ × List ℕ)
 type_refusal t = first (broken t)
 
--- an answer tells the refusal, and that memory ran out only where there is one
+-- an answer tells the refusal, and that memory ran out only if there is one
 abbrev pub Tells : {U : Type 0} → Option (ℕ × List ℕ) → Result U Refused → Type 0
 Tells refused (Ok u) = refused ≡ None
 Tells refused (Err (Rule r)) = refused ≡ Some (r.rule, r.place)

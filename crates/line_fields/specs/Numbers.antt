@@ -13,7 +13,7 @@ abbrev pub is_empty : Letters → Bool
 is_empty [] = true
 is_empty (c ∷ cs) = false
 
--- digits, of which the first is no 0 where there are more
+-- digits, of which the first is no 0 if there are more
 abbrev pub is_number : Letters → Bool
 is_number [] = false
 is_number (c ∷ cs) = list_all is_digit (c ∷ cs) && (not (c == 48) || is_empty cs)

@@ -1,4 +1,4 @@
--- The lead: what a mode machine keeps after an entry where it kept that before, or nothing where it would not answer so (SWS_RTE: Rte_Switch,
+-- The lead: what a mode machine keeps after an entry if it kept that before, or nothing if it would not answer so (SWS_RTE: Rte_Switch,
 -- Rte_Mode, mode switch procedure, SwcModeSwitchEvent, ModeSwitchedAckEvent, ModeDisablingDependency). It is a function of plain data, and
 -- knows no history. The entry touches the machine.
 use Rattle.std.specs.Prelude.{ℕ, set, Bool, true, false, not, ◌==◌, Option, Some, None, option_map, option_and_then, slice_index_or}

@@ -60,7 +60,7 @@ is_stable step.Stable = true
 abbrev pub has_place : Kept → Bool
 has_place k = nat_lt (length k.unbegun) k.queue
 
--- 130 RTE_E_LIMIT exactly where as many accepted switches have not begun as the queue is long, else 0
+-- 130 RTE_E_LIMIT exactly if as many accepted switches have not begun as the queue is long, else 0
 abbrev pub answer_to_switch : Kept → ℕ
 answer_to_switch k = if has_place k then 0 else 130
 
@@ -82,7 +82,7 @@ with_unbegun unbegun k = record {
 abbrev pub after_switch : (mode : ℕ) → Kept → Kept
 after_switch mode k = if has_place k then with_unbegun (k.unbegun ++ mode ∷ []) k else k
 
--- the settled mode where the machine is stable, else the number of modes
+-- the settled mode if the machine is stable, else the number of modes
 abbrev pub mode_of : Kept → ℕ
 mode_of k = if is_stable k.stage then k.settled else k.modes
 
@@ -225,7 +225,7 @@ pub record IsAcknowledged (names : List ℕ) (before now : Kept) (name : ℕ) : 
 abbrev pub dependency_at : (dependency : ℕ) → Kept → Dependency
 dependency_at d k = slice_index_or k.disablings d (idle_dependency [])
 
--- an event is disabled where the machine is stable in one of the event's disabling modes, or is not stable and the settled or the next
+-- an event is disabled if the machine is stable in one of the event's disabling modes, or is not stable and the settled or the next
 -- mode is one
 abbrev pub is_disabled : Kept → List ℕ → Bool
 is_disabled k modes = if is_stable k.stage then has_mode k.settled modes else (has_mode k.settled modes || has_mode k.next modes)

@@ -32,7 +32,7 @@ idle_event = never_owed (OnExit 0)
 abbrev pub owed_by : Step → (settled : ℕ) → (next : ℕ) → OwedEvent → OwedEvent
 owed_by s settled next e = record { moment = e.moment; due = owes s settled next e.moment || e.due; running = e.running; begun = false; left = owes s settled next e.moment }
 
--- a start by an event may come where it is due and does not run
+-- a start by an event may come if it is due and does not run
 abbrev pub may_start : OwedEvent → Bool
 may_start e = e.due && not e.running
 

@@ -1,7 +1,7 @@
 -- Flags by place, and what a test gives.
 use Rattle.std.specs.Prelude.{ℕ, List, Bool, true, false, Option, Some, None, slice_get}
 
--- where a test holds
+-- if a test holds
 abbrev pub given : {X : Type 0} → Bool → X → Option X
 given true x = Some x
 given false x = None

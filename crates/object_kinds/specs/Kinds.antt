@@ -50,7 +50,7 @@ pub record IsPlainStart (event : ℕ) (n : Noted) : Type 0 where
   pub actor : n.entry.actor ≡ Act (plain_key runnable)
   pub wish : wanted_by (unwrap_or n.event 0) n.entry.deed ≡ to_start event
 
--- where the flag of an event is clear, no plain start by it leads on
+-- if the flag of an event is clear, no plain start by it leads on
 abbrev pub StartsByFlag : {K : Type 0} → (may_start : K → ℕ → Bool) → (lead : K → Noted → Option K) → Type 0
 StartsByFlag {K} may_start lead = (k : K) (event : ℕ) (n : Noted) → may_start k event ≡ false → IsPlainStart event n → lead k n ≡ None
 

@@ -11,7 +11,7 @@ use Rattle.bus_semantics.specs.Unqueued.{is_in_group}
 abbrev pub members_of : Plan → (group : ℕ) → List ℕ
 members_of p g = filter (is_in_group p g) (positions (length p.elements))
 
--- the least group of a bundle: the only one, where the bundle is a group by itself
+-- the least group of a bundle: the only one, if the bundle is a group by itself
 abbrev pub group_at : Plan → (bundle : ℕ) → ℕ
 group_at p b = get_or (groups_at p b) 0 0
 

@@ -21,7 +21,7 @@ HasPlan bytes = (x : PlannedDescription) × IsPlannedOf bytes x
 abbrev pub HasRefusal : (description : List ℕ) → Type 0
 HasRefusal bytes = (r : Refusal) × IsPlanRefusalOf bytes (Rule r)
 
--- where lines say this, the bytes are a script, or have a first bad line
+-- if lines say this, the bytes are a script, or have a first bad line
 abbrev pub HasScript : (say : Letters → Saying) → (script : List ℕ) → Type 0
 HasScript say bytes = (lines : List Line) × IsScriptBy say bytes lines
 

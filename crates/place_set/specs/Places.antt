@@ -12,7 +12,7 @@ pub record IsFirst (flags : List Bool) (from to at : ℕ) : Type 0 where
   pub chosen : slice_index_or flags at false ≡ true
   pub none : NoneBetween flags from at
 
--- the first place of the set from one up to another, where there is one
+-- the first place of the set from one up to another, if there is one
 abbrev pub IsNext : (flags : List Bool) → (from : ℕ) → (to : ℕ) → Option ℕ → Type 0
 IsNext flags from to None = NoneBetween flags from to
 IsNext flags from to (Some at) = IsFirst flags from to at

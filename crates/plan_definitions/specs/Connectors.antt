@@ -27,7 +27,7 @@ abbrev pub inner_interface : Description → Composition → InnerPort → Optio
 inner_interface d c inner = option_map (λ port. port.interface)
     (option_and_then (λ p. slice_get (ports_of d p.of_type) inner.port) (slice_get c.prototypes inner.prototype))
 
--- two things where both are there
+-- two things if both are there
 abbrev pub both : Option ℕ → Option ℕ → Option (ℕ × ℕ)
 both (Some a) (Some b) = Some (a, b)
 both _ _ = None
@@ -43,7 +43,7 @@ abbrev pub sides : Description → Composition → Connector → Option (ℕ × 
 sides d c (connector.Assembly provider requester) = both (inner_interface d c provider) (inner_interface d c requester)
 sides d c (connector.Delegation inner outer) = option_and_then (λ port. delegated (inner_interface d c inner) port.kind port.interface) (slice_get c.ports outer)
 
--- the ports of a connector are compatible; not, where one is missing
+-- the ports of a connector are compatible; not, if one is missing
 abbrev pub joins_compatible : Description → Composition → Connector → Bool
 joins_compatible d c k = option_map_or (λ x. are_compatible d.types x.0 x.1) (sides d c k) false
 

@@ -35,7 +35,7 @@ abbrev pub provides_modes : Option (PortKind × Item) → Bool
 provides_modes (Some (Provided, Modes n)) = true
 provides_modes _ = false
 
--- how many modes there are, where they are required
+-- how many modes there are, if they are required
 abbrev pub required_modes : Option (PortKind × Item) → Option ℕ
 required_modes (Some (Required, Modes n)) = Some n
 required_modes _ = None

@@ -7,7 +7,7 @@ abbrev pub first_of : {X Y : Type 0} → (ℕ → X → Option Y) → ℕ → Li
 first_of f i [] = None
 first_of f i (x ∷ xs) = option_or (f i x) (first_of f (i + 1) xs)
 
--- nothing where it holds, else the place
+-- nothing if it holds, else the place
 abbrev pub unless : {P : Type 0} → Bool → P → Option P
 unless holds place = if holds then None else Some place
 

@@ -33,7 +33,7 @@ operation_count _ = 0
 abbrev pub operations_at : TypeTable → Port → ℕ
 operations_at types port = option_map_or (λ i. operation_count i.kind) (slice_get types.interfaces port.interface) 0
 
--- each operation of the port has exactly one OperationInvokedEvent, where it is a P-port
+-- each operation of the port has exactly one OperationInvokedEvent, if it is a P-port
 abbrev pub is_served : TypeTable → List Event → ℕ → Port → Bool
 is_served types events k port = by_kind port.kind
   where

@@ -29,8 +29,8 @@ abbrev pub is_none : List End → Bool
 is_none [] = true
 is_none (x ∷ xs) = false
 
--- Rule 15, as it is seen from the ends nearby: a provided end is crowded where it has several required ones, of which one has
--- several provided ones. A required end is in a group of many to many exactly where a crowded end provides it (law in
+-- Rule 15, as it is seen from the ends nearby: a provided end is crowded if it has several required ones, of which one has
+-- several provided ones. A required end is in a group of many to many exactly if a crowded end provides it (law in
 -- proofs/Stars).
 abbrev pub crowds : List Join → Join → Bool
 crowds joins j = are_several (requirers joins j.provided) && are_several (providers joins j.required)

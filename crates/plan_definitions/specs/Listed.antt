@@ -28,7 +28,7 @@ abbrev pub is_required : PortKind → Bool
 is_required Provided = false
 is_required Required = true
 
--- a list is of reads where its first item is of an R-port
+-- a list is of reads if its first item is of an R-port
 abbrev pub reads : Description → Flat → (i : ℕ) → List ItemPair → Bool
 reads d f i [] = false
 reads d f i (x ∷ more) = option_map_or (λ (port : Port). is_required port.kind) (port_of d f (Some i) x.port) false

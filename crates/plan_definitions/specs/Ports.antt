@@ -28,7 +28,7 @@ interface_of d f owner k = option_map (λ i. i.kind) (option_and_then (λ port. 
 abbrev pub com_spec_of : Description → Flat → Option ℕ → ℕ → ℕ → Option ComSpec
 com_spec_of d f owner k item = option_and_then (λ port. find (λ s. nat_eq s.element item) port.com_specs) (port_of d f owner k)
 
--- how many wait at most: 1 where the port does not say
+-- how many wait at most: 1 if the port does not say
 abbrev pub queue_length_of : Description → Flat → Option ℕ → ℕ → ℕ → ℕ
 queue_length_of d f owner k item = option_map_or (λ s. s.queue_length) (com_spec_of d f owner k item) 1
 

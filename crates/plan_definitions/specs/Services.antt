@@ -46,7 +46,7 @@ argument_of d a = record { out = is_out a.direction; limits = limits_of d.types.
 abbrev pub is_numbered_mapped : Description → Flat → ℕ → Bool
 is_numbered_mapped d f n = option_map_or (is_mapped d f) (slice_get (events_of d f) n) false
 
--- how many requests may wait at an operation, its event being that of a number: none where it is not mapped, and the server direct
+-- how many requests may wait at an operation, its event being that of a number: none if it is not mapped, and the server direct
 abbrev pub queue_of : Description → Flat → ℕ → ℕ → ℕ → ℕ → Option ℕ
 queue_of d f i k n event = if is_numbered_mapped d f event then Some (queue_length_of d f (Some i) k n) else None
 

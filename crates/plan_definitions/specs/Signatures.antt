@@ -85,7 +85,7 @@ taken types c a = by_kind a.kind
     by_kind kind.IrvIRead = words_of_variable types c a.item
     by_kind _ = []
 
--- how many modes the port has, where the access is of a mode port
+-- how many modes the port has, if the access is of a mode port
 abbrev pub mode_count : Item → ℕ
 mode_count (Modes n) = n
 mode_count _ = 0

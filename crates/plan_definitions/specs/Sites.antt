@@ -27,7 +27,7 @@ kind_at owner side (SenderReceiver elements) = Element (provides_at owner side)
 kind_at owner side (ClientServer operations) = Server
 kind_at owner side (ModeSwitch element) = if provides_at owner side then Machine else ModePort
 
--- how many of them there are; an operation is one where an instance provides it
+-- how many of them there are; an operation is one if an instance provides it
 abbrev pub count_at : Option ℕ → PortKind → InterfaceKind → ℕ
 count_at owner side (SenderReceiver elements) = length elements
 count_at owner side (ClientServer operations) = if is_some owner && provides_at owner side then length operations else 0

@@ -4,7 +4,7 @@ use Rattle.std.specs.Fmt.{decimal}
 use Rattle.plan_definitions.specs.declared.spot.Spot.{Spot}
 use Rattle.plan_definitions.specs.declared.spot.Spot.TheVariants as spot
 
--- a position in a list of a component, where the list has this key
+-- a position in a list of a component, if the list has this key
 abbrev pub in_component : (component : ℕ) → (list : List ℕ) → (position : ℕ) → List ℕ
 in_component component list position = ((codes "/components/" ++ decimal component) ++ list) ++ decimal position
 

@@ -17,7 +17,7 @@ servers_of = of_kind is_server
 abbrev pub machines_of : Description → Flat → List Site
 machines_of = of_kind is_machine
 
--- a required mode element is in the plan where it has a machine
+-- a required mode element is in the plan if it has a machine
 abbrev pub has_machine : List Join → Site → Bool
 has_machine joins s = option_map_or (λ e. is_some (provider_of joins e)) (end_of s) false
 

@@ -9,6 +9,6 @@ use Rattle.plan_definitions.specs.Listed.{groups_listed}
 abbrev pub leaders_over : List Elem → List CoherentList → (groups : ℕ) → List ℕ
 leaders_over es lists n = leaders_by n (map (groups_listed es) lists)
 
--- the least of some labels, and none where all are one
+-- the least of some labels, and none if all are one
 abbrev pub lowest : List ℕ → Option ℕ
 lowest theirs = option_and_then (λ first. if list_all (λ t. t == first) theirs then None else Some (least first theirs)) (slice_get theirs 0)

@@ -1,4 +1,4 @@
--- When two planned descriptions are one. A program lies in memory in its own way, so two of them are the same where their trees are.
+-- When two planned descriptions are one. A program lies in memory in its own way, so two of them are the same if their trees are.
 use Rattle.std.specs.Prelude.{◌≡◌}
 use Rattle.component_model.specs.Descriptions.{description_of}
 use Rattle.bus_semantics.specs.Plan.{plan_of}

@@ -37,7 +37,7 @@ abbrev pub sums : {X : Type 0} → (X → ℕ) → ℕ → List X → List ℕ
 sums size n [] = n ∷ []
 sums size n (x ∷ xs) = n ∷ sums size (n + size x) xs
 
--- the same, where the greatest number that 32 bits hold stands for all greater ones
+-- the same, if the greatest number that 32 bits hold stands for all greater ones
 abbrev pub capped : ℕ → ℕ
 capped n = min n 4294967295
 

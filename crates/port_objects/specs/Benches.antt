@@ -1,4 +1,4 @@
--- What a bench answers, and what it tells of it: the objects where it has them all to itself, and its own work where it keeps an account.
+-- What a bench answers, and what it tells of it: the objects if it has them all to itself, and its own work if it keeps an account.
 use Rattle.std.specs.Prelude.{◌≡◌, ◌≤◌, ℕ, suc, ◌+◌, List, [], ◌∷◌, ◌++◌, set, slice_get, true, Option, Some, None, unwrap_or}
 use Rattle.std.specs.List.{last_or}
 use Rattle.std.specs.Option.{option_map_or}
@@ -50,7 +50,7 @@ abbrev pub RoomAfter : (old new : ℕ) → Benched → Type 0
 RoomAfter old new (Done s) = old ≡ suc new
 RoomAfter old new r = new ≡ old
 
--- ---- its next stamp, where it tells it: each entry takes it
+-- ---- its next stamp, if it tells it: each entry takes it
 
 abbrev pub StampAfter : Option ℕ → Option ℕ → (added : Option Stamped) → Type 0
 StampAfter None new added = new ≡ None
@@ -65,7 +65,7 @@ added_by r = None
 abbrev pub stamped_alone : (stamp : ℕ) → Entry → Stamped
 stamped_alone stamp e = record { stamp = stamp; entry = e; event = None }
 
--- ---- the objects, where it tells them: the one that is touched changes as `act` changes it, and every other stays
+-- ---- the objects, if it tells them: the one that is touched changes as `act` changes it, and every other stays
 
 pub record MadeOn (p : Plan) (object : ℕ) (a : Actor) (w : Wanted) (objects : List Object) (after : Option (List Object)) (e : Entry) : Type 0 where
   pub before : Object
@@ -84,14 +84,14 @@ abbrev pub ActedOn : Plan → (object : ℕ) → Actor → Wanted → (old new :
 ActedOn p n a w objects after (acted.Done e) = MadeOn p n a w objects (Some after) e
 ActedOn p n a w objects after (acted.NotYet shown) = HeldOn p n a w objects (Some after) shown
 
--- where it tells its objects, it never answers Contended
+-- if it tells its objects, it never answers Contended
 abbrev pub ObjectsAfter : Plan → (object : ℕ) → Actor → Wanted → (old new : Option (List Object)) → Benched → Type 0
 ObjectsAfter p n a w None new r = new ≡ None
 ObjectsAfter p n a w (Some objects) new (Done s) = MadeOn p n a w objects new s.entry
 ObjectsAfter p n a w (Some objects) new (NotYet shown) = HeldOn p n a w objects new shown
 ObjectsAfter p n a w (Some objects) new Contended = ⊥
 
--- ---- its work, where it tells it
+-- ---- its work, if it tells it
 
 -- the entries that it made, the oldest first, and how often it answered NotYet and Contended
 pub record Work : Type 0 where
@@ -146,7 +146,7 @@ pub record IsStamped (old new : Told) (s : Stamped) : Type 0 where
 abbrev pub written_last : List Stamped → Option Stamped
 written_last made = last_or None made
 
--- the answer of a bench, with the entry that it wrote down in this list; where `IsWritten` holds, `Made` is `Done` of an entry
+-- the answer of a bench, with the entry that it wrote down in this list; if `IsWritten` holds, `Made` is `Done` of an entry
 abbrev pub benched : Answered → (made : List Stamped) → Benched
 benched answered.Made made = option_map_or Done (written_last made) Contended
 benched (answered.NotYet shown) made = NotYet shown

@@ -1,4 +1,4 @@
--- The lead: what an object keeps after an entry where it kept that before, or nothing where it would not answer so. It is a function of the
+-- The lead: what an object keeps after an entry if it kept that before, or nothing if it would not answer so. It is a function of the
 -- plan and of plain data, and knows no history. It leads on by no entry that does not touch the object, does not fit, or starts another
 -- runnable than its actor's.
 use Rattle.std.specs.Prelude.{ℕ, List, [], ◌∷◌, ◌&&◌, if◌then◌else◌, Option, Some, None, option_map, option_and_then}

@@ -20,7 +20,7 @@ use Rattle.port_objects.specs.Kept.{Kept, of_group, of_bundle, of_queues, of_ser
 use Rattle.port_objects.specs.Leading.{lead}
 use Rattle.port_objects.specs.Objects.{kept_of}
 
--- whether a start by an event may come where an object keeps this
+-- whether a start by an event may come if an object keeps this
 abbrev pub may_start_in : Kept → (event : ℕ) → Bool
 may_start_in (of_group k) e = groups.may_start k e
 may_start_in (of_bundle k) e = bundles.may_start k e
@@ -57,7 +57,7 @@ woken_in (Clock t) = t.woken
 abbrev pub Tells : (before : Kept) → (now : Object) → Type 0
 Tells before now = (event : ℕ) → may_start_in before event ≡ false → may_start_in (kept_of now) event ≡ true → Contains (woken_in now) event
 
--- whether an Answer at a point may come where an object keeps this (SWS_RTE: Rte_Call)
+-- whether an Answer at a point may come if an object keeps this (SWS_RTE: Rte_Call)
 abbrev pub may_hear_in : Kept → (point : ℕ) → Bool
 may_hear_in (of_group k) q = false
 may_hear_in (of_bundle k) q = false
@@ -86,6 +86,6 @@ abbrev pub is_leave : Deed → Bool
 is_leave (deed.Leave area) = true
 is_leave _ = false
 
--- where an object keeps this, nobody enters an area on it
+-- if an object keeps this, nobody enters an area on it
 abbrev pub IsClosed : Plan → (object : ℕ) → Kept → Type 0
 IsClosed p object k = (n : Noted) (area : ℕ) → wanted_by (unwrap_or n.event 0) n.entry.deed ≡ to_enter area → lead p object k n ≡ None

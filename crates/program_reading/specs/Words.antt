@@ -10,7 +10,7 @@ pub record Meaning (K : Type 0) : Type 0 where
   pub word : List ℕ
   pub means : K
 
--- what the first entry of this word means, and the other where none has it
+-- what the first entry of this word means, and the other if none has it
 abbrev pub meaning : {K : Type 0} → List (Meaning K) → K → List ℕ → K
 meaning [] other word = other
 meaning (m ∷ ms) other word = if bytes_eq m.word word then m.means else meaning ms other word

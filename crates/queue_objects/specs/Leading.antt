@@ -1,4 +1,4 @@
--- The lead: what a group keeps after an entry where it kept that before, or nothing where it would not answer so (SWS_RTE: Rte_Send,
+-- The lead: what a group keeps after an entry if it kept that before, or nothing if it would not answer so (SWS_RTE: Rte_Send,
 -- Rte_Receive, DataReceivedEvent). It is a function of the plan and of plain data, and knows no history. The entry touches the group.
 use Rattle.std.specs.Prelude.{ℕ, List, [], Bool, true, false, ◌&&◌, ◌==◌, if◌then◌else◌, Option, Some, None, option_map, option_and_then}
 use Rattle.rte_value.specs.declared.value.Value.{Value}
@@ -34,7 +34,7 @@ is_unconnected code v = (code == 134) && same_words (words_of v) []
 abbrev pub started_at : ports.Kept → (place : Option ℕ) → Option ports.Kept
 started_at k at = option_and_then (λ i. given (is_set k.due i) (ports.after_start i k)) at
 
--- one Send reaches each receiver of the group, and its code is 130 RTE_E_LIMIT where one of their queues is full; a Receive takes from
+-- one Send reaches each receiver of the group, and its code is 130 RTE_E_LIMIT if one of their queues is full; a Receive takes from
 -- the queue of its element alone (Rte_Send, Rte_Receive)
 abbrev pub lead_of_queues : Plan → (receivers : List ℕ) → (events : List ℕ) → ports.Kept → Deed → Option ports.Kept
 lead_of_queues p receivers events k (deed.Send x value code) = given (code == ports.answer_to_send k) (ports.after_send value k)

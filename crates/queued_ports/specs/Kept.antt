@@ -37,7 +37,7 @@ fresh lengths events words = record {
   due = replicate (length events) false;
 }
 
--- a queue takes a value where it has room; else the value is discarded there
+-- a queue takes a value if it has room; else the value is discarded there
 abbrev pub has_room : Queue → Bool
 has_room q = nat_lt (length q.held) q.queue_length
 
@@ -68,11 +68,11 @@ after_send v k = record {
   due = due_after k.queues k.events k.due;
 }
 
--- 130 RTE_E_LIMIT exactly where one queue is full, else 0
+-- 130 RTE_E_LIMIT exactly if one queue is full, else 0
 abbrev pub answer_to_send : Kept → ℕ
 answer_to_send k = if list_any (λ q. not (has_room q)) k.queues then 130 else 0
 
--- a receive takes the oldest value, and forgets what was lost, also where there is no value
+-- a receive takes the oldest value, and forgets what was lost, also if there is no value
 abbrev pub after_taking : Queue → Queue
 after_taking q = record { queue_length = q.queue_length; held = drop 1 q.held; lost = false }
 
@@ -84,7 +84,7 @@ after_receive r k = record {
   due = k.due;
 }
 
--- 131 RTE_E_NO_DATA and no words where the queue is empty; else the oldest value, with 64 RTE_E_LOST_DATA where one was discarded
+-- 131 RTE_E_NO_DATA and no words if the queue is empty; else the oldest value, with 64 RTE_E_LOST_DATA if one was discarded
 -- since the last receive, and else with 0
 abbrev pub received_of : Queue → Received
 received_of q = oldest q.held

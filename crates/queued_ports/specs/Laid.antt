@@ -37,7 +37,7 @@ lies_in kind (Many block) = kind block
 abbrev pub blocks_in : (kind : ℕ → Bool) → Lane → ℕ
 blocks_in kind lane = count_by (lies_in kind) lane.ring.items
 
--- No ring holds more than it may. The blocks that are not free are exactly those in the rings, each once; where values are longer
+-- No ring holds more than it may. The blocks that are not free are exactly those in the rings, each once; if values are longer
 -- than a word, there are as many blocks as the rings have places.
 pub record AreLaid (words : ℕ) (blocks : pool.Kept) (lanes : List Lane) : Type 0 where
   pub fits : All (λ (lane : Lane). length lane.ring.items ≤ lane.ring.capacity) lanes

@@ -12,7 +12,7 @@ use Rattle.commands.specs.Verdicts.{Verdict, status_of, Begins, IsVerdictOn, Say
 
 -- ---- what each answer says
 
--- the words give this command, and the files that it reads hold these bytes where the shelf tells them
+-- the words give this command, and the files that it reads hold these bytes if the shelf tells them
 pub record Names (words : Words) (told : ToldFiles) (command : Command) (files : List Bytes) : Type 0 where
   pub given : command_of words ≡ Some command
   pub held : AreHeldWhereTold told (files_of command) files

@@ -21,7 +21,7 @@ file_named files name = option_map (λ file. file.1) (find (λ file. bytes_eq fi
 abbrev pub next_fails : HeldFiles → Bool
 next_fails s = list_any (λ call. call == s.calls) s.fails
 
--- an answer to the next call: the bytes or no memory for them, a fault exactly where the call fails or no file has the name
+-- an answer to the next call: the bytes or no memory for them, a fault exactly if the call fails or no file has the name
 abbrev pub Answers : HeldFiles → List ℕ → Fetched → Type 0
 Answers s name (Bytes given) = (next_fails s ≡ false) × (file_named s.files name ≡ Some given.items) × (length given.items ≤ 8388608)
 Answers s name Failed = IsTrue (next_fails s || is_none (file_named s.files name))

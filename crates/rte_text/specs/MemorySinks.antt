@@ -13,7 +13,7 @@ pub record HeldBytes : Type 0 where
   pub calls : ℕ
   pub faults : ℕ
 
--- how many bytes the next call takes at most, where it is one that fails
+-- how many bytes the next call takes at most, if it is one that fails
 abbrev pub next_stop : HeldBytes → Option ℕ
 next_stop s = option_map (λ fail. fail.1) (find (λ fail. fail.0 == s.calls) s.fails)
 
@@ -25,7 +25,7 @@ room_left s = s.room - length s.told
 abbrev pub taken_of : HeldBytes → List ℕ → ℕ
 taken_of s piece = let fitting = min (length piece) (room_left s) in option_map_or (min fitting) (next_stop s) fitting
 
--- the answer to the next call: done where the call does not fail and the piece fits
+-- the answer to the next call: done if the call does not fail and the piece fits
 abbrev pub put_answer : HeldBytes → List ℕ → Put
 put_answer s piece = if is_none (next_stop s) && nat_le (length piece) (room_left s) then Done else Failed
 

@@ -4,18 +4,18 @@ use Rattle.rte_text.specs.Counts.{Rose}
 use Rattle.rte_text.specs.declared.shelf.Fetched.{Fetched}
 use Rattle.rte_text.specs.declared.shelf.Fetched.TheVariants.{Bytes, Failed, TooLong, Memory}
 
--- the files of a shelf that tells them: for each name the bytes held, if any; None where the shelf does not tell
+-- the files of a shelf that tells them: for each name the bytes held, if any; None if the shelf does not tell
 abbrev pub ToldFiles : Type 0
 ToldFiles = Option (List ℕ → Option (List ℕ))
 
--- of the bytes, where the answer has them
+-- of the bytes, if the answer has them
 abbrev pub IfBytes : Fetched → (List ℕ → Type 0) → Type 0
 IfBytes (Bytes given) P = P given.items
 IfBytes Failed P = Unit {0}
 IfBytes TooLong P = Unit {0}
 IfBytes Memory P = Unit {0}
 
--- where the answer is that the file is too long
+-- if the answer is that the file is too long
 abbrev pub OnTooLong : Fetched → Type 0 → Type 0
 OnTooLong (Bytes given) P = Unit {0}
 OnTooLong Failed P = Unit {0}
@@ -43,15 +43,15 @@ LongFilesAfter Failed before after = after ≡ before
 LongFilesAfter TooLong before after = Rose before after
 LongFilesAfter Memory before after = after ≡ before
 
--- where the files are told, these bytes are held under this name
+-- if the files are told, these bytes are held under this name
 abbrev pub HeldWhereTold : ToldFiles → List ℕ → List ℕ → Type 0
 HeldWhereTold files name bytes = IfSome files (λ held. held name ≡ Some bytes)
 
--- where the files are told, the file of this name is longer than the limit
+-- if the files are told, the file of this name is longer than the limit
 abbrev pub LongWhereTold : ToldFiles → List ℕ → Type 0
 LongWhereTold files name = IfSome files (λ held. IsSomeAnd (held name) (λ bytes. 8388608 < length bytes))
 
--- where the files are told and none has this name, the answer is a fault
+-- if the files are told and none has this name, the answer is a fault
 abbrev pub FailsWhereMissing : ToldFiles → List ℕ → Fetched → Type 0
 FailsWhereMissing files name answer = IfSome files (λ held. held name ≡ None → IsFailed answer)
 

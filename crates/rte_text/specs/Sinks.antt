@@ -5,11 +5,11 @@ use Rattle.rte_text.specs.Counts.{Rose}
 use Rattle.rte_text.specs.declared.sink.Put.{Put}
 use Rattle.rte_text.specs.declared.sink.Put.TheVariants.{Done, Failed}
 
--- where the bytes are told, all of these were appended
+-- if the bytes are told, all of these were appended
 abbrev pub AppendsWhereTold : Option (List ℕ) → Option (List ℕ) → List ℕ → Type 0
 AppendsWhereTold before after bytes = after ≡ append_known before bytes
 
--- where the bytes are told, the first `taken` of these were appended
+-- if the bytes are told, the first `taken` of these were appended
 pub record AppendsPrefixWhereTold (before after : Option (List ℕ)) (bytes : List ℕ) : Type 0 where
   pub taken : ℕ
   pub told : AppendsWhereTold before after (take taken bytes)

@@ -8,7 +8,7 @@ use Rattle.std.proofs.lemmas.Bool.Decides.{Decides-and}
 use Rattle.rte_value.specs.declared.kinds.ActKey.{ActKey}
 use Rattle.rte_value.specs.Values.{same_number, same_key}
 
--- two numbers that may be missing are the same exactly where the comparison says so
+-- two numbers that may be missing are the same exactly if the comparison says so
 pub same_number-Decides : (a b : Option ℕ) → Decides (same_number a b) (a ≡ b)
 same_number-Decides None None = (λ _. refl, λ _. refl)
 same_number-Decides None (Some b) = (λ e. absurd (true≢false (sym e)), ap is_some)
@@ -17,7 +17,7 @@ same_number-Decides (Some a) (Some b) =
     let number = unsigned_Decides a b in
     (λ e. ap (λ n. Some n) (number.0 e), λ e. number.1 (ap (λ o. unwrap_or o 0) e))
 
--- two keys are the same exactly where the comparison says so
+-- two keys are the same exactly if the comparison says so
 pub same_key-Decides : (a b : ActKey) → Decides (same_key a b) (a ≡ b)
 same_key-Decides a b =
     let both = Decides-and (a.runnable == b.runnable) (same_number a.point b.point)

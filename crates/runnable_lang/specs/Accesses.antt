@@ -31,7 +31,7 @@ kind_number kind.Enter = 17
 abbrev pub is_at : AccessKind → (port : ℕ) → AccessSig → Bool
 is_at k port a = (kind_number a.kind == kind_number k) && (a.port == port)
 
--- whether there are as many words as the statement gives or takes, where it does so
+-- whether there are as many words as the statement gives or takes, if it does so
 abbrev pub counts : Option ℕ → (words : ℕ) → Bool
 counts None words = true
 counts (Some n) words = n == words

@@ -2,7 +2,7 @@
 use Rattle.std.specs.Prelude.{ℕ, ◌+◌, max, List, [], ◌∷◌, ◌++◌, map, Bool, true, false, Option, Some, None}
 use Rattle.runnable_lang.specs.Trees.{StmtTree, chooses, repeats, in_area, BodyTree, done, next}
 
--- a test of a statement, from the greatest number of the areas around it, where it stands inside an area
+-- a test of a statement, from the greatest number of the areas around it, if it stands inside an area
 abbrev pub Test : Type 0
 Test = Option ℕ → StmtTree → Bool
 
@@ -11,7 +11,7 @@ abbrev pub within : Option ℕ → (area : ℕ) → Option ℕ
 within None area = Some area
 within (Some greatest) area = Some (max greatest area)
 
--- the empty path before the others, where the statement itself fails
+-- the empty path before the others, if the statement itself fails
 abbrev pub here : Bool → List (List ℕ) → List (List ℕ)
 here true paths = [] ∷ paths
 here false paths = paths
@@ -33,7 +33,7 @@ abbrev mutual
   failing_among fails around i done = []
   failing_among fails around i (next s body) = under i (failing_in fails around s) ++ failing_among fails around (i + 1) body
 
--- the first of a list, where there is one
+-- the first of a list, if there is one
 abbrev pub first : {X : Type 0} → List X → Option X
 first [] = None
 first (x ∷ xs) = Some x

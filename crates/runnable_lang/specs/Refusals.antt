@@ -51,7 +51,7 @@ broken accesses p = of_rule 17 (failing (lacks_access accesses) p) ++ (of_rule 1
 abbrev pub refusal : List AccessSig → ProgramTree → Option (ℕ × List ℕ)
 refusal accesses p = first (broken accesses p)
 
--- an answer tells the refusal, and that memory ran out only where there is one
+-- an answer tells the refusal, and that memory ran out only if there is one
 abbrev pub Tells : {U : Type 0} → Option (ℕ × List ℕ) → Result U ProgramRefused → Type 0
 Tells refused (Ok u) = refused ≡ None
 Tells refused (Err (Broken rule path)) = refused ≡ Some (rule, path)

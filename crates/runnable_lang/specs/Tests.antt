@@ -24,7 +24,7 @@ number_of rule.NoCallInArea = 20
 abbrev pub items_of : Option (Vec ℕ Global) → Option (List ℕ)
 items_of found = option_map (λ path. path.items) found
 
--- a walk finds the path that is wanted, and lacks memory only where there is one
+-- a walk finds the path that is wanted, and lacks memory only if there is one
 abbrev pub Finds : {E : Type 0} → Option (List ℕ) → Result (Option (Vec ℕ Global)) E → Type 0
 Finds wanted (Ok found) = items_of found ≡ wanted
 Finds wanted (Err e) = is_some wanted ≡ true

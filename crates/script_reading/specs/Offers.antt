@@ -25,7 +25,7 @@ is_for Read e = is_unqueued e && not e.provided
 is_for Receive e = is_queued e && not e.provided
 is_for _ e = false
 
--- a name that is there to be used, where it is so
+-- a name that is there to be used, if it is so
 abbrev pub named_if : Bool → Letters → Option Letters
 named_if b name = if b then Some name else None
 
@@ -41,7 +41,7 @@ machine_offered n = named_if (is_none n.instance) n.name
 abbrev pub mode_port_offered : ModePortPlan → Option Letters
 mode_port_offered t = named_if (is_none t.instance) t.name
 
--- the name, PORT.ELEMENT or PORT.OPERATION, of the environment's thing of this number, where the form is for it. Operations are called at
+-- the name, PORT.ELEMENT or PORT.OPERATION, of the environment's thing of this number, if the form is for it. Operations are called at
 -- points; modes are switched at machines, and seen at required mode elements that have one
 abbrev pub offered : Form → Plan → ℕ → Option Letters
 offered Write p x = look p.elements x (elem_offered Write) None

@@ -16,11 +16,11 @@ use Rattle.script_reading.specs.Limits.{ticks_said, runs_said, ticks_in, runs_in
 abbrev pub too_many : ℕ
 too_many = 4
 
--- whether this line, which says so, passes a limit where these lines stand before it
+-- whether this line, which says so, passes a limit if these lines stand before it
 abbrev pub passes : (say : Letters → Saying) → (before : List Letters) → Saying → Bool
 passes say before s = are_too_many (length before + 1) (ticks_in say before + ticks_said s) (runs_in say before + runs_said s)
 
--- the least cause of a line that says so, and none where it is good
+-- the least cause of a line that says so, and none if it is good
 abbrev pub least_cause : (passes : Bool) → Saying → Option ℕ
 least_cause past (is_bad cause) = Some cause
 least_cause past nothing = if past then Some too_many else None
@@ -49,7 +49,7 @@ abbrev pub asked_in : (say : Letters → Saying) → List Letters → List Asked
 asked_in say [] = []
 asked_in say (t ∷ ts) = asked_by (say t) ++ asked_in say ts
 
--- the bytes are a script of these lines, where lines say this
+-- the bytes are a script of these lines, if lines say this
 pub record IsScriptBy (say : Letters → Saying) (bytes : Letters) (lines : List Line) : Type 0 where
   pub good : first_bad say [] (lines_of bytes) ≡ None
   pub lines_are : map asked_of lines ≡ asked_in say (lines_of bytes)
@@ -60,13 +60,13 @@ IsScript p bytes lines = IsScriptBy (saying p) bytes lines
 
 -- ---- what reading answers
 
--- where a script was read, this holds of its lines
+-- if a script was read, this holds of its lines
 abbrev pub IfRead : ScriptRead → (List Line → Type 0) → Type 0
 IfRead (answer.Read script) P = P script.lines
 IfRead (answer.BadLine line cause) P = Unit {0}
 IfRead answer.Memory P = Unit {0}
 
--- where a line is bad, this holds of its number and the cause
+-- if a line is bad, this holds of its number and the cause
 abbrev pub IfBadLine : ScriptRead → (ℕ → ℕ → Type 0) → Type 0
 IfBadLine (answer.Read script) P = Unit {0}
 IfBadLine (answer.BadLine line cause) P = P line cause

@@ -160,6 +160,6 @@ pub record PassesLimit (p : Plan) (before : List Letters) (t : Letters) : Type 0
   pub good_itself : (cause : ℕ) → IsBadItself p t cause → ⊥
   pub passes : pass_limit (saying p) (before ++ t ∷ []) ≡ true
 
--- the least cause of a line where these stand before it
+-- the least cause of a line if these stand before it
 abbrev pub IsCauseOf : Plan → (before : List Letters) → Letters → (cause : ℕ) → Type 0
 IsCauseOf p before t cause = IsBadItself p t cause ⊎ ((cause ≡ too_many) × PassesLimit p before t)

@@ -7,7 +7,7 @@ use Rattle.bus_semantics.specs.Legal.{MayFollow}
 use Rattle.bus_semantics.specs.Rest.{IsIdle}
 use Rattle.bus_semantics.specs.Run.{Closing, idle, unsettled, Session, made, run_begins, run_closes, history_of, is_inside, made_in_line}
 
--- `idle` holds at rest where no activation runs; `unsettled` where runnables and machines made at least 100,000 entries since the mark
+-- `idle` holds at rest if no activation runs; `unsettled` if runnables and machines made at least 100,000 entries since the mark
 abbrev pub HoldsFrom : Plan → Mapping → History → Session → Closing → Type 0
 HoldsFrom p m h s idle = IsIdle p m (history_of s ++ h)
 HoldsFrom p m h s unsettled = nat_le 100000 (made_in_line s) ≡ true

@@ -1,4 +1,4 @@
--- What a run of a script on a node puts, where the node has a history.
+-- What a run of a script on a node puts, if the node has a history.
 use Rattle.std.specs.Prelude.{◌≡◌, ℕ, List, ◌++◌, true, Option}
 use Rattle.std.specs.List.{list_all}
 use Rattle.rte_text.specs.Counts.{Rose}

@@ -44,7 +44,7 @@ abbrev pub awaiting : (returns : List ℕ) → (awaited : List ℕ) → (place :
 awaiting (e ∷ es) (i ∷ awaited) place = if i == place then e ∷ awaiting es awaited place else awaiting es awaited place
 awaiting _ _ place = []
 
--- those events, where a flag is set now that was clear before
+-- those events, if a flag is set now that was clear before
 abbrev pub told_where : (before now : Bool) → List ℕ → List ℕ
 told_where false true es = es
 told_where false false es = []

@@ -1,4 +1,4 @@
--- The lead: what a server keeps after an entry where it kept that before, or nothing where it would not answer so (SWS_RTE: Rte_Call,
+-- The lead: what a server keeps after an entry if it kept that before, or nothing if it would not answer so (SWS_RTE: Rte_Call,
 -- Rte_Result, OperationInvokedEvent, AsynchronousServerCallReturnsEvent). It is a function of plain data, and knows no history. The entry
 -- touches the server.
 use Rattle.std.specs.Prelude.{ℕ, List, [], Bool, true, false, ◌&&◌, ◌==◌, if◌then◌else◌, Option, Some, None, is_none, option_map, slice_get}
@@ -36,7 +36,7 @@ is_outcome code v (Some o) = (code == o.code) && same_words (words_of v) (words_
 abbrev pub heard_at : (code : ℕ) → Value → calls.Kept → (at : Option ℕ) → Option calls.Kept
 heard_at code v k at = option_and_then (λ i. given (is_outcome code v (outcome_in (calls.point_at i k).stage)) (calls.after_answer i k)) at
 
--- 131 RTE_E_NO_DATA and no words, where nothing was returned
+-- 131 RTE_E_NO_DATA and no words, if nothing was returned
 abbrev pub is_result : (code : ℕ) → Value → Option Outcome → Bool
 is_result code v None = (code == 131) && same_words (words_of v) []
 is_result code v (Some o) = is_outcome code v (Some o)

@@ -40,8 +40,8 @@ abbrev pub is_returnable : Option Outcome → Bool
 is_returnable None = true
 is_returnable (Some o) = nat_lt o.code 64
 
--- a request is outstanding where the point is not idle; what waits to start is the last request; what was returned to it and not taken is
--- what an Answer gives; and the flag of its return events is set where they are due
+-- a request is outstanding if the point is not idle; what waits to start is the last request; what was returned to it and not taken is
+-- what an Answer gives; and the flag of its return events is set if they are due
 pub record PointStands (p : Plan) (point : ℕ) (t : Point) (l : Past) : Type 0 where
   pub outstanding : is_outstanding point l ≡ not (is_idle t.stage)
   pub request : (v : Value) → value_asked t.stage ≡ Some v → last_asked point l ≡ Some (words_of v)

@@ -16,7 +16,7 @@ abbrev pub CarriedAs : Option Arrived → (k : ℕ) → (ws : List ℤ) → (way
 CarriedAs None k ws way before after = Unit {0}
 CarriedAs (Some arrived) k ws way before after = IsCarried k ws arrived way before after
 
--- it fails only where the link's count rose, and only where the link may fail
+-- it fails only if the link's count rose, and only if the link may fail
 abbrev pub CarryFaults : Option Arrived → (before after : ℕ) → Type 0
 CarryFaults None before after = Rose before after
 CarryFaults (Some arrived) before after = after ≡ before

@@ -20,7 +20,7 @@ abbrev pub SendFaults : Sent → (before after : ℕ) → Type 0
 SendFaults (sent.Took n) before after = after ≡ before
 SendFaults sent.Failed before after = Rose before after
 
--- it fails only where it may fail
+-- it fails only if it may fail
 abbrev pub MayFailToSend : Sent → (never : Bool) → Type 0
 MayFailToSend (sent.Took n) never = Unit {0}
 MayFailToSend sent.Failed never = never ≡ false

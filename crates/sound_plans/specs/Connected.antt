@@ -28,7 +28,7 @@ AreConnected joins s t = (s ≡ t) ⊎ ((a : End) × (b : End) × (n : ℕ) × (
 abbrev pub group_at : BusPlan → (element : ℕ) → Option ℕ
 group_at p n = option_map (λ (e : ElemPlan). e.group) (slice_get p.elements n)
 
--- two elements of a plan are in one group exactly where a chain of joins connects them
+-- two elements of a plan are in one group exactly if a chain of joins connects them
 abbrev pub GroupsAreConnected : Description → Flat → BusPlan → Type 0
 GroupsAreConnected d f p = (i j : ℕ) (s t : Site) → slice_get (elements_of d f) i ≡ Some s → slice_get (elements_of d f) j ≡ Some t
     → (group_at p i ≡ group_at p j) ↔ AreConnected f.joins s t

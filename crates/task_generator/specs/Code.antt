@@ -37,7 +37,7 @@ choosing_code test first second = test ∷ (first ++ (skip (length second) ∷ s
 abbrev pub looping_code : (depth : ℕ) → (turns : ℕ) → List Instruction → List Instruction
 looping_code depth turns body = begin_loop depth turns (length body + 1) ∷ (body ++ end_loop depth (length body) ∷ [])
 
--- an ask, and where it was accepted the answer of the operation
+-- an ask, and if it was accepted the answer of the operation
 abbrev pub hearing_code : (point : ℕ) → (Store → List ℤ) → List ℕ → (status : ℕ) → List Instruction
 hearing_code q ws vs status = call (λ event m. to_ask q (ws m)) (change_of (taken.Refusal status)) (passes_of (taken.Refusal status)) ∷ calling_code (λ m. to_hear q) (taken.Words vs status)
 
@@ -93,7 +93,7 @@ fetching_code p all (one x ∷ its) = call (λ event m. to_fetch x) (change_of (
 fetching_code p all (all_of l ∷ its) =
     call (λ event m. to_fetch_all l) (change_of (taken.Slots (parts_of p all (elems_of p l)))) (passes_of (taken.Slots (parts_of p all (elems_of p l)))) ∷ fetching_code p all its
 
--- one publication of each of these elements and lists, whose elements are among all those published. It is passed over where nothing was
+-- one publication of each of these elements and lists, whose elements are among all those published. It is passed over if nothing was
 -- written
 abbrev pub publishing_code : Plan → (all : List ℕ) → List Implicit → List Instruction
 publishing_code p all [] = []

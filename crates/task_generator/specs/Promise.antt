@@ -17,7 +17,7 @@ use Rattle.task_machine.specs.Frames.{asks}
 abbrev pub next_until_over : Plan → Runnable → (event : ℕ) → (start : List ℤ) → (answers : List Deed) → Option Wanted
 next_until_over p r event start answers = if list_any is_over answers then None else next_of_activity p r event start answers
 
--- each activation, begun by any Start and after any answers, asks what the actor rule wants next, and is over where that wants nothing
+-- each activation, begun by any Start and after any answers, asks what the actor rule wants next, and is over if that wants nothing
 abbrev pub AsksAsPlanned : Plan → TaskSet → Type 0
 AsksAsPlanned p t =
     (k : ActKey) (r : Runnable) (event : ℕ) (point : Option ℕ) (value : Value) (answers : List Deed)

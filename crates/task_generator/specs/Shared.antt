@@ -51,7 +51,7 @@ choosing_shared c first second = fixed (unless c (length first + 1)) ∷ (first 
 abbrev pub looping_shared : (depth : ℕ) → (turns : ℕ) → List Shared → List Shared
 looping_shared depth turns body = fixed (begin_loop depth turns (length body + 1)) ∷ (body ++ fixed (end_loop depth (length body)) ∷ [])
 
--- an ask, and where it was accepted the answer of the operation
+-- an ask, and if it was accepted the answer of the operation
 abbrev pub hearing_shared : (access : ℕ) → (Store → List ℤ) → List ℕ → (status : ℕ) → List Shared
 hearing_shared a ws vs status = (λ t. call (λ event m. to_ask (number_at t a) (ws m)) (change_of (taken.Refusal status)) (passes_of (taken.Refusal status))) ∷ calling_shared (λ t m. to_hear (number_at t a)) (taken.Words vs status)
 

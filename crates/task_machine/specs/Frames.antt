@@ -16,7 +16,7 @@ use Rattle.task_machine.specs.Standing.{Standing}
 
 -- ---- what an activation asks
 
--- the instructions of a runnable; none where there is no body
+-- the instructions of a runnable; none if there is no body
 abbrev pub code_from : Option Body → List Instruction
 code_from None = []
 code_from (Some b) = code_in b
@@ -46,7 +46,7 @@ spot_from t start (Some b) = first_spot b (first_place t (event_in start)) (word
 abbrev pub spot_after : TaskSet → ActKey → (start : Deed) → (answers : List Deed) → Spot
 spot_after t k start answers = after (code_of t k.runnable) answers (spot_from t start (slice_get t.bodies k.runnable))
 
--- what it asks; none where it is over
+-- what it asks; none if it is over
 abbrev pub asks : TaskSet → ActKey → (start : Deed) → (answers : List Deed) → Option Wanted
 asks t k start answers = wanted_at (code_of t k.runnable) (event_in start) (spot_after t k start answers)
 
@@ -70,7 +70,7 @@ pub record IsMadeFor (t : TaskSet) (f : Standing) : Type 0 where
   pub fetched : most (λ (b : Body). b.fetched) t.bodies ≤ f.room.fetched
   pub written : most (λ (b : Body). b.written) t.bodies ≤ f.room.written
 
--- what the activation asks where it stands; none where it is over
+-- what the activation asks where it stands; none if it is over
 abbrev pub wanted_here : TaskSet → Standing → Option Wanted
 wanted_here t f = wanted_at (code_of t f.key.runnable) f.event f.at
 

@@ -25,12 +25,12 @@ pub record Spot : Type 0 where
 abbrev pub Rest : Type 0
 Rest = (place : ℕ) → Store → (counters : List ℕ) → Spot
 
--- a loop begins, or is passed over where it is to have no turn
+-- a loop begins, or is passed over if it is to have no turn
 abbrev pub entered : (turns : ℕ) → Rest → (place : ℕ) → Store → (counters : List ℕ) → (counter : ℕ) → (past : ℕ) → Spot
 entered zero rest place m cs c past = rest (place + 1 + past) m cs
 entered (suc n) rest place m cs c past = rest (place + 1) m (set cs c (suc n))
 
--- a loop goes back for another turn where its counter is above 1, and else goes on
+-- a loop goes back for another turn if its counter is above 1, and else goes on
 abbrev pub turned : (counted : ℕ) → Rest → (place : ℕ) → Store → (counters : List ℕ) → (counter : ℕ) → (back : ℕ) → Spot
 turned (suc (suc n)) rest place m cs c back = rest (place - back) m (set cs c (suc n))
 turned _ rest place m cs c back = rest (place + 1) m cs
@@ -56,7 +56,7 @@ settled code (suc n) place m cs = silently (slice_get code place) (settled code 
 
 -- ---- calls
 
--- what the instruction wants where an activation stands; none where that is over, behind the last instruction or without budget
+-- what the instruction wants where an activation stands; none if that is over, behind the last instruction or without budget
 abbrev pub wanted_by : Option Instruction → (event : ℕ) → Store → Option Wanted
 wanted_by (Some (call w change passes)) event m = Some (w event m)
 wanted_by _ event m = None
@@ -76,7 +76,7 @@ heard code d at = if at.left == 0 then at else heard_by code (slice_get code at.
 abbrev pub stopped : Spot → Spot
 stopped at = record { left = 0; place = at.place; store = at.store; counters = at.counters }
 
--- after an answer: an activation is over at its End, and where its admission was refused
+-- after an answer: an activation is over at its End, and if its admission was refused
 abbrev pub answered : List Instruction → Deed → Spot → Spot
 answered code d at = if is_over d then stopped at else heard code d at
 

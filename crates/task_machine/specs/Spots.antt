@@ -27,7 +27,7 @@ spot_of at = record { left = at.left; place = at.place; store = store_of at.stor
 abbrev pub code_in : Body → List Instruction
 code_in b = resolved b.targets (map instruction_of (take b.before b.around ++ ((arc_value b.code).instrs ++ drop b.before b.around)))
 
--- where an activation begins, the `in` arguments have the words of its Start, all other variables are 0, and nothing is fetched or written
+-- if an activation begins, the `in` arguments have the words of its Start, all other variables are 0, and nothing is fetched or written
 abbrev pub first_store : Body → (words : List ℤ) → Store
 first_store b words = record { vars = stored b.arguments words (replicate b.vars (pos 0)); fetched = replicate b.fetched []; written = replicate b.written None }
 
@@ -35,6 +35,6 @@ first_store b words = record { vars = stored b.arguments words (replicate b.vars
 abbrev pub first_spot : Body → (place : ℕ) → (words : List ℤ) → Spot
 first_spot b place words = settled (code_in b) b.budget place (first_store b words) (replicate b.counters 0)
 
--- where there is no body it is over
+-- if there is no body it is over
 abbrev pub no_spot : Spot
 no_spot = record { left = 0; place = 0; store = record { vars = []; fetched = []; written = [] }; counters = [] }

@@ -17,7 +17,7 @@ with_fetched slot words m = record { vars = m.vars; fetched = set m.fetched slot
 abbrev pub with_written : (slot : ℕ) → List ℤ → Store → Store
 with_written slot words m = record { vars = m.vars; fetched = m.fetched; written = set m.written slot (Some words) }
 
--- what was fetched into a slot; nothing where there is no such slot
+-- what was fetched into a slot; nothing if there is no such slot
 abbrev pub fetched_in : (slot : ℕ) → Store → List ℤ
 fetched_in slot m = get_or m.fetched slot []
 

@@ -18,7 +18,7 @@ served_event p q = of_server (server_of p q)
     of_server None = 0
     of_server (Some s) = look p.servers s (λ (v : ServerPlan). v.event) 0
 
--- an accepted ask of the caller at a point calls its direct activation, and the event that starts it; none where the point has no direct server
+-- an accepted ask of the caller at a point calls its direct activation, and the event that starts it; none if the point has no direct server
 abbrev pub call_at : Plan → (caller : ActKey) → (point : ℕ) → Option Call
 call_at p k q = option_map (λ d. record { caller = k; direct = d; event = served_event p q }) (direct_key p q)
 

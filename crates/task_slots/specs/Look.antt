@@ -12,7 +12,7 @@ pub data Look : Type 0 where
   Nothing : Look
   Contended : (object : ℕ) → Look
 
--- a look with the entry that it wrote down in this list; where `IsWrittenLook` holds, `Made` is `Made` of an entry
+-- a look with the entry that it wrote down in this list; if `IsWrittenLook` holds, `Made` is `Made` of an entry
 abbrev pub look_of : Looks → (made : List Stamped) → Look
 look_of looks.Made made = option_map_or Made (written_last made) Nothing
 look_of looks.Nothing made = Nothing

@@ -76,13 +76,13 @@ abbrev pub made_in : Look → Option Stamped
 made_in (Made s) = Some s
 made_in l = None
 
--- where nothing may come, so many looks answered NotYet
+-- if nothing may come, so many looks answered NotYet
 abbrev pub WorkLooked : (looks : ℕ) → (old new : Option Work) → Look → Type 0
 WorkLooked n old new (Made s) = IsFurther old new (s ∷ []) 0 0
 WorkLooked n old new Nothing = IsFurther old new [] n 0
 WorkLooked n old new (Contended object) = IsFurther old new [] 0 1
 
--- ---- the objects, where the bench tells them
+-- ---- the objects, if the bench tells them
 
 -- no entry of the actor and of the wish leads on from what the object keeps, and the object allows no plain start that is wished
 pub record IsHeldOn (p : Plan) (objects : List Object) (a : Actor) (w : Wanted) (object : ℕ) : Type 0 where

@@ -85,7 +85,7 @@ pub record IsApart (p : Plan) (g : History) (s : Stamped) : Type 0 where
   pub stamped : touched_by p (noting_of s) ≡ None
   pub named : touched_by p (note g s.entry) ≡ None
 
--- the entry follows its actor's program; where it touches no object it is what the bus answers; it came with the event of its activation, or
+-- the entry follows its actor's program; if it touches no object it is what the bus answers; it came with the event of its activation, or
 -- touches no object; and the slot then stands for it too
 pub record StepFollows (p : Plan) (t : TaskSet) (g : History) (after : Slot) (s : Stamped) : Type 0 where
   pub rule : follows_program p g s.entry.actor s.entry.deed ≡ true

@@ -35,12 +35,12 @@ pub record IsFirstAwake (awake : ℕ → Bool) (from to at : ℕ) : Type 0 where
   pub chosen : awake at ≡ true
   pub none : NoneAwake awake from at
 
--- the first of them that is, where there is one
+-- the first of them that is, if there is one
 abbrev pub IsNextAwake : (awake : ℕ → Bool) → (from to : ℕ) → Option ℕ → Type 0
 IsNextAwake awake from to None = NoneAwake awake from to
 IsNextAwake awake from to (Some at) = IsFirstAwake awake from to at
 
--- where a bench tells its objects: no event of one slot that sleeps may start
+-- if a bench tells its objects: no event of one slot that sleeps may start
 abbrev pub EventsHeld : Plan → Option (List Object) → (events : List ℕ) → (awake : ℕ → Bool) → Type 0
 EventsHeld p None events awake = Unit {0}
 EventsHeld p (Some objects) events awake = (j e : ℕ) → slice_get events j ≡ Some e → awake j ≡ false → AllHeld p objects (start_try p e)

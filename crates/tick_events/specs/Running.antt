@@ -13,7 +13,7 @@ countdown_of cs l = slice_index_or cs l.group (whole 0)
 abbrev pub kept_at : Countdown → (due : Bool) → kept.Timer
 kept_at c due = record { period = c.period; passed = c.period - c.left; due = due }
 
--- the same where its countdown may have ended and is not begun anew yet: then the TimingEvent is pending
+-- the same if its countdown may have ended and is not begun anew yet: then the TimingEvent is pending
 abbrev pub settled_at : Countdown → (due : Bool) → kept.Timer
 settled_at c due = record { period = c.period; passed = (c.period - c.left) % c.period; due = (c.left == 0) || due }
 

@@ -31,7 +31,7 @@ abbrev pub names_foreign : Actor → (point : Option ℕ) → Bool
 names_foreign a None = false
 names_foreign a (Some q) = not (is_key_point a q)
 
--- a start breaks the clause on calls where another one may come, or where it names another point than its key's; else it is not due
+-- a start breaks the clause on calls if another one may come, or if it names another point than its key's; else it is not due
 abbrev pub start_clause : Actor → (point : Option ℕ) → Came → ℕ
 start_clause a point Another = 9
 start_clause a point _ = if names_foreign a point then 9 else 13

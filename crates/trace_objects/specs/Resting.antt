@@ -1,4 +1,4 @@
--- Rest where no activation runs, on objects that stand for a history. Histories stand the newest first.
+-- Rest if no activation runs, on objects that stand for a history. Histories stand the newest first.
 use Rattle.std.specs.Prelude.{◌≡◌, ℕ, List, Bool, true, false, Some}
 use Rattle.bus_semantics.specs.declared.script.Mapping.{Mapping}
 use Rattle.bus_semantics.specs.declared.script.Task.{Task}

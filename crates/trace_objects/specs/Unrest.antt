@@ -16,7 +16,7 @@ use Rattle.port_objects.specs.Objects.{kept_of}
 use Rattle.port_objects.specs.Waking.{may_start_in, Tells}
 use Rattle.trace_objects.specs.declared.unrest.Unrest.{Unrest}
 
--- an event that is in a task: a server's only where it has a queue (SWS_RTE: RteEventToTaskMapping)
+-- an event that is in a task: a server's only if it has a queue (SWS_RTE: RteEventToTaskMapping)
 abbrev pub is_mapped : Plan → (event : ℕ) → Bool
 is_mapped p e = times_mapped p (kind_of p e) == 1
 

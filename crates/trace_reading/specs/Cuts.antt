@@ -2,7 +2,7 @@
 use Rattle.std.specs.Prelude.{ℕ, zero, suc, [], ◌∷◌, ◌==◌, if◌then◌else◌, Option, Some, None, unwrap_or}
 use Rattle.bus_semantics.specs.Spelling.{Letters}
 
--- what stands before the first separator: all where there is none
+-- what stands before the first separator: all if there is none
 abbrev pub before : (separator : ℕ) → Letters → Letters
 before s [] = []
 before s (c ∷ cs) = if c == s then [] else c ∷ before s cs
@@ -12,7 +12,7 @@ abbrev pub behind : (separator : ℕ) → Letters → Option Letters
 behind s [] = None
 behind s (c ∷ cs) = if c == s then Some cs else behind s cs
 
--- the field of a line at a place, counted from 0; empty where there are not so many
+-- the field of a line at a place, counted from 0; empty if there are not so many
 abbrev pub field : (place : ℕ) → Letters → Letters
 field zero t = before 32 t
 field (suc n) t = field n (unwrap_or (behind 32 t) [])

@@ -1,4 +1,4 @@
--- The entry that a line may be the text of: where it is that of any, then of this one.
+-- The entry that a line may be the text of: if it is that of any, then of this one.
 use Rattle.std.specs.Prelude.{Option, Some, None, option_and_then}
 use Rattle.bus_semantics.specs.declared.entries.Actor.{Actor}
 use Rattle.bus_semantics.specs.declared.entries.Deed.{Deed}

@@ -1,4 +1,4 @@
--- What a writer leaves in a line of 2,048 bytes: its text at the end, where there is room for it.
+-- What a writer leaves in a line of 2,048 bytes: its text at the end, if there is room for it.
 use Rattle.std.specs.Prelude.{◌≡◌, ◌+◌, ◌≤◌, ◌++◌, length}
 use Rattle.bus_semantics.specs.Spelling.{Letters}
 

@@ -28,7 +28,7 @@ IsShortStep v step.Transition = Unit {0}
 IsShortStep v step.Entry = Unit {0}
 IsShortStep v step.Stable = Unit {0}
 
--- the values of a start are in its line where it names a point
+-- the values of a start are in its line if it names a point
 abbrev pub IsShortFrom : Option ℕ → Value → Type 0
 IsShortFrom None value = Unit {0}
 IsShortFrom (Some q) value = IsShortValue value

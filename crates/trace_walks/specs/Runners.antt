@@ -12,7 +12,7 @@ use Rattle.bus_semantics.specs.Rest.{plain_key}
 use Rattle.bus_semantics.specs.Sound.{IsSound}
 use Rattle.trace_walks.specs.declared.runners.Runners.{Runners}
 
--- whether an activation runs of the key that serves the point directly; none does where no key serves it so
+-- whether an activation runs of the key that serves the point directly; none does if no key serves it so
 abbrev pub point_runs : Plan → History → ℕ → Bool
 point_runs p h q = option_map_or (λ k. runs k h) (direct_key p q) false
 

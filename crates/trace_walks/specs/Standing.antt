@@ -1,5 +1,5 @@
 -- What is kept of all activations along a trace, and what it stands for in a history (SWS_RTE: runnable activation). A key is a runnable, with
--- a point where it serves a server without a queue. Histories stand the newest first.
+-- a point if it serves a server without a queue. Histories stand the newest first.
 use Rattle.std.specs.Prelude.{◌≡◌, ℕ, List, ◌∷◌, length, slice_get, Bool, true, false, not, ◌&&◌, Option, Some, None}
 use Rattle.rte_value.specs.declared.kinds.ActKey.{ActKey}
 use Rattle.rte_value.specs.Values.{same_number}
@@ -17,7 +17,7 @@ use Rattle.trace_walks.specs.Walking.{WalkStands, entry_of, goes}
 
 -- ---- what they stand for
 
--- one for each runnable, and one for each point: at most one key with that point fits, and none where the point has no direct server
+-- one for each runnable, and one for each point: at most one key with that point fits, and none if the point has no direct server
 pub record WalksStand (t : TaskSet) (p : Plan) (h : History) (ws : Walks) : Type 0 where
   pub runnables : length ws.plain.items ≡ length p.runnables
   pub points : length ws.direct.items ≡ length p.points
