@@ -126,24 +126,25 @@ impl Group {
         ensures acted { (group : ℕ) → IsWishIn (plan_of p.now) group (wanted_of wish.now) → IsActed (plan_of p.now) group who.now (wanted_of wish.now) self.old self.new result }
         ensures long { length self.new.kept.unqueued.due ≡ length self.old.kept.unqueued.due }
     {
+        // Each arm returns: what the arms give to a match is copied once more behind it.
         match wish {
-            Wish::Write { elem, value } => self.write(who, *elem, value),
-            Wish::Publish { elem, value } => self.publish(who, *elem, value),
-            Wish::Invalidate { elem } => self.invalidate(who, *elem),
+            Wish::Write { elem, value } => return self.write(who, *elem, value),
+            Wish::Publish { elem, value } => return self.publish(who, *elem, value),
+            Wish::Invalidate { elem } => return self.invalidate(who, *elem),
             Wish::Read { elem } => match p.group_of(*elem) {
-                Some(group) => self.read(p, group, who, *elem),
-                None => Acted::NotYet(Shown::Unmatched),
+                Some(group) => return self.read(p, group, who, *elem),
+                None => return Acted::NotYet(Shown::Unmatched),
             },
             Wish::Fetch { elem } => match p.group_of(*elem) {
-                Some(group) => self.fetch(p, group, who, *elem),
-                None => Acted::NotYet(Shown::Unmatched),
+                Some(group) => return self.fetch(p, group, who, *elem),
+                None => return Acted::NotYet(Shown::Unmatched),
             },
             Wish::IsUpdated { elem } => match p.group_of(*elem) {
-                Some(group) => self.is_updated(p, group, who, *elem),
-                None => Acted::NotYet(Shown::Unmatched),
+                Some(group) => return self.is_updated(p, group, who, *elem),
+                None => return Acted::NotYet(Shown::Unmatched),
             },
-            Wish::Start { event } => self.start(who, *event),
-            _ => Acted::NotYet(Shown::Unmatched),
+            Wish::Start { event } => return self.start(who, *event),
+            _ => return Acted::NotYet(Shown::Unmatched),
         }
     }
 

@@ -53,13 +53,14 @@ fn act_by_kind(p: &BusPlan, object: &mut Object, who: &Actor, wish: &Wish) -> Ac
     ensures lead { IsAnswer (plan_of p.now) (touched (plan_of p.now) who.now (wanted_of wish.now)) who.now (wanted_of wish.now) object.old object.new result }
     ensures planned { IsOfPlan (plan_of p.now) (touched (plan_of p.now) who.now (wanted_of wish.now)) object.new }
 {
+    // Each arm returns: what the arms give to a match is copied once more behind it.
     match object {
-        Object::Unqueued(group) => group.act(p, who, wish),
-        Object::Bundle(bundle) => bundle.act(p, who, wish),
-        Object::Queued(group) => group.act(p, who, wish),
-        Object::Server(server) => server.act(who, wish),
-        Object::Area(area) => area.act(who, wish),
-        Object::Machine(machine) => machine.act(who, wish),
-        Object::Clock(ticks) => ticks.act(who, wish),
+        Object::Unqueued(group) => return group.act(p, who, wish),
+        Object::Bundle(bundle) => return bundle.act(p, who, wish),
+        Object::Queued(group) => return group.act(p, who, wish),
+        Object::Server(server) => return server.act(who, wish),
+        Object::Area(area) => return area.act(who, wish),
+        Object::Machine(machine) => return machine.act(who, wish),
+        Object::Clock(ticks) => return ticks.act(who, wish),
     }
 }

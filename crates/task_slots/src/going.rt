@@ -60,7 +60,7 @@ pub(crate) fn go_on<B: Bench>(
     free_deeds_are_legal();
     match slot.frame.next_call(t) {
         Next::Over => unreachable!(),
-        Next::Call(wish) => match try_wish(p, &Actor::Act(key), &wish, bench, made) {
+        Next::Call(ref wish) => match try_wish(p, &Actor::Act(key), wish, bench, made) {
             Looks::Made => {
                 hear(p, t, key, slot, &last_written(made).entry.deed);
                 Looks::Made

@@ -105,7 +105,7 @@ pub(crate) fn go_on_inside<B: Bench>(
     free_deeds_are_legal();
     match slot.inner.next_call(t) {
         Next::Over => unreachable!(),
-        Next::Call(wish) => match try_wish(p, &Actor::Act(call.direct), &wish, bench, made) {
+        Next::Call(ref wish) => match try_wish(p, &Actor::Act(call.direct), wish, bench, made) {
             Looks::Made => {
                 hear_inside(t, call, slot, &last_written(made).entry.deed);
                 Looks::Made
