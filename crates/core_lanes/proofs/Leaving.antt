@@ -58,24 +58,9 @@ module _ (p : Plan) (t : TaskSet) (old turned : CoreState) (before after : Sitti
 pub any_looks : (looks : ℕ) (a b : View) → IsEmptyTurn looks a b → IsEmptyTurn 0 a b
 any_looks looks a b turn = record { made = turn.made; looked = turn.looked; tried = turn.tried; cause = inl (let far = turn.looked in omega (arith, far)) }
 
--- looks at what is awake, and then at all
-pub looked_then : (few looks : ℕ) (a b c : View) → IsEmptyTurn few a b → IsEmptyTurn looks b c → IsEmptyTurn looks a c
-looked_then few looks a b c first second =
-    let far = first.looked in
-    let missed = first.tried in
-    record {
-      made = second.made ∙ first.made;
-      looked = omega (arith, first.looked, second.looked);
-      tried = omega (arith, first.tried, second.tried);
-      cause = ⊎_elim (λ held. inl (omega (arith, far, held))) (λ lost. inr (omega (arith, missed, lost))) second.cause;
-    }
-
 -- where not all looks are due none is counted
 pub not_due : (p : Plan) (slots : List Slot) (all : Bool) → all ≡ false → 0 ≡ looks_due p slots all
 not_due p slots all is = sym (ap (λ (b : Bool). if b then looks_in p slots else 0) is)
-
-pub through_due : (p : Plan) (slots : List Slot) (all : Bool) (a b : View) → all ≡ true → IsEmptyTurn (looks_in p slots) a b → IsEmptyTurn (looks_due p slots all) a b
-through_due p slots all a b is turn = subst (λ x. IsEmptyTurn (looks_due p slots x) a b) (sym is) turn
 
 -- ---- what a core did
 

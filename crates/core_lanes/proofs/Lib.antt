@@ -1,3 +1,4 @@
+pub mod Calls
 pub mod Guides
 pub mod Leaving
 pub mod Lists
@@ -5,6 +6,5 @@ pub mod MergedTurns
 pub mod Merging
 pub mod Parts
 pub mod Passing
-pub mod Places
 pub mod Runs
 pub mod Taken

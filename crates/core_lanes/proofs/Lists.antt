@@ -1,8 +1,7 @@
 -- Lanes of cores and seats.
-use Rattle.std.proofs.Common.{◌≡◌, ◌≤◌, ◌<◌, ◌+◌, ℕ, zero, suc, refl, sym, ◌∙◌, ap, arith, List, [], ◌∷◌, ◌++◌, map, length, take, drop, drop_of_length-le, append_assoc, append-nil, Option, Some, None}
+use Rattle.std.proofs.Common.{◌≡◌, ◌≤◌, ◌+◌, ℕ, zero, suc, refl, sym, ◌∙◌, ap, arith, List, [], ◌∷◌, ◌++◌, map, length, take, drop, drop_of_length-le, append-nil, Option, Some, None}
 use Rattle.std.proofs.Math.Seq.{take-length}
 use Rattle.std.specs.List.{slice_get}
-use Rattle.std.specs.Option.{MatchOption}
 use Rattle.core_turn.specs.Cores.{CoreState}
 use Rattle.cross_core_table.specs.declared.seats.CoreSeat.{CoreSeat}
 use Rattle.core_lanes.specs.declared.lanes.Lane.{Lane}
@@ -45,16 +44,6 @@ lane_at (c ∷ cores) (s ∷ seats) (suc i) l same found =
     let more = lane_at cores seats i l (omega (arith, same)) found in
     record { core_is = more.core_is; seat = more.seat; seat_is = more.seat_is; has = more.has }
 
-pub inside : {X : Type 0} (xs : List X) (i : ℕ) (x : X) → slice_get xs i ≡ Some x → i < length xs
-inside [] i x found = absurd (cc found)
-inside (y ∷ xs) zero x found = omega arith
-inside (y ∷ xs) (suc i) x found = let less = inside xs i x found in omega arith
-
-pub there : {X : Type 0} (xs : List X) (i : ℕ) → i < length xs → (x : X) × (slice_get xs i ≡ Some x)
-there [] i less = absurd (omega arith)
-there (y ∷ xs) zero less = (y, refl)
-there (y ∷ xs) (suc i) less = there xs i (omega arith)
-
 -- a lane at each place, and its core
 pub core_at : (lanes : List Lane) (i : ℕ) (c : CoreState) → slice_get (map core_in lanes) i ≡ Some c → (l : Lane) × (slice_get lanes i ≡ Some l) × (l.core ≡ c)
 core_at [] i c found = absurd (cc found)
@@ -82,21 +71,6 @@ seat_at (l ∷ lanes) each i s found =
     by_place : (i : ℕ) (x : CoreSeat) → l.seat ≡ Some x → ((j : ℕ) → slice_get (seats_in lanes) j ≡ Some s → SeatOf lanes j s) → slice_get (x ∷ seats_in lanes) i ≡ Some s → SeatOf (l ∷ lanes) i s
     by_place zero x has more found = (l, refl, has ∙ found)
     by_place (suc j) x has more found = more j found
-
--- the next seat is the next core's
-pub seat_next : (x : CoreState) (rest : List CoreState) (old new : List CoreSeat) (r : Option CoreSeat) (n k : ℕ) → n ≡ length old → k ≡ length new → MatchOption r ((n ≡ 0) × (k ≡ 0)) (λ s. (old ≡ s ∷ new) × (k + 1 ≡ n)) → lanes_of (x ∷ rest) old ≡ lane_of x r ∷ lanes_of rest new
-seat_next x rest old new None n k long longer steps = by_lists old new (omega (arith, long, steps.0)) (omega (arith, longer, steps.1))
-  where
-    by_lists : (old new : List CoreSeat) → length old ≡ 0 → length new ≡ 0 → lanes_of (x ∷ rest) old ≡ lane_of x None ∷ lanes_of rest new
-    by_lists [] [] a b = refl
-    by_lists [] (s ∷ new) a b = absurd (omega (arith, b))
-    by_lists (s ∷ old) new a b = absurd (omega (arith, a))
-seat_next x rest old new (Some s) n k long longer steps = ap (lanes_of (x ∷ rest)) steps.0
-
--- one lane more
-pub lanes_on : (lanes : List Lane) (x : CoreState) (rest : List CoreState) (old new : List CoreSeat) (r : Option CoreSeat) (cores : List CoreState) (all : List Lane)
-    → lanes_of (x ∷ rest) old ≡ lane_of x r ∷ lanes_of rest new → cores ≡ x ∷ rest → lanes ++ lanes_of cores old ≡ all → (lanes ++ lane_of x r ∷ []) ++ lanes_of rest new ≡ all
-lanes_on lanes x rest old new r cores all next steps whole = append_assoc lanes (lane_of x r ∷ []) (lanes_of rest new) ∙ ap (λ ls. lanes ++ ls) (sym next) ∙ ap (λ cs. lanes ++ lanes_of cs old) (sym steps) ∙ whole
 
 pub seats_more : (lanes : List Lane) (l : Lane) → seats_in (lanes ++ l ∷ []) ≡ seats_in lanes ++ with_seat l.seat []
 seats_more lanes l = seats_on lanes (l ∷ [])

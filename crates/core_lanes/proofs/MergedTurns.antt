@@ -61,8 +61,3 @@ module _ (p : Plan) (t : TaskSet) where
   pub taken_on : (old now next new : CoreState) (part : List Stamped) (s : Stamped) → TakesTurns p t old part now → TakesTurn p t now next s → IsSameCore next new → TakesTurns p t old (part ++ s ∷ []) new
   taken_on old now next new [] s turns turn same = (next, taken_from old now next s turns turn, same)
   taken_on old now next new (x ∷ part) s turns turn same = (turns.0, turns.1, taken_on turns.0 now next new part s turns.2 turn same)
-
-  -- turns without an entry leave it the same core
-  pub taken_still : (old now new : CoreState) (part : List Stamped) → TakesTurns p t old part now → IsSameCore now new → TakesTurns p t old part new
-  taken_still old now new [] turns same = record { number = same.number ∙ turns.number; slots = same.slots ∙ turns.slots }
-  taken_still old now new (x ∷ part) turns same = (turns.0, turns.1, taken_still turns.0 now new part turns.2 same)

@@ -2,12 +2,13 @@
 use Rattle.std.proofs.Common.{◌≡◌, ◌≤◌, ◌*◌, ℕ, zero, suc, refl, sym, ◌∙◌, ap, subst, arith, List, [], ◌∷◌, map, length, true, Some}
 use Rattle.std.specs.List.{slice_get}
 use Rattle.std.proofs.lemmas.List.{length-map}
-use Rattle.std.proofs.lemmas.Option.{same_Some}
+use Rattle.std.proofs.lemmas.Option.{same_Some, slice_get_within}
 use Rattle.bus_semantics.specs.declared.entries.Stamped.{Stamped}
 use Rattle.bus_semantics.specs.declared.script.Mapping.{Mapping}
 use Rattle.bus_semantics.specs.Plan.{Plan}
 use Rattle.bus_semantics.specs.History.{History}
 use Rattle.bus_semantics.specs.Sound.{IsSound}
+use Rattle.bus_laws.proofs.Thinning.{there_is}
 use Rattle.port_objects.specs.declared.object.Object.{Object}
 use Rattle.port_objects.specs.Objects.{ArePlans}
 use Rattle.task_machine.specs.declared.instr.TaskSet.{TaskSet}
@@ -26,7 +27,7 @@ use Rattle.core_lanes.specs.declared.lanes.Lane.{Lane}
 use Rattle.core_lanes.specs.Lanes.{lanes_of, core_in, seats_in, AreSeated, HaveGone}
 use Rattle.core_lanes.specs.Rooms.{HasRoom, HaveRoom}
 use Rattle.core_lanes.specs.Together.{AllReady, HasRun}
-use Rattle.core_lanes.proofs.Lists.{lane_at, lanes_count, inside, there, core_at, seats_count, seat_at}
+use Rattle.core_lanes.proofs.Lists.{lane_at, lanes_count, core_at, seats_count, seat_at}
 
 -- ---- before the turns
 
@@ -63,8 +64,8 @@ module _ (p : Plan) (t : TaskSet) (objects : List Object) (r : OpenRound) (cores
 
   done : (i : ℕ) (k : Lane) → slice_get gone i ≡ Some k → Done i k
   done i k found =
-      let less = inside gone i k found in
-      let l = there (lanes_of cores seats) i (omega (arith, less, went.count)) in
+      let less = slice_get_within gone i k found in
+      let l = there_is (lanes_of cores seats) i (omega (arith, less, went.count)) in
       let at = lane_at cores seats i l.0 (opened.seated.count ∙ opened.number) l.1 in
       let g = went.each i l.0 k l.1 found in
       record { core = l.0.core; core_is = at.core_is; seat = g.seat; has = g.has; of = g.of; room = g.room; turns = g.turns }

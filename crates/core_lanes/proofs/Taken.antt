@@ -1,5 +1,5 @@
 -- A turn at a seat's bench.
-use Rattle.std.proofs.Common.{◌≡◌, ◌+◌, ℕ, Bool, true, false, if◌then◌else◌, refl, sym, ◌∙◌, ap, subst, arith, List, [], ◌∷◌, ◌++◌, length, append-nil, Some}
+use Rattle.std.proofs.Common.{◌≡◌, ◌+◌, ℕ, Bool, true, false, refl, sym, ◌∙◌, ap, subst, arith, List, [], ◌∷◌, ◌++◌, length, append-nil, Some}
 use Rattle.std.proofs.lemmas.List.{length_push}
 use Rattle.std.proofs.lemmas.Option.{same_Some}
 use Rattle.bus_semantics.specs.declared.entries.Stamped.{Stamped}
@@ -45,10 +45,6 @@ module _ (p : Plan) (t : TaskSet) (old turned : CoreState) (before after : Sitti
 pub turns_on : (p : Plan) (t : TaskSet) (start old new : CoreState) (before after : List Stamped) (made : Bool) → TakesTurns p t start before old → IsTaken p t old new before after made → TakesTurns p t start after new
 turns_on p t start old new before after true turns longer = subst (λ part. TakesTurns p t start part new) (sym longer.added) (taken_on p t start old longer.stepped new before longer.made turns longer.turn longer.same)
 turns_on p t start old new before after false turns none = subst (λ part. TakesTurns p t start part new) (sym none.1) (subst (TakesTurns p t start before) (sym none.0) turns)
-
-pub count_on : (p : Plan) (t : TaskSet) (old new : CoreState) (before after : List Stamped) (made : Bool) → IsTaken p t old new before after made → length after ≡ (if made then length before + 1 else length before)
-count_on p t old new before after true longer = ap length longer.added ∙ length_push before longer.made
-count_on p t old new before after false none = ap length none.1
 
 -- a core that has made nothing
 pub no_turns : (p : Plan) (t : TaskSet) (core : CoreState) (made : List Stamped) → made ≡ [] → TakesTurns p t core made core

@@ -1,5 +1,5 @@
 -- A history and entries that follow it.
-use Rattle.std.specs.Prelude.{List, [], ◌∷◌, Bool, not}
+use Rattle.std.specs.Prelude.{List, [], ◌∷◌, Bool, not, filter}
 use Rattle.std.specs.List.{list_all}
 use Rattle.bus_semantics.specs.declared.entries.Stamped.{Stamped}
 use Rattle.bus_semantics.specs.History.{History, is_environment}
@@ -15,3 +15,11 @@ is_within s = not (is_environment s.entry.actor)
 
 abbrev pub are_within : List Stamped → Bool
 are_within entries = list_all is_within entries
+
+-- the environment made it
+abbrev pub is_outside : Stamped → Bool
+is_outside s = is_environment s.entry.actor
+
+-- the environment's among these, in their order
+abbrev pub calls_in : List Stamped → List Stamped
+calls_in entries = filter is_outside entries

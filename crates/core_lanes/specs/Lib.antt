@@ -1,5 +1,6 @@
 pub mod After
 pub mod Benching
+pub mod Calling
 pub mod Guiding
 pub mod Lanes
 pub mod Leaving

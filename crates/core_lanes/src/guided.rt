@@ -166,11 +166,14 @@ fn turn_past_guide(
     ensures looked { result ≡ false → IsEmptyTurn (looks_in (plan_of p.now) core.old.slots) bench.old.view bench.new.view }
     ensures guide { IsGuide core.new guide.new }
 {
-    let made = turn_once(p, t, core, bench);
-    if made {
-        guide.awake.follow(core);
+    match turn_once(p, t, core, bench) {
+        Turned::Stepped => {
+            guide.awake.follow(core);
+            true
+        }
+        Turned::NothingNow => false,
+        Turned::Contended(_) => false,
     }
-    made
 }
 
 impl Guided {

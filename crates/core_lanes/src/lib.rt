@@ -42,6 +42,11 @@
 //! **In which order do cores take their turns?** In that of the threads, and no contract says more. Every order is legal, and the
 //! one that was is told by the stamps. So the text of a run of several cores is not fixed, and what has to be the same in each run
 //! is to be read when it does not depend on the order.
+//!
+//! **How may the environment call while cores make their turns?** By one more seat of the round: the table knows of seats and not
+//! of cores, so it stays as it is, and the law has a case for a part of calls (`beside`). Without such a part it is the law of
+//! before (`lawful`). Of a call the law asks that it is what the bus answers after every past if it touches no object: nothing
+//! orders such a call among the others but its stamp.
 #![tactic(auto)]
 
 mod benching;
@@ -58,3 +63,4 @@ mod turns;
 pub use guesses::{Guesses, Spot};
 pub use laws::rounds_on_threads_keep_the_law;
 pub use together::{Changing, Together, run_together};
+pub use turns::turn_once;

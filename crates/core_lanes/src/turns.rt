@@ -9,7 +9,7 @@ ghost use Rattle.core_turn.specs.Ready.{IsReady};
 ghost use Rattle.cross_core_table.specs.Logs.{plan_in};
 ghost use Rattle.core_lanes.specs.Taking.{TakesTurns};
 ghost use Rattle.core_lanes.specs.Rooms.{HasRoom};
-ghost use Rattle.core_lanes.specs.Benching.{IsTaken};
+ghost use Rattle.core_lanes.specs.Benching.{IsTaken, has_made};
 ghost use Rattle.core_lanes.specs.Leaving.{IsEmptyTurn, IsTrueOf, MayLeave};
 
 use crate::guesses::Guesses;
@@ -24,9 +24,9 @@ use task_machine::TaskSet;
 /// How many turns a core makes in a round at most: 1,024 with an entry, and before each of them 63 without one, or 64 at the end.
 const MOST_TURNS: u32 = 1024 * 64;
 
-/// A core makes a turn at its bench over all of its slots, and the answer is whether it made an entry; then the trace is empty again,
-/// since the seat keeps the entry. It made none if each look said that nothing may come, or if another core held the object.
-pub(crate) fn turn_once(p: &BusPlan, t: &TaskSet, core: &mut Core, bench: &mut SeatBench) -> bool
+/// A core makes a turn at its bench over all of its slots. If it made an entry, the trace is empty again, since the seat keeps the entry.
+/// It made none if each look said that nothing may come, or if another seat held the object. It takes no memory.
+pub fn turn_once(p: &BusPlan, t: &TaskSet, core: &mut Core, bench: &mut SeatBench) -> Turned
     requires plan { plan_in bench.old.round.opening ≡ plan_of p.now }
     requires bodies { AsksAsPlanned (plan_of p.now) t.now }
     requires ready { (m : Mapping) × IsReady (plan_of p.now) m t.now core.old }
@@ -36,16 +36,16 @@ pub(crate) fn turn_once(p: &BusPlan, t: &TaskSet, core: &mut Core, bench: &mut S
     ensures number { bench.new.core ≡ bench.old.core }
     ensures ready { (m : Mapping) → IsReady (plan_of p.now) m t.now core.old → IsReady (plan_of p.now) m t.now core.new }
     ensures room { HasRoom core.new }
-    ensures taken { IsTaken (plan_of p.now) t.now core.old core.new bench.old.view.made bench.new.view.made result }
-    ensures looked { result ≡ false → IsEmptyTurn (looks_in (plan_of p.now) core.old.slots) bench.old.view bench.new.view }
+    ensures taken { IsTaken (plan_of p.now) t.now core.old core.new bench.old.view.made bench.new.view.made (has_made result) }
+    ensures looked { has_made result ≡ false → IsEmptyTurn (looks_in (plan_of p.now) core.old.slots) bench.old.view bench.new.view }
 {
     match turn(p, t, core, bench) {
         Turned::Stepped => {
             core.clear();
-            true
+            Turned::Stepped
         }
-        Turned::NothingNow => false,
-        Turned::Contended(_) => false,
+        Turned::NothingNow => Turned::NothingNow,
+        Turned::Contended(object) => Turned::Contended(object),
     }
 }
 
