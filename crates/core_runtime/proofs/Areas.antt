@@ -15,7 +15,7 @@ use Rattle.task_slots.specs.declared.slot.Slot.{Slot}
 use Rattle.core_turn.specs.Cores.{CoreState}
 use Rattle.core_turn.specs.Awake.{AwakeState, WaitersHeld}
 use Rattle.core_runtime.specs.Watching.{AreWatched, AreWaiting, AreWoken, AreEven, IsWokenAt, AreWokenAt, IsAfter}
-use Rattle.core_lanes.proofs.Places.{Placed, here, there, placed}
+use Rattle.latches.proofs.Places.{Placed, here, there, placed}
 
 -- what the laws of turns say
 abbrev pub SleepOnLaw : Type 0

@@ -1,5 +1,5 @@
 -- Where the slots of machines stand, and the one that wakes.
-use Rattle.std.proofs.Common.{◌≡◌, ℕ, zero, suc, ◌+◌, ◌<◌, true, false, refl, sym, ◌∙◌, ap, arith, List, [], ◌∷◌, ◌++◌, length, length-append, get_or, map, set, Some}
+use Rattle.std.proofs.Common.{◌≡◌, ℕ, zero, suc, ◌+◌, ◌<◌, true, false, sym, ◌∙◌, ap, arith, List, [], ◌∷◌, ◌++◌, length, length-append, get_or, map, set, Some}
 use Rattle.std.specs.List.{slice_get}
 use Rattle.std.specs.Option.{option_map}
 use Rattle.std.proofs.lemmas.List.{length-map}
@@ -18,14 +18,11 @@ use Rattle.core_turn.specs.Awake.{AwakeState}
 use Rattle.core_runtime.specs.Turns.{AreReady}
 use Rattle.core_runtime.specs.Watching.{owners_of, AreBehind, AreWatched, AreWoken, AreRoused}
 use Rattle.core_runtime.proofs.NewNodes.{Last, earlier, last, last_or}
-use Rattle.core_lanes.proofs.Places.{Placed, here, there, placed}
+use Rattle.latches.proofs.Places.{Placed, here, there, placed}
+use Rattle.object_kinds.proofs.Positions.{length_positions}
 use Rattle.core_runtime.proofs.Watched.{mapped_found}
 
 -- ---- new cores
-
-length_positions : (n : ℕ) → length (positions n) ≡ n
-length_positions zero = refl
-length_positions (suc n) = length-append (positions n) (n ∷ []) ∙ (let before = length_positions n in omega arith)
 
 at_position : (n i k : ℕ) → slice_get (positions n) i ≡ Some k → k ≡ i
 at_position zero i k e = absurd (cc e)

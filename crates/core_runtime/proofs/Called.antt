@@ -1,25 +1,22 @@
 -- Whose slot a caller's is.
-use Rattle.std.proofs.Common.{◌≡◌, ℕ, suc, ◌<◌, Bool, true, false, ◌||◌, refl, sym, ◌∙◌, ap, List, [], ◌∷◌, length, map, Option, Some, None}
+use Rattle.std.proofs.Common.{◌≡◌, ℕ, suc, ◌<◌, Bool, true, false, ◌||◌, refl, sym, ◌∙◌, ap, List, [], ◌∷◌, length, map, Some}
 use Rattle.std.specs.Prelude.{nat_lt}
 use Rattle.std.specs.Option.{option_map}
 use Rattle.std.specs.List.{list_any, slice_get}
-use Rattle.std.proofs.lemmas.Bool.{and_parts, eqb-true, false≢true, ltb-true}
+use Rattle.std.proofs.lemmas.Bool.{and_parts, false≢true, ltb-true}
 use Rattle.std.proofs.lemmas.Option.{slice_get-map}
 use Rattle.rte_value.specs.Values.{same_number}
 use Rattle.bus_semantics.specs.Plan.{Plan, caller_of, instance_of, runnable_of_event}
 use Rattle.bus_semantics.specs.Wanted.{to_hear}
 use Rattle.bus_semantics.specs.Owners.{key_fits, own_point}
 use Rattle.bus_semantics.specs.Fitting.{activation_may_want}
+use Rattle.object_kinds.proofs.Options.{number_is}
 use Rattle.task_machine.specs.declared.instr.TaskSet.{TaskSet}
 use Rattle.task_slots.specs.declared.slot.Slot.{Slot}
 use Rattle.task_slots.specs.Slots.{events_of_slot, home_by, starts_at}
 use Rattle.task_slots.specs.Waiting.{HearsAt}
 use Rattle.core_turn.specs.Cores.{CoreState}
 use Rattle.core_runtime.specs.Watching.{tables_of, IsOfCores}
-
-numbered : (o : Option ℕ) (r : ℕ) → same_number o (Some r) ≡ true → o ≡ Some r
-numbered None r e = absurd (false≢true e)
-numbered (Some n) r e = ap (λ k. Some k) (eqb-true n r e)
 
 -- one of the events starts the runnable
 pub record HasStarter (p : Plan) (events : List ℕ) (runnable : ℕ) : Type 0 where
@@ -34,7 +31,7 @@ has_starter p r (e ∷ events) own = by_test (same_number (runnable_of_event p e
   where
     by_test : (b : Bool) → same_number (runnable_of_event p e) (Some r) ≡ b → (b || list_any (λ x. same_number (runnable_of_event p x) (Some r)) events) ≡ true
         → (list_any (λ x. same_number (runnable_of_event p x) (Some r)) events ≡ true → HasStarter p events r) → HasStarter p (e ∷ events) r
-    by_test true is own rest = record { place = 0; event = e; is = refl; starts = numbered (runnable_of_event p e) r is }
+    by_test true is own rest = record { place = 0; event = e; is = refl; starts = number_is (runnable_of_event p e) r is }
     by_test false is own rest = let more = rest own in record { place = suc more.place; event = more.event; is = more.is; starts = more.starts }
 
 module _ (p : Plan) (t : TaskSet) (s : Slot) (point : ℕ) (h : HearsAt p t s point) where
@@ -42,7 +39,7 @@ module _ (p : Plan) (t : TaskSet) (s : Slot) (point : ℕ) (h : HearsAt p t s po
   fit_parts = and_parts (key_fits p h.key) (activation_may_want p h.key (instance_of p h.key.runnable) (to_hear point)) h.fits
 
   pub calls_at : caller_of p point ≡ Some h.key.runnable
-  calls_at = numbered (caller_of p point) h.key.runnable (and_parts _ (same_number (caller_of p point) (Some h.key.runnable)) fit_parts.1).1
+  calls_at = number_is (caller_of p point) h.key.runnable (and_parts _ (same_number (caller_of p point) (Some h.key.runnable)) fit_parts.1).1
 
   pub inside : h.key.runnable < length p.runnables
   inside = ltb-true h.key.runnable (length p.runnables) (and_parts (nat_lt h.key.runnable (length p.runnables)) _ fit_parts.0).0

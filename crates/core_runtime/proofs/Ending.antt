@@ -1,5 +1,5 @@
 -- A node after turns, and one of which nothing may come.
-use Rattle.std.proofs.Common.{◌≡◌, ◌<◌, ℕ, zero, suc, refl, ◌∙◌, arith, List, [], ◌∷◌, length, Some}
+use Rattle.std.proofs.Common.{◌≡◌, ◌<◌, ℕ, ◌∙◌, arith, List, length, Some}
 use Rattle.std.specs.List.{slice_get}
 use Rattle.bus_semantics.specs.declared.entries.Stamped.{Stamped}
 use Rattle.bus_semantics.specs.declared.script.Mapping.{Mapping}
@@ -17,16 +17,13 @@ use Rattle.core_turn.specs.Cores.{CoreState}
 use Rattle.core_turn.specs.Lawful.{IsLawful}
 use Rattle.port_objects.specs.Benches.{Told}
 use Rattle.bus_semantics.specs.Sound.{IsSound}
+use Rattle.history_laws.proofs.Lists.{there_is}
 use Rattle.core_turn.specs.Resting.{CoreRests}
 use Rattle.core_turn.specs.Turning.{NothingComes}
+use Rattle.core_lanes.specs.Rooms.{HaveRoom}
 use Rattle.core_runtime.specs.After.{after}
 use Rattle.core_runtime.specs.Nodes.{IsNode}
-use Rattle.core_runtime.specs.Turns.{NothingMayCome, Made}
-
-pub one_there : {X : Type 0} (xs : List X) (n : ℕ) → n < length xs → (x : X) × (slice_get xs n ≡ Some x)
-one_there [] n below = absurd (omega arith)
-one_there (x ∷ xs) zero below = (x, refl)
-one_there (x ∷ xs) (suc n) below = one_there xs n (omega arith)
+use Rattle.core_runtime.specs.Turns.{GoesOn, NothingMayCome}
 
 -- ---- where nothing may come
 
@@ -46,7 +43,7 @@ module _ (rests : RestLaw) (all_rest : AllRestLaw) (quiet : QuietLaw) (p : Plan)
   each_rests : (n : ℕ) → n < m.cores → CoreRests p m h n
   each_rests n below =
       let within : n < length cores = omega (arith, count) in
-      let c = one_there cores n within in
+      let c = there_is cores n within in
       let none = nothing n c.0 c.1 in
       rests p m t cores n c.0 none.same objects none.before none.now h asks lawful c.1 none.told none.nothing
 
@@ -61,15 +58,16 @@ module _ (rests : RestLaw) (all_rest : AllRestLaw) (quiet : QuietLaw) (p : Plan)
 
 -- ---- after turns
 
-pub node_on : (p : Plan) (m : Mapping) (t : TaskSet) (cores now : List CoreState) (objects later : List Object) (entries : List Stamped) → IsNode p m t cores objects → ArePlans p later
-    → Made p t cores now objects later entries → IsNode p m t now later
-node_on p m t cores now objects later entries node planned made = record {
+-- a node of which cores and objects went on
+pub gone_node : (p : Plan) (m : Mapping) (t : TaskSet) (cores now : List CoreState) (objects later : List Object) (entries : List Stamped) → IsNode p m t cores objects → length now ≡ length cores → HaveRoom now → ArePlans p later
+    → GoesOn p m t cores now objects later entries → IsNode p m t now later
+gone_node p m t cores now objects later entries node count room planned goes = record {
   sound = node.sound;
   bodies = node.bodies;
   counted = node.counted;
   planned = planned;
-  cores_are = made.count ∙ node.cores_are;
-  room = made.room;
+  cores_are = count ∙ node.cores_are;
+  room = room;
   history = after entries node.history;
-  lawful = made.goes m node.lawful.ready node.history node.lawful;
+  lawful = goes node.history node.lawful;
 }

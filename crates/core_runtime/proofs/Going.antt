@@ -16,7 +16,7 @@ use Rattle.core_runtime.specs.After.{after}
 use Rattle.core_runtime.specs.Turns.{GoesOn}
 use Rattle.core_lanes.specs.Taking.{IsSameCore}
 use Rattle.core_lanes.proofs.MergedTurns.{same_ready, same_stands}
-use Rattle.core_lanes.proofs.Places.{Placed, here, there, placed, set_here, set_there}
+use Rattle.latches.proofs.Places.{Placed, here, there, placed, set_here, set_there}
 
 pub after_on : (xs ys : List Stamped) (h : History) → after (xs ++ ys) h ≡ after ys (after xs h)
 after_on [] ys h = refl

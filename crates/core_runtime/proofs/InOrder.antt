@@ -9,7 +9,8 @@ use Rattle.task_machine.specs.declared.instr.TaskSet.{TaskSet}
 use Rattle.core_turn.specs.Cores.{CoreState}
 use Rattle.core_runtime.specs.Rounds.{RoundState, IsLater, IsTurn}
 use Rattle.core_runtime.specs.Turns.{TakesOne, EachTakesOne}
-use Rattle.core_runtime.proofs.Turning.{set_found}
+use Rattle.history_laws.proofs.Lists.{there_is}
+use Rattle.object_kinds.proofs.Lists.{set_same}
 
 -- ---- one more of a list
 
@@ -45,11 +46,6 @@ take_all [] zero e = refl
 take_all [] (suc n) e = refl
 take_all (x ∷ xs) zero e = absurd (omega (arith, e))
 take_all (x ∷ xs) (suc n) e = ap (λ ys. x ∷ ys) (take_all xs n (omega (arith, e)))
-
-get_there : {X : Type 0} (xs : List X) (i : ℕ) → i < length xs → (x : X) × (slice_get xs i ≡ Some x)
-get_there [] i h = absurd (omega arith)
-get_there (x ∷ xs) zero h = (x, refl)
-get_there (x ∷ xs) (suc i) h = get_there xs i (omega arith)
 
 -- ---- one core more
 
@@ -98,13 +94,13 @@ one_turn old new number true below turn = record {
   takes = turn.order;
 }
 one_turn old new number false below turn =
-    let c = get_there old.cores number below in
+    let c = there_is old.cores number below in
     record {
       core = c.0;
       stepped = c.0;
       made = [];
       there = c.1;
-      cores = turn.cores ∙ sym (set_found old.cores number c.0 c.1);
+      cores = turn.cores ∙ sym (set_same old.cores number c.0 c.1);
       entries = turn.entries ∙ sym (append-nil old.entries);
       takes = (turn.none c.0 c.1, refl, turn.objects);
     }

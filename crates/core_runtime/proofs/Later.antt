@@ -17,7 +17,8 @@ use Rattle.core_lanes.specs.Rooms.{HasRoom}
 use Rattle.core_runtime.specs.Rounds.{RoundState, IsRound, IsLater, Rested, Stepped, IsTurn}
 use Rattle.core_turn.specs.Ready.{IsReady}
 use Rattle.core_runtime.specs.Turns.{AreReady, NothingOf, NothingMayCome, IsStep, Made}
-use Rattle.core_runtime.proofs.Turning.{step_on, step_next, step_room, set_room, set_ready, set_found}
+use Rattle.object_kinds.proofs.Lists.{set_same}
+use Rattle.core_runtime.proofs.Turning.{step_on, step_next, step_room, set_room, set_ready}
 
 -- ---- one after the other
 
@@ -88,7 +89,7 @@ module _ (p : BusPlan) (t : TaskSet) (cores : List CoreState) (number : ℕ) (ol
           order = step.order;
         }
         of_step false step = record {
-          cores = ap (set cores number) step.core ∙ set_found cores number old found;
+          cores = ap (set cores number) step.core ∙ set_same cores number old found;
           objects = step.objects;
           entries = step.same;
           none = λ c is_c. subst (NothingOf (plan_of p) t before.objects) (same_Some _ _ (sym found ∙ is_c)) step.none;

@@ -18,3 +18,4 @@ pub mod InOrder
 pub mod Rounded
 pub mod Known
 pub mod Together
+pub mod Parting

@@ -1,7 +1,6 @@
 -- The entry of a wish of the environment keeps a node lawful.
-use Rattle.std.proofs.Common.{◌≡◌, ◌≢◌, ◌<◌, ◌+◌, ℕ, suc, Bool, true, false, ◌&&◌, if◌then◌else◌, refl, sym, ◌∙◌, ap, subst, arith, List, ◌∷◌, length, set, get_or, Option, Some, None}
-use Rattle.std.specs.Prelude.{◌==◌, IfSome, unwrap_or, not, option_and_then}
-use Rattle.std.specs.Option.{option_map, option_map_or}
+use Rattle.std.proofs.Common.{◌≡◌, ◌≢◌, ◌<◌, ◌+◌, ℕ, suc, Bool, true, false, if◌then◌else◌, refl, sym, ◌∙◌, ap, subst, arith, List, ◌∷◌, length, set, get_or, Option, Some, None}
+use Rattle.std.specs.Prelude.{◌==◌, IfSome, unwrap_or}
 use Rattle.std.specs.List.{slice_get}
 use Rattle.std.specs.Cmp.{unsigned_Decides}
 use Rattle.std.proofs.lemmas.Bool.{and_parts, false≢true}
@@ -11,66 +10,33 @@ use Rattle.bus_semantics.specs.declared.entries.Actor.{Actor}
 use Rattle.bus_semantics.specs.declared.entries.Actor.TheVariants.{Env}
 use Rattle.bus_semantics.specs.declared.entries.Entry.{Entry}
 use Rattle.bus_semantics.specs.declared.entries.Deed.{Deed}
-use Rattle.bus_semantics.specs.declared.entries.Deed.TheVariants as deed
-use Rattle.bus_semantics.specs.declared.plan.ElemPlan.{ElemPlan}
-use Rattle.bus_semantics.specs.declared.plan.ModePortPlan.{ModePortPlan}
 use Rattle.bus_semantics.specs.declared.script.Mapping.{Mapping}
-use Rattle.bus_semantics.specs.Plan.{Plan, look, group_of}
-use Rattle.bus_semantics.specs.Bundles.{home_of, bundle_of}
-use Rattle.bus_semantics.specs.Wanted.{Wanted, to_tick, to_start, to_admit, to_write, to_read, to_send, to_receive, to_ask, to_hear, to_take_result, to_return, to_enter, to_leave, to_switch, to_see_mode, to_move_on, to_end, wanted_by}
-use Rattle.bus_semantics.specs.History.{History, Noted, Past, is_environment, needs_event, started_before, note, noted}
-use Rattle.bus_semantics.specs.Objects.{clock, first_machine, object_of, touched_by, touches, entries_of, touched, IsObject}
-use Rattle.bus_semantics.specs.Fitting.{wish_fits, answer_fits, activation_fits}
-use Rattle.bus_semantics.specs.Owners.{is_unqueued, is_queued, holds}
+use Rattle.bus_semantics.specs.Plan.{Plan}
+use Rattle.bus_semantics.specs.Wanted.{Wanted}
+use Rattle.bus_semantics.specs.History.{History, Noted, is_environment, needs_event, started_before, note, noted}
+use Rattle.bus_semantics.specs.Objects.{clock, object_of, touched_by, touches, entries_of, touched, IsObject}
+use Rattle.bus_semantics.specs.Fitting.{wish_fits}
 use Rattle.bus_semantics.specs.Actor.{follows_program}
 use Rattle.bus_semantics.specs.Legal.{Answers, MayFollow, IsLegal}
 use Rattle.bus_semantics.specs.Sound.{IsSound}
 use Rattle.bus_semantics.specs.Pasts.{Follows}
 use Rattle.bus_semantics.specs.Asked.{event_of, noted_for, MayCome}
-use Rattle.history_laws.specs.Coming.{may_be_held}
-use Rattle.object_kinds.proofs.Members.{group_within}
-use Rattle.object_kinds.proofs.Ranges.{sought}
 use Rattle.port_objects.specs.declared.object.Object.{Object}
 use Rattle.port_objects.specs.Objects.{kept_of, IsOfPlan}
 use Rattle.port_objects.specs.Standing.{Stands}
 use Rattle.port_objects.specs.Coming.{MayAsk, IsTheOne}
 use Rattle.port_objects.specs.Answers.{IsMade}
 use Rattle.port_objects.specs.Leading.{lead}
-use Rattle.port_objects.specs.Freed.{is_free, IsFree, Frees}
+use Rattle.port_objects.specs.Freed.{Frees}
 use Rattle.task_machine.specs.declared.instr.TaskSet.{TaskSet}
 use Rattle.core_turn.specs.Cores.{CoreState}
 use Rattle.core_turn.specs.Lawful.{IsLawful}
 use Rattle.core_turn.specs.Standing.{CoreStands}
 use Rattle.core_runtime.specs.Nodes.{IsNode}
 use Rattle.core_runtime.specs.Watching.{Touches}
-use Rattle.core_lanes.proofs.Merging.{found_there}
-use Rattle.core_lanes.proofs.Places.{Placed, here, there, placed, found_at}
+use Rattle.core_lanes.proofs.Calls.{no_event, eventless, no_need, touches_none, free_fits, AnswersLaw}
+use Rattle.latches.proofs.Places.{Placed, here, there, placed, found_at}
 use Rattle.core_runtime.proofs.Turned.{made_touches}
-
--- ---- what the environment may want
-
--- nothing that it wants may have to wait
-pub never_held : (p : Plan) (w : Wanted) → wish_fits p Env w ≡ true → may_be_held w ≡ false
-never_held p (to_start event) may_want = absurd (false≢true may_want)
-never_held p (to_admit event) may_want = absurd (false≢true may_want)
-never_held p (to_hear q) may_want = absurd (false≢true may_want)
-never_held p (to_return code ws) may_want = absurd (false≢true may_want)
-never_held p (to_enter x) may_want = absurd (false≢true may_want)
-never_held p (to_leave x) may_want = absurd (false≢true may_want)
-never_held p to_move_on may_want = absurd (false≢true may_want)
-never_held p (to_end event) may_want = absurd (false≢true may_want)
-never_held p w may_want = refl
-
-no_event : (p : Plan) (w : Wanted) → wish_fits p Env w ≡ true → event_of w ≡ None
-no_event p (to_admit event) may_want = absurd (false≢true may_want)
-no_event p (to_end event) may_want = absurd (false≢true may_want)
-no_event p w may_want = refl
-
--- its entries need no event
-eventless : (p : Plan) (w : Wanted) (d : Deed) (by : ℕ) → wish_fits p Env w ≡ true → wanted_by by d ≡ w → needs_event d ≡ false
-eventless p w (deed.Admit admitted) by may_want same = absurd (false≢true (subst (λ v. wish_fits p Env v ≡ true) (sym same) may_want))
-eventless p w deed.End by may_want same = absurd (false≢true (subst (λ v. wish_fits p Env v ≡ true) (sym same) may_want))
-eventless p w d by may_want same = refl
 
 -- ---- what an entry touches
 
@@ -212,70 +178,23 @@ module _ {p : Plan} {m : Mapping} {t : TaskSet} {cores : List CoreState} {object
 
 -- ---- a wish that touches no object
 
-module _ (p : Plan) (m : Mapping) (sound : IsSound p m) where
-  -- each element of a sound plan is in a bundle
-  bundled : (x : ℕ) (test : ElemPlan → Bool) → look p.elements x test false ≡ true → bundle_of p x ≡ None → ⊥
-  bundled x test held none =
-      let at = sought p.elements x test held in
-      let group : group_of p x ≡ Some at.item.group = ap (λ o. option_map_or (λ (e : ElemPlan). Some e.group) o None) at.found in
-      let within : at.item.group < length p.groups = group_within p x at.item.group sound.groups group in
-      let homes : length p.homes ≡ length p.groups = (unsigned_Decides (length p.homes) (length p.groups)).0 (and_parts (length p.homes == length p.groups) _ sound.bundles).0 in
-      let home = found_there p.homes at.item.group (omega arith) in
-      let is : bundle_of p x ≡ Some home.0 = ap (option_and_then (home_of p)) group ∙ ap (λ o. option_map_or (λ (b : ℕ). Some b) o None) home.1 in
-      cc (sym none ∙ is)
-
-  -- it is an ask or the taking of a result
-  pub is_free_one : (w : Wanted) → wish_fits p Env w ≡ true → object_of p Env w ≡ None → is_free w ≡ true
-  is_free_one to_tick may_want none = absurd (cc none)
-  is_free_one (to_write x ws) may_want none = absurd (bundled x (λ (e : ElemPlan). same_number e.instance None && ((is_unqueued e && e.provided) && holds ws e)) may_want none)
-  is_free_one (to_read x) may_want none = absurd (bundled x (λ (e : ElemPlan). same_number e.instance None && (is_unqueued e && not e.provided)) may_want none)
-  is_free_one (to_send x ws) may_want none = absurd (bundled x (λ (e : ElemPlan). same_number e.instance None && ((is_queued e && e.provided) && holds ws e)) may_want none)
-  is_free_one (to_receive x) may_want none = absurd (bundled x (λ (e : ElemPlan). same_number e.instance None && (is_queued e && not e.provided)) may_want none)
-  is_free_one (to_switch n mode) may_want none = absurd (cc none)
-  is_free_one (to_see_mode port) may_want none = absurd (machine_found (slice_get p.mode_ports port) may_want none)
-    where
-      machine_found : (o : Option ModePortPlan) → option_map_or (λ (t : ModePortPlan). same_number t.instance None) o false ≡ true
-          → option_map (λ n. first_machine p + n) (option_map_or (λ (v : ModePortPlan). Some v.machine) o None) ≡ None → ⊥
-      machine_found None held none = false≢true held
-      machine_found (Some t) held none = absurd (cc none)
-  is_free_one (to_ask q ws) may_want none = refl
-  is_free_one (to_take_result q) may_want none = refl
-  is_free_one w may_want none = absurd (false≢true may_want)
-
--- what it is answered names nothing
-names_nothing : (p : Plan) (a : Actor) (w : Wanted) (d : Deed) (by : ℕ) → is_free w ≡ true → wanted_by by d ≡ w → answer_fits p a d ≡ true
-names_nothing p a w (deed.Start event point value) by free eq = absurd (false≢true (subst (λ v. is_free v ≡ true) (sym eq) free))
-names_nothing p a w (deed.Mode port mode) by free eq = absurd (false≢true (subst (λ v. is_free v ≡ true) (sym eq) free))
-names_nothing p a w (deed.Phase step) by free eq = absurd (false≢true (subst (λ v. is_free v ≡ true) (sym eq) free))
-names_nothing p a w d by free eq = refl
-
-abbrev pub AnswersLaw : Type 0
-AnswersLaw = (p : Plan) (m : Mapping) (a : Actor) (w : Wanted) (d : Deed) (h : Past) → IsSound p m → wish_fits p a w ≡ true → object_of p a w ≡ None → IsFree w d → is_free w ≡ true
-    → Answers p h (record { entry = record { actor = a; deed = d }; event = None })
-
 module _ {p : Plan} {m : Mapping} {t : TaskSet} {cores : List CoreState} {objects : List Object} (w : Wanted) (d : Deed)
     (node : IsNode p m t cores objects) (may_want : wish_fits p Env w ≡ true) (none : object_of p Env w ≡ None) (frees : Frees w (Some d)) (answers : AnswersLaw) (beside : BesideLaw) where
   abbrev pub e : Entry
   e = record { actor = Env; deed = d }
 
-  wish : wanted_by 0 d ≡ w
-  wish = subst (λ v. wanted_by (unwrap_or v 0) d ≡ w) (no_event p w may_want) frees.1.wish
-
-  no_need : needs_event d ≡ false
-  no_need = eventless p w d 0 may_want wish
-
   alone : (h : History) → note h e ≡ record { entry = e; event = None }
-  alone h = ap (λ b. record { entry = record { actor = Env; deed = d }; event = if b then None else None }) no_need
+  alone h = ap (λ b. record { entry = record { actor = Env; deed = d }; event = if b then None else None }) (no_need p m w d node.sound may_want none frees)
 
   untouched : (h : History) → touched_by p (note h e) ≡ None
-  untouched h = ap (touched_by p) (alone h) ∙ ap (λ b. if b && true then None else object_of p Env (wanted_by 0 d)) no_need ∙ ap (object_of p Env) wish ∙ none
+  untouched h = ap (touched_by p) (alone h) ∙ touches_none p m w d node.sound may_want none frees
 
   pub lawful_beside : (h : History) → IsLawful p m t cores objects h → IsLawful p m t cores objects (e ∷ h)
   lawful_beside h lawful = record {
     legal = (
       lawful.legal,
       record {
-        fit = (λ i. (if no_need i then activation_fits p Env else wish_fits p Env (wish i)) && names_nothing p Env w d 0 frees.0 wish i) ∙ ap (λ b. b && true) may_want;
+        fit = free_fits p m w d node.sound may_want none frees;
         actor = refl;
         answers = subst (Answers p (noted h)) (sym (alone h)) (answers p m Env w d (noted h) node.sound may_want none frees.1 frees.0);
       },

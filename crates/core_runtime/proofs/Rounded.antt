@@ -11,7 +11,7 @@ use Rattle.core_runtime.specs.Nodes.{IsNode}
 use Rattle.core_runtime.specs.Rounds.{RoundState, IsLater}
 use Rattle.core_runtime.specs.Turns.{Made, NothingMayCome, EachTakesOne}
 use Rattle.core_runtime.specs.Watching.{IsWatch}
-use Rattle.core_runtime.proofs.Ending.{node_on}
+use Rattle.core_runtime.proofs.Ending.{gone_node}
 use Rattle.core_runtime.proofs.Turning.{made_nothing}
 
 -- what it begins with
@@ -41,8 +41,8 @@ module _ {p : BusPlan} {m : Mapping} {t : TaskSet} {live taken : Live} {room : �
     pub node_after : ArePlans (plan_of now.plan) given.objects.items → IsWatch (plan_of now.plan) now.bodies given.objects.items None given.cores.items given.watch
         → IsNode (plan_of p) m t given.cores.items given.objects.items × IsWatch (plan_of p) t given.objects.items None given.cores.items given.watch
     node_after planned watched = (
-      node_on (plan_of p) m t live.cores.items given.cores.items live.objects.items given.objects.items given.entries.items node
-          (subst (λ (q : BusPlan). ArePlans (plan_of q) given.objects.items) since.plan planned) made_by,
+      gone_node (plan_of p) m t live.cores.items given.cores.items live.objects.items given.objects.items given.entries.items node made_by.count made_by.room
+          (subst (λ (q : BusPlan). ArePlans (plan_of q) given.objects.items) since.plan planned) (made_by.goes m node.lawful.ready),
       subst (λ (u : TaskSet). IsWatch (plan_of p) u given.objects.items None given.cores.items given.watch) since.bodies
           (subst (λ (q : BusPlan). IsWatch (plan_of q) now.bodies given.objects.items None given.cores.items given.watch) since.plan watched),
     )

@@ -11,7 +11,7 @@ use Rattle.std.proofs.lemmas.Option.{same_Some, slice_get_within}
 use Rattle.core_runtime.specs.declared.seats.Seat.{Seat}
 use Rattle.core_runtime.specs.Watching.{IsOfTask, IsOfCore, IsOfCores, IsAt, Adds, AreSeated}
 use Rattle.core_runtime.proofs.NewNodes.{Last, earlier, last, last_or}
-use Rattle.core_lanes.proofs.Places.{Placed, here, there, placed, set_here, set_there}
+use Rattle.latches.proofs.Places.{Placed, here, there, placed, set_here, set_there}
 
 -- ---- one
 

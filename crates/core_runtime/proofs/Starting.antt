@@ -12,7 +12,7 @@ use Rattle.std.proofs.Common.{◌⊎◌, inl, inr}
 use Rattle.bus_semantics.specs.declared.plan.EventPlan.{EventPlan}
 use Rattle.bus_semantics.specs.Plan.{Plan, runnable_of_event}
 use Rattle.core_runtime.specs.Watching.{AreStarters, IsListed, IsStarter}
-use Rattle.core_lanes.proofs.Places.{set_here, set_there}
+use Rattle.latches.proofs.Places.{set_here, set_there}
 
 pub starter_added : (p : Plan) (event runnable : ℕ) (lists : List (Vec ℕ Global)) (row new : Vec ℕ Global) → runnable_of_event p event ≡ Some runnable → slice_get lists runnable ≡ Some row → new.items ≡ row.items ++ event ∷ [] → IsStarter p event lists (set lists runnable new)
 starter_added p event runnable lists row new starts found pushed = record {

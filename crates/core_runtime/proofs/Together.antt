@@ -1,11 +1,15 @@
 -- A node after a round of several cores.
 use Rattle.std.proofs.Common.{◌≡◌, ◌<◌, ◌≤◌, ◌+◌, ◌*◌, ℕ, zero, suc, refl, sym, ◌∙◌, ap, subst, arith, List, [], ◌∷◌, length, map, set, Option, Some, None}
+use Rattle.std.specs.Prelude.{nat_le, OnErr, OnOk, Ok, Err, Result}
 use Rattle.std.specs.List.{slice_get}
+use Rattle.std.specs.Vec.{vec_capacity}
+use Rattle.std.proofs.lemmas.Bool.{and_parts, leb-true}
 use Rattle.std.proofs.lemmas.List.{length-set}
 use Rattle.std.proofs.lemmas.Option.{slice_get_within, same_Some}
 use Rattle.bus_semantics.specs.declared.entries.Stamped.{Stamped}
 use Rattle.bus_semantics.specs.declared.script.Mapping.{Mapping}
 use Rattle.bus_semantics.specs.Plan.{Plan}
+use Rattle.bus_semantics.specs.SoundPlan.{is_in}
 use Rattle.port_objects.specs.declared.object.Object.{Object}
 use Rattle.task_machine.specs.declared.instr.TaskSet.{TaskSet}
 use Rattle.task_slots.specs.declared.slot.Slot.{Slot}
@@ -13,11 +17,14 @@ use Rattle.task_slots.specs.Slots.{table_of, listed_in, events_of_slot}
 use Rattle.core_turn.specs.Cores.{CoreState, tables_of_core}
 use Rattle.core_turn.specs.Awake.{AwakeState, Fits, AreHeld}
 use Rattle.core_turn.specs.Lawful.{IsLawful}
-use Rattle.core_lanes.proofs.Places.{Placed, here, there, placed}
+use Rattle.latches.proofs.Places.{Placed, here, there, placed}
 use Rattle.core_lanes.specs.Together.{HasRun}
 use Rattle.core_runtime.specs.After.{after}
+use Rattle.core_runtime.specs.Lives.{HaveTurned, IsSameLive}
 use Rattle.core_runtime.specs.Nodes.{IsNode}
-use Rattle.core_runtime.proofs.Ending.{one_there}
+use Rattle.core_runtime.specs.Turns.{GoesOn}
+use Rattle.core_runtime.proofs.Ending.{gone_node}
+use Rattle.history_laws.proofs.Lists.{there_is}
 use Rattle.core_runtime.specs.declared.live.Live.{Live}
 use Rattle.core_runtime.specs.declared.watch.Watch.{Watch}
 use Rattle.core_runtime.specs.Watching.{AllWatched, AreShaped, HaveSameTasks, AreSeated, AreBehind, AreStarters, AreWatched, IsWatch, tables_of}
@@ -125,38 +132,69 @@ pub shaped_at : (old cores : List CoreState) (before awake : List AwakeState) (n
     → (slots : List Slot) × (first : ℕ) × Fits slots first a × (map table_of c.slots ≡ map table_of slots)
 shaped_at old cores before awake n c a shaped same so_far at found =
     let less : n < length cores = slice_get_within cores n c at in
-    let d = one_there old n (omega (arith, less, task_count old cores same)) in
+    let d = there_is old n (omega (arith, less, task_count old cores same)) in
     (d.0.slots, d.0.first, shaped.each n d.0 a d.1 (so_far.rest n a (omega arith) found), core_tasks old cores n d.0 c same d.1 at)
 
 -- ---- the node
 
-pub node_ran : (p : Plan) (m : Mapping) (t : TaskSet) (cores now : List CoreState) (objects later : List Object) (entries : List Stamped) → IsNode p m t cores objects → HasRun p t cores now objects later entries → IsNode p m t now later
-node_ran p m t cores now objects later entries node run = record {
-  sound = node.sound;
-  bodies = node.bodies;
-  counted = node.counted;
-  planned = run.planned;
-  cores_are = run.count ∙ node.cores_are;
-  room = run.room;
-  history = after entries node.history;
-  lawful = run.goes m node.history node.sound node.lawful;
-}
+-- cores that went on have the same tasks
+pub gone_tasks : (p : Plan) (m : Mapping) (t : TaskSet) (cores now : List CoreState) (objects later : List Object) (entries : List Stamped) → IsNode p m t cores objects → length now ≡ length cores → GoesOn p m t cores now objects later entries → HaveSameTasks cores now
+gone_tasks p m t cores now objects later entries node count goes = same_tasks p m t cores now objects later node.history (after entries node.history) count node.lawful (goes node.history node.lawful)
 
-pub node_tasks : (p : Plan) (m : Mapping) (t : TaskSet) (cores now : List CoreState) (objects later : List Object) (entries : List Stamped) → IsNode p m t cores objects → HasRun p t cores now objects later entries → HaveSameTasks cores now
-node_tasks p m t cores now objects later entries node run = same_tasks p m t cores now objects later node.history (after entries node.history) run.count node.lawful (run.goes m node.history node.sound node.lawful)
+-- ---- what turns of several cores make of a node
 
--- ---- over what the node kept
+-- a mapping has 1 to 8 cores
+pub node_count : {p : Plan} {m : Mapping} {t : TaskSet} {cores : List CoreState} {objects : List Object} → IsNode p m t cores objects → (1 ≤ length cores) × (length cores ≤ 8)
+node_count {m = m} node =
+    let both = and_parts (nat_le 1 m.cores) (nat_le m.cores 8) (and_parts (is_in 1 8 m.cores) _ node.sound.tasks).0 in
+    let least = leb-true 1 m.cores both.0 in
+    let most = leb-true m.cores 8 both.1 in
+    (omega (arith, least, node.cores_are), omega (arith, most, node.cores_are))
 
-module _ {p : Plan} {m : Mapping} {t : TaskSet} {live taken : Live} {now : List CoreState} {later : List Object} {entries : List Stamped}
-    (node : IsNode p m t live.cores.items live.objects.items) (same : taken ≡ live) (ran : HasRun p t taken.cores.items now taken.objects.items later entries) where
-  pub run_from : HasRun p t live.cores.items now live.objects.items later entries
-  run_from = subst (λ (l : Live). HasRun p t l.cores.items now l.objects.items later entries) same ran
+module _ {p : Plan} {m : Mapping} {t : TaskSet} {cores now : List CoreState} {objects later : List Object} {entries : List Stamped}
+    (node : IsNode p m t cores objects) (ran : HasRun p t cores now objects later entries) where
+  pub ran_goes : GoesOn p m t cores now objects later entries
+  ran_goes h = ran.goes m h node.sound
 
   pub ran_node : IsNode p m t now later
-  ran_node = node_ran p m t live.cores.items now live.objects.items later entries node run_from
+  ran_node = gone_node p m t cores now objects later entries node ran.count ran.room ran.planned ran_goes
 
-  pub ran_tasks : HaveSameTasks live.cores.items now
-  ran_tasks = node_tasks p m t live.cores.items now live.objects.items later entries node run_from
+  pub ran_tasks : HaveSameTasks cores now
+  ran_tasks = gone_tasks p m t cores now objects later entries node ran.count ran_goes
 
   pub ran_few : length entries ≤ 1024 * m.cores
-  ran_few = omega (arith, run_from.few, node.cores_are)
+  ran_few = omega (arith, ran.few, node.cores_are)
+
+-- ---- by what the turns answered
+
+pub on_ok : {X E A C : Type 0} (r : Result X E) → OnOk r A → (A → C) → OnOk r C
+on_ok (Ok x) ok f = f ok
+on_ok (Err e) ok f = ok
+
+pub on_err : {X E A C : Type 0} (r : Result X E) → OnErr r A → (A → C) → OnErr r C
+on_err (Ok x) err f = err
+on_err (Err e) err f = f err
+
+by_answer : {X E A B C : Type 0} (r : Result X E) → OnOk r A → OnErr r B → (A → C) → (B → C) → C
+by_answer (Ok x) ok err f g = f ok
+by_answer (Err e) ok err f g = g err
+
+module _ {X E : Type 0} {p : Plan} {m : Mapping} {t : TaskSet} {live taken : Live} (new : Live) (node : IsNode p m t live.cores.items live.objects.items) (watch : IsWatch p t live.objects.items None live.cores.items live.watch)
+    (same : taken ≡ live) (r : Result X E) (ran : OnOk r (HaveTurned p t taken new)) (kept : OnErr r (IsSameLive taken new)) where
+  pub turned_on : OnOk r (HaveTurned p t live new)
+  turned_on = subst (λ (l : Live). OnOk r (HaveTurned p t l new)) same ran
+
+  pub same_on : OnErr r (IsSameLive live new)
+  same_on = subst (λ (l : Live). OnErr r (IsSameLive l new)) same kept
+
+  pub node_now : IsNode p m t new.cores.items new.objects.items × IsWatch p t new.objects.items None new.cores.items new.watch
+  node_now = by_answer r turned_on same_on
+      (λ turned. (ran_node node turned.run, turned.watched))
+      (λ still. (
+        subst (λ cs. IsNode p m t cs new.objects.items) (sym still.cores) (subst (λ os. IsNode p m t live.cores.items os) (sym still.objects) node),
+        subst (λ cs. IsWatch p t new.objects.items None cs new.watch) (sym still.cores)
+            (subst (λ os. IsWatch p t os None live.cores.items new.watch) (sym still.objects) (subst (λ w. IsWatch p t live.objects.items None live.cores.items w) (sym still.watch) watch)),
+      ))
+
+  pub room_on : vec_capacity new.entries ≡ vec_capacity live.entries
+  room_on = by_answer r turned_on same_on (λ turned. turned.room) (λ still. ap vec_capacity still.entries)

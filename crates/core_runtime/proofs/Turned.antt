@@ -27,7 +27,7 @@ use Rattle.core_turn.specs.Awake.{AwakeState, Fits, StartsHeld, WaitersHeld}
 use Rattle.core_turn.specs.Turning.{StepsApart}
 use Rattle.core_runtime.specs.declared.seats.Seat.{Seat}
 use Rattle.core_runtime.specs.Watching.{tables_of, owners_of, AreBehind, AreSeated, IsWatched, AreWatched, AreWaiting, Touches, IsAfter}
-use Rattle.core_lanes.proofs.Places.{Placed, here, there, placed}
+use Rattle.latches.proofs.Places.{Placed, here, there, placed}
 use Rattle.core_runtime.proofs.NewNodes.{Last, earlier, last, last_or}
 use Rattle.core_runtime.proofs.Stepping.{told_by}
 

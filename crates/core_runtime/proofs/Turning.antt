@@ -1,5 +1,5 @@
 -- Turns one after the other.
-use Rattle.std.proofs.Common.{◌≡◌, ◌+◌, ℕ, zero, suc, refl, sym, ◌∙◌, ap, subst, arith, List, [], ◌∷◌, ◌++◌, length, set, Bool, true, false, Some}
+use Rattle.std.proofs.Common.{◌≡◌, ◌+◌, ℕ, suc, refl, sym, ◌∙◌, ap, subst, arith, List, [], ◌∷◌, ◌++◌, length, set, Bool, true, false, Some}
 use Rattle.std.specs.Prelude.{◌==◌, ◌&&◌}
 use Rattle.std.proofs.lemmas.Bool.{and_parts}
 use Rattle.std.specs.Cmp.{unsigned_Decides}
@@ -19,7 +19,8 @@ use Rattle.core_runtime.specs.After.{is_within, are_within}
 use Rattle.core_lanes.specs.Rooms.{HasRoom, HaveRoom}
 use Rattle.core_runtime.specs.Turns.{GoesOn, AreReady, Makes, Rests, IsStep, Made}
 use Rattle.core_runtime.proofs.Going.{goes_then}
-use Rattle.core_lanes.proofs.Places.{Placed, here, there, placed}
+use Rattle.latches.proofs.Places.{Placed, here, there, placed}
+use Rattle.object_kinds.proofs.Lists.{set_same}
 
 -- ---- lists
 
@@ -35,11 +36,6 @@ stamps_on entries s counted stamp = let place : s.stamp ≡ 0 + length entries =
 
 within_on : (entries : List Stamped) (s : Stamped) → are_within entries ≡ true → is_within s ≡ true → are_within (entries ++ s ∷ []) ≡ true
 within_on entries s all one = list_all-append is_within entries (s ∷ []) ∙ ap (λ b. b && (is_within s && true)) all ∙ ap (λ b. b && true) one
-
-pub set_found : {X : Type 0} (xs : List X) (i : ℕ) (x : X) → slice_get xs i ≡ Some x → set xs i x ≡ xs
-set_found [] i x e = refl
-set_found (y ∷ xs) zero x e = let same : y ≡ x = cc in ap (λ z. z ∷ xs) (sym same)
-set_found (y ∷ xs) (suc i) x e = ap (λ ys. y ∷ ys) (set_found xs i x e)
 
 -- ---- cores
 
@@ -74,7 +70,7 @@ module _ (p : Plan) (t : TaskSet) (cores now : List CoreState) (objects : List O
 
   pub still_on : Rests p t old new before after entries all → Made p t cores (set now at new) objects after.objects all
   still_on rests =
-      let same : set now at new ≡ now = ap (set now at) rests.core ∙ set_found now at old is in
+      let same : set now at new ≡ now = ap (set now at) rests.core ∙ set_same now at old is in
       subst (λ es. Made p t cores (set now at new) objects after.objects es) (sym rests.same)
       (subst (λ os. Made p t cores (set now at new) objects os entries) (sym rests.objects) (subst (λ cs. Made p t cores cs objects before.objects entries) (sym same) made))
 

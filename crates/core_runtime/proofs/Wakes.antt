@@ -13,7 +13,7 @@ use Rattle.task_slots.specs.declared.slot.Slot.{Slot}
 use Rattle.core_turn.specs.Awake.{AwakeState, Fits, StartsHeld, WaitersHeld}
 use Rattle.core_runtime.specs.declared.seats.Seat.{Seat}
 use Rattle.core_runtime.specs.Watching.{is_awake, IsWoken, AreWoken, IsThere, IsSeen, IsUp}
-use Rattle.core_lanes.proofs.Places.{Placed, here, there, placed}
+use Rattle.latches.proofs.Places.{Placed, here, there, placed}
 
 -- ---- flags
 

@@ -31,7 +31,7 @@ use Rattle.task_slots.specs.Waiting.{idle_tries}
 use Rattle.core_turn.specs.Awake.{AwakeState, StartsHeld, IsDeaf, IsQuiet}
 use Rattle.core_runtime.specs.declared.seats.Seat.{Seat}
 use Rattle.core_runtime.specs.Watching.{tables_of, IsOfCores, IsAt, AreSeated, IsWatched, AreWatched, is_awake, IsWoken, AreWoken, IsThere, IsSeen, Touches, AreRoused, AreAnswered, IsAfter}
-use Rattle.core_lanes.proofs.Places.{set_here, set_there}
+use Rattle.latches.proofs.Places.{set_here, set_there}
 
 -- ---- what the laws of objects say
 

@@ -36,9 +36,16 @@
 //! **What of a node keeps the entries?** The node's list does: the turn of a single core writes its entry at the end of it. In a
 //! lane a core needs room for one entry. In a round of several cores each seat has a list of what its core made, and the close one
 //! of all, in order of stamps, which the node copies: so its own room is what it was, whatever the close gave.
+//!
+//! **Which room has a node that is put together?** That of the list of entries that it is given (`spare` of `Node::from_parts`).
+//! It could have no room, as a new node has; but the list is there, and a round takes what is missing before its first turn in
+//! any case. What a node keeps beside its parts (what of the cores may step, where they look first, lists for the next round)
+//! goes with them and is nobody else's to change, since neither call takes memory. All of the cores is awake afterwards, as it is
+//! after a round on threads: nobody watched their turns.
 #![tactic(auto)]
 
 mod alone;
+mod beginning;
 mod callers;
 mod environment;
 mod guessing;
@@ -47,6 +54,7 @@ mod machines;
 mod making;
 mod many;
 mod node;
+mod parts;
 mod pass;
 mod round;
 mod round_state;
@@ -58,6 +66,7 @@ mod waking;
 mod watch;
 
 pub use node::Node;
+pub use parts::Parts;
 pub use pass::serial_pass;
 pub use round::{RoundRun, run_round};
 

@@ -1,21 +1,26 @@
 //! Rounds of several cores, at the same time.
 
-ghost use Rattle.std.specs.Prelude.{◌≡◌, ◌≤◌, ◌*◌, OnErr, OnOk, length, true};
+ghost use Rattle.std.specs.Prelude.{◌≡◌, ◌≤◌, ◌*◌, OnErr, OnOk, None, length, true};
 ghost use Rattle.std.specs.Vec.{vec_capacity};
+ghost use Rattle.bus_semantics.specs.declared.script.Mapping.{Mapping};
+ghost use Rattle.bus_semantics.specs.Plan.{plan_of};
 ghost use Rattle.bus_semantics.specs.History.{History};
 ghost use Rattle.bus_semantics.specs.Interleaving.{stamps_count};
 ghost use Rattle.core_runtime.specs.After.{after, are_within};
-ghost use Rattle.core_runtime.specs.Nodes.{IsLawfulNode, IsSameNode};
+ghost use Rattle.core_runtime.specs.Lives.{HaveTurned, IsSameLive};
+ghost use Rattle.core_runtime.specs.Nodes.{IsLawfulNode, IsNode, IsSameNode};
+ghost use Rattle.core_runtime.specs.Watching.{IsWatch};
 
 use crate::Memory;
 use crate::live::Live;
 use crate::node::Node;
-use bus_semantics::Stamped;
-use core_lanes::{Changing, Together, run_together};
+use bus_semantics::{BusPlan, Stamped};
+use core_lanes::{Changing, Guesses, Together, run_together};
 use rte_text::Gate;
 use std::alloc::{AllocError, Global};
 use std::mem;
 use std::thread::Threads;
+use task_machine::TaskSet;
 
 /// Puts these entries in the place of earlier ones. There has to be room for them.
 fn refilled(entries: Vec<Stamped>, made: &[Stamped]) -> Vec<Stamped>
@@ -52,6 +57,73 @@ fn exchanged(earlier: Vec<Stamped>, made: Vec<Stamped>) -> (Vec<Stamped>, Vec<St
     (entries, made)
 }
 
+/// Cores make turns at the same time, and their entries take the place of earlier ones, for which there has to be room. The only error is that
+/// there is no memory, and then no core made a turn.
+fn turn_many<R: Threads + Sync, G: Gate>(
+    rt: &R,
+    alloc: Global,
+    p: &BusPlan,
+    t: &TaskSet,
+    live: Live,
+    guesses: &Guesses,
+    gate: &G,
+) -> (Live, Result<(), Memory>)
+    requires node { (m : Mapping) × IsNode (plan_of p.now) m t.now live.cores.items live.objects.items }
+    requires watched { IsWatch (plan_of p.now) t.now live.objects.items None live.cores.items live.watch }
+    requires count { (1 ≤ length live.cores.items) × (length live.cores.items ≤ 8) }
+    requires room { 1024 * length live.cores.items ≤ vec_capacity live.entries }
+    ensures ran { OnOk result.1 (HaveTurned (plan_of p.now) t.now live result.0) }
+    ensures same { OnErr result.1 (IsSameLive live result.0) }
+{
+    let Live {
+        cores,
+        objects,
+        mut watch,
+        entries,
+        spare,
+    } = live;
+    let changing = Changing {
+        cores,
+        objects,
+        spare,
+    };
+    match run_together(rt, alloc, p, t, changing, guesses, gate) {
+        Together::Ran(changing, made) => {
+            let Changing {
+                cores,
+                objects,
+                mut spare,
+            } = changing;
+            watch.wake_all(cores.as_slice());
+            let (entries, free) = exchanged(entries, made);
+            spare.entries = free;
+            let live = Live {
+                cores,
+                objects,
+                watch,
+                entries,
+                spare,
+            };
+            (live, Ok(()))
+        }
+        Together::Memory(changing) => {
+            let Changing {
+                cores,
+                objects,
+                spare,
+            } = changing;
+            let live = Live {
+                cores,
+                objects,
+                watch,
+                entries,
+                spare,
+            };
+            (live, Err(AllocError))
+        }
+    }
+}
+
 impl Node {
     /// The cores of a node make a round of turns at the same time, each in a thread of its own. There has to be room for 1,024
     /// entries of each core. The only error is that there is no memory, and then no core made a turn.
@@ -75,60 +147,16 @@ impl Node {
         let room = self.live.entries.capacity();
         make_room(alloc, &mut self.live.spare.entries, room)?;
         let live = mem::replace(&mut self.live, Live::none(alloc));
-        let Live {
-            cores,
-            objects,
-            mut watch,
-            entries,
-            spare,
-        } = live;
-        let changing = Changing {
-            cores,
-            objects,
-            spare,
-        };
-        match run_together(
+        let (live, ran) = turn_many(
             rt,
             alloc,
             &self.plan,
             &self.bodies,
-            changing,
+            live,
             &self.guesses,
             gate,
-        ) {
-            Together::Ran(changing, made) => {
-                let Changing {
-                    cores,
-                    objects,
-                    mut spare,
-                } = changing;
-                watch.wake_all(cores.as_slice());
-                let (entries, free) = exchanged(entries, made);
-                spare.entries = free;
-                self.live = Live {
-                    cores,
-                    objects,
-                    watch,
-                    entries,
-                    spare,
-                };
-                Ok(())
-            }
-            Together::Memory(changing) => {
-                let Changing {
-                    cores,
-                    objects,
-                    spare,
-                } = changing;
-                self.live = Live {
-                    cores,
-                    objects,
-                    watch,
-                    entries,
-                    spare,
-                };
-                Err(AllocError)
-            }
-        }
+        );
+        self.live = live;
+        ran
     }
 }

@@ -7,14 +7,12 @@ ghost use Rattle.task_generator.specs.Promise.{AsksAsPlanned};
 ghost use Rattle.core_runtime.specs.Nodes.{IsLawfulNode};
 
 use crate::Memory;
-use crate::guessing::guesses_of;
+use crate::beginning::{Beginning, begin};
 use crate::live::Live;
-use crate::making::cores_of;
-use crate::watch::Watch;
+use crate::parts::Upkeep;
 use bus_semantics::{BusPlan, Mapping, Stamped};
 use core_lanes::Guesses;
-use cross_core_table::Spare;
-use port_objects::{make_objects, sound_plans_have_objects};
+use port_objects::sound_plans_have_objects;
 use std::alloc::Global;
 use std::marker::Model;
 use task_machine::TaskSet;
@@ -63,10 +61,16 @@ impl Node {
         ensures lawful { IfOk result (λ n. IsLawfulNode n []) }
     {
         sound_plans_have_objects();
-        let objects = make_objects(alloc, &p)?;
-        let cores = cores_of(alloc, &p, &m, &t)?;
-        let watch = Watch::new(alloc, &p, cores.as_slice())?;
-        let guesses = guesses_of(alloc, &p, cores.as_slice(), &watch)?;
+        let Beginning {
+            cores,
+            objects,
+            kept,
+        } = begin(alloc, &p, &m, &t)?;
+        let Upkeep {
+            watch,
+            guesses,
+            spare,
+        } = kept;
         Ok(Node {
             plan: p,
             mapping: m,
@@ -76,7 +80,7 @@ impl Node {
                 objects,
                 watch,
                 entries: Vec::new(alloc),
-                spare: Spare::none(alloc),
+                spare,
             },
             guesses,
         })

@@ -4,7 +4,7 @@ use Rattle.std.specs.Prelude.{Vec}
 use Rattle.std.specs.Global.{Global}
 use Rattle.std.specs.List.{Contains, slice_get}
 use Rattle.core_runtime.specs.Watching.{IsAt}
-use Rattle.core_lanes.proofs.Places.{found_at}
+use Rattle.latches.proofs.Places.{found_at}
 use Rattle.core_runtime.proofs.callers.rouse_caller.Goals as goal
 
 pub rouse_events-requires : goal.rouse_events-requires

@@ -4,7 +4,7 @@ use Rattle.std.specs.Prelude.{Vec}
 use Rattle.std.specs.Global.{Global}
 use Rattle.std.specs.List.{slice_get}
 use Rattle.core_runtime.specs.declared.seats.Seat.{Seat}
-use Rattle.core_lanes.proofs.Places.{found_at}
+use Rattle.latches.proofs.Places.{found_at}
 use Rattle.core_runtime.proofs.Wakes.{are_same}
 use Rattle.core_runtime.proofs.callers.rouse_event.Goals as goal
 

@@ -1,7 +1,7 @@
 use Rattle.std.proofs.Common.{◌≡◌, ◌<◌, length, sym, ◌∙◌, subst, set}
 use Rattle.std.proofs.lemmas.Option.{same_Some, slice_get_within}
 use Rattle.core_turn.specs.Awake.{AwakeState}
-use Rattle.core_lanes.proofs.Places.{found_at, set_here}
+use Rattle.latches.proofs.Places.{found_at, set_here}
 use Rattle.core_runtime.proofs.Wakes.{woken_slot, are_set, up_now}
 use Rattle.core_runtime.proofs.callers.rouse_seat.Goals as goal
 

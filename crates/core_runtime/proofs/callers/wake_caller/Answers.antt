@@ -5,7 +5,7 @@ use Rattle.bus_semantics.specs.Plan.{plan_of, caller_of}
 use Rattle.port_objects.specs.Waking.{heard_in}
 use Rattle.core_runtime.specs.declared.seats.Seat.{Seat}
 use Rattle.core_runtime.proofs.Called.{calls_at, inside, at_home, stands_at}
-use Rattle.core_lanes.proofs.Places.{found_at, set_here}
+use Rattle.latches.proofs.Places.{found_at, set_here}
 use Rattle.core_runtime.proofs.callers.wake_caller.Goals as goal
 
 pub returns-in-Some-heard-clause-answered : goal.returns-in-Some-heard-clause-answered

@@ -1,7 +1,7 @@
 use Rattle.std.proofs.Common.{◌<◌, length, arith}
 use Rattle.bus_semantics.specs.Plan.{plan_of}
 use Rattle.core_runtime.proofs.Behind.{roused_here}
-use Rattle.core_lanes.proofs.Places.{found_at}
+use Rattle.latches.proofs.Places.{found_at}
 use Rattle.core_runtime.proofs.Wakes.{are_set}
 use Rattle.core_runtime.proofs.machines.wake_machine.Goals as goal
 

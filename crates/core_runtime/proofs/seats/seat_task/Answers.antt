@@ -1,7 +1,7 @@
 use Rattle.std.proofs.Common.{◌<◌, get_or, length, set, arith}
 use Rattle.std.proofs.lemmas.Option.{slice_get-get_or}
 use Rattle.core_runtime.specs.Watching.{IsOfTask}
-use Rattle.core_lanes.proofs.Places.{found_at}
+use Rattle.latches.proofs.Places.{found_at}
 use Rattle.core_runtime.proofs.Seated.{adds_none, one_added, task_on, task_all}
 use Rattle.core_runtime.proofs.seats.seat_task.Goals as goal
 

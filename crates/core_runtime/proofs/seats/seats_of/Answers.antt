@@ -7,7 +7,7 @@ use Rattle.std.proofs.lemmas.Option.{slice_get-map}
 use Rattle.core_turn.specs.Cores.{CoreState}
 use Rattle.task_slots.specs.Slots.{events_of_slot}
 use Rattle.core_runtime.specs.Watching.{IsOfCores, tables_of}
-use Rattle.core_lanes.proofs.Places.{found_at}
+use Rattle.latches.proofs.Places.{found_at}
 use Rattle.core_runtime.proofs.Seated.{adds_none, all_below, cores_on, cores_all}
 use Rattle.bus_semantics.specs.Plan.{plan_of}
 use Rattle.core_runtime.proofs.Known.{known_events}

@@ -1,6 +1,6 @@
 use Rattle.std.proofs.Common.{◌<◌, length, sym, arith}
 use Rattle.bus_semantics.specs.Plan.{plan_of}
-use Rattle.core_lanes.proofs.Places.{found_at}
+use Rattle.latches.proofs.Places.{found_at}
 use Rattle.core_runtime.proofs.Starting.{starter_added}
 use Rattle.core_runtime.proofs.starters.add_starter.Goals as goal
 

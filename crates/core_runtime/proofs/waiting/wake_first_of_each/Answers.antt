@@ -1,7 +1,7 @@
 use Rattle.std.proofs.Common.{◌<◌, ◌≤◌, arith, length}
 use Rattle.core_runtime.specs.Watching.{IsWokenAt}
 use Rattle.core_runtime.proofs.Areas.{up_to_next, up_to_all}
-use Rattle.core_lanes.proofs.Places.{found_at}
+use Rattle.latches.proofs.Places.{found_at}
 use Rattle.core_runtime.proofs.waiting.wake_first_of_each.Goals as goal
 
 pub wake_first-requires-clause-areas : goal.wake_first-requires-clause-areas

@@ -3,7 +3,7 @@ use Rattle.std.proofs.lemmas.Option.{same_Some, slice_get_within}
 use Rattle.port_objects.specs.Objects.{kept_of}
 use Rattle.core_turn.specs.Awake.{AwakeState}
 use Rattle.core_runtime.specs.Watching.{AreWoken, IsSeen}
-use Rattle.core_lanes.proofs.Places.{found_at, set_here}
+use Rattle.latches.proofs.Places.{found_at, set_here}
 use Rattle.core_runtime.proofs.Wakes.{woken_one, woken_same, awake_now, are_set, seen_awake, seen_held}
 use Rattle.core_runtime.proofs.waking.wake_seat.Goals as goal
 use Rattle.core_runtime.proofs.waking.wake_seat.Goals.{else-not-is_awake-via-then-not-is_awake+else-may_start, else-not-is_awake-via-else-not-is_awake}

@@ -6,7 +6,7 @@ use Rattle.bus_semantics.specs.Plan.{plan_of}
 use Rattle.port_objects.specs.Objects.{kept_of}
 use Rattle.port_objects.specs.Waking.{woken_in}
 use Rattle.core_runtime.specs.Watching.{IsSeen}
-use Rattle.core_lanes.proofs.Places.{found_at, set_here}
+use Rattle.latches.proofs.Places.{found_at, set_here}
 use Rattle.core_runtime.proofs.Wakes.{are_same}
 use Rattle.core_runtime.proofs.Watched.{after_entry}
 use Rattle.core_runtime.proofs.waking.wake_starts.Goals as goal

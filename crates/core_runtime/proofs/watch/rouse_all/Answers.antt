@@ -1,5 +1,5 @@
 use Rattle.std.proofs.Common.{◌≡◌, ◌<◌, ◌≤◌, sym, ◌∙◌, arith, length}
-use Rattle.core_lanes.proofs.Places.{found_at}
+use Rattle.latches.proofs.Places.{found_at}
 use Rattle.core_runtime.proofs.Together.{roused_next, roused_all, shaped_at, task_count}
 use Rattle.core_runtime.proofs.watch.rouse_all.Goals as goal
 

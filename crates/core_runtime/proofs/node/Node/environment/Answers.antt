@@ -8,7 +8,8 @@ use Rattle.bus_semantics.specs.Wanted.{wanted_of}
 use Rattle.core_runtime.specs.Nodes.{NodeState, IsLawfulNode}
 use Rattle.core_runtime.specs.Watching.{IsAfter, IsWatch}
 use Rattle.core_runtime.proofs.Areas.{still_waiting}
-use Rattle.core_runtime.proofs.Outside.{never_held, is_free_one, lawful_beside, touches_one, is_there, is_planned, may_ask, lawful_on, node_then, touches_then, within_then}
+use Rattle.core_lanes.proofs.Calls.{never_held, is_free_one}
+use Rattle.core_runtime.proofs.Outside.{lawful_beside, touches_one, is_there, is_planned, may_ask, lawful_on, node_then, touches_then, within_then}
 use Rattle.core_runtime.proofs.node.Node.environment.Goals as goal
 
 pub object_of-requires : goal.object_of-requires

@@ -2,7 +2,7 @@ use Rattle.std.proofs.Common.{◌<◌, length, ap, arith}
 use Rattle.std.proofs.lemmas.Option.{slice_get_within}
 use Rattle.core_runtime.specs.Rounds.{RoundState}
 use Rattle.core_runtime.proofs.Later.{later_then, quiet_on, turn_few}
-use Rattle.core_runtime.proofs.InOrder.{none_taken, turn_in_order, all_in_order}
+use Rattle.core_runtime.proofs.InOrder.{turn_in_order, all_in_order}
 use Rattle.core_runtime.proofs.round_state.Round.give_turns.Goals as goal
 
 pub step-requires-clause-number : goal.step-requires-clause-number

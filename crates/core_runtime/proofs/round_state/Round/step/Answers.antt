@@ -14,7 +14,7 @@ use Rattle.task_slots.specs.Slots.{events_of_slot, table_of}
 use Rattle.core_lanes.specs.Rooms.{HasRoom}
 use Rattle.core_runtime.specs.Rounds.{RoundState, IsRound, IsLater, Rested, Stepped}
 use Rattle.core_runtime.specs.Watching.{IsAfter, IsWatch}
-use Rattle.core_lanes.proofs.Places.{found_at}
+use Rattle.latches.proofs.Places.{found_at}
 use Rattle.core_runtime.proofs.Areas.{still_waiting}
 use Rattle.core_runtime.proofs.Turned.{after_step, awake_on, waiting_on, events_kept, seated_on, owners_same, behind_on}
 use Rattle.core_runtime.proofs.Stepping.{last_is, room_kept, makes, rests}
