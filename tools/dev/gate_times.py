@@ -2,16 +2,18 @@
 """Runs `rt ci` and says what each task of it cost, as a table in Markdown.
 
 usage: tools/dev/gate_times.py [--table FILE] [WORD ...]      (the words go to `rt ci`: `--anew`, or names of crates)
+       tools/dev/gate_times.py --beside PID [--table FILE]    (looks at what a process begins, until that or this one is ended)
 
 The log of `rt ci` passes through to standard output. At the end, or when it is interrupted, the table is written:
 for each crate the processor seconds of its proof, of its tests and of its must-fail edits, and the time from the first
 to the last of these. It is read from /proc, five times a second, so a figure may be short by a fifth of a second for
 each check. Only what this machine ran is counted: what `rt ci` kept from earlier runs costs nothing. Linux alone.
-Ends with the status of `rt ci`, and with 127 if `rt` is not found.
+Ends with the status of `rt ci`, and with 127 if `rt` is not found. `.ci/run` has it look beside the gate, and prints the table.
 """
 import argparse
 import collections
 import os
+import signal
 import subprocess
 import sys
 import threading
@@ -118,6 +120,8 @@ def lines_of(crate: str) -> int:
 
 def table(tasks: dict[tuple[str, str], Task], begun: float, status: int | None) -> str:
     """The costs by crate, the dearest first, and their sums."""
+    if not tasks:
+        return "Nothing was proved, tested or tried: all was kept from earlier runs of the same files.\n"
     kinds = ("proof", "tests", "edits")
     crates = sorted({crate for crate, _ in tasks}, key=lambda it: -sum(tasks[it, k].total() for k in kinds if (it, k) in tasks))
     rows = ["| Crate | Lines | Proof | Tests | Edits | Seconds | Seconds for 1,000 lines | Ended after |", "|---|---|---|---|---|---|---|---|"]
@@ -132,14 +136,32 @@ def table(tasks: dict[tuple[str, str], Task], begun: float, status: int | None) 
         rows.append(f"| `{crate}` | {lines:,} | {' | '.join(cells)} | {whole:.0f} | {1000 * whole / max(lines, 1):.0f} | {ended / 60:.0f} min |")
     whole = sum(sums.values())
     rows.append(f"| all | | {' | '.join(f'{sums[kind]:.0f}' for kind in kinds)} | {whole:.0f} | | {(time.time() - begun) / 60:.0f} min |")
-    rows.append(f"\nProcessor minutes: {whole / 60:.0f}. Processors: {os.cpu_count()}. Status of `rt ci`: {status}.")
+    ended = "" if status is None else f" Status of `rt ci`: {status}."
+    rows.append(f"\nProcessor minutes: {whole / 60:.0f}. Processors: {os.cpu_count()}.{ended}")
     return "\n".join(rows) + "\n"
+
+
+def beside(root: int, path: Path) -> int:
+    """Looks at what a process begins until it is over, or until this one is told to end; then the table is written."""
+    tasks: dict[tuple[str, str], Task] = collections.defaultdict(Task)
+    begun = time.time()
+    signal.signal(signal.SIGTERM, lambda *_: sys.exit(0))
+    try:
+        while Path(f"/proc/{root}").exists():
+            look(root, tasks)
+            time.sleep(PAUSE)
+    finally:
+        path.write_text(table(tasks, begun, None))
+    return 0
 
 
 def main() -> int:
     parser = argparse.ArgumentParser(description=__doc__, formatter_class=argparse.RawDescriptionHelpFormatter)
     parser.add_argument("--table", type=Path, default=Path("gate_times.md"), help="where the table goes (gate_times.md)")
+    parser.add_argument("--beside", type=int, metavar="PID", help="look at what this process begins, and run nothing")
     given, words = parser.parse_known_args()
+    if given.beside:
+        return beside(given.beside, given.table)
     tasks: dict[tuple[str, str], Task] = collections.defaultdict(Task)
     begun = time.time()
     try:
