@@ -140,7 +140,7 @@ try "schema" schema/check.py
 try "claims of the documents" tools/dev/claims.py
 try "list of crates and its tables" tools/dev/crates.py --check
 try "counts of the house" tools/dev/house.py
-sed -n "s/^/tools: /p" "$held/said"
+grep -q WORSE "$held/said" || sed 's/^/    /' "$held/said"
 try "lint.py on the examples" on_each_example lint_is_silent
 try "timeline.py on the examples" on_each_example is_drawn
 try "diagram.py on the examples" on_each_example has_a_diagram
