@@ -6,8 +6,8 @@ usage: tools/dev/gate_times.py [--table FILE] [WORD ...]      (the words go to `
 
 The log of `rt ci` passes through to standard output. At the end, or when it is interrupted, the table is written:
 for each crate the processor seconds of its proof, of its tests and of its must-fail edits, and the time from the first
-to the last of these. It is read from /proc, five times a second, so a figure may be short by a fifth of a second for
-each check. Only what this machine ran is counted: what `rt ci` kept from earlier runs costs nothing. Linux alone.
+to the last of these. It is read from /proc, five times a second (twice beside a process), so a figure may be short by a fifth (a half) of a
+second for each check. Only what this machine ran is counted: what `rt ci` kept from earlier runs costs nothing. Linux alone.
 Ends with the status of `rt ci`, and with 127 if `rt` is not found. `.ci/run` has it look beside the gate, and prints the table.
 """
 import argparse
@@ -23,7 +23,8 @@ from pathlib import Path
 
 TICKS = os.sysconf("SC_CLK_TCK")
 TOP = Path(__file__).resolve().parents[2]
-PAUSE = 0.2
+PAUSE = 0.2  # seconds between two looks
+PAUSE_BESIDE = 0.5
 
 
 @dataclass
@@ -149,7 +150,7 @@ def beside(root: int, path: Path) -> int:
     try:
         while Path(f"/proc/{root}").exists():
             look(root, tasks)
-            time.sleep(PAUSE)
+            time.sleep(PAUSE_BESIDE)
     finally:
         path.write_text(table(tasks, begun, None))
     return 0
