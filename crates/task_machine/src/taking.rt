@@ -25,6 +25,7 @@ pub fn is_over(answer: &Deed) -> bool
 }
 
 /// The value in an answer, copied whole, and the empty one if it gives none.
+#[inline(always)]
 fn copied_value_of_answer(answer: &Deed) -> Value
     ensures { words_of result ≡ words_in answer.now }
 {
@@ -40,7 +41,9 @@ fn copied_value_of_answer(answer: &Deed) -> Value
 }
 
 /// The value in an answer, and the empty one if it gives none. A value of no word or of one is made anew. So the room of 16
-/// words is copied for the others alone, and an answer that nobody reads whole need not be written whole.
+/// words is copied for the others alone. It is written into what takes an answer: the answer's address would leave its caller else,
+/// and each answer would be written out whole.
+#[inline(always)]
 fn value_of_answer(answer: &Deed) -> Value
     ensures { words_of result ≡ words_in answer.now }
 {
@@ -51,8 +54,8 @@ fn value_of_answer(answer: &Deed) -> Value
     }
 }
 
-/// The slots take what was fetched together. No hint keeps it a function of its own: the answer's address would leave its
-/// caller then, and each answer would be written out whole.
+/// The slots take what was fetched together.
+#[inline(always)]
 fn take_together(parts: &[SlotPart], answer: &Deed, store: &mut Store)
     ensures store { store_of store.new ≡ with_parts parts.now (words_in answer.now) (store_of store.old) }
     ensures room { room_of store.new ≡ room_of store.old }
