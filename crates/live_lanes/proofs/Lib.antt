@@ -1,0 +1,8 @@
+mod Beginning
+mod Called
+mod Drawing
+mod Lists
+mod Orders
+mod Runs
+mod Seated
+mod Working

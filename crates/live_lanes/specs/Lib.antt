@@ -1,0 +1,9 @@
+pub mod Beside
+pub mod Callers
+pub mod Calls
+pub mod Drawn
+pub mod Feeders
+pub mod Grounds
+pub mod Lanes
+pub mod Places
+pub mod Workers
