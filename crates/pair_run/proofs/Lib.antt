@@ -1,0 +1,15 @@
+pub mod Joints
+pub mod Limits
+pub mod Completing
+pub mod Linking
+pub mod Carrying
+pub mod Receiving
+pub mod Faults
+pub mod Stood
+pub mod Scripts
+pub mod Marking
+pub mod Sides
+pub mod Values
+pub mod Lines
+pub mod Draining
+pub mod Printed
