@@ -1,12 +1,14 @@
 -- What is found of files, and what a stop then says of the command.
 use Rattle.std.specs.Prelude.{◌⊎◌, IfErr, OnOk}
 use Rattle.std.proofs.Common.{◌≡◌, ℕ, ◌+◌, ◌≤◌, List, [], ◌∷◌, ◌++◌, length, length-append, arith, refl, ap, inl, inr, Option, Some, None, Result, Ok, Err, Bool, true, false, ◌==◌}
+use Rattle.rte_text.specs.declared.refusal.Refused.{Refused}
+use Rattle.rte_text.specs.declared.refusal.Refused.TheVariants.{Memory, Rule}
 use Rattle.bus_semantics.specs.declared.script.Line.{Line}
 use Rattle.bus_semantics.specs.Plan.{Plan, plan_of}
 use Rattle.bus_semantics.specs.Spelling.{Letters}
 use Rattle.check_definitions.specs.declared.checked.Checked.TheVariants.{Legal}
 use Rattle.description_stages.specs.declared.planning.PlannedDescription.{PlannedDescription}
-use Rattle.description_stages.specs.Plans.{IsPlannedOf}
+use Rattle.description_stages.specs.Plans.{IsPlanRefusalOf, IsPlannedOf}
 use Rattle.plan_text.specs.Lines.{plan_text}
 use Rattle.script_reading.specs.Meaning.{Saying, saying}
 use Rattle.script_reading.specs.Reading.{bad_or, cause_of, first_bad}
@@ -22,8 +24,9 @@ use Rattle.commands.specs.Commands.{Bytes, Command, check, header, plan}
 use Rattle.commands.specs.CheckCommand.{IsCheckedAs}
 use Rattle.commands.specs.Inputs.{AreInputs}
 use Rattle.check_definitions.specs.Verdicts.{IsVerdict}
-use Rattle.commands.specs.Judging.{IsBadScript, IsFound, IsNotLegal, IsNotPlanned, IsNotRun, IsRefusedTrace}
+use Rattle.commands.specs.Judging.{IsBadScript, IsFound, IsNotLegal, IsNotPaired, IsNotPlanned, IsNotRun, IsRefusedTrace, stopped_at}
 use Rattle.commands.specs.HeaderCommand.{SaysHeader}
+use Rattle.commands.specs.PairCommand.{IsPairFinding, pair_saying}
 use Rattle.commands.specs.PlanCommand.{IsPlanFinding}
 use Rattle.commands.specs.RunCommand.{IsRunFinding}
 use Rattle.commands.specs.Texts.{checked_text, finding_text, IsPut, IsShort, IsShortFinding, IsUnsaid, Says}
@@ -71,6 +74,8 @@ found_short d s fits (finding.Script line cause) is = omega (arith, bad_within (
 found_short d s fits (finding.Trace checked) is = absurd is
 found_short d s fits finding.NoComponent is = absurd is
 found_short d s fits (finding.Clash name) is = absurd is
+found_short d s fits (finding.RefusedOf refusal which) is = absurd is
+found_short d s fits finding.NoLink is = absurd is
 
 pub short_by : (finds : Finding → Type 0) → ((found : Finding) → finds found → IsShortFinding found) → (why : Stop) → IsFound finds why → IsShort why
 short_by finds short (stop.Found found) is = short found is
@@ -90,6 +95,30 @@ plan_short d why is = short_by (IsPlanFinding d) by why is
     by (finding.Trace checked) is = absurd is
     by finding.NoComponent is = absurd is
     by (finding.Clash name) is = absurd is
+    by (finding.RefusedOf refusal which) is = absurd is
+    by finding.NoLink is = absurd is
+
+pub pair_short : (c d s : Bytes) → length s ≤ 8388608 → (why : Stop) → IsNotPaired c d s why → IsShort why
+pair_short c d s fits why is = short_by (IsPairFinding c d s) by why is
+  where
+    by : (found : Finding) → IsPairFinding c d s found → IsShortFinding found
+    by (finding.RefusedOf refusal which) is = tt
+    by finding.NoLink is = tt
+    by (finding.Script line cause) is = omega (arith, bad_within (pair_saying (plan_of is.found.plan) (plan_of is.beside.plan)) [] (lines_of s) line cause is.bad, lines_fit s, fits)
+    by (finding.Refused refusal) is = absurd is
+    by (finding.Trace checked) is = absurd is
+    by finding.NoComponent is = absurd is
+    by (finding.Clash name) is = absurd is
+
+-- ---- two descriptions
+
+pub refused_one : (c d s : Bytes) (r : Refused) → IsPlanRefusalOf c r → IsNotPaired c d s (stopped_at r 1)
+refused_one c d s (Rule refusal) is = inl (refl, is)
+refused_one c d s Memory is = tt
+
+pub refused_two : (c d s : Bytes) (found : PlannedDescription) → IsPlannedOf c found → (r : Refused) → IsPlanRefusalOf d r → IsNotPaired c d s (stopped_at r 2)
+refused_two c d s found planned (Rule refusal) is = inr (refl, (found, planned), is)
+refused_two c d s found planned Memory is = tt
 
 -- ---- over a plan
 
@@ -100,6 +129,8 @@ bad_script d s found planned (stop.Found (finding.Refused refusal)) bad = absurd
 bad_script d s found planned (stop.Found (finding.Trace checked)) bad = absurd bad
 bad_script d s found planned (stop.Found finding.NoComponent) bad = absurd bad
 bad_script d s found planned (stop.Found (finding.Clash name)) bad = absurd bad
+bad_script d s found planned (stop.Found (finding.RefusedOf refusal which)) bad = absurd bad
+bad_script d s found planned (stop.Found finding.NoLink) bad = absurd bad
 bad_script d s found planned stop.Memory bad = tt
 bad_script d s found planned stop.Words bad = absurd bad
 bad_script d s found planned (stop.NotRead place) bad = absurd bad
@@ -116,6 +147,8 @@ module _ (d t s : Bytes) (found : PlannedDescription) (lines : List Line) (input
   refused_by (stop.Found (finding.Script line cause)) is = absurd is
   refused_by (stop.Found finding.NoComponent) is = absurd is
   refused_by (stop.Found (finding.Clash name)) is = absurd is
+  refused_by (stop.Found (finding.RefusedOf refusal which)) is = absurd is
+  refused_by (stop.Found finding.NoLink) is = absurd is
   refused_by stop.Memory is = tt
   refused_by stop.Words is = absurd is
   refused_by (stop.NotRead place) is = absurd is
@@ -131,6 +164,8 @@ not_run d t s (stop.Found (finding.Script line cause)) is = is
 not_run d t s (stop.Found (finding.Trace checked)) is = absurd is
 not_run d t s (stop.Found finding.NoComponent) is = absurd is
 not_run d t s (stop.Found (finding.Clash name)) is = absurd is
+not_run d t s (stop.Found (finding.RefusedOf refusal which)) is = absurd is
+not_run d t s (stop.Found finding.NoLink) is = absurd is
 not_run d t s stop.Memory is = tt
 not_run d t s stop.Words is = absurd is
 not_run d t s (stop.NotRead place) is = absurd is

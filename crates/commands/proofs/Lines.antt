@@ -58,5 +58,7 @@ check_short one_line d t s trace_fits script_fits why is = short_by (IsCheckFind
     by (finding.Script line cause) is = found_short d s script_fits (finding.Script line cause) is
     by finding.NoComponent is = absurd is
     by (finding.Clash name) is = absurd is
+    by (finding.RefusedOf refusal which) is = absurd is
+    by finding.NoLink is = absurd is
     by (finding.Trace checked) is = let read = is.1 in
         verdict_short (plan_of read.found.plan) read.found.mapping read.lines t (one_line (plan_of read.found.plan) read.found.mapping read.inputs.described.is_sound) trace_fits checked read.verdict

@@ -1,5 +1,5 @@
 -- Of a command there is one verdict on the same files: what is shown of plans, refusals and traces, for each command.
-use Rattle.std.proofs.Common.{◌≡◌, ℕ, List, [], ◌∷◌, Some, None, refl, sym, ap, ◌∙◌, subst}
+use Rattle.std.proofs.Common.{◌≡◌, ◌<◌, ℕ, List, [], ◌∷◌, length, Some, None, refl, sym, ap, ◌∙◌, subst, inl, inr, arith}
 use Rattle.std.proofs.lemmas.Option.{some_pair_parts}
 use Rattle.rte_text.specs.declared.refusal.Refusal.{Refusal}
 use Rattle.rte_text.specs.declared.refusal.Refused.TheVariants.{Rule}
@@ -13,16 +13,18 @@ use Rattle.check_definitions.specs.Laws.{TracesHaveOneVerdict}
 use Rattle.description_stages.specs.declared.planning.PlannedDescription.{PlannedDescription}
 use Rattle.description_stages.specs.Plans.{IsPlannedOf, IsPlanRefusalOf}
 use Rattle.line_fields.specs.Texts.{lines_of}
+use Rattle.pair_run.specs.Linked.{links_of}
 use Rattle.plan_laws.specs.Same.{IsSamePlan}
 use Rattle.script_reading.specs.Meaning.{saying}
 use Rattle.script_reading.specs.Reading.{IsScript, first_bad}
 use Rattle.commands.specs.declared.stop.Finding.{Finding}
 use Rattle.commands.specs.declared.stop.Finding.TheVariants as finding
 use Rattle.commands.specs.CheckCommand.{IsCheckedAs, IsCheckFinding}
-use Rattle.commands.specs.Commands.{Bytes, Command, run, plan, header, soak, check}
+use Rattle.commands.specs.Commands.{Bytes, Command, run, plan, header, soak, check, pair}
 use Rattle.commands.specs.Inputs.{HaveBadLine}
 use Rattle.api_header.specs.Headers.{Header, clash, header_of, made, no_component}
 use Rattle.commands.specs.HeaderCommand.{CanList, HasHeader, IsHeaderFinding}
+use Rattle.commands.specs.PairCommand.{AreDescribed, CanPair, HaveBadPairLine, HaveNoLink, IsPairFinding, IsRefusedOf, pair_saying}
 use Rattle.commands.specs.PlanCommand.{CanPlan, IsPlanFinding}
 use Rattle.commands.specs.RunCommand.{CanRun, IsRunFinding}
 use Rattle.commands.specs.Verdicts.{Verdict, done, refused, CanBeDone, IsFindingOn, IsVerdictOn}
@@ -69,6 +71,8 @@ module _ (plans : PlansAreOne) (headers : HeadersAreOne) (refusals : RefusalsAre
   run_apart d s can (finding.Trace checked) is = is
   run_apart d s can finding.NoComponent is = is
   run_apart d s can (finding.Clash name) is = is
+  run_apart d s can (finding.RefusedOf refusal which) is = is
+  run_apart d s can finding.NoLink is = is
 
   run_same : (d s : Bytes) (f g : Finding) → IsRunFinding d s f → IsRunFinding d s g → f ≡ g
   run_same d s (finding.Refused r) (finding.Refused q) a b = ap finding.Refused (refusals d r q a b)
@@ -78,12 +82,18 @@ module _ (plans : PlansAreOne) (headers : HeadersAreOne) (refusals : RefusalsAre
   run_same d s (finding.Trace checked) g a b = absurd a
   run_same d s finding.NoComponent g a b = absurd a
   run_same d s (finding.Clash name) g a b = absurd a
+  run_same d s (finding.RefusedOf r which) g a b = absurd a
+  run_same d s finding.NoLink g a b = absurd a
   run_same d s (finding.Refused r) finding.NoComponent a b = absurd b
   run_same d s (finding.Refused r) (finding.Clash name) a b = absurd b
   run_same d s (finding.Script line cause) finding.NoComponent a b = absurd b
   run_same d s (finding.Script line cause) (finding.Clash name) a b = absurd b
   run_same d s (finding.Refused r) (finding.Trace checked) a b = absurd b
+  run_same d s (finding.Refused r) (finding.RefusedOf q which) a b = absurd b
+  run_same d s (finding.Refused r) finding.NoLink a b = absurd b
   run_same d s (finding.Script line cause) (finding.Trace checked) a b = absurd b
+  run_same d s (finding.Script line cause) (finding.RefusedOf q which) a b = absurd b
+  run_same d s (finding.Script line cause) finding.NoLink a b = absurd b
 
   -- ---- plan
 
@@ -93,6 +103,8 @@ module _ (plans : PlansAreOne) (headers : HeadersAreOne) (refusals : RefusalsAre
   plan_apart d can (finding.Trace checked) is = is
   plan_apart d can finding.NoComponent is = is
   plan_apart d can (finding.Clash name) is = is
+  plan_apart d can (finding.RefusedOf refusal which) is = is
+  plan_apart d can finding.NoLink is = is
 
   plan_same : (d : Bytes) (f g : Finding) → IsPlanFinding d f → IsPlanFinding d g → f ≡ g
   plan_same d (finding.Refused r) (finding.Refused q) a b = ap finding.Refused (refusals d r q a b)
@@ -100,10 +112,14 @@ module _ (plans : PlansAreOne) (headers : HeadersAreOne) (refusals : RefusalsAre
   plan_same d (finding.Trace checked) g a b = absurd a
   plan_same d finding.NoComponent g a b = absurd a
   plan_same d (finding.Clash name) g a b = absurd a
+  plan_same d (finding.RefusedOf r which) g a b = absurd a
+  plan_same d finding.NoLink g a b = absurd a
   plan_same d (finding.Refused r) finding.NoComponent a b = absurd b
   plan_same d (finding.Refused r) (finding.Clash name) a b = absurd b
   plan_same d (finding.Refused r) (finding.Script line cause) a b = absurd b
   plan_same d (finding.Refused r) (finding.Trace checked) a b = absurd b
+  plan_same d (finding.Refused r) (finding.RefusedOf q which) a b = absurd b
+  plan_same d (finding.Refused r) finding.NoLink a b = absurd b
 
   -- ---- header
 
@@ -117,6 +133,8 @@ module _ (plans : PlansAreOne) (headers : HeadersAreOne) (refusals : RefusalsAre
   header_apart d name can (finding.Clash n) is = let same = header_once d name (made can.0) (clash n) can.1 is in cc
   header_apart d name can (finding.Script line cause) is = is
   header_apart d name can (finding.Trace checked) is = is
+  header_apart d name can (finding.RefusedOf refusal which) is = is
+  header_apart d name can finding.NoLink is = is
 
   clash_once : (n m : Bytes) → clash n ≡ clash m → n ≡ m
   clash_once n m e = cc
@@ -133,12 +151,20 @@ module _ (plans : PlansAreOne) (headers : HeadersAreOne) (refusals : RefusalsAre
   header_same d name (finding.Clash n) (finding.Clash m) a b = ap finding.Clash (clash_once n m (header_once d name (clash n) (clash m) a b))
   header_same d name (finding.Script line cause) g a b = absurd a
   header_same d name (finding.Trace checked) g a b = absurd a
+  header_same d name (finding.RefusedOf r which) g a b = absurd a
+  header_same d name finding.NoLink g a b = absurd a
   header_same d name (finding.Refused r) (finding.Script line cause) a b = absurd b
   header_same d name (finding.Refused r) (finding.Trace checked) a b = absurd b
+  header_same d name (finding.Refused r) (finding.RefusedOf q which) a b = absurd b
+  header_same d name (finding.Refused r) finding.NoLink a b = absurd b
   header_same d name finding.NoComponent (finding.Script line cause) a b = absurd b
   header_same d name finding.NoComponent (finding.Trace checked) a b = absurd b
+  header_same d name finding.NoComponent (finding.RefusedOf q which) a b = absurd b
+  header_same d name finding.NoComponent finding.NoLink a b = absurd b
   header_same d name (finding.Clash n) (finding.Script line cause) a b = absurd b
   header_same d name (finding.Clash n) (finding.Trace checked) a b = absurd b
+  header_same d name (finding.Clash n) (finding.RefusedOf q which) a b = absurd b
+  header_same d name (finding.Clash n) finding.NoLink a b = absurd b
 
   -- ---- check
 
@@ -160,6 +186,8 @@ module _ (plans : PlansAreOne) (headers : HeadersAreOne) (refusals : RefusalsAre
   check_apart d t s legal (finding.Script line cause) is = run_apart d s (can_run d t s Legal legal) (finding.Script line cause) is
   check_apart d t s legal finding.NoComponent is = is
   check_apart d t s legal (finding.Clash name) is = is
+  check_apart d t s legal (finding.RefusedOf refusal which) is = is
+  check_apart d t s legal finding.NoLink is = is
   check_apart d t s legal (finding.Trace checked) is = is.0 (checked_once d t s checked Legal is.1 legal)
 
   check_same : (d t s : Bytes) (f g : Finding) → IsCheckFinding d t s f → IsCheckFinding d t s g → f ≡ g
@@ -170,16 +198,104 @@ module _ (plans : PlansAreOne) (headers : HeadersAreOne) (refusals : RefusalsAre
   check_same d t s (finding.Script line cause) (finding.Trace w) a b = absurd (run_apart d s (can_run d t s w b.1) (finding.Script line cause) a)
   check_same d t s finding.NoComponent g a b = absurd a
   check_same d t s (finding.Clash name) g a b = absurd a
+  check_same d t s (finding.RefusedOf r which) g a b = absurd a
+  check_same d t s finding.NoLink g a b = absurd a
   check_same d t s (finding.Trace v) finding.NoComponent a b = absurd b
   check_same d t s (finding.Trace v) (finding.Clash name) a b = absurd b
+  check_same d t s (finding.Trace v) (finding.RefusedOf q which) a b = absurd b
+  check_same d t s (finding.Trace v) finding.NoLink a b = absurd b
   check_same d t s (finding.Refused r) finding.NoComponent a b = absurd b
   check_same d t s (finding.Refused r) (finding.Clash name) a b = absurd b
+  check_same d t s (finding.Refused r) (finding.RefusedOf q which) a b = absurd b
+  check_same d t s (finding.Refused r) finding.NoLink a b = absurd b
   check_same d t s (finding.Script line cause) finding.NoComponent a b = absurd b
   check_same d t s (finding.Script line cause) (finding.Clash name) a b = absurd b
+  check_same d t s (finding.Script line cause) (finding.RefusedOf q which) a b = absurd b
+  check_same d t s (finding.Script line cause) finding.NoLink a b = absurd b
   check_same d t s (finding.Refused r) (finding.Refused q) a b = run_same d s (finding.Refused r) (finding.Refused q) a b
   check_same d t s (finding.Refused r) (finding.Script line cause) a b = run_same d s (finding.Refused r) (finding.Script line cause) a b
   check_same d t s (finding.Script line cause) (finding.Refused q) a b = run_same d s (finding.Script line cause) (finding.Refused q) a b
   check_same d t s (finding.Script n k) (finding.Script m l) a b = run_same d s (finding.Script n k) (finding.Script m l) a b
+
+  -- ---- pair
+
+  -- over two readings of the bytes the plans are the same
+  same_pair : (c d : Bytes) (x y u v : PlannedDescription) → AreDescribed c d x y → AreDescribed c d u v → (plan_of x.plan ≡ plan_of u.plan) × (plan_of y.plan ≡ plan_of v.plan)
+  same_pair c d x y u v a b = ((plans c x u a.of_one b.of_one).plan, (plans d y v a.of_two b.of_two).plan)
+
+  -- two descriptions that break no rule
+  not_refused : (c d : Bytes) (x y : PlannedDescription) → AreDescribed c d x y → (r : Refusal) (which : ℕ) → IsRefusedOf c d r which → ⊥
+  not_refused c d x y both r which (inl one) = not_both c r x one.1 both.of_one
+  not_refused c d x y both r which (inr two) = not_both d r y two.2 both.of_two
+
+  -- with a link or without one
+  not_unlinked : (c d : Bytes) (x y : PlannedDescription) → AreDescribed c d x y → 0 < length (links_of (plan_of x.plan) (plan_of y.plan)) → HaveNoLink c d → ⊥
+  not_unlinked c d x y both some bare =
+      let same = same_pair c d x y bare.found bare.beside both bare.described in
+      let links : links_of (plan_of x.plan) (plan_of y.plan) ≡ links_of (plan_of bare.found.plan) (plan_of bare.beside.plan) =
+      ap (λ (p : Plan). links_of p (plan_of y.plan)) same.0 ∙ ap (links_of (plan_of bare.found.plan)) same.1 in
+      let none : length (links_of (plan_of x.plan) (plan_of y.plan)) ≡ 0 = ap length (links ∙ bare.none) in
+      omega (arith, some, none)
+
+  good_pair : (c d s : Bytes) → CanPair c d s → (line cause : ℕ) → HaveBadPairLine c d s line cause → ⊥
+  good_pair c d s can line cause bad =
+      let inputs = can.3 in
+      let same = same_pair c d bad.found bad.beside can.0 can.1 bad.described inputs.described in
+      let found : first_bad (pair_saying (plan_of can.0.plan) (plan_of can.1.plan)) [] (lines_of s) ≡ Some (line, cause) =
+      subst (λ q. first_bad (pair_saying (plan_of can.0.plan) q) [] (lines_of s) ≡ Some (line, cause)) same.1
+      (subst (λ p. first_bad (pair_saying p (plan_of bad.beside.plan)) [] (lines_of s) ≡ Some (line, cause)) same.0 bad.bad) in
+      let none : first_bad (pair_saying (plan_of can.0.plan) (plan_of can.1.plan)) [] (lines_of s) ≡ None = inputs.scripted.good in
+      absurd cc
+
+  bad_pair_line : (c d s : Bytes) (n k m l : ℕ) → HaveBadPairLine c d s n k → HaveBadPairLine c d s m l → finding.Script n k ≡ finding.Script m l
+  bad_pair_line c d s n k m l a b =
+      let same = same_pair c d a.found a.beside b.found b.beside a.described b.described in
+      let one : first_bad (pair_saying (plan_of a.found.plan) (plan_of a.beside.plan)) [] (lines_of s) ≡ first_bad (pair_saying (plan_of b.found.plan) (plan_of b.beside.plan)) [] (lines_of s) =
+      ap (λ (p : Plan). first_bad (pair_saying p (plan_of a.beside.plan)) [] (lines_of s)) same.0 ∙ ap (λ (q : Plan). first_bad (pair_saying (plan_of b.found.plan) q) [] (lines_of s)) same.1 in
+      let parts = some_pair_parts n m k l (sym a.bad ∙ (one ∙ b.bad)) in
+      ap (λ x. finding.Script x k) parts.0 ∙ ap (finding.Script m) parts.1
+
+  pair_apart : (c d s : Bytes) → CanPair c d s → (f : Finding) → IsPairFinding c d s f → ⊥
+  pair_apart c d s can (finding.RefusedOf refusal which) is = let inputs = can.3 in not_refused c d can.0 can.1 inputs.described refusal which is
+  pair_apart c d s can finding.NoLink is = let inputs = can.3 in not_unlinked c d can.0 can.1 inputs.described inputs.linked is
+  pair_apart c d s can (finding.Script line cause) is = good_pair c d s can line cause is
+  pair_apart c d s can (finding.Refused refusal) is = is
+  pair_apart c d s can (finding.Trace checked) is = is
+  pair_apart c d s can finding.NoComponent is = is
+  pair_apart c d s can (finding.Clash name) is = is
+
+  refused_once : (c d : Bytes) (r q : Refusal) (i j : ℕ) → IsRefusedOf c d r i → IsRefusedOf c d q j → finding.RefusedOf r i ≡ finding.RefusedOf q j
+  refused_once c d r q i j (inl a) (inl b) = rw (a.0, b.0, refusals c r q a.1 b.1) refl
+  refused_once c d r q i j (inr a) (inr b) = rw (a.0, b.0, refusals d r q a.2 b.2) refl
+  refused_once c d r q i j (inl a) (inr b) = absurd (not_both c r b.1.0 a.1 b.1.1)
+  refused_once c d r q i j (inr a) (inl b) = absurd (not_both c q a.1.0 b.1 a.1.1)
+
+  pair_same : (c d s : Bytes) (f g : Finding) → IsPairFinding c d s f → IsPairFinding c d s g → f ≡ g
+  pair_same c d s (finding.RefusedOf r i) (finding.RefusedOf q j) a b = refused_once c d r q i j a b
+  pair_same c d s (finding.RefusedOf r i) finding.NoLink a b = absurd (not_refused c d b.found b.beside b.described r i a)
+  pair_same c d s (finding.RefusedOf r i) (finding.Script m l) a b = absurd (not_refused c d b.found b.beside b.described r i a)
+  pair_same c d s finding.NoLink (finding.RefusedOf q j) a b = absurd (not_refused c d a.found a.beside a.described q j b)
+  pair_same c d s finding.NoLink finding.NoLink a b = refl
+  pair_same c d s finding.NoLink (finding.Script m l) a b = absurd (not_unlinked c d b.found b.beside b.described b.linked a)
+  pair_same c d s (finding.Script n k) (finding.RefusedOf q j) a b = absurd (not_refused c d a.found a.beside a.described q j b)
+  pair_same c d s (finding.Script n k) finding.NoLink a b = absurd (not_unlinked c d a.found a.beside a.described a.linked b)
+  pair_same c d s (finding.Script n k) (finding.Script m l) a b = bad_pair_line c d s n k m l a b
+  pair_same c d s (finding.Refused r) g a b = absurd a
+  pair_same c d s (finding.Trace checked) g a b = absurd a
+  pair_same c d s finding.NoComponent g a b = absurd a
+  pair_same c d s (finding.Clash name) g a b = absurd a
+  pair_same c d s (finding.RefusedOf r i) (finding.Refused q) a b = absurd b
+  pair_same c d s (finding.RefusedOf r i) (finding.Trace checked) a b = absurd b
+  pair_same c d s (finding.RefusedOf r i) finding.NoComponent a b = absurd b
+  pair_same c d s (finding.RefusedOf r i) (finding.Clash name) a b = absurd b
+  pair_same c d s finding.NoLink (finding.Refused q) a b = absurd b
+  pair_same c d s finding.NoLink (finding.Trace checked) a b = absurd b
+  pair_same c d s finding.NoLink finding.NoComponent a b = absurd b
+  pair_same c d s finding.NoLink (finding.Clash name) a b = absurd b
+  pair_same c d s (finding.Script n k) (finding.Refused q) a b = absurd b
+  pair_same c d s (finding.Script n k) (finding.Trace checked) a b = absurd b
+  pair_same c d s (finding.Script n k) finding.NoComponent a b = absurd b
+  pair_same c d s (finding.Script n k) (finding.Clash name) a b = absurd b
 
   -- ---- all commands
 
@@ -200,6 +316,11 @@ module _ (plans : PlansAreOne) (headers : HeadersAreOne) (refusals : RefusalsAre
   apart (check d t s) (x ∷ []) can f is = is
   apart (check d t s) (x ∷ y ∷ []) can f is = is
   apart (check d t s) (x ∷ y ∷ z ∷ w ∷ files) can f is = is
+  apart (pair c d s) (one ∷ two ∷ script ∷ []) can f is = pair_apart one two script can f is
+  apart (pair c d s) [] can f is = is
+  apart (pair c d s) (x ∷ []) can f is = is
+  apart (pair c d s) (x ∷ y ∷ []) can f is = is
+  apart (pair c d s) (x ∷ y ∷ z ∷ w ∷ files) can f is = is
 
   same : (command : Command) (files : List Bytes) (f g : Finding) → IsFindingOn command files f → IsFindingOn command files g → f ≡ g
   same (run d s) (description ∷ script ∷ []) f g a b = run_same description script f g a b
@@ -218,6 +339,11 @@ module _ (plans : PlansAreOne) (headers : HeadersAreOne) (refusals : RefusalsAre
   same (check d t s) (x ∷ []) f g a b = absurd a
   same (check d t s) (x ∷ y ∷ []) f g a b = absurd a
   same (check d t s) (x ∷ y ∷ z ∷ w ∷ files) f g a b = absurd a
+  same (pair c d s) (one ∷ two ∷ script ∷ []) f g a b = pair_same one two script f g a b
+  same (pair c d s) [] f g a b = absurd a
+  same (pair c d s) (x ∷ []) f g a b = absurd a
+  same (pair c d s) (x ∷ y ∷ []) f g a b = absurd a
+  same (pair c d s) (x ∷ y ∷ z ∷ w ∷ files) f g a b = absurd a
 
   pub one_verdict : (command : Command) (files : List Bytes) (v w : Verdict) → IsVerdictOn command files v → IsVerdictOn command files w → v ≡ w
   one_verdict command files done done a b = refl

@@ -45,3 +45,5 @@ no_other (refused (finding.Script line cause)) = record { words = λ e. cc; unre
 no_other (refused (finding.Trace checked)) = record { words = λ e. cc; unread = λ e. cc; unwritten = λ e. cc; memory = λ e. cc }
 no_other (refused finding.NoComponent) = record { words = λ e. cc; unread = λ e. cc; unwritten = λ e. cc; memory = λ e. cc }
 no_other (refused (finding.Clash name)) = record { words = λ e. cc; unread = λ e. cc; unwritten = λ e. cc; memory = λ e. cc }
+no_other (refused (finding.RefusedOf refusal which)) = record { words = λ e. cc; unread = λ e. cc; unwritten = λ e. cc; memory = λ e. cc }
+no_other (refused finding.NoLink) = record { words = λ e. cc; unread = λ e. cc; unwritten = λ e. cc; memory = λ e. cc }

@@ -27,3 +27,5 @@ IsCheckFinding d t s (finding.Script line cause) = HaveBadLine d s line cause
 IsCheckFinding d t s (finding.Trace checked) = (checked ≢ Legal) × IsCheckedAs d t s checked
 IsCheckFinding d t s finding.NoComponent = ⊥
 IsCheckFinding d t s (finding.Clash name) = ⊥
+IsCheckFinding d t s (finding.RefusedOf refusal which) = ⊥
+IsCheckFinding d t s finding.NoLink = ⊥

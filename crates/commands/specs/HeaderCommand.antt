@@ -25,6 +25,8 @@ IsHeaderFinding d name finding.NoComponent = HasHeader d name no_component
 IsHeaderFinding d name (finding.Clash n) = HasHeader d name (clash n)
 IsHeaderFinding d name (finding.Script line cause) = ⊥
 IsHeaderFinding d name (finding.Trace checked) = ⊥
+IsHeaderFinding d name (finding.RefusedOf refusal which) = ⊥
+IsHeaderFinding d name finding.NoLink = ⊥
 
 -- the text is that of the header
 abbrev pub SaysHeader : (description : Bytes) → (name : Bytes) → (text : Bytes) → Type 0

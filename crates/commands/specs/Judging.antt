@@ -1,5 +1,7 @@
 -- Why the bytes of files are not run: what is found of them, or want of memory, which says nothing of them.
-use Rattle.std.specs.Prelude.{◌≡◌, ◌≢◌, List, [], Some}
+use Rattle.std.specs.Prelude.{◌≡◌, ◌≢◌, ℕ, List, [], Some}
+use Rattle.rte_text.specs.declared.refusal.Refused.{Refused}
+use Rattle.rte_text.specs.declared.refusal.Refused.TheVariants.{Memory, Rule}
 use Rattle.bus_semantics.specs.declared.script.Line.{Line}
 use Rattle.bus_semantics.specs.declared.script.Mapping.{Mapping}
 use Rattle.bus_semantics.specs.Plan.{Plan}
@@ -15,6 +17,7 @@ use Rattle.commands.specs.declared.stop.Stop.TheVariants as stop
 use Rattle.commands.specs.Commands.{Bytes}
 use Rattle.commands.specs.CheckCommand.{IsCheckFinding}
 use Rattle.commands.specs.PlanCommand.{IsPlanFinding}
+use Rattle.commands.specs.PairCommand.{IsPairFinding}
 use Rattle.commands.specs.RunCommand.{IsRunFinding}
 
 abbrev pub IsFound : (Finding → Type 0) → Stop → Type 0
@@ -36,6 +39,8 @@ IsBadLine p s (finding.Refused refusal) = ⊥
 IsBadLine p s (finding.Trace checked) = ⊥
 IsBadLine p s finding.NoComponent = ⊥
 IsBadLine p s (finding.Clash name) = ⊥
+IsBadLine p s (finding.RefusedOf refusal which) = ⊥
+IsBadLine p s finding.NoLink = ⊥
 
 abbrev pub IsBadScript : Plan → (script : Bytes) → Stop → Type 0
 IsBadScript p s why = IsFound (IsBadLine p s) why
@@ -47,9 +52,20 @@ IsNoTrace p m lines t (finding.Refused refusal) = ⊥
 IsNoTrace p m lines t (finding.Script line cause) = ⊥
 IsNoTrace p m lines t finding.NoComponent = ⊥
 IsNoTrace p m lines t (finding.Clash name) = ⊥
+IsNoTrace p m lines t (finding.RefusedOf refusal which) = ⊥
+IsNoTrace p m lines t finding.NoLink = ⊥
 
 abbrev pub IsRefusedTrace : Plan → Mapping → List Line → (trace : Bytes) → Stop → Type 0
 IsRefusedTrace p m lines t why = IsFound (IsNoTrace p m lines t) why
 
 abbrev pub IsNotLegal : (description : Bytes) → (trace : Bytes) → (script : Bytes) → Stop → Type 0
 IsNotLegal d t s why = IsFound (IsCheckFinding d t s) why
+
+-- of two descriptions and a script over both
+abbrev pub IsNotPaired : (first : Bytes) → (second : Bytes) → (script : Bytes) → Stop → Type 0
+IsNotPaired c d s why = IsFound (IsPairFinding c d s) why
+
+-- of two descriptions the one at this place, counted from 1, is refused
+abbrev pub stopped_at : Refused → (which : ℕ) → Stop
+stopped_at (Rule refusal) which = stop.Found (finding.RefusedOf refusal which)
+stopped_at Memory which = stop.Memory

@@ -6,6 +6,7 @@ pub mod PlanCommand
 pub mod HeaderCommand
 pub mod CheckCommand
 pub mod SoakCommand
+pub mod PairCommand
 pub mod Verdicts
 pub mod Fetching
 pub mod Judging

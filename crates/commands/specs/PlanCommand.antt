@@ -18,6 +18,8 @@ IsPlanFinding d (finding.Script line cause) = ⊥
 IsPlanFinding d (finding.Trace checked) = ⊥
 IsPlanFinding d finding.NoComponent = ⊥
 IsPlanFinding d (finding.Clash name) = ⊥
+IsPlanFinding d (finding.RefusedOf refusal which) = ⊥
+IsPlanFinding d finding.NoLink = ⊥
 
 -- the text is that of the plan of the description
 pub record SaysPlan (description text : Bytes) : Type 0 where

@@ -25,6 +25,10 @@ unread_text place = codes "not read " ++ decimal place ++ codes "\n"
 abbrev pub refusal_text : ℕ → Bytes → Bytes
 refusal_text rule place = codes "refused rule " ++ decimal rule ++ codes " at " ++ place ++ codes "\n"
 
+-- of two descriptions the one at this place, counted from 1
+abbrev pub refusal_of_text : ℕ → Bytes → (which : ℕ) → Bytes
+refusal_of_text rule place which = codes "refused rule " ++ decimal rule ++ codes " at " ++ place ++ codes " of " ++ decimal which ++ codes "\n"
+
 abbrev pub script_refusal_text : ℕ → ℕ → Bytes
 script_refusal_text line cause = codes "script refused line " ++ decimal line ++ codes " cause " ++ decimal cause ++ codes "\n"
 
@@ -44,6 +48,8 @@ finding_text (finding.Script line cause) = script_refusal_text line cause
 finding_text (finding.Trace checked) = checked_text checked
 finding_text finding.NoComponent = codes "no component\n"
 finding_text (finding.Clash name) = clash_text name
+finding_text (finding.RefusedOf refusal which) = refusal_of_text refusal.rule refusal.place which
+finding_text finding.NoLink = codes "no link\n"
 
 abbrev pub finding_status : Finding → Status
 finding_status (finding.Refused refusal) = status.Refused
@@ -51,6 +57,8 @@ finding_status (finding.Script line cause) = status.Script
 finding_status (finding.Trace checked) = status.Trace
 finding_status finding.NoComponent = status.NoComponent
 finding_status (finding.Clash name) = status.Clash
+finding_status (finding.RefusedOf refusal which) = status.Refused
+finding_status finding.NoLink = status.NoLink
 
 -- ---- the put of a text
 
@@ -91,6 +99,8 @@ IsShortFinding (finding.Script line cause) = line < 2 ^ 63
 IsShortFinding (finding.Trace checked) = IsShortVerdict checked
 IsShortFinding finding.NoComponent = Unit {0}
 IsShortFinding (finding.Clash name) = Unit {0}
+IsShortFinding (finding.RefusedOf refusal which) = Unit {0}
+IsShortFinding finding.NoLink = Unit {0}
 
 abbrev pub IsShort : Stop → Type 0
 IsShort stop.Words = Unit {0}

@@ -4,13 +4,14 @@ use Rattle.commands.specs.declared.status.Status.{Status}
 use Rattle.commands.specs.declared.status.Status.TheVariants as status
 use Rattle.commands.specs.declared.stop.Finding.{Finding}
 use Rattle.check_definitions.specs.declared.checked.Checked.TheVariants.{Legal}
-use Rattle.commands.specs.Commands.{Bytes, Command, run, plan, header, soak, check}
+use Rattle.commands.specs.Commands.{Bytes, Command, run, plan, header, soak, check, pair}
 use Rattle.commands.specs.Texts.{checked_text, finding_status, finding_text}
 use Rattle.commands.specs.RunCommand.{CanRun, IsRunFinding, SaysRun, BeginsRun}
 use Rattle.commands.specs.PlanCommand.{CanPlan, IsPlanFinding, SaysPlan}
 use Rattle.commands.specs.HeaderCommand.{CanList, IsHeaderFinding, SaysHeader}
 use Rattle.commands.specs.CheckCommand.{IsCheckedAs, IsCheckFinding}
 use Rattle.commands.specs.SoakCommand.{SaysNumbers}
+use Rattle.commands.specs.PairCommand.{CanPair, IsPairFinding, SaysPair, BeginsPair}
 
 -- the command can be carried out, or its files are refused
 pub data Verdict : Type 0 where
@@ -29,6 +30,7 @@ CanBeDone (plan d) (description ∷ []) = CanPlan description
 CanBeDone (header d name) (description ∷ []) = CanList description name
 CanBeDone (soak n) [] = Unit {0}
 CanBeDone (check d t s) (description ∷ trace ∷ script ∷ []) = IsCheckedAs description trace script Legal
+CanBeDone (pair d e s) (one ∷ two ∷ script ∷ []) = CanPair one two script
 CanBeDone command files = ⊥
 
 abbrev pub IsFindingOn : Command → (files : List Bytes) → Finding → Type 0
@@ -36,6 +38,7 @@ IsFindingOn (run d s) (description ∷ script ∷ []) finding = IsRunFinding des
 IsFindingOn (plan d) (description ∷ []) finding = IsPlanFinding description finding
 IsFindingOn (header d name) (description ∷ []) finding = IsHeaderFinding description name finding
 IsFindingOn (check d t s) (description ∷ trace ∷ script ∷ []) finding = IsCheckFinding description trace script finding
+IsFindingOn (pair d e s) (one ∷ two ∷ script ∷ []) finding = IsPairFinding one two script finding
 IsFindingOn command files finding = ⊥
 
 abbrev pub IsVerdictOn : Command → (files : List Bytes) → Verdict → Type 0
@@ -49,6 +52,7 @@ SaysDone (plan d) (description ∷ []) text = SaysPlan description text
 SaysDone (header d name) (description ∷ []) text = SaysHeader description name text
 SaysDone (soak n) [] text = SaysNumbers n text
 SaysDone (check d t s) (description ∷ trace ∷ script ∷ []) text = text ≡ checked_text Legal
+SaysDone (pair d e s) (one ∷ two ∷ script ∷ []) text = SaysPair one two script text
 SaysDone command files text = ⊥
 
 -- the text that is put with the verdict
@@ -59,4 +63,5 @@ SaysVerdict command files (refused finding) text = text ≡ finding_text finding
 -- The text of a begun run. Every other command puts its text at once.
 abbrev pub Begins : Command → (files : List Bytes) → Bytes → Type 0
 Begins (run d s) (description ∷ script ∷ []) text = BeginsRun description script text
+Begins (pair d e s) (one ∷ two ∷ script ∷ []) text = BeginsPair one two script text
 Begins command files text = ⊥

@@ -35,6 +35,12 @@ pub enum Command<'a> {
         trace: &'a str,
         script: &'a str,
     },
+    /// `pair C1 C2 S`: run the script S on two nodes, of the descriptions C1 and C2, which a link of bytes joins.
+    Pair {
+        one: &'a str,
+        two: &'a str,
+        script: &'a str,
+    },
 }
 
 /// The number of pairs that the text is: from 1 to 64, in decimal without leading zeros.
@@ -90,6 +96,34 @@ fn command_of_three<'a>(command: &str, first: &'a str, second: &'a str) -> Optio
     }
 }
 
+/// The command that four words give.
+fn command_of_four<'a>(
+    command: &str,
+    first: &'a str,
+    second: &'a str,
+    script: &'a str,
+) -> Option<Command<'a>>
+    ensures command { option_map meant result ≡ command_of (command.now ∷ first.now ∷ second.now ∷ script.now ∷ []) }
+    ensures well { IfSome result (λ command. IsWell (meant command)) }
+{
+    if command == "check" {
+        return Some(Command::Check {
+            description: first,
+            trace: second,
+            script,
+        });
+    }
+    if command == "pair" {
+        Some(Command::Pair {
+            one: first,
+            two: second,
+            script,
+        })
+    } else {
+        None
+    }
+}
+
 /// The command that the words give, if they give one.
 pub fn command_in(words: &[String]) -> Option<Command<'_>>
     ensures command { option_map meant result ≡ command_of (map string_bytes words.now) }
@@ -100,17 +134,12 @@ pub fn command_in(words: &[String]) -> Option<Command<'_>>
         [command, first, second] => {
             command_of_three(command.as_str(), first.as_str(), second.as_str())
         }
-        [command, description, trace, script] => {
-            if command.as_str() == "check" {
-                Some(Command::Check {
-                    description: description.as_str(),
-                    trace: trace.as_str(),
-                    script: script.as_str(),
-                })
-            } else {
-                None
-            }
-        }
+        [command, first, second, script] => command_of_four(
+            command.as_str(),
+            first.as_str(),
+            second.as_str(),
+            script.as_str(),
+        ),
         _ => None,
     }
 }

@@ -16,6 +16,7 @@
 mod command;
 mod fetch;
 mod laws;
+mod pairing;
 mod preparing;
 mod reporting;
 mod status;
@@ -24,6 +25,7 @@ mod stop;
 pub use command::{Command, command_in};
 pub use fetch::fetch_all;
 pub use laws::verdicts_are_one;
+pub use pairing::{LinkedScript, PlannedPair, PreparedPair, judge_pair};
 pub use preparing::{Prepared, judge, plan_bytes};
 pub use reporting::{put_text, report};
 pub use status::Status;

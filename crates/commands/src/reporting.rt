@@ -1,8 +1,8 @@
 //! What is said if nothing is carried out.
 
-ghost use Rattle.std.specs.Prelude.{◌≡◌, ◌<◌, ◌^◌, [], IfOk};
+ghost use Rattle.std.specs.Prelude.{◌≡◌, ◌<◌, ◌^◌, ◌++◌, [], codes, decimal, IfOk};
 ghost use Rattle.commands.specs.declared.stop.Stop.TheVariants as stop;
-ghost use Rattle.commands.specs.Texts.{checked_text, clash_text, refusal_text, script_refusal_text, unread_text, IsPut, IsShort, IsShortVerdict, Says};
+ghost use Rattle.commands.specs.Texts.{checked_text, clash_text, refusal_of_text, refusal_text, script_refusal_text, unread_text, IsPut, IsShort, IsShortVerdict, Says};
 
 use crate::status::Status;
 use crate::stop::{Finding, Stop};
@@ -10,9 +10,9 @@ use check_definitions::Checked;
 use rte_text::{LineBuf, Put, Refusal, Sink, Text};
 use std::alloc::{AllocError, Global};
 
-/// The text of a refusal, however long its place is.
-fn write_refusal(alloc: Global, refusal: &Refusal) -> Result<Vec<u8>, AllocError>
-    ensures { IfOk result (λ text. text.items ≡ refusal_text refusal.now.rule refusal.now.place) }
+/// The text of a refusal up to its place, however long that is.
+fn begin_refusal(alloc: Global, refusal: &Refusal) -> Result<Vec<u8>, AllocError>
+    ensures { IfOk result (λ text. text.items ≡ codes "refused rule " ++ decimal refusal.now.rule ++ codes " at " ++ refusal.now.place) }
 {
     let mut start = LineBuf::new();
     start.text(b"refused rule ");
@@ -20,7 +20,28 @@ fn write_refusal(alloc: Global, refusal: &Refusal) -> Result<Vec<u8>, AllocError
     start.text(b" at ");
     let mut text = Vec::from_slice(alloc, start.bytes())?;
     text.extend_from_slice(refusal.place.bytes())?;
+    Ok(text)
+}
+
+/// The text of a refusal.
+fn write_refusal(alloc: Global, refusal: &Refusal) -> Result<Vec<u8>, AllocError>
+    ensures { IfOk result (λ text. text.items ≡ refusal_text refusal.now.rule refusal.now.place) }
+{
+    let mut text = begin_refusal(alloc, refusal)?;
     text.push(b'\n')?;
+    Ok(text)
+}
+
+/// The text of a refusal of one of two descriptions.
+fn write_refusal_of(alloc: Global, refusal: &Refusal, which: u8) -> Result<Vec<u8>, AllocError>
+    ensures { IfOk result (λ text. text.items ≡ refusal_of_text refusal.now.rule refusal.now.place which) }
+{
+    let mut end = LineBuf::new();
+    end.text(b" of ");
+    end.number(i64::from(which));
+    end.text(b"\n");
+    let mut text = begin_refusal(alloc, refusal)?;
+    text.extend_from_slice(end.bytes())?;
     Ok(text)
 }
 
@@ -122,6 +143,11 @@ fn report_finding<K: Sink>(alloc: Global, found: &Finding, out: &mut K) -> Statu
             Ok(text) => put_text(text.as_slice(), Status::Clash, out),
             Err(_) => Status::Memory,
         },
+        Finding::RefusedOf { refusal, which } => match write_refusal_of(alloc, refusal, *which) {
+            Ok(text) => put_text(text.as_slice(), Status::Refused, out),
+            Err(_) => Status::Memory,
+        },
+        Finding::NoLink => put_text(b"no link\n", Status::NoLink, out),
     }
 }
 

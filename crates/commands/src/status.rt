@@ -23,4 +23,6 @@ pub enum Status {
     NoComponent = 8,
     /// Two different calls of the component have one name.
     Clash = 9,
+    /// No element of two nodes is linked.
+    NoLink = 10,
 }

@@ -16,6 +16,10 @@ pub enum Finding {
     NoComponent,
     /// Two different calls of the component have this name.
     Clash(Text),
+    /// One of two descriptions breaks a rule: `which` is its place, 1 or 2.
+    RefusedOf { refusal: Refusal, which: u8 },
+    /// No element of two nodes is linked.
+    NoLink,
 }
 
 /// Why nothing is carried out.

@@ -1,5 +1,6 @@
 pub mod Ending
 pub mod Coming
+pub mod Paired
 pub mod Ran
 pub mod SoakSizes
 pub mod Soaks

@@ -6,6 +6,7 @@ ghost use Rattle.commands.specs.Commands.{meant, runs, IsWell};
 
 use crate::check::check_named;
 use crate::header::header_named;
+use crate::pair::pair_named;
 use crate::plan::plan_named;
 use crate::run::run_named;
 use crate::soak::soak_named;
@@ -42,6 +43,9 @@ pub fn carry_out<R: Threads + Sync, S: Shelf, K: Sink, G: Gate>(
             trace,
             script,
         } => check_named(alloc, description, trace, script, shelf, out),
+        Command::Pair { one, two, script } => {
+            pair_named(rt, alloc, one, two, script, shelf, out, gate)
+        }
     }
 }
 
@@ -72,5 +76,6 @@ pub fn carry_out_quietly<S: Shelf, K: Sink>(
             trace,
             script,
         } => Some(check_named(alloc, description, trace, script, shelf, out)),
+        Command::Pair { .. } => None,
     }
 }

@@ -15,6 +15,7 @@ mod carry;
 mod check;
 mod header;
 mod laws;
+mod pair;
 mod plan;
 mod quiet;
 mod run;
@@ -23,5 +24,6 @@ mod top;
 
 pub use commands::Status;
 pub use laws::runs_are_legal_traces;
+pub use pair::run_linked;
 pub use quiet::rte_quiet;
 pub use top::rte_top;

@@ -25,7 +25,7 @@ use std::thread::Threads;
 use task_generator::generate;
 
 /// A node of the plan to which nothing has happened, with the bodies of the plan's programs. The only error is that there is no memory.
-fn new_node(alloc: Global, found: PlannedDescription) -> Result<Node, AllocError>
+pub fn new_node(alloc: Global, found: PlannedDescription) -> Result<Node, AllocError>
     requires planned { (d : List ℕ) × IsPlannedOf d found }
     ensures plan { IfOk result (λ n. n.plan ≡ found.plan) }
     ensures mapping { IfOk result (λ n. n.mapping ≡ found.mapping) }

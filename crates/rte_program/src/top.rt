@@ -24,9 +24,13 @@ use std::thread::Threads;
 /// `check C T S` reads the description C, the trace T and the script S, and puts the verdict on the trace: `legal`, or the first line that
 /// is refused, with the clause that it breaks.
 ///
-/// Refusals come in this order: the words, the files in the order of the words, the description, by its rules, the script, the trace.
+/// `pair C1 C2 S` reads the descriptions C1 and C2 and the script S, runs the script on a node of each, and puts the traces of both. What the first
+/// node sends on its outer queued ports goes over a link of bytes into the outer ports of the second.
+///
+/// Refusals come in this order: the words, the files in the order of the words, the description, by its rules, the script, the trace. Of two
+/// descriptions the first is judged first; without an element that is linked the script is not judged.
 /// Every description that breaks none of the rules is run. Before the run nothing is put but a refusal's text. Each line is
-/// one put, but for the numbers of `soak N`, which are one put in all.
+/// one put, but for the numbers of `soak N`, which are one put in all, and for the lines of `pair C1 C2 S`, which are two each.
 pub fn rte_top<R: Threads + Wait + Sync, S: Shelf, K: Sink, G: Gate>(
     rt: &R,
     alloc: Global,
