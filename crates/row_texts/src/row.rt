@@ -100,6 +100,36 @@ pub enum Row<'a> {
     },
     /// `back FOLDER` reads each line of the trace that is the folder's `expected.txt`, and writes it back in both versions.
     Back(&'a str),
+    /// `pair FOLDER WHICH FROM => TO ;; ..` runs two nodes: the descriptions of the folder, `description.json` and `second.json`, of which this one, 1 or 2, is
+    /// edited, and its script.
+    Pair {
+        folder: &'a str,
+        which: &'a str,
+        edits: &'a str,
+    },
+    /// `both FOLDER TEXT` runs the folder's two nodes with this text for the script.
+    Both {
+        folder: &'a str,
+        text: &'a str,
+    },
+    /// `wired FOLDER CUTS FAILS` runs the folder's two nodes and its script over a link that gives so many bytes at most (`1,7,64`), one after the other and
+    /// then again from the first, and whose calls of these numbers fail, from 0 on; `-` is none. How the run ended stands behind what is told.
+    Wired {
+        folder: &'a str,
+        cuts: &'a str,
+        fails: &'a str,
+    },
+    /// `pipe ROOM CUTS FAILS CALLS` shows what such a link with this room answers to calls: a number receives at most so many bytes, and any other
+    /// word is sent.
+    Pipe {
+        room: u32,
+        cuts: &'a str,
+        fails: &'a str,
+        calls: &'a str,
+    },
+    /// `turned WORD` shows the frame of the word for a link of one word from -1 to 1,000, and of each of its bytes what the frame shows with each value in
+    /// its place, wherever it is cut.
+    Turned(i64),
     /// `seats FOLDER` shows what two seats of one round are answered over the plan of the folder's description, and what the close gives: the
     /// environment switches machine 0 to its mode 1, and then the machine makes its first phase.
     Seats(&'a str),
@@ -168,6 +198,41 @@ fn fails<'a>(folder: &'a str, rest: &'a str) -> Option<Row<'a>> {
     })
 }
 
+fn pair<'a>(folder: &'a str, rest: &'a str) -> Option<Row<'a>> {
+    let (which, edits) = split_word(rest);
+    Some(Row::Pair {
+        folder,
+        which,
+        edits,
+    })
+}
+
+fn wired<'a>(folder: &'a str, rest: &'a str) -> Option<Row<'a>> {
+    let (cuts, fails) = split_word(rest);
+    Some(Row::Wired {
+        folder,
+        cuts,
+        fails,
+    })
+}
+
+fn pipe<'a>(room: &'a str, rest: &'a str) -> Option<Row<'a>> {
+    let room = room.parse().ok()?;
+    let (cuts, rest) = split_word(rest);
+    let (fails, calls) = split_word(rest);
+    Some(Row::Pipe {
+        room,
+        cuts,
+        fails,
+        calls,
+    })
+}
+
+fn turned<'a>(word: &'a str) -> Option<Row<'a>> {
+    let word = word.parse().ok()?;
+    Some(Row::Turned(word))
+}
+
 fn lines<'a>(folder: &'a str, rest: &'a str) -> Option<Row<'a>> {
     let (version, text) = split_word(rest);
     let version = version_named(version)?;
@@ -198,6 +263,10 @@ fn row_in<'a>(kind: &str, folder: &'a str, text: &'a str) -> Option<Row<'a>> {
         "times" => times(folder, text),
         "fails" => fails(folder, text),
         "lines" => lines(folder, text),
+        "pair" => pair(folder, text),
+        "both" => Some(Row::Both { folder, text }),
+        "wired" => wired(folder, text),
+        "pipe" => pipe(folder, text),
         _ => None,
     }
 }
@@ -216,6 +285,7 @@ impl<'a> Row<'a> {
             "seats" => Some(Row::Seats(rest)),
             "statuses" => Some(Row::Statuses),
             "turns" => Some(Row::Turns(rest)),
+            "turned" => turned(rest),
             "legal" => legal(first, more),
             "held" => held(first, more),
             _ => row_in(kind, first, more),

@@ -2,14 +2,16 @@
 
 ghost use Rattle.std.specs.Prelude.{◌≤◌, IfOk, length};
 
+use crate::pairs::{PairCase, run_pair_case, run_wired};
 use crate::runs::{
-    Answer, Case, DESCRIPTION, Failing, SCRIPT, check, pass_alone, plan, run, run_and_check_often,
-    run_and_check_repeated, run_counted, run_together, tell_failing, words_of,
+    Answer, Case, DESCRIPTION, Failing, Named, SCRIPT, SECOND, add_case, add_file, check,
+    pass_alone, plan, run, run_and_check_often, run_and_check_repeated, run_counted, run_together,
+    tell_failing, words_of,
 };
 use bus_semantics::Version;
 use row_texts::{
-    Fault, HashSign, Row, Shown, edited, expanded, numbers_of, pairs_of, read_back, read_lines,
-    seats_told, turns_told,
+    Fault, HashSign, Row, Shown, calls_shown, cuts_of, edited, expanded, numbers_of, pairs_of,
+    pipe_of, read_back, read_lines, seats_told, turns_shown, turns_told,
 };
 use rte_program::{Status, rte_top};
 use rte_text::{Fetched, FileShelf, OpenGate, Shelf, StdSink};
@@ -21,7 +23,7 @@ use std::thread::Threads;
 const EXPECTED: &str = "expected.txt";
 
 /// All statuses, each with what it is called in a row.
-const STATUSES: [(&str, Status); 10] = [
+const STATUSES: [(&str, Status); 11] = [
     ("done", Status::Done),
     ("refused", Status::Refused),
     ("words", Status::Words),
@@ -32,6 +34,7 @@ const STATUSES: [(&str, Status); 10] = [
     ("memory", Status::Memory),
     ("no component", Status::NoComponent),
     ("clash", Status::Clash),
+    ("no link", Status::NoLink),
 ];
 
 /// The bytes of a folder's file.
@@ -229,6 +232,22 @@ fn failing<R: AllocGlobal>(rt: &R, fetches: &str, puts: &str, room: u64) -> Resu
     })
 }
 
+/// The folder's files for these words: those of one node, and for `pair` that of the second.
+fn files_for<R: Files + AllocGlobal + Clone + Drop>(
+    rt: &R,
+    folder: &str,
+    words: &str,
+) -> Result<Vec<Named>, Fault> {
+    let case = own(rt, folder)?;
+    let mut files = Vec::new(rt.alloc());
+    add_case(rt.alloc(), &mut files, &case)?;
+    if words.starts_with("pair ") {
+        let second = file(rt, folder, SECOND)?;
+        add_file(rt.alloc(), &mut files, SECOND, second.as_slice())?;
+    }
+    Ok(files)
+}
+
 fn fail<R: Files + AllocGlobal + Clone + Drop + Threads + Wait + Sync>(
     rt: &R,
     folder: &str,
@@ -237,9 +256,9 @@ fn fail<R: Files + AllocGlobal + Clone + Drop + Threads + Wait + Sync>(
     room: u64,
     words: &str,
 ) -> Result<Answer, Fault> {
-    let case = own(rt, folder)?;
+    let files = files_for(rt, folder, words)?;
     match failing(rt, fetches, puts, room) {
-        Ok(failing) => tell_failing(rt, words, &case, failing),
+        Ok(failing) => tell_failing(rt, words, files, failing),
         Err(fault) => Err(fault),
     }
 }
@@ -273,6 +292,96 @@ fn run_text<R: AllocGlobal + Threads + Wait + Sync>(rt: &R, text: &str) -> Resul
         script,
     };
     run(rt, &case)
+}
+
+/// The folder's two descriptions and its script.
+fn own_pair<R: Files + AllocGlobal + Clone + Drop>(
+    rt: &R,
+    folder: &str,
+) -> Result<PairCase, Fault> {
+    let one = file(rt, folder, DESCRIPTION)?;
+    let two = file(rt, folder, SECOND)?;
+    let script = file(rt, folder, SCRIPT)?;
+    Ok(PairCase { one, two, script })
+}
+
+/// Runs the folder's two nodes, of which this one is edited.
+fn pair<R: Files + AllocGlobal + Clone + Drop + Threads + Wait + Sync>(
+    rt: &R,
+    folder: &str,
+    which: &str,
+    edits: &str,
+) -> Result<Answer, Fault> {
+    let PairCase { one, two, script } = own_pair(rt, folder)?;
+    let case = match which {
+        "1" => PairCase {
+            one: edited(rt.alloc(), one, edits)?,
+            two,
+            script,
+        },
+        "2" => PairCase {
+            one,
+            two: edited(rt.alloc(), two, edits)?,
+            script,
+        },
+        _ => return Err(Fault::NoRow),
+    };
+    run_pair_case(rt, &case)
+}
+
+/// Runs the folder's two nodes with a script of this text.
+fn both<R: Files + AllocGlobal + Clone + Drop + Threads + Wait + Sync>(
+    rt: &R,
+    folder: &str,
+    text: &str,
+) -> Result<Answer, Fault> {
+    let case = own_pair(rt, folder)?;
+    let script = expanded(rt.alloc(), text, HashSign::Number)?;
+    run_pair_case(rt, &PairCase { script, ..case })
+}
+
+/// Runs the folder's two nodes and its script over a link with these cuts and failing calls.
+fn wired<R: Files + AllocGlobal + Clone + Drop + Threads + Wait + Sync>(
+    rt: &R,
+    folder: &str,
+    cuts: &str,
+    fails: &str,
+) -> Result<Answer, Fault> {
+    let one = file(rt, folder, DESCRIPTION)?;
+    let two = file(rt, folder, SECOND)?;
+    let script = file(rt, folder, SCRIPT)?;
+    let cuts = cuts_of(rt.alloc(), cuts)?;
+    let fails = numbers_of(rt.alloc(), fails)?;
+    run_wired(
+        rt,
+        one.as_slice(),
+        two.as_slice(),
+        script.as_slice(),
+        cuts,
+        fails,
+    )
+}
+
+/// Shows what a pipe answers to calls.
+fn show_pipe(
+    alloc: Global,
+    room: u32,
+    cuts: &str,
+    fails: &str,
+    calls: &str,
+) -> Result<Answer, Fault> {
+    let cuts = cuts_of(alloc, cuts)?;
+    let fails = numbers_of(alloc, fails)?;
+    let text = calls_shown(alloc, pipe_of(alloc, room, cuts, fails)?, calls)?;
+    let status = Status::Done;
+    Ok(Answer { text, status })
+}
+
+/// Shows what frames of one word show that are turned and cut.
+fn show_turned(alloc: Global, word: i64) -> Result<Answer, Fault> {
+    let text = turns_shown(alloc, word)?;
+    let status = Status::Done;
+    Ok(Answer { text, status })
 }
 
 /// Shows what the lines of the text are read as over the plan of the folder's description.
@@ -375,5 +484,23 @@ pub fn carry_out<R: Files + Print + AllocGlobal + Clone + Drop + Threads + Wait 
         Row::Seats(folder) => show_seats(rt, folder),
         Row::Turns(folder) => show_turns(rt, folder),
         Row::Statuses => show_statuses(rt.alloc()),
+        Row::Pair {
+            folder,
+            which,
+            edits,
+        } => pair(rt, folder, which, edits),
+        Row::Both { folder, text } => both(rt, folder, text),
+        Row::Wired {
+            folder,
+            cuts,
+            fails,
+        } => wired(rt, folder, cuts, fails),
+        Row::Pipe {
+            room,
+            cuts,
+            fails,
+            calls,
+        } => show_pipe(rt.alloc(), room, cuts, fails, calls),
+        Row::Turned(word) => show_turned(rt.alloc(), word),
     }
 }

@@ -6,6 +6,7 @@
 
 mod carry;
 mod gates;
+mod pairs;
 mod runs;
 
 use carry::carry_out;

@@ -9,7 +9,7 @@ use std::sync::Wait;
 use std::thread::Threads;
 
 /// How many bytes may be told in memory: 16 MiB.
-const ROOM: u64 = 16_777_216;
+pub const ROOM: u64 = 16_777_216;
 
 /// How often a core looks at most in one hold of `Staggered`, while another one runs, and if none does.
 const MOST_LOOKS: u32 = 100_000_000;
@@ -22,6 +22,9 @@ const QUIET_TURNS: u32 = 64;
 pub const DESCRIPTION: &str = "description.json";
 
 pub const SCRIPT: &str = "script.txt";
+
+/// The description of the second of two nodes.
+pub const SECOND: &str = "second.json";
 
 const TRACE: &str = "trace.txt";
 
@@ -75,7 +78,7 @@ pub struct Case {
 }
 
 /// A file of this name with these bytes.
-type Named = (String, Vec<u8>);
+pub type Named = (String, Vec<u8>);
 
 fn joined(alloc: Global, first: &[u8], second: &[u8]) -> Result<Vec<u8>, AllocError> {
     let mut all = Vec::from_slice(alloc, first)?;
@@ -91,7 +94,7 @@ pub fn words_of(alloc: Global, text: &str) -> Result<Vec<String>, AllocError> {
 }
 
 /// Adds a file of this name with a copy of these bytes.
-fn add_file(
+pub fn add_file(
     alloc: Global,
     files: &mut Vec<Named>,
     name: &str,
@@ -104,7 +107,7 @@ fn add_file(
 }
 
 /// Adds the two files of a case.
-fn add_case(alloc: Global, files: &mut Vec<Named>, case: &Case) -> Result<(), AllocError> {
+pub fn add_case(alloc: Global, files: &mut Vec<Named>, case: &Case) -> Result<(), AllocError> {
     add_file(alloc, files, DESCRIPTION, case.description.as_slice())?;
     add_file(alloc, files, SCRIPT, case.script.as_slice())
 }
@@ -126,7 +129,7 @@ fn tell<R: AllocGlobal + Threads + Wait + Sync, G: Gate>(
 }
 
 /// Carries out the words over files and output that do not fail, and shows all that is told.
-fn tell_of<R: AllocGlobal + Threads + Wait + Sync, G: Gate>(
+pub fn tell_of<R: AllocGlobal + Threads + Wait + Sync, G: Gate>(
     rt: &R,
     words: &str,
     files: Vec<Named>,
@@ -317,16 +320,14 @@ pub struct Failing {
     pub room: u64,
 }
 
-/// Carries out the words over the two files of a case. A bar stands behind what is told.
+/// Carries out the words over these files. A bar stands behind what is told.
 pub fn tell_failing<R: AllocGlobal + Threads + Wait + Sync>(
     rt: &R,
     words: &str,
-    case: &Case,
+    files: Vec<Named>,
     failing: Failing,
 ) -> Result<Answer, Fault> {
     let alloc = rt.alloc();
-    let mut files = Vec::new(alloc);
-    add_case(alloc, &mut files, case)?;
     let out = MemorySink::new(alloc, failing.room, failing.puts)?;
     let shelf = MemoryShelf::new(files, failing.fetches);
     let told = tell(rt, words, shelf, out, &OpenGate)?;
