@@ -436,6 +436,23 @@ def outer(size):
     return whole, "".join(f"write u.v {n % 1000}\nread w.v\n" for n in range(size // 2)) + "run\n"
 
 
+def at_the_root(component, inner, prototype, outer_port, event):
+    """One instance of a component on one core, with this port of it at the root."""
+    held = [{"shortName": prototype, "type": component["shortName"]}]
+    whole = described([component], held, [], 1, [{"shortName": "T", "core": 0}], [mapped(prototype, event, "T", 0)], "queued")
+    whole["compositions"][0]["ports"] = [outer_port]
+    whole["compositions"][0]["connectors"] = [{"kind": "DelegationSwConnector", "inner": [prototype, inner], "outer": "link"}]
+    return whole
+
+
+def over_a_link(size):
+    """Two nodes: 1,024 values go over the link in each of so many run lines."""
+    held = port("P", "link") | {"comSpecs": [{"element": "v", "queueLength": 1024}]}
+    one = at_the_root(sender(1024, 1), "o", "w", held, "E")
+    two = at_the_root(receiver(1024, 1), "i", "r", port("R", "link"), "D")
+    return one, "tick 1\nrun\n" * size, two
+
+
 # ---- all at once
 
 
@@ -538,6 +555,7 @@ CASES = {
     lists_across: 250,
     elements_across: 250,
     outer: 40000,
+    over_a_link: 32,
     everything: 4,
 }
 
@@ -555,13 +573,18 @@ def measured(words, trace, peak):
 
 
 def run(case, size):
-    description, script = case(size)
+    description, script, *second = case(size)
     with tempfile.TemporaryDirectory() as name:
         folder = pathlib.Path(name)
         words = [folder / "description.json", folder / "script.txt"]
         words[0].write_text(json.dumps(description, separators=(",", ":")))
         words[1].write_text(script)
-        status, seconds, peak = measured(["run", *words], folder / "trace.txt", folder / "peak.txt")
+        command = "run"
+        for other in second:
+            command = "pair"
+            words.insert(1, folder / "second.json")
+            words[1].write_text(json.dumps(other, separators=(",", ":")))
+        status, seconds, peak = measured([command, *words], folder / "trace.txt", folder / "peak.txt")
         told = (folder / "trace.txt").read_bytes()
     if status != 0:
         sys.exit(f"{case.__name__} {size} ended with {status}: {told[:200]!r}")

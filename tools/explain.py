@@ -4,12 +4,14 @@
     tools/explain.py DESCRIPTION SCRIPT
     tools/explain.py DESCRIPTION
     tools/explain.py --trace TRACE DESCRIPTION SCRIPT
+    tools/explain.py --second DESCRIPTION DESCRIPTION SCRIPT
 
 What the program prints is printed unchanged. If it refuses, the line that it names follows with a caret, the rule or cause,
 what can be said of this case, and how to mend it.
 
 Without SCRIPT the program prints the plan. With --trace it checks a trace: the line of a verdict such as `illegal 14 D6` or
-`bad line 20` follows, with what the bus would have answered there.
+`bad line 20` follows, with what the bus would have answered there. With --second it runs two nodes, by `pair`: a refusal says
+of which of the two descriptions it is, and `no link` why nothing is linked.
 
 The status is the program's, 126 if the program cannot be run, and 2 if the words are wrong. With --said the program is not
 run: what it printed is read from a file, and the status is the one that belongs to it.
@@ -44,9 +46,13 @@ def arguments() -> argparse.Namespace:
     )
     parser.add_argument("--said", metavar="FILE", help="a file with what the program printed; - is standard input")
     parser.add_argument("--trace", metavar="TRACE", default="", help="check this trace, in place of running the script")
+    parser.add_argument("--second", metavar="DESCRIPTION", default="", help="the description of the second of two nodes")
     words = parser.parse_args()
-    if words.trace and not words.script:
-        parser.error("--trace needs DESCRIPTION and SCRIPT")
+    if words.trace and words.second:
+        parser.error("--trace and --second go not together")
+    for option in ("trace", "second"):
+        if getattr(words, option) and not words.script:
+            parser.error(f"--{option} needs DESCRIPTION and SCRIPT")
     return words
 
 
@@ -81,6 +87,8 @@ def command(words: argparse.Namespace) -> list[str]:
     """The words for the program."""
     if words.trace:
         return ["check", words.description, words.trace, words.script]
+    if words.second:
+        return ["pair", words.description, words.second, words.script]
     return ["run", words.description, words.script] if words.script else ["plan", words.description]
 
 
@@ -88,7 +96,7 @@ def is_told(refusal: Refusal, words: argparse.Namespace) -> bool:
     """Whether the launcher ran and said already which file was not read, and why."""
     if words.said is not None or refusal.kind != "not read" or Path(words.program).resolve() != LAUNCHER:
         return False
-    return any(path and why_unread(path) for path in (words.description, words.trace, words.script))
+    return any(path and why_unread(path) for path in (words.description, words.trace, words.second, words.script))
 
 
 def main() -> int:
@@ -99,7 +107,7 @@ def main() -> int:
         else:
             refusal, status = read_said(words.said)
         if refusal and refusal.status == status and not is_told(refusal, words):
-            explained = "\n".join(explain(refusal, words.description, words.script, words.trace)) + "\n"
+            explained = "\n".join(explain(refusal, words.description, words.script, words.trace, words.second)) + "\n"
             sys.stdout.buffer.write(explained.encode("utf-8", errors="replace"))
     except BrokenPipeError:
         return 4

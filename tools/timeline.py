@@ -3,10 +3,14 @@
 
     ./rte run DESCRIPTION SCRIPT > trace.txt
     tools/timeline.py DESCRIPTION trace.txt > trace.html
+    ./rte pair DESCRIPTION SECOND SCRIPT > traces.txt
+    tools/timeline.py --second SECOND DESCRIPTION traces.txt > traces.html
 
 The page is static HTML. It has lanes for the tasks of each core, for modes, queues and values. Activations are bars,
 and calls are marks; arrows show what led to what. From left to right is the order of the lines in the trace, not time.
 TRACE may be -, which is standard input.
+
+With --second the text is that of two nodes, as `pair` prints it. The page has the lanes of both, and arrows for what goes over the link.
 
 The other formats, those of other tools with line numbers of the trace in place of time:
   svg       one picture, for a report: in rows of a page's width, or at a glance from 300 columns on
@@ -36,6 +40,7 @@ from rte_tools.page import page
 from rte_tools.perfetto import perfetto
 from rte_tools.replay import Replay, replay
 from rte_tools.report import report
+from rte_tools.two_nodes import pair_page, read_sides
 from rte_tools.vcd import save_file, vcd
 
 EXPORTS: dict[str, Callable[[Description, Replay], str]] = {"btf": btf, "vcd": vcd, "perfetto": perfetto}
@@ -45,12 +50,16 @@ def arguments() -> argparse.Namespace:
     parser = argparse.ArgumentParser(description=__doc__, formatter_class=argparse.RawDescriptionHelpFormatter)
     parser.add_argument("description", help="the description, a JSON file")
     parser.add_argument("trace", help="the trace that the program printed; - is standard input")
+    parser.add_argument("--second", metavar="DESCRIPTION", help="the description of the second of two nodes")
     parser.add_argument("--to", choices=["html", "svg", *EXPORTS], default="html", help="the format; html without it")
     part = parser.add_mutually_exclusive_group()
     part.add_argument("--lines", metavar="A-B", help="only these lines of the trace, counted from 1")
     part.add_argument("--runs", metavar="A-B", help="only these run lines, counted from 1; A alone is one of them")
     parser.add_argument("--output", metavar="FILE", help="where to write; standard output without it")
-    return parser.parse_args()
+    words = parser.parse_args()
+    if words.second and (words.to != "html" or words.runs):
+        parser.error("--second draws a page of all lines, or of --lines A-B")
+    return words
 
 
 def chosen(whole: Replay, lines: str | None, runs: str | None) -> Replay:
@@ -78,7 +87,17 @@ def between(option: str, words: str) -> tuple[int, int]:
     return int(found[1]), int(found[2])
 
 
+def draw_pair(words: argparse.Namespace) -> str:
+    one, two = read_sides(words.trace, read_description(words.description), read_description(words.second))
+    for side, path in ((one, words.description), (two, words.second)):
+        if found := foreign(side.description, side.trace):
+            raise Unfit(f"the lines of node {side.node}in {words.trace} are not a trace of {path}: {found}")
+    return pair_page(words.trace, one, two, between("--lines", words.lines) if words.lines else None)
+
+
 def draw(words: argparse.Namespace) -> str:
+    if words.second:
+        return draw_pair(words)
     description = read_description(words.description)
     trace = read_trace_of(words.trace)
     if found := foreign(description, trace):

@@ -83,6 +83,7 @@ RUNS = (
     Run("`soak 1`", ("soak", "1")),
     Run("a plan", ("plan", str(DATA / "examples/door_control/description.json"))),
     Run("a header", ("header", str(DATA / "examples/door_control/description.json"), "Latch")),
+    Run("two nodes", ("pair", *(str(DATA / "examples/tailgate" / name) for name in ("description.json", "second.json", "script.txt")))),
     check_of("a check", "examples/door_control"),
     run_of("a refused description", "rows/many_to_many"),
     run_of("a refused script", "rows/script_tick_zero"),

@@ -74,12 +74,13 @@ class Chart:
     def run(self, run: RunLine) -> None:
         lane = next(lane for lane in self.lanes if lane.kind == RUNS)
         x, end = self.left(run.first), self.right(run.last)
-        said = f"run {run.number} at {run.milliseconds} ms"
+        name = f"{run.node}run {run.number}"
+        said = f"{name} at {run.milliseconds} ms"
         closing = run.closing or "not closed"
         self.parts.append(svg.rect(x, lane.y, end - x, height_of(self.lanes) - lane.y, "band"))
         title = f"{said}: lines {run.first} to {run.last or '?'}, {closing}"
         self.parts.append(svg.rect(x + 1, lane.y + 4, end - x - 2, lane.height - 8, f"run {closing}", title, 4))
-        self.spread([f"{said}, {closing}", said, f"run {run.number}", str(run.number)], x, end, lane.y + 16)
+        self.spread([f"{said}, {closing}", said, name, str(run.number)], x, end, lane.y + 16)
 
     def spread(self, candidates: list[str], x: float, end: float, y: float) -> None:
         """Writes a text into a segment, again and again where the segment is long."""
@@ -90,7 +91,7 @@ class Chart:
             start += REPEATED
 
     def events(self, lane: Lane) -> None:
-        for column, count, moment in folded(self.replay, self.column_of):
+        for column, count, moment in folded(self.ticks_of(lane), self.column_of):
             x = column * COLUMN
             last = moment + count - 1
             title = f"line {moment}: env tick" if count == 1 else f"lines {moment} to {last}: {count} times env tick"
@@ -98,6 +99,10 @@ class Chart:
             shown = f"+{count}" if count < 1000 else "+…"
             self.parts.append(svg.text(x + COLUMN / 2, lane.y + 17, shown, "small middle"))
         self.marks(lane)
+
+    def ticks_of(self, _lane: Lane) -> list[int]:
+        """The moments of the ticks that the environment of this lane makes."""
+        return self.replay.ticks
 
     def task(self, lane: Lane) -> None:
         """The activations, over them what waits, and then all texts."""
@@ -206,22 +211,22 @@ def marks_top(lane: Lane) -> float:
     return lane.y + (5 if lane.kind == EVENTS else lane.height - MARK - 3)
 
 
-def columns(replay: Replay) -> dict[int, int]:
-    """The column of each moment; ticks in a row share one."""
-    ticks = set(replay.ticks)
+def columns(replay: Replay, *sides: Replay) -> dict[int, int]:
+    """The column of each moment; ticks in a row share one, those of one side if there are several."""
+    ticks = {moment: number for number, side in enumerate(sides or (replay,)) for moment in side.ticks}
     found: dict[int, int] = {}
     column = -1
     for moment in range(replay.first, replay.last + 1):
-        if not (moment in ticks and moment - 1 in ticks and moment - 1 in found):
+        if not (moment in ticks and ticks.get(moment - 1) == ticks[moment] and moment - 1 in found):
             column += 1
         found[moment] = column
     return found
 
 
-def folded(replay: Replay, column_of: dict[int, int]) -> list[tuple[int, int, int]]:
+def folded(ticks: list[int], column_of: dict[int, int]) -> list[tuple[int, int, int]]:
     """The columns of ticks, each with how many there are and the first one's moment."""
     found: dict[int, tuple[int, int, int]] = {}
-    for moment in replay.ticks:
+    for moment in ticks:
         column = column_of[moment]
         _, count, first = found.get(column, (column, 0, moment))
         found[column] = (column, count + 1, first)

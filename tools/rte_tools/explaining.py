@@ -3,8 +3,9 @@
 from __future__ import annotations
 
 import textwrap
+from dataclasses import dataclass
 
-from rte_tools import reference, scripts, verdicts
+from rte_tools import links, reference, scripts, verdicts
 from rte_tools.bus_plan import BusPlan, plan_of
 from rte_tools.description import Description
 from rte_tools.files import Unfit, kind_of, read_description, read_file, read_schema, why_unread
@@ -17,36 +18,66 @@ from rte_tools.trace import HEADER, read_line
 WIDTH = 110  # of a line of an explanation
 MOST_NAMES = 3  # of those that a foreign trace names
 UNKNOWN = reference.Entry("docs/FORMAT.md does not tell it", "see whether the program and the documents fit together.")
+# How the words stand.
+ORDERS = {
+    "run": "`run` takes DESCRIPTION SCRIPT",
+    "check": "`check` takes DESCRIPTION TRACE SCRIPT",
+    "pair": "`pair` takes DESCRIPTION DESCRIPTION SCRIPT",
+}
+NO_LINK = "no link: each queued element that is linked stands at a P-port of the first root and at an R-port of the second"
+MEND_LINK = "give both ports and both elements the same names, and both types the same limits and as many words."
 IS_XML = "This is XML. A description is JSON: tools/arxml.py makes one of ARXML, and docs/AUTOSAR.md leads from ARXML to its keys."
 
 
-def explain(refusal: Refusal, description: str, script: str, trace: str = "") -> list[str]:
+@dataclass(frozen=True)
+class Files:
+    """The files that the words named: a description and mostly a script, and a trace or the description of a second node."""
+
+    description: str
+    script: str = ""
+    trace: str = ""
+    second: str = ""
+
+    @property
+    def command(self) -> str:
+        return "check" if self.trace else "pair" if self.second else "run"
+
+    @property
+    def named(self) -> list[str]:
+        """In the order of the words."""
+        return [path for path in (self.description, self.trace or self.second, self.script) if path]
+
+
+def explain(refusal: Refusal, description: str, script: str, trace: str = "", second: str = "") -> list[str]:
     """The lines that explain a refusal of these files. Without a trace there are two, or one if there is no script."""
     try:
-        return explain_read(refusal, description, script, trace)
+        return explain_read(refusal, Files(description, script, trace, second))
     except Unfit as error:
         return [str(error)]
 
 
-def explain_read(refusal: Refusal, description: str, script: str, trace: str) -> list[str]:
+def explain_read(refusal: Refusal, files: Files) -> list[str]:
     """The same. Raises Unfit where a file is not read."""
     if refusal.kind == "words":
         return ["The words were a command and paths, so a path is not UTF-8."]
     if refusal.kind == "not read":
-        files = [description, trace, script] if trace else [description, script]
-        return explain_unread(files[refusal.number - 1] if refusal.number <= len(files) else script)
+        named = files.named
+        return explain_unread(named[refusal.number - 1] if refusal.number <= len(named) else files.script)
     if refusal.kind in ("bad", "illegal"):
-        return explain_trace(refusal, description, trace, script)
+        return explain_trace(refusal, files.description, files.trace, files.script)
+    if refusal.kind == "no link":
+        return explain_unlinked(files)
     format_text = reference.read_format()
     if refusal.kind == "script":
-        return explain_script(refusal, format_text, description, script, bool(trace))
+        return explain_script(refusal, format_text, files)
+    description = files.second if refusal.which == 2 else files.description
     rule = reference.rules(format_text).get(refusal.number, UNKNOWN)
     title = f"rule {refusal.number}: {rule.title}"
     source = Source.of(description, read_file(description))
     try:
         root = read_json(source.text)
     except NotJson as error:
-        other = exchanged("description", source.text, bool(trace))
+        other = exchanged("description", source.text, files.command)
         if other:
             return explained(source, error.start, error.end, title, *other)
         said = [error.message[0].upper() + error.message[1:] + "."]
@@ -57,15 +88,14 @@ def explain_read(refusal: Refusal, description: str, script: str, trace: str) ->
     return explained(source, said.node.start, said.node.end, title, said.sentences, said.mend or rule.mend)
 
 
-def exchanged(wanted: str, text: str, is_check: bool) -> tuple[list[str], str] | None:
+def exchanged(wanted: str, text: str, command: str) -> tuple[list[str], str] | None:
     """What is said, and the mend, where a file is another one than its word wants; else none."""
     kind = kind_of(text)
     if kind in ("", wanted):
         return None
     if kind == "XML":
         return [IS_XML], "give the description that tools/arxml.py makes, or write it as JSON."
-    order = "`check` takes DESCRIPTION TRACE SCRIPT" if is_check else "`run` takes DESCRIPTION SCRIPT"
-    return [f"This is a {kind}, and a {wanted} is wanted here."], f"give the words in their order: {order}."
+    return [f"This is a {kind}, and a {wanted} is wanted here."], f"give the words in their order: {ORDERS[command]}."
 
 
 def explained(source: Source, start: int, end: int, title: str, said: list[str], mend: str) -> list[str]:
@@ -81,8 +111,16 @@ def wrapped(sentence: str) -> list[str]:
     )
 
 
-def explain_script(refusal: Refusal, format_text: str, description: str, script: str, is_check: bool) -> list[str]:
+def explain_unlinked(files: Files) -> list[str]:
+    """Why no element of two nodes is linked."""
+    one, two = read_description(files.description), read_description(files.second)
+    said = [line for sentence in links.why_unlinked(one, two) for line in wrapped(sentence)]
+    return [NO_LINK, *said, *wrapped(f"Mend: {MEND_LINK}")]
+
+
+def explain_script(refusal: Refusal, format_text: str, files: Files) -> list[str]:
     """A script line, its cause and what is said of it."""
+    description, script = files.description, files.script
     cause = reference.causes(format_text).get(refusal.number, UNKNOWN)
     source = Source.of(script, read_file(script))
     if refusal.line > len(source.starts):
@@ -90,10 +128,13 @@ def explain_script(refusal: Refusal, format_text: str, description: str, script:
     line = source.line(refusal.line)
     start = source.starts[refusal.line - 1]
     title = f"cause {refusal.number}: the line {cause.title}"
-    other = exchanged("script", source.text, is_check) if refusal.number == 1 else None
+    other = exchanged("script", source.text, files.command) if refusal.number == 1 else None
     if other:
         return explained(source, start, start + len(line), f"cause 1: the line {cause.title.partition(':')[0]}", *other)
     remark = scripts.remark(refusal.number, line, script, format_text, typed(description))
+    if refusal.number == 2 and files.second and is_received_by_link(line, files):
+        text = "What comes there goes over the link to the second node, so no script receives it."
+        return explained(source, start, start + len(line), title, [text], "take the line out.")
     said = [remark.text] if remark.text else []
     if said and refusal.number == 1:  # the ways that the page lists say no more than this one
         title = f"cause 1: the line {cause.title.partition(':')[0]}"
@@ -108,7 +149,7 @@ def explain_trace(refusal: Refusal, description: str, trace: str, script: str) -
     title = "the line is not the one spelling of an entry that fits the description"
     if refusal.kind == "illegal":
         title = f"D{refusal.number}: {verdicts.CLAUSES.get(refusal.number, UNKNOWN.title)}"
-    other = exchanged("trace", source.text, True) if refusal.line == 1 else None
+    other = exchanged("trace", source.text, "check") if refusal.line == 1 else None
     if other:
         return explained(source, 0, len(source.line(1)), title, *other)
     try:
@@ -145,6 +186,13 @@ def foreign(text: str, plan: BusPlan) -> list[str]:
         return []
     names = ", ".join(f"`{name}`" for name in unknown[:MOST_NAMES]) + (", .." if len(unknown) > MOST_NAMES else "")
     return [f"This is perhaps the trace of another description: this one does not have {names}."]
+
+
+def is_received_by_link(line: str, files: Files) -> bool:
+    """Whether the line receives from a linked element."""
+    one, two = typed(files.description), typed(files.second)
+    word, _, target = line.partition(" ")
+    return one is not None and two is not None and word == "receive" and target in links.linked(one, two)
 
 
 def typed(path: str) -> Description | None:

@@ -2,7 +2,7 @@
 
 from __future__ import annotations
 
-from typing import Any, Iterable, Iterator
+from typing import Any, Iterator
 
 from rte_tools.description import BASES, DEEPEST, MOST_INSTANCES, Component, Composition, Port
 from rte_tools.joins import End
@@ -15,58 +15,67 @@ MOST_ARGUMENTS, MOST_PAIRS = 16, 65_536
 # ---- rule 4: distinct names
 
 
-def twice(items: Iterable[tuple[str, Any]]) -> Iterator[str]:
-    """The places of those that stand before already."""
-    seen = set()
-    for place, held in items:
-        if held in seen:
-            yield place
-        seen.add(held)
-
-
-def named(items: Iterable[tuple[str, dict]], key: str = "shortName") -> Iterator[tuple[str, Any]]:
-    for place, held in items:
-        yield f"{place}/{key}", held[key]
+Declared = tuple[str, str, Any]  # a list, the place of something that it declares, and the name
 
 
 def distinct_names(judged: Judged) -> Iterator[str]:
-    yield from twice(named(judged.objects("dataTypes")))
-    yield from twice(named(judged.objects("modeGroups")))
+    """The places of names that their lists have before already, in the order of the document."""
+    seen = set()
+    for holder, place, name in declarations(judged):
+        if (holder, name) in seen:
+            yield place
+        seen.add((holder, name))
+
+
+def declared(holder: str, place: str, item: dict, key: str = "shortName") -> Declared:
+    return holder, f"{place}/{key}", item[key]
+
+
+def declarations(judged: Judged) -> Iterator[Declared]:
+    """All that is declared: an object before what it holds, keys in the order of docs/FORMAT.md."""
+    for place, item in judged.objects("dataTypes"):
+        yield declared("dataTypes", place, item)
     for place, group in judged.objects("modeGroups"):
-        yield from twice(judged.objects("modes", group, place))
-    yield from twice(named(judged.objects("interfaces")))
+        yield declared("modeGroups", place, group)
+        yield from ((f"{place}/modes", below, mode) for below, mode in judged.objects("modes", group, place))
     for place, interface in judged.objects("interfaces"):
-        yield from twice(named(judged.objects("dataElements", interface, place)))
-        yield from twice(named(judged.objects("operations", interface, place)))
-        for below, operation in judged.objects("operations", interface, place):
-            yield from twice(named(judged.objects("arguments", operation, below)))
-            yield from twice(named(judged.objects("errors", operation, below)))
-    yield from twice([*named(judged.objects("components")), *named(judged.objects("compositions"))])
+        yield declared("interfaces", place, interface)
+        yield from in_interface(judged, interface, place)
     for place, component in judged.objects("components"):
-        yield from distinct_in_ports(judged, component, place)
-        yield from distinct_in_behavior(judged, component["behavior"], f"{place}/behavior")
+        yield declared("types", place, component)
+        yield from in_ports(judged, component, place)
+        yield from in_behavior(judged, component["behavior"], f"{place}/behavior")
     for place, composition in judged.objects("compositions"):
-        yield from distinct_in_ports(judged, composition, place)
-        yield from twice(named(judged.objects("prototypes", composition, place)))
+        yield declared("types", place, composition)
+        yield from in_ports(judged, composition, place)
+        yield from (declared(f"{place}/prototypes", *item) for item in judged.objects("prototypes", composition, place))
     mapping = judged.value["mapping"]
-    yield from twice(named(judged.objects("tasks", mapping, "/mapping")))
-    events = judged.objects("events", mapping, "/mapping")
-    yield from twice((f"{place}/position", (held["task"], held["position"])) for place, held in events)
+    yield from (declared("tasks", *item) for item in judged.objects("tasks", mapping, "/mapping"))
+    for place, event in judged.objects("events", mapping, "/mapping"):
+        yield f"/mapping/{event['task']}", f"{place}/position", event["position"]
 
 
-def distinct_in_ports(judged: Judged, holder: dict, place: str) -> Iterator[str]:
-    yield from twice(named(judged.objects("ports", holder, place)))
+def in_interface(judged: Judged, interface: dict, place: str) -> Iterator[Declared]:
+    yield from (declared(f"{place}/items", *item) for item in judged.objects("dataElements", interface, place))
+    for below, operation in judged.objects("operations", interface, place):
+        yield declared(f"{place}/items", below, operation)
+        for key in ("arguments", "errors"):
+            yield from (declared(f"{below}/{key}", *item) for item in judged.objects(key, operation, below))
+
+
+def in_ports(judged: Judged, holder: dict, place: str) -> Iterator[Declared]:
     for below, port in judged.objects("ports", holder, place):
-        yield from twice(named(judged.objects("comSpecs", port, below), "element"))
+        yield declared(f"{place}/ports", below, port)
+        yield from (declared(below, *item, "element") for item in judged.objects("comSpecs", port, below))
 
 
-def distinct_in_behavior(judged: Judged, behavior: dict, place: str) -> Iterator[str]:
-    yield from twice(judged.objects("exclusiveAreas", behavior, place))
-    for key in ("variables", "runnables"):
-        yield from twice(named(judged.objects(key, behavior, place)))
+def in_behavior(judged: Judged, behavior: dict, place: str) -> Iterator[Declared]:
+    yield from ((f"{place}/areas", below, area) for below, area in judged.objects("exclusiveAreas", behavior, place))
+    yield from (declared(f"{place}/variables", *item) for item in judged.objects("variables", behavior, place))
     for below, runnable in judged.objects("runnables", behavior, place):
-        yield from twice((at, tuple(access)) for at, access in judged.objects("accesses", runnable, below))
-    yield from twice(named(judged.objects("events", behavior, place)))
+        yield declared(f"{place}/runnables", below, runnable)
+        yield from ((below, at, tuple(access)) for at, access in judged.objects("accesses", runnable, below))
+    yield from (declared(f"{place}/events", *item) for item in judged.objects("events", behavior, place))
 
 
 # ---- rule 5: what names refer to

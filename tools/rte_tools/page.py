@@ -43,6 +43,10 @@ def page(name: str, version: str, description: Description, replay: Replay) -> s
         ending = replay.window(replay.last - ENDING + 1, replay.last)
         parts = [("The beginning", beginning), ("The end", ending)]
         body += with_overview(description, replay, parts)
+    return whole_page(name, body)
+
+
+def whole_page(name: str, body: list[str]) -> str:
     head = [
         '<meta charset="utf-8"/>',
         '<meta name="viewport" content="width=device-width, initial-scale=1"/>',
@@ -112,6 +116,7 @@ SHAPES = (
     Shape("arrow answer", "", "a return is taken", arrows_in("answer")),
     Shape("arrow data", "", "a write or send starts by data", arrows_in("data")),
     Shape("arrow mode", "", "a switch or phase and what follows", arrows_in("mode")),
+    Shape("arrow link", "", "a value goes over the link", arrows_in("link")),
     Shape("wait", "", "a caller waits for the answer", lambda replay: bool(replay.waits)),
     Shape("fill", "", "what waits in a queue", lambda replay: bool(replay.queues)),
     Shape(

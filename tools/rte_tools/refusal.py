@@ -8,29 +8,32 @@ from dataclasses import dataclass
 from rte_tools.description import Component, Description, Port
 
 LINE = re.compile(
-    r"refused rule (?P<rule>\d+) at (?P<place>\S+)"
+    r"refused rule (?P<rule>\d+) at (?P<place>\S+)(?: of (?P<which>[12]))?"
     r"|script refused line (?P<line>\d+) cause (?P<cause>\d+)"
     r"|not read (?P<file>[123])"
     r"|bad line (?P<bad>\d+)"
     r"|illegal (?P<illegal>\d+) D(?P<clause>\d+)"
+    r"|(?P<unlinked>no link)"
     r"|(?P<words>words refused)"
 )
 
 
 @dataclass(frozen=True)
 class Refusal:
-    """A rule at a place, a script line with a cause, a file that was not read, the words, or a line of a trace."""
+    """A rule at a place, a script line with a cause, a file that was not read, the words, a line of a trace, or two nodes without a link."""
 
-    kind: str  # "rule", "script", "not read", "words", "bad" or "illegal"
+    kind: str  # "rule", "script", "not read", "words", "bad", "illegal" or "no link"
     number: int = 0  # of the rule, of the cause, of the file, or of the clause
     place: str = ""
     line: int = 0
+    which: int = 0  # of two descriptions the one that breaks the rule, 1 or 2
 
     def __str__(self) -> str:
         """The line that the program prints."""
         said = {
-            "rule": f"refused rule {self.number} at {self.place}",
+            "rule": f"refused rule {self.number} at {self.place}" + (f" of {self.which}" if self.which else ""),
             "words": "words refused",
+            "no link": "no link",
             "not read": f"not read {self.number}",
             "script": f"script refused line {self.line} cause {self.number}",
             "bad": f"bad line {self.line}",
@@ -41,7 +44,7 @@ class Refusal:
     @property
     def status(self) -> int:
         """The status with which the program says it."""
-        return {"rule": 1, "words": 2, "not read": 3, "script": 5, "bad": 6, "illegal": 6}[self.kind]
+        return {"rule": 1, "words": 2, "not read": 3, "script": 5, "bad": 6, "illegal": 6, "no link": 10}[self.kind]
 
 
 def read_refusal(text: str) -> Refusal | None:
@@ -50,7 +53,9 @@ def read_refusal(text: str) -> Refusal | None:
     if not found:
         return None
     if found["rule"]:
-        return Refusal("rule", int(found["rule"]), found["place"])
+        return Refusal("rule", int(found["rule"]), found["place"], which=int(found["which"] or 0))
+    if found["unlinked"]:
+        return Refusal("no link")
     if found["cause"]:
         return Refusal("script", int(found["cause"]), line=int(found["line"]))
     if found["bad"]:

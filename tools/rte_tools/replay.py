@@ -64,6 +64,7 @@ class RunLine:
     milliseconds: int  # that passed before it
     last: int | None = None
     closing: str = ""
+    node: str = ""  # of two nodes `1 ` or `2 `
 
 
 @dataclass

@@ -25,8 +25,8 @@ def text_of(path: Path) -> str:
     return path.read_text(encoding="utf-8")
 
 
-def description_of(folder: Path) -> Description:
-    return described(json.loads(text_of(folder / "description.json")))
+def description_of(folder: Path, name: str = "description.json") -> Description:
+    return described(json.loads(text_of(folder / name)))
 
 
 def cores_of(folder: Path) -> int:

@@ -106,6 +106,9 @@ class Output(WithFolder):
             (["header", whole, "Absent"], 8, b"no component\n"),
             (["header", whole, ""], 8, b"no component\n"),
             (["header", str(CLASHES), "Ports"], 9, b"clash Rte_Write_a_b_c\n"),
+            (["pair", whole, whole, script], 10, b"no link\n"),
+            (["pair", whole, broken, script], 1, b"refused rule 1 at / of 2\n"),
+            (["pair", whole, whole, absent], 3, b"not read 3\n"),
         ]
         for words, status, told in cases:
             with self.subTest(words=words):
