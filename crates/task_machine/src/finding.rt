@@ -49,11 +49,12 @@ pub fn instr_at<'a>(
     ensures instr { option_copied result ≡ slice_get (take before around.now ++ (program.now ++ drop before around.now)) place }
     ensures near { IfSome result (λ x. place < 2 ^ 63 + 2 ^ 32) }
 {
-    let behind = place.wrapping_sub(before);
-    if behind < program.len() {
-        return program.get(behind);
-    }
-    instr_anywhere(around, before, program, place)
+    // One reference comes of both, and then the answer: two answers would be told apart once more by each caller.
+    let instr = match program.get(place.wrapping_sub(before)) {
+        Some(instr) => instr,
+        None => instr_anywhere(around, before, program, place)?,
+    };
+    Some(instr)
 }
 
 impl Body {

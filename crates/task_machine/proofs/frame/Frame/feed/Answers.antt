@@ -1,12 +1,11 @@
-use Rattle.std.proofs.Common.{◌≡◌, [], ◌∷◌, ◌++◌, List, Some, None, sym, ap, ◌∙◌}
+use Rattle.std.proofs.Common.{◌≡◌, [], ◌∷◌, ◌++◌, List, sym, ap, ◌∙◌}
 use Rattle.std.specs.Option.{option_copied}
 use Rattle.rte_value.specs.declared.kinds.ActKey.{ActKey}
 use Rattle.bus_semantics.specs.declared.entries.Deed.{Deed}
-use Rattle.task_machine.specs.declared.instr.Body.{Body}
 use Rattle.task_machine.specs.declared.instr.TaskSet.{TaskSet}
 use Rattle.task_machine.specs.Instructions.{Instruction}
 use Rattle.task_machine.specs.Machine.{answered}
-use Rattle.task_machine.specs.Spots.{spot_of, code_in}
+use Rattle.task_machine.specs.Spots.{spot_of}
 use Rattle.task_machine.specs.Frames.{code_from, code_of, Stands}
 use Rattle.task_machine.specs.Standing.{Standing}
 use Rattle.task_machine.proofs.Answered.{after_more}
