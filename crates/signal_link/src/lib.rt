@@ -2,8 +2,8 @@
 //! pieces. Only making a pipe takes memory.
 //!
 //! A good frame is one of a value that its link takes: as many words as the link has, each within its limits. Only making a pipe
-//! takes memory: no other call lends an allocator. (No clause can say so.) `link_tests` turns each byte of a frame to each value,
-//! and compares where a bad frame is found with a table that is made by hand.
+//! takes memory: no other call lends an allocator. (No clause can say so.) The rows `turned` turn each byte of a frame to each value,
+//! and compare where a bad frame is found with a table that is made by hand.
 //!
 //! # Decisions
 //!
