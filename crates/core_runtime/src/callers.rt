@@ -1,8 +1,9 @@
 //! What an entry wakes of the activations that wait for answers.
 
-ghost use Rattle.std.specs.Prelude.{◌≡◌, ℕ, List, true, Some, IfSome, slice_get};
+ghost use Rattle.std.specs.Prelude.{◌≡◌, ℕ, List, true, Some, slice_get};
 ghost use Rattle.std.specs.List.{Contains};
-ghost use Rattle.bus_semantics.specs.Objects.{touched_by, IsObject};
+ghost use Rattle.bus_semantics.specs.History.{Noted};
+ghost use Rattle.bus_semantics.specs.Objects.{touched_by};
 ghost use Rattle.bus_semantics.specs.Plan.{plan_of, caller_of};
 ghost use Rattle.port_objects.specs.declared.object.Object.{Object};
 ghost use Rattle.task_machine.specs.declared.instr.TaskSet.{TaskSet};
@@ -11,9 +12,9 @@ ghost use Rattle.core_runtime.specs.Watching.{AreAnswered, AreSeated, AreStarter
 
 use crate::seats::Seat;
 use crate::watch::Watch;
-use bus_semantics::{BusPlan, Entry};
+use bus_semantics::BusPlan;
 use core_turn::Awake;
-use port_objects::{Object, heard, touched_object};
+use port_objects::{Object, heard};
 
 /// Wakes the slot of a seat.
 fn rouse_seat(seat: &Seat, awake: &mut Vec<Awake>)
@@ -83,23 +84,17 @@ fn rouse_caller(p: &BusPlan, point: u32, w: &mut Watch)
     }
 }
 
-/// Wakes the caller to whose point an entry returned, after which the objects are these (SWS_RTE: Rte_Call).
-pub(crate) fn wake_caller(
-    p: &BusPlan,
-    entry: &Entry,
-    event: Option<u32>,
-    objects: &[Object],
-    w: &mut Watch,
-)
-    requires within { IfSome (touched_by (plan_of p.now) (record { entry = entry.now; event = event })) (IsObject (plan_of p.now)) }
+/// Wakes the caller to whose point an entry returned that touched the object of this number, after which the objects are these
+/// (SWS_RTE: Rte_Call).
+pub(crate) fn wake_caller(p: &BusPlan, touched: Option<u32>, objects: &[Object], w: &mut Watch)
     requires there { (e : ℕ) (s : Seat) → IsAt w.old.seats.items e s → IsThere w.old.awake.items s }
     ensures seats { w.new.seats ≡ w.old.seats }
     ensures starters { w.new.starters ≡ w.old.starters }
     ensures woken { AreWoken w.old.awake.items w.new.awake.items }
-    ensures answered { (t : TaskSet) (cores : List CoreState) (before : List Object) → AreSeated (tables_of cores) w.old.seats.items → AreStarters (plan_of p.now) w.old.starters.items
-        → AreAnswered (plan_of p.now) t before objects.now (record { entry = entry.now; event = event }) cores w.new.awake.items }
+    ensures answered { (n : Noted) (t : TaskSet) (cores : List CoreState) (before : List Object) → touched ≡ touched_by (plan_of p.now) n → AreSeated (tables_of cores) w.old.seats.items
+        → AreStarters (plan_of p.now) w.old.starters.items → AreAnswered (plan_of p.now) t before objects.now n cores w.new.awake.items }
 {
-    if let Some(number) = touched_object(p, entry, event) {
+    if let Some(number) = touched {
         if let Some(object) = objects.get(number as usize) {
             if let Some(point) = heard(object) {
                 rouse_caller(p, point, w);

@@ -1,7 +1,8 @@
 //! What an entry wakes of the mode machines.
 
 ghost use Rattle.std.specs.Prelude.{◌≡◌, ◌<◌, ◌+◌, ℕ, List, true, false, length, Some, IfSome, slice_get, slice_index_or};
-ghost use Rattle.bus_semantics.specs.Objects.{touched_by, first_machine, IsObject};
+ghost use Rattle.bus_semantics.specs.History.{Noted};
+ghost use Rattle.bus_semantics.specs.Objects.{touched_by, first_machine};
 ghost use Rattle.bus_semantics.specs.Plan.{plan_of};
 ghost use Rattle.port_objects.specs.declared.object.Object.{Object};
 ghost use Rattle.task_machine.specs.declared.instr.TaskSet.{TaskSet};
@@ -9,9 +10,9 @@ ghost use Rattle.core_turn.specs.Cores.{CoreState};
 ghost use Rattle.core_turn.specs.Awake.{AwakeState};
 ghost use Rattle.core_runtime.specs.Watching.{AreBehind, AreEven, AreRoused, AreWatched, AreWoken, IsEven, IsWoken, owners_of};
 
-use bus_semantics::{BusPlan, Entry};
+use bus_semantics::BusPlan;
 use core_turn::Awake;
-use port_objects::{machine_of, touched_object};
+use port_objects::machine_of;
 
 /// The slot of the machine whose object this is, on a core with so many slots. Machines stand behind the tasks.
 fn slot_of_machine(p: &BusPlan, object: u32, slots: usize) -> Option<usize>
@@ -44,19 +45,19 @@ fn rouse_machine(p: &BusPlan, object: u32, core: &mut Awake)
     }
 }
 
-/// Wakes the slot of the machine that an entry touches: its next phase may come now (SWS_RTE: mode switch procedure). No other entry
-/// changes what a phase waits for.
-pub(crate) fn wake_machine(p: &BusPlan, entry: &Entry, event: Option<u32>, awake: &mut Vec<Awake>)
-    requires within { IfSome (touched_by (plan_of p.now) (record { entry = entry.now; event = event })) (IsObject (plan_of p.now)) }
+/// Wakes the slot of the machine that an entry touches, which is the object `touched` if it is one's: its next phase may come now
+/// (SWS_RTE: mode switch procedure). No other entry changes what a phase waits for.
+pub(crate) fn wake_machine(p: &BusPlan, touched: Option<u32>, awake: &mut Vec<Awake>)
     requires even { AreEven awake.old.items }
     ensures woken { AreWoken awake.old.items awake.new.items }
-    ensures roused { (t : TaskSet) (objects : List Object) (cores : List CoreState) → AreBehind (plan_of p.now) (owners_of cores) → AreWatched (plan_of p.now) t objects cores awake.old.items
-        → AreRoused (plan_of p.now) (record { entry = entry.now; event = event }) cores awake.new.items }
+    ensures roused { (n : Noted) (t : TaskSet) (objects : List Object) (cores : List CoreState) → touched ≡ touched_by (plan_of p.now) n
+        → AreBehind (plan_of p.now) (owners_of cores) → AreWatched (plan_of p.now) t objects cores awake.old.items → AreRoused (plan_of p.now) n cores awake.new.items }
 {
     if awake.is_empty() {
         return;
     }
-    if let Some(object) = touched_object(p, entry, event) {
-        rouse_machine(p, object, &mut awake[0]);
+    match touched {
+        Some(object) => rouse_machine(p, object, &mut awake[0]),
+        None => {}
     }
 }

@@ -1,17 +1,17 @@
 //! What an entry wakes of the activations that wait at exclusive areas.
 
-ghost use Rattle.std.specs.Prelude.{◌≡◌, ℕ, List, None, IfSome};
-ghost use Rattle.bus_semantics.specs.Objects.{touched_by, IsObject};
-ghost use Rattle.bus_semantics.specs.Plan.{plan_of};
+ghost use Rattle.std.specs.Prelude.{◌≡◌, List, None};
+ghost use Rattle.bus_semantics.specs.History.{Noted};
+ghost use Rattle.bus_semantics.specs.Objects.{touched_by};
+ghost use Rattle.bus_semantics.specs.Plan.{Plan};
 ghost use Rattle.port_objects.specs.declared.object.Object.{Object};
 ghost use Rattle.port_objects.specs.Waking.{is_leave};
 ghost use Rattle.task_machine.specs.declared.instr.TaskSet.{TaskSet};
 ghost use Rattle.core_turn.specs.Cores.{CoreState};
 ghost use Rattle.core_runtime.specs.Watching.{AreEven, AreWaiting, AreWatched, AreWokenAt, IsAfter};
 
-use bus_semantics::{BusPlan, Deed, Entry};
+use bus_semantics::Deed;
 use core_turn::{Awake, waiters_sleep_on};
-use port_objects::touched_object;
 
 /// Whether an entry of this deed leaves an area.
 fn leaves(deed: &Deed) -> bool
@@ -33,19 +33,20 @@ fn wake_first_of_each(object: u32, awake: &mut Vec<Awake>)
     }
 }
 
-/// Wakes who may enter an area that an entry left (SWS_RTE: Rte_Exit). No other entry lets anybody in.
-pub(crate) fn wake_waiting(p: &BusPlan, entry: &Entry, event: Option<u32>, awake: &mut Vec<Awake>)
-    requires within { IfSome (touched_by (plan_of p.now) (record { entry = entry.now; event = event })) (IsObject (plan_of p.now)) }
+/// Wakes who may enter an area that an entry of this deed left, which is the object that it touched (SWS_RTE: Rte_Exit). No other
+/// entry lets anybody in.
+pub(crate) fn wake_waiting(deed: &Deed, touched: Option<u32>, awake: &mut Vec<Awake>)
     requires even { AreEven awake.old.items }
-    ensures starts { (t : TaskSet) (objects : List Object) (cores : List CoreState) → AreWatched (plan_of p.now) t objects cores awake.old.items → AreWatched (plan_of p.now) t objects cores awake.new.items }
-    ensures waiting { (t : TaskSet) (cores : List CoreState) (before later : List Object) → IsAfter (plan_of p.now) before later (record { entry = entry.now; event = event })
-        → AreWaiting (plan_of p.now) t before (touched_by (plan_of p.now) (record { entry = entry.now; event = event })) cores awake.old.items → AreWaiting (plan_of p.now) t later None cores awake.new.items }
+    ensures starts { (p : Plan) (t : TaskSet) (objects : List Object) (cores : List CoreState) → AreWatched p t objects cores awake.old.items → AreWatched p t objects cores awake.new.items }
+    ensures waiting { (p : Plan) (n : Noted) (t : TaskSet) (cores : List CoreState) (before later : List Object) → n.entry.deed ≡ deed.now → touched ≡ touched_by p n
+        → IsAfter p before later n → AreWaiting p t before touched cores awake.old.items → AreWaiting p t later None cores awake.new.items }
 {
     waiters_sleep_on();
-    if !leaves(&entry.deed) {
+    if !leaves(deed) {
         return;
     }
-    if let Some(object) = touched_object(p, entry, event) {
-        wake_first_of_each(object, awake);
+    match touched {
+        Some(object) => wake_first_of_each(object, awake),
+        None => {}
     }
 }

@@ -2,8 +2,9 @@
 
 ghost use Rattle.std.specs.Prelude.{◌≡◌, ℕ, List, true, false, None, Some, IfSome, slice_get};
 ghost use Rattle.std.specs.List.{Contains};
+ghost use Rattle.bus_semantics.specs.History.{Noted};
 ghost use Rattle.bus_semantics.specs.Objects.{touched_by, IsObject};
-ghost use Rattle.bus_semantics.specs.Plan.{plan_of};
+ghost use Rattle.bus_semantics.specs.Plan.{Plan, plan_of};
 ghost use Rattle.port_objects.specs.declared.object.Object.{Object};
 ghost use Rattle.port_objects.specs.Objects.{kept_of};
 ghost use Rattle.task_machine.specs.declared.instr.TaskSet.{TaskSet};
@@ -15,7 +16,7 @@ use crate::machines::wake_machine;
 use crate::seats::Seat;
 use crate::waiting::wake_waiting;
 use crate::watch::Watch;
-use bus_semantics::{BusPlan, Entry};
+use bus_semantics::{BusPlan, Deed, Entry};
 use core_turn::Awake;
 use port_objects::{
     Object, answers_go_by_flags, held_starts_lead_nowhere, may_start, other_entries_wake_nothing,
@@ -71,25 +72,23 @@ fn wake_events(object: &Object, events: &[u32], w: &mut Watch)
     }
 }
 
-/// Wakes what an entry, after which the objects are these, may make start. `event` is the one that started the activation, for an
-/// admission and an end that touch an object.
-fn wake_starts(p: &BusPlan, entry: &Entry, event: Option<u32>, objects: &[Object], w: &mut Watch)
-    requires within { IfSome (touched_by (plan_of p.now) (record { entry = entry.now; event = event })) (IsObject (plan_of p.now)) }
+/// Wakes what an entry of this deed, which touched the object of this number and after which the objects are these, may make start.
+fn wake_starts(deed: &Deed, touched: Option<u32>, objects: &[Object], w: &mut Watch)
     requires there { (e : ℕ) (s : Seat) → IsAt w.old.seats.items e s → IsThere w.old.awake.items s }
     ensures seats { w.new.seats ≡ w.old.seats }
     ensures starters { w.new.starters ≡ w.old.starters }
     ensures woken { AreWoken w.old.awake.items w.new.awake.items }
-    ensures starts { (t : TaskSet) (cores : List CoreState) (before : List Object) → IsAfter (plan_of p.now) before objects.now (record { entry = entry.now; event = event })
-        → AreRoused (plan_of p.now) (record { entry = entry.now; event = event }) cores w.old.awake.items → AreAnswered (plan_of p.now) t before objects.now (record { entry = entry.now; event = event }) cores w.old.awake.items
-        → AreSeated (tables_of cores) w.old.seats.items → AreWatched (plan_of p.now) t before cores w.old.awake.items → AreWatched (plan_of p.now) t objects.now cores w.new.awake.items }
+    ensures starts { (p : Plan) (n : Noted) (t : TaskSet) (cores : List CoreState) (before : List Object) → n.entry.deed ≡ deed.now → touched ≡ touched_by p n
+        → IsAfter p before objects.now n → AreRoused p n cores w.old.awake.items → AreAnswered p t before objects.now n cores w.old.awake.items
+        → AreSeated (tables_of cores) w.old.seats.items → AreWatched p t before cores w.old.awake.items → AreWatched p t objects.now cores w.new.awake.items }
 {
     held_starts_lead_nowhere();
     answers_go_by_flags();
     other_entries_wake_nothing();
-    if !wakes(&entry.deed) {
+    if !wakes(deed) {
         return;
     }
-    if let Some(number) = touched_object(p, entry, event) {
+    if let Some(number) = touched {
         if let Some(object) = objects.get(number as usize) {
             wake_events(object, woken(object), w);
         }
@@ -111,8 +110,9 @@ pub(crate) fn wake_after(
     ensures { (t : TaskSet) (cores : List CoreState) (before : List Object) → IsAfter (plan_of p.now) before objects.now (record { entry = entry.now; event = event })
         → IsWatch (plan_of p.now) t before (touched_by (plan_of p.now) (record { entry = entry.now; event = event })) cores w.old → IsWatch (plan_of p.now) t objects.now None cores w.new }
 {
-    wake_machine(p, entry, event, &mut w.awake);
-    wake_caller(p, entry, event, objects, w);
-    wake_starts(p, entry, event, objects, w);
-    wake_waiting(p, entry, event, &mut w.awake);
+    let touched = touched_object(p, entry, event);
+    wake_machine(p, touched, &mut w.awake);
+    wake_caller(p, touched, objects, w);
+    wake_starts(&entry.deed, touched, objects, w);
+    wake_waiting(&entry.deed, touched, &mut w.awake);
 }

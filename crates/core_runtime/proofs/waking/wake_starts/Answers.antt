@@ -2,9 +2,8 @@ use Rattle.std.proofs.Common.{◌≡◌, sym, ◌∙◌, ap, subst, Some}
 use Rattle.std.proofs.lemmas.Bool.{false≢true}
 use Rattle.std.proofs.lemmas.Option.{same_Some}
 use Rattle.std.specs.List.{Contains, slice_get}
-use Rattle.bus_semantics.specs.Plan.{plan_of}
 use Rattle.port_objects.specs.Objects.{kept_of}
-use Rattle.port_objects.specs.Waking.{woken_in}
+use Rattle.port_objects.specs.Waking.{wakes, woken_in}
 use Rattle.core_runtime.specs.Watching.{IsSeen}
 use Rattle.latches.proofs.Places.{found_at, set_here}
 use Rattle.core_runtime.proofs.Wakes.{are_same}
@@ -15,20 +14,19 @@ pub returns-then-not-wakes-clause-woken : goal.returns-then-not-wakes-clause-wok
 returns-then-not-wakes-clause-woken c = are_same c.args.w.now.awake.items
 
 pub returns-then-not-wakes-clause-starts : goal.returns-then-not-wakes-clause-starts
-returns-then-not-wakes-clause-starts c = λ t cores before after roused answered seated watched.
-    after_entry c.held_starts_lead_nowhere.ensures c.other_entries_wake_nothing.ensures (plan_of c.args.p.now) before c.args.objects.now (record { entry = c.args.entry.now; event = c.args.event }) cores
+returns-then-not-wakes-clause-starts c = λ p n t cores before deed touching after roused answered seated watched.
+    after_entry c.held_starts_lead_nowhere.ensures c.other_entries_wake_nothing.ensures p before c.args.objects.now n cores
     c.args.w.now.awake.items c.args.w.now.awake.items c.args.w.now.seats.items seated (are_same c.args.w.now.awake.items) roused c.answers_go_by_flags.ensures.held c.answers_go_by_flags.ensures.comes t answered watched after
-    (λ x on. absurd (false≢true (c.if-not-wakes.ensures ∙ on)))
+    (λ x on. absurd (false≢true (c.if-not-wakes.ensures ∙ ap wakes (sym deed) ∙ on)))
 
 pub returns-in-Some-get-clause-starts : goal.returns-in-Some-get-clause-starts
-returns-in-Some-get-clause-starts c = λ t cores before after roused answered seated watched.
-    let p = plan_of c.args.p.now in
+returns-in-Some-get-clause-starts c = λ p note t cores before deed touching after roused answered seated watched.
     let n = c.in-Some.number in
     let object = c.in-Some-get.object.now in
-    after_entry c.held_starts_lead_nowhere.ensures c.other_entries_wake_nothing.ensures p before c.args.objects.now (record { entry = c.args.entry.now; event = c.args.event }) cores
+    after_entry c.held_starts_lead_nowhere.ensures c.other_entries_wake_nothing.ensures p before c.args.objects.now note cores
     c.args.w.now.awake.items c.wake_events.new.w.awake.items c.args.w.now.seats.items seated c.wake_events.ensures.woken roused c.answers_go_by_flags.ensures.held c.answers_go_by_flags.ensures.comes t answered watched after
     (λ x on event s told at.
-    let number : Some n ≡ Some x.object = c.in-Some.ensures ∙ x.touching in
+    let number : Some n ≡ Some x.object = sym c.in-Some.is ∙ touching ∙ x.touching in
     let place : n ≡ x.object = cc in
     let found = found_at c.args.objects.now n object c.in-Some-get.ensures.lookup.3.0 c.in-Some-get.ensures.lookup.1 in
     let same : x.new ≡ object = same_Some _ _ (sym (set_here before x.object x.old x.new x.found) ∙ sym (ap (slice_get c.args.objects.now) place ∙ ap (λ os. slice_get os x.object) x.others) ∙ found) in
