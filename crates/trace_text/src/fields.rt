@@ -1,6 +1,6 @@
 //! The fields of a line: texts, numbers and values.
 
-ghost use Rattle.std.specs.Prelude.{◌≤◌, ◌*◌, length, decimal};
+ghost use Rattle.std.specs.Prelude.{◌≤◌, ◌*◌, ◌++◌, length, codes, decimal};
 ghost use Rattle.std.specs.Fmt.{signed_decimal};
 ghost use Rattle.bus_semantics.specs.Spelling.{more_words, spaced, value_text};
 ghost use Rattle.trace_text.specs.Appending.{Appends};
@@ -36,7 +36,7 @@ fn write_more_words(words: &[Word], out: &mut LineBuf)
 }
 
 /// Writes the words of the value, joined by commas, or a dash if it has none.
-fn write_value(value: &Value, out: &mut LineBuf)
+pub fn write_value(value: &Value, out: &mut LineBuf)
     ensures text { Appends out.old out.new (value_text value.now) }
     ensures short { IsShortValue value.now }
 {
@@ -57,13 +57,30 @@ pub fn write_number(number: u32, out: &mut LineBuf)
     write_word(i64::from(number), out);
 }
 
-/// Writes a space and the number.
+/// Writes a space and the number. 0 is the code of nearly each line that has one, so it goes with its space.
 pub fn write_spaced_number(number: u32, out: &mut LineBuf)
     ensures text { Appends out.old out.new (spaced (decimal number)) }
     ensures short { IsShortNumber number }
 {
-    write_text(b" ", out);
-    write_number(number, out);
+    if number == 0 {
+        write_text(b" 0", out);
+    } else {
+        write_text(b" ", out);
+        write_number(number, out);
+    }
+}
+
+/// Writes the code between two spaces.
+pub fn write_code(code: Code, out: &mut LineBuf)
+    ensures text { Appends out.old out.new (spaced (decimal code ++ codes " ")) }
+    ensures short { IsShortNumber code }
+{
+    if code == 0 {
+        write_text(b" 0 ", out);
+    } else {
+        write_spaced_number(u32::from(code), out);
+        write_text(b" ", out);
+    }
 }
 
 /// Writes a space and the value.

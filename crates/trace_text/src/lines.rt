@@ -54,7 +54,6 @@ fn write_line(p: &BusPlan, e: &Entry, v: Version, out: &mut LineBuf)
     ensures short { IsShort v (plan_of p.now) e.now.deed }
 {
     write_actor(p, e.actor, out);
-    write_text(b" ", out);
     write_deed(p, e.actor, &e.deed, v, out);
     write_text(b"\n", out);
 }

@@ -61,26 +61,26 @@ fn write_marks(written: u16, elems: &[u32], out: &mut LineBuf)
     }
 }
 
-/// `fetchAll L V`.
+/// ` fetchAll L V`.
 pub fn write_fetched(p: &BusPlan, list: u32, value: &Value, out: &mut LineBuf)
     requires { lists_sound (plan_of p.now) ≡ true }
-    ensures text { Appends out.old out.new (codes "fetchAll " ++ decimal (position_of (plan_of p.now) list) ++ spaced (value_text value.now)) }
+    ensures text { Appends out.old out.new (spaced (codes "fetchAll " ++ decimal (position_of (plan_of p.now) list) ++ spaced (value_text value.now))) }
     ensures short_place { IsShortNumber (position_of (plan_of p.now) list) }
     ensures short_value { IsShortValue value.now }
 {
-    write_text(b"fetchAll ", out);
+    write_text(b" fetchAll ", out);
     write_number(position_of(p, list), out);
     write_spaced_value(value, out);
 }
 
-/// `publishAll L MASK V`.
+/// ` publishAll L MASK V`.
 pub fn write_published(p: &BusPlan, list: u32, written: u16, value: &Value, out: &mut LineBuf)
     requires { lists_sound (plan_of p.now) ≡ true }
-    ensures text { Appends out.old out.new (codes "publishAll " ++ decimal (position_of (plan_of p.now) list) ++ spaced (mask_text written (elems_of (plan_of p.now) list)) ++ spaced (value_text value.now)) }
+    ensures text { Appends out.old out.new (spaced (codes "publishAll " ++ decimal (position_of (plan_of p.now) list) ++ spaced (mask_text written (elems_of (plan_of p.now) list)) ++ spaced (value_text value.now))) }
     ensures short_place { IsShortNumber (position_of (plan_of p.now) list) }
     ensures short_value { IsShortValue value.now }
 {
-    write_text(b"publishAll ", out);
+    write_text(b" publishAll ", out);
     write_number(position_of(p, list), out);
     write_text(b" ", out);
     write_marks(written, p.elems_of(list), out);
