@@ -3,10 +3,13 @@ use Rattle.std.proofs.Common.{◌≡◌, ℕ, suc, min, true, false, not, ◌&&�
 use Rattle.std.proofs.lemmas.Bool.{and_from, eqb-true, false≢true, le-leb, leb-true}
 use Rattle.std.proofs.lemmas.List.{append-nil, append_cancel_left}
 use Rattle.bus_semantics.specs.declared.script.Line.{Line}
+use Rattle.bus_semantics.specs.declared.entries.Actor.{Actor}
 use Rattle.bus_semantics.specs.declared.entries.Entry.{Entry}
+use Rattle.bus_semantics.specs.Legal.{IsLegal}
+use Rattle.bus_semantics.specs.Wanted.{wanted_by}
 use Rattle.bus_semantics.specs.Fitting.{fits}
 use Rattle.bus_semantics.specs.History.{is_environment}
-use Rattle.bus_semantics.specs.Run.{Closing, Ordered, Session, unsettled, made, run_begins, run_closes, Holds, IsBeginningOf, IsSessionOf, history_of, is_inside, is_placed, made_in_line, orders_of}
+use Rattle.bus_semantics.specs.Run.{Closing, Ordered, Session, a_call, unsettled, made, run_begins, run_closes, Holds, IsBeginningOf, IsSessionOf, history_of, is_inside, is_placed, made_in_line, orders_of, orders_of_script}
 use Rattle.check_definitions.specs.Refusals.{IsRefused}
 use Rattle.trace_check.specs.declared.rules.Rules.{Rules}
 use Rattle.trace_check.specs.declared.bus_state.BusState.{BusState}
@@ -15,6 +18,7 @@ use Rattle.trace_check.specs.Along.{IsAlong, Makes, StateStands, plan_in}
 use Rattle.trace_check.specs.Checking.{Stands, most_made}
 use Rattle.trace_check.specs.Order.{Leaves}
 use Rattle.trace_check.proofs.Making.{legal_history, legal_then}
+use Rattle.trace_check.proofs.Taking.{call_taken}
 
 pub begins : (script : List Line) (s : Session) (left : List Ordered) → Leaves script s left → IsBeginningOf script s
 begins script s left leaves = record { left = left; orders = leaves.orders; placed = leaves.placed }
@@ -40,6 +44,35 @@ module _ (r : Rules) (s : Session) (old : Check) (stands : Stands r s old) where
     leaves = leaves;
     inside = inside ∙ stands.inside;
     made = count;
+  }
+
+  -- an entry of a machine or an activation, inside a run line
+  pub entry_went : (a : Actor) (e : Entry) (new : Check) → is_environment a ≡ false → e.actor ≡ a → IsLegal (plan_in r) (e ∷ history_of s) → StateStands r.tasks.now (plan_in r) (e ∷ history_of s) new.state
+      → old.inside ≡ true → new.inside ≡ old.inside → new.orders ≡ old.orders → ((n : ℕ) → old.made ≡ min n most_made → new.made ≡ min (if is_environment a then n else suc n) most_made) → Stands r (made e ∷ s) new
+  entry_went a e new plain who legal state within inside orders count =
+      let other : is_environment e.actor ≡ false = ap is_environment who ∙ plain in
+      let left : (orders_of s ++ []) ++ old.orders ≡ orders_of_script r.script.now.lines = ap (λ t. t ++ old.orders) (append-nil (orders_of s)) ∙ stands.leaves.orders in
+      record {
+        legal = (stands.legal, legal.1);
+        state = state;
+        leaves = record {
+          orders = subst (λ b. (orders_of s ++ (if b then a_call (wanted_by 0 e.deed) ∷ [] else [])) ++ new.orders ≡ orders_of_script r.script.now.lines) (sym other)
+              (subst (λ t. (orders_of s ++ []) ++ t ≡ orders_of_script r.script.now.lines) (sym orders) left);
+          placed = and_from (is_placed s) _ stands.leaves.placed (subst (λ b. (if b then not (is_inside s) else is_inside s) ≡ true) (sym other) (sym stands.inside ∙ within));
+        };
+        inside = inside ∙ stands.inside;
+        made = count (made_in_line s) stands.made ∙ ap (λ x. min (if is_environment x then made_in_line s else suc (made_in_line s)) most_made) (sym who);
+      }
+
+  -- an entry of the environment, outside
+  pub entry_called : (e : Entry) (new : Check) → is_environment e.actor ≡ true → IsLegal (plan_in r) (e ∷ history_of s) → StateStands r.tasks.now (plan_in r) (e ∷ history_of s) new.state
+      → old.inside ≡ false → new.inside ≡ old.inside → old.orders ≡ a_call (wanted_by 0 e.deed) ∷ new.orders → new.made ≡ old.made → Stands r (made e ∷ s) new
+  entry_called e new env legal state outside inside took count = record {
+    legal = (stands.legal, legal.1);
+    state = state;
+    leaves = call_taken r.script.now.lines s old.orders stands.leaves e env new.orders (sym stands.inside ∙ outside) took;
+    inside = inside ∙ stands.inside;
+    made = count ∙ stands.made ∙ sym (ap (λ b. min (if b then made_in_line s else suc (made_in_line s)) most_made) env);
   }
 
   -- ---- a run mark

@@ -3,6 +3,8 @@ mod Ordering
 mod Taking
 mod Making
 mod LineCuts
+mod Asking
 mod Judging
 mod Reaching
 mod Verdicts
+mod AtOnce

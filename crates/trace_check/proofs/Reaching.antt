@@ -73,7 +73,7 @@ module _ (v : Version) (r : Rules) (trace : Letters) (old : Check) (left : Lette
   left_is : (i : Item) → IsReadingOf v (plan_in r) first i → left ≡ item_text v (plan_in r) i ++ more
   left_is i reading = whole ∙ ap (λ t. t ++ more) reading.text
 
-  goes_on_more : (i : Item) (new : Check) → IsReadingOf v (plan_in r) first i → Stands r (i ∷ reached.session) new → Reaches v r trace new more (line + 1)
+  pub goes_on_more : (i : Item) (new : Check) → IsReadingOf v (plan_in r) first i → Stands r (i ∷ reached.session) new → Reaches v r trace new more (line + 1)
   goes_on_more i new reading stands =
       let s = reached.session in
       record {

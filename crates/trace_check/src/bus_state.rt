@@ -1,20 +1,30 @@
 //! A bus along a trace.
 
-ghost use Rattle.std.specs.Prelude.{IfOk, [], ◌≡◌, true};
+ghost use Rattle.std.specs.Prelude.{IfOk, IfSome, [], ◌≡◌, true, Some};
 ghost use Rattle.bus_semantics.specs.Actor.{follows_program};
+ghost use Rattle.bus_semantics.specs.Owners.{key_fits};
+ghost use Rattle.bus_semantics.specs.Plan.{Plan, plan_of};
+ghost use Rattle.task_machine.specs.declared.instr.TaskSet.{TaskSet};
+ghost use Rattle.bus_semantics.specs.Wanted.{Wanted, wanted_of};
 ghost use Rattle.bus_semantics.specs.Fitting.{fits};
 ghost use Rattle.bus_semantics.specs.History.{History};
 ghost use Rattle.bus_semantics.specs.Legal.{IsLegal};
+ghost use Rattle.task_machine.specs.Frames.{wanted_in};
+ghost use Rattle.task_generator.specs.Promise.{AsksAsPlanned};
+ghost use Rattle.trace_objects.specs.Going.{Asks};
+ghost use Rattle.trace_walks.specs.Walking.{IsWanted, MayBegin};
 ghost use Rattle.trace_check.specs.Along.{AreSound, Idles, IsAlong, IsAsked, Makes, StateStands, plan_in};
+ghost use Rattle.trace_check.specs.Going.{GoesOnBy, IsAskedAlong, IsMadeOf, NotesLine};
 
 use crate::rules::Rules;
-use bus_semantics::{Deed, Entry};
+use bus_semantics::{Actor, BusPlan, Entry, Wish};
 use port_objects::{Object, make_objects, sound_plans_have_objects};
-use rte_text::Memory;
+use rte_text::{LineBuf, Memory};
 use rte_value::ActKey;
 use std::alloc::Global;
-use task_machine::TaskSet;
-use trace_objects::{Unrest, make, may_rest};
+use task_machine::{Next, TaskSet};
+use trace_objects::{Unrest, go_on, make, may_rest};
+use trace_reading::{behind_line_of, sound_plans_are_readable};
 use trace_walks::{Runners, Walks};
 
 /// What is kept of a bus along a trace: its objects, what may come on them of its own, its activations, and which of them run.
@@ -24,6 +34,8 @@ pub(crate) struct BusState {
     unrest: Unrest,
     walks: Walks,
     runners: Runners,
+    /// For the text of a line.
+    out: LineBuf,
 }
 
 impl BusState {
@@ -42,6 +54,7 @@ impl BusState {
             unrest,
             walks,
             runners,
+            out: LineBuf::new(),
         })
     }
 
@@ -96,15 +109,65 @@ impl BusState {
         }
     }
 
-    /// A guess at what the key does next, after the last deed of the trace, or if it starts by this event.
-    pub(crate) fn expected(
-        &self,
-        t: &TaskSet,
-        key: ActKey,
-        last: &Deed,
-        event: Option<u32>,
-    ) -> Option<Deed> {
-        self.walks.expected(t, key, last, event)
+    /// The call that the running activation of the key makes next, which is what its program asks for. None while none runs, and while it
+    /// waits for the direct activation that it called.
+    pub(crate) fn wanted(&self, t: &TaskSet, key: ActKey) -> Next
+        ensures { (p : Plan) (h : History) (w : Wanted) → AsksAsPlanned p t.now → key_fits p key ≡ true → StateStands t.now p h self.now →
+            wanted_in result ≡ Some w → IsWanted p h key w }
+    {
+        self.walks.wanted(t, key)
+    }
+
+    /// Whether an activation of the key may start by this event.
+    pub(crate) fn may_begin(&self, p: &BusPlan, key: ActKey, event: u32) -> bool
+        ensures { (t : TaskSet) (h : History) → key_fits (plan_of p.now) key ≡ true → StateStands t (plan_of p.now) h self.now →
+            result ≡ true → MayBegin (plan_of p.now) h key event }
+    {
+        self.walks.may_begin(p, key, event)
+    }
+
+    /// Makes what the actor asks for, if the text begins with the line of its entry, and answers what stands behind that line. If it does
+    /// not, the state is of no use then. An error says that there was no memory.
+    pub(crate) fn go_on<'t>(
+        &mut self,
+        alloc: Global,
+        rules: &Rules<'_, '_>,
+        actor: Actor,
+        wish: &Wish,
+        text: &'t [u8],
+    ) -> Result<Option<&'t [u8]>, Memory>
+        requires sound { AreSound rules.now }
+        requires asked { IsAskedAlong rules.now self.old actor (wanted_of wish.now) }
+        ensures { IfOk result (λ behind. IfSome behind (λ more. (h : History) → IsLegal (plan_in rules.now) h → StateStands rules.now.tasks.now (plan_in rules.now) h self.old →
+            Asks (plan_in rules.now) h actor (wanted_of wish.now) → GoesOnBy rules.now h actor (wanted_of wish.now) text.now more.now self.new)) }
+    {
+        match go_on(rules.plan, &mut self.objects, &mut self.unrest, actor, wish) {
+            Some(entry) => self.note_line(alloc, rules, &entry, text),
+            None => Ok(None),
+        }
+    }
+
+    /// Notes an entry that its object has made, if the text begins with its line, and answers what stands behind that.
+    fn note_line<'t>(
+        &mut self,
+        alloc: Global,
+        rules: &Rules<'_, '_>,
+        entry: &Entry,
+        text: &'t [u8],
+    ) -> Result<Option<&'t [u8]>, Memory>
+        requires sound { AreSound rules.now }
+        requires made { (h : History) × IsMadeOf rules.now h entry.now self.old }
+        ensures { IfOk result (λ behind. IfSome behind (λ more. NotesLine rules.now entry.now text.now more.now self.old self.new)) }
+    {
+        sound_plans_are_readable();
+        match behind_line_of(rules.plan, rules.version, entry, text, &mut self.out) {
+            Some(more) => {
+                self.walks.note(alloc, rules.tasks, rules.plan, entry)?;
+                self.runners.note(entry);
+                Ok(Some(more))
+            }
+            None => Ok(None),
+        }
     }
 
     /// Whether the word `idle` holds after the history for which the state stands: no activation runs, and the bus is at rest. If not, the

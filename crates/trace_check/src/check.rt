@@ -1,22 +1,27 @@
 //! The check of a trace, item by item.
 
-ghost use Rattle.std.specs.Prelude.{◌≡◌, ◌==◌, ◌&&◌, [], ℕ, if◌then◌else◌, suc, min, true, IfOk, IsTrue, ◌↔◌};
+ghost use Rattle.std.specs.Prelude.{◌≡◌, ◌==◌, ◌&&◌, [], ℕ, if◌then◌else◌, suc, min, true, IfOk, IsTrue, ◌↔◌, false};
+ghost use Rattle.bus_semantics.specs.declared.entries.Actor.TheVariants.{Machine};
 ghost use Rattle.bus_semantics.specs.History.{is_environment};
 ghost use Rattle.bus_semantics.specs.Reading.{item_fits};
 ghost use Rattle.bus_semantics.specs.Run.{IsSessionOf, Session, idle, made, run_begins, run_closes, unsettled};
 ghost use Rattle.trace_check.specs.Along.{AreSound, plan_in};
+ghost use Rattle.bus_semantics.specs.Wanted.{wanted_of};
+ghost use Rattle.bus_semantics.specs.Run.{history_of};
+ghost use Rattle.trace_objects.specs.Going.{Asks};
+ghost use Rattle.trace_check.specs.Taking.{CanGoOn, Goes};
 ghost use Rattle.trace_check.specs.Checking.{CanJudge, Judges, JudgesRead, ReadFits, Stands, most_made};
 
 use crate::bus_state::BusState;
 use crate::orders::Orders;
 use crate::rules::Rules;
 use crate::script::{takes_entry, takes_run};
-use bus_semantics::{Actor, Deed, Entry};
+use bus_semantics::{Actor, Entry, Wish};
 use rte_text::Memory;
 use rte_value::ActKey;
 use std::alloc::Global;
-use task_machine::TaskSet;
-use trace_reading::LineRead;
+use task_machine::Next;
+use trace_reading::{LineRead, key_fits, wish_fits};
 
 /// How many entries of a run line are counted at most.
 const MOST_MADE: u32 = 100_000;
@@ -30,6 +35,17 @@ pub(crate) enum Judged {
     Bad,
     /// It may not come next, and this is the number of the least clause that it breaks.
     Refused(u8),
+}
+
+/// What comes of going on by what an actor asks for.
+#[derive(Clone, Copy)]
+pub(crate) enum Gone<'t> {
+    /// To what stands behind the line that came next.
+    To(&'t [u8]),
+    /// The actor asks for nothing that is known. All is as it was.
+    Nowhere,
+    /// The line is another one. The check is of no use then.
+    Astray,
 }
 
 /// What is kept along a trace.
@@ -163,15 +179,156 @@ impl<'p> Check<'p> {
         }
     }
 
-    /// A guess at what the key does next, after the last deed of the trace, or if it starts by this event. Any line may come, whatever the guess.
-    pub(crate) fn expected(
-        &self,
-        t: &TaskSet,
+    /// Makes what the actor asks for next, if the text begins with the line of its entry: outside a run line the script's next call, inside
+    /// the next phase of a machine, what the running activation of a key wants, or its start by this event. Then the check stands for
+    /// the session and that entry. An error says that there was no memory.
+    pub(crate) fn go_on<'t>(
+        &mut self,
+        alloc: Global,
+        rules: &Rules<'_, 'p>,
+        actor: Actor,
+        start: Option<u32>,
+        text: &'t [u8],
+    ) -> Result<Gone<'t>, Memory>
+        requires sound { AreSound rules.now }
+        requires can { CanJudge rules.now self.old }
+        ensures { IfOk result (λ gone. (s : Session) → Stands rules.now s self.old → Goes rules.now s text.now self.new gone) }
+    {
+        match actor {
+            Actor::Env => self.call(alloc, rules, text),
+            Actor::Machine(_) => self.move_on(alloc, rules, actor, text),
+            Actor::Act(key) => match start {
+                Some(event) => self.begin(alloc, rules, key, event, text),
+                None => self.want(alloc, rules, key, text),
+            },
+        }
+    }
+
+    /// Makes the script's next call, if no run line is open, and the text begins with the line of its entry.
+    fn call<'t>(
+        &mut self,
+        alloc: Global,
+        rules: &Rules<'_, 'p>,
+        text: &'t [u8],
+    ) -> Result<Gone<'t>, Memory>
+        requires sound { AreSound rules.now }
+        requires can { CanJudge rules.now self.old }
+        ensures { IfOk result (λ gone. (s : Session) → Stands rules.now s self.old → Goes rules.now s text.now self.new gone) }
+    {
+        if self.inside {
+            return Ok(Gone::Nowhere);
+        }
+        let Some(wish) = self.orders.take_next() else {
+            return Ok(Gone::Nowhere);
+        };
+        if !wish_fits(rules.plan, Actor::Env, &wish) {
+            return Ok(Gone::Astray);
+        }
+        match self.state.go_on(alloc, rules, Actor::Env, &wish, text)? {
+            Some(more) => Ok(Gone::To(more)),
+            None => Ok(Gone::Astray),
+        }
+    }
+
+    /// Makes the next phase of a machine, if a run line is open, and the text begins with the line of its entry.
+    fn move_on<'t>(
+        &mut self,
+        alloc: Global,
+        rules: &Rules<'_, 'p>,
+        actor: Actor,
+        text: &'t [u8],
+    ) -> Result<Gone<'t>, Memory>
+        requires sound { AreSound rules.now }
+        requires can { CanJudge rules.now self.old }
+        requires machine { (n : ℕ) × (actor ≡ Machine n) }
+        ensures { IfOk result (λ gone. (s : Session) → Stands rules.now s self.old → Goes rules.now s text.now self.new gone) }
+    {
+        if !self.inside {
+            return Ok(Gone::Nowhere);
+        }
+        if !wish_fits(rules.plan, actor, &Wish::Phase) {
+            return Ok(Gone::Nowhere);
+        }
+        self.make_inside(alloc, rules, actor, &Wish::Phase, text)
+    }
+
+    /// Makes the start of the key's activation by this event, if a run line is open, and the text begins with the line of its entry.
+    fn begin<'t>(
+        &mut self,
+        alloc: Global,
+        rules: &Rules<'_, 'p>,
         key: ActKey,
-        last: &Deed,
-        event: Option<u32>,
-    ) -> Option<Deed> {
-        self.state.expected(t, key, last, event)
+        event: u32,
+        text: &'t [u8],
+    ) -> Result<Gone<'t>, Memory>
+        requires sound { AreSound rules.now }
+        requires can { CanJudge rules.now self.old }
+        ensures { IfOk result (λ gone. (s : Session) → Stands rules.now s self.old → Goes rules.now s text.now self.new gone) }
+    {
+        if !self.inside {
+            return Ok(Gone::Nowhere);
+        }
+        if !key_fits(rules.plan, key) {
+            return Ok(Gone::Nowhere);
+        }
+        if !self.state.may_begin(rules.plan, key, event) {
+            return Ok(Gone::Nowhere);
+        }
+        let actor = Actor::Act(key);
+        let wish = Wish::Start { event };
+        if !wish_fits(rules.plan, actor, &wish) {
+            return Ok(Gone::Nowhere);
+        }
+        self.make_inside(alloc, rules, actor, &wish, text)
+    }
+
+    /// Makes what the running activation of the key wants next, if a run line is open, and the text begins with the line of its entry.
+    fn want<'t>(
+        &mut self,
+        alloc: Global,
+        rules: &Rules<'_, 'p>,
+        key: ActKey,
+        text: &'t [u8],
+    ) -> Result<Gone<'t>, Memory>
+        requires sound { AreSound rules.now }
+        requires can { CanJudge rules.now self.old }
+        ensures { IfOk result (λ gone. (s : Session) → Stands rules.now s self.old → Goes rules.now s text.now self.new gone) }
+    {
+        if !self.inside {
+            return Ok(Gone::Nowhere);
+        }
+        if !key_fits(rules.plan, key) {
+            return Ok(Gone::Nowhere);
+        }
+        match &self.state.wanted(rules.tasks, key) {
+            Next::Call(wish) => self.make_inside(alloc, rules, Actor::Act(key), wish, text),
+            Next::Over => Ok(Gone::Nowhere),
+        }
+    }
+
+    /// Makes what a machine or an activation asks for, inside a run line, if the text begins with the line of its entry.
+    fn make_inside<'t>(
+        &mut self,
+        alloc: Global,
+        rules: &Rules<'_, 'p>,
+        actor: Actor,
+        wish: &Wish,
+        text: &'t [u8],
+    ) -> Result<Gone<'t>, Memory>
+        requires sound { AreSound rules.now }
+        requires inside { self.old.inside ≡ true }
+        requires other { is_environment actor ≡ false }
+        requires asked { CanGoOn rules.now self.old actor (wanted_of wish.now) }
+        ensures { IfOk result (λ gone. (s : Session) → Stands rules.now s self.old → Asks (plan_in rules.now) (history_of s) actor (wanted_of wish.now) →
+            Goes rules.now s text.now self.new gone) }
+    {
+        match self.state.go_on(alloc, rules, actor, wish, text)? {
+            Some(more) => {
+                self.made = counted(self.made, &actor);
+                Ok(Gone::To(more))
+            }
+            None => Ok(Gone::Astray),
+        }
     }
 
     /// Whether the session for which the check stands is a whole one of the script: no run line is open, and nothing is left of the script.

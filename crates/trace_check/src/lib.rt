@@ -9,18 +9,20 @@
 //! **Up to what are the entries of a run line counted?** Up to 100,000, since `unsettled` asks for no more. So no count is too
 //! great, however long the trace is.
 //!
-//! **Why does the reader of traces take a hint?** To find what a line names takes longer than to write a line. So `check_trace`
-//! guesses the entry from the program of the activation whose line it is, and the reader reads the line whole only if it is not
-//! that entry's. The guess comes with no contract, since the reader trusts none: it answers the same to any hint.
+//! **How are lines read?** To find what a line names takes longer than to write a line. So first each line is compared with the text of what
+//! its actor asks for next, made on its object: what the program of its activation wants, the next call of the script, the next phase
+//! of a machine, or a start by the event that is guessed. If all lines are so, the trace is legal. If one is not, the whole trace is checked
+//! anew, and each line is read before anything is made. So a trace with a fault takes twice the time at most.
 #![tactic(auto)]
 
 mod bus_state;
 mod check;
-mod expecting;
 mod lines;
 mod orders;
+mod quick;
 mod rules;
 mod script;
+mod seen;
 mod trace;
 
 pub use check_definitions::Checked;

@@ -117,6 +117,23 @@ impl<'s> Orders<'s> {
         }
     }
 
+    /// Takes the call of the environment that is next, and answers its wish. None if a run line is next, or nothing is left; then nothing
+    /// changes.
+    pub fn take_next(&mut self) -> Option<Wish>
+        ensures { MatchOption result (self.new ≡ self.old) (λ wish. self.old ≡ a_call (wanted_of wish) ∷ self.new) }
+    {
+        let (ticks, lines) = begun(self.ticks, self.lines);
+        if ticks > 0 {
+            self.ticks = ticks - 1;
+            self.lines = lines;
+            return Some(Wish::Tick);
+        }
+        let (wish, rest) = first_call(lines)?;
+        self.ticks = 0;
+        self.lines = rest;
+        Some(*wish)
+    }
+
     /// Takes one of these ticks.
     fn take_tick(&mut self, ticks: u32, lines: &'s [Line], wish: &Wish) -> bool
         requires left { left_of ticks lines.now ≡ self.old }

@@ -10,8 +10,8 @@ ghost use Rattle.trace_check.specs.Along.{AreSound};
 ghost use Rattle.trace_check.specs.Lines.{Reaches, VerdictOf};
 
 use crate::check::{Check, Judged};
-use crate::expecting::Guesses;
 use crate::lines::{first_line, version_of};
+use crate::quick::is_legal_at_once;
 use crate::rules::Rules;
 use bus_semantics::{BusPlan, Mapping, Script, Version};
 use check_definitions::{Checked, traces_have_one_verdict};
@@ -47,17 +47,14 @@ fn check_lines<'p>(
     let mut check = Check::new(alloc, rules)?;
     let mut left = text;
     let mut line: u64 = 2;
-    let mut guesses = Guesses::new(alloc, rules.plan)?;
     let mut out = LineBuf::new();
     'lines: while !left.is_empty() {
         let (first, more) = first_line(left);
-        let expected = guesses.expected(rules.tasks, &check, first);
-        let read = reader.read_expecting(version, first, expected.as_ref(), &mut out);
+        let read = reader.read_expecting(version, first, None, &mut out);
         match check.judge(alloc, rules, &read)? {
             Judged::Accepted => {
                 left = more;
                 line += 1;
-                guesses.note(first, &read);
             }
             Judged::Bad => return Ok(Checked::BadLine(line)),
             Judged::Refused(clause) => return Ok(Checked::Illegal { line, clause }),
@@ -67,6 +64,33 @@ fn check_lines<'p>(
 }
 
 /// Checks a trace behind its header.
+fn check_by<'p>(
+    alloc: Global,
+    rules: &Rules<'_, 'p>,
+    reader: &Reader<'p>,
+    text: &[u8],
+) -> Result<Checked, Memory>
+    requires sound { AreSound rules.now }
+    requires of_plan { reader.now.plan.now ≡ rules.now.plan.now }
+    ensures { IfOk result (λ checked. (trace : Letters) → trace ≡ header rules.now.version ++ text.now → VerdictOf rules.now trace checked) }
+{
+    if is_legal_at_once(alloc, rules, reader, text)? {
+        return Ok(Checked::Legal);
+    }
+    check_lines(alloc, rules, reader, rules.version, text)
+}
+
+/// Checks a trace behind its header, by a reader that is made for it.
+fn check_against(alloc: Global, rules: &Rules<'_, '_>, text: &[u8]) -> Result<Checked, Memory>
+    requires sound { AreSound rules.now }
+    ensures { IfOk result (λ checked. (trace : Letters) → trace ≡ header rules.now.version ++ text.now → VerdictOf rules.now trace checked) }
+{
+    sound_plans_are_readable();
+    let reader = Reader::new(alloc, rules.plan)?;
+    check_by(alloc, rules, &reader, text)
+}
+
+/// Checks a trace behind its header, by the bodies that are made for it.
 fn check_begun(
     alloc: Global,
     p: &BusPlan,
@@ -79,16 +103,18 @@ fn check_begun(
     ensures { IfOk result (λ checked. (trace : Letters) → trace ≡ header version ++ text.now →
         IsVerdict (plan_of p.now) m.now script.now.lines trace checked) }
 {
-    sound_plans_are_readable();
-    let reader = Reader::new(alloc, p)?;
     let tasks = generate(alloc, p, m)?;
-    let rules = Rules {
-        plan: p,
-        mapping: m,
-        script,
-        tasks: &tasks,
-    };
-    check_lines(alloc, &rules, &reader, version, text)
+    check_against(
+        alloc,
+        &Rules {
+            plan: p,
+            mapping: m,
+            script,
+            version,
+            tasks: &tasks,
+        },
+        text,
+    )
 }
 
 /// Checks the bytes of a trace.

@@ -1,39 +1,13 @@
--- Numbers in decimal: their letters, and that the first eight tell the codes apart.
+-- Numbers in decimal: how many letters they have, and that the first eight tell the codes apart.
 use Rattle.std.proofs.Common.{◌≡◌, ◌<◌, ◌≤◌, ◌+◌, ◌/◌, ◌%◌, ℕ, zero, suc, Bool, true, false, cond, ◌==◌, [], ◌∷◌, ◌++◌, length, nat_lt, bytes_eq, decimal, codes, inl, inr, refl, sym, ap, ◌∙◌, append_assoc, append-nil, length-append, subst, arith}
 use Rattle.std.specs.Fmt.{digit_glyph, digits, digits_onto}
-use Rattle.std.proofs.lemmas.Bool.{and_from, eqb-true, eq-eqb, false_from_ne_true, lt-ltb, ltb-false, cases_lt}
+use Rattle.std.proofs.lemmas.Bool.{eqb-true, eq-eqb, false_from_ne_true, lt-ltb, ltb-false, cases_lt}
 use Rattle.std.proofs.lemmas.Fmt.{length-decimal-le}
 use Rattle.std.proofs.lemmas.Slice.Eq.{bytes_eq-Decides}
 use Rattle.bus_semantics.specs.Spelling.{Letters}
 use Rattle.line_fields.specs.Numbers.{number_in}
 use Rattle.line_fields.proofs.Spelt.{decimal_back}
 use Rattle.trace_counts.specs.Lines.{kept}
-use Rattle.trace_reading.proofs.Cutting.{are_visible, is_visible}
-
--- ---- letters
-
-glyph_visible : (d : ℕ) → is_visible (digit_glyph false d) ≡ true
-glyph_visible d = step (nat_lt d 10)
-  where
-    step : (b : Bool) → is_visible (cond b (48 + d) (87 + d)) ≡ true
-    step true = lt-ltb 32 (48 + d) (omega arith)
-    step false = lt-ltb 32 (87 + d) (omega arith)
-
-digits_visible : (k n : ℕ) (acc : Letters) → are_visible acc ≡ true → are_visible (digits_onto k 10 false n acc) ≡ true
-digits_visible zero n acc h = h
-digits_visible (suc k) n acc h = step (n / 10 == 0) more (digits_visible k (n / 10) (digit_glyph false (n % 10) ∷ acc) more)
-  where
-    more : are_visible (digit_glyph false (n % 10) ∷ acc) ≡ true
-    more = and_from (is_visible (digit_glyph false (n % 10))) (are_visible acc) (glyph_visible (n % 10)) h
-
-    step : (b : Bool) → are_visible (digit_glyph false (n % 10) ∷ acc) ≡ true → are_visible (digits_onto k 10 false (n / 10) (digit_glyph false (n % 10) ∷ acc)) ≡ true
-        → are_visible (cond b (digit_glyph false (n % 10) ∷ acc) (digits_onto k 10 false (n / 10) (digit_glyph false (n % 10) ∷ acc))) ≡ true
-    step true last later = last
-    step false last later = later
-
-pub decimal_visible : (n : ℕ) → are_visible (decimal n) ≡ true
-unfolding digits
-decimal_visible n = digits_visible 64 n [] refl
 
 -- ---- how many
 

@@ -18,8 +18,8 @@ use Rattle.trace_counts.specs.Lines.{Begun, closed, mark_of, nothing_begun, with
 use Rattle.trace_counts.specs.Numbers.{counted}
 use Rattle.trace_counts.specs.Tallies.{after, stepped}
 use Rattle.trace_counts.proofs.Codes.{code_0, code_64, code_130, grown}
-use Rattle.trace_counts.proofs.Visible.{actor_visible, deed_visible}
 use Rattle.trace_reading.proofs.Cutting.{are_visible, is_visible, line_of}
+use Rattle.trace_reading.proofs.Visible.{actor_visible, deed_visible}
 use Rattle.trace_reading.proofs.Lines.{entry-line, fields_of, word_of}
 use Rattle.trace_reading.proofs.Naming.{IsNamed}
 

@@ -1,4 +1,3 @@
 pub mod Codes
-pub mod Visible
 pub mod Counting
 pub mod Sessions

@@ -51,7 +51,7 @@ use Rattle.trace_objects.proofs.Parted.{parted}
 
 -- ---- what is answered
 
-with_event : (p : Plan) (h : Past) (a : Actor) (d : Deed) (by : ℕ) (event : Option ℕ) → is_free (wanted_by by d) ≡ true
+pub with_event : (p : Plan) (h : Past) (a : Actor) (d : Deed) (by : ℕ) (event : Option ℕ) → is_free (wanted_by by d) ≡ true
     → Answers p h (record { entry = record { actor = a; deed = d }; event = None }) → Answers p h (record { entry = record { actor = a; deed = d }; event = event })
 with_event p h a d by None free r = r
 with_event p h a (deed.Admit admitted) by (Some n) free r = absurd (false≢true free)

@@ -13,3 +13,4 @@ mod Pausing
 mod Sets
 mod Noting
 mod Quiet
+mod NextEntries

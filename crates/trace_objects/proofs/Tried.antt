@@ -37,7 +37,7 @@ free_event (deed.Admit admitted) by free = absurd (false≢true (sym free))
 free_event deed.End by free = absurd (false≢true (sym free))
 free_event d by free = refl
 
-bound_event : (d : Deed) (by : ℕ) → needs_event d ≡ true → event_of (wanted_by by d) ≡ Some by
+pub bound_event : (d : Deed) (by : ℕ) → needs_event d ≡ true → event_of (wanted_by by d) ≡ Some by
 bound_event (deed.Admit admitted) by bound = refl
 bound_event deed.End by bound = refl
 bound_event d by bound = absurd (false≢true bound)

@@ -10,11 +10,13 @@
 
 mod came;
 mod clauses;
+mod going;
 mod making;
 mod resting;
 mod unrest;
 
 pub use clauses::one_clause_speaks;
+pub use going::go_on;
 pub use making::make;
 pub use resting::may_rest;
 pub use unrest::Unrest;

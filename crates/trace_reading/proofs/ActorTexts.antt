@@ -27,16 +27,13 @@ use Rattle.trace_reading.specs.Cuts.{before, behind}
 use Rattle.trace_reading.specs.Fields.{numbered}
 use Rattle.trace_reading.specs.Finding.{instance_at, machine_at, point_at, runnable_at}
 use Rattle.trace_reading.proofs.Callers.{caller_exists}
-use Rattle.trace_reading.proofs.Cutting.{are_visible, cut-join, cut-whole}
-use Rattle.trace_reading.proofs.Letters.{name_lacks, name_visible, pair_lacks, pair_visible, path_lacks, path_visible}
+use Rattle.trace_reading.proofs.Cutting.{cut-join, cut-whole}
+use Rattle.trace_reading.proofs.Letters.{name_lacks, pair_lacks, path_lacks}
 use Rattle.trace_reading.proofs.Naming.{IsNamed}
 use Rattle.trace_reading.proofs.Things.{IsRead, same_home, within}
 use Rattle.trace_reading.proofs.Values.{numbered_back}
 
 -- ---- texts of two parts
-
-joined_visible : (s : ℕ) → nat_lt 32 s ≡ true → (a b : Letters) → are_visible a ≡ true → are_visible b ≡ true → are_visible (a ++ s ∷ b) ≡ true
-joined_visible s h a b k l = all-append (λ c. nat_lt 32 c) a (s ∷ b) k (and_from (nat_lt 32 s) (are_visible b) h l)
 
 joined_lacks : (c s : ℕ) → not (s == c) ≡ true → (a b : Letters) → lacks c a ≡ true → lacks c b ≡ true → lacks c (a ++ s ∷ b) ≡ true
 joined_lacks c s h a b k l = all-append (λ d. not (d == c)) a (s ∷ b) k (and_from (not (s == c)) (lacks c b) h l)
@@ -85,7 +82,6 @@ module _ (p : Plan) (r : IsNamed p) where
 
   record IsCaller (t : Letters) (x : ℕ) : Type 0 where
     found : runnable_in p t ≡ Some x
-    visible : are_visible t ≡ true
     no_dot : lacks 46 t ≡ true
     no_at : lacks 64 t ≡ true
     name : Letters
@@ -106,7 +102,6 @@ module _ (p : Plan) (r : IsNamed p) where
                 ∙ ap (λ u. option_and_then (λ k. runnable_at p (Some k) v.name) (instance_at p u)) cut.0
                 ∙ ap (λ o. option_and_then (λ k. runnable_at p (Some k) v.name) o) i.found
                 ∙ r.find_runnables x v there;
-            visible = joined_visible 58 refl path v.name (path_visible path i.path) (name_visible v.name name);
             no_dot = joined_lacks 46 58 refl path v.name (path_lacks 46 refl refl path i.path) (name_lacks 46 refl v.name name);
             no_at = joined_lacks 64 58 refl path v.name (path_lacks 64 refl refl path i.path) (name_lacks 64 refl v.name name);
             name = v.name;
@@ -121,17 +116,15 @@ module _ (p : Plan) (r : IsNamed p) where
 
   record IsCallerText (c : Option ℕ) : Type 0 where
     found : caller_in p (caller_text p c) ≡ Some c
-    visible : are_visible (caller_text p c) ≡ true
     no_dot : lacks 46 (caller_text p c) ≡ true
 
   caller_read : (c : Option ℕ) → ((x : ℕ) → c ≡ Some x → x < length p.runnables) → IsCallerText c
-  caller_read None h = record { found = refl; visible = refl; no_dot = refl }
+  caller_read None h = record { found = refl; no_dot = refl }
   caller_read (Some x) h =
       let k = runnable_read x (lt-ltb x (length p.runnables) (h x refl)) in
       record {
         found = ap (λ b. cond b (Some None) (option_map (λ n. Some n) (runnable_in p (runnable_text p x)))) (differs 58 (runnable_text p x) (codes "env") k.name k.colon refl)
             ∙ ap (option_map (λ n. Some n)) k.found;
-        visible = k.visible;
         no_dot = k.no_dot;
       }
 
@@ -147,7 +140,6 @@ module _ (p : Plan) (r : IsNamed p) where
           let caller = caller_text p t.runnable in
           let text : point_text p q ≡ caller ++ 46 ∷ t.name = ap (λ o. option_map_or (λ (u : PointPlan). caller_text p u.runnable ++ codes "." ++ u.name) o []) there ∙ append_assoc caller (codes ".") t.name in
           let c = caller_read t.runnable (λ x is. caller_exists p r q t there x is) in
-          let name : is_pair_name t.name ≡ true = all_at (λ (u : PointPlan). is_pair_name u.name) p.points q t r.points there in
           let cut = cut-join 46 caller t.name c.no_dot in
           subst (λ u. IsRead (point_in p u) u q) (sym text) (record {
             found = ap (by_cut (before 46 (caller ++ 46 ∷ t.name))) cut.1
@@ -155,25 +147,22 @@ module _ (p : Plan) (r : IsNamed p) where
                 ∙ ap (λ o. option_and_then (λ k. point_at p k t.name) o) c.found
                 ∙ ap numbered (r.find_points q t there)
                 ∙ numbered_back q index;
-            visible = joined_visible 46 refl caller t.name c.visible (pair_visible t.name name);
           })
 
   -- ---- INSTANCE.PORT.ELEMENT
 
   record IsHome (i : Option ℕ) : Type 0 where
     found : home_in p (instance_text p i) ≡ Some i
-    visible : are_visible (instance_text p i) ≡ true
     no_dot : lacks 46 (instance_text p i) ≡ true
     no_colon : lacks 58 (instance_text p i) ≡ true
 
   home_read : (i : Option ℕ) → instance_exists p i ≡ true → IsHome i
-  home_read None h = record { found = refl; visible = refl; no_dot = refl; no_colon = refl }
+  home_read None h = record { found = refl; no_dot = refl; no_colon = refl }
   home_read (Some i) h =
       let k = path_read i h in
       let t = instance_text p (Some i) in
       record {
         found = ap (λ b. cond b (Some None) (option_map (λ n. Some n) (instance_at p t))) k.other ∙ ap (option_map (λ n. Some n)) k.found;
-        visible = path_visible t k.path;
         no_dot = path_lacks 46 refl refl t k.path;
         no_colon = path_lacks 58 refl refl t k.path;
       }
@@ -205,7 +194,6 @@ module _ (p : Plan) (r : IsNamed p) where
                   ∙ ap (λ o. option_and_then (λ k. machine_at p k n.name) o) c.found
                   ∙ ap numbered (r.find_machines m n there)
                   ∙ numbered_back m index;
-              visible = joined_visible 46 refl home n.name c.visible (pair_visible n.name name);
             };
             no_colon = joined_lacks 58 46 refl home n.name c.no_colon (pair_lacks 58 refl refl n.name name);
             dot = n.name;
@@ -216,7 +204,6 @@ module _ (p : Plan) (r : IsNamed p) where
 
   record IsKeyText (t : Letters) (k : ActKey) : Type 0 where
     found : key_in p t ≡ Some k
-    visible : are_visible t ≡ true
     name : Letters
     colon : behind 58 t ≡ Some name
 
@@ -231,7 +218,6 @@ module _ (p : Plan) (r : IsNamed p) where
             ∙ ap (λ u. option_and_then (λ k. key_with p k None) (numbered (runnable_in p u))) cut.0
             ∙ ap (λ o. option_and_then (λ k. key_with p k None) (numbered o)) c.found
             ∙ ap (λ o. option_and_then (λ k. key_with p k None) o) (numbered_back x index);
-        visible = c.visible;
         name = c.name;
         colon = c.colon;
       })
@@ -247,7 +233,6 @@ module _ (p : Plan) (r : IsNamed p) where
             ∙ ap (λ o. option_and_then (λ k. key_with p k (Some u)) (numbered o)) c.found
             ∙ ap (λ o. option_and_then (λ k. key_with p k (Some u)) o) (numbered_back x index)
             ∙ ap (option_map (λ n. record { runnable = x; point = Some n })) at.found;
-        visible = joined_visible 64 refl t u c.visible at.visible;
         name = c.name ++ 64 ∷ u;
         colon = behind-more 58 t (64 ∷ u) c.name c.colon;
       }
@@ -279,19 +264,15 @@ module _ (p : Plan) (r : IsNamed p) where
 
   pub record IsActorText (a : Actor) : Type 0 where
     pub found : actor_in p (actor_text p a) ≡ Some a
-    pub visible : are_visible (actor_text p a) ≡ true
 
   pub actor_read : (a : Actor) → IsThere a → is_sized_actor a ≡ true → IsActorText a
-  actor_read Env there sized = record { found = refl; visible = refl }
+  actor_read Env there sized = record { found = refl }
   actor_read (Machine m) there sized =
       let t = machine_text p m in
       let k = machine_read_in m sized there in
       let other : bytes_eq t (codes "env") ≡ false = differs 46 t (codes "env") k.dot k.dotted refl in
       let cut = cut-whole 58 t k.no_colon in
-      record {
-        found = ap (λ b. cond b (Some Env) (by_colon t (behind 58 t))) other ∙ ap (by_colon t) cut.1 ∙ ap (option_map (λ n. Machine n)) k.read.found;
-        visible = k.read.visible;
-      }
+      record { found = ap (λ b. cond b (Some Env) (by_colon t (behind 58 t))) other ∙ ap (by_colon t) cut.1 ∙ ap (option_map (λ n. Machine n)) k.read.found }
     where
       by_colon : Letters → Option Letters → Option Actor
       by_colon t None = option_map (λ m. Machine m) (machine_in p t)
@@ -301,10 +282,7 @@ module _ (p : Plan) (r : IsNamed p) where
       let two = and_parts (is_index a.runnable) (is_point a.point) sized in
       let k = key_read a.runnable a.point two.0 two.1 (and_parts (nat_lt a.runnable (length p.runnables)) _ there).0 (key_point a.runnable a.point there) in
       let other : bytes_eq t (codes "env") ≡ false = differs 58 t (codes "env") k.name k.colon refl in
-      record {
-        found = ap (λ b. cond b (Some Env) (by_colon t (behind 58 t))) other ∙ ap (by_colon t) k.colon ∙ ap (option_map (λ n. Act n)) k.found;
-        visible = k.visible;
-      }
+      record { found = ap (λ b. cond b (Some Env) (by_colon t (behind 58 t))) other ∙ ap (by_colon t) k.colon ∙ ap (option_map (λ n. Act n)) k.found }
     where
       by_colon : Letters → Option Letters → Option Actor
       by_colon t None = option_map (λ m. Machine m) (machine_in p t)

@@ -1,8 +1,8 @@
 -- The deed of an item is read back from its fields.
-use Rattle.std.proofs.Common.{◌≡◌, ℕ, ◌<◌, ◌≤◌, Bool, true, false, ◌&&◌, ◌==◌, cond, List, [], ◌∷◌, length, nat_le, nat_lt, bytes_eq, codes, decimal, Option, Some, None, refl, sym, ap, ◌∙◌, arith}
-use Rattle.std.specs.List.{list_all, slice_get}
+use Rattle.std.proofs.Common.{◌≡◌, ℕ, ◌<◌, ◌≤◌, Bool, true, false, ◌&&◌, ◌==◌, cond, List, [], length, nat_le, nat_lt, bytes_eq, codes, decimal, Option, Some, None, refl, sym, ap, ◌∙◌, arith}
+use Rattle.std.specs.List.{slice_get}
 use Rattle.std.specs.Option.{option_and_then, option_map_or}
-use Rattle.std.proofs.lemmas.Bool.{and_parts, and_from, leb-true, ltb-true}
+use Rattle.std.proofs.lemmas.Bool.{and_parts, leb-true, ltb-true}
 use Rattle.rte_value.specs.declared.kinds.ActKey.{ActKey}
 use Rattle.rte_value.specs.declared.kinds.Step.{Step}
 use Rattle.rte_value.specs.declared.kinds.Step.TheVariants as step
@@ -25,7 +25,7 @@ use Rattle.bus_semantics.specs.Lists.{elems_of, list_fits, marks_fit, words_of_a
 use Rattle.bus_semantics.specs.Owners.{area_fits, key_fits, elem_fits, event_fits, mode_port_fits, modes_of, own_point, result_point, switch_fits}
 use Rattle.bus_semantics.specs.Plan.{Plan, instance_of, kind_of, look, machine_of_port}
 use Rattle.bus_semantics.specs.Reading.{are_words, is_byte, is_index, is_sized}
-use Rattle.bus_semantics.specs.Spelling.{Letters, area_name, elem_name, event_name, machine_name, mask_text, mode_port_name, mode_text, point_name, point_text, position_of, value_text}
+use Rattle.bus_semantics.specs.Spelling.{Letters, elem_name, mask_text, mode_text, point_name, point_text, position_of, value_text}
 use Rattle.bus_semantics.specs.Wanted.{Wanted, to_tick, to_start, to_admit, to_fetch, to_write, to_read, to_invalidate, to_see_updated, to_send, to_receive, to_ask, to_hear, to_take_result, to_return, to_enter, to_leave, to_switch, to_see_mode, to_move_on, to_publish, to_fetch_all, to_publish_all, to_end, wanted_by}
 use Rattle.trace_reading.specs.declared.words.CallWord.TheVariants as call
 use Rattle.trace_reading.specs.Deeds.{Line, called_at, caller_itself, home_of, mode_at}
@@ -35,14 +35,14 @@ use Rattle.trace_reading.specs.Finding.{elem_at, point_at}
 use Rattle.trace_reading.specs.Guess.{deed_in}
 use Rattle.line_fields.proofs.Distinct.{all_at}
 use Rattle.trace_reading.proofs.ActorTexts.{IsThere, point_read_in, served_within}
-use Rattle.trace_reading.proofs.Cutting.{are_visible, part}
+use Rattle.trace_reading.proofs.Cutting.{part}
 use Rattle.trace_reading.specs.Lists.{list_at, marks_at}
 use Rattle.trace_reading.proofs.Lines.{fields_of, word_of}
-use Rattle.trace_reading.proofs.ListTexts.{list_read, marks_read, marks_visible}
+use Rattle.trace_reading.proofs.ListTexts.{list_read, marks_read}
 use Rattle.trace_reading.proofs.Modes.{IsModeOf, mode_read, result_read}
 use Rattle.trace_reading.proofs.Naming.{IsNamed}
 use Rattle.trace_reading.proofs.Things.{IsRead, area_read, elem_read, event_read, machine_read, mode_port_read, point_read, within}
-use Rattle.trace_reading.proofs.Values.{code_back, code_visible, no_value-is, value_text_back, value_text_visible}
+use Rattle.trace_reading.proofs.Values.{code_back, no_value-is, value_text_back}
 
 -- ---- what a fitting wish names
 
@@ -172,15 +172,6 @@ value_and_code mk o x s value t code e f g =
     ap (option_and_then (λ y. option_and_then (λ w. option_and_then (λ c. Some (mk y w c)) (code_at t)) (value_at s))) e
     ∙ ap (option_and_then (λ w. option_and_then (λ c. Some (mk x w c)) (code_at t))) f ∙ ap (option_and_then (λ c. Some (mk x value c))) g
 
-seen1 : (a : Letters) → are_visible a ≡ true → list_all are_visible (a ∷ []) ≡ true
-seen1 a h = and_from (are_visible a) true h refl
-
-seen2 : (a b : Letters) → are_visible a ≡ true → are_visible b ≡ true → list_all are_visible (a ∷ b ∷ []) ≡ true
-seen2 a b h k = and_from (are_visible a) (list_all are_visible (b ∷ [])) h (seen1 b k)
-
-seen3 : (a b c : Letters) → are_visible a ≡ true → are_visible b ≡ true → are_visible c ≡ true → list_all are_visible (a ∷ b ∷ c ∷ []) ≡ true
-seen3 a b c h k l = and_from (are_visible a) (list_all are_visible (b ∷ c ∷ [])) h (seen2 b c k l)
-
 -- ---- all deeds
 
 abbrev pub line_with : Letters → Letters → List Letters → Line
@@ -189,7 +180,6 @@ line_with a w ts = record { who = a; word = w; first = part ts 0; second = part 
 module _ (v : Version) (p : Plan) (r : IsNamed p) where
   pub record IsDeedText (a : Actor) (d : Deed) : Type 0 where
     pub found : (who : Letters) → deed_in v p a (line_with who (word_of d) (fields_of v p a d)) ≡ Some d
-    pub visible : list_all are_visible (word_of d ∷ fields_of v p a d) ≡ true
 
   own_elem : (home : Option ℕ) (x : ℕ) → IsOwnElem p home x → is_index x ≡ true → IsRead (elem_at p home (elem_name p x)) (elem_name p x) x
   own_elem home x o index = elem_read p r home o.test x o.fit index
@@ -206,10 +196,7 @@ module _ (v : Version) (p : Plan) (r : IsNamed p) where
       let index = (and_parts (is_index e) _ sized).0 in
       let x = event_read p r (home_of p a) e own index in
       let none : words_of value ≡ [] = no_words kind fit in
-      record {
-        found = λ who. ap (option_and_then (λ y. Some (deed.Start y None no_value))) x.found ∙ ap (λ w. Some (deed.Start e None w)) (sym (no_value-is value none));
-        visible = seen1 (event_name p e) x.visible;
-      }
+      record { found = λ who. ap (option_and_then (λ y. Some (deed.Start y None no_value))) x.found ∙ ap (λ w. Some (deed.Start e None w)) (sym (no_value-is value none)) }
     where
       no_words : (kind : EventKind) → start_fits p kind None (words_of value) ≡ true → words_of value ≡ []
       no_words (Invoked s) h = absurd (cc)
@@ -229,7 +216,6 @@ module _ (v : Version) (p : Plan) (r : IsNamed p) where
             ap (option_and_then (λ k. option_and_then (λ n. option_and_then (λ w. Some (deed.Start k (Some n) w)) (value_at (value_text value))) (point_in p (point_text p q)))) x.found
             ∙ ap (option_and_then (λ n. option_and_then (λ w. Some (deed.Start e (Some n) w)) (value_at (value_text value)))) y.found
             ∙ ap (option_and_then (λ w. Some (deed.Start e (Some q) w))) (value_text_back value more.1);
-        visible = and_from (are_visible (event_name p e)) _ x.visible (seen2 (point_text p q) (value_text value) y.visible (value_text_visible value more.1));
       }
     where
       within_points : (kind : EventKind) → start_fits p kind (Some q) (words_of value) ≡ true → nat_lt q (length p.points) ≡ true
@@ -271,14 +257,11 @@ module _ (v : Version) (p : Plan) (r : IsNamed p) where
   phase_text_read (Act k) s there wish fit sized = let never : activation_may_want p k (instance_of p k.runnable) to_move_on ≡ true = (and_parts (key_fits p k) (activation_may_want p k (instance_of p k.runnable) to_move_on) wish).1 in absurd (cc)
   phase_text_read (Machine m) (step.Close mode) there wish fit sized =
       let x = mode_read p r v (Some m) mode (closed_mode m mode there fit) sized in
-      record {
-        found = λ who. ap (option_and_then (λ s. Some (deed.Phase s))) (ap (option_and_then (λ n. Some (step.Close n))) x.found);
-        visible = seen1 (mode_text v p (Some m) mode) x.visible;
-      }
-  phase_text_read (Machine m) step.Exit there wish fit sized = record { found = λ who. refl; visible = refl }
-  phase_text_read (Machine m) step.Transition there wish fit sized = record { found = λ who. refl; visible = refl }
-  phase_text_read (Machine m) step.Entry there wish fit sized = record { found = λ who. refl; visible = refl }
-  phase_text_read (Machine m) step.Stable there wish fit sized = record { found = λ who. refl; visible = refl }
+      record { found = λ who. ap (option_and_then (λ s. Some (deed.Phase s))) (ap (option_and_then (λ n. Some (step.Close n))) x.found) }
+  phase_text_read (Machine m) step.Exit there wish fit sized = record { found = λ who. refl }
+  phase_text_read (Machine m) step.Transition there wish fit sized = record { found = λ who. refl }
+  phase_text_read (Machine m) step.Entry there wish fit sized = record { found = λ who. refl }
+  phase_text_read (Machine m) step.Stable there wish fit sized = record { found = λ who. refl }
 
   -- what is done at a point that is called, or whose result is taken
   taken_read : (a : Actor) (q : ℕ) → MayTake p a q → is_index q ≡ true → IsRead (called_at p a call.TakeResult (point_name p q)) (point_name p q) q
@@ -300,112 +283,68 @@ module _ (v : Version) (p : Plan) (r : IsNamed p) where
   flag_back true = refl
   flag_back false = refl
 
-  flag_visible : (yes : Bool) → are_visible (cond yes (codes "1") (codes "0")) ≡ true
-  flag_visible true = refl
-  flag_visible false = refl
-
   admitted_back : (yes : Bool) → bytes_eq (cond yes (codes "yes") (codes "no")) (codes "yes") ≡ yes
   admitted_back true = refl
   admitted_back false = refl
 
-  admitted_visible : (yes : Bool) → are_visible (cond yes (codes "yes") (codes "no")) ≡ true
-  admitted_visible true = refl
-  admitted_visible false = refl
-
   pub deed_read : (a : Actor) (d : Deed) → IsThere p r a → cond (needs_event d) (activation_fits p a) (wish_fits p a (wanted_by 0 d)) ≡ true → answer_fits p a d ≡ true → is_sized d ≡ true → IsDeedText a d
-  deed_read a deed.Tick there wish fit sized = record { found = λ who. refl; visible = refl }
+  deed_read a deed.Tick there wish fit sized = record { found = λ who. refl }
   deed_read a (deed.Start e point value) there wish fit sized = start_text a e point value (deed_names p a (deed.Start e point value) wish) (kind_of p e) fit sized
-  deed_read a (deed.Admit admitted) there wish fit sized = record {
-    found = λ who. ap (λ b. Some (deed.Admit b)) (admitted_back admitted);
-    visible = seen1 (cond admitted (codes "yes") (codes "no")) (admitted_visible admitted);
-  }
+  deed_read a (deed.Admit admitted) there wish fit sized = record { found = λ who. ap (λ b. Some (deed.Admit b)) (admitted_back admitted) }
   deed_read a (deed.Fetch x value) there wish fit sized =
       let two = and_parts (is_index x) (are_words value) sized in
       let e = own_elem (home_of p a) x (deed_names p a (deed.Fetch x value) wish) two.0 in
-      record {
-        found = λ who. with_value (λ y w. deed.Fetch y w) (elem_at p (home_of p a) (elem_name p x)) x (value_text value) value e.found (value_text_back value two.1);
-        visible = seen2 (elem_name p x) (value_text value) e.visible (value_text_visible value two.1);
-      }
+      record { found = λ who. with_value (λ y w. deed.Fetch y w) (elem_at p (home_of p a) (elem_name p x)) x (value_text value) value e.found (value_text_back value two.1) }
   deed_read a (deed.Write x value) there wish fit sized =
       let two = and_parts (is_index x) (are_words value) sized in
       let e = own_elem (home_of p a) x (deed_names p a (deed.Write x value) wish) two.0 in
-      record {
-        found = λ who. with_value (λ y w. deed.Write y w) (elem_at p (home_of p a) (elem_name p x)) x (value_text value) value e.found (value_text_back value two.1);
-        visible = seen3 (elem_name p x) (value_text value) (codes "0") e.visible (value_text_visible value two.1) refl;
-      }
+      record { found = λ who. with_value (λ y w. deed.Write y w) (elem_at p (home_of p a) (elem_name p x)) x (value_text value) value e.found (value_text_back value two.1) }
   deed_read a (deed.Read x code value) there wish fit sized =
       let two = and_parts (is_index x) (is_byte code && are_words value) sized in
       let more = and_parts (is_byte code) (are_words value) two.1 in
       let e = own_elem (home_of p a) x (deed_names p a (deed.Read x code value) wish) two.0 in
-      record {
-        found = λ who. code_and_value (λ y c w. deed.Read y c w) (elem_at p (home_of p a) (elem_name p x)) x (decimal code) code (value_text value) value e.found (code_back code more.0) (value_text_back value more.1);
-        visible = seen3 (elem_name p x) (decimal code) (value_text value) e.visible (code_visible code more.0) (value_text_visible value more.1);
-      }
+      record { found = λ who. code_and_value (λ y c w. deed.Read y c w) (elem_at p (home_of p a) (elem_name p x)) x (decimal code) code (value_text value) value e.found (code_back code more.0) (value_text_back value more.1) }
   deed_read a (deed.Invalidate x) there wish fit sized =
       let e = own_elem (home_of p a) x (deed_names p a (deed.Invalidate x) wish) sized in
-      record {
-        found = λ who. ap (option_and_then (λ y. Some (deed.Invalidate y))) e.found;
-        visible = seen2 (elem_name p x) (codes "0") e.visible refl;
-      }
+      record { found = λ who. ap (option_and_then (λ y. Some (deed.Invalidate y))) e.found }
   deed_read a (deed.IsUpdated x updated) there wish fit sized =
       let e = own_elem (home_of p a) x (deed_names p a (deed.IsUpdated x updated) wish) sized in
       let flag = cond updated (codes "1") (codes "0") in
-      record {
-        found = λ who. ap (option_and_then (λ y. Some (deed.IsUpdated y (bytes_eq flag (codes "1"))))) e.found ∙ ap (λ b. Some (deed.IsUpdated x b)) (flag_back updated);
-        visible = seen2 (elem_name p x) flag e.visible (flag_visible updated);
-      }
+      record { found = λ who. ap (option_and_then (λ y. Some (deed.IsUpdated y (bytes_eq flag (codes "1"))))) e.found ∙ ap (λ b. Some (deed.IsUpdated x b)) (flag_back updated) }
   deed_read a (deed.Send x value code) there wish fit sized =
       let two = and_parts (is_index x) (is_byte code && are_words value) sized in
       let more = and_parts (is_byte code) (are_words value) two.1 in
       let e = own_elem (home_of p a) x (deed_names p a (deed.Send x value code) wish) two.0 in
-      record {
-        found = λ who. value_and_code (λ y w c. deed.Send y w c) (elem_at p (home_of p a) (elem_name p x)) x (value_text value) value (decimal code) code e.found (value_text_back value more.1) (code_back code more.0);
-        visible = seen3 (elem_name p x) (value_text value) (decimal code) e.visible (value_text_visible value more.1) (code_visible code more.0);
-      }
+      record { found = λ who. value_and_code (λ y w c. deed.Send y w c) (elem_at p (home_of p a) (elem_name p x)) x (value_text value) value (decimal code) code e.found (value_text_back value more.1) (code_back code more.0) }
   deed_read a (deed.Receive x code value) there wish fit sized =
       let two = and_parts (is_index x) (is_byte code && are_words value) sized in
       let more = and_parts (is_byte code) (are_words value) two.1 in
       let e = own_elem (home_of p a) x (deed_names p a (deed.Receive x code value) wish) two.0 in
-      record {
-        found = λ who. code_and_value (λ y c w. deed.Receive y c w) (elem_at p (home_of p a) (elem_name p x)) x (decimal code) code (value_text value) value e.found (code_back code more.0) (value_text_back value more.1);
-        visible = seen3 (elem_name p x) (decimal code) (value_text value) e.visible (code_visible code more.0) (value_text_visible value more.1);
-      }
+      record { found = λ who. code_and_value (λ y c w. deed.Receive y c w) (elem_at p (home_of p a) (elem_name p x)) x (decimal code) code (value_text value) value e.found (code_back code more.0) (value_text_back value more.1) }
   deed_read a (deed.Ask q value code) there wish fit sized =
       let two = and_parts (is_index q) (is_byte code && are_words value) sized in
       let more = and_parts (is_byte code) (are_words value) two.1 in
       let e = point_read p r (caller_itself a) q (deed_names p a (deed.Ask q value code) wish) two.0 in
-      record {
-        found = λ who. value_and_code (λ y w c. deed.Ask y w c) (called_at p a call.Ask (point_name p q)) q (value_text value) value (decimal code) code (asked_at a (point_name p q) ∙ e.found) (value_text_back value more.1) (code_back code more.0);
-        visible = seen3 (point_name p q) (value_text value) (decimal code) e.visible (value_text_visible value more.1) (code_visible code more.0);
-      }
+      record { found = λ who. value_and_code (λ y w c. deed.Ask y w c) (called_at p a call.Ask (point_name p q)) q (value_text value) value (decimal code) code (asked_at a (point_name p q) ∙ e.found) (value_text_back value more.1) (code_back code more.0) }
   deed_read a (deed.Answer q code value) there wish fit sized =
       let two = and_parts (is_index q) (is_byte code && are_words value) sized in
       let more = and_parts (is_byte code) (are_words value) two.1 in
       let e = point_read p r (caller_itself a) q (deed_names p a (deed.Answer q code value) wish) two.0 in
-      record {
-        found = λ who. code_and_value (λ y c w. deed.Answer y c w) (called_at p a call.Answer (point_name p q)) q (decimal code) code (value_text value) value (answered_at a (point_name p q) ∙ e.found) (code_back code more.0) (value_text_back value more.1);
-        visible = seen3 (point_name p q) (decimal code) (value_text value) e.visible (code_visible code more.0) (value_text_visible value more.1);
-      }
+      record { found = λ who. code_and_value (λ y c w. deed.Answer y c w) (called_at p a call.Answer (point_name p q)) q (decimal code) code (value_text value) value (answered_at a (point_name p q) ∙ e.found) (code_back code more.0) (value_text_back value more.1) }
   deed_read a (deed.TakeResult q code value) there wish fit sized =
       let two = and_parts (is_index q) (is_byte code && are_words value) sized in
       let more = and_parts (is_byte code) (are_words value) two.1 in
       let e = taken_read a q (deed_names p a (deed.TakeResult q code value) wish) two.0 in
-      record {
-        found = λ who. code_and_value (λ y c w. deed.TakeResult y c w) (called_at p a call.TakeResult (point_name p q)) q (decimal code) code (value_text value) value e.found (code_back code more.0) (value_text_back value more.1);
-        visible = seen3 (point_name p q) (decimal code) (value_text value) e.visible (code_visible code more.0) (value_text_visible value more.1);
-      }
+      record { found = λ who. code_and_value (λ y c w. deed.TakeResult y c w) (called_at p a call.TakeResult (point_name p q)) q (decimal code) code (value_text value) value e.found (code_back code more.0) (value_text_back value more.1) }
   deed_read a (deed.Return code value) there wish fit sized =
       let two = and_parts (is_byte code) (are_words value) sized in
-      record {
-        found = λ who. with_value (λ c w. deed.Return c w) (code_at (decimal code)) code (value_text value) value (code_back code two.0) (value_text_back value two.1);
-        visible = seen2 (decimal code) (value_text value) (code_visible code two.0) (value_text_visible value two.1);
-      }
+      record { found = λ who. with_value (λ c w. deed.Return c w) (code_at (decimal code)) code (value_text value) value (code_back code two.0) (value_text_back value two.1) }
   deed_read a (deed.Enter x) there wish fit sized =
       let e = area_read p r (home_of p a) x (deed_names p a (deed.Enter x) wish) sized in
-      record { found = λ who. ap (option_and_then (λ y. Some (deed.Enter y))) e.found; visible = seen1 (area_name p x) e.visible }
+      record { found = λ who. ap (option_and_then (λ y. Some (deed.Enter y))) e.found }
   deed_read a (deed.Leave x) there wish fit sized =
       let e = area_read p r (home_of p a) x (deed_names p a (deed.Leave x) wish) sized in
-      record { found = λ who. ap (option_and_then (λ y. Some (deed.Leave y))) e.found; visible = seen1 (area_name p x) e.visible }
+      record { found = λ who. ap (option_and_then (λ y. Some (deed.Leave y))) e.found }
   deed_read a (deed.Switch m mode code) there wish fit sized =
       let two = and_parts (is_index m) (is_index mode && is_byte code) sized in
       let more = and_parts (is_index mode) (is_byte code) two.1 in
@@ -418,32 +357,22 @@ module _ (v : Version) (p : Plan) (r : IsNamed p) where
             ap (option_and_then (λ y. option_and_then (λ k. option_and_then (λ c. Some (deed.Switch y k c)) (code_at (decimal code))) (mode_at v p (Some y) t))) e.found
             ∙ ap (option_and_then (λ k. option_and_then (λ c. Some (deed.Switch m k c)) (code_at (decimal code)))) n.found
             ∙ ap (option_and_then (λ c. Some (deed.Switch m mode c))) (code_back code more.1);
-        visible = seen3 (machine_name p m) t (decimal code) e.visible n.visible (code_visible code more.1);
       }
   deed_read a (deed.Mode port mode) there wish fit sized =
       let two = and_parts (is_index port) (is_index mode) sized in
       let e = mode_port_read p r (home_of p a) port (deed_names p a (deed.Mode port mode) wish) two.0 in
       let n = mode_read p r v (machine_of_port p port) mode (seen_mode port mode fit) two.1 in
       let t = mode_text v p (machine_of_port p port) mode in
-      record {
-        found = λ who. ap (option_and_then (λ y. option_and_then (λ k. Some (deed.Mode y k)) (mode_at v p (machine_of_port p y) t))) e.found ∙ ap (option_and_then (λ k. Some (deed.Mode port k))) n.found;
-        visible = seen2 (mode_port_name p port) t e.visible n.visible;
-      }
+      record { found = λ who. ap (option_and_then (λ y. option_and_then (λ k. Some (deed.Mode y k)) (mode_at v p (machine_of_port p y) t))) e.found ∙ ap (option_and_then (λ k. Some (deed.Mode port k))) n.found }
   deed_read a (deed.Phase s) there wish fit sized = phase_text_read a s there wish fit sized
   deed_read a (deed.Publish x value) there wish fit sized =
       let two = and_parts (is_index x) (are_words value) sized in
       let e = own_elem (home_of p a) x (deed_names p a (deed.Publish x value) wish) two.0 in
-      record {
-        found = λ who. with_value (λ y w. deed.Publish y w) (elem_at p (home_of p a) (elem_name p x)) x (value_text value) value e.found (value_text_back value two.1);
-        visible = seen2 (elem_name p x) (value_text value) e.visible (value_text_visible value two.1);
-      }
+      record { found = λ who. with_value (λ y w. deed.Publish y w) (elem_at p (home_of p a) (elem_name p x)) x (value_text value) value e.found (value_text_back value two.1) }
   deed_read a (deed.FetchAll l value) there wish fit sized =
       let two = and_parts (is_index l) (are_words value) sized in
       let x = own_list a l (deed_names p a (deed.FetchAll l value) wish) two.0 in
-      record {
-        found = λ who. with_value (λ n w. deed.FetchAll n w) (list_at p a (decimal (position_of p l))) l (value_text value) value x.found (value_text_back value two.1);
-        visible = seen2 (decimal (position_of p l)) (value_text value) x.visible (value_text_visible value two.1);
-      }
+      record { found = λ who. with_value (λ n w. deed.FetchAll n w) (list_at p a (decimal (position_of p l))) l (value_text value) value x.found (value_text_back value two.1) }
   deed_read a (deed.PublishAll l written value) there wish fit sized =
       let two = and_parts (is_index l) (nat_lt written 65536 && are_words value) sized in
       let more = and_parts (nat_lt written 65536) (are_words value) two.1 in
@@ -455,6 +384,5 @@ module _ (v : Version) (p : Plan) (r : IsNamed p) where
             ap (option_and_then (λ n. option_and_then (λ w. option_and_then (λ u. Some (deed.PublishAll n w u)) (value_at (value_text value))) (marks_at mask))) x.found
             ∙ ap (option_and_then (λ w. option_and_then (λ u. Some (deed.PublishAll l w u)) (value_at (value_text value)))) (marks_read p r.lists l written names.1)
             ∙ ap (option_and_then (λ u. Some (deed.PublishAll l written u))) (value_text_back value more.1);
-        visible = seen3 (decimal (position_of p l)) mask (value_text value) x.visible (marks_visible written (elems_of p l)) (value_text_visible value more.1);
       }
-  deed_read a deed.End there wish fit sized = record { found = λ who. refl; visible = refl }
+  deed_read a deed.End there wish fit sized = record { found = λ who. refl }

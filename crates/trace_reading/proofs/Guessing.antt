@@ -22,6 +22,7 @@ use Rattle.trace_reading.proofs.Cutting.{are_visible, field-line, line_of}
 use Rattle.trace_reading.proofs.DeedTexts.{deed_read, deed_there, line_with}
 use Rattle.trace_reading.proofs.Lines.{entry-line, fields_of, text_of, word_of}
 use Rattle.trace_reading.proofs.Naming.{IsNamed}
+use Rattle.trace_reading.proofs.Visible.{actor_visible, deed_visible}
 
 -- the fields of a line are those that it was written in
 line_back : (a w : Letters) (ts : List Letters) → are_visible a ≡ true → list_all are_visible (w ∷ ts) ≡ true → line_at (line_of a (w ∷ ts)) ≡ line_with a w ts
@@ -34,12 +35,7 @@ line_back a w ts h k = λ i. record {
   fourth = field-line 5 a (w ∷ ts) h k i;
 }
 
-pub record IsGuessed (v : Version) (p : Plan) (e : Entry) : Type 0 where
-  pub found : guess_of v p (text_of v p e) ≡ Some e
-  pub visible_actor : are_visible (actor_text p e.actor) ≡ true
-  pub visible_deed : list_all are_visible (word_of e.deed ∷ fields_of v p e.actor e.deed) ≡ true
-
-pub entry_read : (v : Version) (p : Plan) → IsNamed p → (e : Entry) → item_fits p (made e) ≡ true → IsGuessed v p e
+pub entry_read : (v : Version) (p : Plan) → IsNamed p → (e : Entry) → item_fits p (made e) ≡ true → guess_of v p (text_of v p e) ≡ Some e
 entry_read v p r e fit =
     let two = and_parts (fits p e) (is_sized_actor e.actor && is_sized e.deed) fit in
     let sized = and_parts (is_sized_actor e.actor) (is_sized e.deed) two.1 in
@@ -49,13 +45,9 @@ entry_read v p r e fit =
     let d = deed_read v p r e.actor e.deed there made.0 made.1 sized.1 in
     let t = actor_text p e.actor in
     let l = line_with t (word_of e.deed) (fields_of v p e.actor e.deed) in
-    record {
-      found = ap (guess v p) (line_back t (word_of e.deed) (fields_of v p e.actor e.deed) a.visible d.visible)
-          ∙ ap (option_and_then (λ (who : Actor). option_and_then (λ (done : Deed). Some (record { actor = who; deed = done })) (deed_in v p who l))) a.found
-          ∙ ap (option_and_then (λ (done : Deed). Some (record { actor = e.actor; deed = done }))) (d.found t);
-      visible_actor = a.visible;
-      visible_deed = d.visible;
-    }
+    ap (guess v p) (line_back t (word_of e.deed) (fields_of v p e.actor e.deed) (actor_visible p r e.actor) (deed_visible p r v e.actor e.deed))
+    ∙ ap (option_and_then (λ (who : Actor). option_and_then (λ (done : Deed). Some (record { actor = who; deed = done })) (deed_in v p who l))) a.found
+    ∙ ap (option_and_then (λ (done : Deed). Some (record { actor = e.actor; deed = done }))) (d.found t)
 
 without_newline : (t : Letters) → take (length (t ++ codes "\n") - 1) (t ++ codes "\n") ≡ t
 without_newline t =
@@ -66,5 +58,4 @@ without_newline t =
 -- the line without its last byte guesses the entry
 pub reading_guessed : (v : Version) (p : Plan) → IsNamed p → (line : Letters) (e : Entry) → IsReadingOf v p line (made e) → guess_of v p (take (length line - 1) line) ≡ Some e
 reading_guessed v p r line e k =
-    let g = entry_read v p r e k.fit in
-    ap (λ t. guess_of v p (take (length t - 1) t)) (k.text ∙ entry-line v p e) ∙ ap (guess_of v p) (without_newline (text_of v p e)) ∙ g.found
+    ap (λ t. guess_of v p (take (length t - 1) t)) (k.text ∙ entry-line v p e) ∙ ap (guess_of v p) (without_newline (text_of v p e)) ∙ entry_read v p r e k.fit

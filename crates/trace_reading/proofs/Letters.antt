@@ -1,15 +1,11 @@
 -- The letters of what stands in a line: which there are, and which there are not.
-use Rattle.std.proofs.Common.{◌≡◌, ℕ, ◌<◌, ◌≤◌, Bool, true, false, not, ◌&&◌, ◌||◌, cond, ◌==◌, [], ◌∷◌, length, nat_le, bytes_eq, codes, refl, ap, subst, arith}
+use Rattle.std.proofs.Common.{◌≡◌, ℕ, ◌<◌, ◌≤◌, Bool, true, false, not, ◌&&◌, ◌||◌, ◌==◌, [], ◌∷◌, length, nat_le, refl, ap, subst, arith}
 use Rattle.std.specs.List.{list_all}
 use Rattle.std.proofs.lemmas.Bool.{and_parts, and_from, eqb-true, leb-true, lt-ltb, or_left}
-use Rattle.std.proofs.lemmas.Slice.Eq.{bytes_eq-Decides}
 use Rattle.bus_semantics.specs.SoundNames.{is_letter, is_name, is_name_part}
 use Rattle.bus_semantics.specs.SoundNames as sound
 use Rattle.bus_semantics.specs.SoundPlan.{is_in}
 use Rattle.bus_semantics.specs.Spelling.{Letters}
-use Rattle.line_fields.specs.Numbers.{is_digit, is_negated, is_number, is_value, is_word}
-use Rattle.line_fields.specs.Texts.{parts}
-use Rattle.line_fields.proofs.Decimals.{negated_is_number, number_digits}
 use Rattle.line_fields.proofs.Joining.{all-parts, all_more, apart, lacks}
 use Rattle.line_fields.proofs.Parts.{same_parts}
 use Rattle.trace_reading.proofs.Cutting.{are_visible, is_visible}
@@ -18,9 +14,6 @@ use Rattle.trace_reading.proofs.Cutting.{are_visible, is_visible}
 
 visible_in : (low high c : ℕ) → 32 < low → is_in low high c ≡ true → is_visible c ≡ true
 visible_in low high c more h = let above : low ≤ c = leb-true low c (and_parts (nat_le low c) (nat_le c high) h).0 in lt-ltb 32 c (omega arith)
-
-digit_visible : (c : ℕ) → is_digit c ≡ true → is_visible c ≡ true
-digit_visible c h = visible_in 48 57 c (omega arith) h
 
 pub either : (a b : Bool) (P : Type 0) → (a ≡ true → P) → (b ≡ true → P) → (a || b) ≡ true → P
 either true b P f g h = f refl
@@ -61,22 +54,3 @@ pair_lacks s none other t h = parts_letters (λ c. not (c == s)) 46 other (apart
 
 pub path_lacks : (s : ℕ) → is_name_part s ≡ false → not (47 == s) ≡ true → (t : Letters) → sound.is_path t ≡ true → lacks s t ≡ true
 path_lacks s none other t h = parts_letters (λ c. not (c == s)) 47 other (apart is_name_part s none) t (and_parts (is_in 1 8 (length (sound.parts 47 t))) (list_all is_name (sound.parts 47 t)) h).1
-
--- ---- numbers and values
-
-pub number_visible : (t : Letters) → is_number t ≡ true → are_visible t ≡ true
-number_visible t h = all_more is_digit is_visible digit_visible t (number_digits t h).1
-
-word_visible : (t : Letters) → is_word t ≡ true → are_visible t ≡ true
-word_visible [] h = absurd (cc)
-word_visible (c ∷ cs) h = step (c == 45) refl h
-  where
-    step : (b : Bool) → (c == 45) ≡ b → cond b (is_negated cs) (is_number (c ∷ cs)) ≡ true → are_visible (c ∷ cs) ≡ true
-    step true is k = and_from (is_visible c) (are_visible cs) (ap is_visible (eqb-true c 45 is)) (number_visible cs (negated_is_number cs k))
-    step false is k = number_visible (c ∷ cs) k
-
-pub value_visible : (t : Letters) → is_value t ≡ true → are_visible t ≡ true
-value_visible t h =
-    either (bytes_eq t (codes "-")) (list_all is_word (parts 44 t)) (are_visible t ≡ true)
-    (λ is. ap are_visible ((bytes_eq-Decides t (codes "-")).0 is))
-    (λ k. all-parts is_visible 44 refl is_word word_visible t k) h

@@ -14,4 +14,5 @@ pub mod Naming
 pub mod Sessions
 pub mod Things
 pub mod Values
+pub mod Visible
 mod Marks

@@ -17,9 +17,8 @@ use Rattle.bus_laws.proofs.Thinning.{found_where}
 use Rattle.trace_text.proofs.Places.{elems_few}
 use Rattle.trace_text.proofs.ShortLines.{mask_length}
 use Rattle.trace_reading.specs.Lists.{list_at, list_in, marks_at, marks_in}
-use Rattle.trace_reading.proofs.Cutting.{are_visible}
 use Rattle.trace_reading.proofs.Things.{IsRead}
-use Rattle.trace_reading.proofs.Values.{index_visible, number_back}
+use Rattle.trace_reading.proofs.Values.{number_back}
 
 -- ---- its place
 
@@ -41,7 +40,6 @@ list_read p sound k reads l own index =
               ∙ ap (λ r. list_in p r x.place) (sym same)
               ∙ ap (λ (o : Option Runnable). option_map_or (λ (v : Runnable). slice_get v.lists x.place) o None) x.there
               ∙ x.among;
-          visible = index_visible (position_of p l) small;
         }
 
     by_list : (c : CoherentList) → slice_get p.lists l ≡ Some c → c.runnable ≡ k.runnable → IsRead (list_at p (Act k) (decimal (position_of p l))) (decimal (position_of p l)) l
@@ -68,11 +66,3 @@ marks_read p sound l written fit =
     let few : length (mask_text written (elems_of p l)) ≤ 16 = omega (arith, mask_length written (elems_of p l), elems_few p sound l) in
     ap (λ b. cond b (Some (marks_in (mask_text written (elems_of p l)))) None) (le-leb (length (mask_text written (elems_of p l))) 16 few)
     ∙ ap (λ w. Some w) (marks_back (elems_of p l) written (ltb-true written (2 ^ length (elems_of p l)) fit))
-
-pub marks_visible : (w : ℕ) (xs : List ℕ) → are_visible (mask_text w xs) ≡ true
-marks_visible w [] = refl
-marks_visible w (x ∷ xs) = by_mark (w % 2 == 1) (marks_visible (w / 2) xs)
-  where
-    by_mark : (b : Bool) → are_visible (mask_text (w / 2) xs) ≡ true → are_visible (cond b (codes "1") (codes "0") ++ mask_text (w / 2) xs) ≡ true
-    by_mark true rest = rest
-    by_mark false rest = rest

@@ -24,11 +24,9 @@ use Rattle.line_fields.specs.Named.{is_text}
 use Rattle.trace_reading.specs.Deeds.{mode_at}
 use Rattle.trace_reading.specs.Fields.{numbered}
 use Rattle.trace_reading.specs.Finding.{home_of_caller, is_result, mode_named, result_at}
-use Rattle.trace_reading.proofs.Cutting.{are_visible}
-use Rattle.trace_reading.proofs.Letters.{name_visible, pair_visible}
 use Rattle.trace_reading.proofs.Naming.{IsNamed}
 use Rattle.trace_reading.proofs.Things.{IsRead, same_home}
-use Rattle.trace_reading.proofs.Values.{index_visible, number_back, numbered_back}
+use Rattle.trace_reading.proofs.Values.{number_back, numbered_back}
 
 module _ (p : Plan) (r : IsNamed p) where
   -- ---- modes
@@ -55,10 +53,7 @@ module _ (p : Plan) (r : IsNamed p) where
       step None is =
           let text : mode_text Two p (Some i) mode ≡ codes "-" = looked ∙ ap (λ o. option_map_or (λ (t : Letters). t) o (codes "-")) is in
           let last : length n.modes ≡ mode = elim (slice_get_cases n.modes mode).1 [ inl c ↦ (let some : Some c.0 ≡ None = sym c.2 ∙ is in absurd (cc)) | inr c ↦ (let past : length n.modes ≤ mode = c.0 in omega arith) ] in
-          subst (λ t. IsRead (mode_named p i t) t mode) (sym text) (record {
-            found = named (codes "-") ∙ ap (λ k. numbered (Some k)) last ∙ numbered_back mode index;
-            visible = refl;
-          })
+          subst (λ t. IsRead (mode_named p i t) t mode) (sym text) (record { found = named (codes "-") ∙ ap (λ k. numbered (Some k)) last ∙ numbered_back mode index })
       step (Some t) is =
           let text : mode_text Two p (Some i) mode ≡ t = looked ∙ ap (λ o. option_map_or (λ (u : Letters). u) o (codes "-")) is in
           let names : list_all is_name n.modes ≡ true =
@@ -68,11 +63,10 @@ module _ (p : Plan) (r : IsNamed p) where
           subst (λ u. IsRead (mode_named p i u) u mode) (sym text) (record {
             found = named t ∙ ap (λ b. numbered (cond b (Some (length n.modes)) (position (is_text t) n.modes))) other
                 ∙ ap numbered (r.find_modes i n there mode t is) ∙ numbered_back mode index;
-            visible = name_visible t name;
           })
 
   pub mode_read : (v : Version) (m : Option ℕ) (mode : ℕ) → IsModeOf m mode → is_index mode ≡ true → IsRead (mode_at v p m (mode_text v p m mode)) (mode_text v p m mode) mode
-  mode_read One m mode k index = record { found = number_back mode index; visible = index_visible mode index }
+  mode_read One m mode k index = record { found = number_back mode index }
   mode_read Two m mode k index = subst (λ o. IsRead (mode_at Two p o (mode_text Two p o mode)) (mode_text Two p o mode) mode) (sym k.is) (by_name k.place k.machine k.there mode k.most index)
 
   -- ---- results
@@ -94,10 +88,7 @@ module _ (p : Plan) (r : IsNamed p) where
       step : (o : Option PointPlan) → slice_get p.points q ≡ o → option_map_or (λ (t : PointPlan). t.asynchronous && of_home t.runnable) o false ≡ true
           → IsRead (result_at p home (point_name p q)) (point_name p q) q
       step None is h = absurd (cc)
-      step (Some t) is h = record {
-        found = ap (result_at p home) text ∙ ap numbered place ∙ numbered_back q index;
-        visible = ap are_visible text ∙ pair_visible t.name (all_at (λ (u : PointPlan). is_pair_name u.name) p.points q t r.points is);
-      }
+      step (Some t) is h = record { found = ap (result_at p home) text ∙ ap numbered place ∙ numbered_back q index }
         where
           text : point_name p q ≡ t.name
           text = ap (λ o. option_map_or (λ (u : PointPlan). u.name) o []) is

@@ -18,19 +18,19 @@ use Rattle.trace_reading.specs.Cuts.{behind}
 use Rattle.trace_reading.specs.Reads.{TextsHaveOneSession, TextsHaveOneVersion}
 use Rattle.trace_reading.proofs.ActorTexts.{behind-more}
 use Rattle.trace_reading.proofs.Cutting.{are_visible, cut-join, line_of, visible_lacks}
-use Rattle.trace_reading.proofs.Guessing.{entry_read, reading_guessed}
+use Rattle.trace_reading.proofs.Guessing.{reading_guessed}
 use Rattle.trace_reading.proofs.Lines.{entry-line, fields_of, text_of, word_of}
 use Rattle.trace_reading.proofs.Naming.{IsNamed, named, readable}
+use Rattle.trace_reading.proofs.Visible.{actor_visible, deed_visible}
 
 -- ---- one line, one item
 
 -- an entry's line has a space; that of any other item has none
-entry_spaced : (v : Version) (p : Plan) (r : IsNamed p) (e : Entry) → item_fits p (made e) ≡ true → (u : Letters) → behind 32 u ≡ None → item_text v p (made e) ≡ u → ⊥
-entry_spaced v p r e fit u none same =
-    let g = entry_read v p r e fit in
+entry_spaced : (v : Version) (p : Plan) (r : IsNamed p) (e : Entry) (u : Letters) → behind 32 u ≡ None → item_text v p (made e) ≡ u → ⊥
+entry_spaced v p r e u none same =
     let a = actor_text p e.actor in
     let rest = line_of (word_of e.deed) (fields_of v p e.actor e.deed) in
-    let cut = (cut-join 32 a rest (visible_lacks 32 refl a g.visible_actor)).1 in
+    let cut = (cut-join 32 a rest (visible_lacks 32 refl a (actor_visible p r e.actor))).1 in
     let some : behind 32 (item_text v p (made e)) ≡ Some (rest ++ codes "\n") = ap (behind 32) (entry-line v p e) ∙ behind-more 32 (text_of v p e) (codes "\n") rest cut in
     let other : behind 32 (item_text v p (made e)) ≡ None = ap (behind 32) same ∙ none in
     cc
@@ -41,18 +41,18 @@ apart t u h k e = let same : bytes_eq t u ≡ true = ap (λ x. bytes_eq x u) e �
 
 pub one_item : (v : Version) (p : Plan) → IsNamed p → (line : Letters) (i j : Item) → IsReadingOf v p line i → IsReadingOf v p line j → i ≡ j
 one_item v p r line (made e) (made d) a b = let same : Some e ≡ Some d = sym (reading_guessed v p r line e a) ∙ reading_guessed v p r line d b in let one : e ≡ d = cc in ap made one
-one_item v p r line (made e) run_begins a b = absurd (entry_spaced v p r e a.fit (codes "run\n") refl (sym a.text ∙ b.text))
-one_item v p r line (made e) (run_closes idle) a b = absurd (entry_spaced v p r e a.fit (codes "idle\n") refl (sym a.text ∙ b.text))
-one_item v p r line (made e) (run_closes unsettled) a b = absurd (entry_spaced v p r e a.fit (codes "unsettled\n") refl (sym a.text ∙ b.text))
-one_item v p r line run_begins (made d) a b = absurd (entry_spaced v p r d b.fit (codes "run\n") refl (sym b.text ∙ a.text))
+one_item v p r line (made e) run_begins a b = absurd (entry_spaced v p r e (codes "run\n") refl (sym a.text ∙ b.text))
+one_item v p r line (made e) (run_closes idle) a b = absurd (entry_spaced v p r e (codes "idle\n") refl (sym a.text ∙ b.text))
+one_item v p r line (made e) (run_closes unsettled) a b = absurd (entry_spaced v p r e (codes "unsettled\n") refl (sym a.text ∙ b.text))
+one_item v p r line run_begins (made d) a b = absurd (entry_spaced v p r d (codes "run\n") refl (sym b.text ∙ a.text))
 one_item v p r line run_begins run_begins a b = refl
 one_item v p r line run_begins (run_closes idle) a b = absurd (apart (codes "run\n") (codes "idle\n") refl refl (sym a.text ∙ b.text))
 one_item v p r line run_begins (run_closes unsettled) a b = absurd (apart (codes "run\n") (codes "unsettled\n") refl refl (sym a.text ∙ b.text))
-one_item v p r line (run_closes idle) (made d) a b = absurd (entry_spaced v p r d b.fit (codes "idle\n") refl (sym b.text ∙ a.text))
+one_item v p r line (run_closes idle) (made d) a b = absurd (entry_spaced v p r d (codes "idle\n") refl (sym b.text ∙ a.text))
 one_item v p r line (run_closes idle) run_begins a b = absurd (apart (codes "idle\n") (codes "run\n") refl refl (sym a.text ∙ b.text))
 one_item v p r line (run_closes idle) (run_closes idle) a b = refl
 one_item v p r line (run_closes idle) (run_closes unsettled) a b = absurd (apart (codes "idle\n") (codes "unsettled\n") refl refl (sym a.text ∙ b.text))
-one_item v p r line (run_closes unsettled) (made d) a b = absurd (entry_spaced v p r d b.fit (codes "unsettled\n") refl (sym b.text ∙ a.text))
+one_item v p r line (run_closes unsettled) (made d) a b = absurd (entry_spaced v p r d (codes "unsettled\n") refl (sym b.text ∙ a.text))
 one_item v p r line (run_closes unsettled) run_begins a b = absurd (apart (codes "unsettled\n") (codes "run\n") refl refl (sym a.text ∙ b.text))
 one_item v p r line (run_closes unsettled) (run_closes idle) a b = absurd (apart (codes "unsettled\n") (codes "idle\n") refl refl (sym a.text ∙ b.text))
 one_item v p r line (run_closes unsettled) (run_closes unsettled) a b = refl
@@ -79,7 +79,7 @@ fields_lack t (u ∷ us) h k =
     all-append (λ c. not (c == 10)) t (32 ∷ line_of u us) (visible_lacks 10 refl t h) (and_from (not (32 == 10)) (lacks 10 (line_of u us)) refl (fields_lack u us two.0 two.1))
 
 pub line_lacks : (v : Version) (p : Plan) → IsNamed p → (i : Item) → item_fits p i ≡ true → lacks 10 (line_in v p i) ≡ true
-line_lacks v p r (made e) h = let g = entry_read v p r e h in fields_lack (actor_text p e.actor) (word_of e.deed ∷ fields_of v p e.actor e.deed) g.visible_actor g.visible_deed
+line_lacks v p r (made e) h = fields_lack (actor_text p e.actor) (word_of e.deed ∷ fields_of v p e.actor e.deed) (actor_visible p r e.actor) (deed_visible p r v e.actor e.deed)
 line_lacks v p r run_begins h = refl
 line_lacks v p r (run_closes idle) h = refl
 line_lacks v p r (run_closes unsettled) h = refl

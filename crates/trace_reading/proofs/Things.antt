@@ -1,6 +1,6 @@
 -- What an item names is found by its name.
-use Rattle.std.proofs.Common.{◌≡◌, ℕ, ◌<◌, ◌≤◌, Bool, true, false, ◌&&◌, cond, List, [], length, nat_lt, Option, Some, None, inl, inr, refl, sym, ap, ◌∙◌, arith}
-use Rattle.std.specs.List.{list_all, position, slice_get}
+use Rattle.std.proofs.Common.{◌≡◌, ℕ, ◌<◌, ◌≤◌, Bool, true, false, ◌&&◌, List, [], length, nat_lt, Option, Some, None, inl, inr, refl, sym, ap, ◌∙◌, arith}
+use Rattle.std.specs.List.{position, slice_get}
 use Rattle.std.specs.Option.{option_map_or}
 use Rattle.std.proofs.lemmas.Bool.{and_parts, ltb-true}
 use Rattle.std.proofs.lemmas.Option.{slice_get_cases}
@@ -15,16 +15,11 @@ use Rattle.bus_semantics.specs.declared.plan.PointPlan.{PointPlan}
 use Rattle.bus_semantics.specs.Owners.{area_fits, elem_fits, event_fits, mode_port_fits, own_point, switch_fits}
 use Rattle.bus_semantics.specs.Plan.{Plan, caller_of, instance_of, look, runnable_of_event}
 use Rattle.bus_semantics.specs.Reading.{is_index}
-use Rattle.bus_semantics.specs.SoundNames.{is_name, is_pair_name}
-use Rattle.bus_semantics.specs.SoundPlan.{is_variable}
 use Rattle.bus_semantics.specs.Spelling.{Letters, area_name, elem_name, event_name, machine_name, mode_port_name, point_name}
-use Rattle.line_fields.proofs.Distinct.{all_at}
 use Rattle.line_fields.specs.Named.{is_area, is_elem, is_event, is_machine, is_mode_port, is_point}
 use Rattle.trace_reading.specs.Fields.{numbered}
 use Rattle.trace_reading.specs.Finding.{area_at, elem_at, event_at, machine_at, mode_port_at, point_at}
-use Rattle.trace_reading.proofs.Cutting.{are_visible}
-use Rattle.trace_reading.proofs.Letters.{name_visible, pair_visible}
-use Rattle.trace_reading.proofs.Naming.{IsNamed, elem_passes}
+use Rattle.trace_reading.proofs.Naming.{IsNamed}
 use Rattle.trace_reading.proofs.Values.{numbered_back}
 
 -- there is such a thing, and it is the home's
@@ -33,10 +28,9 @@ pub record IsThing {X : Type 0} (xs : List X) (home_of : X → Option ℕ) (x : 
   pub there : slice_get xs x ≡ Some thing
   pub own : home_of thing ≡ home
 
--- its text finds it, and has no space
+-- its text finds it
 pub record IsRead (from : Option ℕ) (t : Letters) (x : ℕ) : Type 0 where
   pub found : from ≡ Some x
-  pub visible : are_visible t ≡ true
 
 pub same_home : (a b : Option ℕ) → same_number a b ≡ true → a ≡ b
 same_home a b h = (same_number-Decides a b).0 h
@@ -51,15 +45,12 @@ looked {X} xs home_of home fit own x h = step (slice_get xs x) refl h
 
 -- ---- by the kind of thing
 
-thing_read : {X : Type 0} (xs : List X) (is : Option ℕ → Letters → X → Bool) (home_of : X → Option ℕ) (name : X → Letters) (passes : X → Bool)
-    → ((x : ℕ) (e : X) → slice_get xs x ≡ Some e → position (is (home_of e) (name e)) xs ≡ Some x) → list_all passes xs ≡ true → ((e : X) → passes e ≡ true → are_visible (name e) ≡ true)
+thing_read : {X : Type 0} (xs : List X) (is : Option ℕ → Letters → X → Bool) (home_of : X → Option ℕ) (name : X → Letters)
+    → ((x : ℕ) (e : X) → slice_get xs x ≡ Some e → position (is (home_of e) (name e)) xs ≡ Some x)
     → (x : ℕ) (home : Option ℕ) → is_index x ≡ true → IsThing xs home_of x home → IsRead (numbered (position (is home (look xs x name [])) xs)) (look xs x name []) x
-thing_read {X} xs is home_of name passes finds pass visible x home index t =
+thing_read xs is home_of name finds x home index t =
     let text : look xs x name [] ≡ name t.thing = ap (λ o. option_map_or name o []) t.there in
-    record {
-      found = ap (λ u. numbered (position (is home u) xs)) text ∙ ap (λ h. numbered (position (is h (name t.thing)) xs)) (sym t.own) ∙ ap numbered (finds x t.thing t.there) ∙ numbered_back x index;
-      visible = ap are_visible text ∙ visible t.thing (all_at {X = X} passes xs x t.thing pass t.there);
-    }
+    record { found = ap (λ u. numbered (position (is home u) xs)) text ∙ ap (λ h. numbered (position (is h (name t.thing)) xs)) (sym t.own) ∙ ap numbered (finds x t.thing t.there) ∙ numbered_back x index }
 
 -- what is within a list is there
 pub within : {X : Type 0} (xs : List X) (x : ℕ) (P : Type 0) → nat_lt x (length xs) ≡ true → ((e : X) → slice_get xs x ≡ Some e → P) → P
@@ -71,45 +62,36 @@ within {X} xs x P h f = elim (slice_get_cases xs x).1 [
 module _ (p : Plan) (r : IsNamed p) where
   pub elem_read : (home : Option ℕ) (test : ElemPlan → Bool) (x : ℕ) → elem_fits p home test x ≡ true → is_index x ≡ true → IsRead (elem_at p home (elem_name p x)) (elem_name p x) x
   elem_read home test x fit index =
-      thing_read p.elements is_elem (λ (e : ElemPlan). e.instance) (λ (e : ElemPlan). e.name) elem_passes r.find_elems r.elements visible x home index
+      thing_read p.elements is_elem (λ (e : ElemPlan). e.instance) (λ (e : ElemPlan). e.name) r.find_elems x home index
       (looked p.elements (λ (e : ElemPlan). e.instance) home (λ e. same_number e.instance home && test e) (λ e h. same_home e.instance home (and_parts (same_number e.instance home) (test e) h).0) x fit)
-    where
-      visible : (e : ElemPlan) → elem_passes e ≡ true → are_visible e.name ≡ true
-      visible e h = step (is_variable e) h
-        where
-          step : (b : Bool) → cond b (is_name e.name) (is_pair_name e.name) ≡ true → are_visible e.name ≡ true
-          step true h = name_visible e.name h
-          step false h = pair_visible e.name h
 
   pub area_read : (home : Option ℕ) (x : ℕ) → area_fits p home x ≡ true → is_index x ≡ true → IsRead (area_at p home (area_name p x)) (area_name p x) x
   area_read home x fit index =
-      thing_read p.areas is_area (λ (a : AreaPlan). Some a.instance) (λ (a : AreaPlan). a.name) (λ (a : AreaPlan). is_name a.name) r.find_areas r.areas (λ a h. name_visible a.name h) x home index
+      thing_read p.areas is_area (λ (a : AreaPlan). Some a.instance) (λ (a : AreaPlan). a.name) r.find_areas x home index
       (looked p.areas (λ (a : AreaPlan). Some a.instance) home (λ (a : AreaPlan). same_number (Some a.instance) home) (λ a h. same_home (Some a.instance) home h) x fit)
 
   pub machine_read : (home : Option ℕ) (m mode : ℕ) → switch_fits p home m mode ≡ true → is_index m ≡ true → IsRead (machine_at p home (machine_name p m)) (machine_name p m) m
   machine_read home m mode fit index =
-      thing_read p.machines is_machine (λ (n : MachinePlan). n.instance) (λ (n : MachinePlan). n.name) (λ (n : MachinePlan). is_pair_name n.name && list_all is_name n.modes) r.find_machines r.machines
-      (λ n h. pair_visible n.name (and_parts (is_pair_name n.name) (list_all is_name n.modes) h).0) m home index
+      thing_read p.machines is_machine (λ (n : MachinePlan). n.instance) (λ (n : MachinePlan). n.name) r.find_machines m home index
       (looked p.machines (λ (n : MachinePlan). n.instance) home (λ (n : MachinePlan). same_number n.instance home && nat_lt mode (length n.modes))
       (λ n h. same_home n.instance home (and_parts (same_number n.instance home) (nat_lt mode (length n.modes)) h).0) m fit)
 
   pub mode_port_read : (home : Option ℕ) (x : ℕ) → mode_port_fits p home x ≡ true → is_index x ≡ true → IsRead (mode_port_at p home (mode_port_name p x)) (mode_port_name p x) x
   mode_port_read home x fit index =
-      thing_read p.mode_ports is_mode_port (λ (t : ModePortPlan). t.instance) (λ (t : ModePortPlan). t.name) (λ (t : ModePortPlan). is_pair_name t.name) r.find_mode_ports r.mode_ports
-      (λ t h. pair_visible t.name h) x home index
+      thing_read p.mode_ports is_mode_port (λ (t : ModePortPlan). t.instance) (λ (t : ModePortPlan). t.name) r.find_mode_ports x home index
       (looked p.mode_ports (λ (t : ModePortPlan). t.instance) home (λ (t : ModePortPlan). same_number t.instance home) (λ t h. same_home t.instance home h) x fit)
 
   pub point_read : (caller : Option ℕ) (q : ℕ) → own_point p caller q ≡ true → is_index q ≡ true → IsRead (point_at p caller (point_name p q)) (point_name p q) q
   point_read caller q fit index =
       let two = and_parts (nat_lt q (length p.points)) (same_number (caller_of p q) caller) fit in
-      thing_read p.points is_point (λ (t : PointPlan). t.runnable) (λ (t : PointPlan). t.name) (λ (t : PointPlan). is_pair_name t.name) r.find_points r.points (λ t h. pair_visible t.name h) q caller index
+      thing_read p.points is_point (λ (t : PointPlan). t.runnable) (λ (t : PointPlan). t.name) r.find_points q caller index
       (within p.points q (IsThing p.points (λ (t : PointPlan). t.runnable) q caller) two.0
       (λ t there. record { thing = t; there = there; own = sym (ap (λ o. option_map_or (λ (t : PointPlan). t.runnable) o None) there) ∙ same_home (caller_of p q) caller two.1 }))
 
   pub event_read : (home : Option ℕ) (e : ℕ) → event_fits p home e ≡ true → is_index e ≡ true → IsRead (event_at p home (event_name p e)) (event_name p e) e
   event_read home e fit index =
       let two = and_parts (nat_lt e (length p.events)) _ fit in
-      thing_read p.events (is_event p) (λ (v : EventPlan). instance_of p v.runnable) (λ (v : EventPlan). v.name) (λ (v : EventPlan). is_name v.name) r.find_events r.events (λ v h. name_visible v.name h) e home index
+      thing_read p.events (is_event p) (λ (v : EventPlan). instance_of p v.runnable) (λ (v : EventPlan). v.name) r.find_events e home index
       (within p.events e (IsThing p.events (λ (v : EventPlan). instance_of p v.runnable) e home) two.0 (λ v there. record { thing = v; there = there; own = own v there (runnable_of_event p e) refl two.1 }))
     where
       runnable_home : Option ℕ → Option ℕ

@@ -13,8 +13,6 @@ use Rattle.line_fields.specs.Numbers.{are_held, is_held, is_number, is_value, nu
 use Rattle.line_fields.proofs.Spelt.{decimal_back, decimal_is_number}
 use Rattle.line_fields.proofs.Words.{value_back}
 use Rattle.trace_reading.specs.Fields.{code_at, no_value, number_at, numbered, value_at, value_by_length, value_with}
-use Rattle.trace_reading.proofs.Cutting.{are_visible}
-use Rattle.trace_reading.proofs.Letters.{number_visible, value_visible}
 
 -- ---- numbers
 
@@ -38,12 +36,6 @@ number_back n h = number_when is_index n h (index_less n h)
 
 pub code_back : (n : ℕ) → is_byte n ≡ true → code_at (decimal n) ≡ Some n
 code_back n h = number_when is_byte n h (byte_less n h)
-
-pub index_visible : (n : ℕ) → is_index n ≡ true → are_visible (decimal n) ≡ true
-index_visible n h = number_visible (decimal n) (decimal_is_number n (index_less n h))
-
-pub code_visible : (n : ℕ) → is_byte n ≡ true → are_visible (decimal n) ≡ true
-code_visible n h = number_visible (decimal n) (decimal_is_number n (byte_less n h))
 
 -- ---- values
 
@@ -84,6 +76,3 @@ value_text_back v h =
     let held = are_held_words v h in
     let back = value_back (words_of v) held in
     sym (value_found (value_text v) v back.0 (ap are_held back.1 ∙ held) (sym back.1))
-
-pub value_text_visible : (v : Value) → are_words v ≡ true → are_visible (value_text v) ≡ true
-value_text_visible v h = value_visible (value_text v) (value_back (words_of v) (are_held_words v h)).0

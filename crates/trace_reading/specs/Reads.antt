@@ -23,6 +23,11 @@ abbrev pub ReadsEntry : Version → Plan → (line : Letters) → Option Entry �
 ReadsEntry v p line None = (e : Entry) → IsReadingOf v p line (made e) → ⊥
 ReadsEntry v p line (Some e) = IsReadingOf v p line (made e)
 
+-- the text begins with the line of an entry that fits, and this stands behind it
+pub record BeginsWith (v : Version) (p : Plan) (text : Letters) (e : Entry) (more : Letters) : Type 0 where
+  pub fit : item_fits p (made e) ≡ true
+  pub whole : text ≡ item_text v p (made e) ++ more
+
 -- ---- laws
 
 -- each item of the session fits the plan

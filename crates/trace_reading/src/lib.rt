@@ -41,5 +41,6 @@ mod words;
 pub use laws::{
     items_have_one_line, lines_have_one_reading, sound_plans_are_readable, texts_have_one_session,
 };
-pub use reading::{LineRead, Reader, read_entry};
+pub use owners::key_fits;
+pub use reading::{LineRead, Reader, behind, behind_line_of, read_entry};
 pub use wishes::wish_fits;

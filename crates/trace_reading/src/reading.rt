@@ -1,12 +1,13 @@
 //! A line, read back.
 
-ghost use Rattle.std.specs.Prelude.{◌≡◌, ◌&&◌, ◌-◌, IfOk, bytes_eq, length, take};
+ghost use Rattle.std.specs.Prelude.{◌≡◌, ◌&&◌, ◌-◌, ◌++◌, IfOk, IfSome, bytes_eq, length, take, true};
+ghost use Rattle.bus_semantics.specs.Fitting.{fits};
 ghost use Rattle.bus_semantics.specs.Plan.{plan_of};
 ghost use Rattle.bus_semantics.specs.Reading.{item_fits};
 ghost use Rattle.bus_semantics.specs.Run.{made};
 ghost use Rattle.bus_semantics.specs.Spelling.{entry_text};
 ghost use Rattle.trace_reading.specs.Readable.{IsReadable};
-ghost use Rattle.trace_reading.specs.Reads.{Reads, ReadsEntry};
+ghost use Rattle.trace_reading.specs.Reads.{BeginsWith, Reads, ReadsEntry};
 
 use crate::entries::fits;
 use crate::guess::guess;
@@ -61,6 +62,43 @@ fn is_read_as(p: &BusPlan, v: Version, e: &Entry, line: &[u8], out: &mut LineBuf
 {
     actor_is_sized(e.actor);
     fits(p, e) && is_sized(&e.deed) && is_line_of(p, v, e, line, out)
+}
+
+/// What stands behind this start of the text, if it has it.
+pub fn behind<'t>(text: &'t [u8], start: &[u8]) -> Option<&'t [u8]>
+    ensures { IfSome result (λ more. text.now ≡ start.now ++ more.now) }
+{
+    let long = start.len();
+    if text.len() < long {
+        return None;
+    }
+    if &text[..long] == start {
+        Some(&text[long..])
+    } else {
+        None
+    }
+}
+
+/// What stands behind the line of the entry, if the text begins with it. The entry fits the plan, which is readable, as every sound plan
+/// is. `out` holds the text that is compared, and what stands in it before and after means nothing. It takes no memory.
+pub fn behind_line_of<'t>(
+    p: &BusPlan,
+    v: Version,
+    e: &Entry,
+    text: &'t [u8],
+    out: &mut LineBuf,
+) -> Option<&'t [u8]>
+    requires readable { IsReadable (plan_of p.now) }
+    requires fits { fits (plan_of p.now) e.now ≡ true }
+    ensures begins { IfSome result (λ more. BeginsWith v (plan_of p.now) text.now e.now more.now) }
+{
+    actor_is_sized(e.actor);
+    if !is_sized(&e.deed) {
+        return None;
+    }
+    out.clear();
+    write_entry(p, e, v, out);
+    behind(text, out.bytes())
 }
 
 /// The entry whose line it is, if there is one. `out` is for its text.

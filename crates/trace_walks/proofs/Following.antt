@@ -13,16 +13,17 @@ use Rattle.bus_semantics.specs.declared.entries.Actor.TheVariants.{Act}
 use Rattle.bus_semantics.specs.declared.entries.Deed.{Deed}
 use Rattle.bus_semantics.specs.declared.entries.Deed.TheVariants as deed
 use Rattle.bus_semantics.specs.declared.entries.Entry.{Entry}
-use Rattle.bus_semantics.specs.Plan.{Plan, Runnable, caller_of, instance_of, runnable_of_event}
+use Rattle.bus_semantics.specs.Plan.{Plan, Runnable, caller_of, runnable_of_event}
 use Rattle.bus_semantics.specs.Wanted.{Wanted, wanted_by}
 use Rattle.bus_semantics.specs.Activations.{next_of_activity}
 use Rattle.bus_semantics.specs.History.{History, is_of, is_over, event_started, needs_event, note, runs, last_started}
 use Rattle.bus_semantics.specs.Objects.{served_by}
 use Rattle.bus_semantics.specs.Owners.{key_fits}
-use Rattle.bus_semantics.specs.Fitting.{activation_may_want, answer_fits, fits}
+use Rattle.bus_semantics.specs.Fitting.{fits}
 use Rattle.bus_semantics.specs.Actor.{Activation, with_deed, activation_of, wanted_in, next_wish, asked_last, is_this, is_wanted_next, is_held_back, caller_has_asked, may_start, starts_or_goes_on, follows_program}
 use Rattle.bus_semantics.specs.Rest.{plain_key}
 use Rattle.activation_laws.specs.LookUps.{looked}
+use Rattle.history_laws.proofs.Keys.{fit_key}
 use Rattle.history_laws.proofs.Lists.{there_is}
 use Rattle.task_machine.specs.declared.instr.TaskSet.{TaskSet}
 use Rattle.task_machine.specs.Frames.{Stands, asks}
@@ -30,7 +31,7 @@ use Rattle.task_generator.specs.Promise.{AsksAsPlanned}
 use Rattle.trace_walks.specs.declared.walk.Running.{Running}
 use Rattle.trace_walks.specs.declared.walk.Walk.{Walk}
 use Rattle.trace_walks.specs.declared.walks.Walks.{Walks}
-use Rattle.trace_walks.specs.Walking.{entry_of, event_of, goes, IsRunning, RunningStands, WalkStands}
+use Rattle.trace_walks.specs.Walking.{entry_of, event_of, goes, IsRunning, IsWanted, RunningStands, WalkStands}
 use Rattle.trace_walks.specs.Standing.{WalksStand, asked_by, is_called, may_begin, walk_of}
 
 -- ---- the current activation has the event of the last start
@@ -81,16 +82,24 @@ module _ (t : TaskSet) (p : Plan) (k : ActKey) (h : History) (w : Walk) (stands 
   pub wants_none : (d : Deed) → w.running ≡ None → false ≡ is_wanted_next p h k d
   wants_none d is = let none : runs k h ≡ false = subst (RunningStands t k h) is stands.running in rw none refl
 
-  pub wants_this : (bodies : AsksAsPlanned p t) → key_fits p k ≡ true → (d : Deed) (r : Running) → w.running ≡ Some r
-      → (next : Option Wanted) → ((j : ActKey) (start : Deed) (answers : List Deed) → Stands t j start answers r.frame → next ≡ asks t j start answers)
-      → is_this (wanted_by r.event d) next ≡ is_wanted_next p h k d
-  wants_this bodies fit d r is next asked =
-      let of : IsRunning t k h r = subst (RunningStands t k h) is stands.running in
-      let a = of.activation in
-      let ruled : next_wish p h k ≡ wanted_in p k a = rw (of.going, of.current) refl in
-      let wish : next ≡ next_wish p h k = asked k (deed.Start a.event of.point of.value) a.deeds of.stands ∙ asks_ruled t p k a of.point of.value bodies fit of.goes_on of.words ∙ sym ruled in
-      let event : unwrap_or (last_started k h) 0 ≡ r.event = ap (λ (o : Option ℕ). unwrap_or o 0) (last_event k h a of.current) ∙ sym of.event_is in
-      λ i. is_this (wanted_by (sym event i) d) (wish i)
+  module _ (bodies : AsksAsPlanned p t) (fit : key_fits p k ≡ true) (r : Running) (is : w.running ≡ Some r)
+      (next : Option Wanted) (asked : (j : ActKey) (start : Deed) (answers : List Deed) → Stands t j start answers r.frame → next ≡ asks t j start answers) where
+    of : IsRunning t k h r
+    of = subst (RunningStands t k h) is stands.running
+
+    next_is : next ≡ next_wish p h k
+    next_is =
+        let a = of.activation in
+        let ruled : next_wish p h k ≡ wanted_in p k a = rw (of.going, of.current) refl in
+        asked k (deed.Start a.event of.point of.value) a.deeds of.stands ∙ asks_ruled t p k a of.point of.value bodies fit of.goes_on of.words ∙ sym ruled
+
+    pub wants_this : (d : Deed) → is_this (wanted_by r.event d) next ≡ is_wanted_next p h k d
+    wants_this d =
+        let event : unwrap_or (last_started k h) 0 ≡ r.event = ap (λ (o : Option ℕ). unwrap_or o 0) (last_event k h of.activation of.current) ∙ sym of.event_is in
+        λ i. is_this (wanted_by (sym event i) d) (next_is i)
+
+    pub wanted_so : (v : Wanted) → next ≡ Some v → w.held ≡ false → IsWanted p h k v
+    wanted_so v some free = record { next = sym next_is ∙ some; free = sym stands.held ∙ free }
 
 module _ (t : TaskSet) (p : Plan) (h : History) (ws : Walks) (stands : WalksStand t p h ws) where
   asked_is : (r : ℕ) → asked_by ws r ≡ asked_last (plain_key r) h
@@ -171,13 +180,6 @@ module _ (t : TaskSet) (p : Plan) (h : History) (ws : Walks) (stands : WalksStan
       by_point (Some q) at = by_place q at (slice_get p.points q) refl
 
 -- ---- the key of an entry that fits
-
-pub fit_key : (p : Plan) (k : ActKey) (d : Deed) → fits p (entry_of k d) ≡ true → key_fits p k ≡ true
-fit_key p k d fit = by_event (needs_event d) (and_parts (if needs_event d then key_fits p k else (key_fits p k && activation_may_want p k (instance_of p k.runnable) (wanted_by 0 d))) (answer_fits p (Act k) d) fit).0
-  where
-    by_event : (b : Bool) → (if b then key_fits p k else (key_fits p k && activation_may_want p k (instance_of p k.runnable) (wanted_by 0 d))) ≡ true → key_fits p k ≡ true
-    by_event true e = e
-    by_event false e = (and_parts (key_fits p k) (activation_may_want p k (instance_of p k.runnable) (wanted_by 0 d)) e).0
 
 pub key_of_entry : (p : Plan) (k : ActKey) (e : Entry) → e.actor ≡ Act k → fits p e ≡ true → key_fits p k ≡ true
 key_of_entry p k e actor fit =

@@ -8,7 +8,7 @@ use Rattle.bus_semantics.specs.Plan.{Plan}
 use Rattle.bus_semantics.specs.History.{History, is_of, is_end}
 use Rattle.bus_semantics.specs.Actor.{direct_key, asked_last, ended_since, is_held_back}
 use Rattle.trace_walks.specs.Walking.{entry_of}
-use Rattle.trace_walks.proofs.Going.{itself}
+use Rattle.history_laws.proofs.Keys.{itself}
 
 module _ (p : Plan) (h : History) (k : ActKey) where
   pub held_still : (e : Entry) → is_of k e ≡ false → ((j : ActKey) → option_and_then (direct_key p) (asked_last k h) ≡ Some j → (is_of j e && is_end e.deed) ≡ false)

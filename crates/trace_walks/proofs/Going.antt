@@ -6,22 +6,19 @@ use Rattle.std.proofs.lemmas.Bool.{or_from}
 use Rattle.std.proofs.lemmas.List.Folds.{list_any-append}
 use Rattle.rte_value.specs.declared.kinds.ActKey.{ActKey}
 use Rattle.rte_value.specs.declared.value.Value.{Value}
-use Rattle.rte_value.specs.Values.{words_of, same_key}
-use Rattle.rte_value.specs.EqualKeys.{same_key-Decides}
+use Rattle.rte_value.specs.Values.{words_of}
 use Rattle.bus_semantics.specs.declared.entries.Deed.{Deed}
 use Rattle.bus_semantics.specs.declared.entries.Deed.TheVariants as deed
 use Rattle.bus_semantics.specs.declared.entries.Entry.{Entry}
 use Rattle.bus_semantics.specs.Plan.{Plan}
 use Rattle.bus_semantics.specs.History.{History, is_of, is_over, event_started, runs}
 use Rattle.bus_semantics.specs.Actor.{Activation, with_deed, direct_key, accepted_point, asked_last, is_held_back}
+use Rattle.history_laws.proofs.Keys.{itself}
 use Rattle.task_machine.specs.declared.instr.TaskSet.{TaskSet}
 use Rattle.task_machine.specs.Frames.{Stands}
 use Rattle.trace_walks.specs.declared.walk.Running.{Running}
 use Rattle.trace_walks.specs.declared.walk.Walk.{Walk}
 use Rattle.trace_walks.specs.Walking.{entry_of, IsRunning, RunningStands, WalkStands}
-
-pub itself : (k : ActKey) → same_key k k ≡ true
-itself k = (same_key-Decides k k).1 refl
 
 -- a deed that starts nothing
 grown : (d : Deed) (a : Activation) → event_started d ≡ None → with_deed d (Some a) ≡ Some (record { event = a.event; start = a.start; deeds = a.deeds ++ d ∷ [] })

@@ -23,7 +23,7 @@ use Rattle.bus_semantics.specs.Rest.{plain_key}
 use Rattle.bus_semantics.specs.Sound.{IsSound}
 use Rattle.history_laws.specs.Callers.{CallerWaits}
 use Rattle.history_laws.proofs.Lists.{there_is}
-use Rattle.history_laws.proofs.Keys.{alive, itself, IsTo, others, starts, goes_on, is_to}
+use Rattle.history_laws.proofs.Keys.{alive, fit_key, itself, IsTo, others, starts, goes_on, is_to}
 use Rattle.history_laws.proofs.Directs.{running_waits}
 use Rattle.no_stall.proofs.Keys.{Shape, plain, direct, shape, direct_is, key_direct}
 use Rattle.task_machine.specs.declared.instr.TaskSet.{TaskSet}
@@ -34,7 +34,6 @@ use Rattle.trace_walks.specs.Standing.{WalksStand, NotedAt, KeyNoted, FreedAt, C
 use Rattle.trace_walks.proofs.Going.{passed}
 use Rattle.trace_walks.proofs.Freeing.{freed_now}
 use Rattle.trace_walks.proofs.Noting.{still, nobody}
-use Rattle.trace_walks.proofs.Following.{fit_key}
 use Rattle.trace_walks.proofs.Askers.{asker}
 
 -- ---- keys and places

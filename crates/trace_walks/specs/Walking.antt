@@ -10,8 +10,9 @@ use Rattle.bus_semantics.specs.declared.entries.Deed.{Deed}
 use Rattle.bus_semantics.specs.declared.entries.Deed.TheVariants.{Start}
 use Rattle.bus_semantics.specs.declared.entries.Entry.{Entry}
 use Rattle.bus_semantics.specs.Plan.{Plan}
+use Rattle.bus_semantics.specs.Wanted.{Wanted}
 use Rattle.bus_semantics.specs.History.{History, runs, is_over}
-use Rattle.bus_semantics.specs.Actor.{Activation, activation_of, asked_last, is_held_back}
+use Rattle.bus_semantics.specs.Actor.{Activation, activation_of, asked_last, is_held_back, may_start, next_wish}
 use Rattle.task_machine.specs.declared.instr.TaskSet.{TaskSet}
 use Rattle.task_machine.specs.Frames.{Stands}
 use Rattle.trace_walks.specs.declared.walk.Running.{Running}
@@ -58,3 +59,13 @@ goes w = is_some w.running
 -- the event that started the running activation
 abbrev pub event_of : Walk → Option ℕ
 event_of w = option_map (λ (r : Running). r.event) w.running
+
+-- the running activation wants this next, and does not wait for a direct one
+pub record IsWanted (p : Plan) (h : History) (k : ActKey) (w : Wanted) : Type 0 where
+  pub next : next_wish p h k ≡ Some w
+  pub free : is_held_back p h k ≡ false
+
+-- an activation may start by this event
+pub record MayBegin (p : Plan) (h : History) (k : ActKey) (event : ℕ) : Type 0 where
+  pub may : may_start p h k event ≡ true
+  pub free : is_held_back p h k ≡ false

@@ -1,7 +1,6 @@
 //! Activations gone through along a trace: what each key wants next, by its program and the answers before.
 #![tactic(auto)]
 
-mod expecting;
 mod runners;
 mod walk;
 mod walks;

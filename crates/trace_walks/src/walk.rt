@@ -8,7 +8,7 @@ ghost use Rattle.bus_semantics.specs.Wanted.{wanted_by};
 ghost use Rattle.task_machine.specs.Frames.{wanted_in};
 
 use crate::Memory;
-use bus_semantics::{BusPlan, Deed, Entry, Wish};
+use bus_semantics::{BusPlan, Deed, Entry};
 use rte_value::ActKey;
 use same_entries::is_wish_of;
 use std::alloc::Global;
@@ -85,7 +85,7 @@ pub struct Walk {
 }
 
 impl Walk {
-    ghost use Rattle.std.specs.Prelude.{◌≡◌, [], ◌∷◌, ℕ, true, false, None, Option, OnOk, IfOk, is_some, length};
+    ghost use Rattle.std.specs.Prelude.{◌≡◌, [], ◌∷◌, ℕ, true, false, None, Some, Option, OnOk, IfOk, is_some, length};
     ghost use Rattle.rte_value.specs.declared.kinds.ActKey.{ActKey};
     ghost use Rattle.rte_value.specs.declared.value.Value.{Value};
     ghost use Rattle.bus_semantics.specs.declared.entries.Deed.TheVariants.{Start};
@@ -94,9 +94,10 @@ impl Walk {
     ghost use Rattle.bus_semantics.specs.Actor.{is_held_back, is_wanted_next, starts_or_goes_on};
     ghost use Rattle.bus_semantics.specs.Owners.{key_fits};
     ghost use Rattle.bus_semantics.specs.Plan.{Plan, plan_of};
+    ghost use Rattle.bus_semantics.specs.Wanted.{Wanted};
     ghost use Rattle.task_machine.specs.declared.instr.TaskSet.{TaskSet};
     ghost use Rattle.task_generator.specs.Promise.{AsksAsPlanned};
-    ghost use Rattle.trace_walks.specs.Walking.{AreFresh, WalkStands, entry_of, event_of};
+    ghost use Rattle.trace_walks.specs.Walking.{AreFresh, IsWanted, WalkStands, entry_of, event_of};
 
     /// A key to which nothing has happened.
     pub fn new() -> Walk
@@ -139,14 +140,17 @@ impl Walk {
         }
     }
 
-    /// The call that the running activation makes next. It is used for a guess alone.
-    pub(crate) fn next_call(&self, t: &TaskSet) -> Option<Wish> {
+    /// The call that the running activation makes next. None while none runs, and while it waits for the direct activation that it called.
+    pub(crate) fn wanted(&self, t: &TaskSet) -> Next
+        ensures { (p : Plan) (k : ActKey) (h : History) (w : Wanted) → AsksAsPlanned p t.now → key_fits p k ≡ true → WalkStands t.now p k h self.now →
+            wanted_in result ≡ Some w → IsWanted p h k w }
+    {
+        if self.held {
+            return Next::Over;
+        }
         match &self.running {
-            Some(running) => match running.frame.next_call(t) {
-                Next::Call(wish) => Some(wish),
-                Next::Over => None,
-            },
-            None => None,
+            Some(running) => running.frame.next_call(t),
+            None => Next::Over,
         }
     }
 

@@ -10,7 +10,7 @@ use crate::walk::Walk;
 use bus_semantics::{Actor, BusPlan, Deed, Entry};
 use rte_value::ActKey;
 use std::alloc::Global;
-use task_machine::TaskSet;
+use task_machine::{Next, TaskSet};
 
 /// What is kept of all activations along a trace: a walk for each runnable, and one for each point, for the activation of a server without
 /// a queue that serves it.
@@ -65,12 +65,15 @@ impl Walks {
     ghost use Rattle.bus_semantics.specs.declared.entries.Actor.TheVariants.{Act};
     ghost use Rattle.bus_semantics.specs.Actor.{follows_program, starts_or_goes_on};
     ghost use Rattle.bus_semantics.specs.Owners.{key_fits};
-    ghost use Rattle.bus_semantics.specs.Plan.{plan_of};
+    ghost use Rattle.bus_semantics.specs.Plan.{Plan, plan_of};
+    ghost use Rattle.bus_semantics.specs.Wanted.{Wanted};
     ghost use Rattle.bus_semantics.specs.Legal.{IsLegal};
     ghost use Rattle.bus_semantics.specs.Sound.{IsSound};
     ghost use Rattle.bus_semantics.specs.declared.script.Mapping.{Mapping};
     ghost use Rattle.task_machine.specs.declared.instr.TaskSet.{TaskSet};
+    ghost use Rattle.task_machine.specs.Frames.{wanted_in};
     ghost use Rattle.task_generator.specs.Promise.{AsksAsPlanned};
+    ghost use Rattle.trace_walks.specs.Walking.{IsWanted, MayBegin};
     ghost use Rattle.trace_walks.specs.Standing.{CallerFreed, Freed, KeyNoted, WalksStand, asked_by, is_called, may_begin, walk_of};
 
     /// The walks before a trace. They stand for the empty history. An error says that there was no memory.
@@ -83,7 +86,7 @@ impl Walks {
     }
 
     /// The walk of a key.
-    pub(crate) fn walk(&self, key: ActKey) -> Option<&Walk>
+    fn walk(&self, key: ActKey) -> Option<&Walk>
         ensures { option_map (λ walk. walk.now) result ≡ walk_of self.now key }
     {
         match key.point {
@@ -170,6 +173,30 @@ impl Walks {
             if let Some(caller) = place.runnable {
                 free_at(&mut self.plain, caller);
             }
+        }
+    }
+
+    /// The call that the running activation of the key makes next, which is what its program asks for after the entries for which the walks
+    /// stand. None while none runs, and while it waits for the direct activation that it called. The bodies are the plan's.
+    pub fn wanted(&self, t: &TaskSet, key: ActKey) -> Next
+        ensures { (p : Plan) (h : History) (w : Wanted) → AsksAsPlanned p t.now → key_fits p key ≡ true → WalksStand t.now p h self.now →
+            wanted_in result ≡ Some w → IsWanted p h key w }
+    {
+        match self.walk(key) {
+            Some(walk) => walk.wanted(t),
+            None => Next::Over,
+        }
+    }
+
+    /// Whether an activation of the key may start by this event after the entries for which the walks stand: none of the key runs, and who
+    /// calls it waits for it (SWS_RTE: runnable activation).
+    pub fn may_begin(&self, p: &BusPlan, key: ActKey, event: u32) -> bool
+        ensures { (t : TaskSet) (h : History) → key_fits (plan_of p.now) key ≡ true → WalksStand t (plan_of p.now) h self.now →
+            result ≡ true → MayBegin (plan_of p.now) h key event }
+    {
+        match self.walk(key) {
+            Some(walk) => !walk.is_held() && self.may_start(p, key, walk, event),
+            None => false,
         }
     }
 

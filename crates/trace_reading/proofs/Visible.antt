@@ -1,8 +1,8 @@
 -- No field of a line of a trace over a sound plan has a space or a newline.
-use Rattle.std.proofs.Common.{◌≡◌, ℕ, ℤ, zero, suc, ◌/◌, ◌%◌, pos, negsuc, Bool, true, false, ◌&&◌, ◌==◌, cond, List, [], ◌∷◌, ◌++◌, codes, decimal, Option, Some, None, refl}
-use Rattle.std.specs.Fmt.{signed_decimal}
+use Rattle.std.proofs.Common.{◌≡◌, ℕ, ℤ, zero, suc, ◌+◌, ◌/◌, ◌%◌, pos, negsuc, Bool, true, false, ◌&&◌, ◌==◌, cond, List, [], ◌∷◌, ◌++◌, nat_lt, codes, decimal, Option, Some, None, refl, arith}
+use Rattle.std.specs.Fmt.{digit_glyph, digits, digits_onto, signed_decimal}
 use Rattle.std.specs.List.{list_all}
-use Rattle.std.proofs.lemmas.Bool.{and_from, and_parts}
+use Rattle.std.proofs.lemmas.Bool.{and_from, and_parts, lt-ltb}
 use Rattle.rte_value.specs.declared.kinds.Step.{Step}
 use Rattle.rte_value.specs.declared.kinds.Step.TheVariants as step
 use Rattle.rte_value.specs.declared.value.Value.{Value}
@@ -26,7 +26,6 @@ use Rattle.bus_semantics.specs.SoundNames.{is_name, is_pair_name, is_path}
 use Rattle.bus_semantics.specs.SoundPlan.{is_variable}
 use Rattle.bus_semantics.specs.Spelling.{Letters, actor_text, area_name, caller_text, elem_name, event_name, instance_text, key_text, machine_name, machine_text, mask_text, mode_port_name, mode_text, more_words, point_name, point_text, position_of, runnable_text, value_text, words_text}
 use Rattle.line_fields.proofs.Joining.{all-append}
-use Rattle.trace_counts.proofs.Codes.{decimal_visible}
 use Rattle.trace_reading.proofs.Cutting.{are_visible, is_visible}
 use Rattle.trace_reading.proofs.Letters.{name_visible, pair_visible, path_visible}
 use Rattle.trace_reading.proofs.Lines.{fields_of, start_fields, step_fields, word_of}
@@ -34,6 +33,31 @@ use Rattle.trace_reading.proofs.Naming.{IsNamed, elem_passes}
 
 both : (a b : Letters) → are_visible a ≡ true → are_visible b ≡ true → are_visible (a ++ b) ≡ true
 both a b h k = all-append is_visible a b h k
+
+-- ---- numbers
+
+glyph_visible : (d : ℕ) → is_visible (digit_glyph false d) ≡ true
+glyph_visible d = step (nat_lt d 10)
+  where
+    step : (b : Bool) → is_visible (cond b (48 + d) (87 + d)) ≡ true
+    step true = lt-ltb 32 (48 + d) (omega arith)
+    step false = lt-ltb 32 (87 + d) (omega arith)
+
+digits_visible : (k n : ℕ) (acc : Letters) → are_visible acc ≡ true → are_visible (digits_onto k 10 false n acc) ≡ true
+digits_visible zero n acc h = h
+digits_visible (suc k) n acc h = step (n / 10 == 0) more (digits_visible k (n / 10) (digit_glyph false (n % 10) ∷ acc) more)
+  where
+    more : are_visible (digit_glyph false (n % 10) ∷ acc) ≡ true
+    more = and_from (is_visible (digit_glyph false (n % 10))) (are_visible acc) (glyph_visible (n % 10)) h
+
+    step : (b : Bool) → are_visible (digit_glyph false (n % 10) ∷ acc) ≡ true → are_visible (digits_onto k 10 false (n / 10) (digit_glyph false (n % 10) ∷ acc)) ≡ true
+        → are_visible (cond b (digit_glyph false (n % 10) ∷ acc) (digits_onto k 10 false (n / 10) (digit_glyph false (n % 10) ∷ acc))) ≡ true
+    step true last later = last
+    step false last later = later
+
+decimal_visible : (n : ℕ) → are_visible (decimal n) ≡ true
+unfolding digits
+decimal_visible n = digits_visible 64 n [] refl
 
 -- ---- values
 

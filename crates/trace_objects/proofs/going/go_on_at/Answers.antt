@@ -1,0 +1,37 @@
+use Rattle.std.proofs.Common.{◌≡◌, refl, sym, subst, Some}
+use Rattle.std.proofs.lemmas.Option.{same_Some}
+use Rattle.bus_semantics.specs.Plan.{plan_of}
+use Rattle.bus_semantics.specs.Wanted.{wanted_of}
+use Rattle.bus_semantics.specs.Asked.{noted_for}
+use Rattle.port_objects.specs.Coming.{IsTheOne}
+use Rattle.port_objects.specs.Leading.{lead}
+use Rattle.port_objects.specs.Objects.{kept_of}
+use Rattle.trace_objects.specs.Unrest.{IsLed}
+use Rattle.trace_objects.proofs.Noting.{among_still}
+use Rattle.trace_objects.proofs.going.go_on_at.Goals as goal
+
+pub returns-in-Done-clause-made : goal.returns-in-Done-clause-made
+returns-in-Done-clause-made c = λ m l e ask is.
+    subst (IsTheOne (plan_of c.args.p.now) c.args.actor.now (wanted_of c.args.wish.now) (kept_of c.act.new.object) l) (same_Some c.in-Done.made e is) (c.in-Done.ensures.done m l c.in-Done.made ask refl)
+
+pub returns-in-NotYet-clause-made : goal.returns-in-NotYet-clause-made
+returns-in-NotYet-clause-made c = λ m l e ask is. absurd (cc is)
+
+pub returns-in-Done-clause-among : goal.returns-in-Done-clause-among
+returns-in-Done-clause-among c = λ objects found among.
+    let p = plan_of c.args.p.now in
+    let w = wanted_of c.args.wish.now in
+    let old = c.args.object.now in
+    let new = c.act.new.object in
+    let made = c.in-Done.ensures.lead in
+    let led : IsLed p c.args.number old new c.in-Done.made.deed = record {
+      noted = noted_for w c.in-Done.made;
+      deed = refl;
+      leads = subst (λ n. lead p n (kept_of old) (noted_for w c.in-Done.made) ≡ Some (kept_of new)) (sym c.requires.number) made.leads;
+      told = made.told;
+    } in
+    c.note.ensures old objects led found among
+
+pub returns-in-NotYet-clause-among : goal.returns-in-NotYet-clause-among
+returns-in-NotYet-clause-among c = λ objects found among.
+    among_still (plan_of c.args.p.now) c.args.number c.args.object.now c.act.new.object objects c.args.unrest.now found c.in-NotYet.ensures.lead.same among
