@@ -1,5 +1,5 @@
 -- What is found of files, and what a stop then says of the command.
-use Rattle.std.specs.Prelude.{◌⊎◌, IfErr, OnOk}
+use Rattle.std.specs.Prelude.{◌⊎◌, IfErr, OnOk, if◌then◌else◌}
 use Rattle.std.proofs.Common.{◌≡◌, ℕ, ◌+◌, ◌≤◌, List, [], ◌∷◌, ◌++◌, length, length-append, arith, refl, ap, inl, inr, Option, Some, None, Result, Ok, Err, Bool, true, false, ◌==◌}
 use Rattle.rte_text.specs.declared.refusal.Refused.{Refused}
 use Rattle.rte_text.specs.declared.refusal.Refused.TheVariants.{Memory, Rule}
@@ -11,6 +11,9 @@ use Rattle.description_stages.specs.declared.planning.PlannedDescription.{Planne
 use Rattle.description_stages.specs.Plans.{IsPlanRefusalOf, IsPlannedOf}
 use Rattle.plan_text.specs.Lines.{plan_text}
 use Rattle.script_reading.specs.Meaning.{Saying, saying}
+use Rattle.feed_reading.specs.Reading.{has_stopped}
+use Rattle.feed_reading.specs.Reading.{cause_of as cause_of_stimulus, first_bad as first_bad_stimulus}
+use Rattle.script_reading.specs.Meaning.{no_form}
 use Rattle.script_reading.specs.Reading.{bad_or, cause_of, first_bad}
 use Rattle.line_fields.specs.Texts.{lines_of, onto_first}
 use Rattle.commands.specs.declared.status.Status.{Status}
@@ -24,8 +27,9 @@ use Rattle.commands.specs.Commands.{Bytes, Command, check, header, plan}
 use Rattle.commands.specs.CheckCommand.{IsCheckedAs}
 use Rattle.commands.specs.Inputs.{AreInputs}
 use Rattle.check_definitions.specs.Verdicts.{IsVerdict}
-use Rattle.commands.specs.Judging.{IsBadScript, IsFound, IsNotLegal, IsNotPaired, IsNotPlanned, IsNotRun, IsRefusedTrace, stopped_at}
+use Rattle.commands.specs.Judging.{IsBadScript, IsFound, IsNotLegal, IsNotPaired, IsNotPlanned, IsNotRun, IsNotServed, IsRefusedTrace, stopped_at}
 use Rattle.commands.specs.HeaderCommand.{SaysHeader}
+use Rattle.commands.specs.LiveCommand.{IsLiveFinding}
 use Rattle.commands.specs.PairCommand.{IsPairFinding, pair_saying}
 use Rattle.commands.specs.PlanCommand.{IsPlanFinding}
 use Rattle.commands.specs.RunCommand.{IsRunFinding}
@@ -76,6 +80,7 @@ found_short d s fits finding.NoComponent is = absurd is
 found_short d s fits (finding.Clash name) is = absurd is
 found_short d s fits (finding.RefusedOf refusal which) is = absurd is
 found_short d s fits finding.NoLink is = absurd is
+found_short d s fits finding.TooManyCores is = absurd is
 
 pub short_by : (finds : Finding → Type 0) → ((found : Finding) → finds found → IsShortFinding found) → (why : Stop) → IsFound finds why → IsShort why
 short_by finds short (stop.Found found) is = short found is
@@ -97,6 +102,7 @@ plan_short d why is = short_by (IsPlanFinding d) by why is
     by (finding.Clash name) is = absurd is
     by (finding.RefusedOf refusal which) is = absurd is
     by finding.NoLink is = absurd is
+    by finding.TooManyCores is = absurd is
 
 pub pair_short : (c d s : Bytes) → length s ≤ 8388608 → (why : Stop) → IsNotPaired c d s why → IsShort why
 pair_short c d s fits why is = short_by (IsPairFinding c d s) by why is
@@ -109,6 +115,38 @@ pair_short c d s fits why is = short_by (IsPairFinding c d s) by why is
     by (finding.Trace checked) is = absurd is
     by finding.NoComponent is = absurd is
     by (finding.Clash name) is = absurd is
+    by finding.TooManyCores is = absurd is
+
+-- the line behind the last, where a stop is missing
+abbrev missing : List Letters → Option (ℕ × ℕ)
+missing before = Some (length before + 1, no_form)
+
+-- the first bad one of stimuli is a line, or this one
+stimulus_within : (p : Plan) (before ts : List Letters) (n cause : ℕ) → first_bad_stimulus p before ts ≡ Some (n, cause) → n ≤ length before + length ts + 1
+stimulus_within p before [] n cause e = by (has_stopped p before) e
+  where
+    by : (b : Bool) → (if b then None else missing before) ≡ Some (n, cause) → n ≤ length before + 0 + 1
+    by true e = absurd cc
+    by false e = omega (arith, number_of (length before + 1, no_form) (n, cause) e)
+stimulus_within p before (t ∷ ts) n cause e = by (cause_of_stimulus p before t) e (λ later. stimulus_within p (before ++ t ∷ []) ts n cause later)
+  where
+    by : (o : Option ℕ) → bad_or (length before + 1) o (first_bad_stimulus p (before ++ t ∷ []) ts) ≡ Some (n, cause)
+        → (first_bad_stimulus p (before ++ t ∷ []) ts ≡ Some (n, cause) → n ≤ length (before ++ t ∷ []) + length ts + 1) → n ≤ length before + length (t ∷ ts) + 1
+    by None later more = omega (arith, more later, length-append before (t ∷ []))
+    by (Some k) now more = omega (arith, number_of (length before + 1, k) (n, cause) now)
+
+pub live_short : (d s : Bytes) → length s ≤ 8388608 → (why : Stop) → IsNotServed d s why → IsShort why
+live_short d s fits why is = short_by (IsLiveFinding d s) by why is
+  where
+    by : (found : Finding) → IsLiveFinding d s found → IsShortFinding found
+    by (finding.Refused refusal) is = tt
+    by finding.TooManyCores is = tt
+    by (finding.Script line cause) is = omega (arith, stimulus_within (plan_of is.found.plan) [] (lines_of s) line cause is.bad, lines_fit s, fits)
+    by (finding.Trace checked) is = absurd is
+    by finding.NoComponent is = absurd is
+    by (finding.Clash name) is = absurd is
+    by (finding.RefusedOf refusal which) is = absurd is
+    by finding.NoLink is = absurd is
 
 -- ---- two descriptions
 
@@ -119,6 +157,21 @@ refused_one c d s Memory is = tt
 pub refused_two : (c d s : Bytes) (found : PlannedDescription) → IsPlannedOf c found → (r : Refused) → IsPlanRefusalOf d r → IsNotPaired c d s (stopped_at r 2)
 refused_two c d s found planned (Rule refusal) is = inr (refl, (found, planned), is)
 refused_two c d s found planned Memory is = tt
+
+-- ---- a description and stimuli
+
+pub not_planned : (d s : Bytes) (why : Stop) → IsNotPlanned d why → IsNotServed d s why
+not_planned d s (stop.Found (finding.Refused refusal)) is = is
+not_planned d s (stop.Found (finding.Script line cause)) is = absurd is
+not_planned d s (stop.Found (finding.Trace checked)) is = absurd is
+not_planned d s (stop.Found finding.NoComponent) is = absurd is
+not_planned d s (stop.Found (finding.Clash name)) is = absurd is
+not_planned d s (stop.Found (finding.RefusedOf refusal which)) is = absurd is
+not_planned d s (stop.Found finding.NoLink) is = absurd is
+not_planned d s (stop.Found finding.TooManyCores) is = absurd is
+not_planned d s stop.Memory is = tt
+not_planned d s stop.Words is = absurd is
+not_planned d s (stop.NotRead place) is = absurd is
 
 -- ---- over a plan
 
@@ -131,6 +184,7 @@ bad_script d s found planned (stop.Found finding.NoComponent) bad = absurd bad
 bad_script d s found planned (stop.Found (finding.Clash name)) bad = absurd bad
 bad_script d s found planned (stop.Found (finding.RefusedOf refusal which)) bad = absurd bad
 bad_script d s found planned (stop.Found finding.NoLink) bad = absurd bad
+bad_script d s found planned (stop.Found finding.TooManyCores) bad = absurd bad
 bad_script d s found planned stop.Memory bad = tt
 bad_script d s found planned stop.Words bad = absurd bad
 bad_script d s found planned (stop.NotRead place) bad = absurd bad
@@ -149,6 +203,7 @@ module _ (d t s : Bytes) (found : PlannedDescription) (lines : List Line) (input
   refused_by (stop.Found (finding.Clash name)) is = absurd is
   refused_by (stop.Found (finding.RefusedOf refusal which)) is = absurd is
   refused_by (stop.Found finding.NoLink) is = absurd is
+  refused_by (stop.Found finding.TooManyCores) is = absurd is
   refused_by stop.Memory is = tt
   refused_by stop.Words is = absurd is
   refused_by (stop.NotRead place) is = absurd is
@@ -166,6 +221,7 @@ not_run d t s (stop.Found finding.NoComponent) is = absurd is
 not_run d t s (stop.Found (finding.Clash name)) is = absurd is
 not_run d t s (stop.Found (finding.RefusedOf refusal which)) is = absurd is
 not_run d t s (stop.Found finding.NoLink) is = absurd is
+not_run d t s (stop.Found finding.TooManyCores) is = absurd is
 not_run d t s stop.Memory is = tt
 not_run d t s stop.Words is = absurd is
 not_run d t s (stop.NotRead place) is = absurd is

@@ -60,5 +60,6 @@ check_short one_line d t s trace_fits script_fits why is = short_by (IsCheckFind
     by (finding.Clash name) is = absurd is
     by (finding.RefusedOf refusal which) is = absurd is
     by finding.NoLink is = absurd is
+    by finding.TooManyCores is = absurd is
     by (finding.Trace checked) is = let read = is.1 in
         verdict_short (plan_of read.found.plan) read.found.mapping read.lines t (one_line (plan_of read.found.plan) read.found.mapping read.inputs.described.is_sound) trace_fits checked read.verdict

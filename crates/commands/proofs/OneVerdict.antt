@@ -1,5 +1,5 @@
 -- Of a command there is one verdict on the same files: what is shown of plans, refusals and traces, for each command.
-use Rattle.std.proofs.Common.{◌≡◌, ◌<◌, ℕ, List, [], ◌∷◌, length, Some, None, refl, sym, ap, ◌∙◌, subst, inl, inr, arith}
+use Rattle.std.proofs.Common.{◌≡◌, ◌<◌, ◌≤◌, ℕ, List, [], ◌∷◌, length, Some, None, refl, sym, ap, ◌∙◌, subst, inl, inr, arith}
 use Rattle.std.proofs.lemmas.Option.{some_pair_parts}
 use Rattle.rte_text.specs.declared.refusal.Refusal.{Refusal}
 use Rattle.rte_text.specs.declared.refusal.Refused.TheVariants.{Rule}
@@ -12,6 +12,7 @@ use Rattle.check_definitions.specs.Verdicts.{IsVerdict}
 use Rattle.check_definitions.specs.Laws.{TracesHaveOneVerdict}
 use Rattle.description_stages.specs.declared.planning.PlannedDescription.{PlannedDescription}
 use Rattle.description_stages.specs.Plans.{IsPlannedOf, IsPlanRefusalOf}
+use Rattle.feed_reading.specs.Reading.{first_bad as bad_stimulus}
 use Rattle.line_fields.specs.Texts.{lines_of}
 use Rattle.pair_run.specs.Linked.{links_of}
 use Rattle.plan_laws.specs.Same.{IsSamePlan}
@@ -20,10 +21,11 @@ use Rattle.script_reading.specs.Reading.{IsScript, first_bad}
 use Rattle.commands.specs.declared.stop.Finding.{Finding}
 use Rattle.commands.specs.declared.stop.Finding.TheVariants as finding
 use Rattle.commands.specs.CheckCommand.{IsCheckedAs, IsCheckFinding}
-use Rattle.commands.specs.Commands.{Bytes, Command, run, plan, header, soak, check, pair}
+use Rattle.commands.specs.Commands.{Bytes, Command, run, plan, header, soak, check, pair, live}
 use Rattle.commands.specs.Inputs.{HaveBadLine}
 use Rattle.api_header.specs.Headers.{Header, clash, header_of, made, no_component}
 use Rattle.commands.specs.HeaderCommand.{CanList, HasHeader, IsHeaderFinding}
+use Rattle.commands.specs.LiveCommand.{CanServe, HaveBadStimulus, HaveTooManyCores, IsLiveFinding}
 use Rattle.commands.specs.PairCommand.{AreDescribed, CanPair, HaveBadPairLine, HaveNoLink, IsPairFinding, IsRefusedOf, pair_saying}
 use Rattle.commands.specs.PlanCommand.{CanPlan, IsPlanFinding}
 use Rattle.commands.specs.RunCommand.{CanRun, IsRunFinding}
@@ -73,6 +75,7 @@ module _ (plans : PlansAreOne) (headers : HeadersAreOne) (refusals : RefusalsAre
   run_apart d s can (finding.Clash name) is = is
   run_apart d s can (finding.RefusedOf refusal which) is = is
   run_apart d s can finding.NoLink is = is
+  run_apart d s can finding.TooManyCores is = is
 
   run_same : (d s : Bytes) (f g : Finding) → IsRunFinding d s f → IsRunFinding d s g → f ≡ g
   run_same d s (finding.Refused r) (finding.Refused q) a b = ap finding.Refused (refusals d r q a b)
@@ -84,6 +87,7 @@ module _ (plans : PlansAreOne) (headers : HeadersAreOne) (refusals : RefusalsAre
   run_same d s (finding.Clash name) g a b = absurd a
   run_same d s (finding.RefusedOf r which) g a b = absurd a
   run_same d s finding.NoLink g a b = absurd a
+  run_same d s finding.TooManyCores g a b = absurd a
   run_same d s (finding.Refused r) finding.NoComponent a b = absurd b
   run_same d s (finding.Refused r) (finding.Clash name) a b = absurd b
   run_same d s (finding.Script line cause) finding.NoComponent a b = absurd b
@@ -91,9 +95,11 @@ module _ (plans : PlansAreOne) (headers : HeadersAreOne) (refusals : RefusalsAre
   run_same d s (finding.Refused r) (finding.Trace checked) a b = absurd b
   run_same d s (finding.Refused r) (finding.RefusedOf q which) a b = absurd b
   run_same d s (finding.Refused r) finding.NoLink a b = absurd b
+  run_same d s (finding.Refused r) finding.TooManyCores a b = absurd b
   run_same d s (finding.Script line cause) (finding.Trace checked) a b = absurd b
   run_same d s (finding.Script line cause) (finding.RefusedOf q which) a b = absurd b
   run_same d s (finding.Script line cause) finding.NoLink a b = absurd b
+  run_same d s (finding.Script line cause) finding.TooManyCores a b = absurd b
 
   -- ---- plan
 
@@ -105,6 +111,7 @@ module _ (plans : PlansAreOne) (headers : HeadersAreOne) (refusals : RefusalsAre
   plan_apart d can (finding.Clash name) is = is
   plan_apart d can (finding.RefusedOf refusal which) is = is
   plan_apart d can finding.NoLink is = is
+  plan_apart d can finding.TooManyCores is = is
 
   plan_same : (d : Bytes) (f g : Finding) → IsPlanFinding d f → IsPlanFinding d g → f ≡ g
   plan_same d (finding.Refused r) (finding.Refused q) a b = ap finding.Refused (refusals d r q a b)
@@ -114,12 +121,14 @@ module _ (plans : PlansAreOne) (headers : HeadersAreOne) (refusals : RefusalsAre
   plan_same d (finding.Clash name) g a b = absurd a
   plan_same d (finding.RefusedOf r which) g a b = absurd a
   plan_same d finding.NoLink g a b = absurd a
+  plan_same d finding.TooManyCores g a b = absurd a
   plan_same d (finding.Refused r) finding.NoComponent a b = absurd b
   plan_same d (finding.Refused r) (finding.Clash name) a b = absurd b
   plan_same d (finding.Refused r) (finding.Script line cause) a b = absurd b
   plan_same d (finding.Refused r) (finding.Trace checked) a b = absurd b
   plan_same d (finding.Refused r) (finding.RefusedOf q which) a b = absurd b
   plan_same d (finding.Refused r) finding.NoLink a b = absurd b
+  plan_same d (finding.Refused r) finding.TooManyCores a b = absurd b
 
   -- ---- header
 
@@ -135,6 +144,7 @@ module _ (plans : PlansAreOne) (headers : HeadersAreOne) (refusals : RefusalsAre
   header_apart d name can (finding.Trace checked) is = is
   header_apart d name can (finding.RefusedOf refusal which) is = is
   header_apart d name can finding.NoLink is = is
+  header_apart d name can finding.TooManyCores is = is
 
   clash_once : (n m : Bytes) → clash n ≡ clash m → n ≡ m
   clash_once n m e = cc
@@ -153,18 +163,22 @@ module _ (plans : PlansAreOne) (headers : HeadersAreOne) (refusals : RefusalsAre
   header_same d name (finding.Trace checked) g a b = absurd a
   header_same d name (finding.RefusedOf r which) g a b = absurd a
   header_same d name finding.NoLink g a b = absurd a
+  header_same d name finding.TooManyCores g a b = absurd a
   header_same d name (finding.Refused r) (finding.Script line cause) a b = absurd b
   header_same d name (finding.Refused r) (finding.Trace checked) a b = absurd b
   header_same d name (finding.Refused r) (finding.RefusedOf q which) a b = absurd b
   header_same d name (finding.Refused r) finding.NoLink a b = absurd b
+  header_same d name (finding.Refused r) finding.TooManyCores a b = absurd b
   header_same d name finding.NoComponent (finding.Script line cause) a b = absurd b
   header_same d name finding.NoComponent (finding.Trace checked) a b = absurd b
   header_same d name finding.NoComponent (finding.RefusedOf q which) a b = absurd b
   header_same d name finding.NoComponent finding.NoLink a b = absurd b
+  header_same d name finding.NoComponent finding.TooManyCores a b = absurd b
   header_same d name (finding.Clash n) (finding.Script line cause) a b = absurd b
   header_same d name (finding.Clash n) (finding.Trace checked) a b = absurd b
   header_same d name (finding.Clash n) (finding.RefusedOf q which) a b = absurd b
   header_same d name (finding.Clash n) finding.NoLink a b = absurd b
+  header_same d name (finding.Clash n) finding.TooManyCores a b = absurd b
 
   -- ---- check
 
@@ -188,6 +202,7 @@ module _ (plans : PlansAreOne) (headers : HeadersAreOne) (refusals : RefusalsAre
   check_apart d t s legal (finding.Clash name) is = is
   check_apart d t s legal (finding.RefusedOf refusal which) is = is
   check_apart d t s legal finding.NoLink is = is
+  check_apart d t s legal finding.TooManyCores is = is
   check_apart d t s legal (finding.Trace checked) is = is.0 (checked_once d t s checked Legal is.1 legal)
 
   check_same : (d t s : Bytes) (f g : Finding) → IsCheckFinding d t s f → IsCheckFinding d t s g → f ≡ g
@@ -200,18 +215,22 @@ module _ (plans : PlansAreOne) (headers : HeadersAreOne) (refusals : RefusalsAre
   check_same d t s (finding.Clash name) g a b = absurd a
   check_same d t s (finding.RefusedOf r which) g a b = absurd a
   check_same d t s finding.NoLink g a b = absurd a
+  check_same d t s finding.TooManyCores g a b = absurd a
   check_same d t s (finding.Trace v) finding.NoComponent a b = absurd b
   check_same d t s (finding.Trace v) (finding.Clash name) a b = absurd b
   check_same d t s (finding.Trace v) (finding.RefusedOf q which) a b = absurd b
   check_same d t s (finding.Trace v) finding.NoLink a b = absurd b
+  check_same d t s (finding.Trace v) finding.TooManyCores a b = absurd b
   check_same d t s (finding.Refused r) finding.NoComponent a b = absurd b
   check_same d t s (finding.Refused r) (finding.Clash name) a b = absurd b
   check_same d t s (finding.Refused r) (finding.RefusedOf q which) a b = absurd b
   check_same d t s (finding.Refused r) finding.NoLink a b = absurd b
+  check_same d t s (finding.Refused r) finding.TooManyCores a b = absurd b
   check_same d t s (finding.Script line cause) finding.NoComponent a b = absurd b
   check_same d t s (finding.Script line cause) (finding.Clash name) a b = absurd b
   check_same d t s (finding.Script line cause) (finding.RefusedOf q which) a b = absurd b
   check_same d t s (finding.Script line cause) finding.NoLink a b = absurd b
+  check_same d t s (finding.Script line cause) finding.TooManyCores a b = absurd b
   check_same d t s (finding.Refused r) (finding.Refused q) a b = run_same d s (finding.Refused r) (finding.Refused q) a b
   check_same d t s (finding.Refused r) (finding.Script line cause) a b = run_same d s (finding.Refused r) (finding.Script line cause) a b
   check_same d t s (finding.Script line cause) (finding.Refused q) a b = run_same d s (finding.Script line cause) (finding.Refused q) a b
@@ -263,6 +282,7 @@ module _ (plans : PlansAreOne) (headers : HeadersAreOne) (refusals : RefusalsAre
   pair_apart c d s can (finding.Trace checked) is = is
   pair_apart c d s can finding.NoComponent is = is
   pair_apart c d s can (finding.Clash name) is = is
+  pair_apart c d s can finding.TooManyCores is = is
 
   refused_once : (c d : Bytes) (r q : Refusal) (i j : ℕ) → IsRefusedOf c d r i → IsRefusedOf c d q j → finding.RefusedOf r i ≡ finding.RefusedOf q j
   refused_once c d r q i j (inl a) (inl b) = rw (a.0, b.0, refusals c r q a.1 b.1) refl
@@ -284,18 +304,87 @@ module _ (plans : PlansAreOne) (headers : HeadersAreOne) (refusals : RefusalsAre
   pair_same c d s (finding.Trace checked) g a b = absurd a
   pair_same c d s finding.NoComponent g a b = absurd a
   pair_same c d s (finding.Clash name) g a b = absurd a
+  pair_same c d s finding.TooManyCores g a b = absurd a
   pair_same c d s (finding.RefusedOf r i) (finding.Refused q) a b = absurd b
   pair_same c d s (finding.RefusedOf r i) (finding.Trace checked) a b = absurd b
   pair_same c d s (finding.RefusedOf r i) finding.NoComponent a b = absurd b
   pair_same c d s (finding.RefusedOf r i) (finding.Clash name) a b = absurd b
+  pair_same c d s (finding.RefusedOf r i) finding.TooManyCores a b = absurd b
   pair_same c d s finding.NoLink (finding.Refused q) a b = absurd b
   pair_same c d s finding.NoLink (finding.Trace checked) a b = absurd b
   pair_same c d s finding.NoLink finding.NoComponent a b = absurd b
   pair_same c d s finding.NoLink (finding.Clash name) a b = absurd b
+  pair_same c d s finding.NoLink finding.TooManyCores a b = absurd b
   pair_same c d s (finding.Script n k) (finding.Refused q) a b = absurd b
   pair_same c d s (finding.Script n k) (finding.Trace checked) a b = absurd b
   pair_same c d s (finding.Script n k) finding.NoComponent a b = absurd b
   pair_same c d s (finding.Script n k) (finding.Clash name) a b = absurd b
+  pair_same c d s (finding.Script n k) finding.TooManyCores a b = absurd b
+
+  -- ---- live
+
+  -- over two readings of the bytes the cores are as many
+  same_cores : (d : Bytes) (x y : PlannedDescription) → IsPlannedOf d x → IsPlannedOf d y → x.mapping.cores ≡ y.mapping.cores
+  same_cores d x y a b = ap (λ (m : Mapping). m.cores) (plans d x y a b).mapping
+
+  -- seven or eight
+  not_many : (d : Bytes) (x : PlannedDescription) → IsPlannedOf d x → x.mapping.cores ≤ 7 → HaveTooManyCores d → ⊥
+  not_many d x planned few many = omega (arith, few, many.many, same_cores d x many.found planned many.described)
+
+  -- stimuli have no bad line
+  good_feeds : (d s : Bytes) → CanServe d s → (line cause : ℕ) → HaveBadStimulus d s line cause → ⊥
+  good_feeds d s can line cause bad =
+      let inputs = can.2 in
+      let same : bad_stimulus (plan_of can.0.plan) [] (lines_of s) ≡ Some (line, cause) =
+      subst (λ p. bad_stimulus p [] (lines_of s) ≡ Some (line, cause)) ((plans d bad.found can.0 bad.described inputs.described).plan) bad.bad in
+      let none : bad_stimulus (plan_of can.0.plan) [] (lines_of s) ≡ None = inputs.fed.good in
+      absurd cc
+
+  bad_feed_line : (d s : Bytes) (n k m l : ℕ) → HaveBadStimulus d s n k → HaveBadStimulus d s m l → finding.Script n k ≡ finding.Script m l
+  bad_feed_line d s n k m l a b =
+      let parts = some_pair_parts n m k l (sym a.bad ∙ (ap (λ p. bad_stimulus p [] (lines_of s)) ((plans d a.found b.found a.described b.described).plan) ∙ b.bad)) in
+      ap (λ x. finding.Script x k) parts.0 ∙ ap (finding.Script m) parts.1
+
+  live_apart : (d s : Bytes) → CanServe d s → (f : Finding) → IsLiveFinding d s f → ⊥
+  live_apart d s can (finding.Refused refusal) is = let inputs = can.2 in not_both d refusal can.0 is inputs.described
+  live_apart d s can finding.TooManyCores is = let inputs = can.2 in not_many d can.0 inputs.described inputs.few_cores is
+  live_apart d s can (finding.Script line cause) is = good_feeds d s can line cause is
+  live_apart d s can (finding.Trace checked) is = is
+  live_apart d s can finding.NoComponent is = is
+  live_apart d s can (finding.Clash name) is = is
+  live_apart d s can (finding.RefusedOf refusal which) is = is
+  live_apart d s can finding.NoLink is = is
+
+  live_same : (d s : Bytes) (f g : Finding) → IsLiveFinding d s f → IsLiveFinding d s g → f ≡ g
+  live_same d s (finding.Refused r) (finding.Refused q) a b = ap finding.Refused (refusals d r q a b)
+  live_same d s (finding.Refused r) finding.TooManyCores a b = absurd (not_both d r b.found a b.described)
+  live_same d s (finding.Refused r) (finding.Script m l) a b = absurd (not_both d r b.found a b.described)
+  live_same d s finding.TooManyCores (finding.Refused q) a b = absurd (not_both d q a.found b a.described)
+  live_same d s finding.TooManyCores finding.TooManyCores a b = refl
+  live_same d s finding.TooManyCores (finding.Script m l) a b = absurd (not_many d b.found b.described b.few_cores a)
+  live_same d s (finding.Script n k) (finding.Refused q) a b = absurd (not_both d q a.found b a.described)
+  live_same d s (finding.Script n k) finding.TooManyCores a b = absurd (not_many d a.found a.described a.few_cores b)
+  live_same d s (finding.Script n k) (finding.Script m l) a b = bad_feed_line d s n k m l a b
+  live_same d s (finding.Trace checked) g a b = absurd a
+  live_same d s finding.NoComponent g a b = absurd a
+  live_same d s (finding.Clash name) g a b = absurd a
+  live_same d s (finding.RefusedOf r which) g a b = absurd a
+  live_same d s finding.NoLink g a b = absurd a
+  live_same d s (finding.Refused r) (finding.Trace checked) a b = absurd b
+  live_same d s (finding.Refused r) finding.NoComponent a b = absurd b
+  live_same d s (finding.Refused r) (finding.Clash name) a b = absurd b
+  live_same d s (finding.Refused r) (finding.RefusedOf q which) a b = absurd b
+  live_same d s (finding.Refused r) finding.NoLink a b = absurd b
+  live_same d s finding.TooManyCores (finding.Trace checked) a b = absurd b
+  live_same d s finding.TooManyCores finding.NoComponent a b = absurd b
+  live_same d s finding.TooManyCores (finding.Clash name) a b = absurd b
+  live_same d s finding.TooManyCores (finding.RefusedOf q which) a b = absurd b
+  live_same d s finding.TooManyCores finding.NoLink a b = absurd b
+  live_same d s (finding.Script n k) (finding.Trace checked) a b = absurd b
+  live_same d s (finding.Script n k) finding.NoComponent a b = absurd b
+  live_same d s (finding.Script n k) (finding.Clash name) a b = absurd b
+  live_same d s (finding.Script n k) (finding.RefusedOf q which) a b = absurd b
+  live_same d s (finding.Script n k) finding.NoLink a b = absurd b
 
   -- ---- all commands
 
@@ -321,6 +410,10 @@ module _ (plans : PlansAreOne) (headers : HeadersAreOne) (refusals : RefusalsAre
   apart (pair c d s) (x ∷ []) can f is = is
   apart (pair c d s) (x ∷ y ∷ []) can f is = is
   apart (pair c d s) (x ∷ y ∷ z ∷ w ∷ files) can f is = is
+  apart (live d) (description ∷ stimuli ∷ []) can f is = live_apart description stimuli can f is
+  apart (live d) [] can f is = is
+  apart (live d) (x ∷ []) can f is = is
+  apart (live d) (x ∷ y ∷ z ∷ files) can f is = is
 
   same : (command : Command) (files : List Bytes) (f g : Finding) → IsFindingOn command files f → IsFindingOn command files g → f ≡ g
   same (run d s) (description ∷ script ∷ []) f g a b = run_same description script f g a b
@@ -344,6 +437,10 @@ module _ (plans : PlansAreOne) (headers : HeadersAreOne) (refusals : RefusalsAre
   same (pair c d s) (x ∷ []) f g a b = absurd a
   same (pair c d s) (x ∷ y ∷ []) f g a b = absurd a
   same (pair c d s) (x ∷ y ∷ z ∷ w ∷ files) f g a b = absurd a
+  same (live d) (description ∷ stimuli ∷ []) f g a b = live_same description stimuli f g a b
+  same (live d) [] f g a b = absurd a
+  same (live d) (x ∷ []) f g a b = absurd a
+  same (live d) (x ∷ y ∷ z ∷ files) f g a b = absurd a
 
   pub one_verdict : (command : Command) (files : List Bytes) (v w : Verdict) → IsVerdictOn command files v → IsVerdictOn command files w → v ≡ w
   one_verdict command files done done a b = refl

@@ -47,3 +47,4 @@ no_other (refused finding.NoComponent) = record { words = λ e. cc; unread = λ 
 no_other (refused (finding.Clash name)) = record { words = λ e. cc; unread = λ e. cc; unwritten = λ e. cc; memory = λ e. cc }
 no_other (refused (finding.RefusedOf refusal which)) = record { words = λ e. cc; unread = λ e. cc; unwritten = λ e. cc; memory = λ e. cc }
 no_other (refused finding.NoLink) = record { words = λ e. cc; unread = λ e. cc; unwritten = λ e. cc; memory = λ e. cc }
+no_other (refused finding.TooManyCores) = record { words = λ e. cc; unread = λ e. cc; unwritten = λ e. cc; memory = λ e. cc }

@@ -29,3 +29,4 @@ IsCheckFinding d t s finding.NoComponent = ⊥
 IsCheckFinding d t s (finding.Clash name) = ⊥
 IsCheckFinding d t s (finding.RefusedOf refusal which) = ⊥
 IsCheckFinding d t s finding.NoLink = ⊥
+IsCheckFinding d t s finding.TooManyCores = ⊥

@@ -27,6 +27,7 @@ IsHeaderFinding d name (finding.Script line cause) = ⊥
 IsHeaderFinding d name (finding.Trace checked) = ⊥
 IsHeaderFinding d name (finding.RefusedOf refusal which) = ⊥
 IsHeaderFinding d name finding.NoLink = ⊥
+IsHeaderFinding d name finding.TooManyCores = ⊥
 
 -- the text is that of the header
 abbrev pub SaysHeader : (description : Bytes) → (name : Bytes) → (text : Bytes) → Type 0

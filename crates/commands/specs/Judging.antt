@@ -16,6 +16,7 @@ use Rattle.commands.specs.declared.stop.Stop.{Stop}
 use Rattle.commands.specs.declared.stop.Stop.TheVariants as stop
 use Rattle.commands.specs.Commands.{Bytes}
 use Rattle.commands.specs.CheckCommand.{IsCheckFinding}
+use Rattle.commands.specs.LiveCommand.{IsLiveFinding}
 use Rattle.commands.specs.PlanCommand.{IsPlanFinding}
 use Rattle.commands.specs.PairCommand.{IsPairFinding}
 use Rattle.commands.specs.RunCommand.{IsRunFinding}
@@ -41,6 +42,7 @@ IsBadLine p s finding.NoComponent = ⊥
 IsBadLine p s (finding.Clash name) = ⊥
 IsBadLine p s (finding.RefusedOf refusal which) = ⊥
 IsBadLine p s finding.NoLink = ⊥
+IsBadLine p s finding.TooManyCores = ⊥
 
 abbrev pub IsBadScript : Plan → (script : Bytes) → Stop → Type 0
 IsBadScript p s why = IsFound (IsBadLine p s) why
@@ -54,6 +56,7 @@ IsNoTrace p m lines t finding.NoComponent = ⊥
 IsNoTrace p m lines t (finding.Clash name) = ⊥
 IsNoTrace p m lines t (finding.RefusedOf refusal which) = ⊥
 IsNoTrace p m lines t finding.NoLink = ⊥
+IsNoTrace p m lines t finding.TooManyCores = ⊥
 
 abbrev pub IsRefusedTrace : Plan → Mapping → List Line → (trace : Bytes) → Stop → Type 0
 IsRefusedTrace p m lines t why = IsFound (IsNoTrace p m lines t) why
@@ -64,6 +67,10 @@ IsNotLegal d t s why = IsFound (IsCheckFinding d t s) why
 -- of two descriptions and a script over both
 abbrev pub IsNotPaired : (first : Bytes) → (second : Bytes) → (script : Bytes) → Stop → Type 0
 IsNotPaired c d s why = IsFound (IsPairFinding c d s) why
+
+-- of a description and stimuli over its plan
+abbrev pub IsNotServed : (description : Bytes) → (stimuli : Bytes) → Stop → Type 0
+IsNotServed d s why = IsFound (IsLiveFinding d s) why
 
 -- of two descriptions the one at this place, counted from 1, is refused
 abbrev pub stopped_at : Refused → (which : ℕ) → Stop

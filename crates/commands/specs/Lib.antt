@@ -7,6 +7,7 @@ pub mod HeaderCommand
 pub mod CheckCommand
 pub mod SoakCommand
 pub mod PairCommand
+pub mod LiveCommand
 pub mod Verdicts
 pub mod Fetching
 pub mod Judging

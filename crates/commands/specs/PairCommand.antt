@@ -73,6 +73,7 @@ IsPairFinding c d s (finding.Refused refusal) = ⊥
 IsPairFinding c d s (finding.Trace checked) = ⊥
 IsPairFinding c d s finding.NoComponent = ⊥
 IsPairFinding c d s (finding.Clash name) = ⊥
+IsPairFinding c d s finding.TooManyCores = ⊥
 
 -- ---- what is put
 

@@ -20,6 +20,7 @@ IsPlanFinding d finding.NoComponent = ⊥
 IsPlanFinding d (finding.Clash name) = ⊥
 IsPlanFinding d (finding.RefusedOf refusal which) = ⊥
 IsPlanFinding d finding.NoLink = ⊥
+IsPlanFinding d finding.TooManyCores = ⊥
 
 -- the text is that of the plan of the description
 pub record SaysPlan (description text : Bytes) : Type 0 where

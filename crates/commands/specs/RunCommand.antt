@@ -45,6 +45,7 @@ IsRunFinding d s finding.NoComponent = ⊥
 IsRunFinding d s (finding.Clash name) = ⊥
 IsRunFinding d s (finding.RefusedOf refusal which) = ⊥
 IsRunFinding d s finding.NoLink = ⊥
+IsRunFinding d s finding.TooManyCores = ⊥
 
 -- the headline: the bytes are a description and a script over its plan, and the text spells a run of that script
 pub record SaysRun (description script text : Bytes) : Type 0 where

@@ -50,6 +50,7 @@ finding_text finding.NoComponent = codes "no component\n"
 finding_text (finding.Clash name) = clash_text name
 finding_text (finding.RefusedOf refusal which) = refusal_of_text refusal.rule refusal.place which
 finding_text finding.NoLink = codes "no link\n"
+finding_text finding.TooManyCores = codes "too many cores\n"
 
 abbrev pub finding_status : Finding → Status
 finding_status (finding.Refused refusal) = status.Refused
@@ -59,6 +60,7 @@ finding_status finding.NoComponent = status.NoComponent
 finding_status (finding.Clash name) = status.Clash
 finding_status (finding.RefusedOf refusal which) = status.Refused
 finding_status finding.NoLink = status.NoLink
+finding_status finding.TooManyCores = status.TooManyCores
 
 -- ---- the put of a text
 
@@ -101,6 +103,7 @@ IsShortFinding finding.NoComponent = Unit {0}
 IsShortFinding (finding.Clash name) = Unit {0}
 IsShortFinding (finding.RefusedOf refusal which) = Unit {0}
 IsShortFinding finding.NoLink = Unit {0}
+IsShortFinding finding.TooManyCores = Unit {0}
 
 abbrev pub IsShort : Stop → Type 0
 IsShort stop.Words = Unit {0}

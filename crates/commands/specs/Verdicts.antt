@@ -4,7 +4,7 @@ use Rattle.commands.specs.declared.status.Status.{Status}
 use Rattle.commands.specs.declared.status.Status.TheVariants as status
 use Rattle.commands.specs.declared.stop.Finding.{Finding}
 use Rattle.check_definitions.specs.declared.checked.Checked.TheVariants.{Legal}
-use Rattle.commands.specs.Commands.{Bytes, Command, run, plan, header, soak, check, pair}
+use Rattle.commands.specs.Commands.{Bytes, Command, run, plan, header, soak, check, pair, live}
 use Rattle.commands.specs.Texts.{checked_text, finding_status, finding_text}
 use Rattle.commands.specs.RunCommand.{CanRun, IsRunFinding, SaysRun, BeginsRun}
 use Rattle.commands.specs.PlanCommand.{CanPlan, IsPlanFinding, SaysPlan}
@@ -12,6 +12,7 @@ use Rattle.commands.specs.HeaderCommand.{CanList, IsHeaderFinding, SaysHeader}
 use Rattle.commands.specs.CheckCommand.{IsCheckedAs, IsCheckFinding}
 use Rattle.commands.specs.SoakCommand.{SaysNumbers}
 use Rattle.commands.specs.PairCommand.{CanPair, IsPairFinding, SaysPair, BeginsPair}
+use Rattle.commands.specs.LiveCommand.{CanServe, IsLiveFinding, SaysLive, BeginsLive}
 
 -- the command can be carried out, or its files are refused
 pub data Verdict : Type 0 where
@@ -31,6 +32,7 @@ CanBeDone (header d name) (description ∷ []) = CanList description name
 CanBeDone (soak n) [] = Unit {0}
 CanBeDone (check d t s) (description ∷ trace ∷ script ∷ []) = IsCheckedAs description trace script Legal
 CanBeDone (pair d e s) (one ∷ two ∷ script ∷ []) = CanPair one two script
+CanBeDone (live d) (description ∷ stimuli ∷ []) = CanServe description stimuli
 CanBeDone command files = ⊥
 
 abbrev pub IsFindingOn : Command → (files : List Bytes) → Finding → Type 0
@@ -39,6 +41,7 @@ IsFindingOn (plan d) (description ∷ []) finding = IsPlanFinding description fi
 IsFindingOn (header d name) (description ∷ []) finding = IsHeaderFinding description name finding
 IsFindingOn (check d t s) (description ∷ trace ∷ script ∷ []) finding = IsCheckFinding description trace script finding
 IsFindingOn (pair d e s) (one ∷ two ∷ script ∷ []) finding = IsPairFinding one two script finding
+IsFindingOn (live d) (description ∷ stimuli ∷ []) finding = IsLiveFinding description stimuli finding
 IsFindingOn command files finding = ⊥
 
 abbrev pub IsVerdictOn : Command → (files : List Bytes) → Verdict → Type 0
@@ -53,6 +56,7 @@ SaysDone (header d name) (description ∷ []) text = SaysHeader description name
 SaysDone (soak n) [] text = SaysNumbers n text
 SaysDone (check d t s) (description ∷ trace ∷ script ∷ []) text = text ≡ checked_text Legal
 SaysDone (pair d e s) (one ∷ two ∷ script ∷ []) text = SaysPair one two script text
+SaysDone (live d) (description ∷ stimuli ∷ []) text = SaysLive description stimuli text
 SaysDone command files text = ⊥
 
 -- the text that is put with the verdict
@@ -64,4 +68,5 @@ SaysVerdict command files (refused finding) text = text ≡ finding_text finding
 abbrev pub Begins : Command → (files : List Bytes) → Bytes → Type 0
 Begins (run d s) (description ∷ script ∷ []) text = BeginsRun description script text
 Begins (pair d e s) (one ∷ two ∷ script ∷ []) text = BeginsPair one two script text
+Begins (live d) (description ∷ stimuli ∷ []) text = BeginsLive description stimuli text
 Begins command files text = ⊥

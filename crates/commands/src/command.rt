@@ -41,6 +41,10 @@ pub enum Command<'a> {
         two: &'a str,
         script: &'a str,
     },
+    /// `live C`: run a node of the description C while stimuli arrive.
+    Live {
+        description: &'a str,
+    },
 }
 
 /// The number of pairs that the text is: from 1 to 64, in decimal without leading zeros.
@@ -65,6 +69,9 @@ fn command_of_two<'a>(command: &str, word: &'a str) -> Option<Command<'a>>
 {
     if command == "plan" {
         return Some(Command::Plan { description: word });
+    }
+    if command == "live" {
+        return Some(Command::Live { description: word });
     }
     if command != "soak" {
         return None;

@@ -2,18 +2,21 @@
 //!
 //! # Decisions
 //!
-//! **Which refusal comes first?** Words, the files in the order of the words, the description, the script. Both files are fetched
-//! before the description is judged, so that `not read` does not depend on what a file holds.
+//! **Which refusal comes first?** Words, the files in the order of the words, the description, the script. All files are fetched
+//! before the description is judged, so that `not read` does not depend on what a file holds. For the same reason `live` takes its stimuli
+//! whole, behind the description, before it judges any of them.
 //!
-//! **Which number is behind `not read`?** That of the first word whose file could not be read, the command being 0. The files are
-//! fetched in the order of the words, and a shelf that tells its files counts its fetches: so the number is by how much that count
-//! rose in the call, as long as it does not come near 2^64.
+//! **Which number is behind `not read`?** That of the first file that could not be read, among those that the command reads, from 1. So it
+//! is the place of its word, but for the stimuli of `live`, which are file 2 and have no word. The files are fetched in this order, and a
+//! shelf that tells its files counts its fetches: so the number is by how much that count rose in the call, as long as it does not come
+//! near 2^64.
 //!
 //! **Is `done` a verdict of each command?** Yes, and what is then put is the command's own (`SaysDone`). `legal` is the `done` of
 //! `check`. A refusal has its text by an equation, so `report` is one function for all of them.
 #![tactic(auto)]
 
 mod command;
+mod feeding;
 mod fetch;
 mod laws;
 mod pairing;
@@ -23,6 +26,7 @@ mod status;
 mod stop;
 
 pub use command::{Command, command_in};
+pub use feeding::{PreparedFeeds, judge_live};
 pub use fetch::fetch_all;
 pub use laws::verdicts_are_one;
 pub use pairing::{LinkedScript, PlannedPair, PreparedPair, judge_pair};

@@ -148,6 +148,7 @@ fn report_finding<K: Sink>(alloc: Global, found: &Finding, out: &mut K) -> Statu
             Err(_) => Status::Memory,
         },
         Finding::NoLink => put_text(b"no link\n", Status::NoLink, out),
+        Finding::TooManyCores => put_text(b"too many cores\n", Status::TooManyCores, out),
     }
 }
 

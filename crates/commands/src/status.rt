@@ -25,4 +25,6 @@ pub enum Status {
     Clash = 9,
     /// No element of two nodes is linked.
     NoLink = 10,
+    /// The description has too many cores for a node that runs while stimuli arrive.
+    TooManyCores = 11,
 }

@@ -8,7 +8,7 @@ use rte_text::{Refusal, Text};
 pub enum Finding {
     /// The description breaks a rule.
     Refused(Refusal),
-    /// A line of the script is refused: its number, counted from 1, and the cause.
+    /// A line of the script or of the stimuli is refused: its number, counted from 1, and the cause.
     Script { line: u64, cause: u8 },
     /// The trace is refused: the first line that is, with the clause that it breaks if it has a reading.
     Trace(Checked),
@@ -20,6 +20,8 @@ pub enum Finding {
     RefusedOf { refusal: Refusal, which: u8 },
     /// No element of two nodes is linked.
     NoLink,
+    /// The description has more cores than may run while stimuli arrive.
+    TooManyCores,
 }
 
 /// Why nothing is carried out.

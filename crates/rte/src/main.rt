@@ -1,10 +1,13 @@
 //! The program: it makes the shelf of real files, the sink and the gate, and carries out the command that its words give.
 #![tactic(auto)]
 
+mod shelf;
+
 use gathered_output::GatheringSink;
 use gathered_run::run_gathered;
 use rte_program::{Status, rte_top};
-use rte_text::{FileShelf, OpenGate, StdSink};
+use rte_text::{OpenGate, StdSink};
+use shelf::InputShelf;
 use std::env;
 use std::io::{self, ErrorKind, IsTerminal};
 use std::process::ExitCode;
@@ -27,7 +30,7 @@ fn run<R: Files + Print + AllocGlobal + Clone + Drop + Threads + Wait + Sync>(
     words: &[String],
     at_terminal: bool,
 ) -> io::Result<Status> {
-    let mut shelf = FileShelf::new(rt.clone()?);
+    let mut shelf = InputShelf::new(rt.clone()?);
     if at_terminal {
         let mut out = StdSink::new(rt.clone()?);
         return Ok(rte_top(rt, rt.alloc(), words, &mut shelf, &mut out, &OpenGate));

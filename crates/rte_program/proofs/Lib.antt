@@ -4,3 +4,4 @@ pub mod Paired
 pub mod Ran
 pub mod SoakSizes
 pub mod Soaks
+pub mod Fed

@@ -61,6 +61,7 @@ only_memory_by n d s keeps is (stop.Found finding.NoComponent) found = absurd fo
 only_memory_by n d s keeps is (stop.Found (finding.Clash name)) found = absurd found
 only_memory_by n d s keeps is (stop.Found (finding.RefusedOf refusal which)) found = absurd found
 only_memory_by n d s keeps is (stop.Found finding.NoLink) found = absurd found
+only_memory_by n d s keeps is (stop.Found finding.TooManyCores) found = absurd found
 only_memory_by n d s keeps is stop.Memory found = refl
 only_memory_by n d s keeps is stop.Words found = absurd found
 only_memory_by n d s keeps is (stop.NotRead place) found = absurd found

@@ -1,15 +1,17 @@
--- How the run of a script on a new node ends, or on two.
+-- How the run of a script on a new node ends, or on two, and that of a node to which stimuli come.
 use Rattle.std.specs.Prelude.{◌≡◌, ℕ, ◌⊎◌, List, Option}
 use Rattle.rte_text.specs.Counts.{Rose}
 use Rattle.rte_text.specs.Sinks.{AppendsPrefixWhereTold, AppendsWhereTold}
 use Rattle.bus_semantics.specs.declared.script.Line.{Line}
 use Rattle.bus_semantics.specs.declared.script.Mapping.{Mapping}
 use Rattle.bus_semantics.specs.Plan.{Plan}
+use Rattle.feed_reading.specs.declared.feeds.Feeds.{Feeds}
 use Rattle.pair_run.specs.declared.pair.PairRun.{PairRun}
 use Rattle.pair_run.specs.declared.pair.PairRun.TheVariants.{Finished, Failed, LinkFailed, Memory}
 use Rattle.commands.specs.declared.status.Status.{Status}
 use Rattle.commands.specs.declared.status.Status.TheVariants as status
 use Rattle.commands.specs.Commands.{Bytes}
+use Rattle.commands.specs.LiveCommand.{IsTextOfBegunLive, IsTextOfLive}
 use Rattle.commands.specs.PairCommand.{IsTextOfBegunPair, IsTextOfPair}
 use Rattle.commands.specs.RunCommand.{IsTextOfBeginning, IsTextOfRun}
 
@@ -57,3 +59,22 @@ IsPairRun p m q n script answer before after f g =
     ((answer ≡ status.Done) × (g ≡ f) × PrintsPairRun p m q n script before after)
     ⊎ (((answer ≡ status.NotWritten) × Rose f g × PrintsPairBeginning p m q n script before after)
     ⊎ ((answer ≡ status.Memory) × (g ≡ f) × ((after ≡ before) ⊎ PrintsPairBeginning p m q n script before after)))
+
+-- ---- while stimuli come
+
+pub record PrintsLiveRun (p : Plan) (m : Mapping) (feeds : Feeds) (before after : Option Bytes) : Type 0 where
+  pub text : Bytes
+  pub live : IsTextOfLive p m feeds text
+  pub put : AppendsWhereTold before after text
+
+pub record PrintsLiveBeginning (p : Plan) (m : Mapping) (feeds : Feeds) (before after : Option Bytes) : Type 0 where
+  pub text : Bytes
+  pub begun : IsTextOfBegunLive p m feeds text
+  pub put : AppendsPrefixWhereTold before after text
+
+-- a node was served by feeds and then ran, a put failed, or there was no memory, before the first line or in the run line
+abbrev pub IsLiveRun : Plan → Mapping → Feeds → Status → (before : Option Bytes) → (after : Option Bytes) → (faults_before : ℕ) → (faults_after : ℕ) → Type 0
+IsLiveRun p m feeds answer before after f g =
+    ((answer ≡ status.Done) × (g ≡ f) × PrintsLiveRun p m feeds before after)
+    ⊎ (((answer ≡ status.NotWritten) × Rose f g × PrintsLiveBeginning p m feeds before after)
+    ⊎ ((answer ≡ status.Memory) × (g ≡ f) × ((after ≡ before) ⊎ PrintsLiveBeginning p m feeds before after)))

@@ -6,6 +6,7 @@ ghost use Rattle.commands.specs.Commands.{meant, runs, IsWell};
 
 use crate::check::check_named;
 use crate::header::header_named;
+use crate::live::live_named;
 use crate::pair::pair_named;
 use crate::plan::plan_named;
 use crate::run::run_named;
@@ -13,10 +14,11 @@ use crate::soak::soak_named;
 use commands::{Command, Status};
 use rte_text::{Gate, Shelf, Sink};
 use std::alloc::Global;
+use std::sync::Wait;
 use std::thread::Threads;
 
 /// Carries out the command: reads its files from the shelf, and puts what they come to.
-pub fn carry_out<R: Threads + Sync, S: Shelf, K: Sink, G: Gate>(
+pub fn carry_out<R: Threads + Wait + Sync, S: Shelf, K: Sink, G: Gate>(
     rt: &R,
     alloc: Global,
     command: Command<'_>,
@@ -46,6 +48,7 @@ pub fn carry_out<R: Threads + Sync, S: Shelf, K: Sink, G: Gate>(
         Command::Pair { one, two, script } => {
             pair_named(rt, alloc, one, two, script, shelf, out, gate)
         }
+        Command::Live { description } => live_named(rt, alloc, description, shelf, out, gate),
     }
 }
 
@@ -77,5 +80,6 @@ pub fn carry_out_quietly<S: Shelf, K: Sink>(
             script,
         } => Some(check_named(alloc, description, trace, script, shelf, out)),
         Command::Pair { .. } => None,
+        Command::Live { .. } => None,
     }
 }

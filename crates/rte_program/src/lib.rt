@@ -15,6 +15,7 @@ mod carry;
 mod check;
 mod header;
 mod laws;
+mod live;
 mod pair;
 mod plan;
 mod quiet;

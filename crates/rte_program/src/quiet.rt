@@ -14,8 +14,8 @@ use std::alloc::Global;
 
 /// Carries out the command that the words give if no node runs for it, and answers words that are no command. `plan C` reads the
 /// description C from the shelf and puts its plan; `header C name` puts the header of its component of this name.
-/// `check C T S` reads the description C, the trace T and the script S and puts the verdict on the trace. None if the words are another command, `run C S`, `soak N` or `pair C1 C2 S`: then nothing was fetched and
-/// nothing put.
+/// `check C T S` reads the description C, the trace T and the script S and puts the verdict on the trace. None if the words are another command, `run C S`,
+/// `soak N`, `pair C1 C2 S` or `live C`: then nothing was fetched and nothing put.
 ///
 /// Refusals come in this order: the words, the files in the order of the words, the description, by its rules, the script, the trace. Each
 /// line is one put.

@@ -27,10 +27,14 @@ use std::thread::Threads;
 /// `pair C1 C2 S` reads the descriptions C1 and C2 and the script S, runs the script on a node of each, and puts the traces of both. What the first
 /// node sends on its outer queued ports goes over a link of bytes into the outer ports of the second.
 ///
+/// `live C` reads the description C, of at most 7 cores, and then the stimuli, which are the file `-`. It runs the cores of a node while the
+/// stimuli of up to four feeds arrive, each in its order. When all have come it puts what was made, and then runs the node to rest and puts that.
+///
 /// Refusals come in this order: the words, the files in the order of the words, the description, by its rules, the script, the trace. Of two
-/// descriptions the first is judged first; without an element that is linked the script is not judged.
+/// descriptions the first is judged first; without an element that is linked the script is not judged, and with 8 cores no stimuli are.
 /// Every description that breaks none of the rules is run. Before the run nothing is put but a refusal's text. Each line is
-/// one put, but for the numbers of `soak N`, which are one put in all, and for the lines of `pair C1 C2 S`, which are two each.
+/// one put, but for the numbers of `soak N`, which are one put in all, for the lines of `pair C1 C2 S`, which are two each, and for the calls of
+/// the environment in what `live C` puts, which are two. Only `live C` may wait for what is outside the call, its threads for each other.
 pub fn rte_top<R: Threads + Wait + Sync, S: Shelf, K: Sink, G: Gate>(
     rt: &R,
     alloc: Global,
