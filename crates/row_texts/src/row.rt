@@ -72,9 +72,26 @@ pub enum Row<'a> {
         text: &'a str,
     },
     /// `alone after` and `alone turns` have no node: one thread passes the gate of `together` for two cores, for one after the other or by
-    /// turns, and the row shows how many holds used up their looks.
+    /// turns, and the row shows how many holds used up their looks. In `alone beside` it passes the gate of `beside`, for feeders, pump and
+    /// cores one after the other.
     Alone(&'a str),
-    /// `fails FOLDER FETCHES PUTS ROOM WORDS` carries out the words over the folder's two files in memory. The fetches of these numbers fail,
+    /// `stimuli FOLDER STIMULI` runs a node of the folder's description while stimuli of this text come.
+    Stimuli {
+        folder: &'a str,
+        text: &'a str,
+    },
+    /// `live FOLDER PIECE ;; STIMULI` does the same, and shows in how many of the lines that are told the piece stands. Which lines of a feed or of a core
+    /// come before those of another, differs from run to run.
+    Live {
+        folder: &'a str,
+        piece: &'a str,
+        text: &'a str,
+    },
+    /// `beside FOLDER` runs a node of two cores while each of two feeds brings 1,000 ticks. A gate holds cores, pump and feeders until the others have
+    /// come so far that all of them had to go on at the same time. The row shows how many holds used up their looks, how often the feeders passed, and
+    /// what stands before the stop.
+    Beside(&'a str),
+    /// `fails FOLDER FETCHES PUTS ROOM WORDS` carries out the words over the folder's two files in memory, and its `stimuli.txt` if they are of `live`. The fetches of these numbers fail,
     /// from 0 on, and so do the puts, each after so many bytes (`1:3,4:0`), and what is more than the room; `-` is none. The row shows
     /// what is told, with a bar behind its last byte.
     Fails {
@@ -166,6 +183,15 @@ fn last<'a>(folder: &'a str, rest: &'a str) -> Option<Row<'a>> {
 fn times<'a>(folder: &'a str, rest: &'a str) -> Option<Row<'a>> {
     let (piece, text) = rest.split_once(" ;; ")?;
     Some(Row::Times {
+        folder,
+        piece,
+        text,
+    })
+}
+
+fn live<'a>(folder: &'a str, rest: &'a str) -> Option<Row<'a>> {
+    let (piece, text) = rest.split_once(" ;; ")?;
+    Some(Row::Live {
         folder,
         piece,
         text,
@@ -265,6 +291,8 @@ fn row_in<'a>(kind: &str, folder: &'a str, text: &'a str) -> Option<Row<'a>> {
         "lines" => lines(folder, text),
         "pair" => pair(folder, text),
         "both" => Some(Row::Both { folder, text }),
+        "stimuli" => Some(Row::Stimuli { folder, text }),
+        "live" => live(folder, text),
         "wired" => wired(folder, text),
         "pipe" => pipe(folder, text),
         _ => None,
@@ -280,6 +308,7 @@ impl<'a> Row<'a> {
             "words" => Some(Row::Words(rest)),
             "expect" => Some(Row::Expect(rest)),
             "alone" => Some(Row::Alone(rest)),
+            "beside" => Some(Row::Beside(rest)),
             "text" => Some(Row::Text(rest)),
             "back" => Some(Row::Back(rest)),
             "seats" => Some(Row::Seats(rest)),

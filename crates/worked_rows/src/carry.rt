@@ -2,11 +2,12 @@
 
 ghost use Rattle.std.specs.Prelude.{◌≤◌, IfOk, length};
 
+use crate::beside::{pass_beside_alone, run_beside};
 use crate::pairs::{PairCase, run_pair_case, run_wired};
 use crate::runs::{
-    Answer, Case, DESCRIPTION, Failing, Named, SCRIPT, SECOND, add_case, add_file, check,
+    Answer, Case, DESCRIPTION, Failing, Named, SCRIPT, SECOND, STIMULI, add_case, add_file, check,
     pass_alone, plan, run, run_and_check_often, run_and_check_repeated, run_counted, run_together,
-    tell_failing, words_of,
+    serve_through, tell_failing, words_of,
 };
 use bus_semantics::Version;
 use row_texts::{
@@ -22,8 +23,11 @@ use std::thread::Threads;
 
 const EXPECTED: &str = "expected.txt";
 
+/// A folder's stimuli, which a node is given under the name `STIMULI`.
+const STIMULI_FILE: &str = "stimuli.txt";
+
 /// All statuses, each with what it is called in a row.
-const STATUSES: [(&str, Status); 11] = [
+const STATUSES: [(&str, Status); 12] = [
     ("done", Status::Done),
     ("refused", Status::Refused),
     ("words", Status::Words),
@@ -35,6 +39,7 @@ const STATUSES: [(&str, Status); 11] = [
     ("no component", Status::NoComponent),
     ("clash", Status::Clash),
     ("no link", Status::NoLink),
+    ("too many cores", Status::TooManyCores),
 ];
 
 /// The bytes of a folder's file.
@@ -217,8 +222,34 @@ fn alone<R: AllocGlobal>(rt: &R, order: &str) -> Result<Answer, Fault> {
     match order {
         "after" => pass_alone(rt.alloc(), false),
         "turns" => pass_alone(rt.alloc(), true),
+        "beside" => pass_beside_alone(rt.alloc()),
         _ => Err(Fault::NoRow),
     }
+}
+
+/// Runs a node of the folder's description while stimuli of this text come, and shows this of what is told.
+fn live<R: Files + AllocGlobal + Clone + Drop + Threads + Wait + Sync>(
+    rt: &R,
+    folder: &str,
+    text: &str,
+    shown: &Shown,
+) -> Result<Answer, Fault> {
+    let case = scripted(rt, folder, text)?;
+    let told = serve_through(
+        rt,
+        case.description.as_slice(),
+        case.script.as_slice(),
+        &OpenGate,
+    )?;
+    told.shown(rt.alloc(), shown)
+}
+
+fn beside<R: Files + AllocGlobal + Clone + Drop + Threads + Wait + Sync>(
+    rt: &R,
+    folder: &str,
+) -> Result<Answer, Fault> {
+    let description = file(rt, folder, DESCRIPTION)?;
+    run_beside(rt, description.as_slice())
 }
 
 /// What fails of a row's lists of numbers.
@@ -232,7 +263,7 @@ fn failing<R: AllocGlobal>(rt: &R, fetches: &str, puts: &str, room: u64) -> Resu
     })
 }
 
-/// The folder's files for these words: those of one node, and for `pair` that of the second.
+/// The folder's files for these words: those of one node, for `pair` that of the second, and for `live` the stimuli.
 fn files_for<R: Files + AllocGlobal + Clone + Drop>(
     rt: &R,
     folder: &str,
@@ -244,6 +275,10 @@ fn files_for<R: Files + AllocGlobal + Clone + Drop>(
     if words.starts_with("pair ") {
         let second = file(rt, folder, SECOND)?;
         add_file(rt.alloc(), &mut files, SECOND, second.as_slice())?;
+    }
+    if words.starts_with("live ") {
+        let stimuli = file(rt, folder, STIMULI_FILE)?;
+        add_file(rt.alloc(), &mut files, STIMULI, stimuli.as_slice())?;
     }
     Ok(files)
 }
@@ -466,6 +501,13 @@ pub fn carry_out<R: Files + Print + AllocGlobal + Clone + Drop + Threads + Wait 
         Row::Passes { folder, text } => passes(rt, folder, text),
         Row::Together { folder, text } => together(rt, folder, text),
         Row::Alone(order) => alone(rt, order),
+        Row::Stimuli { folder, text } => live(rt, folder, text, &Shown::All),
+        Row::Live {
+            folder,
+            piece,
+            text,
+        } => live(rt, folder, text, &Shown::TimesWith(piece.as_bytes())),
+        Row::Beside(folder) => beside(rt, folder),
         Row::Fails {
             folder,
             fetches,

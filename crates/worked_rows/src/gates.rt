@@ -5,7 +5,7 @@ use std::sync::atomic::{AtomicU64, Ordering};
 use std::thread;
 
 /// The pass at which core 0 is held, and up to which each core goes on before the other does.
-const HELD: u64 = 8;
+pub const HELD: u64 = 8;
 
 /// Mostly it holds no core, one time in eight a core for up to 1,023 looks, and seldom for up to 16,383: then others may leave the round
 /// meanwhile. How long is drawn from the number of the pass and the seed.

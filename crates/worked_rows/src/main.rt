@@ -4,6 +4,7 @@
 //! line is a row: it is printed after `$ `, then what was told, then the status. See `Row` for the kinds of rows.
 #![tactic(auto)]
 
+mod beside;
 mod carry;
 mod gates;
 mod pairs;

@@ -1,17 +1,15 @@
 //! Runs of two nodes in memory.
 
-ghost use Rattle.std.specs.Prelude.{◌≡◌, ◌≤◌, ℕ, List, length};
-ghost use Rattle.bus_semantics.specs.Plan.{plan_of};
+ghost use Rattle.std.specs.Prelude.{◌≤◌, length};
 ghost use Rattle.signal_link.specs.Pipes.{AreCuts};
-ghost use Rattle.pair_run.specs.Linked.{links_of};
-ghost use Rattle.commands.specs.PairCommand.{ArePairInputs};
 
 use crate::runs::{Answer, DESCRIPTION, ROOM, SCRIPT, SECOND, add_file, tell_of};
-use commands::{PreparedPair, judge_pair};
+use commands::judge_pair;
 use pair_run::PairRun;
 use row_texts::{Fault, pipe_of};
 use rte_program::{Status, run_linked};
 use rte_text::{MemorySink, OpenGate};
+use std::alloc::Global;
 use std::sync::Wait;
 use std::thread::Threads;
 
@@ -54,35 +52,16 @@ fn end_of(run: PairRun) -> &'static [u8] {
     }
 }
 
-/// Runs the script on nodes of both descriptions over a link with these cuts and failing calls. How the run ended stands behind what is told.
-fn run_over<R: AllocGlobal + Threads + Wait + Sync>(
-    rt: &R,
-    prepared: PreparedPair,
-    cuts: Vec<u32>,
-    fails: Vec<u64>,
-) -> Result<Answer, Fault>
-    requires ready { (c d s : List ℕ) × ArePairInputs c d s prepared.nodes.one prepared.nodes.two prepared.linked.script.lines }
-    requires links { prepared.linked.links.items ≡ links_of (plan_of prepared.nodes.one.plan) (plan_of prepared.nodes.two.plan) }
-    requires cuts { AreCuts cuts.items }
-{
-    let alloc = rt.alloc();
-    let mut out = MemorySink::new(alloc, ROOM, Vec::new(alloc))?;
-    let mut link = match pipe_of(alloc, LINK_ROOM, cuts, fails) {
-        Ok(link) => link,
-        Err(memory) => {
-            drop(prepared);
-            return Err(Fault::Memory(memory));
-        }
-    };
-    let run = run_linked(rt, alloc, prepared, &mut link, &mut out, &OpenGate);
-    let mut text = Vec::from_slice(alloc, out.told())?;
+/// What is told, with how the run ended behind it.
+fn shown(alloc: Global, told: &[u8], run: PairRun) -> Result<Answer, Fault> {
+    let mut text = Vec::from_slice(alloc, told)?;
     text.extend_from_slice(end_of(run))?;
     let status = Status::Done;
     Ok(Answer { text, status })
 }
 
 /// Runs the script on nodes of both descriptions over a link that gives at most so many bytes, one number after the other, and whose calls of
-/// these numbers fail.
+/// these numbers fail. How the run ended stands behind what is told.
 pub fn run_wired<R: AllocGlobal + Threads + Wait + Sync>(
     rt: &R,
     one: &[u8],
@@ -95,8 +74,12 @@ pub fn run_wired<R: AllocGlobal + Threads + Wait + Sync>(
     requires two { length two.now ≤ 8388608 }
     requires cuts { AreCuts cuts.items }
 {
-    match judge_pair(rt.alloc(), one, two, script) {
-        Ok(prepared) => run_over(rt, prepared, cuts, fails),
-        Err(_) => Err(Fault::NoPlan),
-    }
+    let alloc = rt.alloc();
+    let mut link = pipe_of(alloc, LINK_ROOM, cuts, fails)?;
+    let mut out = MemorySink::new(alloc, ROOM, Vec::new(alloc))?;
+    let run = match judge_pair(alloc, one, two, script) {
+        Ok(prepared) => run_linked(rt, alloc, prepared, &mut link, &mut out, &OpenGate),
+        Err(_) => return Err(Fault::NoPlan),
+    };
+    shown(alloc, out.told(), run)
 }

@@ -28,6 +28,9 @@ pub const SECOND: &str = "second.json";
 
 const TRACE: &str = "trace.txt";
 
+/// The file of stimuli.
+pub const STIMULI: &str = "-";
+
 /// What a row shows, and the status of its command.
 #[derive(Drop)]
 pub struct Answer {
@@ -172,6 +175,20 @@ fn run_through<R: AllocGlobal + Threads + Wait + Sync, G: Gate>(
 /// Runs the script on the description.
 pub fn run<R: AllocGlobal + Threads + Wait + Sync>(rt: &R, case: &Case) -> Result<Answer, Fault> {
     run_through(rt, case, &OpenGate)
+}
+
+/// Runs a node of the description while these stimuli come; cores, pump and feeders pass this gate.
+pub fn serve_through<R: AllocGlobal + Threads + Wait + Sync, G: Gate>(
+    rt: &R,
+    description: &[u8],
+    stimuli: &[u8],
+    gate: &G,
+) -> Result<Answer, Fault> {
+    let alloc = rt.alloc();
+    let mut files = Vec::new(alloc);
+    add_file(alloc, &mut files, DESCRIPTION, description)?;
+    add_file(alloc, &mut files, STIMULI, stimuli)?;
+    tell_of(rt, "live description.json", files, gate)
 }
 
 /// Checks the trace.

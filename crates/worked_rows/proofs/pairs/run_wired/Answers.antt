@@ -8,5 +8,5 @@ judge_pair-requires-clause-one g c = let fits = c.requires.one in short_few c.ar
 pub judge_pair-requires-clause-two : goal.judge_pair-requires-clause-two
 judge_pair-requires-clause-two g c = let fits = c.requires.two in short_few c.args.two.now (omega (arith, fits))
 
-pub run_over-requires-clause-ready : goal.run_over-requires-clause-ready
-run_over-requires-clause-ready g c = λ κs lives. (c.args.one.now, c.args.two.now, c.args.script.now, c.in-Ok.ensures.ready)
+pub run_linked-run-requires-clause-ready : goal.run_linked-run-requires-clause-ready
+run_linked-run-requires-clause-ready g c = λ κs lives. (c.args.one.now, c.args.two.now, c.args.script.now, c.in-Ok.ensures.ready)
