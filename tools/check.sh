@@ -88,6 +88,16 @@ corpus_is_judged() {
     fi
 }
 
+# The text of each example that runs live is legal, of whatever order.
+live_texts_are_legal() {
+    local stimuli folder
+    for stimuli in examples/*/stimuli.txt; do
+        folder=${stimuli%/stimuli.txt}
+        "$RTE" live "$folder/description.json" <"$stimuli" >"$held/text" || return 1
+        tools/dry_check.py --live "$folder/description.json" "$held/text" "$stimuli" || return 1
+    done
+}
+
 # So has the plan of each example that shows one.
 plans_are_as_shown() {
     local shown
@@ -148,11 +158,12 @@ try "header.py on the examples" on_each_example has_headers
 if [ -n "${RTE:-}" ]; then
     try "explain.py on the examples" on_each_example explain_passes_through
     try "plans of the examples" plans_are_as_shown
+    try "live texts of the examples" live_texts_are_legal
     try "the corpus" corpus_is_judged
     try "hostile files of 256 KiB" bench/hostile.py --mebibytes 0.25
     sed -nE 's/^([a-z_]+) .*  (known to .*)$/tools: hostile files: `\1` is \2/p' "$held/said"
 else
-    echo "tools: explain.py and plans on the examples, the corpus and hostile files: skipped, since the program is not built"
+    echo "tools: explain.py, plans and live texts on the examples, the corpus and hostile files: skipped, since the program is not built"
 fi
 try "tests" tests_pass
 skipped=$(grep -o 'skipped=[0-9]*' "$held/tests") && echo "tools: tests: $skipped, for want of what they need"

@@ -7,6 +7,8 @@ Two traces are the same but for the order of the cores if each runnable, each ma
 each object (a group of elements, a server, an area, a machine) sees what changes it in the same order. Else the first pair of lines that
 differs is shown: a line of A and the one that stands at its place in B. A or B may be -, which is standard input.
 
+Two texts of live nodes are compared so too: each feed has to have the same lines in both.
+
 Before that is said of two traces of different texts, each line is looked at: one that may not come after those before it is shown. The
 script is not known here, and nothing is proved; `./rte check` says of a trace whether it is a whole legal run.
 
@@ -35,7 +37,8 @@ def arguments() -> argparse.Namespace:
 
 
 def is_same_text(one: Trace, other: Trace) -> bool:
-    return one.version == other.version and [line.text for line in one.lines] == [line.text for line in other.lines]
+    texts = [[(trace.is_live, trace.version), *((line.feed, line.text) for line in trace.lines)] for trace in (one, other)]
+    return texts[0] == texts[1]
 
 
 def told(found: Difference, one: str, other: str) -> list[str]:
@@ -59,7 +62,7 @@ def compared(one: Trace, other: Trace, plan: BusPlan, names: tuple[str, str]) ->
         fault = first_fault(trace, plan)
         if fault:
             return [f"the traces have the same lines, but one may not come there: {fault[1]}", shown(name, fault[0])], 1
-    return ["only the order of the cores differs"], 0
+    return [f"only the order of the {'cores and feeds' if one.is_live else 'cores'} differs"], 0
 
 
 def work() -> int:

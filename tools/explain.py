@@ -5,13 +5,15 @@
     tools/explain.py DESCRIPTION
     tools/explain.py --trace TRACE DESCRIPTION SCRIPT
     tools/explain.py --second DESCRIPTION DESCRIPTION SCRIPT
+    tools/explain.py --live DESCRIPTION STIMULI
 
 What the program prints is printed unchanged. If it refuses, the line that it names follows with a caret, the rule or cause,
 what can be said of this case, and how to mend it.
 
 Without SCRIPT the program prints the plan. With --trace it checks a trace: the line of a verdict such as `illegal 14 D6` or
 `bad line 20` follows, with what the bus would have answered there. With --second it runs two nodes, by `pair`: a refusal says
-of which of the two descriptions it is, and `no link` why nothing is linked.
+of which of the two descriptions it is, and `no link` why nothing is linked. With --live it runs a live node, to which it gives the file
+STIMULI as standard input.
 
 The status is the program's, 126 if the program cannot be run, and 2 if the words are wrong. With --said the program is not
 run: what it printed is read from a file, and the status is the one that belongs to it.
@@ -20,6 +22,7 @@ run: what it printed is read from a file, and the status is the one that belongs
 from __future__ import annotations
 
 import argparse
+import contextlib
 import os
 import shutil
 import subprocess
@@ -38,7 +41,7 @@ LONGEST_REFUSAL = 4096  # bytes of a first line that may be a refusal
 def arguments() -> argparse.Namespace:
     parser = argparse.ArgumentParser(description=__doc__, formatter_class=argparse.RawDescriptionHelpFormatter)
     parser.add_argument("description", help="the description, a JSON file")
-    parser.add_argument("script", nargs="?", default="", help="the script")
+    parser.add_argument("script", nargs="?", default="", help="the script, or with --live the stimuli")
     parser.add_argument(
         "--program",
         default=os.environ.get("RTE") or str(LAUNCHER),
@@ -47,10 +50,11 @@ def arguments() -> argparse.Namespace:
     parser.add_argument("--said", metavar="FILE", help="a file with what the program printed; - is standard input")
     parser.add_argument("--trace", metavar="TRACE", default="", help="check this trace, in place of running the script")
     parser.add_argument("--second", metavar="DESCRIPTION", default="", help="the description of the second of two nodes")
+    parser.add_argument("--live", action="store_true", help="run a live node, by stimuli")
     words = parser.parse_args()
-    if words.trace and words.second:
-        parser.error("--trace and --second go not together")
-    for option in ("trace", "second"):
+    if bool(words.trace) + bool(words.second) + words.live > 1:
+        parser.error("--trace, --second and --live go not together")
+    for option in ("trace", "second", "live"):
         if getattr(words, option) and not words.script:
             parser.error(f"--{option} needs DESCRIPTION and SCRIPT")
     return words
@@ -65,10 +69,11 @@ def pass_through(printed: IO[bytes]) -> Refusal | None:
     return read_refusal(first.decode("utf-8", errors="replace").rstrip("\n"))
 
 
-def run(words: list[str]) -> tuple[Refusal | None, int]:
-    """Runs the program; gives its refusal and its status."""
-    with subprocess.Popen(words, stdout=subprocess.PIPE) as process:
-        refusal = pass_through(process.stdout) if process.stdout else None
+def run(words: list[str], stimuli: str) -> tuple[Refusal | None, int]:
+    """Runs the program, by the stimuli of a file if one is named; gives its refusal and its status."""
+    with open(stimuli, "rb") if stimuli else contextlib.nullcontext() as given:
+        with subprocess.Popen(words, stdin=given, stdout=subprocess.PIPE) as process:
+            refusal = pass_through(process.stdout) if process.stdout else None
     return refusal, process.returncode
 
 
@@ -89,6 +94,8 @@ def command(words: argparse.Namespace) -> list[str]:
         return ["check", words.description, words.trace, words.script]
     if words.second:
         return ["pair", words.description, words.second, words.script]
+    if words.live:
+        return ["live", words.description]
     return ["run", words.description, words.script] if words.script else ["plan", words.description]
 
 
@@ -103,11 +110,15 @@ def main() -> int:
     words = arguments()
     try:
         if words.said is None:
-            refusal, status = run([words.program, *command(words)])
+            stimuli = words.script if words.live else ""
+            if stimuli:
+                read_file(stimuli)
+            refusal, status = run([words.program, *command(words)], stimuli)
         else:
             refusal, status = read_said(words.said)
         if refusal and refusal.status == status and not is_told(refusal, words):
-            explained = "\n".join(explain(refusal, words.description, words.script, words.trace, words.second)) + "\n"
+            lines = explain(refusal, words.description, words.script, words.trace, words.second, words.live)
+            explained = "\n".join(lines) + "\n"
             sys.stdout.buffer.write(explained.encode("utf-8", errors="replace"))
     except BrokenPipeError:
         return 4

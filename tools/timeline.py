@@ -5,12 +5,15 @@
     tools/timeline.py DESCRIPTION trace.txt > trace.html
     ./rte pair DESCRIPTION SECOND SCRIPT > traces.txt
     tools/timeline.py --second SECOND DESCRIPTION traces.txt > traces.html
+    ./rte live DESCRIPTION < STIMULI > text.txt
+    tools/timeline.py DESCRIPTION text.txt > text.html
 
 The page is static HTML. It has lanes for the tasks of each core, for modes, queues and values. Activations are bars,
 and calls are marks; arrows show what led to what. From left to right is the order of the lines in the trace, not time.
 TRACE may be -, which is standard input.
 
 With --second the text is that of two nodes, as `pair` prints it. The page has the lanes of both, and arrows for what goes over the link.
+The text of a live node is known by its first line: each of its feeds has a lane.
 
 The other formats, those of other tools with line numbers of the trace in place of time:
   svg       one picture, for a report: in rows of a page's width, or at a glance from 300 columns on

@@ -146,10 +146,10 @@ covered() {
     done < <(covered_bodies)
 }
 
-# ---- what was refused once and what was counted, as the page has it: the tools that say it are run by hand
+# ---- what was refused once, run often and counted, as the page has it: the tools that say it are run by hand
 
 refused() {
-    awk '/^## / { held = /^## What was (refused once|counted)$/ } held' "$top/docs/EVIDENCE.md"
+    awk '/^## / { held = /^## What was (refused once|run often|counted)$/ } held' "$top/docs/EVIDENCE.md"
 }
 
 rows=$(table)

@@ -10,7 +10,7 @@ allocation, an open, a read, a write or a thread; of a `short_read` and a `short
 
 A run without memory has to end with status 7, one that cannot read with 3, one that cannot write with 4. A run that manages without, as
 one has to that gets no thread, has to end as it does when nothing is refused. What it printed has to be the beginning of the whole text,
-or all of it. Where the cores of a node may take their turns in several orders, `check` says whether it is.
+or all of it. Where the cores of a node may take their turns in several orders, `check` says whether it is, and of a live node the tools do.
 
 The program is the one that the variable RTE names, or the one that was built. What is wrong is printed, and then a table of how many
 calls were refused.
@@ -21,6 +21,7 @@ The status is 0 if nothing is wrong, 1 if something is, and 2 if it cannot be tr
 from __future__ import annotations
 
 import argparse
+import json
 import os
 import subprocess
 import sys
@@ -28,8 +29,15 @@ import tempfile
 from collections import Counter
 from dataclasses import dataclass
 from pathlib import Path
+from typing import IO
 
 TOP = Path(__file__).resolve().parents[2]
+sys.path.insert(0, str(TOP / "tools"))
+
+from rte_tools.bus_plan import plan_of  # noqa: E402
+from rte_tools.live import checked_live  # noqa: E402
+from rte_tools.stimuli import feeds_of  # noqa: E402
+
 BUILT = TOP / "crates" / "rte" / "out" / "rte"
 DATA = TOP / "crates" / "worked_rows" / "data"
 LONGEST = 60  # seconds that a run may take
@@ -42,11 +50,12 @@ CALLS = {
 
 @dataclass(frozen=True)
 class Run:
-    """A run of the program: its words, and the folder of its session if its trace is one of several."""
+    """A run of the program: its words, the folder of its session if its trace is one of several, and of a live node its stimuli."""
 
     name: str
     words: tuple[str, ...]
     session: Path | None = None
+    stimuli: Path | None = None
 
 
 @dataclass(frozen=True)
@@ -72,6 +81,11 @@ def check_of(name: str, folder: str) -> Run:
     return Run(name, ("check", description, str(DATA / folder / "expected.txt"), script))
 
 
+def live_of(name: str, folder: str) -> Run:
+    path = DATA / folder
+    return Run(name, ("live", session(path)[0]), path, path / "stimuli.txt")
+
+
 RUNS = (
     run_of("a first path", "rows/ten_ticks_write_then_read"),
     run_of("a queue", "rows/queue_of_two_loses_the_third"),
@@ -83,6 +97,7 @@ RUNS = (
     Run("`soak 1`", ("soak", "1")),
     Run("a plan", ("plan", str(DATA / "examples/door_control/description.json"))),
     Run("a header", ("header", str(DATA / "examples/door_control/description.json"), "Latch")),
+    live_of("a live node", "examples/car_park"),
     Run("two nodes", ("pair", *(str(DATA / "examples/tailgate" / name) for name in ("description.json", "second.json", "script.txt")))),
     check_of("a check", "examples/door_control"),
     run_of("a refused description", "rows/many_to_many"),
@@ -98,14 +113,18 @@ class Program:
         self.library = library
         self.folder = folder
 
-    def run(self, words: tuple[str, ...], call: str = "", number: int = 0) -> Ended:
+    def run(self, run: Run, call: str = "", number: int = 0) -> Ended:
         """Runs the words with one call refused, or with none."""
+        with open(run.stimuli or os.devnull, "rb") as given:
+            return self.run_words(run.words, given, call, number)
+
+    def run_words(self, words: tuple[str, ...], given: IO[bytes] | int = subprocess.DEVNULL, call: str = "", number: int = 0) -> Ended:
         with tempfile.TemporaryFile(dir=self.folder) as mark:
             names = {"LD_PRELOAD": self.library, "REFUSE_CALL": call, "REFUSE_NUMBER": str(number), "REFUSE_MARK": str(mark.fileno())}
             held = [self.path, *words]
             try:
                 ended = subprocess.run(
-                    held, stdin=subprocess.DEVNULL, capture_output=True, check=False, timeout=LONGEST,
+                    held, stdin=given, capture_output=True, check=False, timeout=LONGEST,
                     env={**os.environ, **names}, pass_fds=[mark.fileno()],
                 )  # fmt: skip
             except subprocess.TimeoutExpired as late:
@@ -113,12 +132,15 @@ class Program:
             mark.seek(0)
             return Ended(ended.returncode, ended.stdout, mark.read() != b"")
 
-    def says(self, folder: Path, trace: bytes) -> str:
-        """What `check` says of a trace of the session."""
+    def says(self, run: Run, trace: bytes) -> str:
+        """What `check` says of a trace of the session, or the tools of the text of a live node."""
+        description, script = session(run.session or DATA)
+        if run.stimuli:
+            plan = plan_of(json.loads(Path(description).read_bytes()))
+            return str(checked_live(plan, trace.decode(), feeds_of(run.stimuli.read_text(encoding="utf-8"))) or "legal")
         file = self.folder / "trace.txt"
         file.write_bytes(trace)
-        description, script = session(folder)
-        return self.run(("check", description, str(file), script)).text.decode().strip()
+        return self.run_words(("check", description, str(file), script)).text.decode().strip()
 
 
 def begins(program: Program, run: Run, text: bytes, whole: bytes) -> bool:
@@ -127,11 +149,11 @@ def begins(program: Program, run: Run, text: bytes, whole: bytes) -> bool:
         return whole.startswith(text)
     lines = text[: text.rfind(b"\n") + 1]
     behind = lines.count(b"\n") + 1
-    return program.says(run.session, lines) in ("legal", f"illegal {behind} D16")
+    return program.says(run, lines) in ("legal", f"illegal {behind} D16")
 
 
 def is_whole(program: Program, run: Run, text: bytes, whole: bytes) -> bool:
-    return text == whole or run.session is not None and program.says(run.session, text) == "legal"
+    return text == whole or run.session is not None and program.says(run, text) == "legal"
 
 
 def wrong(program: Program, run: Run, call: str, ended: Ended, usual: Ended) -> str:
@@ -147,12 +169,12 @@ def wrong(program: Program, run: Run, call: str, ended: Ended, usual: Ended) -> 
 
 def try_run(program: Program, run: Run, call: str, most: int) -> tuple[Counter[int], list[str]]:
     """Refuses one call of a run after the other: how often each status came, and what is wrong."""
-    usual = program.run(run.words)
+    usual = program.run(run)
     statuses: Counter[int] = Counter()
     found = []
     past = 0
     for number in range(1, most + 1):
-        ended = program.run(run.words, call, number)
+        ended = program.run(run, call, number)
         past = 0 if ended.refused else past + 1
         if past == PAST:
             break

@@ -29,7 +29,7 @@ class Chart:
         self.parts: list[str] = []
 
     def draw(self) -> list[str]:
-        for run in self.replay.runs:
+        for run in [*([self.replay.served] if self.replay.served else []), *self.replay.runs]:
             self.run(run)
         for lane in self.lanes:
             self.parts.append(svg.line(0, lane.y, self.width, lane.y, "rule"))
@@ -74,13 +74,13 @@ class Chart:
     def run(self, run: RunLine) -> None:
         lane = next(lane for lane in self.lanes if lane.kind == RUNS)
         x, end = self.left(run.first), self.right(run.last)
-        name = f"{run.node}run {run.number}"
-        said = f"{name} at {run.milliseconds} ms"
+        name = run.name
+        said = f"{name} at {run.milliseconds} ms" if run.number else name
         closing = run.closing or "not closed"
         self.parts.append(svg.rect(x, lane.y, end - x, height_of(self.lanes) - lane.y, "band"))
         title = f"{said}: lines {run.first} to {run.last or '?'}, {closing}"
         self.parts.append(svg.rect(x + 1, lane.y + 4, end - x - 2, lane.height - 8, f"run {closing}", title, 4))
-        self.spread([f"{said}, {closing}", said, name, str(run.number)], x, end, lane.y + 16)
+        self.spread([f"{said}, {closing}", said, name, str(run.number or "")], x, end, lane.y + 16)
 
     def spread(self, candidates: list[str], x: float, end: float, y: float) -> None:
         """Writes a text into a segment, again and again where the segment is long."""
@@ -100,9 +100,9 @@ class Chart:
             self.parts.append(svg.text(x + COLUMN / 2, lane.y + 17, shown, "small middle"))
         self.marks(lane)
 
-    def ticks_of(self, _lane: Lane) -> list[int]:
-        """The moments of the ticks that the environment of this lane makes."""
-        return self.replay.ticks
+    def ticks_of(self, lane: Lane) -> list[int]:
+        """The moments of the ticks that the environment, or the feed, of this lane makes."""
+        return self.replay.ticks_of(lane.name)
 
     def task(self, lane: Lane) -> None:
         """The activations, over them what waits, and then all texts."""
@@ -212,8 +212,9 @@ def marks_top(lane: Lane) -> float:
 
 
 def columns(replay: Replay, *sides: Replay) -> dict[int, int]:
-    """The column of each moment; ticks in a row share one, those of one side if there are several."""
-    ticks = {moment: number for number, side in enumerate(sides or (replay,)) for moment in side.ticks}
+    """The column of each moment; ticks in a row share one, those of one side or of one feed if there are several."""
+    held = [side.ticks for side in sides] or list(replay.feeds.values()) or [replay.ticks]
+    ticks = {moment: number for number, moments in enumerate(held) for moment in moments}
     found: dict[int, int] = {}
     column = -1
     for moment in range(replay.first, replay.last + 1):

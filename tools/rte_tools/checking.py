@@ -11,7 +11,7 @@ from rte_tools.bus import ENVIRONMENT, Bus, Held, split_actor, value_of
 from rte_tools.bus_plan import BusPlan
 from rte_tools.fitting import Reading
 from rte_tools.refusal import Refusal
-from rte_tools.trace import HEADER, RUN, Line, read_line
+from rte_tools.trace import CLOSINGS, HEADER, RUN, Line, read_line
 from rte_tools.verdicts import ENOUGH, script_lines, spelled, wish_of
 
 SCRIPT_CLAUSE = 16
@@ -50,30 +50,16 @@ def orders(script: str) -> Iterator[str]:
         yield from ["tick"] * count if text.startswith("tick ") else [text]
 
 
-class Check:
-    """How far the lines before go."""
+class Steps:
+    """How far the lines before go, and which clause a line breaks behind them, whatever asked for it."""
 
-    def __init__(self, plan: BusPlan, version: str, script: str):
+    def __init__(self, plan: BusPlan, version: str):
         self.reading, self.bus = Reading(plan, version), Bus(plan, version)
-        self.left = orders(script)
-        self.order = next(self.left, "")  # what the script asks for next
         self.inside = False  # a run line
         self.made = 0  # entries of runnables and machines since the run mark
         self.asked: dict[str, str] = {}  # by activation: the point, where its last entry is an accepted ask
 
-    def take(self, line: Line) -> Refusal | None:
-        """The refusal of a line; or none, and the line is noted."""
-        if not self.reading.fits(line):
-            return Refusal("bad", line=line.number)
-        clause = self.broken(line)
-        if clause:
-            return Refusal("illegal", clause, line=line.number)
-        self.note(line)
-        return None
-
     def note(self, line: Line) -> None:
-        if line.actor in ("", ENVIRONMENT):
-            self.order = self.order if line.verb in ("idle", "unsettled") else next(self.left, "")
         if not line.actor:
             self.inside, self.made = line.verb == RUN, 0
         elif line.actor != ENVIRONMENT:
@@ -85,25 +71,19 @@ class Check:
 
     # ---- the first clause that a line breaks, or 0
 
-    def broken(self, line: Line) -> int:
-        if not line.actor:
-            return self.broken_by_mark(line)
-        if (line.actor == ENVIRONMENT) == self.inside:
-            return SCRIPT_CLAUSE
-        if line.actor == ENVIRONMENT:
-            return SCRIPT_CLAUSE if self.order != self.ordered_by(line) else self.broken_answer(line)
+    def broken_closing(self, line: Line) -> int:
+        """Of a closing word, within a run line."""
+        holds = not self.bus.may_step() if line.verb == "idle" else self.made >= ENOUGH
+        return 0 if holds else 15
+
+    def broken_step(self, line: Line) -> int:
+        """Of an entry of a runnable or of a machine."""
         if line.verb == "phase":
             instance, _, name = line.actor.partition(".")
             return 0 if line.text == f"{line.actor} phase {self.bus.phase((instance, name))}" else 11
         if line.verb == "start":
             return self.broken_start(line) if self.may_start(line) else 6
         return self.broken_answer(line) if self.goes_on(line) else 6
-
-    def broken_by_mark(self, line: Line) -> int:
-        if line.verb == RUN:
-            return 0 if self.order == RUN and not self.inside else SCRIPT_CLAUSE
-        holds = not self.bus.may_step() if line.verb == "idle" else self.made >= ENOUGH
-        return 0 if self.inside and holds else 15
 
     def ordered_by(self, line: Line) -> str:
         """The script's line that asks for a call of the environment."""
@@ -150,3 +130,35 @@ class Check:
         answer = self.bus.answer(line.actor, wish)
         is_so = not isinstance(answer, Held) and spelled(self.bus, line.actor, wish, answer) == line.text
         return 0 if is_so else CLAUSES[line.verb]
+
+
+class Check(Steps):
+    """A trace of a script."""
+
+    def __init__(self, plan: BusPlan, version: str, script: str):
+        super().__init__(plan, version)
+        self.left = orders(script)
+        self.order = next(self.left, "")  # what the script asks for next
+
+    def take(self, line: Line) -> Refusal | None:
+        """The refusal of a line; or none, and the line is noted."""
+        if not self.reading.fits(line):
+            return Refusal("bad", line=line.number)
+        clause = self.broken(line)
+        if clause:
+            return Refusal("illegal", clause, line=line.number)
+        if line.actor in ("", ENVIRONMENT) and line.verb not in CLOSINGS:
+            self.order = next(self.left, "")
+        self.note(line)
+        return None
+
+    def broken(self, line: Line) -> int:
+        if line.verb == RUN and not line.actor:
+            return 0 if self.order == RUN and not self.inside else SCRIPT_CLAUSE
+        if not line.actor:
+            return self.broken_closing(line) if self.inside else 15
+        if (line.actor == ENVIRONMENT) == self.inside:
+            return SCRIPT_CLAUSE
+        if line.actor != ENVIRONMENT:
+            return self.broken_step(line)
+        return SCRIPT_CLAUSE if self.order != self.ordered_by(line) else self.broken_answer(line)

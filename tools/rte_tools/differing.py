@@ -1,7 +1,8 @@
 """Whether two traces of a description differ in more than the order of its cores.
 
 They do not if each actor (the environment, a runnable of an instance, a machine) has the same lines in the same run lines, and at each
-object the order is the same as far as it matters. That is the order
+object the order is the same as far as it matters. Of live nodes each feed is an actor, and what is made before the word `stopped` may be made
+in the run line too. The order that matters is that
 
 - of what writes a group or sends to it, and how the starts by its data stand between;
 - of the calls that a server accepts, and of the switches that a machine accepts;
@@ -18,7 +19,7 @@ from typing import Hashable, Iterable, Iterator
 
 from rte_tools.bus import split_actor
 from rte_tools.bus_plan import ENVIRONMENT, BusPlan, Name
-from rte_tools.trace import RUN, Line, Trace, by_element
+from rte_tools.trace import HEADER, LIVE, RUN, Line, Trace, by_element
 
 CHANGES = {"write", "publish", "publishAll", "invalidate", "send", "ask", "switch", "phase"}
 MODE_EVENTS = ("SwcModeSwitchEvent", "ModeSwitchedAckEvent")
@@ -36,13 +37,13 @@ class Difference:
 
 def difference(one: Trace, other: Trace, plan: BusPlan) -> Difference | None:
     """The first difference that is more than the order of cores, or none."""
-    if one.version != other.version:
+    if (one.version, one.is_live) != (other.version, other.is_live):
         return Difference("the header", header(one), header(other))
     return by_actor(one, other) or by_object(one, other, plan)
 
 
 def header(trace: Trace) -> Line:
-    return Line(1, f"rte-trace {trace.version}", "", "", ())
+    return Line(1, LIVE if trace.is_live else f"{HEADER}{trace.version}", "", "", ())
 
 
 # ---- actors
@@ -68,8 +69,8 @@ def of_actors(trace: Trace) -> Iterator[tuple[str, Line, Hashable]]:
     """Each line with its actor, and what has to be equal: the text, and in which run line it stands."""
     runs = 0
     for line in trace.lines:
-        runs += not line.actor and line.verb == RUN
-        yield line.actor or ENVIRONMENT, line, (runs, line.text)
+        runs += not trace.is_live and not line.actor and line.verb == RUN
+        yield f"feed {line.feed}" if line.feed else line.actor or ENVIRONMENT, line, (runs, line.text)
 
 
 def gathered(found: Iterable[tuple[str, Line, Hashable]]) -> dict[str, list[tuple[Line, Hashable]]]:

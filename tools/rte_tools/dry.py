@@ -52,9 +52,9 @@ def refused(text: str) -> tuple[Refusal | None, dict[str, Any]]:
     return first_of_shape(read_schema().faults(value)) or judge(value), value
 
 
-def explained(refusal: Refusal, description: str, script: str, trace: str = "") -> int:
+def explained(refusal: Refusal, description: str, script: str, trace: str = "", is_live: bool = False) -> int:
     """Says what is refused, with the line and the mend. Gives the status."""
     print(refusal, flush=True)
-    for line in explain(refusal, description, script, trace):
+    for line in explain(refusal, description, script, trace, is_live=is_live):
         print(line, file=sys.stderr)
     return refusal.status

@@ -2,20 +2,19 @@
 
 from __future__ import annotations
 
-import textwrap
 from dataclasses import dataclass
 
-from rte_tools import links, reference, scripts, verdicts
+from rte_tools import explaining_live, links, reference, scripts, verdicts
 from rte_tools.bus_plan import BusPlan, plan_of
 from rte_tools.description import Description
 from rte_tools.files import Unfit, kind_of, read_description, read_file, read_schema, why_unread
 from rte_tools.hints import CHANGED, NOT_THIS_ONE, hints
 from rte_tools.located import NotJson, read_json
 from rte_tools.refusal import Refusal
+from rte_tools.showing import explained, wrapped
 from rte_tools.source import Source
 from rte_tools.trace import HEADER, read_line
 
-WIDTH = 110  # of a line of an explanation
 MOST_NAMES = 3  # of those that a foreign trace names
 UNKNOWN = reference.Entry("docs/FORMAT.md does not tell it", "see whether the program and the documents fit together.")
 # How the words stand.
@@ -23,7 +22,10 @@ ORDERS = {
     "run": "`run` takes DESCRIPTION SCRIPT",
     "check": "`check` takes DESCRIPTION TRACE SCRIPT",
     "pair": "`pair` takes DESCRIPTION DESCRIPTION SCRIPT",
+    "live": "`live` takes DESCRIPTION, and stimuli on standard input",
 }
+# What a file is, and what is wanted.
+KINDS = {"description": ("This is a description", "a description is"), "stimuli": ("These are stimuli", "stimuli are")}
 NO_LINK = "no link: each queued element that is linked stands at a P-port of the first root and at an R-port of the second"
 MEND_LINK = "give both ports and both elements the same names, and both types the same limits and as many words."
 IS_XML = "This is XML. A description is JSON: tools/arxml.py makes one of ARXML, and docs/AUTOSAR.md leads from ARXML to its keys."
@@ -31,16 +33,18 @@ IS_XML = "This is XML. A description is JSON: tools/arxml.py makes one of ARXML,
 
 @dataclass(frozen=True)
 class Files:
-    """The files that the words named: a description and mostly a script, and a trace or the description of a second node."""
+    """The files that the words named: a description and mostly a script, and a trace or the description of a second node. Of a live node the
+    stimuli stand in place of the script."""
 
     description: str
     script: str = ""
     trace: str = ""
     second: str = ""
+    is_live: bool = False
 
     @property
     def command(self) -> str:
-        return "check" if self.trace else "pair" if self.second else "run"
+        return "live" if self.is_live else "check" if self.trace else "pair" if self.second else "run"
 
     @property
     def named(self) -> list[str]:
@@ -48,10 +52,10 @@ class Files:
         return [path for path in (self.description, self.trace or self.second, self.script) if path]
 
 
-def explain(refusal: Refusal, description: str, script: str, trace: str = "", second: str = "") -> list[str]:
+def explain(refusal: Refusal, description: str, script: str, trace: str = "", second: str = "", is_live: bool = False) -> list[str]:
     """The lines that explain a refusal of these files. Without a trace there are two, or one if there is no script."""
     try:
-        return explain_read(refusal, Files(description, script, trace, second))
+        return explain_read(refusal, Files(description, script, trace, second, is_live))
     except Unfit as error:
         return [str(error)]
 
@@ -64,9 +68,13 @@ def explain_read(refusal: Refusal, files: Files) -> list[str]:
         named = files.named
         return explain_unread(named[refusal.number - 1] if refusal.number <= len(named) else files.script)
     if refusal.kind in ("bad", "illegal"):
+        if files.is_live:
+            return explaining_live.explain_text(refusal, files.description, files.trace, files.script)
         return explain_trace(refusal, files.description, files.trace, files.script)
     if refusal.kind == "no link":
         return explain_unlinked(files)
+    if refusal.kind == "too many cores":
+        return explaining_live.explain_crowded(files.description)
     format_text = reference.read_format()
     if refusal.kind == "script":
         return explain_script(refusal, format_text, files)
@@ -95,20 +103,9 @@ def exchanged(wanted: str, text: str, command: str) -> tuple[list[str], str] | N
         return None
     if kind == "XML":
         return [IS_XML], "give the description that tools/arxml.py makes, or write it as JSON."
-    return [f"This is a {kind}, and a {wanted} is wanted here."], f"give the words in their order: {ORDERS[command]}."
-
-
-def explained(source: Source, start: int, end: int, title: str, said: list[str], mend: str) -> list[str]:
-    """A place with its line, the title, what is said of it, and the mend."""
-    shown = [f"{source.where(start)}: {title}", *source.show(start, end)]
-    return shown + [line for sentence in said for line in wrapped(sentence)] + wrapped(f"Mend: {mend}")
-
-
-def wrapped(sentence: str) -> list[str]:
-    """A sentence on lines of their own, indented."""
-    return textwrap.wrap(
-        sentence, WIDTH, initial_indent="  ", subsequent_indent="    ", break_long_words=False, break_on_hyphens=False
-    )
+    is_there, _ = KINDS.get(kind, (f"This is a {kind}", ""))
+    _, are_wanted = KINDS.get(wanted, ("", f"a {wanted} is"))
+    return [f"{is_there}, and {are_wanted} wanted here."], f"give the words in their order: {ORDERS[command]}."
 
 
 def explain_unlinked(files: Files) -> list[str]:
@@ -119,16 +116,18 @@ def explain_unlinked(files: Files) -> list[str]:
 
 
 def explain_script(refusal: Refusal, format_text: str, files: Files) -> list[str]:
-    """A script line, its cause and what is said of it."""
+    """A line of a script or of stimuli, its cause and what is said of it."""
     description, script = files.description, files.script
     cause = reference.causes(format_text).get(refusal.number, UNKNOWN)
     source = Source.of(script, read_file(script))
+    if files.is_live and kind_of(source.text) in ("", "stimuli", "script"):
+        return explaining_live.explain_stimulus(refusal, source, cause, typed(description))
     if refusal.line > len(source.starts):
         return [f"{script}: there is no line {refusal.line}"]
     line = source.line(refusal.line)
     start = source.starts[refusal.line - 1]
     title = f"cause {refusal.number}: the line {cause.title}"
-    other = exchanged("script", source.text, files.command) if refusal.number == 1 else None
+    other = exchanged("stimuli" if files.is_live else "script", source.text, files.command) if refusal.number == 1 else None
     if other:
         return explained(source, start, start + len(line), f"cause 1: the line {cause.title.partition(':')[0]}", *other)
     remark = scripts.remark(refusal.number, line, script, format_text, typed(description))

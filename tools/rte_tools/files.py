@@ -11,7 +11,7 @@ from rte_tools.description import Description, described
 from rte_tools.located import NotJson, read_json
 from rte_tools.shape import Shape
 from rte_tools.source import read_text
-from rte_tools.trace import HEADER, NotATrace, Trace, read_trace
+from rte_tools.trace import FEEDS, HEADER, LIVE, NotATrace, Trace, read_trace
 
 LONGEST = 8_388_608  # bytes of a file that the program reads
 BEGINNING = 4096  # characters by which it is seen what a text is
@@ -84,16 +84,18 @@ def unread(path: str, error: OSError) -> str:
 
 
 def kind_of(text: str) -> str:
-    """What a text begins like: `description`, `trace`, `script` or `XML`; or nothing."""
-    if text.startswith(HEADER):
+    """What a text begins like: `description`, `trace`, `script`, `stimuli` or `XML`; or nothing."""
+    if text.startswith((HEADER, LIVE)):
         return "trace"
     begin = text[:BEGINNING].lstrip(" \t\r\n\ufeff")
     if begin.startswith(("{", "[")):
         return "description"
     if begin.startswith("<"):
         return "XML"
-    words = [line.split(" ")[0] for line in begin.splitlines() if line and not line.startswith("#")]
-    return "script" if words and words[0].rstrip("\r") in SCRIPT_WORDS else ""
+    words = [line.split(" ")[0].rstrip("\r") for line in begin.splitlines() if line and not line.startswith("#")]
+    if words and words[0] in (*FEEDS, "stop"):
+        return "stimuli"
+    return "script" if words and words[0] in SCRIPT_WORDS else ""
 
 
 def built_program() -> str | None:

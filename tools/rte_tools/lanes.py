@@ -57,7 +57,8 @@ def lanes_of(description: Description, replay: Replay, is_low: bool = False, is_
 
     add(LINES, "line of the trace")
     add(RUNS, "run lines")
-    add(EVENTS, ENVIRONMENT)
+    for name in replay.feeds or (ENVIRONMENT,):
+        add(EVENTS, name)
     for core in range(description.cores):
         add_tasks(f"core {core}", [task.name for task in description.tasks.values() if task.of == core])
     if ELSEWHERE in bars or ELSEWHERE in marks:

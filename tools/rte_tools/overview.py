@@ -55,6 +55,8 @@ class Overview:
 
     def runs(self, lane: Lane) -> None:
         """All run lines, each with its number where there is room, else each second, fifth and so on."""
+        if self.replay.served:
+            self.served(lane, self.replay.served)
         if not self.replay.runs:
             return
         ends = [(run, self.x(run.first), self.x((run.last or self.replay.last) + 1)) for run in self.replay.runs]
@@ -65,6 +67,12 @@ class Overview:
             self.run(lane, run, x, end, 0 < apart < 2 * NARROW)
         for run, x, end in ends:
             self.run_name(lane, run, x, end, step)
+
+    def served(self, lane: Lane, run: RunLine) -> None:
+        """What a live node made before its run line."""
+        x, end = self.x(run.first), self.x((run.last or self.replay.last) + 1)
+        self.parts.append(svg.rect(x, lane.y + 4, end - x, lane.height - 8, f"run {run.closing}", run.name, 3))
+        self.parts.append(svg.text(x + 5, lane.y + 16, svg.fitting([run.name], end - x - 8), "label inside"))
 
     def run(self, lane: Lane, run: RunLine, x: float, end: float, is_narrow: bool) -> None:
         closing = run.closing or "not closed"
@@ -88,7 +96,7 @@ class Overview:
 
     def events(self, lane: Lane) -> None:
         moments = [mark.moment for mark in self.marks_in.get(lane.name, ())]
-        self.bars(lane, self.counted(self.replay.ticks + moments), "busy")
+        self.bars(lane, self.counted(self.replay.ticks_of(lane.name) + moments), "busy")
 
     def task(self, lane: Lane) -> None:
         """How much of each part an activation of the task runs."""

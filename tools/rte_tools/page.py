@@ -23,6 +23,10 @@ ENDING = 100  # and at its end
 LEAD = 20  # pixels before a run line to which a link leads
 OPEN_RUNS = 100  # run lines whose links are shown at once
 
+STIMULI = (
+    "Above are the lanes of the feeds. The cores run while their wishes come, up to the word stopped; one run line follows. Between a feed "
+    "and another there is no order."
+)
 ORDER = (
     "From left to right is the order of the lines in the trace, not time: a column is one line, and ticks that follow "
     "one another share a column. Point at anything to see its line."
@@ -59,14 +63,16 @@ def whole_page(name: str, body: list[str]) -> str:
 
 def introduction(version: str, description: Description, replay: Replay) -> list[str]:
     cores = counted(description.cores, "core")
+    what = "the text of a live node" if replay.served or replay.feeds else f"a trace of version {escape(version)}"
     shown = [
-        f"Lines {replay.first:,} to {replay.last:,} of a trace of version {escape(version)}",
+        f"Lines {replay.first:,} to {replay.last:,} of {what}",
         f"the composition {escape(description.root)} on {cores}",
         counted(len(replay.ticks), "tick"),
         counted(len(replay.runs), "run line"),
         counted(len(replay.bars), "activation"),
     ]
-    return [f'<p class="about">{" · ".join(shown)}</p>', f'<p class="about">{ORDER}</p>']
+    said = f"{ORDER} {STIMULI}" if replay.feeds else ORDER
+    return [f'<p class="about">{" · ".join(shown)}</p>', f'<p class="about">{said}</p>']
 
 
 def counted(number: int, name: str) -> str:

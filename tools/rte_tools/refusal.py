@@ -14,15 +14,17 @@ LINE = re.compile(
     r"|bad line (?P<bad>\d+)"
     r"|illegal (?P<illegal>\d+) D(?P<clause>\d+)"
     r"|(?P<unlinked>no link)"
+    r"|(?P<crowded>too many cores)"
     r"|(?P<words>words refused)"
 )
 
 
 @dataclass(frozen=True)
 class Refusal:
-    """A rule at a place, a script line with a cause, a file that was not read, the words, a line of a trace, or two nodes without a link."""
+    """A rule at a place, a script line with a cause, a file that was not read, the words, a line of a trace, two nodes without a link, or more
+    cores than a live node may have."""
 
-    kind: str  # "rule", "script", "not read", "words", "bad", "illegal" or "no link"
+    kind: str  # "rule", "script", "not read", "words", "bad", "illegal", "no link" or "too many cores"
     number: int = 0  # of the rule, of the cause, of the file, or of the clause
     place: str = ""
     line: int = 0
@@ -34,6 +36,7 @@ class Refusal:
             "rule": f"refused rule {self.number} at {self.place}" + (f" of {self.which}" if self.which else ""),
             "words": "words refused",
             "no link": "no link",
+            "too many cores": "too many cores",
             "not read": f"not read {self.number}",
             "script": f"script refused line {self.line} cause {self.number}",
             "bad": f"bad line {self.line}",
@@ -44,7 +47,8 @@ class Refusal:
     @property
     def status(self) -> int:
         """The status with which the program says it."""
-        return {"rule": 1, "words": 2, "not read": 3, "script": 5, "bad": 6, "illegal": 6, "no link": 10}[self.kind]
+        statuses = {"rule": 1, "words": 2, "not read": 3, "script": 5, "bad": 6, "illegal": 6, "no link": 10, "too many cores": 11}
+        return statuses[self.kind]
 
 
 def read_refusal(text: str) -> Refusal | None:
@@ -54,8 +58,8 @@ def read_refusal(text: str) -> Refusal | None:
         return None
     if found["rule"]:
         return Refusal("rule", int(found["rule"]), found["place"], which=int(found["which"] or 0))
-    if found["unlinked"]:
-        return Refusal("no link")
+    if found["unlinked"] or found["crowded"]:
+        return Refusal(text)
     if found["cause"]:
         return Refusal("script", int(found["cause"]), line=int(found["line"]))
     if found["bad"]:

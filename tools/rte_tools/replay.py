@@ -11,7 +11,7 @@ from typing import Any
 
 from rte_tools.causes import Arrow, Causes, Queue, Wait
 from rte_tools.description import Description
-from rte_tools.trace import CLOSINGS, OF_LISTS, RUN, Line, Trace
+from rte_tools.trace import CLOSINGS, OF_LISTS, RUN, STOPPED, Line, Trace
 from rte_tools.wiring import ENVIRONMENT, Wiring
 
 ELSEWHERE = ""  # the lane of what belongs to no task of the description
@@ -66,6 +66,11 @@ class RunLine:
     closing: str = ""
     node: str = ""  # of two nodes `1 ` or `2 `
 
+    @property
+    def name(self) -> str:
+        """What is before the run line of a live node has no number."""
+        return f"{self.node}run {self.number}" if self.number else "live"
+
 
 @dataclass
 class Replay:
@@ -76,6 +81,8 @@ class Replay:
     bars: list[Bar] = field(default_factory=list)
     marks: list[Mark] = field(default_factory=list)
     ticks: list[int] = field(default_factory=list)  # the moments of ticks
+    feeds: dict[str, list[int]] = field(default_factory=dict)  # of a live node: the lanes of its feeds, with the moments of their ticks
+    served: RunLine | None = None  # of a live node: the lines before its run line
     runs: list[RunLine] = field(default_factory=list)
     values: dict[str, list[Change]] = field(default_factory=dict)  # of what is queued the last value that was sent
     modes: dict[str, list[Change]] = field(default_factory=dict)
@@ -84,6 +91,10 @@ class Replay:
     waits: list[Wait] = field(default_factory=list)
     queued: set[str] = field(default_factory=set)  # the names of values that are queued
     passed: int = 0  # the milliseconds before the first moment
+
+    def ticks_of(self, lane: str) -> list[int]:
+        """The moments of the ticks that a feed makes, or the environment."""
+        return self.feeds.get(lane, self.ticks)
 
     def window(self, first: int, last: int) -> Replay:
         """What is between two moments; what began before goes on from the first one."""
@@ -98,6 +109,8 @@ class Replay:
             [bar for bar in self.bars if overlaps(bar)],
             [mark for mark in self.marks if first <= mark.moment <= last],
             [moment for moment in self.ticks if first <= moment <= last],
+            {lane: [moment for moment in ticks if first <= moment <= last] for lane, ticks in self.feeds.items()},
+            self.served if self.served and overlaps(self.served) else None,
             [run for run in self.runs if overlaps(run)],
             {name: clipped(changes, first, last) for name, changes in self.values.items()},
             {name: clipped(changes, first, last) for name, changes in self.modes.items()},
@@ -124,6 +137,8 @@ def clipped(changes: list[Any], first: int, last: int) -> list:
 def replay(description: Description, trace: Trace) -> Replay:
     """Goes through the trace once."""
     player = Player(description, trace.version)
+    if trace.is_live:
+        player.replay.served = RunLine(0, 2, 0)
     for line in trace.lines:
         player.step(line)
     return player.finish(trace.lines[-1].number if trace.lines else 1)
@@ -150,15 +165,21 @@ class Player:
         }
 
     def step(self, line: Line) -> None:
+        if line.feed:
+            self.replay.feeds.setdefault(lane_of_feed(line), [])
         if line.is_tick:
             self.replay.ticks.append(line.number)
+            if line.feed:
+                self.replay.feeds[lane_of_feed(line)].append(line.number)
         elif not line.actor:
             self.run_line(line)
         else:
             self.verbs.get(line.verb, self.mark)(line)
 
     def run_line(self, line: Line) -> None:
-        if line.verb == RUN:
+        if line.verb == STOPPED and self.replay.served:
+            self.replay.served = replace(self.replay.served, last=line.number, closing=STOPPED)
+        elif line.verb == RUN:
             self.run = RunLine(len(self.replay.runs) + 1, line.number, len(self.replay.ticks))
             self.replay.runs.append(self.run)
         elif line.verb in CLOSINGS and self.run:
@@ -184,7 +205,7 @@ class Player:
 
     def mark(self, line: Line, code: str = "") -> str:
         """Notes a call; gives its lane."""
-        lane = self.lane_of(line.actor)
+        lane = lane_of_feed(line) if line.feed else self.lane_of(line.actor)
         self.replay.marks.append(Mark(lane, line.number, line.verb, line.text, code or line.part("code")))
         return lane
 
@@ -260,6 +281,7 @@ class Player:
         """Values, modes and queues come in the order of the plan."""
         made, order = self.replay, self.wiring.order
         made.last = max(last, made.first)
+        made.feeds = dict(sorted(made.feeds.items()))
         made.bars += self.running.values()
         made.bars.sort(key=lambda bar: bar.first)
         self.causes.finish()
@@ -270,6 +292,10 @@ class Player:
         )
         made.queued = {name for name in made.values if name in self.wiring.receivers}
         return made
+
+
+def lane_of_feed(line: Line) -> str:
+    return f"feed {line.feed}"
 
 
 def labels(key: str) -> list[str]:

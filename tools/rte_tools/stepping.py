@@ -4,7 +4,7 @@ from __future__ import annotations
 
 from rte_tools.bus import Bus, Held, split_actor, value_of
 from rte_tools.bus_plan import ENVIRONMENT, BusPlan
-from rte_tools.trace import CLOSINGS, RUN, Line, Trace
+from rte_tools.trace import CLOSINGS, RUN, STOPPED, Line, Trace
 from rte_tools.verdicts import spelled, wish_of
 
 UNREADABLE = (LookupError, ValueError)  # a field is missing, or is no number
@@ -13,20 +13,21 @@ UNREADABLE = (LookupError, ValueError)  # a field is missing, or is no number
 class Stepper:
     """The state after the lines that were taken."""
 
-    def __init__(self, plan: BusPlan, version: str):
+    def __init__(self, plan: BusPlan, version: str, is_live: bool = False):
         self.bus = Bus(plan, version)
         self.inside = False  # a run line
+        self.is_served = is_live  # up to the word `stopped` the environment and runnables act side by side
 
     def take(self, line: Line) -> None:
         if not line.actor:
-            self.inside = line.verb == RUN
+            self.inside, self.is_served = line.verb == RUN, False
         self.bus.note(line)
 
     def fault(self, line: Line) -> str:
         """Why a line may not come next, or nothing."""
         if not line.actor:
             return self.mark_fault(line)
-        if (line.actor == ENVIRONMENT) == self.inside:
+        if (line.actor == ENVIRONMENT) == self.inside and not self.is_served:
             return "it stands on the wrong side of a run mark"
         if line.is_tick:
             return ""
@@ -37,6 +38,8 @@ class Stepper:
     def mark_fault(self, line: Line) -> str:
         if line.verb == "waiting":
             return "the program writes no such line"
+        if self.is_served or line.verb == STOPPED:
+            return "" if self.is_served and line.verb == STOPPED else f"`{STOPPED}` stands behind the stimuli, once"
         if self.inside != (line.verb in CLOSINGS):
             return "a run line is open" if self.inside else "no run line is open"
         left = self.bus.may_step() if line.verb == "idle" else ""
@@ -79,7 +82,7 @@ class Stepper:
 
 def first_fault(trace: Trace, plan: BusPlan) -> tuple[Line, str] | None:
     """The first line of a trace that may not come after those before it, and why; or none."""
-    stepper = Stepper(plan, trace.version)
+    stepper = Stepper(plan, trace.version, trace.is_live)
     for line in trace.lines:
         try:
             why = stepper.fault(line)

@@ -1,4 +1,4 @@
-"""A trace, line by line. Both versions are read, and a line of an unknown kind is kept as it is."""
+"""A trace, line by line. Both versions are read, and the text of a live node. A line of an unknown kind is kept as it is."""
 
 from __future__ import annotations
 
@@ -6,7 +6,10 @@ from dataclasses import dataclass
 from typing import Callable, Iterable, Iterator, Sequence
 
 HEADER = "rte-trace "
+LIVE = "rte-live 1"  # the first line of a live text, whose lines are those of version two
 RUN = "run"
+STOPPED = "stopped"  # of a live text: all stimuli have come
+FEEDS = ("0", "1", "2", "3")  # that the stimuli of a live text have
 CLOSINGS = ("idle", "unsettled", "waiting")
 OF_LISTS = ("fetchAll", "publishAll")
 
@@ -49,6 +52,7 @@ class Line:
     actor: str
     verb: str
     fields: tuple[str, ...]
+    feed: str = ""  # of a live text: the feed that a call of the environment came from, which is not in the line's own text
 
     def part(self, name: str) -> str:
         """A part that the verb has, such as its code, or nothing."""
@@ -65,12 +69,15 @@ class Line:
 class Trace:
     version: str
     lines: list[Line]
+    is_live: bool = False
 
 
 def read_trace(texts: Iterable[str]) -> Trace:
     """The trace that the lines are. Raises NotATrace where the first one is not a header."""
     numbered = enumerate((text.rstrip("\n") for text in texts), 1)
     _, first = next(numbered, (1, ""))
+    if first == LIVE:
+        return Trace("2", [read_live_line(number, text) for number, text in numbered if text], True)
     if not first.startswith(HEADER):
         raise NotATrace(f"the first line is `{first[:80]}` and not `{HEADER}1` or `{HEADER}2`")
     return Trace(first[len(HEADER) :], [read_line(number, text) for number, text in numbered if text])
@@ -87,8 +94,17 @@ def by_element(line: Line, elements: Sequence[str], words_of: Callable[[str], in
             words = words[count:]
 
 
-def read_line(number: int, text: str) -> Line:
+def read_line(number: int, text: str, feed: str = "") -> Line:
     fields = text.split(" ")
     if fields[0] == RUN or fields[0] in CLOSINGS:
-        return Line(number, text, "", fields[0], tuple(fields[1:]))
-    return Line(number, text, fields[0], fields[1] if len(fields) > 1 else "", tuple(fields[2:]))
+        return Line(number, text, "", fields[0], tuple(fields[1:]), feed)
+    return Line(number, text, fields[0], fields[1] if len(fields) > 1 else "", tuple(fields[2:]), feed)
+
+
+def read_live_line(number: int, text: str) -> Line:
+    """A line of a live text: before a call of the environment stands its feed."""
+    if text == STOPPED:
+        return Line(number, text, "", STOPPED, ())
+    if text[:1] in FEEDS and text[1:2] == " ":
+        return read_line(number, text[2:], text[0])
+    return read_line(number, text)

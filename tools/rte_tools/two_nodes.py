@@ -107,6 +107,8 @@ def named(side: Side) -> Replay:
         [replace(bar, lane=node + bar.lane, key=node + bar.key) for bar in held.bars],
         [replace(mark, lane=node + mark.lane) for mark in held.marks],
         list(held.ticks),
+        {},
+        None,
         [replace(run, node=node) for run in held.runs],
         {node + name: changes for name, changes in held.values.items()},
         {node + name: changes for name, changes in held.modes.items()},

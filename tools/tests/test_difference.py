@@ -70,8 +70,7 @@ class Differences(WithFolder):
     def test_altered_traces(self) -> None:
         """What may change places is the order of cores; all else is a difference."""
         verdicts = {case.name: case.verdict for case in all_cases()}
-        # An example of two nodes has no altered traces.
-        for folder in (folder for folder in EXAMPLES if not (folder / "second.json").exists()):
+        for folder in EXAMPLES:
             for way in ("exchanged", "left_out", "doubled"):
                 name = f"{folder.name}_{way}"
                 with self.subTest(name):

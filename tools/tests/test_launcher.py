@@ -37,7 +37,7 @@ class Launcher(WithFolder):
         os.chmod(path, 0o755)
         return path
 
-    def launched(self, *words: str, rte: str = "", has_rt: bool = True) -> tuple[int, str, str]:
+    def launched(self, *words: str, rte: str = "", has_rt: bool = True, given: str = "") -> tuple[int, str, str]:
         paths = [str(self.folder / "bin")] if has_rt else []
         places = [path for path in os.environ["PATH"].split(os.pathsep) if not os.path.exists(os.path.join(path, "rt"))]
         environment = {**os.environ, "PATH": os.pathsep.join(paths + places), "BUILDS": str(self.folder / "builds")}
@@ -45,7 +45,7 @@ class Launcher(WithFolder):
         if rte:
             environment["RTE"] = rte
         ended = subprocess.run(
-            [str(self.folder / "rte"), *words], env=environment, cwd=self.folder, capture_output=True, text=True, check=False
+            [str(self.folder / "rte"), *words], env=environment, cwd=self.folder, input=given, capture_output=True, text=True, check=False
         )
         return ended.returncode, ended.stdout, ended.stderr
 
@@ -87,6 +87,14 @@ class Launcher(WithFolder):
             status, shown, said = self.launched(*RUN, rte=rte)
             self.assertEqual((status, shown), (126, ""))
             self.assertIn("which is no program", said)
+
+    def test_stimuli_go_through(self) -> None:
+        named = self.script("bin/named", "#!/bin/sh\necho \"$@\"; cat\n")
+        self.assertEqual(self.launched("live", "d", rte=named, given="0 tick 1\nstop\n")[:2], (0, "live d\n0 tick 1\nstop\n"))
+        # Also behind a build: what builds reads nothing of them.
+        self.script("bin/rt", RT.replace("echo built", "cat >taken; echo built"))
+        self.assertEqual(self.launched("live", "d", given="stop\n")[0], 0)
+        self.assertEqual((self.folder / "crates" / "rte" / "taken").read_text(), "")
 
     def test_it_does_not_call_itself(self) -> None:
         self.assertEqual(self.launched(*RUN, rte=str(self.folder / "rte"))[:2], (0, "first run d s\n"))

@@ -57,6 +57,9 @@ class Launcher(WithFolder):
             (("plan", d), 1, f"{tool} {d}"),
             (("check", d, "t t.txt", s), 6, f"{tool} --trace t\\ t.txt {d} {s}"),
             (("check", d, "t.txt", s), 5, f"{tool} --trace t.txt {d} {s}"),
+            (("live", d), 1, f"{tool} {d}"),
+            (("live", d), 5, f"{tool} --live {d} STIMULI"),
+            (("live", d), 11, f"{tool} --live {d} STIMULI"),
         ):
             with self.subTest(words):
                 self.assertIn(f"how to mend it: {wanted}", self.run_words("refused", status, *words, terminal=True))
@@ -78,6 +81,8 @@ class Launcher(WithFolder):
                 self.assertEqual(said, f"rte: cannot read {path}: {why}.\n")
         said = self.run_words("not read 1", 3, "check", none, long, self.script)
         self.assertEqual(said, f"rte: cannot read {none}: there is no such file.\n")
+        said = self.run_words("not read 2", 3, "live", self.description)
+        self.assertIn("cannot read the stimuli: standard input", said)
 
     @unittest.skipIf(os.geteuid() == 0, "root may read everything")
     def test_a_file_that_may_not_be_read(self) -> None:
@@ -87,7 +92,7 @@ class Launcher(WithFolder):
         self.assertIn("it may not be read by this user", said)
 
     def test_words_that_are_refused(self) -> None:
-        for words in ((), ("walk",), ("run", self.description), ("soak", "0"), ("soak", "65")):
+        for words in ((), ("walk",), ("run", self.description), ("soak", "0"), ("soak", "65"), ("live",), ("live", "d", "s")):
             said = self.run_words("words refused", 2, *words)
             self.assertIn("usage: ./rte run DESCRIPTION SCRIPT", said)
             self.assertIn("./rte soak N                    runs N pairs of its own making, 1 to 64", said)

@@ -85,6 +85,7 @@ class Output(WithFolder):
     def test_each_refusal_has_its_status(self) -> None:
         whole = self.write("whole.json", NOTHING)
         broken = self.write("broken.json", "{")
+        crowded = self.write("crowded.json", NOTHING.replace('"cores":1', '"cores":8'))
         script = self.write("script.txt", "tick 1\nrun\n")
         wrong = self.write("wrong.txt", "walk\n")
         trace = self.write("trace.txt", "rte-trace 2\nenv tick\nrun\nidle\n")
@@ -109,11 +110,22 @@ class Output(WithFolder):
             (["pair", whole, whole, script], 10, b"no link\n"),
             (["pair", whole, broken, script], 1, b"refused rule 1 at / of 2\n"),
             (["pair", whole, whole, absent], 3, b"not read 3\n"),
+            (["live", absent], 3, b"not read 1\n"),
+            (["live", broken], 1, b"refused rule 1 at /\n"),
+            (["live", crowded], 11, b"too many cores\n"),
+            (["live", whole], 5, b"script refused line 1 cause 1\n"),
+            (["live", whole, script], 2, b"words refused\n"),
         ]
         for words, status, told in cases:
             with self.subTest(words=words):
-                ended = subprocess.run([program(), *words], capture_output=True, check=False)
+                ended = subprocess.run([program(), *words], stdin=subprocess.DEVNULL, capture_output=True, check=False)
                 self.assertEqual((ended.returncode, ended.stdout), (status, told))
+
+    def test_stimuli_come_by_a_pipe(self) -> None:
+        words = [program(), "live", self.write("whole.json", NOTHING)]
+        ended = subprocess.run(words, input=b"0 tick 2\nstop\n", capture_output=True, check=False)
+        wanted = b"rte-live 1\n0 env tick\n0 env tick\nstopped\nrun\nidle\n"
+        self.assertEqual((ended.returncode, ended.stdout), (0, wanted))
 
     def test_a_terminal_has_all_of_it(self) -> None:
         ours, theirs = pty.openpty()

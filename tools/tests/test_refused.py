@@ -60,6 +60,12 @@ class Refused(WithFolder):
         self.assertEqual(ended.returncode, 0)
         self.assertRegex(ended.stdout.decode().splitlines()[2], r"^\| two cores at once \| [1-9]\d* with 0 \|$")
 
+    @unittest.skipUnless(program(), "the program is not built")
+    def test_a_live_node_without_a_thread_loses_nothing(self) -> None:
+        ended = run_tool(TOOL, "--program", program(), "--run", "a live node", "--call", "thread")
+        self.assertEqual(ended.returncode, 0, ended.stdout)
+        self.assertRegex(ended.stdout.decode().splitlines()[2], r"^\| a live node \| [1-9]\d* with 0 \|$")
+
     def test_a_crash_is_found(self) -> None:
         status, text = self.tried(self.compiled(CRASHES), "allocation")
         self.assertEqual(status, 1)
