@@ -1,7 +1,7 @@
 #!/usr/bin/env python3
 """Runs the program on each file of `make_hostile.py`, and fails if one takes too long or too much memory.
 
-    hostile.py [--mebibytes M] [CASE ..]
+    hostile.py [--mebibytes M] [--slower T] [CASE ..]
 
 Descriptions are given to `plan`, scripts to `run` and traces to `check`, these two over the example `door_control`. For each case a line
 says the MiB of the file, the seconds of the processor, the peak of memory in MiB, and what the program said first.
@@ -9,7 +9,7 @@ says the MiB of the file, the seconds of the processor, the peak of memory in Mi
 A file of 8 MiB, which is usual here, may take 3 seconds of a processor and 512 MiB. A smaller one may take as large a part of these as it
 has of 8 MiB, and what any run may take besides, 0.1 seconds and 32 MiB. A case that takes more than half of its part is tried with a
 file four times as large, up to 8 MiB. So a walk that is quadratic, and would take half a minute or more with 8 MiB, is seen at once with
-`--mebibytes 0.25`, which takes some seconds.
+`--mebibytes 0.25`, which takes some seconds. On a machine that is T times slower all may take T times as many seconds.
 
 Of some cases it is known that they take more than they may with 8 MiB. That is said of each, and why. They fail with files of 8 MiB, and
 with smaller ones, of which they get a quarter, they do not. One that takes no more than it may with 8 MiB fails too, so that it is no longer called known.
@@ -89,16 +89,16 @@ def measured(program, case, mebibytes, folder):
     return Measured(size, seconds, memory, status, said)
 
 
-def takes_too_much(took):
+def takes_too_much(took, slower):
     """Whether a run took more than it may, or ended as no run may that has memory and a file."""
     part = took.mebibytes / WHOLE
     least_seconds, least_memory = (LEAST_SECONDS, LEAST_MEMORY) if took.mebibytes < WHOLE / 2 else (0, 0)
-    much = took.seconds > least_seconds + part * SECONDS or took.memory > least_memory + part * MEMORY
+    much = took.seconds > slower * (least_seconds + part * SECONDS) or took.memory > least_memory + part * MEMORY
     return much or took.status not in (0, 1, 5, 6)
 
 
-def is_to_be_tried_larger(took):
-    return took.seconds > took.mebibytes / WHOLE * SECONDS / 2 or took.memory > (LEAST_MEMORY + took.mebibytes / WHOLE * MEMORY) / 2
+def is_to_be_tried_larger(took, slower):
+    return took.seconds > slower * took.mebibytes / WHOLE * SECONDS / 2 or took.memory > (LEAST_MEMORY + took.mebibytes / WHOLE * MEMORY) / 2
 
 
 def show(case, took, remark):
@@ -113,19 +113,19 @@ def remark_on_known(known, mebibytes, much):
     return f"  TOO MUCH, as is known: {known}" if much else "  NO LONGER TO BE CALLED KNOWN"
 
 
-def is_wrong(program, case, mebibytes, folder):
+def is_wrong(program, case, mebibytes, slower, folder):
     """Runs a case, shows it, and says whether it is not as it should be."""
     known = KNOWN.get(case.__name__)
     if known is not None and mebibytes < WHOLE:
         mebibytes /= 4
     while True:
         took = measured(program, case, mebibytes, folder)
-        much = takes_too_much(took)
+        much = takes_too_much(took, slower)
         if known is not None:
             show(case, took, remark_on_known(known, mebibytes, much))
             return mebibytes == WHOLE
         show(case, took, "  TOO MUCH" if much else "")
-        if much or mebibytes >= WHOLE or not is_to_be_tried_larger(took):
+        if much or mebibytes >= WHOLE or not is_to_be_tried_larger(took, slower):
             return much
         mebibytes = min(WHOLE, 4 * mebibytes)
 
@@ -146,6 +146,7 @@ def arguments():
     parser = argparse.ArgumentParser(description=__doc__, formatter_class=argparse.RawDescriptionHelpFormatter)
     parser.add_argument("case", nargs="*", metavar="CASE", help="a case of make_hostile.py; all if none is named")
     parser.add_argument("--mebibytes", type=float, default=WHOLE, metavar="M", help="the size of the files, 8 if none is given")
+    parser.add_argument("--slower", type=float, default=1, metavar="T", help="how much slower this machine may be, 1 if none is given")
     parser.add_argument("--program", default=os.environ.get("RTE", str(BUILT)), help="the program; otherwise RTE names it, or it is what was built")
     words = parser.parse_args()
     for name in words.case:
@@ -164,7 +165,7 @@ def main():
     print(machine())
     cases = [NAMED[name] for name in words.case or NAMED]
     with tempfile.TemporaryDirectory() as held:
-        wrong = [case.__name__ for case in cases if is_wrong(words.program, case, words.mebibytes, Path(held))]
+        wrong = [case.__name__ for case in cases if is_wrong(words.program, case, words.mebibytes, words.slower, Path(held))]
     print(f"{len(cases)} cases, {len(wrong)} not as they should be{': ' if wrong else ''}{', '.join(wrong)}")
     return 1 if wrong else 0
 

@@ -160,7 +160,7 @@ if [ -n "${RTE:-}" ]; then
     try "plans of the examples" plans_are_as_shown
     try "live texts of the examples" live_texts_are_legal
     try "the corpus" corpus_is_judged
-    try "hostile files of 256 KiB" bench/hostile.py --mebibytes 0.25
+    try "hostile files of 256 KiB" bench/hostile.py --mebibytes 0.25 --slower 2
     sed -nE 's/^([a-z_]+) .*  (known to .*)$/tools: hostile files: `\1` is \2/p' "$held/said"
 else
     echo "tools: explain.py, plans and live texts on the examples, the corpus and hostile files: skipped, since the program is not built"
